@@ -1,0 +1,133 @@
+-- Laws of names: parts of the lent names, equal bytes, and the search among nodes side by side. Assumes nothing.
+use mathlib.Core.Path.{_≡_, refl, sym, ap, _∙_}
+use mathlib.Core.Bool.{Bool, true, false, _&&_}
+use mathlib.Core.List.{List, [], _∷_}
+use Prim.Native.Nat.{ℕ, zero, suc, _+_, _-_, _*_, _/_, _<_, _≤_, min}
+use native.Mathlib.Numerals.{add-one}
+use native.Mathlib.Nat.{suc-inj}
+use native.Mathlib.Omega.{arith}
+use lib.ListN.{length, getD, take, drop, length-take, length-drop, drop-of-length-le}
+use lib.Seq.{take-nil, drop-cons}
+use lib.Dec.{eqb}
+use borrow.Author.Tests.{eq-eqb, ne-eqb, eqb-true}
+use Rattle.forest.specs.Forest.{nodeOf, spanOf, node, Forest, none, _then_, forest}
+use Rattle.forest.specs.Names.{nameOf, sameBytes, firstNamed}
+use Rattle.forest.specs.declared.Found.{Found}
+use Rattle.forest.specs.declared.Found.the-variants.{At, Nothing}
+use Rattle.forest.proofs.Stretch.{forest-none, forest-tree, rest-part}
+
+-- two counts that the list clips to the same take the same
+take-clip : (k m : ℕ) (l : List ℕ) → min k (length l) ≡ min m (length l) → take k l ≡ take m l
+take-clip k m [] h = take-nil k ∙ sym (take-nil m)
+take-clip zero zero (x ∷ l) h = refl
+take-clip zero (suc m) (x ∷ l) h = absurd (omega arith)
+take-clip (suc k) zero (x ∷ l) h = absurd (omega arith)
+take-clip (suc k) (suc m) (x ∷ l) h = ap (λ (r : List ℕ). x ∷ r) (take-clip k m l (omega arith))
+
+-- a name of length len from a on, as code cuts it
+module _ (ns t : List ℕ) {a : ℕ} (a-is : a ≡ nodeOf 0 t .nameStart) where
+  pub name-outside : length ns < a → take 0 ns ≡ nameOf ns (nodeOf 0 t)
+  unfolding nameOf
+  name-outside h = rw (← a-is, drop-of-length-le ns {i = a} (omega arith)) (sym (take-nil (nodeOf 0 t .nameLen)))
+
+  pub name-short : {len : ℕ} → len ≡ nodeOf 0 t .nameLen → a ≤ length ns → length ns < a + len → take (length ns - a) (drop a ns) ≡ nameOf ns (nodeOf 0 t)
+  unfolding nameOf
+  name-short {len} l-is h g = rw (← a-is, ← l-is) (take-clip (length ns - a) len (drop a ns) (simp length-drop (omega arith)))
+
+  pub name-inside : {len : ℕ} → len ≡ nodeOf 0 t .nameLen → take (a + len - a) (drop a ns) ≡ nameOf ns (nodeOf 0 t)
+  unfolding nameOf
+  name-inside {len} l-is = rw (← a-is, ← l-is) (take-clip (a + len - a) len (drop a ns) (omega arith))
+
+-- two lists of n bytes whose first i are the same: what is left decides
+pub record Alike (a b : List ℕ) (n i : ℕ) : Type 0 where
+  pub upto : i ≤ n
+  pub long : n ≡ length a
+  pub long′ : n ≡ length b
+  pub left : sameBytes (drop i a) (drop i b) ≡ sameBytes a b
+
+module _ {a b : List ℕ} {n i : ℕ} (s : Alike a b n i) where
+  same-step : i < n → sameBytes (drop i a) (drop i b) ≡ (eqb (getD a i 0) (getD b i 0) && sameBytes (drop (i + 1) a) (drop (i + 1) b))
+  unfolding sameBytes
+  same-step h = let p : i < length a = omega arith in let q : i < length b = omega arith in simp (drop-cons a i 0 p, drop-cons b i 0 q, add-one)
+
+  pub same-go : i < n → getD a i 0 ≡ getD b i 0 → Alike a b n (i + 1)
+  same-go h e = record {
+    upto = omega arith;
+    long = s .long;
+    long′ = s .long′;
+    left = sym (same-step h ∙ rw (eq-eqb (getD a i 0) (getD b i 0) e) refl) ∙ s .left;
+  }
+
+  pub same-stop : i < n → (getD a i 0 ≡ getD b i 0 → ⊥) → false ≡ sameBytes a b
+  same-stop h e = sym (same-step h ∙ rw (ne-eqb (getD a i 0) (getD b i 0) e) refl) ∙ s .left
+
+  pub same-end : n ≤ i → true ≡ sameBytes a b
+  unfolding sameBytes
+  same-end h =
+      let p : drop i a ≡ [] = drop-of-length-le a {i = i} (omega arith) in
+      let q : drop i b ≡ [] = drop-of-length-le b {i = i} (omega arith) in
+      rw (p, q) at (s .left)
+
+pub same-start : (a b : List ℕ) → length a ≡ length b → Alike a b (length a) 0
+same-start a b e = record { upto = omega arith; long = refl; long′ = e; left = refl }
+
+-- lists of different lengths differ
+pub same-length : (a b : List ℕ) → (length a ≡ length b → ⊥) → false ≡ sameBytes a b
+unfolding sameBytes
+same-length [] [] h = absurd (h refl)
+same-length [] (y ∷ b) h = refl
+same-length (x ∷ a) [] h = refl
+same-length (x ∷ a) (y ∷ b) h = go (eqb x y) (same-length a b (λ e. h (omega arith)))
+  where
+    go : (t : Bool) → false ≡ sameBytes a b → false ≡ (t && sameBytes a b)
+    go true e = e
+    go false e = refl
+
+-- LAW: the test of names is equality of their bytes
+pub same-bytes-refl : (a : List ℕ) → sameBytes a a ≡ true
+unfolding sameBytes
+same-bytes-refl [] = refl
+same-bytes-refl (x ∷ a) = rw (eq-eqb x x refl) (same-bytes-refl a)
+
+never : {P : Type 0} → false ≡ true → P
+never e = let z : _≡_ {A = ℕ} 0 1 = cc in absurd (omega arith)
+
+pub same-bytes-equal : (a b : List ℕ) → sameBytes a b ≡ true → a ≡ b
+unfolding sameBytes
+same-bytes-equal [] [] e = refl
+same-bytes-equal [] (y ∷ b) e = never e
+same-bytes-equal (x ∷ a) [] e = never e
+same-bytes-equal (x ∷ a) (y ∷ b) e = go (eqb x y) refl (same-bytes-equal a b) e
+  where
+    go : (t : Bool) → eqb x y ≡ t → (sameBytes a b ≡ true → a ≡ b) → (t && sameBytes a b) ≡ true → x ∷ a ≡ y ∷ b
+    go true p rest q = let h : x ≡ y = eqb-true x y p in let l : a ≡ b = rest q in cc
+    go false p rest q = never q
+
+-- the search among the nodes of t: what is left decides, and its first record has the index at
+pub record Seeking (ns name t : List ℕ) (at : ℕ) (left : List ℕ) : Type 0 where
+  pub room : 24 * at + length left ≤ length t
+  pub same : firstNamed ns name (forest at left) ≡ firstNamed ns name (forest 0 t)
+
+pub seek-start : (ns name t : List ℕ) → Seeking ns name t 0 t
+seek-start ns name t = record { room = omega arith; same = refl }
+
+module _ {ns name t : List ℕ} {at : ℕ} {left : List ℕ} (s : Seeking ns name t at left) where
+  pub seek-end : length left < 24 → Nothing ≡ firstNamed ns name (forest 0 t)
+  unfolding firstNamed
+  seek-end h = rw (forest-none at left h) at (s .same)
+
+  pub seek-here : {m : List ℕ} {b : Bool} → 24 ≤ length left → m ≡ nameOf ns (nodeOf 0 left) → b ≡ sameBytes m name → b ≡ true → At at ≡ firstNamed ns name (forest 0 t)
+  unfolding firstNamed nameOf
+  seek-here big m-is b-is e =
+      let hit : sameBytes (nameOf ns (nodeOf 0 left)) name ≡ true = cc in
+      rw (forest-tree at left big, hit) at (s .same)
+
+  pub seek-on : {m : List ℕ} {b : Bool} {e : ℕ} → 24 ≤ length left → m ≡ nameOf ns (nodeOf 0 left) → b ≡ sameBytes m name → b ≡ false → e ≡ spanOf left
+      → Seeking ns name t (at + e / 24) (take (length left - e) (drop e left))
+  unfolding firstNamed nameOf
+  seek-on {m} {b} {e} big m-is b-is miss e-is =
+      let hit : sameBytes (nameOf ns (nodeOf 0 left)) name ≡ false = cc in
+      record {
+        room = simp (length-take, length-drop) (omega arith);
+        same = rw (rest-part e left e-is, e-is) (rw (forest-tree at left big, hit) at (s .same));
+      }

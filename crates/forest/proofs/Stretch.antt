@@ -1,0 +1,109 @@
+-- Laws of stretches and of the forest that a stretch is. They hold for any bytes; every walk cites them. Assumes nothing.
+use mathlib.Core.Path.{_≡_, refl, sym, ap, _∙_}
+use mathlib.Core.Bool.{Bool, true, false}
+use mathlib.Core.List.{List, [], _∷_, _++_}
+use Prim.Native.Nat.{ℕ, zero, suc, _+_, _-_, _*_, _/_, _<_, _≤_, min, max}
+use native.Mathlib.Omega.{arith}
+use lib.ListN.{length, getD, take, drop, length-take, length-drop}
+use lib.Dec.{leb}
+use borrow.Author.Tests.{le-leb, lt-leb, leb-true, leb-false}
+use Rattle.fields.proofs.Fields.{tail-part}
+use Rattle.forest.specs.Forest.{Node, sizeOf, nodeOf, spanOf, kidsOf, restOf, Tree, node, Forest, none, _then_, forestIn, forest, treeOf, count}
+
+-- a node with its children and what follows
+abbrev pub tree : Node → Forest → Forest → Forest
+tree r ks rs = node r ks then rs
+
+-- the lengths of the two parts of a stretch
+module _ (bs : List ℕ) where
+  pub length-kids : length (kidsOf bs) ≡ spanOf bs - 24
+  unfolding kidsOf
+  length-kids = simp (length-take, length-drop) (omega arith)
+
+  pub length-rest : length (restOf bs) ≡ length bs - spanOf bs
+  unfolding restOf
+  length-rest = simp length-drop
+
+-- the parts that code makes of a stretch whose first subtree takes e bytes
+module _ (e : ℕ) (bs : List ℕ) (h : e ≡ spanOf bs) where
+  pub kids-part : take (e - 24) (drop 24 bs) ≡ kidsOf bs
+  unfolding kidsOf
+  kids-part = ap (λ (n : ℕ). take (n - 24) (drop 24 bs)) h
+
+  pub rest-part : take (length bs - e) (drop e bs) ≡ restOf bs
+  unfolding restOf
+  rest-part = tail-part e bs ∙ ap (λ (n : ℕ). drop n bs) h
+
+-- a stretch has a record, or none
+pub record-or-none : {P : Type 0} (bs : List ℕ) → (length bs < 24 → P) → (24 ≤ length bs → P) → P
+record-or-none {P} bs f g = go (leb 24 (length bs)) refl
+  where
+    go : (b : Bool) → leb 24 (length bs) ≡ b → P
+    go true e = g (leb-true 24 (length bs) e)
+    go false e = f (leb-false 24 (length bs) e)
+
+-- a forest's first node, and the empty forest, at some fuel
+forestIn-short : (k i : ℕ) (bs : List ℕ) → length bs < 24 → forestIn k i bs ≡ none
+unfolding forestIn
+forestIn-short zero i bs h = refl
+forestIn-short (suc k) i bs h = rw (lt-leb 24 (length bs) h, forestIn) refl
+
+forestIn-tree : (k i : ℕ) (bs : List ℕ) → 24 ≤ length bs → forestIn (suc k) i bs ≡ tree (nodeOf i bs) (forestIn k (i + 1) (kidsOf bs)) (forestIn k (i + spanOf bs / 24) (restOf bs))
+unfolding forestIn
+forestIn-tree k i bs h = rw (le-leb 24 (length bs) h, forestIn) refl
+
+-- any fuel that is enough gives the same
+forestIn-enough : (k j i : ℕ) (bs : List ℕ) → length bs ≤ k → length bs ≤ j → forestIn k i bs ≡ forestIn j i bs
+forestIn-enough zero j i bs h g = forestIn-short zero i bs (omega arith) ∙ sym (forestIn-short j i bs (omega arith))
+forestIn-enough (suc k) zero i bs h g = forestIn-short (suc k) i bs (omega arith) ∙ sym (forestIn-short zero i bs (omega arith))
+forestIn-enough (suc k) (suc j) i bs h g =
+    let ks = forestIn-enough k j (i + 1) (kidsOf bs) (omega (arith, length-kids bs)) (omega (arith, length-kids bs)) in
+    let rs = forestIn-enough k j (i + spanOf bs / 24) (restOf bs) (omega (arith, length-rest bs)) (omega (arith, length-rest bs)) in
+    record-or-none bs (λ s. forestIn-short (suc k) i bs s ∙ sym (forestIn-short (suc j) i bs s))
+    (λ s. forestIn-tree k i bs s ∙ rw (ks, rs) (sym (forestIn-tree j i bs s)))
+
+-- LAW: a stretch is empty, or its first node, that node's children and what follows
+pub forest-none : (i : ℕ) (bs : List ℕ) → length bs < 24 → forest i bs ≡ none
+unfolding forest
+forest-none i bs h = forestIn-short (length bs) i bs h
+
+pub forest-tree : (i : ℕ) (bs : List ℕ) → 24 ≤ length bs → forest i bs ≡ tree (nodeOf i bs) (forest (i + 1) (kidsOf bs)) (forest (i + spanOf bs / 24) (restOf bs))
+unfolding forest
+forest-tree i bs h =
+    let all = forestIn-enough (length bs) (suc (length bs)) i bs (omega arith) (omega arith) in
+    let ks = forestIn-enough (length bs) (length (kidsOf bs)) (i + 1) (kidsOf bs) (omega (arith, length-kids bs)) (omega arith) in
+    let rs = forestIn-enough (length bs) (length (restOf bs)) (i + spanOf bs / 24) (restOf bs) (omega (arith, length-rest bs)) (omega arith) in
+    all ∙ forestIn-tree (length bs) i bs h ∙ rw (ks, rs) refl
+
+-- LAW: to show something of every forest of a stretch, show it of the empty one and of a first node from its children and what follows
+pub forest-induction : (P : ℕ → List ℕ → Type 0)
+    → ((i : ℕ) (bs : List ℕ) → length bs < 24 → P i bs)
+    → ((i : ℕ) (bs : List ℕ) → 24 ≤ length bs → P (i + 1) (kidsOf bs) → P (i + spanOf bs / 24) (restOf bs) → P i bs)
+    → (i : ℕ) (bs : List ℕ) → P i bs
+forest-induction P short more i bs = go (length bs) i bs (omega arith)
+  where
+    go : (k i : ℕ) (bs : List ℕ) → length bs ≤ k → P i bs
+    go zero i bs h = short i bs (omega arith)
+    go (suc k) i bs h =
+        record-or-none bs (short i bs) λ big.
+        more i bs big (go k (i + 1) (kidsOf bs) (omega (arith, length-kids bs))) (go k (i + spanOf bs / 24) (restOf bs) (omega (arith, length-rest bs)))
+
+-- LAW: a forest has as many nodes as its stretch has records
+pub count-forest : (i : ℕ) (bs : List ℕ) → count (forest i bs) ≡ length bs / 24
+unfolding count
+count-forest =
+    forest-induction (λ i bs. count (forest i bs) ≡ length bs / 24)
+    (λ i bs s. rw (forest-none i bs s) (omega arith))
+    (λ i bs big ks rs. rw (forest-tree i bs big) (omega (arith, length-kids bs, length-rest bs)))
+
+-- LAWS for a rule over what stands side by side, in the terms of code: `all` is `one` at each tree, joined from the left
+module _ {A : Type 0} (all : Forest → A) (i e : ℕ) (bs : List ℕ) where
+  pub each-none : length bs < 24 → all (forest i bs) ≡ all none
+  each-none h = ap all (forest-none i bs h)
+
+  pub kids-cut : e ≡ spanOf bs → all (forest (i + 1) (take (e - 24) (drop 24 bs))) ≡ all (forest (i + 1) (kidsOf bs))
+  kids-cut h = ap (λ (l : List ℕ). all (forest (i + 1) l)) (kids-part e bs h)
+
+  pub each-cut : (one : Tree → A) (join : A → A → A) → ((t : Tree) (ts : Forest) → all (t then ts) ≡ join (one t) (all ts)) → 24 ≤ length bs → e ≡ spanOf bs
+      → all (forest i bs) ≡ join (one (treeOf i bs)) (all (forest (i + e / 24) (take (length bs - e) (drop e bs))))
+  each-cut one join then-is big h = rw (rest-part e bs h, h) (ap all (forest-tree i bs big) ∙ then-is (treeOf i bs) (forest (i + spanOf bs / 24) (restOf bs)))

@@ -1,0 +1,85 @@
+// Stretches of a node table: 24-byte records in preorder. A stretch begins with a record, whose subtree and what follows it are stretches again.
+// Every function takes any bytes: a record is read as far as it is there, and a subtree takes at least a record and at most what there is.
+pub mod names;
+
+ghost use mathlib.Core.Path.{_≡_};
+ghost use Rattle.forest.specs.Forest.{nodeOf, spanOf};
+
+// The index of a record, or none.
+pub enum Found {
+    At(usize),
+    Nothing,
+}
+
+// The fields of the record that a stretch begins with, as document 01 lays them out.
+pub fn kind(t: &[u8]) -> u8
+    ensures { λ r. ⌜ r ≡ nodeOf 0 (now (t .entry)) .kind ⌝ }
+{
+    fields::byte(t, 0)
+}
+
+pub fn detail(t: &[u8]) -> u8
+    ensures { λ r. ⌜ r ≡ nodeOf 0 (now (t .entry)) .detail ⌝ }
+{
+    fields::byte(t, 1)
+}
+
+pub fn name_len(t: &[u8]) -> u16
+    ensures { λ r. ⌜ r ≡ nodeOf 0 (now (t .entry)) .nameLen ⌝ }
+{
+    fields::half(t, 2)
+}
+
+pub fn name_start(t: &[u8]) -> u32
+    ensures { λ r. ⌜ r ≡ nodeOf 0 (now (t .entry)) .nameStart ⌝ }
+{
+    fields::word(t, 4)
+}
+
+pub fn begin(t: &[u8]) -> u32
+    ensures { λ r. ⌜ r ≡ nodeOf 0 (now (t .entry)) .begin ⌝ }
+{
+    fields::word(t, 8)
+}
+
+pub fn stop(t: &[u8]) -> u32
+    ensures { λ r. ⌜ r ≡ nodeOf 0 (now (t .entry)) .stop ⌝ }
+{
+    fields::word(t, 12)
+}
+
+pub fn size(t: &[u8]) -> u16
+    ensures { λ r. ⌜ r ≡ nodeOf 0 (now (t .entry)) .size ⌝ }
+{
+    fields::half(t, 16)
+}
+
+pub fn pad(t: &[u8]) -> u16
+    ensures { λ r. ⌜ r ≡ nodeOf 0 (now (t .entry)) .pad ⌝ }
+{
+    fields::half(t, 18)
+}
+
+pub fn source(t: &[u8]) -> u32
+    ensures { λ r. ⌜ r ≡ nodeOf 0 (now (t .entry)) .source ⌝ }
+{
+    fields::word(t, 20)
+}
+
+// How many bytes the first node's subtree takes: `&t[24..e]` are its children and `&t[e..]` is what follows.
+pub fn span(t: &[u8]) -> usize
+    ensures { λ r. ⌜ r ≡ spanOf (now (t .entry)) ⌝ }
+{
+    let n = t.len();
+    let s = size(t) as usize;
+    if s == 0 {
+        if 24 < n {
+            return 24;
+        }
+        return n;
+    }
+    if 24 * s < n {
+        return 24 * s;
+    }
+    n
+}
