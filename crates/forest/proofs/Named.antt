@@ -11,7 +11,7 @@ use lib.Seq.{take-nil, drop-cons}
 use lib.Dec.{eqb}
 use borrow.Author.Tests.{eq-eqb, ne-eqb, eqb-true}
 use Rattle.forest.specs.Forest.{nodeOf, spanOf, node, Forest, none, _then_, forest}
-use Rattle.forest.specs.Names.{nameOf, sameBytes, firstNamed}
+use Rattle.forest.specs.Names.{nameOf, same, firstNamed}
 use Rattle.forest.specs.declared.Found.{Found}
 use Rattle.forest.specs.declared.Found.the-variants.{At, Nothing}
 use Rattle.forest.proofs.Stretch.{forest-none, forest-tree, rest-part}
@@ -43,11 +43,11 @@ pub record Alike (a b : List ℕ) (n i : ℕ) : Type 0 where
   pub upto : i ≤ n
   pub long : n ≡ length a
   pub long′ : n ≡ length b
-  pub left : sameBytes (drop i a) (drop i b) ≡ sameBytes a b
+  pub left : same (drop i a) (drop i b) ≡ same a b
 
 module _ {a b : List ℕ} {n i : ℕ} (s : Alike a b n i) where
-  same-step : i < n → sameBytes (drop i a) (drop i b) ≡ (eqb (getD a i 0) (getD b i 0) && sameBytes (drop (i + 1) a) (drop (i + 1) b))
-  unfolding sameBytes
+  same-step : i < n → same (drop i a) (drop i b) ≡ (eqb (getD a i 0) (getD b i 0) && same (drop (i + 1) a) (drop (i + 1) b))
+  unfolding same
   same-step h = let p : i < length a = omega arith in let q : i < length b = omega arith in simp (drop-cons a i 0 p, drop-cons b i 0 q, add-one)
 
   pub same-go : i < n → getD a i 0 ≡ getD b i 0 → Alike a b n (i + 1)
@@ -58,11 +58,11 @@ module _ {a b : List ℕ} {n i : ℕ} (s : Alike a b n i) where
     left = sym (same-step h ∙ rw (eq-eqb (getD a i 0) (getD b i 0) e) refl) ∙ s .left;
   }
 
-  pub same-stop : i < n → (getD a i 0 ≡ getD b i 0 → ⊥) → false ≡ sameBytes a b
+  pub same-stop : i < n → (getD a i 0 ≡ getD b i 0 → ⊥) → false ≡ same a b
   same-stop h e = sym (same-step h ∙ rw (ne-eqb (getD a i 0) (getD b i 0) e) refl) ∙ s .left
 
-  pub same-end : n ≤ i → true ≡ sameBytes a b
-  unfolding sameBytes
+  pub same-end : n ≤ i → true ≡ same a b
+  unfolding same
   same-end h =
       let p : drop i a ≡ [] = drop-of-length-le a {i = i} (omega arith) in
       let q : drop i b ≡ [] = drop-of-length-le b {i = i} (omega arith) in
@@ -72,34 +72,34 @@ pub same-start : (a b : List ℕ) → length a ≡ length b → Alike a b (lengt
 same-start a b e = record { upto = omega arith; long = refl; long′ = e; left = refl }
 
 -- lists of different lengths differ
-pub same-length : (a b : List ℕ) → (length a ≡ length b → ⊥) → false ≡ sameBytes a b
-unfolding sameBytes
+pub same-length : (a b : List ℕ) → (length a ≡ length b → ⊥) → false ≡ same a b
+unfolding same
 same-length [] [] h = absurd (h refl)
 same-length [] (y ∷ b) h = refl
 same-length (x ∷ a) [] h = refl
 same-length (x ∷ a) (y ∷ b) h = go (eqb x y) (same-length a b (λ e. h (omega arith)))
   where
-    go : (t : Bool) → false ≡ sameBytes a b → false ≡ (t && sameBytes a b)
+    go : (t : Bool) → false ≡ same a b → false ≡ (t && same a b)
     go true e = e
     go false e = refl
 
 -- LAW: the test of names is equality of their bytes
-pub same-bytes-refl : (a : List ℕ) → sameBytes a a ≡ true
-unfolding sameBytes
+pub same-bytes-refl : (a : List ℕ) → same a a ≡ true
+unfolding same
 same-bytes-refl [] = refl
 same-bytes-refl (x ∷ a) = rw (eq-eqb x x refl) (same-bytes-refl a)
 
 never : {P : Type 0} → false ≡ true → P
 never e = let z : _≡_ {A = ℕ} 0 1 = cc in absurd (omega arith)
 
-pub same-bytes-equal : (a b : List ℕ) → sameBytes a b ≡ true → a ≡ b
-unfolding sameBytes
+pub same-bytes-equal : (a b : List ℕ) → same a b ≡ true → a ≡ b
+unfolding same
 same-bytes-equal [] [] e = refl
 same-bytes-equal [] (y ∷ b) e = never e
 same-bytes-equal (x ∷ a) [] e = never e
 same-bytes-equal (x ∷ a) (y ∷ b) e = go (eqb x y) refl (same-bytes-equal a b) e
   where
-    go : (t : Bool) → eqb x y ≡ t → (sameBytes a b ≡ true → a ≡ b) → (t && sameBytes a b) ≡ true → x ∷ a ≡ y ∷ b
+    go : (t : Bool) → eqb x y ≡ t → (same a b ≡ true → a ≡ b) → (t && same a b) ≡ true → x ∷ a ≡ y ∷ b
     go true p rest q = let h : x ≡ y = eqb-true x y p in let l : a ≡ b = rest q in cc
     go false p rest q = never q
 
@@ -116,17 +116,17 @@ module _ {ns name t : List ℕ} {at : ℕ} {left : List ℕ} (s : Seeking ns nam
   unfolding firstNamed
   seek-end h = rw (forest-none at left h) at (s .same)
 
-  pub seek-here : {m : List ℕ} {b : Bool} → 24 ≤ length left → m ≡ nameOf ns (nodeOf 0 left) → b ≡ sameBytes m name → b ≡ true → At at ≡ firstNamed ns name (forest 0 t)
+  pub seek-here : {m : List ℕ} {b : Bool} → 24 ≤ length left → m ≡ nameOf ns (nodeOf 0 left) → b ≡ same m name → b ≡ true → At at ≡ firstNamed ns name (forest 0 t)
   unfolding firstNamed nameOf
   seek-here big m-is b-is e =
-      let hit : sameBytes (nameOf ns (nodeOf 0 left)) name ≡ true = cc in
+      let hit : same (nameOf ns (nodeOf 0 left)) name ≡ true = cc in
       rw (forest-tree at left big, hit) at (s .same)
 
-  pub seek-on : {m : List ℕ} {b : Bool} {e : ℕ} → 24 ≤ length left → m ≡ nameOf ns (nodeOf 0 left) → b ≡ sameBytes m name → b ≡ false → e ≡ spanOf left
+  pub seek-on : {m : List ℕ} {b : Bool} {e : ℕ} → 24 ≤ length left → m ≡ nameOf ns (nodeOf 0 left) → b ≡ same m name → b ≡ false → e ≡ spanOf left
       → Seeking ns name t (at + e / 24) (take (length left - e) (drop e left))
   unfolding firstNamed nameOf
   seek-on {m} {b} {e} big m-is b-is miss e-is =
-      let hit : sameBytes (nameOf ns (nodeOf 0 left)) name ≡ false = cc in
+      let hit : same (nameOf ns (nodeOf 0 left)) name ≡ false = cc in
       record {
         room = simp (length-take, length-drop) (omega arith);
         same = rw (rest-part e left e-is, e-is) (rw (forest-tree at left big, hit) at (s .same));

@@ -13,14 +13,14 @@ use Rattle.forest.specs.declared.Found.the-variants.{At, Nothing}
 unfoldable pub nameOf : List ℕ → Node → List ℕ
 nameOf names r = take (r .nameLen) (drop (r .nameStart) names)
 
--- two lists of bytes are the same
-unfoldable pub sameBytes : List ℕ → List ℕ → Bool
-sameBytes [] [] = true
-sameBytes [] (y ∷ ys) = false
-sameBytes (x ∷ xs) [] = false
-sameBytes (x ∷ xs) (y ∷ ys) = eqb x y && sameBytes xs ys
+-- two lists are the same, number by number
+unfoldable pub same : List ℕ → List ℕ → Bool
+same [] [] = true
+same [] (y ∷ ys) = false
+same (x ∷ xs) [] = false
+same (x ∷ xs) (y ∷ ys) = eqb x y && same xs ys
 
 -- the first of the nodes side by side whose name has these bytes
 unfoldable pub firstNamed : List ℕ → List ℕ → Forest → Found
 firstNamed names name none = Nothing
-firstNamed names name (node r ks then ts) = if' (sameBytes (nameOf names r) name) (λ _. At (r .at)) (λ _. firstNamed names name ts)
+firstNamed names name (node r ks then ts) = if' (same (nameOf names r) name) (λ _. At (r .at)) (λ _. firstNamed names name ts)

@@ -2,7 +2,7 @@
 use crate::Found;
 ghost use mathlib.Core.Path.{_≡_};
 ghost use Rattle.forest.specs.Forest.{nodeOf, forest};
-ghost use Rattle.forest.specs.Names.{nameOf, sameBytes, firstNamed};
+ghost use Rattle.forest.specs.Names.{nameOf, same, firstNamed};
 
 // The name of the record that a stretch begins with: as much of it as stands within the lent names.
 pub fn name<'a>(names: &'a [u8], t: &[u8]) -> &'a [u8]
@@ -22,7 +22,7 @@ pub fn name<'a>(names: &'a [u8], t: &[u8]) -> &'a [u8]
 
 // Whether two lists of bytes are the same.
 pub fn same_bytes(a: &[u8], b: &[u8]) -> bool
-    ensures { λ r. ⌜ r ≡ sameBytes (now (a .entry)) (now (b .entry)) ⌝ }
+    ensures { λ r. ⌜ r ≡ same (now (a .entry)) (now (b .entry)) ⌝ }
 {
     let n = a.len();
     if n != b.len() {

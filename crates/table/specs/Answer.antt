@@ -1,0 +1,32 @@
+-- What an answer means: document 01's number and values. These are definitions.
+use mathlib.Core.List.{List, [], _∷_}
+use Prim.Native.Nat.{ℕ}
+use Rattle.forest.specs.Forest.{Node}
+use Rattle.table.specs.declared.Refusal.{Refusal}
+use Rattle.table.specs.declared.Refusal.the-variants.{Bare, Placed, Spanned}
+use Rattle.table.specs.declared.Checked.{Checked}
+use Rattle.table.specs.declared.Checked.the-variants.{Sound, Refused}
+
+-- accepted, with the values of the job; or refused, with document 01's number and what it carries: nothing, the node, or the node and its span
+pub data Answer : Type 0 where
+  accepted : List ℕ → Answer
+  refused : ℕ → List ℕ → Answer
+
+-- checked in order: the first refusal, else what follows
+abbrev pub andThen : Answer → (Unit {0} → Answer) → Answer
+andThen (accepted vs) next = next tt
+andThen (refused n vs) next = refused n vs
+
+-- a refusal at a node, with its span
+abbrev pub refusedAt : ℕ → Node → Answer
+refusedAt n r = refused n (r .at ∷ r .begin ∷ r .stop ∷ [])
+
+-- what the answers of code mean
+abbrev pub refusal : Refusal → Answer
+refusal (Bare n) = refused n []
+refusal (Placed n k) = refused n (k ∷ [])
+refusal (Spanned n k b e) = refused n (k ∷ b ∷ e ∷ [])
+
+abbrev pub checked : Checked → Answer
+checked Sound = accepted []
+checked (Refused r) = refusal r

@@ -1,0 +1,56 @@
+-- The table check, 1 to 4 in this order, and a job's node, 6. These are definitions.
+use mathlib.Core.Bool.{Bool, true, false, _&&_, _||_, not}
+use mathlib.Core.List.{List, [], _∷_}
+use Prim.Native.Nat.{ℕ, _*_, _/_, _%_}
+use lib.ListN.{length, take, drop}
+use lib.Dec.{eqb, ltb, leb}
+use Rattle.fields.specs.Choice.{if'}
+use Rattle.forest.specs.Forest.{sizeOf, nodeOf, forest}
+use Rattle.forest.specs.declared.Found.{Found}
+use Rattle.forest.specs.declared.Found.the-variants.{At, Nothing}
+use Rattle.table.specs.Numbers.{tableLength, nameBytes, unsoundRecord, tooDeep, wrongNode, kindDef, kindLambda, kindCall, kindAssign, kindAssignModify}
+use Rattle.table.specs.Kinds.{expression, classOf}
+use Rattle.table.specs.Sound.{firstUnsound}
+use Rattle.table.specs.Depth.{firstDeep}
+use Rattle.table.specs.Answer.{Answer, accepted, refused, andThen}
+use Rattle.table.specs.declared.Wanted.{Wanted}
+use Rattle.table.specs.declared.Wanted.the-variants.{Parameters, Call, Assignment, Expression}
+
+-- 1: the table has 1 to 2,100 records of 24 bytes
+abbrev pub lengthCheck : ℕ → Answer
+lengthCheck n = if' (leb 24 n && (leb n 50400 && eqb (n % 24) 0)) (λ _. accepted []) (λ _. refused tableLength [])
+
+-- 2: there are at most 8,064 name bytes
+abbrev pub namesCheck : ℕ → Answer
+namesCheck n = if' (leb n 8064) (λ _. accepted []) (λ _. refused nameBytes [])
+
+-- a node that breaks a rule, by the rule's number
+abbrev pub noneFound : ℕ → Found → Answer
+noneFound n (At i) = refused n (i ∷ [])
+noneFound n Nothing = accepted []
+
+-- the check: 1, 2, 3 the first unsound record, 4 the first node that is too deep
+unfoldable pub checkOf : List ℕ → List ℕ → Answer
+checkOf t names =
+    andThen (lengthCheck (length t)) (λ _.
+    andThen (namesCheck (length names)) (λ _.
+    andThen (noneFound unsoundRecord (firstUnsound t names)) (λ _.
+    noneFound tooDeep (firstDeep 0 (forest 0 t)))))
+
+-- the kinds that a job wants: parameters 2 or 27, a call 22, an assignment 11 or 12, a target or a type an expression
+unfoldable pub wants : Wanted → ℕ → Bool
+wants Parameters k = eqb k kindDef || eqb k kindLambda
+wants Call k = eqb k kindCall
+wants Assignment k = eqb k kindAssign || eqb k kindAssignModify
+wants Expression k = eqb (classOf k) expression
+
+-- 6: the node is within the table and of a kind that the job wants
+unfoldable pub nodeFits : List ℕ → ℕ → Wanted → Bool
+nodeFits t i w = ltb i (length t / 24) && wants w (nodeOf i (drop (24 * i) t) .kind)
+
+abbrev pub nodeCheck : List ℕ → ℕ → Wanted → Answer
+nodeCheck t i w = if' (nodeFits t i w) (λ _. accepted []) (λ _. refused wrongNode [])
+
+-- a node's subtree, as a stretch of the table
+unfoldable pub stretchOf : List ℕ → ℕ → List ℕ
+stretchOf t i = take (24 * sizeOf (drop (24 * i) t)) (drop (24 * i) t)

@@ -1,0 +1,34 @@
+-- How code's packed rows are read. That they say what Kinds says is proved, so no one needs to believe them. These are definitions.
+use mathlib.Core.Bool.{Bool, true, false}
+use mathlib.Core.List.{List, [], _∷_}
+use Prim.Native.Nat.{ℕ}
+use lib.ListN.{getD, take}
+use lib.Dec.{eqb, leb}
+use Rattle.fields.specs.Choice.{if'}
+use Rattle.table.specs.Kinds.{statement, expression, parameter, argument, one, two, three, Times, anyNumber, evenNumber, atMost, Children, children, exactly, any, evenly, upTo, thenAny, thenUpTo, anyThen, kindOf}
+use Rattle.table.specs.declared.rows.Rule.{Rule}
+
+-- 255 is any number, 254 an even one, another number at most so many
+abbrev pub timesOf : ℕ → Times
+timesOf n = if' (eqb n 255) (λ _. anyNumber) (λ _. if' (eqb n 254) (λ _. evenNumber) (λ _. atMost n))
+
+-- the children that a rule of code permits
+abbrev pub childrenOf : Rule → Children
+childrenOf r = children (take (r .fronts) (r .front)) (timesOf (r .times)) (r .middle) (take (r .backs) (r .back))
+
+-- the rules that kinds share, by number
+abbrev pub rules : List Children
+rules =
+    exactly [] ∷ exactly one ∷ exactly two ∷ exactly three
+    ∷ anyThen parameter (statement ∷ []) ∷ anyThen parameter (expression ∷ statement ∷ []) ∷ anyThen parameter one
+    ∷ any statement ∷ any expression ∷ evenly expression ∷ upTo 1 expression
+    ∷ thenUpTo one 3 expression ∷ thenAny one expression ∷ thenAny two expression ∷ thenAny one argument
+    ∷ exactly (expression ∷ expression ∷ statement ∷ []) ∷ exactly (expression ∷ statement ∷ []) ∷ exactly (expression ∷ statement ∷ statement ∷ [])
+    ∷ []
+
+unfoldable pub ruleAt : ℕ → Children
+ruleAt n = getD rules n (exactly [])
+
+-- the rule of a kind at a detail, and none past its largest detail
+unfoldable pub ruleOf : ℕ → ℕ → Children
+ruleOf k d = if' (leb d (kindOf k .details)) (λ _. kindOf k .kids d) (λ _. exactly [])
