@@ -223,3 +223,9 @@ read row =
 pub rule-is : (y : List ℕ) (n : ℕ) → n < 18 → read (getD packedRules n y) ≡ ruleAt n
 unfolding ruleAt
 rule-is y = everywhere 18 (λ n. read (getD packedRules n y)) ruleAt refl
+
+pub fronts-small : (y : List ℕ) (n : ℕ) → n < 18 → getD (getD packedRules n y) 0 0 ≤ 3
+fronts-small y n h = leb-true _ 3 (everywhere 18 (λ n. leb (getD (getD packedRules n y) 0 0) 3) (λ n. true) refl n h)
+
+pub backs-small : (y : List ℕ) (n : ℕ) → n < 18 → getD (getD packedRules n y) 6 0 ≤ 2
+backs-small y n h = leb-true _ 2 (everywhere 18 (λ n. leb (getD (getD packedRules n y) 6 0) 2) (λ n. true) refl n h)

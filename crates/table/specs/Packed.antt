@@ -1,16 +1,27 @@
 -- How code's packed rows are read. That they say what Kinds says is proved, so no one needs to believe them. These are definitions.
-use mathlib.Core.Bool.{Bool, true, false}
+use mathlib.Core.Bool.{Bool, true, false, _&&_}
 use mathlib.Core.List.{List, [], _∷_}
-use Prim.Native.Nat.{ℕ}
-use lib.ListN.{getD, take}
+use mathlib.Core.Path.{_≡_}
+use Prim.Native.Nat.{ℕ, _≤_}
+use lib.ListN.{length, getD, take}
 use lib.Dec.{eqb, leb}
 use Rattle.fields.specs.Choice.{if'}
 use Rattle.table.specs.Kinds.{statement, expression, parameter, argument, one, two, three, Times, anyNumber, evenNumber, atMost, Children, children, exactly, any, evenly, upTo, thenAny, thenUpTo, anyThen, kindOf}
+use Rattle.forest.specs.Forest.{Forest}
+use Rattle.forest.specs.Names.{same}
+use Rattle.table.specs.Sound.{wholeTrees, classes, permitted, fixed, between, wanted}
 use Rattle.table.specs.declared.rows.Rule.{Rule}
 
 -- 255 is any number, 254 an even one, another number at most so many
 abbrev pub timesOf : ℕ → Times
 timesOf n = if' (eqb n 255) (λ _. anyNumber) (λ _. if' (eqb n 254) (λ _. evenNumber) (λ _. atMost n))
+
+-- a rule whose arrays hold as many as it counts
+pub record Fit (r : Rule) : Type 0 where
+  pub fronts : r .fronts ≤ 3
+  pub backs : r .backs ≤ 2
+  pub front : length (r .front) ≡ 3
+  pub back : length (r .back) ≡ 2
 
 -- the children that a rule of code permits
 abbrev pub childrenOf : Rule → Children
@@ -32,3 +43,10 @@ ruleAt n = getD rules n (exactly [])
 -- the rule of a kind at a detail, and none past its largest detail
 unfoldable pub ruleOf : ℕ → ℕ → Children
 ruleOf k d = if' (leb d (kindOf k .details)) (λ _. kindOf k .kids d) (λ _. exactly [])
+
+-- the two tests that code makes of a node's children: their number, then that they are whole and of the classes wanted in order
+unfoldable pub numberSound : Children → ℕ → Bool
+numberSound c n = leb (fixed c) n && permitted (c .times) (between c n)
+
+unfoldable pub orderSound : Children → Forest → Bool
+orderSound c ks = wholeTrees ks && same (classes ks) (wanted c (length (classes ks)))

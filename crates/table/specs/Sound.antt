@@ -16,6 +16,9 @@ use Rattle.table.specs.Kinds.{statement, Times, anyNumber, evenNumber, a
 pub record Context : Type 0 where
   pub names : ℕ
 
+abbrev pub context : ℕ → Context
+context n = record { names = n }
+
 -- the largest position
 abbrev pub lastPosition : ℕ
 lastPosition = 2147483647
@@ -59,9 +62,12 @@ permitted anyNumber n = true
 permitted evenNumber n = eqb (n % 2) 0
 permitted (atMost m) n = leb n m
 
--- how many of n children stand in the middle, and the classes that n children have in order
+-- how many children come first and last, how many of n stand between them, and the classes that n children have in order
+abbrev pub fixed : Children → ℕ
+fixed c = length (c .front) + length (c .back)
+
 abbrev pub between : Children → ℕ → ℕ
-between c n = n - (length (c .front) + length (c .back))
+between c n = n - fixed c
 
 unfoldable pub wanted : Children → ℕ → List ℕ
 wanted c n = c .front ++ (replicate (between c n) (c .middle) ++ c .back)
@@ -70,9 +76,13 @@ wanted c n = c .front ++ (replicate (between c n) (c .middle) ++ c .back)
 unfoldable pub permits : Children → List ℕ → Bool
 permits c cs = permitted (c .times) (between c (length cs)) && same cs (wanted c (length cs))
 
+-- children that fill their stretch and are what is given
+unfoldable pub kidsSound : Children → Forest → Bool
+kidsSound c ks = wholeTrees ks && permits c (classes ks)
+
 -- a record with its children
 unfoldable pub soundNode : Context → Node → Forest → Bool
-soundNode x r ks = fieldsSound x r && (wholeTree r ks && (wholeTrees ks && permits (kindOf (r .kind) .kids (r .detail)) (classes ks)))
+soundNode x r ks = fieldsSound x r && (wholeTree r ks && kidsSound (kindOf (r .kind) .kids (r .detail)) ks)
 
 -- the record that the table has from here on, its children found by stepping over their sizes
 unfoldable pub soundAt : Context → ℕ → List ℕ → Bool
@@ -84,7 +94,7 @@ rootSound t = eqb (classOf (nodeOf 0 t .kind)) statement && eqb (24 * nodeOf 0 t
 
 -- what the rule of record i of a table is told
 unfoldable pub contextOf : List ℕ → List ℕ → ℕ → Context
-contextOf t names i = record { names = length names }
+contextOf t names i = context (length names)
 
 -- record i of a table
 unfoldable pub recordSound : List ℕ → List ℕ → ℕ → Bool

@@ -2,12 +2,21 @@
 pub mod kinds;
 pub mod numbers;
 mod rows;
+mod sound;
 
 // Why a job refuses, with what document 01 lets the number carry: nothing, the node, or the node and its span.
 pub enum Refusal {
     Bare(u32),
-    Placed { number: u32, node: u32 },
-    Spanned { number: u32, node: u32, begin: u32, end: u32 },
+    Placed {
+        number: u32,
+        node: u32,
+    },
+    Spanned {
+        number: u32,
+        node: u32,
+        begin: u32,
+        end: u32,
+    },
 }
 
 // The answer of the table check.

@@ -2,7 +2,7 @@
 ghost use mathlib.Core.Path.{_≡_};
 ghost use Prim.Native.Nat.{_<_};
 ghost use Rattle.table.specs.Kinds.{kindOf, classOf};
-ghost use Rattle.table.specs.Packed.{ruleAt, ruleOf, childrenOf};
+ghost use Rattle.table.specs.Packed.{ruleAt, ruleOf, childrenOf, Fit};
 
 // The children that a kind permits: the classes of the first ones, how many of one class then come, and the classes of the last ones.
 pub struct Rule {
@@ -165,6 +165,7 @@ fn rule_number(kind: u8, detail: u8) -> usize
 // The children that a kind permits at a detail.
 pub fn rule_of(kind: u8, detail: u8) -> Rule
     ensures { λ r. ⌜ childrenOf r ≡ ruleOf kind detail ⌝ }
+    ensures { λ r. ⌜ Fit r ⌝ }
 {
     let i = rule_number(kind, detail);
     let row = RULES[i];

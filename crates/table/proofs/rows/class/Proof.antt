@@ -4,7 +4,6 @@ use borrow.Author.Needs.{needs}
 use Rattle.table.proofs.rows.class.Statement.{statement}
 use Rattle.table.proofs.rows.class.Tie as tie
 
-
 pub class-spec : {M : Type 1} → statement M
 class-spec =
     tie.close

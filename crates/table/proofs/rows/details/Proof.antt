@@ -4,7 +4,6 @@ use borrow.Author.Needs.{needs}
 use Rattle.table.proofs.rows.details.Statement.{statement}
 use Rattle.table.proofs.rows.details.Tie as tie
 
-
 pub details-spec : {M : Type 1} → statement M
 details-spec =
     tie.close

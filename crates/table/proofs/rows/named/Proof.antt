@@ -4,7 +4,6 @@ use borrow.Author.Needs.{needs}
 use Rattle.table.proofs.rows.named.Statement.{statement}
 use Rattle.table.proofs.rows.named.Tie as tie
 
-
 pub named-spec : {M : Type 1} → statement M
 named-spec =
     tie.close

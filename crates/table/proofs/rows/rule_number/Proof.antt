@@ -5,7 +5,6 @@ use borrow.Author.Needs.{needs}
 use Rattle.table.proofs.rows.rule_number.Statement.{statement}
 use Rattle.table.proofs.rows.rule_number.Tie as tie
 
-
 pub rule-number-spec : {M : Type 1} → statement M
 rule-number-spec =
     tie.close

@@ -1,10 +1,9 @@
-use mathlib.Core.Path.{_∙_}
+use mathlib.Core.Path.{refl, _∙_}
 -- `table::rows::rule_of` meets its contract: the packed row says what the kind's row says. Assumes nothing.
-use Rattle.table.proofs.Packing.{rule-is}
+use Rattle.table.proofs.Packing.{rule-is, fronts-small, backs-small}
 use borrow.Author.Needs.{needs}
 use Rattle.table.proofs.rows.rule_of.Statement.{statement}
 use Rattle.table.proofs.rows.rule_of.Tie as tie
-
 
 pub rule-of-spec : {M : Type 1} → statement M
 rule-of-spec =
@@ -24,4 +23,4 @@ rule-of-spec =
     (λ c. search needs)
     (λ c. search needs)
     (λ c κs. search needs)
-    (λ c. rw (c .before .wide .ensures, c .wide2 .ensures) (rule-is _ _ (c .before .before .before .rule-number .ensures .0) ∙ c .before .before .before .rule-number .ensures .1)))
+    (λ c. (rw (c .before .wide .ensures, c .wide2 .ensures) (rule-is _ _ (c .before .before .before .rule-number .ensures .0) ∙ c .before .before .before .rule-number .ensures .1), record { fronts = rw (c .before .wide .ensures) (fronts-small _ _ (c .before .before .before .rule-number .ensures .0)); backs = rw (c .wide2 .ensures) (backs-small _ _ (c .before .before .before .rule-number .ensures .0)); front = refl; back = refl })))

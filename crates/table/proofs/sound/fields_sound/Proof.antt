@@ -1,0 +1,27 @@
+-- `table::sound::fields_sound` meets its contract: it is the definition, test by test. Assumes nothing.
+use mathlib.Core.Path.{refl}
+use Rattle.table.specs.Sound.{fieldsSound}
+use borrow.Author.Needs.{needs}
+use Rattle.table.proofs.sound.fields_sound.Statement.{statement}
+use Rattle.table.proofs.sound.fields_sound.Tie as tie
+
+pub fields-sound-spec : {M : Type 1} → statement M
+unfolding fieldsSound
+fields-sound-spec =
+    tie.close
+    (tie.spec
+    (λ c κs. search needs)
+    (λ c κs. search needs)
+    (λ c κs. search needs)
+    (λ c κs. search needs)
+    (λ c κs. search needs)
+    (λ c κs. search needs)
+    (λ c κs. search needs)
+    (λ c κs. search needs)
+    (λ c κs. search needs)
+    (λ c κs. search needs)
+    (λ c κs. search needs)
+    (λ c κs. search needs)
+    (λ c κs. search needs)
+    (λ c κs. search needs)
+    (λ c. cc))
