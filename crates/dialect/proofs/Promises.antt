@@ -1,0 +1,18 @@
+-- Two answers that meet the promise of a public function coincide. Assumes nothing.
+use mathlib.Core.Path.{_≡_}
+use mathlib.Core.List.{List}
+use Prim.Native.Nat.{ℕ}
+use Rattle.fields.proofs.Coincide.{coincide}
+use Rattle.dialect.specs.declared.Decoded.{Decoded}
+use Rattle.dialect.specs.declared.Dialect.{Dialect}
+use Rattle.dialect.specs.declared.Name.{Name}
+use Rattle.dialect.specs.Rows.{dialectNamed}
+use Rattle.dialect.specs.Bytes.{fromBytes}
+
+-- of `named`
+pub named-one : (name : Name) {r s : Dialect} → r ≡ dialectNamed name → s ≡ dialectNamed name → r ≡ s
+named-one name = coincide
+
+-- of `from_bytes`, the bytes as lent
+pub from-bytes-one : (bytes : List ℕ) {r s : Decoded} → r ≡ fromBytes bytes → s ≡ fromBytes bytes → r ≡ s
+from-bytes-one bytes = coincide

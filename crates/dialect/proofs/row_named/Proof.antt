@@ -1,0 +1,21 @@
+-- `dialect::row_named` meets its contract: in each arm the row of the table is the name's row. Assumes nothing.
+use mathlib.Core.Path.{sym, ap}
+use native.Mathlib.Omega.{arith}
+use borrow.Author.Needs.{needs}
+use Rattle.dialect.specs.Rows.{rowNamed}
+use Rattle.dialect.proofs.row_named.Statement.{statement}
+use Rattle.dialect.proofs.row_named.Tie as tie
+
+pub row-named-spec : {M : Type 1} → statement M
+row-named-spec =
+    tie.close
+    (tie.spec
+    (λ c. search needs)
+    (λ c. omega arith)
+    (λ c. search needs)
+    (λ c. omega arith)
+    (λ c. search needs)
+    (λ c. omega arith)
+    (λ c. sym (ap rowNamed (c .before .enum-told .given .1)))
+    (λ c. sym (ap rowNamed (c .before .enum-told2 .given .1)))
+    (λ c. sym (ap rowNamed (c .before .enum-told3 .given .1))))

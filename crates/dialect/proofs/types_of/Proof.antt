@@ -1,0 +1,12 @@
+-- `dialect::types_of` meets its contract: each return stands behind the tests of `typesOf`. Assumes nothing.
+use borrow.Author.Tests.{eq-eqb, ne-eqb}
+use Rattle.dialect.proofs.types_of.Statement.{statement}
+use Rattle.dialect.proofs.types_of.Tie as tie
+
+pub types-of-spec : {M : Type 1} → statement M
+types-of-spec =
+    tie.close
+    (tie.spec
+    (λ c. simp (eq-eqb _ _ (c .if1 .taken)))
+    (λ c. simp (ne-eqb _ _ (c .before .if1 .left), eq-eqb _ _ (c .if2 .taken)))
+    (λ c. simp (ne-eqb _ _ (c .before .if1 .left), ne-eqb _ _ (c .if2 .left))))

@@ -1,0 +1,69 @@
+-- The dialects of src/dialect.rs: three rows of nine numbers, and the record that nine numbers stand for.
+use mathlib.Core.Bool.{Bool, true, false}
+use mathlib.Core.List.{List, [], _∷_}
+use Prim.Native.Nat.{ℕ}
+use lib.Dec.{eqb}
+use lib.ListN.{getD}
+use Rattle.dialect.specs.declared.Dialect.{Dialect}
+use Rattle.dialect.specs.declared.DialectTypes.{DialectTypes}
+use Rattle.dialect.specs.declared.DialectTypes.the-variants.{Disable, ParseOnly, Enable}
+use Rattle.dialect.specs.declared.Name.{Name}
+use Rattle.dialect.specs.declared.Name.the-variants.{Standard, Extended, AllOptionsInternal}
+use Rattle.fields.specs.Choice.{if'}
+
+-- the row of each name, in the order of the fields of `Dialect`: 1 for true, 0 for false, 0, 1 or 2 for enable_types
+abbrev pub rowNamed : Name → List ℕ
+rowNamed Standard = 1 ∷ 1 ∷ 1 ∷ 0 ∷ 0 ∷ 0 ∷ 1 ∷ 0 ∷ 0 ∷ []
+rowNamed Extended = 1 ∷ 1 ∷ 1 ∷ 1 ∷ 0 ∷ 2 ∷ 1 ∷ 1 ∷ 0 ∷ []
+rowNamed AllOptionsInternal = 1 ∷ 1 ∷ 1 ∷ 1 ∷ 1 ∷ 2 ∷ 1 ∷ 1 ∷ 1 ∷ []
+
+-- what a number of enable_types says: 0 Disable, 1 ParseOnly, 2 Enable
+abbrev pub typesOf : ℕ → DialectTypes
+typesOf n = if' (eqb n 0) (λ _. Disable) (λ _. if' (eqb n 1) (λ _. ParseOnly) (λ _. Enable))
+
+-- the dialect of nine numbers: a feature is permitted where its number is 1
+unfoldable pub recordOf : List ℕ → Dialect
+recordOf row = record {
+  «enable_def» = eqb (getD row 0 0) 1;
+  «enable_lambda» = eqb (getD row 1 0) 1;
+  «enable_load» = eqb (getD row 2 0) 1;
+  «enable_keyword_only_arguments» = eqb (getD row 3 0) 1;
+  «enable_positional_only_arguments» = eqb (getD row 4 0) 1;
+  «enable_types» = typesOf (getD row 5 0);
+  «enable_load_reexport» = eqb (getD row 6 0) 1;
+  «enable_top_level_stmt» = eqb (getD row 7 0) 1;
+  «enable_f_strings» = eqb (getD row 8 0) 1;
+}
+
+-- the dialect of a name
+abbrev pub dialectNamed : Name → Dialect
+dialectNamed name = recordOf (rowNamed name)
+
+-- the dialect that is meant where none is given: the crate's Default
+abbrev pub noneGiven : Name
+noneGiven = Standard
+
+-- the number of a bool: 1 for true, 0 for false
+abbrev pub bitOf : Bool → ℕ
+bitOf true = 1
+bitOf false = 0
+
+-- the number of enable_types
+abbrev pub typesNumber : DialectTypes → ℕ
+typesNumber Disable = 0
+typesNumber ParseOnly = 1
+typesNumber Enable = 2
+
+-- the nine numbers of a dialect, in the order of its fields
+unfoldable pub rowOf : Dialect → List ℕ
+rowOf d =
+    bitOf (d .«enable_def»)
+    ∷ bitOf (d .«enable_lambda»)
+    ∷ bitOf (d .«enable_load»)
+    ∷ bitOf (d .«enable_keyword_only_arguments»)
+    ∷ bitOf (d .«enable_positional_only_arguments»)
+    ∷ typesNumber (d .«enable_types»)
+    ∷ bitOf (d .«enable_load_reexport»)
+    ∷ bitOf (d .«enable_top_level_stmt»)
+    ∷ bitOf (d .«enable_f_strings»)
+    ∷ []
