@@ -17,8 +17,11 @@ use Rattle.table.specs.declared.Wanted.{Wanted}
 use Rattle.table.specs.declared.Wanted.the-variants.{Parameters, Call, Assignment, Expression}
 
 -- 1: the table has 1 to 2,100 records of 24 bytes
+unfoldable pub lengthSound : ℕ → Bool
+lengthSound n = leb 24 n && (leb n 50400 && eqb (n % 24) 0)
+
 abbrev pub lengthCheck : ℕ → Answer
-lengthCheck n = if' (leb 24 n && (leb n 50400 && eqb (n % 24) 0)) (λ _. accepted []) (λ _. refused tableLength [])
+lengthCheck n = if' (lengthSound n) (λ _. accepted []) (λ _. refused tableLength [])
 
 -- 2: there are at most 8,064 name bytes
 abbrev pub namesCheck : ℕ → Answer
@@ -51,6 +54,6 @@ nodeFits t i w = ltb i (length t / 24) && wants w (nodeOf i (drop (24 * i) t) .k
 abbrev pub nodeCheck : List ℕ → ℕ → Wanted → Answer
 nodeCheck t i w = if' (nodeFits t i w) (λ _. accepted []) (λ _. refused wrongNode [])
 
--- a node's subtree, as a stretch of the table
+-- a node's subtree, as a stretch of the table; beyond the table it is empty
 unfoldable pub stretchOf : List ℕ → ℕ → List ℕ
-stretchOf t i = take (24 * sizeOf (drop (24 * i) t)) (drop (24 * i) t)
+stretchOf t i = if' (ltb i (length t / 24)) (λ _. take (24 * sizeOf (drop (24 * i) t)) (drop (24 * i) t)) (λ _. [])

@@ -160,15 +160,17 @@ fn root_sound(table: &[u8]) -> bool
 }
 
 // The first unsound record in index order.
-fn first_unsound(table: &[u8], names: &[u8]) -> Found
-    requires { ⌜ 24 ≤ length (now table) ⌝ }
+pub fn first_unsound(table: &[u8], names: &[u8]) -> Found
     ensures { λ r. ⌜ r ≡ firstUnsound (now (table .entry)) (now (names .entry)) ⌝ }
 {
+    let n = table.len() / 24;
+    let m = names.len();
+    if n == 0 {
+        return Found::Nothing;
+    }
     if !root_sound(table) {
         return Found::At(0);
     }
-    let n = table.len() / 24;
-    let m = names.len();
     let mut i = 0;
     while i < n {
         let a = 24 * i;
