@@ -11,12 +11,12 @@ use Rattle.forest.specs.Forest.{forest}
 use Rattle.forest.specs.declared.Found.{Found}
 use Rattle.forest.specs.declared.Found.the-variants.{At, Nothing}
 use Rattle.table.specs.Numbers.{tableLength, nameBytes, unsoundRecord, tooDeep}
-use Rattle.table.specs.Sound.{recordSound, firstUnsound}
+use Rattle.soundness.specs.Sound.{recordSound, firstUnsound}
 use Rattle.table.specs.Depth.{firstDeep}
 use Rattle.table.specs.Answer.{Answer, accepted, refused, andThen}
 use Rattle.table.specs.Check.{lengthSound, lengthCheck, namesCheck, noneFound, checkOf}
-use Rattle.table.proofs.Records.{and-left, and-right}
-use Rattle.table.proofs.Search.{found}
+use Rattle.soundness.proofs.Records.{and-left, and-right}
+use Rattle.soundness.proofs.Search.{found}
 use Rattle.table.proofs.Deep.{deep-inside}
 
 -- a length that is sound

@@ -8,9 +8,10 @@ use Rattle.fields.specs.Choice.{if'}
 use Rattle.forest.specs.Forest.{sizeOf, nodeOf, forest}
 use Rattle.forest.specs.declared.Found.{Found}
 use Rattle.forest.specs.declared.Found.the-variants.{At, Nothing}
-use Rattle.table.specs.Numbers.{tableLength, nameBytes, unsoundRecord, tooDeep, wrongNode, kindDef, kindLambda, kindCall, kindAssign, kindAssignModify}
-use Rattle.table.specs.Kinds.{expression, classOf}
-use Rattle.table.specs.Sound.{firstUnsound}
+use Rattle.table.specs.Numbers.{tableLength, nameBytes, unsoundRecord, tooDeep, wrongNode}
+use Rattle.soundness.specs.KindNumbers.{kindDef, kindLambda, kindCall, kindAssign, kindAssignModify}
+use Rattle.soundness.specs.Kinds.{expression, classOf}
+use Rattle.soundness.specs.Sound.{firstUnsound}
 use Rattle.table.specs.Depth.{firstDeep}
 use Rattle.table.specs.Answer.{Answer, accepted, refused, andThen}
 use Rattle.table.specs.declared.Wanted.{Wanted}

@@ -1,14 +1,12 @@
-// The node table of document 01: kinds, soundness and depth, the check of a table (1 to 4), a job's node (6) and its stretch, and the one type of refusals.
+// The check of a node table (1 to 4), a job's node (6) and its stretch, and the one type of refusals.
 mod depth;
-pub mod kinds;
 pub mod numbers;
-mod rows;
-mod sound;
 
 use forest::Found;
+use soundness::kinds;
 ghost use mathlib.Core.Path.{_≡_};
 ghost use Rattle.forest.specs.Forest.{nodeOf};
-ghost use Rattle.table.specs.Kinds.{classOf};
+ghost use Rattle.soundness.specs.Kinds.{classOf};
 ghost use Rattle.table.specs.Answer.{refusedAt, refusal, checked};
 ghost use Rattle.table.specs.Check.{lengthSound, checkOf, wants, nodeFits, stretchOf};
 
@@ -58,7 +56,7 @@ pub fn check(table: &[u8], names: &[u8]) -> Checked
     if 8064 < names.len() {
         return Checked::Refused(Refusal::Bare(numbers::NAME_BYTES));
     }
-    let unsound = sound::first_unsound(table, names);
+    let unsound = soundness::first_unsound(table, names);
     if let Found::At(i) = unsound {
         return Checked::Refused(Refusal::Placed {
             number: numbers::UNSOUND_RECORD,
@@ -79,7 +77,7 @@ pub fn check(table: &[u8], names: &[u8]) -> Checked
 pub fn class(t: &[u8]) -> u8
     ensures { λ r. ⌜ r ≡ classOf (nodeOf 0 (now (t .entry)) .kind) ⌝ }
 {
-    rows::class(forest::kind(t))
+    soundness::class(forest::kind(t))
 }
 
 // A refusal at the record that a stretch begins with, with its span.
@@ -102,7 +100,7 @@ fn wanted_kind(wanted: Wanted, kind: u8) -> bool
         Wanted::Parameters => (kind == kinds::DEF) | (kind == kinds::LAMBDA),
         Wanted::Call => kind == kinds::CALL,
         Wanted::Assignment => (kind == kinds::ASSIGN) | (kind == kinds::ASSIGN_MODIFY),
-        Wanted::Expression => rows::class(kind) == 2,
+        Wanted::Expression => soundness::class(kind) == 2,
     }
 }
 

@@ -1,6 +1,6 @@
 -- `table::class` meets its contract: it is the class of the first record's kind. Assumes nothing.
 use mathlib.Core.Path.{_∙_, ap}
-use Rattle.table.specs.Kinds.{classOf}
+use Rattle.soundness.specs.Kinds.{classOf}
 use borrow.Author.Needs.{needs}
 use Rattle.table.proofs.class.Statement.{statement}
 use Rattle.table.proofs.class.Tie as tie

@@ -1,0 +1,3 @@
+pub mod Packing
+pub mod Search
+pub mod Records

@@ -1,0 +1,4 @@
+pub mod KindNumbers
+pub mod Kinds
+pub mod Sound
+pub mod Packed

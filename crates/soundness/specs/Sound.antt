@@ -1,0 +1,119 @@
+-- When a record is sound, and the first that is not, as document 01 says it. These are definitions.
+use mathlib.Core.Bool.{Bool, true, false, _&&_, _||_, not}
+use mathlib.Core.List.{List, [], _∷_, _++_}
+use Prim.Native.Nat.{ℕ, zero, suc, _+_, _-_, _*_, _/_, _%_}
+use lib.ListN.{length, drop, replicate}
+use lib.Dec.{leb, eqb}
+use Rattle.fields.specs.Choice.{if'}
+use Rattle.forest.specs.Forest.{Node, nodeOf, kidsOf, Tree, node, Forest, none, _then_, forest, count}
+use Rattle.forest.specs.Names.{same}
+use Rattle.forest.specs.declared.Found.{Found}
+use Rattle.forest.specs.declared.Found.the-variants.{At, Nothing}
+use Rattle.soundness.specs.KindNumbers.{kindNamed}
+use Rattle.soundness.specs.Kinds.{statement, Times, anyNumber, evenNumber, atMost, Children, kindOf, classOf}
+
+-- what a record's rule is told besides the record: the number of lent name bytes
+pub record Context : Type 0 where
+  pub names : ℕ
+
+abbrev pub context : ℕ → Context
+context n = record { names = n }
+
+-- the largest position
+abbrev pub lastPosition : ℕ
+lastPosition = 2147483647
+
+-- a name of 1 to 255 bytes within the lent names; where no name stands, length and start are zero
+unfoldable pub nameSound : Bool → ℕ → ℕ → ℕ → Bool
+nameSound named names len start =
+    if' named (λ _. leb 1 len && (leb len 255 && leb (start + len) names)) (λ _. eqb len 0 && eqb start 0)
+
+-- begin is at most end, and end no further than the last position
+unfoldable pub spanSound : ℕ → ℕ → Bool
+spanSound begin stop = leb begin stop && leb stop lastPosition
+
+-- kind 61 has the source position of its name, whose end is no further than the last position; elsewhere it is zero
+unfoldable pub sourceSound : ℕ → ℕ → ℕ → Bool
+sourceSound kind source len = if' (eqb kind kindNamed) (λ _. leb (source + len) lastPosition) (λ _. eqb source 0)
+
+-- the fields of a record: kind, detail, name, span, zero bytes, source position
+unfoldable pub fieldsSound : Context → Node → Bool
+fieldsSound x r =
+    leb 1 (classOf (r .kind)) && (leb (r .detail) (kindOf (r .kind) .details) && (nameSound (kindOf (r .kind) .named) (x .names) (r .nameLen) (r .nameStart)
+    && (spanSound (r .begin) (r .stop) && (eqb (r .pad) 0 && sourceSound (r .kind) (r .source) (r .nameLen)))))
+
+-- the subtree is as long as its record says
+abbrev pub wholeTree : Node → Forest → Bool
+wholeTree r ks = eqb (r .size) (1 + count ks)
+
+-- the nodes side by side are as long as their records say: so they fill their stretch, and none has the size 0 or passes the end
+unfoldable pub wholeTrees : Forest → Bool
+wholeTrees none = true
+wholeTrees (node c ks then cs) = wholeTree c ks && wholeTrees cs
+
+-- the classes of the nodes side by side
+unfoldable pub classes : Forest → List ℕ
+classes none = []
+classes (node c ks then cs) = classOf (c .kind) ∷ classes cs
+
+-- a number of nodes that may stand in the middle
+unfoldable pub permitted : Times → ℕ → Bool
+permitted anyNumber n = true
+permitted evenNumber n = eqb (n % 2) 0
+permitted (atMost m) n = leb n m
+
+-- how many children come first and last, how many of n stand between them, and the classes that n children have in order
+abbrev pub fixed : Children → ℕ
+fixed c = length (c .front) + length (c .back)
+
+abbrev pub between : Children → ℕ → ℕ
+between c n = n - fixed c
+
+unfoldable pub wanted : Children → ℕ → List ℕ
+wanted c n = c .front ++ (replicate (between c n) (c .middle) ++ c .back)
+
+-- children of these classes are what is given, in order and number
+unfoldable pub permits : Children → List ℕ → Bool
+permits c cs = permitted (c .times) (between c (length cs)) && same cs (wanted c (length cs))
+
+-- children that fill their stretch and are what is given
+unfoldable pub kidsSound : Children → Forest → Bool
+kidsSound c ks = wholeTrees ks && permits c (classes ks)
+
+-- a record with its children
+unfoldable pub soundNode : Context → Node → Forest → Bool
+soundNode x r ks = fieldsSound x r && (wholeTree r ks && kidsSound (kindOf (r .kind) .kids (r .detail)) ks)
+
+-- the record that the table has from here on, its children found by stepping over their sizes
+unfoldable pub soundAt : Context → ℕ → List ℕ → Bool
+soundAt x i bs = soundNode x (nodeOf i bs) (forest (i + 1) (kidsOf bs))
+
+-- node 0 is a statement that covers the table
+unfoldable pub rootSound : List ℕ → Bool
+rootSound t = eqb (classOf (nodeOf 0 t .kind)) statement && eqb (24 * nodeOf 0 t .size) (length t)
+
+-- what the rule of record i of a table is told
+unfoldable pub contextOf : List ℕ → List ℕ → ℕ → Context
+contextOf t names i = context (length names)
+
+-- record i of a table
+unfoldable pub recordSound : List ℕ → List ℕ → ℕ → Bool
+recordSound t names i = if' (eqb i 0) (λ _. rootSound t) (λ _. true) && soundAt (contextOf t names i) i (drop (24 * i) t)
+
+-- the first of n numbers from i on at which a test fails
+unfoldable pub firstFalse : (ℕ → Bool) → ℕ → ℕ → Found
+firstFalse p i zero = Nothing
+firstFalse p i (suc n) = if' (p i) (λ _. firstFalse p (i + 1) n) (λ _. At i)
+
+-- the first unsound record in index order
+unfoldable pub firstUnsound : List ℕ → List ℕ → Found
+firstUnsound t names = firstFalse (recordSound t names) 0 (length t / 24)
+
+-- every node of a forest is sound
+unfoldable mutual
+  pub allSound : (ℕ → Context) → Forest → Bool
+  allSound x none = true
+  allSound x (t then ts) = treeSound x t && allSound x ts
+
+  pub treeSound : (ℕ → Context) → Tree → Bool
+  treeSound x (node r ks) = soundNode (x (r .at)) r ks && allSound x ks

@@ -1,0 +1,23 @@
+// Soundness of a node table: the kinds of records, the rule of a record with its children, and the first record that breaks it.
+pub mod kinds;
+mod rows;
+mod sound;
+
+use forest::Found;
+ghost use mathlib.Core.Path.{_≡_};
+ghost use Rattle.soundness.specs.Kinds.{classOf};
+ghost use Rattle.soundness.specs.Sound.{firstUnsound};
+
+// The class of a kind: 1 statement, 2 expression, 3 parameter, 4 argument, 0 no kind.
+pub fn class(kind: u8) -> u8
+    ensures { λ r. ⌜ r ≡ classOf kind ⌝ }
+{
+    rows::class(kind)
+}
+
+// The first unsound record in index order.
+pub fn first_unsound(table: &[u8], names: &[u8]) -> Found
+    ensures { λ r. ⌜ r ≡ firstUnsound (now (table .entry)) (now (names .entry)) ⌝ }
+{
+    sound::first_unsound(table, names)
+}
