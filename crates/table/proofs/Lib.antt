@@ -1,3 +1,4 @@
+pub mod Answers
 pub mod Deep
 pub mod Nodes
 pub mod Checking
