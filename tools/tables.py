@@ -8,7 +8,7 @@ A tree is written (Kind children): (Statements (Break) (Return (Identifier x))).
   :1              the detail
   x               the name, where the kind has one
   size=3 span=4-9 pad=1 pos=7 name=0+256 kind=13     a field that is not as usual (name: start and length)
-(Break)*3 is three of them side by side, ^3(Not)(Int) is (Not (Not (Not (Int)))).
+^3<text> is the text three times over: ^3<(Break)>, and ^3<(Not >(Int)^3<)> for (Not (Not (Not (Int)))).
 Sizes follow from the tree, names are put one after the other, and node i has the span i to i + 1.
 """
 import re
@@ -22,12 +22,12 @@ KINDS = """1 Statements 2 Def 3 For 4 If 5 IfElse 6 Break 7 Continue 8 Return 9 
 NUMBER = {name: int(number) for number, name in zip(KINDS[::2], KINDS[1::2])}
 JOBS = {"check": 1, "node": 2, "dialect": 3}
 WANTED = {"parameters": 1, "call": 2, "assignment": 3, "expression": 4}
-TOKEN = re.compile(r"\^\d+\(\w+\)|\)\*\d+|[()]|[^\s()]+")
+TOKEN = re.compile(r"[()]|[^\s()]+")
 
 
 class Node:
     def __init__(self, kind, detail):
-        self.kind, self.detail, self.name, self.fields, self.children = kind, detail, None, {}, []
+        self.kind, self.detail, self.name, self.fields, self.children = kind, detail, b"", {}, []
 
 
 def numbers(text, mark):
@@ -54,39 +54,19 @@ def word_of(node, word):
 
 def trees(text):
     """The trees that stand side by side in a text."""
-    tokens = TOKEN.findall(text)
-
-    def row(at):
-        found = []
-        while at < len(tokens) and not tokens[at].startswith(")"):
-            nest = re.match(r"\^(\d+)\((\w+)\)", tokens[at])
-            if nest:
-                (tree,), at = first(at + 1)
-                for _ in range(int(nest.group(1))):
-                    outer = head(nest.group(2))
-                    outer.children = [tree]
-                    tree = outer
-                found.append(tree)
-            else:
-                some, at = first(at)
-                found += some
-        return found, at
-
-    def first(at):
-        node = head(tokens[at + 1])
-        at += 2
-        while tokens[at] not in "(" and not tokens[at].startswith((")", "^")):
-            word_of(node, tokens[at])
-            at += 1
-        node.children, at = row(at)
-        times = int(tokens[at][2:] or 1)
-        return [node] * times, at + 1
-
-    return row(0)[0]
-
-
-def size_of(node):
-    return 1 + sum(size_of(child) for child in node.children)
+    tokens = TOKEN.findall(re.sub(r"\^(\d+)<([^>]*)>", lambda m: int(m.group(1)) * m.group(2), text))
+    roots = Node(0, 0)
+    way = [roots]
+    for before, token in zip([None] + tokens, tokens):
+        if before == "(":
+            way[-1].children.append(head(token))
+            way.append(way[-1].children[-1])
+        elif token == ")":
+            way.pop()
+        elif token != "(":
+            word_of(way[-1], token)
+    assert way == [roots], "brackets: " + text
+    return roots.children
 
 
 def table_of(roots):
@@ -94,17 +74,17 @@ def table_of(roots):
     records, names = [], bytearray()
 
     def lay(node):
-        start, length = 0, 0
-        if node.name is not None:
-            start, length = len(names), len(node.name)
-            names.extend(node.name)
-        f = node.fields
-        start, length = f.get("name", (start, length))
-        begin, end = f.get("span", (len(records), len(records) + 1))
-        records.append(struct.pack("<BBHIIIHHI", f.get("kind", node.kind), node.detail, length, start, begin, end,
-                                   f.get("size", size_of(node)), f.get("pad", 0), f.get("pos", 0)))
+        at = len(records)
+        records.append(None)
+        start = len(names)
+        names.extend(node.name)
         for child in node.children:
             lay(child)
+        f = node.fields
+        start, length = f.get("name", (start if node.name else 0, len(node.name)))
+        begin, end = f.get("span", (at, at + 1))
+        records[at] = struct.pack("<BBHIIIHHI", f.get("kind", node.kind), node.detail, length, start, begin, end,
+                                  f.get("size", len(records) - at), f.get("pad", 0), f.get("pos", 0))
 
     sys.setrecursionlimit(10000)
     for root in roots:

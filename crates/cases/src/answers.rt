@@ -84,8 +84,9 @@ fn say_node(table: &[u8], node: usize, wants: u16) {
         return;
     }
     let s = table::stretch(table, node);
+    say(b"stretch of ");
     say_number((s.len() / 24) as u64);
-    say(b" records of class ");
+    say(b", class ");
     say_number(table::class(s) as u64);
     say(b", refused as ");
     say_refusal(table::refused_at(99, 7, s));
