@@ -2,3 +2,4 @@ pub mod Answers
 pub mod Deep
 pub mod Nodes
 pub mod Checking
+pub mod Handed
