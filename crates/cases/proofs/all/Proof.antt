@@ -9,7 +9,6 @@ Inv-loop fd left₀ left = Unit {0}
 abbrev μ-loop : tie.MeasureT-loop
 μ-loop fd left₀ left = left
 
-
 pub all-spec : {M : Type 1} → statement M
 all-spec =
     tie.close
