@@ -1,2 +1,5 @@
 pub mod Steps
 pub mod Calls
+pub mod Never
+pub mod Order
+pub mod Names
