@@ -3,3 +3,4 @@ pub mod Calls
 pub mod Never
 pub mod Order
 pub mod Names
+pub mod Converse

@@ -26,7 +26,7 @@ never : {P : Type 0} → _≡_ {A = ℕ} 0 1 → P
 never z = absurd (omega arith)
 
 -- a named argument that the walk passes is the first of its name
-unfoldable Fresh : List ℕ → Forest → Forest → Type 0
+unfoldable pub Fresh : List ℕ → Forest → Forest → Type 0
 Fresh names w none = Unit {0}
 Fresh names w (node r ks then f) = (readAs (r .kind) ≡ kindNamed → repeated names w r ≡ false) × Fresh names w f
 
@@ -63,7 +63,7 @@ run-fresh names w (node r ks then f) s t h = go (step names w s r) refl h (λ (u
     go internalError o-is h rest = never (cc)
 
 -- the nodes side by side in a stretch have growing indices
-unfoldable Ascending : ℕ → Forest → Type 0
+unfoldable pub Ascending : ℕ → Forest → Type 0
 Ascending i none = Unit {0}
 Ascending i (node r ks then f) = (i ≤ r .at) × Ascending (r .at + 1) f
 
@@ -72,7 +72,7 @@ unfolding Ascending
 ascending-lower i j none h a = tt
 ascending-lower i j (node r ks then f) h (b, a) = (omega arith, a)
 
-ascending-forest : (i : ℕ) (bs : List ℕ) → Ascending i (forest i bs)
+pub ascending-forest : (i : ℕ) (bs : List ℕ) → Ascending i (forest i bs)
 unfolding Ascending
 ascending-forest =
     forest-induction (λ i bs. Ascending i (forest i bs))
@@ -80,7 +80,7 @@ ascending-forest =
     (λ i bs big ks rs. rw (forest-tree i bs big) (omega arith, ascending-lower (i + 1) (i + spanOf bs / 24) (forest (i + spanOf bs / 24) (restOf bs)) (omega arith) rs))
 
 -- a node that stands among those side by side
-unfoldable In : Node → Forest → Type 0
+unfoldable pub In : Node → Forest → Type 0
 In r none = ⊥
 In r (node q ks then f) = (q ≡ r) ⊎ In r f
 

@@ -70,13 +70,13 @@ module _ (s : Walk) (n : Node) (k : Reached s) where
       go false false false = kwargs-expected
 
 -- the walk ends as expected, and has counted what it read
-abbrev Ended : ℕ → Outcome → Type 0
+abbrev pub Ended : ℕ → Outcome → Type 0
 Ended m (on t) = Reached t × (t .place ≡ m)
 Ended m (refusedWith n r) = Unit {0}
 Ended m (repeatedName r) = Unit {0}
 Ended m internalError = ⊥
 
-run-ended : (names : List ℕ) (w f : Forest) (s : Walk) → Reached s → Ended (s .place + length (roots f)) (run names w s f)
+pub run-ended : (names : List ℕ) (w f : Forest) (s : Walk) → Reached s → Ended (s .place + length (roots f)) (run names w s f)
 unfolding run roots
 run-ended names w none s k = (k, omega arith)
 run-ended names w (node r ks then f) s k =
