@@ -1,4 +1,7 @@
 // The answer to one case, printed behind its label.
+use arguments::CallArgs;
+use arguments::Called;
+use arguments::Place;
 use dialect::Decoded;
 use dialect::Dialect;
 use dialect::DialectTypes;
@@ -15,6 +18,7 @@ pub struct Asked {
     pub names: usize,
     pub dialect: usize,
     pub wanted: u16,
+    pub room: usize,
     pub node: usize,
 }
 
@@ -126,13 +130,43 @@ fn say_decoded(bytes: &[u8]) {
     }
 }
 
-// 0 is a heading, 1 the table check, 2 a job's node, 3 the bytes of a dialect.
+fn say_place(p: Place) {
+    match p {
+        Place::Given(i) => say_number(i as u64),
+        Place::Missing => say(b"none"),
+    }
+}
+
+// What a list of arguments is: how many positional and named, and the places of star and `**`.
+fn say_arguments(a: CallArgs) {
+    let star = a.star;
+    let star_star = a.star_star;
+    say(b"positional ");
+    say_number(a.num_pos as u64);
+    say(b", named ");
+    say_number(a.num_named as u64);
+    say(b", star ");
+    say_place(star);
+    say(b", kwargs ");
+    say_place(star_star);
+}
+
+fn say_call(table: &[u8], names: &[u8], node: usize) {
+    let c = arguments::call(table, names, node);
+    match c {
+        Called::Accepted(a) => say_arguments(a),
+        Called::Refused(r) => say_refusal(r),
+    }
+}
+
+// 0 is a heading, 1 the table check, 2 a job's node, 3 the bytes of a dialect, 4 a call's arguments.
 pub fn answer(a: Asked, table: &[u8], names: &[u8], dialect: &[u8]) {
     let job = a.job;
     match job {
         1 => say_check(table, names),
         2 => say_node(table, a.node, a.wanted),
         3 => say_decoded(dialect),
+        4 => say_call(table, names, a.node),
         _ => say(b""),
     }
 }
