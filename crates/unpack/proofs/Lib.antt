@@ -1,3 +1,5 @@
 pub mod Parts
 pub mod Reading
 pub mod Steps
+pub mod Walking
+pub mod Theorems

@@ -134,7 +134,7 @@ module _ {ns x kids : List ℕ} {first m : ℕ} {left : List ℕ} {at i : ℕ} (
 
   one : {e : ℕ} → i < m → e ≡ spanOf left
       → firstSame x (take (m - i) (drop i (paramsIn ns (forest first kids))))
-        ≡ firstSame x (paramOf ns (nodeOf at left) ∷ take (m - (i + 1)) (paramsIn ns (forest (at + e / 24) (take (length left - e) (drop e left)))))
+      ≡ firstSame x (paramOf ns (nodeOf at left) ∷ take (m - (i + 1)) (paramsIn ns (forest (at + e / 24) (take (length left - e) (drop e left)))))
   one h e-is =
       let k : m - i ≡ suc (m - (i + 1)) = omega arith in
       rw (k, s .reads .rest, list-on ns at left (search-listed h) e-is) refl

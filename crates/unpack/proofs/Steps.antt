@@ -5,9 +5,13 @@ use mathlib.Core.List.{List, [], _∷_, _++_}
 use Prim.Native.Nat.{ℕ, zero, suc, _+_, _<_, _≤_}
 use native.Mathlib.Omega.{arith}
 use lib.ListN.{length}
+use lib.Dec.{eqb}
+use Rattle.fields.specs.Choice.{if'}
+use Rattle.forest.specs.declared.Found.{Found}
+use Rattle.forest.specs.declared.Found.the-variants.{At, Nothing}
 use Rattle.forest.specs.Forest.{Node}
 use Rattle.unpack.specs.Written.{Param, nodeIn, kindIn}
-use Rattle.unpack.specs.Unpack.{writtenAt, seenStar, rule, check, nextState, nextStar, morePositional, count, advance, Internal, Step, on, stop, broken, keep, step, Outcome, accepted, refused, internal, after, run}
+use Rattle.unpack.specs.Unpack.{writtenAt, flatAt, counts, seenStar, rule, firstly, repeats, check, start, nextState, nextStar, morePositional, count, advance, Internal, Step, on, stop, broken, keep, step, Outcome, accepted, refused, internal, after, run}
 use Rattle.unpack.specs.declared.Kind.{Kind}
 use Rattle.unpack.specs.declared.Kind.the-variants.{Normal, NoArgs, Slash, Args, KwArgs}
 use Rattle.unpack.specs.declared.State.{State}
@@ -17,6 +21,7 @@ use Rattle.unpack.specs.declared.Check.the-variants.{Fine, Broken}
 use Rattle.unpack.specs.declared.Written.{Written}
 use Rattle.unpack.specs.declared.WrittenPlace.{WrittenPlace}
 use Rattle.unpack.specs.declared.WrittenPlace.the-variants.{AtWritten, NoWritten}
+use Rattle.unpack.specs.declared.Flat.{Flat}
 use Rattle.unpack.specs.declared.FlatPlace.{FlatPlace}
 use Rattle.unpack.specs.declared.FlatPlace.the-variants.{AtFlat, NoFlat}
 use Rattle.unpack.specs.declared.Counts.{Counts}
@@ -59,3 +64,62 @@ free SeenStarStar o star c i KwArgs x e = broken≢fine e
 -- nothing that cannot be there yet is there
 abbrev pub Cleared : Unpacking → Type 0
 Cleared u = Clear (u .state) (u .«index_of_star») (u .counts)
+
+-- a fine check passes 11 and the rule of the kind
+check-rule : (f : Found) (c : Check) → firstly f c ≡ Fine → c ≡ Fine
+check-rule (At i) c e = broken≢fine e
+check-rule Nothing c e = e
+
+module _ (before : List Param) (u : Unpacking) (p : Param) (ps : List Param) where
+  pub run-stop : {n : ℕ} → check before (u .state) (u .«seen_optional») p ≡ Broken n → run before u (p ∷ ps) ≡ refused n (nodeIn p)
+  unfolding run step
+  run-stop e = rw e refl
+
+  module _ (clear : Cleared u) (fine : check before (u .state) (u .«seen_optional») p ≡ Fine) where
+    kept : rule (u .state) (u .«seen_optional») (kindIn p) ≡ Fine
+    kept = check-rule (repeats before p) _ fine
+
+    pub run-on : run before u (p ∷ ps) ≡ run (before ++ p ∷ []) (advance u (writtenAt (length before)) (kindIn p)) ps
+    unfolding run step
+    run-on = rw (fine, free (u .state) (u .«seen_optional») (u .«index_of_star») (u .counts) (writtenAt (length before)) (kindIn p) clear kept .0 u refl refl) refl
+
+    pub clear-on : Cleared (advance u (writtenAt (length before)) (kindIn p))
+    unfolding advance
+    clear-on = free (u .state) (u .«seen_optional») (u .«index_of_star») (u .counts) (writtenAt (length before)) (kindIn p) clear kept .1
+
+pub clear-start : (only : Flat) → Cleared (start only)
+unfolding start
+clear-start only = go (eqb (only .0) 0)
+  where
+    go : (b : Bool) → Clear (if' b (λ _. SeenSlash) (λ _. BeforeSlash)) NoWritten (counts (flatAt 0) only NoFlat NoFlat (flatAt 0))
+    go true = (refl, refl, refl)
+    go false = (refl, refl, refl)
+
+-- bounds of what is counted in the first m parameters, where `/` stands no further than k
+abbrev pub PlaceBelow : ℕ → FlatPlace → Type 0
+PlaceBelow m NoFlat = Unit {0}
+PlaceBelow m (AtFlat i) = i .0 ≤ m
+
+pub record Bounded (m k : ℕ) (c : Counts) : Type 0 where
+  pub positional : c .«num_positional» .0 ≤ m
+  pub only : c .«num_positional_only» .0 ≤ k
+  pub args : PlaceBelow m (c .args)
+  pub kwargs : PlaceBelow m (c .kwargs)
+  pub flat : c .flat .0 ≤ m
+
+place-more : (m : ℕ) (p : FlatPlace) → PlaceBelow m p → PlaceBelow (m + 1) p
+place-more m NoFlat h = tt
+place-more m (AtFlat i) h = omega arith
+
+positional-more : (s : State) (m : ℕ) (n : Flat) → n .0 ≤ m → morePositional s n .0 ≤ m + 1
+positional-more BeforeSlash m n h = omega arith
+positional-more SeenSlash m n h = omega arith
+positional-more SeenStar m n h = omega arith
+positional-more SeenStarStar m n h = omega arith
+
+pub bounded-on : {m k : ℕ} (s : State) (c : Counts) (kd : Kind) → Bounded m k c → Bounded (m + 1) k (count s c kd)
+bounded-on {m} s c (Normal d) b = record { positional = positional-more s m (c .«num_positional») (b .positional); only = b .only; args = place-more m (c .args) (b .args); kwargs = place-more m (c .kwargs) (b .kwargs); flat = omega (arith, b .flat) }
+bounded-on {m} s c NoArgs b = record { positional = omega (arith, b .positional); only = b .only; args = place-more m (c .args) (b .args); kwargs = place-more m (c .kwargs) (b .kwargs); flat = omega (arith, b .flat) }
+bounded-on {m} s c Slash b = record { positional = omega (arith, b .positional); only = b .only; args = place-more m (c .args) (b .args); kwargs = place-more m (c .kwargs) (b .kwargs); flat = omega (arith, b .flat) }
+bounded-on {m} s c Args b = record { positional = omega (arith, b .positional); only = b .only; args = omega (arith, b .flat); kwargs = place-more m (c .kwargs) (b .kwargs); flat = omega (arith, b .flat) }
+bounded-on {m} s c KwArgs b = record { positional = omega (arith, b .positional); only = b .only; args = place-more m (c .args) (b .args); kwargs = omega (arith, b .flat); flat = omega (arith, b .flat) }

@@ -17,9 +17,15 @@ fn place_range(place: Place, none: usize) -> Range
     match place {
         Place::At(i) => {
             let from = i as usize;
-            Range { from, upto: from + 1 }
+            Range {
+                from,
+                upto: from + 1,
+            }
         }
-        Place::Nothing => Range { from: none, upto: none },
+        Place::Nothing => Range {
+            from: none,
+            upto: none,
+        },
     }
 }
 
@@ -28,14 +34,20 @@ impl DefParamIndices {
     pub fn pos_only(self) -> Range
         ensures { λ r. ⌜ r ≡ posOnly self ⌝ }
     {
-        Range { from: 0, upto: self.num_positional_only as usize }
+        Range {
+            from: 0,
+            upto: self.num_positional_only as usize,
+        }
     }
 
     // The ordinary parameters after `/`, before any star.
     pub fn pos_or_named(self) -> Range
         ensures { λ r. ⌜ r ≡ posOrNamed self ⌝ }
     {
-        Range { from: self.num_positional_only as usize, upto: self.num_positional as usize }
+        Range {
+            from: self.num_positional_only as usize,
+            upto: self.num_positional as usize,
+        }
     }
 
     // `*args`: for none the empty range at the end of pos_or_named.
@@ -52,7 +64,10 @@ impl DefParamIndices {
     {
         let args = self.args_range();
         let kwargs = self.kwargs_range(param_count);
-        Range { from: args.upto, upto: kwargs.from }
+        Range {
+            from: args.upto,
+            upto: kwargs.from,
+        }
     }
 
     // `**kwargs`: for none the empty range at the flat count.

@@ -19,8 +19,8 @@ ghost use Rattle.unpack.specs.Reading.{Inside};
 // Where unpack stands in the list, in this order.
 pub enum State {
     Normal,
-    SeenSlash,    // after `/`, or there is none
-    SeenStar,     // after `*` or `*args`
+    SeenSlash, // after `/`, or there is none
+    SeenStar, // after `*` or `*args`
     SeenStarStar, // after `**kwargs`
 }
 
@@ -88,11 +88,7 @@ pub enum Judged {
 
 // What the module pass is told of a list: the number and the span of its one error, or none.
 pub enum ListError {
-    Error {
-        number: u32,
-        begin: u32,
-        end: u32,
-    },
+    Error { number: u32, begin: u32, end: u32 },
     NoError,
 }
 
@@ -136,7 +132,7 @@ pub fn children(t: &[u8]) -> &[u8]
 // DefParams::unpack of the written list of a node, whose stretch is lent: what is counted, or the first refusal.
 pub fn judge(names: &[u8], t: &[u8], node: u32) -> Judged
     ensures { λ r. ⌜ r ≡ told (unpack (written (now (names .entry)) node (now (t .entry)))) ⌝ }
-    ensures { λ r. ⌜ Inside (node + length (now (t .entry)) / 24) r ⌝ }
+    ensures { λ r. ⌜ Inside (node + 1 + length (now (t .entry)) / 24) r ⌝ }
 {
     let kids = children(t);
     let first = (node as usize) + 1;

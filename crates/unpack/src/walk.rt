@@ -47,7 +47,16 @@ fn repeated(names: &[u8], kids: &[u8], first: usize, n: Written, left: &[u8], ki
 }
 
 // 11 before the rule of the kind.
-fn check(names: &[u8], kids: &[u8], first: usize, n: Written, left: &[u8], state: State, optional: bool, kind: Kind) -> Check
+fn check(
+    names: &[u8],
+    kids: &[u8],
+    first: usize,
+    n: Written,
+    left: &[u8],
+    state: State,
+    optional: bool,
+    kind: Kind,
+) -> Check
     requires { ⌜ (24 * first + length (now kids) < 2 ^ 64) × (n .0 ≤ length (paramsIn (now names) (forest first (now kids)))) × (kind ≡ kindHere (now left)) ⌝ }
     ensures { λ r. ⌜ ((i : ℕ) → r ≡ checkOf (take (n .0) (paramsIn (now (names .entry)) (forest first (now (kids .entry))))) state optional (paramOf (now (names .entry)) (nodeOf i (now (left .entry))))) ⌝ }
 {
@@ -103,7 +112,16 @@ fn run(names: &[u8], kids: &[u8], first: usize, only: Flat) -> Judged
     while list::listed(left) {
         let kind = list::kind_of(left);
         let state = u.state;
-        let c = check(names, kids, first, Written(n), left, state, u.seen_optional, kind);
+        let c = check(
+            names,
+            kids,
+            first,
+            Written(n),
+            left,
+            state,
+            u.seen_optional,
+            kind,
+        );
         if let Check::Broken(number) = c {
             return Judged::Refused(fault(number, at, left));
         }

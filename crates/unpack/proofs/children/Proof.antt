@@ -4,7 +4,6 @@ use borrow.Author.Needs.{needs}
 use Rattle.unpack.proofs.children.Statement.{statement}
 use Rattle.unpack.proofs.children.Tie as tie
 
-
 pub children-spec : {M : Type 1} → statement M
 children-spec =
     tie.close

@@ -12,7 +12,6 @@ Inv-loop names name kids first n left₀ at₀ i₀ left at i = Searching names 
 abbrev μ-loop : tie.MeasureT-loop
 μ-loop names name kids first n left₀ at₀ i₀ left at i = n .0 - i
 
-
 pub earlier-spec : {M : Type 1} → statement M
 earlier-spec =
     tie.close

@@ -11,7 +11,6 @@ Inv-loop kids left₀ i₀ left i = Slashing kids left i
 abbrev μ-loop : tie.MeasureT-loop
 μ-loop kids left₀ i₀ left i = length left
 
-
 pub first-slash-spec : {M : Type 1} → statement M
 first-slash-spec =
     tie.close

@@ -5,7 +5,6 @@ use borrow.Author.Needs.{needs}
 use Rattle.unpack.proofs.list.has_name.Statement.{statement}
 use Rattle.unpack.proofs.list.has_name.Tie as tie
 
-
 pub has-name-spec : {M : Type 1} → statement M
 has-name-spec =
     tie.close

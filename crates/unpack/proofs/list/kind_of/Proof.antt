@@ -4,7 +4,6 @@ use borrow.Author.Needs.{needs}
 use Rattle.unpack.proofs.list.kind_of.Statement.{statement}
 use Rattle.unpack.proofs.list.kind_of.Tie as tie
 
-
 pub kind-of-spec : {M : Type 1} → statement M
 kind-of-spec =
     tie.close

@@ -4,6 +4,5 @@ use borrow.Author.Needs.{needs}
 use Rattle.unpack.proofs.list.listed.Statement.{statement}
 use Rattle.unpack.proofs.list.listed.Tie as tie
 
-
 pub listed-spec : {M : Type 1} → statement M
 listed-spec = tie.close (tie.spec (λ c κs. search needs) (λ c. listed-is _ (c .class .ensures)))

@@ -11,7 +11,6 @@ Inv-loop kids n at₀ i₀ at i = Skipping kids (n .0) at i
 abbrev μ-loop : tie.MeasureT-loop
 μ-loop kids n at₀ i₀ at i = n .0 - i
 
-
 pub skip-spec : {M : Type 1} → statement M
 skip-spec =
     tie.close

@@ -5,7 +5,6 @@ use borrow.Author.Needs.{needs}
 use Rattle.unpack.proofs.rules.advance.Statement.{statement}
 use Rattle.unpack.proofs.rules.advance.Tie as tie
 
-
 pub advance-spec : {M : Type 1} → statement M
 unfolding advance
 advance-spec =

@@ -4,7 +4,6 @@ use borrow.Author.Needs.{needs}
 use Rattle.unpack.proofs.rules.count.Statement.{statement}
 use Rattle.unpack.proofs.rules.count.Tie as tie
 
-
 pub count-spec : {M : Type 1} → statement M
 count-spec =
     tie.close

@@ -4,7 +4,6 @@ use borrow.Author.Needs.{needs}
 use Rattle.unpack.proofs.rules.kwargs_rule.Statement.{statement}
 use Rattle.unpack.proofs.rules.kwargs_rule.Tie as tie
 
-
 pub kwargs-rule-spec : {M : Type 1} → statement M
 kwargs-rule-spec =
     tie.close

@@ -4,7 +4,6 @@ use borrow.Author.Needs.{needs}
 use Rattle.unpack.proofs.rules.more_positional.Statement.{statement}
 use Rattle.unpack.proofs.rules.more_positional.Tie as tie
 
-
 pub more-positional-spec : {M : Type 1} → statement M
 more-positional-spec =
     tie.close

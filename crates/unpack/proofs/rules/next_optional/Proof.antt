@@ -4,7 +4,6 @@ use borrow.Author.Needs.{needs}
 use Rattle.unpack.proofs.rules.next_optional.Statement.{statement}
 use Rattle.unpack.proofs.rules.next_optional.Tie as tie
 
-
 pub next-optional-spec : {M : Type 1} → statement M
 next-optional-spec =
     tie.close

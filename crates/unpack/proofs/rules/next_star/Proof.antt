@@ -4,7 +4,6 @@ use borrow.Author.Needs.{needs}
 use Rattle.unpack.proofs.rules.next_star.Statement.{statement}
 use Rattle.unpack.proofs.rules.next_star.Tie as tie
 
-
 pub next-star-spec : {M : Type 1} → statement M
 next-star-spec =
     tie.close

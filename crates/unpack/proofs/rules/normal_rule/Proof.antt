@@ -4,7 +4,6 @@ use borrow.Author.Needs.{needs}
 use Rattle.unpack.proofs.rules.normal_rule.Statement.{statement}
 use Rattle.unpack.proofs.rules.normal_rule.Tie as tie
 
-
 pub normal-rule-spec : {M : Type 1} → statement M
 normal-rule-spec =
     tie.close

@@ -4,7 +4,6 @@ use borrow.Author.Needs.{needs}
 use Rattle.unpack.proofs.rules.rule.Statement.{statement}
 use Rattle.unpack.proofs.rules.rule.Tie as tie
 
-
 pub rule-spec : {M : Type 1} → statement M
 rule-spec =
     tie.close

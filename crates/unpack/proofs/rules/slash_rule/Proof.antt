@@ -4,7 +4,6 @@ use borrow.Author.Needs.{needs}
 use Rattle.unpack.proofs.rules.slash_rule.Statement.{statement}
 use Rattle.unpack.proofs.rules.slash_rule.Tie as tie
 
-
 pub slash-rule-spec : {M : Type 1} → statement M
 slash-rule-spec =
     tie.close

@@ -4,7 +4,6 @@ use borrow.Author.Needs.{needs}
 use Rattle.unpack.proofs.rules.star_rule.Statement.{statement}
 use Rattle.unpack.proofs.rules.star_rule.Tie as tie
 
-
 pub star-rule-spec : {M : Type 1} → statement M
 star-rule-spec =
     tie.close
