@@ -3,3 +3,4 @@ pub mod Reading
 pub mod Steps
 pub mod Walking
 pub mod Theorems
+pub mod Promises

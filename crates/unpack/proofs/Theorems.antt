@@ -11,9 +11,12 @@ use Rattle.fields.specs.Choice.{if'}
 use Rattle.forest.specs.Forest.{Node, spanOf, kidsOf, restOf, forest}
 use Rattle.forest.proofs.Stretch.{forest-induction, length-kids, length-rest, rest-part}
 use Rattle.unpack.specs.Written.{Param, normal, noArgs, slash, args, kwargs, nodeIn, kindIn, paramsIn, written}
-use Rattle.unpack.specs.Unpack.{writtenAt, flatAt, check, advance, start, isSlash, slashFrom, firstSlash, positionalOnly, normalNext, fromStar, finish, Internal, Outcome, accepted, refused, internal, run, unpack}
+use Rattle.unpack.specs.Unpack.{writtenAt, flatAt, check, nextState, count, advance, modeOf, modesFrom, modes, start, isSlash, slashFrom, firstSlash, positionalOnly, normalNext, fromStar, finish, Internal, Outcome, accepted, refused, internal, run, unpack}
 use Rattle.unpack.specs.Indices.{told}
 use Rattle.unpack.specs.Reading.{isListed}
+use Rattle.unpack.specs.declared.Kind.{Kind}
+use Rattle.unpack.specs.declared.Kind.the-variants.{Normal, NoArgs, Slash, Args, KwArgs}
+use Rattle.unpack.specs.declared.State.{State}
 use Rattle.unpack.specs.declared.Check.{Check}
 use Rattle.unpack.specs.declared.Check.the-variants.{Fine, Broken}
 use Rattle.unpack.specs.declared.WrittenPlace.{WrittenPlace}
@@ -143,3 +146,58 @@ pub told-accepted : (o : Outcome) {c : Counts} → told o ≡ Accepted c → o �
 told-accepted (accepted c) e = cc
 told-accepted (refused n r) e = let z : _≡_ {A = ℕ} 0 1 = cc in absurd (omega arith)
 told-accepted (internal i r) e = let z : _≡_ {A = ℕ} 0 1 = cc in absurd (omega arith)
+
+-- num_positional_only does not change on the way
+only-kept : (s : State) (c : Counts) (k : Kind) → count s c k .«num_positional_only» ≡ c .«num_positional_only»
+only-kept s c (Normal d) = refl
+only-kept s c NoArgs = refl
+only-kept s c Slash = refl
+only-kept s c Args = refl
+only-kept s c KwArgs = refl
+
+run-only : (before : List Param) (u : Unpacking) (l : List Param) {c : Counts} → Cleared u → run before u l ≡ accepted c → c .«num_positional_only» ≡ u .counts .«num_positional_only»
+unfolding run advance
+run-only before u [] {c} clear h =
+    at-end before (u .«index_of_star») (u .counts) h (λ e. let same : u .counts ≡ c = cc in ap (λ (x : Counts). x .«num_positional_only») (sym same)) (λ n r e. refused≢accepted e)
+run-only before u (p ∷ ps) {c} clear h = go (check before (u .state) (u .«seen_optional») p) refl (λ v w x z. run-only w v ps x z)
+  where
+    go : (x : Check) → check before (u .state) (u .«seen_optional») p ≡ x → ((v : Unpacking) (w : List Param) → Cleared v → run w v ps ≡ accepted c → c .«num_positional_only» ≡ v .counts .«num_positional_only») → c .«num_positional_only» ≡ u .counts .«num_positional_only»
+    go Fine f rest = rest _ _ (clear-on before u p ps clear f) (sym (run-on before u p ps clear f) ∙ h) ∙ only-kept (u .state) (u .counts) (kindIn p)
+    go (Broken n) f rest = refused≢accepted (sym (run-stop before u p ps f) ∙ h)
+
+only-start : (only : Flat) → start only .counts .«num_positional_only» ≡ only
+unfolding start
+only-start only = refl
+
+slash-none : firstSlash [] ≡ NoWritten
+unfolding slashFrom
+slash-none = refl
+
+-- LAW: an accepted list's num_positional_only is where its first `/` stands
+pub accepted-only : (l : List Param) {c : Counts} → unpack l ≡ accepted c → c .«num_positional_only» ≡ positionalOnly (firstSlash l)
+unfolding unpack
+accepted-only [] {c} h = run-only [] (start (flatAt 0)) [] {c = c} (clear-start (flatAt 0)) h ∙ only-start (flatAt 0) ∙ ap positionalOnly (sym slash-none)
+accepted-only (p ∷ ps) {c} h = go (isSlash (kindIn p)) refl
+  where
+    go : (b : Bool) → isSlash (kindIn p) ≡ b → c .«num_positional_only» ≡ positionalOnly (firstSlash (p ∷ ps))
+    go true f = refused≢accepted (rw f at h)
+    go false f =
+        let only = positionalOnly (firstSlash (p ∷ ps)) in
+        run-only [] (start only) (p ∷ ps) {c = c} (clear-start only) (rw f at h) ∙ only-start only
+
+-- LAW: there are no more modes than written parameters
+modes-few : (s : State) (l : List Param) → length (modesFrom s l) ≤ length l
+unfolding modesFrom
+modes-few s [] = omega arith
+modes-few s (p ∷ ps) = omega (arith, modes-few (nextState s (kindIn p)) ps, length-append (modeOf s (kindIn p)) (modesFrom (nextState s (kindIn p)) ps), one s (kindIn p))
+  where
+    one : (s : State) (k : Kind) → length (modeOf s k) ≤ 1
+    one s (Normal d) = omega arith
+    one s NoArgs = omega arith
+    one s Slash = omega arith
+    one s Args = omega arith
+    one s KwArgs = omega arith
+
+pub modes-short : (l : List Param) → length (modes l) ≤ length l
+unfolding modes
+modes-short l = modes-few _ l

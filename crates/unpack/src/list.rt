@@ -1,57 +1,22 @@
 // The written list, read from the children of a def or lambda: each next parameter is found by stepping over the one before it.
-use crate::Kind;
 use crate::Written;
 use crate::WrittenPlace;
+use crate::entry;
 use crate::rules;
 use forest::Found;
-use soundness::kinds;
 ghost use mathlib.Core.Path.{_≡_};
 ghost use mathlib.Core.List.{List};
 ghost use Prim.Native.Nat.{ℕ, _+_, _*_, _/_, _≤_, _<_, _^_};
 ghost use lib.ListN.{length, take, drop};
 ghost use Rattle.forest.specs.Forest.{nodeOf, forest};
-ghost use Rattle.unpack.specs.Written.{hasDefault, paramOf, paramsIn};
+ghost use Rattle.unpack.specs.Written.{paramOf, paramsIn};
 ghost use Rattle.unpack.specs.Unpack.{hasName, firstSame, firstSlash};
-ghost use Rattle.unpack.specs.Reading.{isListed, kindHere};
-
-// Whether a stretch begins with a parameter.
-pub fn listed(t: &[u8]) -> bool
-    ensures { λ r. ⌜ r ≡ isListed (now (t .entry)) ⌝ }
-{
-    (24 <= t.len()) & (table::class(t) == 3)
-}
-
-fn has_default(detail: u8) -> bool
-    ensures { λ r. ⌜ r ≡ hasDefault detail ⌝ }
-{
-    (detail == 2) | (detail == 3)
-}
-
-// The kind of the parameter that a stretch begins with.
-pub fn kind_of(t: &[u8]) -> Kind
-    ensures { λ r. ⌜ r ≡ kindHere (now (t .entry)) ⌝ }
-{
-    let kind = forest::kind(t);
-    if kind == kinds::NORMAL {
-        return Kind::Normal(has_default(forest::detail(t)));
-    }
-    if kind == kinds::NO_ARGS {
-        return Kind::NoArgs;
-    }
-    if kind == kinds::SLASH {
-        return Kind::Slash;
-    }
-    if kind == kinds::ARGS_PARAM {
-        return Kind::Args;
-    }
-    Kind::KwArgs
-}
 
 // Whether the parameter that a stretch begins with has this name.
 fn has_name(names: &[u8], name: &[u8], t: &[u8]) -> bool
     ensures { λ r. ⌜ ((i : ℕ) → r ≡ hasName (now (name .entry)) (paramOf (now (names .entry)) (nodeOf i (now (t .entry))))) ⌝ }
 {
-    if !rules::is_named(kind_of(t)) {
+    if !rules::is_named(entry::kind_of(t)) {
         return false;
     }
     forest::names::same_bytes(forest::names::name(names, t), name)
@@ -83,8 +48,8 @@ pub fn first_slash(kids: &[u8]) -> WrittenPlace
 {
     let mut left = kids;
     let mut i = 0;
-    while listed(left) {
-        if rules::is_slash(kind_of(left)) {
+    while entry::listed(left) {
+        if rules::is_slash(entry::kind_of(left)) {
             return WrittenPlace::AtWritten(Written(i));
         }
         let e = forest::span(left);

@@ -8,11 +8,12 @@ use crate::State;
 use crate::Unpacking;
 use crate::Written;
 use crate::WrittenPlace;
+use crate::states;
 use table::numbers;
 ghost use mathlib.Core.Path.{_≡_};
 ghost use mathlib.Core.Bool.{_||_};
 ghost use Prim.Native.Nat.{_<_, _^_};
-ghost use Rattle.unpack.specs.Unpack.{defaultRule, normalRule, starRule, slashRule, kwargsRule, rule as ruleOf, nextState, nextOptional, nextStar, oneMore, morePositional, count as countOf, advance as advanceOf, firstState, start as startOf, isSlash, positionalOnly};
+ghost use Rattle.unpack.specs.Unpack.{defaultRule, normalRule, starRule, slashRule, kwargsRule, rule as ruleOf, nextOptional, nextStar, oneMore, morePositional, count as countOf, advance as advanceOf, start as startOf, isSlash, positionalOnly};
 ghost use Rattle.unpack.specs.Reading.{isNamed, isNormal};
 
 // Whether a parameter of a kind has a name.
@@ -126,19 +127,6 @@ pub fn rule(state: State, optional: bool, kind: Kind) -> Check
     }
 }
 
-// The state after a parameter of a kind.
-pub fn next_state(state: State, kind: Kind) -> State
-    ensures { λ r. ⌜ r ≡ nextState state kind ⌝ }
-{
-    match kind {
-        Kind::Normal(_) => state,
-        Kind::NoArgs => State::SeenStar,
-        Kind::Slash => State::SeenSlash,
-        Kind::Args => State::SeenStar,
-        Kind::KwArgs => State::SeenStarStar,
-    }
-}
-
 fn or(a: bool, b: bool) -> bool
     ensures { λ r. ⌜ r ≡ (a || b) ⌝ }
 {
@@ -236,7 +224,7 @@ pub fn advance(u: Unpacking, i: Written, kind: Kind) -> Unpacking
     let star = u.index_of_star;
     let counts = u.counts;
     Unpacking {
-        state: next_state(state, kind),
+        state: states::next_state(state, kind),
         seen_optional: next_optional(u.seen_optional, kind),
         index_of_star: next_star(star, i, kind),
         counts: count(state, counts, kind),
@@ -253,23 +241,12 @@ pub fn positional_only(slash: WrittenPlace) -> Flat
     }
 }
 
-// The state that a list begins in.
-pub fn first_state(only: Flat) -> State
-    ensures { λ r. ⌜ r ≡ firstState only ⌝ }
-{
-    if only.0 == 0 {
-        return State::SeenSlash;
-    }
-    State::Normal
-}
-
 // What is kept before the first parameter.
 pub fn start(only: Flat) -> Unpacking
     ensures { λ r. ⌜ r ≡ startOf only ⌝ }
 {
-    let state = first_state(only);
     Unpacking {
-        state,
+        state: states::first_state(only),
         seen_optional: false,
         index_of_star: WrittenPlace::NoWritten,
         counts: Counts {

@@ -8,6 +8,7 @@ use crate::Kind;
 use crate::State;
 use crate::Written;
 use crate::WrittenPlace;
+use crate::entry;
 use crate::list;
 use crate::rules;
 use forest::Found;
@@ -78,10 +79,10 @@ fn after_star(kids: &[u8], first: usize, star: Written, counts: Counts) -> Judge
     let e = forest::span(here);
     let next = &here[e..];
     let node = first + at / 24;
-    if !list::listed(next) {
+    if !entry::listed(next) {
         return Judged::Refused(fault(numbers::STAR_LAST, node, here));
     }
-    if rules::is_normal(list::kind_of(next)) {
+    if rules::is_normal(entry::kind_of(next)) {
         return Judged::Accepted(counts);
     }
     Judged::Refused(fault(numbers::NO_NORMAL_AFTER_STAR, node + e / 24, next))
@@ -109,8 +110,8 @@ fn run(names: &[u8], kids: &[u8], first: usize, only: Flat) -> Judged
     let mut left = kids;
     let mut at = first;
     let mut n = 0;
-    while list::listed(left) {
-        let kind = list::kind_of(left);
+    while entry::listed(left) {
+        let kind = entry::kind_of(left);
         let state = u.state;
         let c = check(
             names,
@@ -140,7 +141,7 @@ fn run(names: &[u8], kids: &[u8], first: usize, only: Flat) -> Judged
 fn slash_first(kids: &[u8]) -> bool
     ensures { λ r. ⌜ r ≡ beginsWithSlash (now (kids .entry)) ⌝ }
 {
-    list::listed(kids) & rules::is_slash(list::kind_of(kids))
+    entry::listed(kids) & rules::is_slash(entry::kind_of(kids))
 }
 
 // 10 first, then the parameters in turn; first is the node of the first record.

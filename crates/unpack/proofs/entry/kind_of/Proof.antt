@@ -1,8 +1,8 @@
--- `unpack::list::kind_of` meets its contract: the record's kind decides. Assumes nothing.
+-- `unpack::entry::kind_of` meets its contract: the record's kind decides. Assumes nothing.
 use Rattle.unpack.proofs.Parts.{kind-normal, kind-no-args, kind-slash, kind-args, kind-kwargs}
 use borrow.Author.Needs.{needs}
-use Rattle.unpack.proofs.list.kind_of.Statement.{statement}
-use Rattle.unpack.proofs.list.kind_of.Tie as tie
+use Rattle.unpack.proofs.entry.kind_of.Statement.{statement}
+use Rattle.unpack.proofs.entry.kind_of.Tie as tie
 
 pub kind-of-spec : {M : Type 1} → statement M
 kind-of-spec =
