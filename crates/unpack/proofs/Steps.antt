@@ -12,6 +12,7 @@ use Rattle.forest.specs.declared.Found.the-variants.{At, Nothing}
 use Rattle.forest.specs.Forest.{Node}
 use Rattle.unpack.specs.Written.{Param, nodeIn, kindIn}
 use Rattle.unpack.specs.Unpack.{writtenAt, flatAt, counts, seenStar, rule, firstly, repeats, check, start, nextState, nextStar, morePositional, count, advance, Internal, Step, on, stop, broken, keep, step, Outcome, accepted, refused, internal, after, run}
+use Rattle.unpack.specs.Reading.{PlaceBelow, Bounded}
 use Rattle.unpack.specs.declared.Kind.{Kind}
 use Rattle.unpack.specs.declared.Kind.the-variants.{Normal, NoArgs, Slash, Args, KwArgs}
 use Rattle.unpack.specs.declared.State.{State}
@@ -94,18 +95,6 @@ clear-start only = go (eqb (only .0) 0)
     go : (b : Bool) → Clear (if' b (λ _. SeenSlash) (λ _. BeforeSlash)) NoWritten (counts (flatAt 0) only NoFlat NoFlat (flatAt 0))
     go true = (refl, refl, refl)
     go false = (refl, refl, refl)
-
--- bounds of what is counted in the first m parameters, where `/` stands no further than k
-abbrev pub PlaceBelow : ℕ → FlatPlace → Type 0
-PlaceBelow m NoFlat = Unit {0}
-PlaceBelow m (AtFlat i) = i .0 ≤ m
-
-pub record Bounded (m k : ℕ) (c : Counts) : Type 0 where
-  pub positional : c .«num_positional» .0 ≤ m
-  pub only : c .«num_positional_only» .0 ≤ k
-  pub args : PlaceBelow m (c .args)
-  pub kwargs : PlaceBelow m (c .kwargs)
-  pub flat : c .flat .0 ≤ m
 
 place-more : (m : ℕ) (p : FlatPlace) → PlaceBelow m p → PlaceBelow (m + 1) p
 place-more m NoFlat h = tt

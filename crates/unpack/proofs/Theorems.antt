@@ -13,7 +13,7 @@ use Rattle.forest.proofs.Stretch.{forest-induction, length-kids, length-rest, r
 use Rattle.unpack.specs.Written.{Param, normal, noArgs, slash, args, kwargs, nodeIn, kindIn, paramsIn, written}
 use Rattle.unpack.specs.Unpack.{writtenAt, flatAt, check, nextState, count, advance, modeOf, modesFrom, modes, start, isSlash, slashFrom, firstSlash, positionalOnly, normalNext, fromStar, finish, Internal, Outcome, accepted, refused, internal, run, unpack}
 use Rattle.unpack.specs.Indices.{told}
-use Rattle.unpack.specs.Reading.{isListed}
+use Rattle.unpack.specs.Reading.{isListed, Bounded}
 use Rattle.unpack.specs.declared.Kind.{Kind}
 use Rattle.unpack.specs.declared.Kind.the-variants.{Normal, NoArgs, Slash, Args, KwArgs}
 use Rattle.unpack.specs.declared.State.{State}
@@ -27,7 +27,7 @@ use Rattle.unpack.specs.declared.Unpacking.{Unpacking}
 use Rattle.unpack.specs.declared.Judged.{Judged}
 use Rattle.unpack.specs.declared.Judged.the-variants.{Accepted, Refused}
 use Rattle.unpack.proofs.Reading.{list-end, list-on, listed-long}
-use Rattle.unpack.proofs.Steps.{Cleared, run-stop, run-on, clear-on, clear-start, Bounded, bounded-on}
+use Rattle.unpack.proofs.Steps.{Cleared, run-stop, run-on, clear-on, clear-start, bounded-on}
 
 accepted≢internal : {P : Type 0} {c : Counts} {e : Internal} {r : Node} → accepted c ≡ internal e r → P
 accepted≢internal h = let z : _≡_ {A = ℕ} 0 1 = cc in absurd (omega arith)

@@ -17,7 +17,7 @@ use Rattle.soundness.proofs.Records.{and-left, and-right}
 use Rattle.unpack.specs.Written.{Name, Param, normal, noArgs, slash, args, kwargs, nodeIn, kindIn, param, paramOf, paramsIn, written, kindAt}
 use Rattle.unpack.specs.Unpack.{writtenAt, flatAt, firstSame, repeats, rule, firstly, check, advance, nextStar, start, slashFrom, firstSlash, positionalOnly, isSlash, normalNext, fromStar, finish, Outcome, accepted, refused, internal, run, unpack}
 use Rattle.unpack.specs.Indices.{fault, told, errorOf}
-use Rattle.unpack.specs.Reading.{isListed, kindHere, beginsWithSlash, isNamed, isNormal, StarIn, Inside}
+use Rattle.unpack.specs.Reading.{isListed, kindHere, beginsWithSlash, isNamed, isNormal, StarIn, Inside, Bounded}
 use Rattle.unpack.specs.declared.Kind.{Kind}
 use Rattle.unpack.specs.declared.Kind.the-variants.{Normal, NoArgs, Slash, Args, KwArgs}
 use Rattle.unpack.specs.declared.State.{State}
@@ -36,7 +36,7 @@ use Rattle.unpack.specs.declared.ListError.{ListError}
 use Rattle.unpack.specs.declared.ListError.the-variants.{Error, NoError}
 use Rattle.unpack.proofs.Parts.{never}
 use Rattle.unpack.proofs.Reading.{node-in, kind-in, listed-long, list-end, list-on, Reading, read-start, read-here, read-on, read-end}
-use Rattle.unpack.proofs.Steps.{Cleared, run-stop, run-on, clear-on, clear-start, Bounded, bounded-on}
+use Rattle.unpack.proofs.Steps.{Cleared, run-stop, run-on, clear-on, clear-start, bounded-on}
 
 -- 11: marks repeat no name, others the first of theirs
 module _ (ns : List ℕ) (before : List Param) (left : List ℕ) {k : Kind} (k-is : k ≡ kindHere left) {b : Bool} (b-is : b ≡ isNamed k) where

@@ -12,6 +12,9 @@ use Rattle.unpack.specs.declared.Kind.{Kind}
 use Rattle.unpack.specs.declared.Kind.the-variants.{Normal, NoArgs, Slash, Args, KwArgs}
 use Rattle.unpack.specs.declared.WrittenPlace.{WrittenPlace}
 use Rattle.unpack.specs.declared.WrittenPlace.the-variants.{AtWritten, NoWritten}
+use Rattle.unpack.specs.declared.FlatPlace.{FlatPlace}
+use Rattle.unpack.specs.declared.FlatPlace.the-variants.{AtFlat, NoFlat}
+use Rattle.unpack.specs.declared.Counts.{Counts}
 use Rattle.unpack.specs.declared.Judged.{Judged}
 use Rattle.unpack.specs.declared.Judged.the-variants.{Accepted, Refused}
 
@@ -51,3 +54,15 @@ StarIn w (AtWritten i) = i .0 < length w
 abbrev pub Inside : ℕ → Judged → Type 0
 Inside m (Accepted c) = Unit {0}
 Inside m (Refused f) = f .node ≤ m
+
+-- bounds of what is counted in the first m parameters, where `/` stands no further than k
+abbrev pub PlaceBelow : ℕ → FlatPlace → Type 0
+PlaceBelow m NoFlat = Unit {0}
+PlaceBelow m (AtFlat i) = i .0 ≤ m
+
+pub record Bounded (m k : ℕ) (c : Counts) : Type 0 where
+  pub positional : c .«num_positional» .0 ≤ m
+  pub only : c .«num_positional_only» .0 ≤ k
+  pub args : PlaceBelow m (c .args)
+  pub kwargs : PlaceBelow m (c .kwargs)
+  pub flat : c .flat .0 ≤ m
