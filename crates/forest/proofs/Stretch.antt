@@ -4,15 +4,25 @@ use mathlib.Core.Bool.{Bool, true, false}
 use mathlib.Core.List.{List, [], _∷_, _++_}
 use Prim.Native.Nat.{ℕ, zero, suc, _+_, _-_, _*_, _/_, _<_, _≤_, min, max}
 use native.Mathlib.Omega.{arith}
+use native.Mathlib.Numerals.{one-add}
+use native.Mathlib.Nat.{zero-add, add-zero, suc-add, add-assoc, suc-sub-suc, sub-zero}
 use lib.ListN.{length, getD, take, drop, length-take, length-drop}
+use lib.Seq.{getD-take, drop-drop, take-nil}
 use lib.Dec.{leb}
 use borrow.Author.Tests.{le-leb, lt-leb, leb-true, leb-false}
-use Rattle.fields.proofs.Fields.{tail-part}
-use Rattle.forest.specs.Forest.{Node, sizeOf, nodeOf, spanOf, kidsOf, restOf, Tree, node, Forest, none, _then_, forestIn, forest, treeOf, count}
+use Rattle.fields.proofs.Fields.{tail-part, field-take}
+use Rattle.forest.specs.Forest.{Node, sizeOf, nodeOf, spanOf, kidsOf, restOf, Tree, node, Forest, none, _then_, forestIn, forest, treeOf, count, nodes}
 
 -- a node with its children and what follows
 abbrev pub tree : Node → Forest → Forest → Forest
 tree r ks rs = node r ks then rs
+
+-- a part of a part
+pub drop-take : (k n : ℕ) (l : List ℕ) → drop k (take n l) ≡ take (n - k) (drop k l)
+drop-take zero n l = rw sub-zero refl
+drop-take (suc k) zero l = sym (ap (λ (m : ℕ). take m (drop (suc k) l)) {x = 0 - suc k} {y = 0} (omega arith))
+drop-take (suc k) (suc n) [] = sym (take-nil (suc n - suc k))
+drop-take (suc k) (suc n) (x ∷ l) = rw suc-sub-suc (drop-take k n l)
 
 -- the lengths of the two parts of a stretch
 module _ (bs : List ℕ) where
@@ -107,3 +117,65 @@ module _ {A : Type 0} (all : Forest → A) (i e : ℕ) (bs : List ℕ) where
   pub each-cut : (one : Tree → A) (join : A → A → A) → ((t : Tree) (ts : Forest) → all (t then ts) ≡ join (one t) (all ts)) → 24 ≤ length bs → e ≡ spanOf bs
       → all (forest i bs) ≡ join (one (treeOf i bs)) (all (forest (i + e / 24) (take (length bs - e) (drop e bs))))
   each-cut one join then-is big h = rw (rest-part e bs h, h) (ap all (forest-tree i bs big) ∙ then-is (treeOf i bs) (forest (i + spanOf bs / 24) (restOf bs)))
+
+-- n records of a stretch in order, the first with the index i
+abbrev pub records : ℕ → ℕ → List ℕ → List Node
+records zero i bs = []
+records (suc n) i bs = nodeOf i bs ∷ records n (i + 1) (drop 24 bs)
+
+records-split : (n m i : ℕ) (bs : List ℕ) → records (n + m) i bs ≡ records n i bs ++ records m (i + n) (drop (24 * n) bs)
+records-split zero m i bs = simp (zero-add, add-zero)
+records-split (suc n) m i bs =
+    let on : 24 + 24 * n ≡ 24 * suc n = omega arith in
+    simp (suc-add, records-split n m (i + 1) (drop 24 bs), drop-drop, on, add-assoc, one-add)
+
+-- a record is the same in a part that holds it
+pub node-take : (i n : ℕ) (bs : List ℕ) → 24 ≤ n → nodeOf i (take n bs) ≡ nodeOf i bs
+unfolding sizeOf
+node-take i n bs h =
+    rw (
+      getD-take n bs 0 0 (omega arith),
+      getD-take n bs 1 0 (omega arith),
+      field-take 2 bs n 2 (omega arith),
+      field-take 4 bs n 4 (omega arith),
+      field-take 4 bs n 8 (omega arith),
+      field-take 4 bs n 12 (omega arith),
+      field-take 2 bs n 16 (omega arith),
+      field-take 2 bs n 18 (omega arith),
+      field-take 4 bs n 20 (omega arith),
+    )
+
+pub size-take : (n : ℕ) (bs : List ℕ) → 24 ≤ n → sizeOf (take n bs) ≡ sizeOf bs
+unfolding sizeOf
+size-take n bs h = field-take 2 bs n 16 (omega arith)
+
+records-take : (n i k : ℕ) (bs : List ℕ) → 24 * n ≤ k → records n i (take k bs) ≡ records n i bs
+records-take zero i k bs h = refl
+records-take (suc n) i k bs h = rw (node-take i k bs (omega arith), drop-take 24 k bs, records-take n (i + 1) (k - 24) (drop 24 bs) (omega arith))
+
+kids-records : (k i : ℕ) (bs : List ℕ) → 24 * k ≤ length (kidsOf bs) → records k i (kidsOf bs) ≡ records k i (drop 24 bs)
+unfolding kidsOf
+kids-records k i bs h = records-take k i (spanOf bs - 24) (drop 24 bs) (omega (arith, length-kids bs))
+
+-- what follows a subtree that the end cuts has no record
+rest-records : (r i : ℕ) (bs : List ℕ) (k : ℕ) → 24 ≤ length bs → k ≡ (spanOf bs - 24) / 24 → r ≡ (length bs - spanOf bs) / 24 → records r i (restOf bs) ≡ records r i (drop (24 * k) (drop 24 bs))
+unfolding restOf
+rest-records zero i bs k big k-is r-is = refl
+rest-records (suc r) i bs k big k-is r-is =
+    let whole : spanOf bs ≡ 24 + 24 * k = omega arith in
+    rw (drop-drop (24 * k) 24 bs, whole) refl
+
+-- LAW: whatever the bytes, the nodes of the forest are the records of the stretch, in order: node i is record i
+pub nodes-records : (i : ℕ) (bs : List ℕ) → nodes (forest i bs) ≡ records (length bs / 24) i bs
+unfolding nodes
+nodes-records =
+    forest-induction (λ i bs. nodes (forest i bs) ≡ records (length bs / 24) i bs)
+    (λ i bs s. let z : length bs / 24 ≡ 0 = omega arith in rw (forest-none i bs s, z) refl)
+    (λ i bs big ks rs.
+    let k : ℕ = length (kidsOf bs) / 24 in
+    let r : ℕ = length (restOf bs) / 24 in
+    let n : length bs / 24 ≡ suc (k + r) = omega (arith, length-kids bs, length-rest bs) in
+    let inside : records k (i + 1) (kidsOf bs) ≡ records k (i + 1) (drop 24 bs) = kids-records k (i + 1) bs (omega (arith, length-kids bs)) in
+    let after : i + spanOf bs / 24 ≡ i + 1 + k = omega (arith, length-kids bs) in
+    let behind : records r (i + 1 + k) (restOf bs) ≡ records r (i + 1 + k) (drop (24 * k) (drop 24 bs)) = rest-records r (i + 1 + k) bs k big (omega (arith, length-kids bs)) (omega (arith, length-rest bs)) in
+    rw (forest-tree i bs big, ks, rs, n, after, inside, behind) (ap (λ (l : List Node). nodeOf i bs ∷ l) (sym (records-split k r (i + 1) (drop 24 bs)))))

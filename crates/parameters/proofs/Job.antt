@@ -13,13 +13,14 @@ use Rattle.forest.specs.Forest.{sizeOf, kidsOf, forest}
 use Rattle.soundness.proofs.Records.{and-left}
 use Rattle.table.specs.Numbers.{wrongNode, shortBuffer}
 use Rattle.table.specs.Answer.{Answer, accepted, refused, andThen, refusal, checked}
-use Rattle.table.specs.Check.{lengthSound, checkOf, nodeFits, nodeCheck, stretchOf}
+use Rattle.table.specs.Check.{checkOf, nodeFits, nodeCheck, stretchOf}
 use Rattle.table.specs.declared.Refusal.{Refusal}
 use Rattle.table.specs.declared.Refusal.the-variants.{Bare, Placed, Spanned}
 use Rattle.table.specs.declared.Checked.{Checked}
 use Rattle.table.specs.declared.Checked.the-variants.{Sound, Refused as Unsound}
 use Rattle.table.specs.declared.Wanted.the-variants.{Parameters}
-use Rattle.table.proofs.Checking.{length-whole, check-length}
+use Rattle.table.proofs.Answers.{stopped}
+use Rattle.table.proofs.Handed.{clean, fitting, handed}
 use Rattle.unpack.specs.Written.{Param, paramsIn, written}
 use Rattle.unpack.specs.Unpack as def
 use Rattle.unpack.specs.Unpack.{modes}
@@ -109,32 +110,11 @@ module _ (ns t ms : List ℕ) (node : ℕ) {kids : List ℕ} (kids-are : kids �
 pub refused-small : {n m : ℕ} {j : Judged} {f : Fault} → Inside (n + 1 + m / 24) j → j ≡ Refused f → n ≤ 2100 → m ≤ 50400 → f .node < 2 ^ 32
 refused-small {n} {m} inside e small short = let h = rw e at inside in omega (arith, h)
 
--- the first refusal stands
-stands : (r : Refusal) (next : Unit {0} → Answer) → andThen (refusal r) next ≡ refusal r
-stands (Bare n) next = refl
-stands (Placed n k) next = refl
-stands (Spanned n k b e) next = refl
-
+-- a refusal leaves the buffer
 unchanged : (r : Refusal) (modes ms : List ℕ) → afterwards (refusal r) modes ms ≡ ms
 unchanged (Bare n) modes ms = refl
 unchanged (Placed n k) modes ms = refl
 unchanged (Spanned n k b e) modes ms = refl
-
--- a table that passes the check has a sound length
-pub sound-length : (t ns : List ℕ) → checkOf t ns ≡ accepted [] → (24 ≤ length t) × (length t ≤ 50400) × (24 * (length t / 24) ≡ length t)
-sound-length t ns h = go (lengthSound (length t)) refl
-  where
-    go : (b : Bool) → lengthSound (length t) ≡ b → (24 ≤ length t) × (length t ≤ 50400) × (24 * (length t / 24) ≡ length t)
-    go true e = length-whole (length t) e
-    go false e = let x = check-length t ns refl e ∙ h in let z : _≡_ {A = ℕ} 0 1 = cc in absurd (omega arith)
-
-stretch-short : (t : List ℕ) (node : ℕ) → length (stretchOf t node) ≤ length t
-unfolding stretchOf
-stretch-short t node = go (ltb node (length t / 24))
-  where
-    go : (b : Bool) → length (if' b (λ _. take (24 * sizeOf (drop (24 * node) t)) (drop (24 * node) t)) (λ _. [])) ≤ length t
-    go true = simp (length-take, length-drop) (omega arith)
-    go false = omega arith
 
 -- 1 to 4, 6, then the list
 module _ (t ns : List ℕ) (node : ℕ) {k : Checked} (k-is : checked k ≡ checkOf t ns) where
@@ -142,7 +122,8 @@ module _ (t ns : List ℕ) (node : ℕ) {k : Checked} (k-is : checked k ≡ chec
   unfolding paramsOf modesAfter
   params-unsound ms {r} e =
       let check : checkOf t ns ≡ refusal r = sym k-is ∙ ap checked e in
-      rw (check, stands r (λ _. andThen (nodeCheck t node Parameters) (λ _. listAnswer (listOf t ns node) (length ms)))) (refl, sym (unchanged r (def.modes (listOf t ns node)) ms))
+      let answer = stopped r (λ _. andThen (nodeCheck t node Parameters) (λ _. listAnswer (listOf t ns node) (length ms))) in
+      rw (check, ← answer) (refl, sym (unchanged r (def.modes (listOf t ns node)) ms))
 
   module _ (sound : k ≡ Sound) {b : Bool} (b-is : b ≡ nodeFits t node Parameters) where
     check : checkOf t ns ≡ accepted []
@@ -157,12 +138,11 @@ module _ (t ns : List ℕ) (node : ℕ) {k : Checked} (k-is : checked k ≡ chec
       fits = sym b-is ∙ b-yes
 
       pub params-few : node < 2100
-      unfolding nodeFits
-      params-few = omega (arith, ltb-true node (length t / 24) (and-left _ _ fits), sound-length t ns check)
+      params-few = omega (arith, fitting t ns node Parameters k-is sound b-is b-yes, clean t ns node Parameters k-is sound b-is b-yes .most)
 
       module _ {s : List ℕ} (s-is : s ≡ stretchOf t node) where
         pub params-short : length s ≤ 50400
-        params-short = rw s-is (omega (arith, stretch-short t node, sound-length t ns check))
+        params-short = omega (arith, handed t ns node Parameters k-is sound b-is b-yes s-is)
 
         pub params-list : (ms : List ℕ) {u : Answer} {ms′ : List ℕ}
             → (u ≡ listAnswer (written ns node s) (length ms)) × (ms′ ≡ afterwards (listAnswer (written ns node s) (length ms)) (def.modes (written ns node s)) ms)

@@ -1,3 +1,4 @@
 pub mod Packing
 pub mod Search
 pub mod Records
+pub mod SoundTables

@@ -5,7 +5,7 @@ use Prim.Native.Nat.{ℕ, zero, suc, _+_, _-_, _*_, _/_, _%_}
 use lib.ListN.{length, drop, replicate}
 use lib.Dec.{leb, eqb}
 use Rattle.fields.specs.Choice.{if'}
-use Rattle.forest.specs.Forest.{Node, nodeOf, kidsOf, Tree, node, Forest, none, _then_, forest, count}
+use Rattle.forest.specs.Forest.{Node, nodeOf, kidsOf, node, Forest, none, _then_, forest, count}
 use Rattle.forest.specs.Names.{same}
 use Rattle.forest.specs.declared.Found.{Found}
 use Rattle.forest.specs.declared.Found.the-variants.{At, Nothing}
@@ -108,12 +108,3 @@ firstFalse p i (suc n) = if' (p i) (λ _. firstFalse p (i + 1) n) (λ _. At i)
 -- the first unsound record in index order
 unfoldable pub firstUnsound : List ℕ → List ℕ → Found
 firstUnsound t names = firstFalse (recordSound t names) 0 (length t / 24)
-
--- every node of a forest is sound
-unfoldable mutual
-  pub allSound : (ℕ → Context) → Forest → Bool
-  allSound x none = true
-  allSound x (t then ts) = treeSound x t && allSound x ts
-
-  pub treeSound : (ℕ → Context) → Tree → Bool
-  treeSound x (node r ks) = soundNode (x (r .at)) r ks && allSound x ks

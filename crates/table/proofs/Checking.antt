@@ -4,19 +4,21 @@ use mathlib.Core.Bool.{Bool, true, false}
 use mathlib.Core.List.{List, [], _∷_}
 use Prim.Native.Nat.{ℕ, _+_, _*_, _/_, _%_, _<_, _≤_}
 use native.Mathlib.Omega.{arith}
-use lib.ListN.{length}
+use lib.ListN.{length, take, drop}
 use lib.Dec.{leb, eqb}
-use borrow.Author.Tests.{le-leb, lt-leb, leb-true, leb-false, eqb-true}
-use Rattle.forest.specs.Forest.{forest}
+use borrow.Author.Tests.{le-leb, lt-leb, leb-true, eqb-true, lt-ltb}
+use Rattle.fields.specs.Choice.{if'}
+use Rattle.forest.specs.Forest.{sizeOf, forest}
 use Rattle.forest.specs.declared.Found.{Found}
 use Rattle.forest.specs.declared.Found.the-variants.{At, Nothing}
 use Rattle.table.specs.Numbers.{tableLength, nameBytes, unsoundRecord, tooDeep}
-use Rattle.soundness.specs.Sound.{recordSound, firstUnsound}
+use Rattle.soundness.specs.Sound.{contextOf, recordSound, firstUnsound}
 use Rattle.table.specs.Depth.{firstDeep}
 use Rattle.table.specs.Answer.{Answer, accepted, refused, andThen}
-use Rattle.table.specs.Check.{lengthSound, lengthCheck, namesCheck, noneFound, checkOf}
+use Rattle.table.specs.Check.{lengthSound, lengthCheck, namesCheck, noneFound, checkOf, stretchOf}
 use Rattle.soundness.proofs.Records.{and-left, and-right}
 use Rattle.soundness.proofs.Search.{found}
+use Rattle.soundness.proofs.SoundTables.{Sound, sound-subtree, here-size}
 use Rattle.table.proofs.Deep.{deep-inside}
 
 -- a length that is sound
@@ -66,3 +68,47 @@ module _ (t names : List ℕ) {l : Bool} (l-is : l ≡ lengthSound (length t)) w
         pub check-sound : d ≡ Nothing → accepted [] ≡ checkOf t names
         unfolding checkOf
         check-sound flat = rw (good, le-leb (length names) 8064 few, ← u-is, clean, ← d-is, flat) refl
+
+-- LAW: a table that the check accepts has a sound length, few name bytes, no unsound record and no node that is too deep
+pub record Clean (t names : List ℕ) : Type 0 where
+  pub least : 24 ≤ length t
+  pub most : length t ≤ 50400
+  pub whole : 24 * (length t / 24) ≡ length t
+  pub few : length names ≤ 8064
+  pub unsound : firstUnsound t names ≡ Nothing
+  pub deep : firstDeep 0 (forest 0 t) ≡ Nothing
+
+never : {P : Type 0} {n : ℕ} {vs ws : List ℕ} → refused n vs ≡ accepted ws → P
+never e = let z : _≡_ {A = ℕ} 0 1 = cc in absurd (omega arith)
+
+pub accepted-clean : (t names : List ℕ) → checkOf t names ≡ accepted [] → Clean t names
+unfolding checkOf
+accepted-clean t names e = by-length (lengthSound (length t)) refl e
+  where
+    by-deep : lengthSound (length t) ≡ true → length names ≤ 8064 → firstUnsound t names ≡ Nothing → (f : Found) → firstDeep 0 (forest 0 t) ≡ f → noneFound tooDeep f ≡ accepted [] → Clean t names
+    by-deep l n u (At i) d e = never e
+    by-deep l n u Nothing d e = let w = length-whole (length t) l in record { least = w .0; most = w .1; whole = w .2; few = n; unsound = u; deep = d }
+
+    by-unsound : lengthSound (length t) ≡ true → length names ≤ 8064 → (f : Found) → firstUnsound t names ≡ f → andThen (noneFound unsoundRecord f) (λ _. noneFound tooDeep (firstDeep 0 (forest 0 t))) ≡ accepted [] → Clean t names
+    by-unsound l n (At i) u e = never e
+    by-unsound l n Nothing u e = by-deep l n u (firstDeep 0 (forest 0 t)) refl e
+
+    by-names : lengthSound (length t) ≡ true → (b : Bool) → leb (length names) 8064 ≡ b → andThen (if' b (λ _. accepted []) (λ _. refused nameBytes [])) (λ _. andThen (noneFound unsoundRecord (firstUnsound t names)) (λ _. noneFound tooDeep (firstDeep 0 (forest 0 t)))) ≡ accepted [] → Clean t names
+    by-names l true n e = by-unsound l (leb-true (length names) 8064 n) (firstUnsound t names) refl e
+    by-names l false n e = never e
+
+    by-length : (b : Bool) → lengthSound (length t) ≡ b → andThen (if' b (λ _. accepted []) (λ _. refused tableLength [])) (λ _. andThen (namesCheck (length names)) (λ _. andThen (noneFound unsoundRecord (firstUnsound t names)) (λ _. noneFound tooDeep (firstDeep 0 (forest 0 t))))) ≡ accepted [] → Clean t names
+    by-length true l e = by-names l (leb (length names) 8064) refl e
+    by-length false l e = never e
+
+-- LAW: in such a table the stretch of a node is sound, and as long as its record says
+module _ {t names : List ℕ} (c : Clean t names) (i : ℕ) (h : i < length t / 24) where
+  pub stretch-is : stretchOf t i ≡ take (24 * sizeOf (drop (24 * i) t)) (drop (24 * i) t)
+  unfolding stretchOf
+  stretch-is = rw (lt-ltb i (length t / 24) h) refl
+
+  pub stretch-sound : Sound (contextOf t names) i (stretchOf t i)
+  stretch-sound = rw stretch-is (sound-subtree t names (c .unsound) i h)
+
+  pub stretch-size : (1 ≤ sizeOf (drop (24 * i) t)) × (24 * (i + sizeOf (drop (24 * i) t)) ≤ length t)
+  stretch-size = here-size t names (c .unsound) i h

@@ -1,3 +1,5 @@
+pub mod Answers
 pub mod Deep
 pub mod Nodes
 pub mod Checking
+pub mod Handed

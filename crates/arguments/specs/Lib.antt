@@ -1,0 +1,4 @@
+pub mod Call
+pub mod Job
+pub mod Reached
+pub mod Accepted

@@ -1,0 +1,138 @@
+// The answer to one case, printed behind its label.
+use dialect::Decoded;
+use dialect::Dialect;
+use dialect::DialectTypes;
+use libc::STDOUT_FILENO;
+use table::Checked;
+use table::Refusal;
+use table::Wanted;
+
+// What a request asks: its job, how long its parts are, and the job's node.
+pub struct Asked {
+    pub job: u16,
+    pub label: usize,
+    pub table: usize,
+    pub names: usize,
+    pub dialect: usize,
+    pub wanted: u16,
+    pub node: usize,
+}
+
+// The front of a buffer, as much of it as is there.
+pub fn front(s: &[u8], len: usize) -> &[u8] {
+    if len <= s.len() {
+        return &s[0..len];
+    }
+    &s[0..0]
+}
+
+fn say(text: &[u8]) {
+    io::write_all(STDOUT_FILENO, text);
+}
+
+fn say_number(n: u64) {
+    io::print_decimal(STDOUT_FILENO, n);
+}
+
+fn say_placed(number: u32, node: u32) {
+    say_number(number as u64);
+    say(b" at ");
+    say_number(node as u64);
+}
+
+// A refusal as its number, the node that it carries, and its span.
+fn say_refusal(r: Refusal) {
+    match r {
+        Refusal::Bare(number) => say_number(number as u64),
+        Refusal::Placed { number, node } => say_placed(number, node),
+        Refusal::Spanned {
+            number,
+            node,
+            begin,
+            end,
+        } => {
+            say_placed(number, node);
+            say(b" ");
+            say_number(begin as u64);
+            say(b"-");
+            say_number(end as u64);
+        }
+    }
+}
+
+fn say_check(table: &[u8], names: &[u8]) {
+    let c = table::check(table, names);
+    match c {
+        Checked::Sound => say(b"sound"),
+        Checked::Refused(r) => say_refusal(r),
+    }
+}
+
+fn wanted(n: u16) -> Wanted {
+    match n {
+        1 => Wanted::Parameters,
+        2 => Wanted::Call,
+        3 => Wanted::Assignment,
+        _ => Wanted::Expression,
+    }
+}
+
+// Whether a job has its node: 6, or how many records its stretch has, and the class and the span of the first.
+fn say_node(table: &[u8], node: usize, wants: u16) {
+    if !table::node_fits(table, node, wanted(wants)) {
+        say(b"6");
+        return;
+    }
+    let s = table::stretch(table, node);
+    say(b"stretch of ");
+    say_number((s.len() / 24) as u64);
+    say(b", class ");
+    say_number(table::class(s) as u64);
+    say(b", refused as ");
+    say_refusal(table::refused_at(99, 7, s));
+}
+
+fn bit(b: bool) -> u64 {
+    if b { 1 } else { 0 }
+}
+
+fn types(t: DialectTypes) -> u64 {
+    match t {
+        DialectTypes::Disable => 0,
+        DialectTypes::ParseOnly => 1,
+        DialectTypes::Enable => 2,
+    }
+}
+
+// A dialect as its nine numbers.
+fn say_dialect(d: Dialect) {
+    say_number(bit(d.enable_def));
+    say_number(bit(d.enable_lambda));
+    say_number(bit(d.enable_load));
+    say_number(bit(d.enable_keyword_only_arguments));
+    say_number(bit(d.enable_positional_only_arguments));
+    let t = d.enable_types;
+    say_number(types(t));
+    say_number(bit(d.enable_load_reexport));
+    say_number(bit(d.enable_top_level_stmt));
+    say_number(bit(d.enable_f_strings));
+}
+
+fn say_decoded(bytes: &[u8]) {
+    let d = dialect::from_bytes(bytes);
+    match d {
+        Decoded::Valid(v) => say_dialect(v),
+        Decoded::Invalid => say(b"5"),
+    }
+}
+
+// 0 is a heading, 1 the table check, 2 a job's node, 3 the bytes of a dialect.
+pub fn answer(a: Asked, table: &[u8], names: &[u8], dialect: &[u8]) {
+    let job = a.job;
+    match job {
+        1 => say_check(table, names),
+        2 => say_node(table, a.node, a.wanted),
+        3 => say_decoded(dialect),
+        _ => say(b""),
+    }
+}

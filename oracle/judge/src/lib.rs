@@ -1,0 +1,9 @@
+//! The crate as judge: sound tables become its trees, its own functions run on them, and its messages and
+//! spans become document 01's numbers, nodes and spans.
+
+pub mod back;
+pub mod dialects;
+pub mod marks;
+pub mod messages;
+pub mod run;
+pub mod trees;

@@ -1,0 +1,79 @@
+//! The dialect's nine bytes, and the three named rows.
+
+use crate::answer::Refusal;
+use crate::numbers::number;
+use crate::planted::planted;
+use crate::planted::Fault;
+
+pub const BYTES: usize = 9;
+
+pub const STANDARD: [u8; BYTES] = [1, 1, 1, 0, 0, 0, 1, 0, 0];
+pub const EXTENDED: [u8; BYTES] = [1, 1, 1, 1, 0, 2, 1, 1, 0];
+pub const ALL_OPTIONS_INTERNAL: [u8; BYTES] = [1, 1, 1, 1, 1, 2, 1, 1, 1];
+
+/// Where `enable_types` stands: it has three values, the others two.
+pub const TYPES_AT: usize = 5;
+
+#[derive(Clone, Copy, Debug, PartialEq, Eq)]
+pub struct Dialect {
+    pub def: bool,
+    pub lambda: bool,
+    pub load: bool,
+    pub keyword_only: bool,
+    pub positional_only: bool,
+    pub types: u8,
+    pub load_reexport: bool,
+    pub top_level_stmt: bool,
+    pub f_strings: bool,
+}
+
+impl Dialect {
+    pub fn types_disabled(&self) -> bool {
+        self.types == 0
+    }
+
+    fn of(row: &[u8; BYTES]) -> Dialect {
+        let on = |at: usize| row[at] == 1;
+        Dialect {
+            def: on(0),
+            lambda: on(1),
+            load: on(2),
+            keyword_only: on(3),
+            positional_only: on(4),
+            types: row[TYPES_AT],
+            load_reexport: on(6),
+            top_level_stmt: on(7),
+            f_strings: on(8),
+        }
+    }
+}
+
+/// No bytes is Standard; nine good bytes are themselves; all else is 5.
+pub fn from_bytes(bytes: &[u8]) -> Result<Dialect, Refusal> {
+    if bytes.is_empty() {
+        let row = if planted(Fault::EmptyDialectAllOptions) { ALL_OPTIONS_INTERNAL } else { STANDARD };
+        return Ok(Dialect::of(&row));
+    }
+    let refused = Refusal::bare(number::DIALECT);
+    let row: &[u8; BYTES] = bytes.try_into().map_err(|_| refused.clone())?;
+    let good = |(at, byte): (usize, &u8)| *byte <= most(at);
+    if row.iter().enumerate().all(good) { Ok(Dialect::of(row)) } else { Err(refused) }
+}
+
+fn most(at: usize) -> u8 {
+    if at == TYPES_AT || planted(Fault::DialectByteTwoAllowed) { 2 } else { 1 }
+}
+
+/// Every dialect: each byte's values in all combinations, and the empty one.
+pub fn all() -> Vec<Vec<u8>> {
+    let mut rows = vec![Vec::new()];
+    for at in 0..BYTES {
+        let values = if at == TYPES_AT { 3 } else { 2 };
+        rows = rows
+            .into_iter()
+            .flat_map(|row: Vec<u8>| (0..values).map(move |value| [row.as_slice(), &[value]].concat()))
+            .collect();
+    }
+    rows.push(Vec::new());
+    rows
+}

@@ -1,0 +1,140 @@
+//! The table file: blocks of 512 bytes.
+
+use crate::answer::Refusal;
+use crate::dialect;
+use crate::numbers::number;
+use crate::planted::planted;
+use crate::planted::Fault;
+use crate::table::Table;
+use crate::table::MOST_NAME_BYTES;
+use crate::table::MOST_NODES;
+use crate::table::RECORD_BYTES;
+
+pub const BLOCK: usize = 512;
+pub const CONTENT: usize = 504;
+const CONTENT_AT: usize = 4;
+const CHECK_AT: usize = 508;
+/// Only whole records stand in a block.
+const NODE_CONTENT: usize = 21 * RECORD_BYTES;
+const COUNTS: usize = 4;
+
+/// What a file holds. A dialect of no bytes is none.
+#[derive(Clone, Debug, PartialEq, Eq)]
+pub struct Contents {
+    pub table: Vec<u8>,
+    pub names: Vec<u8>,
+    pub dialect: Vec<u8>,
+}
+
+/// The sum that stands at a block's end.
+pub fn check_sum(block: &[u8]) -> u32 {
+    let first = if planted(Fault::SumFactorFromZero) { 0 } else { 1 };
+    block[..CHECK_AT].iter().zip(first..).map(|(&byte, factor)| u32::from(byte) * factor).sum()
+}
+
+/// One block: its number, its used bytes, its sum.
+pub fn block(number: u16, content: &[u8]) -> Vec<u8> {
+    let mut block = vec![0; BLOCK];
+    block[0..2].copy_from_slice(&number.to_le_bytes());
+    block[2..4].copy_from_slice(&(content.len() as u16).to_le_bytes());
+    block[CONTENT_AT..CONTENT_AT + content.len()].copy_from_slice(content);
+    seal(&mut block);
+    block
+}
+
+/// Puts the right sum at a block's end.
+pub fn seal(block: &mut [u8]) {
+    let sum = check_sum(block);
+    block[CHECK_AT..BLOCK].copy_from_slice(&sum.to_le_bytes());
+}
+
+/// The blocks of a file, whatever its contents are.
+pub fn write(contents: &Contents) -> Vec<u8> {
+    let nodes = (contents.table.len() / RECORD_BYTES) as u16;
+    let counts = [nodes.to_le_bytes(), (contents.names.len() as u16).to_le_bytes()].concat();
+    let header = [counts, contents.dialect.clone()].concat();
+    let names = contents.names.chunks(CONTENT);
+    let table = contents.table.chunks(NODE_CONTENT);
+    let all = std::iter::once(header.as_slice()).chain(names).chain(table);
+    all.zip(0..).flat_map(|(content, number)| block(number, content)).collect()
+}
+
+/// The file's contents, or the first refusal: block by block, then what is left over, then 1 to 5.
+pub fn read(file: &[u8]) -> Result<Contents, Refusal> {
+    let mut blocks = Blocks { rest: file, number: 0 };
+    let header = blocks.next(&[COUNTS, COUNTS + dialect::BYTES])?;
+    let count = |at: usize| usize::from(u16::from_le_bytes([header[at], header[at + 1]]));
+    let (nodes, names) = (count(0), count(2));
+    if nodes == 0 || nodes > MOST_NODES || names > MOST_NAME_BYTES {
+        return Err(Refusal::bare(number::COUNTS));
+    }
+    let names = blocks.stretch(names, CONTENT)?;
+    let table = blocks.stretch(nodes * RECORD_BYTES, NODE_CONTENT)?;
+    if !blocks.rest.is_empty() && !planted(Fault::LeftOverAllowed) {
+        return Err(Refusal::bare(number::BYTES_LEFT_OVER));
+    }
+    let dialect = header[COUNTS..].to_vec();
+    if planted(Fault::DialectBeforeTable) {
+        dialect::from_bytes(&dialect)?;
+    }
+    Table::check(&table, &names)?;
+    dialect::from_bytes(&dialect)?;
+    Ok(Contents { table, names, dialect })
+}
+
+struct Blocks<'a> {
+    rest: &'a [u8],
+    number: u16,
+}
+
+impl<'a> Blocks<'a> {
+    /// The used part of the next block, which must be of one of the lengths given.
+    fn next(&mut self, lengths: &[usize]) -> Result<&'a [u8], Refusal> {
+        if self.rest.len() < BLOCK {
+            return Err(Refusal::bare(number::SHORT_BLOCK));
+        }
+        let (block, rest) = self.rest.split_at(BLOCK);
+        let number_is_wrong = block[0..2] != self.number.to_le_bytes();
+        if number_is_wrong && planted(Fault::NumberBeforeCheck) {
+            return Err(Refusal::bare(number::BLOCK_NUMBER));
+        }
+        if check_sum(block).to_le_bytes() != block[CHECK_AT..] {
+            return Err(Refusal::bare(number::BLOCK_CHECK));
+        }
+        if number_is_wrong {
+            return Err(Refusal::bare(number::BLOCK_NUMBER));
+        }
+        let used = usize::from(u16::from_le_bytes([block[2], block[3]]));
+        let padded = || block[CONTENT_AT + used..CHECK_AT].iter().all(|&byte| byte == 0);
+        if !lengths.contains(&used) || !(planted(Fault::PaddingUnchecked) || padded()) {
+            return Err(Refusal::bare(number::USED_BYTES));
+        }
+        self.rest = rest;
+        self.number += 1;
+        Ok(&block[CONTENT_AT..CONTENT_AT + used])
+    }
+
+    /// So many bytes, from blocks that are all full but the last.
+    fn stretch(&mut self, length: usize, full: usize) -> Result<Vec<u8>, Refusal> {
+        let mut bytes = Vec::with_capacity(length);
+        if length == 0 && planted(Fault::NoNameStillBlock) {
+            self.next(&[0])?;
+        }
+        while bytes.len() < length {
+            bytes.extend_from_slice(self.next(&[full.min(length - bytes.len())])?);
+        }
+        Ok(bytes)
+    }
+}
+
+/// What the program prints for a file.
+pub fn printed(file: &[u8]) -> String {
+    let contents = match read(file) {
+        Ok(contents) => contents,
+        Err(refusal) => return format!("refused {}\n", refusal.number),
+    };
+    let answer = crate::jobs::module(&contents.table, &contents.names, &contents.dialect);
+    let lines = answer.errors.iter().map(|[number, begin, end]| format!("{number} {begin} {end}\n"));
+    let nodes = contents.table.len() / RECORD_BYTES;
+    format!("nodes {nodes}\n{}errors {}\n", lines.collect::<String>(), answer.errors.len())
+}

@@ -1,0 +1,152 @@
+//! The jobs: refusals 1 to 7 in their order, then the job's own answer.
+
+use crate::answer::Answer;
+use crate::answer::Refusal;
+use crate::call;
+use crate::call::Argument;
+use crate::call::Called;
+use crate::dialect;
+use crate::module;
+use crate::module::entries;
+use crate::numbers::kind;
+use crate::numbers::number;
+use crate::params;
+use crate::planted::planted;
+use crate::planted::Fault;
+use crate::table::is_expression;
+use crate::table::Class;
+use crate::table::Table;
+use crate::targets;
+use crate::types;
+
+/// Stands in `out` for a place that is none.
+pub const NONE: u32 = u32::MAX;
+
+fn answered(result: Result<Answer, Refusal>) -> Answer {
+    result.unwrap_or_else(Answer::from)
+}
+
+fn long_enough(lent: usize, needed: usize) -> Result<(), Refusal> {
+    if lent < needed { Err(Refusal::bare(number::SHORT_BUFFER)) } else { Ok(()) }
+}
+
+pub fn table(table: &[u8], names: &[u8]) -> Answer {
+    answered(Table::check(table, names).map(|_| Answer::default()))
+}
+
+pub fn params(table: &[u8], names: &[u8], node: usize, modes: usize) -> Answer {
+    answered(Table::check(table, names).and_then(|table| {
+        table.wanted_node(node, |kind| kind == kind::DEF || kind == kind::LAMBDA)?;
+        params_of(&table, node, modes)
+    }))
+}
+
+fn params_of(table: &Table, owner: usize, modes: usize) -> Result<Answer, Refusal> {
+    let nodes: Vec<usize> = table.children_of(owner, Class::Parameter).collect();
+    let entries = entries(table, &nodes);
+    let flat = |e: &&params::Entry| !e.name.is_empty();
+    let by_flat = planted(Fault::ModeBufferByFlatCount);
+    long_enough(modes, if by_flat { entries.iter().filter(flat).count() } else { nodes.len() })?;
+    match params::unpack(&entries) {
+        Ok(unpacked) => Ok(unpacked_answer(&unpacked, nodes.len())),
+        Err((number, at)) => {
+            let mut refused = Answer::from(table.refuse(number, nodes[at]));
+            if planted(Fault::RefusedListWritesModes) {
+                refused.bytes = vec![2; at];
+            }
+            Ok(refused)
+        }
+    }
+}
+
+fn unpacked_answer(unpacked: &params::Unpacked, written: usize) -> Answer {
+    let ranges = unpacked.ranges().into_iter().flat_map(|range| [range.start, range.end]);
+    let mut bytes = unpacked.modes();
+    if planted(Fault::NoModesWritten) {
+        bytes.clear();
+    }
+    if planted(Fault::ModesOfMarksWritten) {
+        bytes.resize(written, 2);
+    }
+    Answer { bytes, ..Answer::accepted(ranges.chain([unpacked.flat]).collect()) }
+}
+
+pub fn call(table: &[u8], names: &[u8], node: usize) -> Answer {
+    answered(Table::check(table, names).and_then(|table| {
+        table.wanted_node(node, |kind| kind == kind::CALL)?;
+        let nodes: Vec<usize> = table.children_of(node, Class::Argument).collect();
+        let argument = |&node: &usize| Argument { kind: table.kind(node), name: table.name(node) };
+        let arguments: Vec<Argument> = nodes.iter().map(argument).collect();
+        match call::unpack(&arguments) {
+            Ok(called) => Ok(called_answer(&called)),
+            Err((number, at)) => Err(argument_refusal(&table, number, nodes[at])),
+        }
+    }))
+}
+
+fn argument_refusal(table: &Table, number: u32, node: usize) -> Refusal {
+    if number == number::REPEATED_NAMED && !planted(Fault::RepeatedAtArgumentSpan) {
+        Refusal::spanned(number, node, table.records[node].name_span())
+    } else {
+        table.refuse(number, node)
+    }
+}
+
+fn called_answer(called: &Called) -> Answer {
+    let place = |place: Option<u32>| place.unwrap_or(NONE);
+    Answer::accepted(vec![called.positional, called.named, place(called.star), place(called.star_star)])
+}
+
+pub fn target(table: &[u8], names: &[u8], node: usize) -> Answer {
+    answered(Table::check(table, names).and_then(|table| {
+        table.wanted_node(node, is_expression)?;
+        targets::target(&table, node).map(|leaves| Answer::accepted(vec![leaves]))
+    }))
+}
+
+pub fn assignment(table: &[u8], names: &[u8], node: usize) -> Answer {
+    answered(Table::check(table, names).and_then(|table| {
+        table.wanted_node(node, |kind| kind == kind::ASSIGN || kind == kind::ASSIGN_MODIFY)?;
+        targets::assignment(&table, node).map(|leaves| Answer::accepted(vec![leaves]))
+    }))
+}
+
+pub fn type_shape(table: &[u8], names: &[u8], dialect: &[u8], node: usize, shapes: usize) -> Answer {
+    answered(Table::check(table, names).and_then(|table| {
+        let dialect = dialect::from_bytes(dialect)?;
+        table.wanted_node(node, is_expression)?;
+        long_enough(shapes, table.size(node))?;
+        match types::type_shape(&table, node, &dialect) {
+            Ok(bytes) => Ok(Answer { bytes, ..Answer::default() }),
+            Err(refusal) => Ok(refused_type(refusal, node)),
+        }
+    }))
+}
+
+fn refused_type(refusal: Refusal, node: usize) -> Answer {
+    let offender = refusal.node.map_or(0, |at| at as usize - node);
+    let mut refused = Answer::from(refusal);
+    if planted(Fault::ShapesWrittenWhenRefused) && offender > 0 {
+        refused.bytes = vec![7];
+    }
+    refused
+}
+
+/// All errors, whatever fits: the lent list takes the first of them that fit whole.
+pub fn module(table: &[u8], names: &[u8], dialect: &[u8]) -> Answer {
+    answered(Table::check(table, names).and_then(|table| {
+        let dialect = dialect::from_bytes(dialect)?;
+        Ok(listed_answer(&table, &module::module(&table, &dialect)))
+    }))
+}
+
+/// A list of errors as the job's words.
+pub fn listed_answer(table: &Table, listed: &module::Listed) -> Answer {
+    let words = |error: &module::Error| {
+        let (begin, end) = table.span(error.node);
+        [error.number, begin, end]
+    };
+    let errors: Vec<[u32; 3]> = listed.in_order().map(words).collect();
+    let total = errors.len() as u32;
+    Answer { errors, ..Answer::accepted(vec![total]) }
+}

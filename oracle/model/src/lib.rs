@@ -1,0 +1,15 @@
+//! Document 01 in Rust: its node table, its file, its limits, and what its definitions answer for every
+//! table. Written from the document, so that it can judge tables that no tree of the crate can be.
+
+pub mod answer;
+pub mod call;
+pub mod dialect;
+pub mod file;
+pub mod jobs;
+pub mod module;
+pub mod numbers;
+pub mod params;
+pub mod planted;
+pub mod table;
+pub mod targets;
+pub mod types;

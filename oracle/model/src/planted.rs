@@ -1,0 +1,100 @@
+//! Faults that can be planted in the stand-in, one at a time, to see whether the comparison finds them.
+//!
+//! Without the feature `faults` none is ever planted. With it, the environment variable ORACLE_FAULT names
+//! the one that is. oracle/faults.list says what each does.
+
+macro_rules! faults {
+    ($($name:ident)*) => {
+        #[derive(Clone, Copy, Debug, PartialEq, Eq)]
+        pub enum Fault { $($name),* }
+
+        pub const ALL: &[(&str, Fault)] = &[$((stringify!($name), Fault::$name)),*];
+    };
+}
+
+faults! {
+    SlashMayBeFirst
+    DuplicatesUnseen
+    KindRuleBeforeDuplicates
+    DefaultRuleRestartsAtSlash
+    DefaultRulePassesStar
+    SlashAfterStarAllowed
+    StarNotFollowedAtOnce
+    StarLastUnseen
+    PositionalOnlyCountsMarks
+    ArgsNoneAtFlatCount
+    NoModesWritten
+    ModesOfMarksWritten
+    RefusedListWritesModes
+    ModeBufferByFlatCount
+    RepeatedBeforeNamedAfterStar
+    RepeatedAtArgumentSpan
+    StarAfterStarStarAllowed
+    StarPlaceFromOne
+    Index2IsTarget
+    EmptyTupleNoTarget
+    LeavesInsideIndexCounted
+    ModifyListAllowed
+    InvalidLhsBeforeModify
+    TypeOnListAllowed
+    TypesDisabledUnseen
+    DotTypeAnywhere
+    DotTypeAtDot
+    IndexOfPath
+    IndexReadAsArgument
+    ListOfOneIsUnion
+    NestedArgumentListAsType
+    ShapeOfIndexBaseWritten
+    UnionShapeIsTuple
+    ShapesWrittenWhenRefused
+    RefusedForEntered
+    DefBodyKeepsFor
+    RefusedDefNotEntered
+    NestedStatementsNotTop
+    LoadOffHidesNotAtTop
+    SlashErrorsBeforeStarErrors
+    LambdaBeforeItsNumber
+    RefusedStatementsHideExpressions
+    DefaultsNotVisited
+    HalfErrorStored
+    TotalCappedByList
+    ParseOnlyRefusesEllipsis
+    LongNameAllowed
+    NameEndWraps
+    ReservedBytesUnchecked
+    EvenDictUnchecked
+    ChildBeforeParentUnsound
+    DepthOneMore
+    DepthBeforeUnsound
+    LastNodeRefused
+    EmptyDialectAllOptions
+    DialectByteTwoAllowed
+    NameEndPastLimitAllowed
+    RootNeedNotCover
+    NameByteChanged
+    SumFactorFromZero
+    NumberBeforeCheck
+    PaddingUnchecked
+    LeftOverAllowed
+    DialectBeforeTable
+    NoNameStillBlock
+}
+
+#[cfg(feature = "faults")]
+pub fn planted(fault: Fault) -> bool {
+    use std::sync::OnceLock;
+    static CHOSEN: OnceLock<Option<Fault>> = OnceLock::new();
+    *CHOSEN.get_or_init(chosen) == Some(fault)
+}
+
+#[cfg(feature = "faults")]
+fn chosen() -> Option<Fault> {
+    let name = std::env::var("ORACLE_FAULT").ok().filter(|name| !name.is_empty())?;
+    let found = ALL.iter().find(|(known, _)| *known == name);
+    Some(found.unwrap_or_else(|| panic!("no fault is called {name}")).1)
+}
+
+#[cfg(not(feature = "faults"))]
+pub const fn planted(_fault: Fault) -> bool {
+    false
+}

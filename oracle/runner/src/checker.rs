@@ -1,0 +1,340 @@
+//! One job on all sides: the archive, the model, and the crate where the table is a tree of its own.
+
+use std::fmt::Write;
+
+use judge::dialects;
+use judge::run;
+use judge::run::own_spans;
+use judge::trees::Built;
+use judge::trees::NotATree;
+use model::answer::Answer;
+use model::jobs;
+use model::module;
+use model::module::Listed;
+use model::numbers::number;
+use model::table::Class;
+use model::table::Table;
+
+use crate::cut;
+use crate::port::Effect;
+use crate::port::Job;
+use crate::port::Request;
+use crate::port::FILE;
+use crate::port::IN_ARCHIVE;
+use crate::port::JOBS;
+use crate::port::NAMES;
+use crate::record::Recorder;
+
+/// How often the crate is asked once more with the table's own spans.
+const OWN_SPANS_ONCE_IN: u64 = 16;
+
+/// One more than the greatest number.
+pub const NUMBERS: usize = 76;
+
+/// What has been run and seen.
+#[derive(Clone, Debug)]
+pub struct Tally {
+    pub jobs: u64,
+    /// Jobs that the crate has judged too.
+    pub by_crate: u64,
+    /// Jobs refused with 1 to 7, which the crate does not have.
+    pub refused: u64,
+    /// Comparisons that are no jobs: of the model with the document, with demand 3, with the crate's constants.
+    pub others: u64,
+    pub differences: u64,
+    /// How often each number was given, as an answer or in a list of errors.
+    pub given: [u64; NUMBERS],
+    /// Where the archive does not do as the model, or the model not as the crate.
+    pub first: Option<String>,
+}
+
+impl Default for Tally {
+    fn default() -> Tally {
+        Tally { jobs: 0, by_crate: 0, refused: 0, others: 0, differences: 0, given: [0; NUMBERS], first: None }
+    }
+}
+
+impl Tally {
+    pub fn add(&mut self, other: Tally) {
+        self.jobs += other.jobs;
+        self.by_crate += other.by_crate;
+        self.refused += other.refused;
+        self.others += other.others;
+        self.differences += other.differences;
+        self.given.iter_mut().zip(other.given).for_each(|(given, more)| *given += more);
+        if self.first.is_none() {
+            self.first = other.first;
+        }
+    }
+
+    /// Jobs on sound tables that no tree of the crate can be, and soundness itself.
+    pub fn by_model_alone(&self) -> u64 {
+        self.jobs - self.by_crate - self.refused
+    }
+}
+
+pub struct Checker {
+    pub tally: Tally,
+    wanted: [bool; JOBS],
+    stop_at_first: bool,
+    /// The table and the names as they were before the job.
+    kept: Vec<u8>,
+    pub recorder: Option<Recorder>,
+}
+
+impl Checker {
+    pub fn new(wanted: [bool; JOBS], stop_at_first: bool, recorder: Option<Recorder>) -> Checker {
+        Checker { tally: Tally::default(), wanted, stop_at_first, kept: Vec::new(), recorder }
+    }
+
+    /// Whether nothing more needs to be run.
+    pub fn is_done(&self) -> bool {
+        self.stop_at_first && self.tally.differences > 0
+    }
+
+    pub fn wants(&self, job: &Job) -> bool {
+        self.wants_job(job.index())
+    }
+
+    pub fn wants_job(&self, index: usize) -> bool {
+        self.wanted[index] && !self.is_done()
+    }
+
+    /// Runs one job and compares.
+    pub fn check(&mut self, request: &Request) {
+        if self.wants(&request.job) {
+            let model = model_answer(request);
+            let judged = or_stop(request, || judged(request, &model));
+            self.compare(request, &model, judged);
+        }
+    }
+
+    /// The crate once more, on a tree that has the table's spans instead of marks: its errors have them too.
+    fn check_own_spans(&mut self, request: &Request, model: &Answer) {
+        let Ok(mut of_crate) = or_stop(request, || with_own_spans(request)) else { return };
+        let mut of_model = match (model.number, model.words.as_slice()) {
+            (0, _) => model.errors.clone(),
+            (number, [_, begin, end]) => vec![[number, *begin, *end]],
+            (_, words) => panic!("a refusal of the crate has a node and a span, not {words:?}"),
+        };
+        of_crate.sort();
+        of_model.sort();
+        self.note(of_crate == of_model, || {
+            format!("with own spans the crate gives {of_crate:?}, the model {of_model:?}: {}", hex(request.table))
+        });
+    }
+
+    /// A parameter list, which demand 3 must answer too.
+    pub fn check_list(&mut self, request: &Request) {
+        self.check(request);
+        if let (Job::Params { node, .. }, true) = (request.job, self.wants(&request.job)) {
+            let answer = model_answer(request);
+            let table = Table::check(request.table, request.names).expect("the generated tables are sound");
+            let nodes: Vec<usize> = table.children_of(node, Class::Parameter).collect();
+            let agrees = cut::agrees(&module::entries(&table, &nodes), &answer);
+            self.note(agrees || is_ours(answer.number), || {
+                format!("demand 3 says otherwise than {answer:?} of {}", hex(request.table))
+            });
+        }
+    }
+
+    /// The module pass on one table under many dialects: its tree is built once.
+    pub fn check_dialects<'a>(
+        &mut self,
+        table: &[u8],
+        names: &[u8],
+        dialects: impl Iterator<Item = (&'a [u8], usize)>,
+    ) {
+        let checked = Table::check(table, names).expect("the generated tables are sound");
+        let tree = run::Module::of(&checked);
+        for (dialect, errors) in dialects {
+            let request = Request { table, names, job: Job::Module { dialect, errors } };
+            if self.wants(&request.job) {
+                let model = model_answer(&request);
+                let judged = match &tree {
+                    Ok(tree) if !is_ours(model.number) => {
+                        or_stop(&request, || Ok(listed(&checked, tree, dialect)))
+                    }
+                    _ => Err(NotATree),
+                };
+                self.compare(&request, &model, judged);
+            }
+        }
+    }
+
+    fn count_numbers(&mut self, answer: &Answer) {
+        self.tally.given[answer.number as usize] += 1;
+        for error in &answer.errors {
+            self.tally.given[error[0] as usize] += 1;
+        }
+    }
+
+    fn compare(&mut self, request: &Request, model: &Answer, judged: Built<Answer>) {
+        self.tally.jobs += 1;
+        self.count_numbers(model);
+        self.tally.refused += u64::from(is_ours(model.number));
+        let before = Effect::before(&request.job);
+        let expected = before.after(model);
+        let mut effect = before;
+        self.keep_inputs(request);
+        effect.run(request);
+        let mut differs = effect != expected || !self.inputs_are_kept(request);
+        // Never more errors than twice the records.
+        differs |= model.errors.len() > request.table.len() / 12;
+        if let Ok(judged) = &judged {
+            self.tally.by_crate += 1;
+            differs |= judged != model;
+            if self.tally.by_crate % OWN_SPANS_ONCE_IN == 0 {
+                self.check_own_spans(request, model);
+            }
+        }
+        if differs {
+            self.difference(request, &effect, &expected, judged);
+        } else if let Some(recorder) = &mut self.recorder {
+            recorder.offer(request, model);
+        }
+    }
+
+    fn keep_inputs(&mut self, request: &Request) {
+        self.kept.clear();
+        self.kept.extend_from_slice(request.table);
+        self.kept.extend_from_slice(request.names);
+    }
+
+    /// What is only lent to be read must be as it was.
+    fn inputs_are_kept(&self, request: &Request) -> bool {
+        let (table, names) = self.kept.split_at(request.table.len());
+        table == request.table && names == request.names
+    }
+
+    fn difference(&mut self, request: &Request, effect: &Effect, expected: &Effect, judged: Built<Answer>) {
+        self.tally.differences += 1;
+        if self.tally.first.is_some() {
+            return;
+        }
+        let judged = match judged {
+            Ok(answer) => Effect::before(&request.job).after(&answer).to_string(),
+            Err(NotATree) => "not asked".to_owned(),
+        };
+        let mut text = String::new();
+        let mut line = |what: &str, value: &dyn std::fmt::Display| {
+            writeln!(text, "    {what}: {value}").expect("a String can be written");
+        };
+        line("job", &format_args!("{} {:?}", NAMES[request.job.index()], request.job));
+        let (table, names) = self.kept.split_at(request.table.len());
+        line("table", &hex(table));
+        line("names", &hex(names));
+        if !self.inputs_are_kept(request) {
+            line("changed by the archive", &format_args!("{} {}", hex(request.table), hex(request.names)));
+        }
+        line("archive", effect);
+        line("model", expected);
+        line("crate", &judged);
+        self.tally.first = Some(text);
+    }
+
+    /// Runs one job whose answer document 01 gives by itself: its number, and where it says so, its words.
+    pub fn expect(&mut self, request: &Request, number: u32, words: Option<&[u32]>) {
+        if self.wants(&request.job) {
+            let answer = model_answer(request);
+            let equal = answer.number == number && words.is_none_or(|words| answer.words == words);
+            let table = hex(request.table);
+            self.note(equal, || format!("the model answers {answer:?}, the document {number} {words:?}: {table}"));
+            self.check(request);
+        }
+    }
+
+    /// A run of the program, which refused with this number or (0) did not.
+    pub fn program_run(&mut self, number: u32, equal: bool, what: impl FnOnce() -> String) {
+        self.tally.jobs += 1;
+        self.tally.given[number as usize] += 1;
+        self.difference_unless(equal, what);
+    }
+
+    /// A comparison that is no job.
+    pub fn note(&mut self, equal: bool, what: impl FnOnce() -> String) {
+        self.tally.others += 1;
+        self.difference_unless(equal, what);
+    }
+
+    fn difference_unless(&mut self, equal: bool, what: impl FnOnce() -> String) {
+        if !equal {
+            self.tally.differences += 1;
+            self.tally.first.get_or_insert_with(|| format!("    {}\n", what()));
+        }
+    }
+}
+
+/// What stops the run (a message that is not known, an internal error) is said with the input that did it.
+fn or_stop<T>(request: &Request, judge: impl FnOnce() -> T) -> T {
+    std::panic::catch_unwind(std::panic::AssertUnwindSafe(judge)).unwrap_or_else(|_| {
+        let Request { table, names, job } = request;
+        eprintln!("compare: stopped at {job:?}\n    table: {}\n    names: {}", hex(table), hex(names));
+        std::process::exit(2)
+    })
+}
+
+/// Numbers that document 01 adds: the crate has no tables, no nodes and no lent buffers.
+fn is_ours(number: u32) -> bool {
+    (number::TABLE_LENGTH..=number::SHORT_BUFFER).contains(&number)
+}
+
+fn hex(bytes: &[u8]) -> String {
+    bytes.iter().map(|byte| format!("{byte:02x}")).collect()
+}
+
+fn model_answer(request: &Request) -> Answer {
+    let Request { table, names, job } = *request;
+    match job {
+        Job::Table => jobs::table(table, names),
+        Job::Params { node, modes } => jobs::params(table, names, node, modes),
+        Job::Call { node } => jobs::call(table, names, node),
+        Job::Target { node } => jobs::target(table, names, node),
+        Job::Assignment { node } => jobs::assignment(table, names, node),
+        Job::Type { dialect, node, shapes } => jobs::type_shape(table, names, dialect, node, shapes),
+        Job::Module { dialect, .. } => jobs::module(table, names, dialect),
+    }
+}
+
+/// The crate's answer, where the model has not refused with a number that the crate does not have.
+fn judged(request: &Request, model: &Answer) -> Built<Answer> {
+    if is_ours(model.number) {
+        return Err(NotATree);
+    }
+    let table = Table::check(request.table, request.names).map_err(|_| NotATree)?;
+    match request.job {
+        Job::Table => Err(NotATree),
+        Job::Params { node, .. } => run::params(&table, node),
+        Job::Call { node } => run::call(&table, node),
+        Job::Target { node } => run::target(&table, node),
+        Job::Assignment { node } => run::assignment(&table, node),
+        Job::Type { dialect, node, .. } => run::type_shape(&table, node, &dialects::from_bytes(dialect)),
+        Job::Module { dialect, .. } => Ok(listed(&table, &run::Module::of(&table)?, dialect)),
+    }
+}
+
+fn with_own_spans(request: &Request) -> Built<Vec<[u32; 3]>> {
+    let table = Table::check(request.table, request.names).map_err(|_| NotATree)?;
+    match request.job {
+        Job::Table => Err(NotATree),
+        Job::Params { node, .. } => own_spans::params(&table, node),
+        Job::Call { node } => own_spans::call(&table, node),
+        Job::Target { node } => own_spans::target(&table, node),
+        Job::Assignment { node } => own_spans::assignment(&table, node),
+        Job::Type { dialect, node, .. } => {
+            own_spans::type_shape(&table, node, &dialects::from_bytes(dialect))
+        }
+        Job::Module { dialect, .. } => own_spans::module(&table, &dialects::from_bytes(dialect)),
+    }
+}
+
+fn listed(table: &Table, tree: &run::Module, dialect: &[u8]) -> Answer {
+    let listed: Listed = tree.validate(&dialects::from_bytes(dialect));
+    jobs::listed_answer(table, &listed)
+}
+
+/// The jobs that the archive lacks among those wanted.
+pub fn missing(wanted: &[bool; JOBS]) -> Vec<&'static str> {
+    let lacks = |&at: &usize| wanted[at] && !IN_ARCHIVE[at];
+    (0..FILE).filter(lacks).map(|at| NAMES[at]).collect()
+}

@@ -1,0 +1,215 @@
+//! Each boundary on both sides, and inputs that are wrong in several ways at once.
+
+use model::numbers::kind;
+use model::table::Record;
+use model::table::MOST_NAME_BYTES;
+use model::table::MOST_NODES;
+use model::table::MOST_POSITION;
+
+use super::write_fitting;
+use super::Plan;
+use crate::cells::Cells;
+use crate::cells::Encoded;
+use crate::cells::PLAIN;
+use crate::checker::Checker;
+use crate::grow;
+use crate::port::Job;
+use crate::port::Request;
+use crate::rng::Rng;
+
+pub fn boundaries(checker: &mut Checker, plan: &Plan) {
+    let mut rng = plan.rng(13);
+    table_lengths(checker);
+    name_bytes(checker);
+    name_fields(checker);
+    positions(checker);
+    nodes_and_buffers(checker, &mut rng);
+    error_lists(checker);
+    wrong_in_several_ways(checker);
+}
+
+/// A root Statements with so many records in all.
+fn flat_table(records: usize) -> Vec<u8> {
+    let mut cells = Cells::default();
+    cells.tree(kind::STATEMENTS, 0, 0, |cells| (1..records).for_each(|_| cells.leaf(kind::BREAK, 0, 0)));
+    let mut encoded = Encoded::default();
+    encoded.write(&cells, &PLAIN);
+    encoded.table
+}
+
+fn table_lengths(checker: &mut Checker) {
+    for records in [1, 2, MOST_NODES - 1, MOST_NODES, MOST_NODES + 1, 2 * MOST_NODES] {
+        let whole = flat_table(records);
+        for table in [&whole[..], &whole[..whole.len() - 1], &whole[..whole.len() - 24]] {
+            all_jobs_at(checker, table, &[], &[], 0, 10_000);
+        }
+        let longer = [&whole[..], &[0]].concat();
+        all_jobs_at(checker, &longer, &[], &[], 0, 10_000);
+    }
+}
+
+/// Every job at one node, with buffers of one length.
+fn all_jobs_at(checker: &mut Checker, table: &[u8], names: &[u8], dialect: &[u8], node: usize, room: usize) {
+    let jobs = [
+        Job::Table,
+        Job::Params { node, modes: room },
+        Job::Call { node },
+        Job::Target { node },
+        Job::Assignment { node },
+        Job::Type { dialect, node, shapes: room },
+        Job::Module { dialect, errors: room },
+    ];
+    for job in jobs {
+        checker.check(&Request { table, names, job });
+    }
+}
+
+fn name_bytes(checker: &mut Checker) {
+    let table = flat_table(3);
+    for length in [0, 1, MOST_NAME_BYTES - 1, MOST_NAME_BYTES, MOST_NAME_BYTES + 1, 70_000] {
+        all_jobs_at(checker, &table, &vec![b'n'; length], &[], 0, 10);
+    }
+}
+
+/// A table that holds one record of each kind with a name, and the nodes where they stand.
+fn named_records() -> (Cells, Vec<usize>) {
+    let mut cells = Cells::default();
+    cells.tree(kind::SIMPLE, 0, 0, |cells| {
+        cells.tree(kind::CALL, 0, 0, |cells| {
+            cells.tree(kind::DOT, 0, 0, |cells| cells.leaf(kind::IDENTIFIER, 0, 1));
+            cells.tree(kind::NAMED, 0, 2, |cells| {
+                cells.tree(kind::LAMBDA, 0, 0, |cells| {
+                    cells.leaf(kind::NORMAL, 0, 3);
+                    cells.leaf(kind::ARGS, 0, 4);
+                    cells.leaf(kind::KWARGS, 0, 5);
+                    cells.leaf(kind::INT, 0, 0);
+                })
+            });
+        })
+    });
+    let nodes = (0..cells.all.len()).collect();
+    (cells, nodes)
+}
+
+/// Changes a record of that table in some way, and runs every job.
+fn with_changed_record(checker: &mut Checker, names: &[u8], change: impl Fn(&mut Record)) {
+    let (cells, nodes) = named_records();
+    let mut encoded = Encoded::default();
+    encoded.write(&cells, &PLAIN);
+    for &node in &nodes {
+        let mut table = encoded.table.clone();
+        let bytes = &mut table[24 * node..24 * node + 24];
+        let mut record = Record::read(bytes);
+        change(&mut record);
+        bytes.copy_from_slice(&record.write());
+        (0..nodes.len()).for_each(|asked| all_jobs_at(checker, &table, names, &[], asked, 40));
+    }
+}
+
+fn name_fields(checker: &mut Checker) {
+    let names = vec![b'q'; 300];
+    for length in [0, 1, 254, 255, 256, 300, 65_535] {
+        for start in [0, 1, 44, 45, 46, 299, 300, 301, u32::MAX, u32::MAX - 254, u32::MAX - 255] {
+            with_changed_record(checker, &names, |record| {
+                record.name_len = length;
+                record.name_start = start;
+            });
+        }
+    }
+}
+
+fn positions(checker: &mut Checker) {
+    let names = vec![b'q'; 300];
+    let ends = [0, 1, MOST_POSITION - 1, MOST_POSITION, MOST_POSITION + 1, u32::MAX];
+    for begin in ends {
+        for end in ends {
+            with_changed_record(checker, &names, |record| {
+                record.begin = begin;
+                record.end = end;
+            });
+        }
+    }
+    for source in [0, 1, MOST_POSITION - 2, MOST_POSITION - 1, MOST_POSITION, MOST_POSITION + 1, u32::MAX] {
+        with_changed_record(checker, &names, |record| record.source = source);
+    }
+}
+
+/// The last node and the one after it; buffers just long enough and one short.
+fn nodes_and_buffers(checker: &mut Checker, rng: &mut Rng) {
+    let mut encoded = Encoded::default();
+    for _ in 0..300 {
+        let cells = grow::module(rng, true);
+        write_fitting(&mut encoded, &cells, &PLAIN);
+        let count = cells.all.len();
+        let on = [1, 1, 1, 1, 1, 2, 1, 1, 1];
+        for node in [0, count - 1, count, count + 1, 1 << 16, 1 << 32, usize::MAX / 24, usize::MAX] {
+            all_jobs_at(checker, &encoded.table, &encoded.names, &on, node, count);
+        }
+        for (node, cell) in cells.all.iter().enumerate() {
+            let written = cells.written_parameters(node);
+            for room in [usize::from(cell.size) - 1, usize::from(cell.size), written.max(1) - 1, written] {
+                all_jobs_at(checker, &encoded.table, &encoded.names, &on, node, room);
+            }
+        }
+    }
+}
+
+/// Lists from no word to more than enough, for modules of few errors and of the most there can be.
+fn error_lists(checker: &mut Checker) {
+    let misplaced = flat_table(7);
+    for errors in 0..=24 {
+        checker.check(&Request { table: &misplaced, names: &[], job: Job::Module { dialect: &[], errors } });
+    }
+    let full = flat_table(MOST_NODES);
+    let total = 3 * (MOST_NODES - 1);
+    for errors in [0, 1, 2, 3, total - 4, total - 3, total - 1, total, total + 1, 6 * MOST_NODES] {
+        checker.check(&Request { table: &full, names: &[], job: Job::Module { dialect: &[], errors } });
+    }
+}
+
+/// All combinations of the seven things that can be wrong before a job begins: the first number counts.
+fn wrong_in_several_ways(checker: &mut Checker) {
+    let mut cells = Cells::default();
+    // Node 1 is a Def, node 2 its parameter, node 5 a Call, node 6 its callee.
+    cells.tree(kind::STATEMENTS, 0, 0, |cells| {
+        cells.tree(kind::DEF, 0, 0, |cells| {
+            cells.leaf(kind::NORMAL, 0, 0);
+            cells.leaf(kind::BREAK, 0, 0);
+        });
+        cells.tree(kind::ASSIGN, 0, 0, |cells| {
+            cells.leaf(kind::IDENTIFIER, 0, 1);
+            cells.tree(kind::CALL, 0, 0, |cells| cells.leaf(kind::IDENTIFIER, 0, 2));
+        });
+    });
+    let shallow = cells.clone();
+    cells.clear();
+    cells.tree(kind::STATEMENTS, 0, 0, |cells| {
+        cells.append(&shallow.all[1..]);
+        cells.tree(kind::SIMPLE, 0, 0, |cells| {
+            let opened: Vec<usize> = (0..70).map(|_| cells.open(kind::NOT, 0, 0)).collect();
+            cells.leaf(kind::INT, 0, 0);
+            opened.into_iter().rev().for_each(|at| cells.close(at));
+        });
+    });
+    for wrong in 0..128u32 {
+        let is = |bit: u32| wrong >> bit & 1 == 1;
+        let mut encoded = Encoded::default();
+        encoded.write(if is(3) { &cells } else { &shallow }, &PLAIN);
+        if is(2) {
+            let last = encoded.table.len() - 24;
+            encoded.table[last + 18] = 1;
+        }
+        if is(0) {
+            encoded.table.push(0);
+        }
+        if is(1) {
+            encoded.names.resize(MOST_NAME_BYTES + 1, b'n');
+        }
+        let dialect: &[u8] = if is(4) { &[1; 8] } else { &[1, 1, 1, 1, 1, 1, 1, 1, 1] };
+        let room = if is(6) { 0 } else { 9 };
+        for node in 0..8 {
+            let node = if is(5) { node + 1_000 } else { node };
+            all_jobs_at(checker, &encoded.table, &encoded.names, dialect, node, room);
+        }
+    }
+}

@@ -1,0 +1,233 @@
+//! The archive's C interface, called with lent buffers that have a pattern, and guards on both sides.
+
+use std::fmt;
+
+use model::answer::Answer;
+
+/// One of the interface's functions with its arguments beside the table and the names.
+#[derive(Clone, Copy, Debug)]
+pub enum Job<'a> {
+    Table,
+    Params { node: usize, modes: usize },
+    Call { node: usize },
+    Target { node: usize },
+    Assignment { node: usize },
+    Type { dialect: &'a [u8], node: usize, shapes: usize },
+    Module { dialect: &'a [u8], errors: usize },
+}
+
+/// How many jobs there are: those of the interface, and the program's.
+pub const JOBS: usize = 8;
+
+/// The jobs by the names that the command line knows.
+pub const NAMES: [&str; JOBS] =
+    ["table", "params", "call", "target", "assignment", "type", "module", "file"];
+
+/// The program's job, whose place in `NAMES` is last.
+pub const FILE: usize = 7;
+
+impl Job<'_> {
+    /// The job's place in `NAMES`.
+    pub fn index(&self) -> usize {
+        match self {
+            Job::Table => 0,
+            Job::Params { .. } => 1,
+            Job::Call { .. } => 2,
+            Job::Target { .. } => 3,
+            Job::Assignment { .. } => 4,
+            Job::Type { .. } => 5,
+            Job::Module { .. } => 6,
+        }
+    }
+}
+
+/// Whether the archive has a job's function. The file is the program's, not the archive's.
+pub const IN_ARCHIVE: [bool; FILE] = [
+    cfg!(has_starlark_table),
+    cfg!(has_starlark_params),
+    cfg!(has_starlark_call),
+    cfg!(has_starlark_target),
+    cfg!(has_starlark_assignment),
+    cfg!(has_starlark_type),
+    cfg!(has_starlark_module),
+];
+
+#[derive(Clone, Copy)]
+pub struct Request<'a> {
+    pub table: &'a [u8],
+    pub names: &'a [u8],
+    pub job: Job<'a>,
+}
+
+type Words = [u32; 12];
+
+extern "C" {
+    #[cfg(has_starlark_table)]
+    fn starlark_table(t: *const u8, tl: usize, n: *const u8, nl: usize, out: *mut Words) -> u32;
+    #[cfg(has_starlark_params)]
+    fn starlark_params(
+        t: *const u8,
+        tl: usize,
+        n: *const u8,
+        nl: usize,
+        node: usize,
+        modes: *mut u8,
+        modes_len: usize,
+        out: *mut Words,
+    ) -> u32;
+    #[cfg(has_starlark_call)]
+    fn starlark_call(t: *const u8, tl: usize, n: *const u8, nl: usize, node: usize, out: *mut Words) -> u32;
+    #[cfg(has_starlark_target)]
+    fn starlark_target(t: *const u8, tl: usize, n: *const u8, nl: usize, node: usize, out: *mut Words) -> u32;
+    #[cfg(has_starlark_assignment)]
+    fn starlark_assignment(t: *const u8, tl: usize, n: *const u8, nl: usize, node: usize, out: *mut Words)
+        -> u32;
+    #[cfg(has_starlark_type)]
+    fn starlark_type(
+        t: *const u8,
+        tl: usize,
+        n: *const u8,
+        nl: usize,
+        dialect: *const u8,
+        dialect_len: usize,
+        node: usize,
+        shapes: *mut u8,
+        shapes_len: usize,
+        out: *mut Words,
+    ) -> u32;
+    #[cfg(has_starlark_module)]
+    fn starlark_module(
+        t: *const u8,
+        tl: usize,
+        n: *const u8,
+        nl: usize,
+        dialect: *const u8,
+        dialect_len: usize,
+        errors: *mut u32,
+        errors_len: usize,
+        out: *mut Words,
+    ) -> u32;
+}
+
+const GUARD: usize = 8;
+
+/// Everything that a job may change, guards included: the answer's number, `out`, and the lent buffer.
+#[derive(Clone, Debug, PartialEq, Eq)]
+pub struct Effect {
+    pub number: u32,
+    pub out: [u32; 12 + 2 * GUARD],
+    pub bytes: Vec<u8>,
+    pub words: Vec<u32>,
+}
+
+/// No mode, no shape and no length is like it.
+fn byte_pattern(at: usize) -> u8 {
+    0x80 | (at.wrapping_mul(37) % 113) as u8
+}
+
+fn word_pattern(at: usize) -> u32 {
+    0xa500_0000 | at as u32
+}
+
+impl Effect {
+    /// The lent memory before the job.
+    pub fn before(job: &Job) -> Effect {
+        let (bytes, words) = match *job {
+            Job::Params { modes, .. } => (modes, 0),
+            Job::Type { shapes, .. } => (shapes, 0),
+            Job::Module { errors, .. } => (0, errors),
+            _ => (0, 0),
+        };
+        Effect {
+            number: 0,
+            out: std::array::from_fn(word_pattern),
+            bytes: (0..bytes + 2 * GUARD).map(byte_pattern).collect(),
+            words: (0..words + 2 * GUARD).map(word_pattern).collect(),
+        }
+    }
+
+    /// What an answer makes of it.
+    pub fn after(&self, answer: &Answer) -> Effect {
+        let mut effect = self.clone();
+        effect.number = answer.number;
+        answer.write_words(effect.out());
+        answer.write_bytes(effect.lent_bytes());
+        answer.write_errors(effect.lent_words());
+        effect
+    }
+
+    fn out(&mut self) -> &mut Words {
+        (&mut self.out[GUARD..GUARD + 12]).try_into().expect("twelve words")
+    }
+
+    fn lent_bytes(&mut self) -> &mut [u8] {
+        let end = self.bytes.len() - GUARD;
+        &mut self.bytes[GUARD..end]
+    }
+
+    fn lent_words(&mut self) -> &mut [u32] {
+        let end = self.words.len() - GUARD;
+        &mut self.words[GUARD..end]
+    }
+
+    /// The archive's function on this memory.
+    #[allow(unused_variables)]
+    pub fn run(&mut self, request: &Request) {
+        let (t, tl) = (request.table.as_ptr(), request.table.len());
+        let (n, nl) = (request.names.as_ptr(), request.names.len());
+        let out: *mut Words = self.out();
+        let (bytes, bytes_len) = (self.lent_bytes().as_mut_ptr(), self.lent_bytes().len());
+        let (words, words_len) = (self.lent_words().as_mut_ptr(), self.lent_words().len());
+        // Each pointer is to memory of the length given beside it, and no two of them overlap.
+        self.number = unsafe {
+            match request.job {
+                #[cfg(has_starlark_table)]
+                Job::Table => starlark_table(t, tl, n, nl, out),
+                #[cfg(has_starlark_params)]
+                Job::Params { node, .. } => starlark_params(t, tl, n, nl, node, bytes, bytes_len, out),
+                #[cfg(has_starlark_call)]
+                Job::Call { node } => starlark_call(t, tl, n, nl, node, out),
+                #[cfg(has_starlark_target)]
+                Job::Target { node } => starlark_target(t, tl, n, nl, node, out),
+                #[cfg(has_starlark_assignment)]
+                Job::Assignment { node } => starlark_assignment(t, tl, n, nl, node, out),
+                #[cfg(has_starlark_type)]
+                Job::Type { dialect, node, .. } => {
+                    let (d, dl) = (dialect.as_ptr(), dialect.len());
+                    starlark_type(t, tl, n, nl, d, dl, node, bytes, bytes_len, out)
+                }
+                #[cfg(has_starlark_module)]
+                Job::Module { dialect, .. } => {
+                    let (d, dl) = (dialect.as_ptr(), dialect.len());
+                    starlark_module(t, tl, n, nl, d, dl, words, words_len, out)
+                }
+                #[allow(unreachable_patterns)]
+                _ => panic!("the archive lacks the job {}", NAMES[request.job.index()]),
+            }
+        };
+    }
+}
+
+/// The effect in words, for the report of a difference. A word or byte that stayed is shown as a dot.
+impl fmt::Display for Effect {
+    fn fmt(&self, f: &mut fmt::Formatter<'_>) -> fmt::Result {
+        let word = |(at, word): (usize, &u32)| match *word == word_pattern(at) {
+            true => ".".to_owned(),
+            false => word.to_string(),
+        };
+        let byte = |(at, byte): (usize, &u8)| match *byte == byte_pattern(at) {
+            true => ".".to_owned(),
+            false => byte.to_string(),
+        };
+        let joined = |parts: Vec<String>| parts.join(" ");
+        write!(f, "number {}, out [{}]", self.number, joined(self.out.iter().enumerate().map(word).collect()))?;
+        if self.bytes.len() > 2 * GUARD {
+            write!(f, ", buffer [{}]", joined(self.bytes.iter().enumerate().map(byte).collect()))?;
+        }
+        if self.words.len() > 2 * GUARD {
+            let shown = self.words.iter().enumerate().take(GUARD + 60).map(word).collect();
+            write!(f, ", errors [{}]", joined(shown))?;
+        }
+        Ok(())
+    }
+}

@@ -1,0 +1,85 @@
+//! A sample of the answers, for programs that replay them without the crate at hand.
+//!
+//! Each request is a head of 20 bytes, then table, names and dialect, then what the answer made of the lent
+//! memory: the words of `out` that it wrote, and the whole buffer, which was filled with `FILL` before.
+
+use std::collections::HashMap;
+
+use model::answer::Answer;
+
+use crate::port::Job;
+use crate::port::Request;
+
+const FILL: u8 = 0xee;
+const FILL_WORD: u32 = u32::from_le_bytes([FILL; 4]);
+
+/// So many of each job and number from each part of a family.
+const OF_EACH: u32 = 3;
+const MOST_TABLE_BYTES: usize = 40 * 24;
+const MOST_NAME_BYTES: usize = 300;
+const MOST_ROOM: usize = 150;
+
+#[derive(Default)]
+pub struct Recorder {
+    pub bytes: Vec<u8>,
+    pub requests: u64,
+    kept: HashMap<(usize, u32), u32>,
+}
+
+impl Recorder {
+    /// Keeps the request if it is small and enough of its like are not kept yet.
+    pub fn offer(&mut self, request: &Request, answer: &Answer) {
+        let (dialect, node, room) = arguments(&request.job);
+        let is_small = request.table.len() <= MOST_TABLE_BYTES
+            && request.names.len() <= MOST_NAME_BYTES
+            && room <= MOST_ROOM
+            && u32::try_from(node).is_ok();
+        if !is_small {
+            return;
+        }
+        let first_error = answer.errors.first().map_or(0, |error| error[0]);
+        let kept = self.kept.entry((request.job.index(), answer.number.max(first_error))).or_default();
+        if *kept < OF_EACH {
+            *kept += 1;
+            self.requests += 1;
+            self.write(request, answer, dialect, node as u32, room);
+        }
+    }
+
+    fn write(&mut self, request: &Request, answer: &Answer, dialect: &[u8], node: u32, room: usize) {
+        let bytes = &mut self.bytes;
+        bytes.extend([request.job.index() as u8, dialect.len() as u8]);
+        for short in [request.table.len(), request.names.len(), room] {
+            bytes.extend((short as u16).to_le_bytes());
+        }
+        bytes.extend(node.to_le_bytes());
+        bytes.extend(answer.number.to_le_bytes());
+        bytes.extend((answer.words.len() as u32).to_le_bytes());
+        bytes.extend(request.table);
+        bytes.extend(request.names);
+        bytes.extend(dialect);
+        bytes.extend(answer.words.iter().flat_map(|word| word.to_le_bytes()));
+        bytes.extend(buffer_after(&request.job, room, answer));
+    }
+}
+
+fn arguments<'a>(job: &Job<'a>) -> (&'a [u8], usize, usize) {
+    match *job {
+        Job::Table => (&[], 0, 0),
+        Job::Params { node, modes } => (&[], node, modes),
+        Job::Call { node } | Job::Target { node } | Job::Assignment { node } => (&[], node, 0),
+        Job::Type { dialect, node, shapes } => (dialect, node, shapes),
+        Job::Module { dialect, errors } => (dialect, 0, errors),
+    }
+}
+
+fn buffer_after(job: &Job, room: usize, answer: &Answer) -> Vec<u8> {
+    if let Job::Module { .. } = job {
+        let mut words = vec![FILL_WORD; room];
+        answer.write_errors(&mut words);
+        return words.iter().flat_map(|word| word.to_le_bytes()).collect();
+    }
+    let mut bytes = vec![FILL; room];
+    answer.write_bytes(&mut bytes);
+    bytes
+}

@@ -1,0 +1,71 @@
+//! The table of what was run, and the first difference in full.
+
+use std::process::ExitCode;
+
+use crate::checker::Tally;
+use crate::families;
+use crate::options::Options;
+use crate::port::JOBS;
+
+pub fn print(options: &Options, tallies: &[Tally]) -> ExitCode {
+    let run = families::ALL.iter().zip(tallies).filter(|(family, _)| options.asks(family));
+    println!(
+        "{:<32} {:>11} {:>11} {:>11} {:>11} {:>11} {:>8}",
+        "family", "jobs", "crate", "model", "refused", "others", "differ"
+    );
+    let mut all = Tally::default();
+    for (family, tally) in run {
+        line(family.name, tally);
+        all.add(tally.clone());
+    }
+    line("all", &all);
+    if let Some((family, text)) = first(tallies) {
+        println!("first difference, in \"{family}\":");
+        print!("{text}");
+    }
+    let never = never_given(options, &all);
+    if !never.is_empty() {
+        println!("never given, so the run says nothing of them: {}", never.join(", "));
+    }
+    println!("compare: {} jobs, {} differences, seed {}", all.jobs, all.differences, options.seed);
+    ExitCode::from(u8::from(all.differences > 0 || (options.is_whole() && !never.is_empty())))
+}
+
+/// The numbers of the jobs asked for that no input has brought about.
+fn never_given(options: &Options, all: &Tally) -> Vec<String> {
+    let of_jobs = numbers_of_jobs().into_iter().zip(options.wanted).filter(|(_, wanted)| *wanted);
+    let file_is_run = options.program.is_some();
+    let asked = of_jobs.flat_map(|(numbers, _)| numbers).filter(|&number| number < 70 || file_is_run);
+    let mut never: Vec<usize> = asked.filter(|&number| all.given[number] == 0).collect();
+    never.sort();
+    never.dedup();
+    never.into_iter().map(|number| number.to_string()).collect()
+}
+
+/// What each job can answer, 0 among it.
+fn numbers_of_jobs() -> [Vec<usize>; JOBS] {
+    let with = |more: &[std::ops::RangeInclusive<usize>]| -> Vec<usize> {
+        (0..=4).chain(more.iter().cloned().flatten()).collect()
+    };
+    [
+        with(&[]),
+        with(&[6..=7, 10..=18]),
+        with(&[6..=6, 20..=24]),
+        with(&[6..=6, 30..=30]),
+        with(&[6..=6, 30..=33]),
+        with(&[5..=7, 40..=45]),
+        with(&[5..=5, 10..=18, 50..=61]),
+        with(&[5..=5, 70..=75]).into_iter().filter(|number| !(1..=2).contains(number)).collect(),
+    ]
+}
+
+fn line(name: &str, tally: &Tally) {
+    let Tally { jobs, by_crate, refused, others, differences, .. } = tally;
+    let model = tally.by_model_alone();
+    println!("{name:<32} {jobs:>11} {by_crate:>11} {model:>11} {refused:>11} {others:>11} {differences:>8}");
+}
+
+fn first(tallies: &[Tally]) -> Option<(&'static str, &str)> {
+    let named = families::ALL.iter().zip(tallies);
+    named.filter_map(|(family, tally)| Some((family.name, tally.first.as_deref()?))).next()
+}

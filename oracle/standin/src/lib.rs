@@ -1,0 +1,136 @@
+//! The C interface of the port, answered by the model: stands in for the proved archive until that is there,
+//! and takes planted faults.
+
+use model::answer::Answer;
+use model::jobs;
+use model::planted::planted;
+use model::planted::Fault;
+
+type Out = *mut [u32; 12];
+
+/// A lent slice, from its pointer and length. An empty one may have any pointer.
+unsafe fn lent<'a, T>(start: *const T, length: usize) -> &'a [T] {
+    if length == 0 { &[] } else { std::slice::from_raw_parts(start, length) }
+}
+
+unsafe fn lent_mut<'a, T>(start: *mut T, length: usize) -> &'a mut [T] {
+    if length == 0 { &mut [] } else { std::slice::from_raw_parts_mut(start, length) }
+}
+
+/// Writes the words of `out` and answers the number.
+unsafe fn give(answer: Answer, out: Out) -> u32 {
+    answer.write_words(&mut *out);
+    answer.number
+}
+
+/// Writes bytes into the lent buffer too.
+unsafe fn give_bytes(answer: Answer, buffer: &mut [u8], out: Out) -> u32 {
+    answer.write_bytes(buffer);
+    give(answer, out)
+}
+
+#[no_mangle]
+pub unsafe extern "C" fn starlark_table(
+    table: *const u8,
+    table_len: usize,
+    names: *const u8,
+    names_len: usize,
+    out: Out,
+) -> u32 {
+    give(jobs::table(lent(table, table_len), lent(names, names_len)), out)
+}
+
+#[no_mangle]
+pub unsafe extern "C" fn starlark_params(
+    table: *const u8,
+    table_len: usize,
+    names: *const u8,
+    names_len: usize,
+    node: usize,
+    modes: *mut u8,
+    modes_len: usize,
+    out: Out,
+) -> u32 {
+    let answer = jobs::params(lent(table, table_len), lent(names, names_len), node, modes_len);
+    give_bytes(answer, lent_mut(modes, modes_len), out)
+}
+
+/// The jobs that take a node and lend no buffer.
+macro_rules! node_jobs {
+    ($($symbol:ident $job:ident)*) => {
+        $(
+            #[no_mangle]
+            pub unsafe extern "C" fn $symbol(
+                table: *const u8,
+                table_len: usize,
+                names: *const u8,
+                names_len: usize,
+                node: usize,
+                out: Out,
+            ) -> u32 {
+                let answer = jobs::$job(lent(table, table_len), lent(names, names_len), node);
+                if planted(Fault::NameByteChanged) && names_len > 0 {
+                    *names.cast_mut() ^= 1;
+                }
+                give(answer, out)
+            }
+        )*
+    };
+}
+
+node_jobs! {
+    starlark_call call
+    starlark_target target
+    starlark_assignment assignment
+}
+
+#[no_mangle]
+pub unsafe extern "C" fn starlark_type(
+    table: *const u8,
+    table_len: usize,
+    names: *const u8,
+    names_len: usize,
+    dialect: *const u8,
+    dialect_len: usize,
+    node: usize,
+    shapes: *mut u8,
+    shapes_len: usize,
+    out: Out,
+) -> u32 {
+    let (table, names) = (lent(table, table_len), lent(names, names_len));
+    let answer = jobs::type_shape(table, names, lent(dialect, dialect_len), node, shapes_len);
+    give_bytes(answer, lent_mut(shapes, shapes_len), out)
+}
+
+#[no_mangle]
+pub unsafe extern "C" fn starlark_module(
+    table: *const u8,
+    table_len: usize,
+    names: *const u8,
+    names_len: usize,
+    dialect: *const u8,
+    dialect_len: usize,
+    errors: *mut u32,
+    errors_len: usize,
+    out: Out,
+) -> u32 {
+    let (table, names) = (lent(table, table_len), lent(names, names_len));
+    let mut answer = jobs::module(table, names, lent(dialect, dialect_len));
+    let list = lent_mut(errors, errors_len);
+    answer.write_errors(list);
+    if planted(Fault::HalfErrorStored) {
+        store_half_error(&answer, list);
+    }
+    if planted(Fault::TotalCappedByList) && answer.number == 0 {
+        answer.words[0] = answer.words[0].min(list.len() as u32 / 3);
+    }
+    give(answer, out)
+}
+
+/// The number of the error that does not fit whole, in the words that are left.
+fn store_half_error(answer: &Answer, list: &mut [u32]) {
+    let whole = list.len() / 3;
+    if let (Some(error), Some(place)) = (answer.errors.get(whole), list.get_mut(3 * whole)) {
+        *place = error[0];
+    }
+}

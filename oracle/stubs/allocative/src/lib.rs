@@ -1,0 +1,3 @@
+//! Stub: a derive that expands to nothing.
+
+pub use empty_derives::Allocative;
