@@ -126,7 +126,7 @@ short-end : (t : List ℕ) → length t < 24 → isListed t ≡ false
 unfolding isListed
 short-end t s = rw (lt-leb 24 (length t) s) refl
 
--- LAW: a written list is no longer than its stretch has records
+-- LAW: a written list is shorter than its node's stretch has records
 list-short : (ns : List ℕ) (i : ℕ) (t : List ℕ) → 24 * length (paramsIn ns (forest i t)) ≤ length t
 list-short ns =
     forest-induction (λ i t. 24 * length (paramsIn ns (forest i t)) ≤ length t)
@@ -137,7 +137,7 @@ list-short ns =
     go i t true e h = rw (list-on ns i t e refl, rest-part (spanOf t) t refl) (omega (arith, h, length-rest t, listed-long t e))
     go i t false e h = rw (list-end ns i t e) (omega arith)
 
-pub written-short : (ns : List ℕ) (i : ℕ) (t : List ℕ) → 24 * length (written ns i t) ≤ length t
+pub written-short : (ns : List ℕ) (i : ℕ) (t : List ℕ) → 24 * length (written ns i t) ≤ length t - 24
 unfolding written
 written-short ns i t = omega (arith, list-short ns (i + 1) (kidsOf t), length-kids t)
 
