@@ -1,0 +1,4 @@
+pub mod Lists
+pub mod Job
+pub mod Accepted
+pub mod Promises

@@ -1,0 +1,53 @@
+-- Two answers of the job, with the buffers they leave, that meet its promise coincide. Assumes nothing.
+use mathlib.Core.Path.{_≡_, refl, sym, ap, _∙_}
+use mathlib.Core.List.{List, [], _∷_}
+use Prim.Native.Nat.{ℕ, _+_}
+use native.Mathlib.Omega.{arith}
+use lib.ListN.{length, getD}
+use Rattle.fields.proofs.Coincide.{coincide, coincide-by}
+use Rattle.table.specs.Answer.{Answer, accepted, refused, refusal}
+use Rattle.table.proofs.Answers.{refusal-injective, never-accepted}
+use Rattle.unpack.specs.Indices.{placeRange, valuesOf}
+use Rattle.unpack.specs.declared.Place.{Place}
+use Rattle.unpack.specs.declared.Place.the-variants.{At, Nothing}
+use Rattle.unpack.specs.declared.DefParamIndices.{DefParamIndices}
+use Rattle.unpack.specs.declared.Counted.{Counted}
+use Rattle.parameters.specs.Params.{unpacked, paramsOf, modesAfter}
+use Rattle.parameters.specs.declared.Unpacked.{Unpacked}
+use Rattle.parameters.specs.declared.Unpacked.the-variants.{Accepted, Refused}
+
+-- a place is told by its range, and by what stands for none
+place-same : (p q : Place) (n m : ℕ) → n ≡ m → placeRange p n .from ≡ placeRange q m .from → placeRange p n .upto ≡ placeRange q m .upto → p ≡ q
+place-same (At i) (At j) n m h b e = ap At b
+place-same (At i) Nothing n m h b e = absurd (omega (arith, b, e))
+place-same Nothing (At j) n m h b e = absurd (omega (arith, b, e))
+place-same Nothing Nothing n m h b e = refl
+
+indices-same : (p q : DefParamIndices) → p .«num_positional» ≡ q .«num_positional» → p .«num_positional_only» ≡ q .«num_positional_only» → p .args ≡ q .args → p .kwargs ≡ q .kwargs → p ≡ q
+indices-same p q e f g h = λ i. record { «num_positional» = e i; «num_positional_only» = f i; args = g i; kwargs = h i }
+
+-- the five ranges and the flat count tell DefParamIndices
+pub values-injective : (p q : Counted) → valuesOf p ≡ valuesOf q → p ≡ q
+values-injective p q e =
+    let value : (i : ℕ) → getD (valuesOf p) i 0 ≡ getD (valuesOf q) i 0 = λ i. ap (λ (vs : List ℕ). getD vs i 0) e in
+    λ i.
+    record {
+      indices =
+          indices-same (p .indices) (q .indices) (value 3) (value 1) (place-same (p .indices .args) (q .indices .args) _ _ (value 3) (value 4) (value 5))
+          (place-same (p .indices .kwargs) (q .indices .kwargs) _ _ (value 10) (value 8) (value 9)) i;
+      flat = value 10 i;
+    }
+
+-- no two answers mean the same
+pub unpacked-injective : (u v : Unpacked) → unpacked u ≡ unpacked v → u ≡ v
+unpacked-injective (Accepted p) (Accepted q) e = let h : valuesOf p ≡ valuesOf q = cc in ap Accepted (values-injective p q h)
+unpacked-injective (Accepted p) (Refused r) e = never-accepted r (sym e)
+unpacked-injective (Refused r) (Accepted p) e = never-accepted r e
+unpacked-injective (Refused r) (Refused s) e = ap Refused (refusal-injective r s e)
+
+-- of `params`: the answer and the buffer at exit
+pub params-one : (t names : List ℕ) (node : ℕ) (ms : List ℕ) {r s : Unpacked} {xs ys : List ℕ}
+    → (unpacked r ≡ paramsOf t names node (length ms)) × (xs ≡ modesAfter t names node ms)
+    → (unpacked s ≡ paramsOf t names node (length ms)) × (ys ≡ modesAfter t names node ms)
+    → (r ≡ s) × (xs ≡ ys)
+params-one t names node ms p q = (coincide-by unpacked unpacked-injective (p .0) (q .0), coincide (p .1) (q .1))

@@ -1,0 +1,54 @@
+-- The parameters job: what it answers, and the mode buffer afterwards, for any bytes. These are definitions.
+use mathlib.Core.Bool.{Bool, true, false}
+use mathlib.Core.List.{List, [], _∷_, _++_}
+use Prim.Native.Nat.{ℕ}
+use lib.ListN.{length, drop}
+use lib.Dec.{leb}
+use Rattle.fields.specs.Choice.{if'}
+use Rattle.table.specs.Numbers.{shortBuffer}
+use Rattle.table.specs.Answer.{Answer, accepted, refused, andThen, refusedAt, refusal}
+use Rattle.table.specs.Check.{checkOf, nodeCheck, stretchOf}
+use Rattle.table.specs.declared.Wanted.the-variants.{Parameters}
+use Rattle.unpack.specs.Written.{Param, written}
+use Rattle.unpack.specs.Unpack as def
+use Rattle.unpack.specs.Indices.{valuesOf, countedOf, internalError}
+use Rattle.parameters.specs.declared.Unpacked.{Unpacked}
+use Rattle.parameters.specs.declared.Unpacked.the-variants.{Accepted, Refused}
+
+-- what the answers of code mean: the five ranges and the flat count, or document 01's number and what it carries
+abbrev pub unpacked : Unpacked → Answer
+unpacked (Accepted c) = accepted (valuesOf c)
+unpacked (Refused r) = refusal r
+
+-- what document 01 answers for an outcome of unpack
+abbrev pub answerOf : def.Outcome → Answer
+answerOf (def.accepted c) = accepted (valuesOf (countedOf c))
+answerOf (def.refused n r) = refusedAt n r
+answerOf (def.internal e r) = refusedAt internalError r
+
+-- 7: the mode buffer has a byte for each written parameter
+abbrev pub roomCheck : ℕ → List Param → Answer
+roomCheck room l = if' (leb (length l) room) (λ _. accepted []) (λ _. refused shortBuffer [])
+
+-- 7, then unpack's answer for a written list
+unfoldable pub listAnswer : List Param → ℕ → Answer
+listAnswer l room = andThen (roomCheck room l) (λ _. answerOf (def.unpack l))
+
+-- the written list of a node of a table
+unfoldable pub listOf : List ℕ → List ℕ → ℕ → List Param
+listOf t names node = written names node (stretchOf t node)
+
+-- the job: 1 to 4, 6, 7, then unpack's
+unfoldable pub paramsOf : List ℕ → List ℕ → ℕ → ℕ → Answer
+paramsOf t names node room =
+    andThen (checkOf t names) (λ _.
+    andThen (nodeCheck t node Parameters) (λ _.
+    listAnswer (listOf t names node) room))
+
+-- the buffer ms afterwards, where these are the modes: they stand at its front and the rest stays; a refusal leaves it
+abbrev pub afterwards : Answer → List ℕ → List ℕ → List ℕ
+afterwards (accepted vs) modes ms = modes ++ drop (length modes) ms
+afterwards (refused n vs) modes ms = ms
+
+unfoldable pub modesAfter : List ℕ → List ℕ → ℕ → List ℕ → List ℕ
+modesAfter t names node ms = afterwards (paramsOf t names node (length ms)) (def.modes (listOf t names node)) ms

@@ -1,0 +1,30 @@
+-- What code asks while it counts a list and writes its modes. These are definitions that only contracts of private functions use.
+use mathlib.Core.Bool.{Bool, true, false}
+use mathlib.Core.List.{List, [], _∷_}
+use Prim.Native.Nat.{ℕ, zero, suc, _≤_}
+use lib.ListN.{length}
+use lib.Seq.{sets}
+use Rattle.fields.specs.Choice.{if'}
+use Rattle.forest.specs.Forest.{forest}
+use Rattle.unpack.specs.Written.{paramsIn}
+use Rattle.unpack.specs.Unpack.{seenSlash, seenStar, modesFrom}
+use Rattle.unpack.specs.declared.Kind.{Kind}
+use Rattle.unpack.specs.declared.Kind.the-variants.{Normal, NoArgs, Slash, Args, KwArgs}
+use Rattle.unpack.specs.declared.State.{State}
+
+-- the mode of a parameter as a byte: 0 for a mark
+abbrev pub modeByte : State → Kind → ℕ
+modeByte s (Normal default) = if' (seenSlash s) (λ _. if' (seenStar s) (λ _. 3) (λ _. 2)) (λ _. 1)
+modeByte s NoArgs = 0
+modeByte s Slash = 0
+modeByte s Args = 4
+modeByte s KwArgs = 5
+
+-- a byte that is a mode
+abbrev pub modeIn : ℕ → List ℕ
+modeIn zero = []
+modeIn (suc m) = suc m ∷ []
+
+-- a list has at most n parameters, whatever the names and the index
+abbrev pub AtMost : List ℕ → ℕ → Type 0
+AtMost kids n = (names : List ℕ) (i : ℕ) → length (paramsIn names (forest i kids)) ≤ n

@@ -1,0 +1,6 @@
+pub mod Parts
+pub mod Reading
+pub mod Steps
+pub mod Walking
+pub mod Theorems
+pub mod Promises

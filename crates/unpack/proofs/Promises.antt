@@ -1,0 +1,59 @@
+-- Two answers that meet the promise of a public function coincide: each promise is an equation. Assumes nothing.
+use mathlib.Core.Path.{_≡_}
+use mathlib.Core.Bool.{Bool}
+use mathlib.Core.List.{List}
+use Prim.Native.Nat.{ℕ}
+use Rattle.fields.proofs.Coincide.{coincide}
+use Rattle.forest.specs.Forest.{kidsOf}
+use Rattle.unpack.specs.Written.{written}
+use Rattle.unpack.specs.Unpack.{nextState, firstState, unpack}
+use Rattle.unpack.specs.Indices.{posOnly, posOrNamed, argsRange, namedOnly, kwargsRange, told, errorOf}
+use Rattle.unpack.specs.Reading.{isListed, kindHere}
+use Rattle.unpack.specs.declared.Kind.{Kind}
+use Rattle.unpack.specs.declared.State.{State}
+use Rattle.unpack.specs.declared.Flat.{Flat}
+use Rattle.unpack.specs.declared.DefParamIndices.{DefParamIndices}
+use Rattle.unpack.specs.declared.Range.{Range}
+use Rattle.unpack.specs.declared.Judged.{Judged}
+use Rattle.unpack.specs.declared.ListError.{ListError}
+
+-- of `judge`; its second promise only bounds what the first determines
+pub judge-one : (names t : List ℕ) (node : ℕ) {r s : Judged} → r ≡ told (unpack (written names node t)) → s ≡ told (unpack (written names node t)) → r ≡ s
+judge-one names t node = coincide
+
+-- of `list_error`
+pub list-error-one : (names t : List ℕ) {r s : ListError} → r ≡ errorOf (unpack (written names 0 t)) → s ≡ errorOf (unpack (written names 0 t)) → r ≡ s
+list-error-one names t = coincide
+
+-- of `children`, `entry::listed`, `entry::kind_of`
+pub children-one : (t : List ℕ) {r s : List ℕ} → r ≡ kidsOf t → s ≡ kidsOf t → r ≡ s
+children-one t = coincide
+
+pub listed-one : (t : List ℕ) {r s : Bool} → r ≡ isListed t → s ≡ isListed t → r ≡ s
+listed-one t = coincide
+
+pub kind-of-one : (t : List ℕ) {r s : Kind} → r ≡ kindHere t → s ≡ kindHere t → r ≡ s
+kind-of-one t = coincide
+
+-- of `states::first_state`, `states::next_state`
+pub first-state-one : (only : Flat) {r s : State} → r ≡ firstState only → s ≡ firstState only → r ≡ s
+first-state-one only = coincide
+
+pub next-state-one : (state : State) (kind : Kind) {r s : State} → r ≡ nextState state kind → s ≡ nextState state kind → r ≡ s
+next-state-one state kind = coincide
+
+-- of the five ranges
+pub pos-only-one : (i : DefParamIndices) {r s : Range} → r ≡ posOnly i → s ≡ posOnly i → r ≡ s
+pos-only-one i = coincide
+
+pub pos-or-named-one : (i : DefParamIndices) {r s : Range} → r ≡ posOrNamed i → s ≡ posOrNamed i → r ≡ s
+pos-or-named-one i = coincide
+
+pub args-range-one : (i : DefParamIndices) {r s : Range} → r ≡ argsRange i → s ≡ argsRange i → r ≡ s
+args-range-one i = coincide
+
+pub named-only-one : (i : DefParamIndices) (n : ℕ) {r s : Range} → r ≡ namedOnly i n → s ≡ namedOnly i n → r ≡ s
+named-only-one i n = coincide
+
+pub kwargs-range-one : (i : DefParamIndices) (n : ℕ) {r s : Range} → r ≡ kwargsRange i n → s ≡ kwargsRange i n → r ≡ s
+kwargs-range-one i n = coincide

@@ -1,0 +1,18 @@
+-- `unpack::children` meets its contract: the part is the children, none where there is no record. Assumes nothing.
+use Rattle.unpack.proofs.Parts.{children-none, children-some}
+use borrow.Author.Needs.{needs}
+use Rattle.unpack.proofs.children.Statement.{statement}
+use Rattle.unpack.proofs.children.Tie as tie
+
+pub children-spec : {M : Type 1} → statement M
+children-spec =
+    tie.close
+    (tie.spec
+    (λ c κs. search needs)
+    (λ c. search needs)
+    (λ c. search needs)
+    (λ c. search needs)
+    (λ c. children-none _ (c .before .before .span .ensures) (c .before .if1 .taken))
+    (λ c. search needs)
+    (λ c. search needs)
+    (λ c. children-some _ (c .before .before .span .ensures)))

@@ -1,0 +1,17 @@
+-- `unpack::list::has_name` meets its contract: marks have no name. Assumes nothing.
+use borrow.Author.Tests.{not-true, not-false}
+use Rattle.unpack.proofs.Parts.{name-none, name-tested}
+use borrow.Author.Needs.{needs}
+use Rattle.unpack.proofs.list.has_name.Statement.{statement}
+use Rattle.unpack.proofs.list.has_name.Tie as tie
+
+pub has-name-spec : {M : Type 1} → statement M
+has-name-spec =
+    tie.close
+    (tie.spec
+    (λ c κs. search needs)
+    (λ c κs. search needs)
+    (λ c. name-none _ _ _ (c .before .before .kind-of .ensures) (c .before .is-named .ensures) (not-true _ (c .if1 .taken)))
+    (λ c κs. search needs)
+    (λ c κs. search needs)
+    (λ c. name-tested _ _ _ (c .before .before .before .before .kind-of .ensures) (c .before .before .before .is-named .ensures) (not-false _ (c .before .before .if1 .left)) (c .before .name .ensures) (c .same-bytes .ensures)))

@@ -1,0 +1,21 @@
+-- `unpack::rules::next_optional` meets its contract: it is the definition, kind by kind. Assumes nothing.
+use mathlib.Core.Path.{refl, _∙_, ap}
+use borrow.Author.Needs.{needs}
+use Rattle.unpack.proofs.rules.next_optional.Statement.{statement}
+use Rattle.unpack.proofs.rules.next_optional.Tie as tie
+
+pub next-optional-spec : {M : Type 1} → statement M
+next-optional-spec =
+    tie.close
+    (tie.spec
+    (λ c. search needs)
+    (λ c κs. search needs)
+    (λ c. search needs)
+    (λ c. search needs)
+    (λ c. search needs)
+    (λ c. search needs)
+    (λ c. rw (c .before .before .kind .given .1) (c .or .ensures))
+    (λ c. search needs)
+    (λ c. search needs)
+    (λ c. search needs)
+    (λ c. search needs))

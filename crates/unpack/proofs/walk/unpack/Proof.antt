@@ -1,0 +1,17 @@
+-- `unpack::walk::unpack` meets its contract: 10 first, then the walk. Assumes nothing.
+use Rattle.unpack.proofs.Walking.{unpack-slash, unpack-run}
+use borrow.Author.Needs.{needs}
+use Rattle.unpack.proofs.walk.unpack.Statement.{statement}
+use Rattle.unpack.proofs.walk.unpack.Tie as tie
+
+pub unpack-spec : {M : Type 1} → statement M
+unpack-spec =
+    tie.close
+    (tie.spec
+    (λ c κs. search needs)
+    (λ c κs. search needs)
+    (λ c. unpack-slash _ _ _ (c .before .before .slash-first .ensures) (c .before .if1 .taken) (c .fault .ensures))
+    (λ c κs. search needs)
+    (λ c κs. search needs)
+    (λ c κs. search needs)
+    (λ c. unpack-run _ _ _ (c .before .before .before .before .slash-first .ensures) (c .before .before .before .if1 .left) (c .before .before .first-slash .ensures) (c .before .positional-only .ensures) (c .run .ensures)))

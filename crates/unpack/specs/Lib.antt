@@ -1,0 +1,4 @@
+pub mod Written
+pub mod Unpack
+pub mod Indices
+pub mod Reading

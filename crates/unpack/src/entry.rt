@@ -1,0 +1,39 @@
+// The parameter that a stretch begins with.
+use crate::Kind;
+use soundness::kinds;
+ghost use mathlib.Core.Path.{_≡_};
+ghost use Rattle.unpack.specs.Written.{hasDefault};
+ghost use Rattle.unpack.specs.Reading.{isListed, kindHere};
+
+// Whether a stretch begins with a parameter.
+pub fn listed(t: &[u8]) -> bool
+    ensures { λ r. ⌜ r ≡ isListed (now (t .entry)) ⌝ }
+{
+    (24 <= t.len()) & (table::class(t) == 3)
+}
+
+fn has_default(detail: u8) -> bool
+    ensures { λ r. ⌜ r ≡ hasDefault detail ⌝ }
+{
+    (detail == 2) | (detail == 3)
+}
+
+// The kind of the parameter that a stretch begins with.
+pub fn kind_of(t: &[u8]) -> Kind
+    ensures { λ r. ⌜ r ≡ kindHere (now (t .entry)) ⌝ }
+{
+    let kind = forest::kind(t);
+    if kind == kinds::NORMAL {
+        return Kind::Normal(has_default(forest::detail(t)));
+    }
+    if kind == kinds::NO_ARGS {
+        return Kind::NoArgs;
+    }
+    if kind == kinds::SLASH {
+        return Kind::Slash;
+    }
+    if kind == kinds::ARGS_PARAM {
+        return Kind::Args;
+    }
+    Kind::KwArgs
+}

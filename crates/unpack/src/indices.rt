@@ -1,0 +1,80 @@
+// The five ranges of DefParamIndices, and DefParamIndices from what unpack has counted.
+use crate::Counted;
+use crate::Counts;
+use crate::DefParamIndices;
+use crate::Flat;
+use crate::FlatPlace;
+use crate::Place;
+use crate::Range;
+ghost use mathlib.Core.Path.{_≡_};
+ghost use Prim.Native.Nat.{_<_, _^_};
+ghost use Rattle.unpack.specs.Indices.{posOnly, posOrNamed, argsRange, namedOnly, kwargsRange, placeRange, placeOf};
+
+// The range of a place: the empty one at none where there is none.
+fn place_range(place: Place, none: usize) -> Range
+    ensures { λ r. ⌜ r ≡ placeRange place none ⌝ }
+{
+    match place {
+        Place::At(i) => {
+            let from = i as usize;
+            Range {
+                from,
+                upto: from + 1,
+            }
+        }
+        Place::Nothing => Range {
+            from: none,
+            upto: none,
+        },
+    }
+}
+
+impl DefParamIndices {
+    // The ordinary parameters before `/`.
+    pub fn pos_only(self) -> Range
+        ensures { λ r. ⌜ r ≡ posOnly self ⌝ }
+    {
+        Range {
+            from: 0,
+            upto: self.num_positional_only as usize,
+        }
+    }
+
+    // The ordinary parameters after `/`, before any star.
+    pub fn pos_or_named(self) -> Range
+        ensures { λ r. ⌜ r ≡ posOrNamed self ⌝ }
+    {
+        Range {
+            from: self.num_positional_only as usize,
+            upto: self.num_positional as usize,
+        }
+    }
+
+    // `*args`: for none the empty range at the end of pos_or_named.
+    pub fn args_range(self) -> Range
+        ensures { λ r. ⌜ r ≡ argsRange self ⌝ }
+    {
+        let args = self.args;
+        place_range(args, self.num_positional as usize)
+    }
+
+    // The ordinary parameters after the star.
+    pub fn named_only(self, param_count: usize) -> Range
+        ensures { λ r. ⌜ r ≡ namedOnly self «param_count» ⌝ }
+    {
+        let args = self.args_range();
+        let kwargs = self.kwargs_range(param_count);
+        Range {
+            from: args.upto,
+            upto: kwargs.from,
+        }
+    }
+
+    // `**kwargs`: for none the empty range at the flat count.
+    pub fn kwargs_range(self, param_count: usize) -> Range
+        ensures { λ r. ⌜ r ≡ kwargsRange self «param_count» ⌝ }
+    {
+        let kwargs = self.kwargs;
+        place_range(kwargs, param_count)
+    }
+}

@@ -1,0 +1,157 @@
+// The parameter list of a def or lambda, read as DefParams::unpack reads it. Every public function takes any bytes.
+//
+// Ported from src/syntax/def.rs of starlark_syntax 0.14.2, and changed: the list is a stretch of the node table, names are compared instead of hashed, and the modes are left to the job.
+// Copyright 2018 The Starlark in Rust Authors. Copyright (c) Facebook, Inc. and its affiliates. Licensed under Apache-2.0.
+pub mod entry;
+pub mod indices;
+mod list;
+mod rules;
+pub mod states;
+mod walk;
+
+ghost use mathlib.Core.Path.{_≡_};
+ghost use Prim.Native.Nat.{_+_, _/_};
+ghost use lib.ListN.{length};
+ghost use Rattle.forest.specs.Forest.{kidsOf};
+ghost use Rattle.unpack.specs.Written.{written};
+ghost use Rattle.unpack.specs.Unpack.{unpack};
+ghost use Rattle.unpack.specs.Indices.{told, errorOf};
+ghost use Rattle.unpack.specs.Reading.{Inside};
+
+// Where unpack stands in the list, in this order.
+pub enum State {
+    Normal,
+    SeenSlash, // after `/`, or there is none
+    SeenStar, // after `*` or `*args`
+    SeenStarStar, // after `**kwargs`
+}
+
+// A parameter's kind, and whether a Normal has a default.
+pub enum Kind {
+    Normal(bool),
+    NoArgs,
+    Slash,
+    Args,
+    KwArgs,
+}
+
+// A position in the written list, marks counted.
+pub struct Written(pub usize);
+
+pub enum WrittenPlace {
+    AtWritten(Written),
+    NoWritten,
+}
+
+// An index in the flat list, marks omitted.
+pub struct Flat(pub usize);
+
+pub enum FlatPlace {
+    AtFlat(Flat),
+    NoFlat,
+}
+
+// What unpack counts in the flat list, and its length.
+pub struct Counts {
+    pub num_positional: Flat,
+    pub num_positional_only: Flat,
+    pub args: FlatPlace,
+    pub kwargs: FlatPlace,
+    pub flat: Flat,
+}
+
+// All that unpack keeps from one parameter to the next.
+pub struct Unpacking {
+    pub state: State,
+    pub seen_optional: bool,
+    pub index_of_star: WrittenPlace,
+    pub counts: Counts,
+}
+
+// What the check of one parameter gives: nothing, or the number of a refusal.
+pub enum Check {
+    Fine,
+    Broken(u32),
+}
+
+// A refusal at a parameter: its number, its node and its span.
+pub struct Fault {
+    pub number: u32,
+    pub node: usize,
+    pub begin: u32,
+    pub end: u32,
+}
+
+// What unpack answers.
+pub enum Judged {
+    Accepted(Counts),
+    Refused(Fault),
+}
+
+// What the module pass is told of a list: the number and the span of its one error, or none.
+pub enum ListError {
+    Error { number: u32, begin: u32, end: u32 },
+    NoError,
+}
+
+// An index in the flat list, or none.
+pub enum Place {
+    At(u32),
+    Nothing,
+}
+
+// The sizes and indices that split the flat list into its parts, as the crate has them.
+pub struct DefParamIndices {
+    pub num_positional: u32,
+    pub num_positional_only: u32,
+    pub args: Place,
+    pub kwargs: Place,
+}
+
+// DefParamIndices and the flat count.
+pub struct Counted {
+    pub indices: DefParamIndices,
+    pub flat: u32,
+}
+
+// The indices from one up to, but not with, another.
+pub struct Range {
+    pub from: usize,
+    pub upto: usize,
+}
+
+// The children of the node that a stretch begins with.
+pub fn children(t: &[u8]) -> &[u8]
+    ensures { λ r. ⌜ now r ≡ kidsOf (now (t .entry)) ⌝ }
+{
+    let e = forest::span(t);
+    if e < 24 {
+        return &t[0..0];
+    }
+    &t[24..e]
+}
+
+// DefParams::unpack of the written list of a node, whose stretch is lent: what is counted, or the first refusal.
+pub fn judge(names: &[u8], t: &[u8], node: u32) -> Judged
+    ensures { λ r. ⌜ r ≡ told (unpack (written (now (names .entry)) node (now (t .entry)))) ⌝ }
+    ensures { λ r. ⌜ Inside (node + 1 + length (now (t .entry)) / 24) r ⌝ }
+{
+    let kids = children(t);
+    let first = (node as usize) + 1;
+    walk::unpack(names, kids, first)
+}
+
+// unpack's one error, for the module pass.
+pub fn list_error(names: &[u8], t: &[u8]) -> ListError
+    ensures { λ r. ⌜ r ≡ errorOf (unpack (written (now (names .entry)) 0 (now (t .entry)))) ⌝ }
+{
+    let judged = judge(names, t, 0);
+    match judged {
+        Judged::Accepted(_) => ListError::NoError,
+        Judged::Refused(f) => ListError::Error {
+            number: f.number,
+            begin: f.begin,
+            end: f.end,
+        },
+    }
+}

@@ -1,0 +1,74 @@
+// The written list, read from the children of a def or lambda: each next parameter is found by stepping over the one before it.
+use crate::Written;
+use crate::WrittenPlace;
+use crate::entry;
+use crate::rules;
+use forest::Found;
+ghost use mathlib.Core.Path.{_≡_};
+ghost use mathlib.Core.List.{List};
+ghost use Prim.Native.Nat.{ℕ, _+_, _*_, _/_, _≤_, _<_, _^_};
+ghost use lib.ListN.{length, take, drop};
+ghost use Rattle.forest.specs.Forest.{nodeOf, forest};
+ghost use Rattle.unpack.specs.Written.{paramOf, paramsIn};
+ghost use Rattle.unpack.specs.Unpack.{hasName, firstSame, firstSlash};
+
+// Whether the parameter that a stretch begins with has this name.
+fn has_name(names: &[u8], name: &[u8], t: &[u8]) -> bool
+    ensures { λ r. ⌜ ((i : ℕ) → r ≡ hasName (now (name .entry)) (paramOf (now (names .entry)) (nodeOf i (now (t .entry))))) ⌝ }
+{
+    if !rules::is_named(entry::kind_of(t)) {
+        return false;
+    }
+    forest::names::same_bytes(forest::names::name(names, t), name)
+}
+
+// The node of the first of n parameters that has this name; first is the node of the first record.
+pub fn earlier(names: &[u8], name: &[u8], kids: &[u8], first: usize, n: Written) -> Found
+    requires { ⌜ (24 * first + length (now kids) < 2 ^ 64) × (n .0 ≤ length (paramsIn (now names) (forest first (now kids)))) ⌝ }
+    ensures { λ r. ⌜ r ≡ firstSame (now (name .entry)) (take (n .0) (paramsIn (now (names .entry)) (forest first (now (kids .entry))))) ⌝ }
+{
+    let mut left = kids;
+    let mut at = first;
+    let mut i = 0;
+    while i < n.0 {
+        if has_name(names, name, left) {
+            return Found::At(at);
+        }
+        let e = forest::span(left);
+        at += e / 24;
+        left = &left[e..];
+        i += 1;
+    }
+    Found::Nothing
+}
+
+// The written position of the first `/`.
+pub fn first_slash(kids: &[u8]) -> WrittenPlace
+    ensures { λ r. ⌜ ((names : List ℕ) (i : ℕ) → r ≡ firstSlash (paramsIn names (forest i (now (kids .entry))))) ⌝ }
+{
+    let mut left = kids;
+    let mut i = 0;
+    while entry::listed(left) {
+        if rules::is_slash(entry::kind_of(left)) {
+            return WrittenPlace::AtWritten(Written(i));
+        }
+        let e = forest::span(left);
+        left = &left[e..];
+        i += 1;
+    }
+    WrittenPlace::NoWritten
+}
+
+// How many bytes the first n parameters take.
+pub fn skip(kids: &[u8], n: Written) -> usize
+    ensures { λ r. ⌜ r ≤ length (now (kids .entry)) ⌝ }
+    ensures { λ r. ⌜ ((names : List ℕ) (i : ℕ) → n .0 ≤ length (paramsIn names (forest i (now (kids .entry)))) → drop (n .0) (paramsIn names (forest i (now (kids .entry)))) ≡ paramsIn names (forest (i + r / 24) (drop r (now (kids .entry))))) ⌝ }
+{
+    let mut at = 0;
+    let mut i = 0;
+    while i < n.0 {
+        at += forest::span(&kids[at..]);
+        i += 1;
+    }
+    at
+}

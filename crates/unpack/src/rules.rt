@@ -1,0 +1,260 @@
+// The rules of the kinds, and what a parameter changes, as the body of unpack's loop has them.
+use crate::Check;
+use crate::Counts;
+use crate::Flat;
+use crate::FlatPlace;
+use crate::Kind;
+use crate::State;
+use crate::Unpacking;
+use crate::Written;
+use crate::WrittenPlace;
+use crate::states;
+use table::numbers;
+ghost use mathlib.Core.Path.{_≡_};
+ghost use mathlib.Core.Bool.{_||_};
+ghost use Prim.Native.Nat.{_<_, _^_};
+ghost use Rattle.unpack.specs.Unpack.{defaultRule, normalRule, starRule, slashRule, kwargsRule, rule as ruleOf, nextOptional, nextStar, oneMore, morePositional, count as countOf, advance as advanceOf, start as startOf, isSlash, positionalOnly};
+ghost use Rattle.unpack.specs.Reading.{isNamed, isNormal};
+
+// Whether a parameter of a kind has a name.
+pub fn is_named(kind: Kind) -> bool
+    ensures { λ r. ⌜ r ≡ isNamed kind ⌝ }
+{
+    match kind {
+        Kind::Normal(_) => true,
+        Kind::NoArgs => false,
+        Kind::Slash => false,
+        Kind::Args => true,
+        Kind::KwArgs => true,
+    }
+}
+
+pub fn is_normal(kind: Kind) -> bool
+    ensures { λ r. ⌜ r ≡ isNormal kind ⌝ }
+{
+    match kind {
+        Kind::Normal(_) => true,
+        Kind::NoArgs => false,
+        Kind::Slash => false,
+        Kind::Args => false,
+        Kind::KwArgs => false,
+    }
+}
+
+pub fn is_slash(kind: Kind) -> bool
+    ensures { λ r. ⌜ r ≡ isSlash kind ⌝ }
+{
+    match kind {
+        Kind::Normal(_) => false,
+        Kind::NoArgs => false,
+        Kind::Slash => true,
+        Kind::Args => false,
+        Kind::KwArgs => false,
+    }
+}
+
+// 13, before any star.
+fn default_rule(optional: bool, default: bool) -> Check
+    ensures { λ r. ⌜ r ≡ defaultRule optional default ⌝ }
+{
+    if optional {
+        if default {
+            return Check::Fine;
+        }
+        return Check::Broken(numbers::NO_DEFAULT_AFTER_DEFAULT);
+    }
+    Check::Fine
+}
+
+// 12, then 13.
+fn normal_rule(state: State, optional: bool, default: bool) -> Check
+    ensures { λ r. ⌜ r ≡ normalRule state optional default ⌝ }
+{
+    match state {
+        State::Normal => default_rule(optional, default),
+        State::SeenSlash => default_rule(optional, default),
+        State::SeenStar => Check::Fine,
+        State::SeenStarStar => Check::Broken(numbers::NORMAL_AFTER_KWARGS),
+    }
+}
+
+// 14.
+fn star_rule(state: State) -> Check
+    ensures { λ r. ⌜ r ≡ starRule state ⌝ }
+{
+    match state {
+        State::Normal => Check::Fine,
+        State::SeenSlash => Check::Fine,
+        State::SeenStar => Check::Broken(numbers::STAR_AFTER_STAR),
+        State::SeenStarStar => Check::Broken(numbers::STAR_AFTER_STAR),
+    }
+}
+
+// 15.
+fn slash_rule(state: State) -> Check
+    ensures { λ r. ⌜ r ≡ slashRule state ⌝ }
+{
+    match state {
+        State::Normal => Check::Fine,
+        State::SeenSlash => Check::Broken(numbers::MULTIPLE_SLASH),
+        State::SeenStar => Check::Broken(numbers::MULTIPLE_SLASH),
+        State::SeenStarStar => Check::Broken(numbers::MULTIPLE_SLASH),
+    }
+}
+
+// 16.
+fn kwargs_rule(state: State) -> Check
+    ensures { λ r. ⌜ r ≡ kwargsRule state ⌝ }
+{
+    match state {
+        State::Normal => Check::Fine,
+        State::SeenSlash => Check::Fine,
+        State::SeenStar => Check::Fine,
+        State::SeenStarStar => Check::Broken(numbers::MULTIPLE_KWARGS),
+    }
+}
+
+// The rule of a parameter's kind.
+pub fn rule(state: State, optional: bool, kind: Kind) -> Check
+    ensures { λ r. ⌜ r ≡ ruleOf state optional kind ⌝ }
+{
+    match kind {
+        Kind::Normal(default) => normal_rule(state, optional, default),
+        Kind::NoArgs => star_rule(state),
+        Kind::Slash => slash_rule(state),
+        Kind::Args => star_rule(state),
+        Kind::KwArgs => kwargs_rule(state),
+    }
+}
+
+fn or(a: bool, b: bool) -> bool
+    ensures { λ r. ⌜ r ≡ (a || b) ⌝ }
+{
+    a | b
+}
+
+fn next_optional(optional: bool, kind: Kind) -> bool
+    ensures { λ r. ⌜ r ≡ nextOptional optional kind ⌝ }
+{
+    match kind {
+        Kind::Normal(default) => or(optional, default),
+        Kind::NoArgs => optional,
+        Kind::Slash => optional,
+        Kind::Args => optional,
+        Kind::KwArgs => optional,
+    }
+}
+
+fn next_star(star: WrittenPlace, i: Written, kind: Kind) -> WrittenPlace
+    ensures { λ r. ⌜ r ≡ nextStar star i kind ⌝ }
+{
+    match kind {
+        Kind::Normal(_) => star,
+        Kind::NoArgs => WrittenPlace::AtWritten(i),
+        Kind::Slash => star,
+        Kind::Args => star,
+        Kind::KwArgs => star,
+    }
+}
+
+// One more in the flat list.
+fn one_more(flat: Flat) -> Flat
+    requires { ⌜ flat .0 < 2 ^ 63 ⌝ }
+    ensures { λ r. ⌜ r ≡ oneMore flat ⌝ }
+{
+    Flat(flat.0 + 1)
+}
+
+// One more that can be filled positionally, before any star.
+fn more_positional(state: State, n: Flat) -> Flat
+    requires { ⌜ n .0 < 2 ^ 63 ⌝ }
+    ensures { λ r. ⌜ r ≡ morePositional state n ⌝ }
+{
+    match state {
+        State::Normal => one_more(n),
+        State::SeenSlash => one_more(n),
+        State::SeenStar => n,
+        State::SeenStarStar => n,
+    }
+}
+
+// What is counted at a parameter of a kind.
+fn count(state: State, c: Counts, kind: Kind) -> Counts
+    requires { ⌜ (c .«num_positional» .0 < 2 ^ 63) × (c .flat .0 < 2 ^ 63) ⌝ }
+    ensures { λ r. ⌜ r ≡ countOf state c kind ⌝ }
+{
+    let positional = c.num_positional;
+    let only = c.num_positional_only;
+    let args = c.args;
+    let kwargs = c.kwargs;
+    let flat = c.flat;
+    match kind {
+        Kind::Normal(_) => Counts {
+            num_positional: more_positional(state, positional),
+            num_positional_only: only,
+            args,
+            kwargs,
+            flat: one_more(flat),
+        },
+        Kind::NoArgs => c,
+        Kind::Slash => c,
+        Kind::Args => Counts {
+            num_positional: positional,
+            num_positional_only: only,
+            args: FlatPlace::AtFlat(flat),
+            kwargs,
+            flat: one_more(flat),
+        },
+        Kind::KwArgs => Counts {
+            num_positional: positional,
+            num_positional_only: only,
+            args,
+            kwargs: FlatPlace::AtFlat(flat),
+            flat: one_more(flat),
+        },
+    }
+}
+
+// All that is kept after a parameter of a kind, which stands at i in the written list.
+pub fn advance(u: Unpacking, i: Written, kind: Kind) -> Unpacking
+    requires { ⌜ (u .counts .«num_positional» .0 < 2 ^ 63) × (u .counts .flat .0 < 2 ^ 63) ⌝ }
+    ensures { λ r. ⌜ r ≡ advanceOf u i kind ⌝ }
+{
+    let state = u.state;
+    let star = u.index_of_star;
+    let counts = u.counts;
+    Unpacking {
+        state: states::next_state(state, kind),
+        seen_optional: next_optional(u.seen_optional, kind),
+        index_of_star: next_star(star, i, kind),
+        counts: count(state, counts, kind),
+    }
+}
+
+// The count of positional-only parameters: the written position of `/` becomes a flat index, since no mark can stand before it.
+pub fn positional_only(slash: WrittenPlace) -> Flat
+    ensures { λ r. ⌜ r ≡ positionalOnly slash ⌝ }
+{
+    match slash {
+        WrittenPlace::AtWritten(i) => Flat(i.0),
+        WrittenPlace::NoWritten => Flat(0),
+    }
+}
+
+// What is kept before the first parameter.
+pub fn start(only: Flat) -> Unpacking
+    ensures { λ r. ⌜ r ≡ startOf only ⌝ }
+{
+    Unpacking {
+        state: states::first_state(only),
+        seen_optional: false,
+        index_of_star: WrittenPlace::NoWritten,
+        counts: Counts {
+            num_positional: Flat(0),
+            num_positional_only: only,
+            args: FlatPlace::NoFlat,
+            kwargs: FlatPlace::NoFlat,
+            flat: Flat(0),
+        },
+    }
+}
