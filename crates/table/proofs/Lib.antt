@@ -1,3 +1,4 @@
 pub mod Deep
 pub mod Nodes
 pub mod Checking
+pub mod Handed
