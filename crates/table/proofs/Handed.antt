@@ -59,13 +59,13 @@ module _ (t names : List ℕ) (i : ℕ) (w : Wanted) {f : Checked} (f-is : check
   unfolding nodeFits
   fitting = ltb-true i (length t / 24) (and-left _ _ (sym b-is ∙ b-yes))
 
-  pub handed : (24 ≤ length (stretchOf t i)) × (24 * i + length (stretchOf t i) ≤ 50400)
+  pub handed : {s : List ℕ} → s ≡ stretchOf t i → (24 ≤ length s) × (24 * i + length s ≤ 50400)
   unfolding stretchOf firstUnsound
-  handed =
+  handed s-is =
       let p = passed t names (rw f-good at f-is) in
       let size = size-least t names i (none-found (recordSound t names) (length t / 24) (p .sound) i fitting) in
       let whole = length-whole (length t) (p .long) in
-      rw (lt-ltb i (length t / 24) fitting) (simp (length-take, length-drop) (omega (arith, fitting)))
+      rw (s-is, lt-ltb i (length t / 24) fitting) (simp (length-take, length-drop) (omega (arith, fitting)))
 
 -- LAW: no two refusals mean the same
 pub refusal-injective : (x y : Refusal) → refusal x ≡ refusal y → x ≡ y
@@ -78,3 +78,43 @@ refusal-injective (Placed n j) (Spanned m k b s) e = cc
 refusal-injective (Spanned n j a r) (Bare m) e = cc
 refusal-injective (Spanned n j a r) (Placed m k) e = cc
 refusal-injective (Spanned n j a r) (Spanned m k b s) e = cc
+
+-- a refusal is no acceptance
+pub never-accepted : {P : Type 0} (why : Refusal) {vs : List ℕ} → refusal why ≡ accepted vs → P
+never-accepted (Bare n) e = let z : _≡_ {A = ℕ} 0 1 = cc in absurd (omega arith)
+never-accepted (Placed n k) e = let z : _≡_ {A = ℕ} 0 1 = cc in absurd (omega arith)
+never-accepted (Spanned n k b s) e = let z : _≡_ {A = ℕ} 0 1 = cc in absurd (omega arith)
+
+-- a refusal stops: nothing follows it
+pub stopped : (why : Refusal) (next : Unit {0} → Answer) → refusal why ≡ andThen (refusal why) next
+stopped (Bare n) next = refl
+stopped (Placed n k) next = refl
+stopped (Spanned n k b e) next = refl
+
+-- LAWS of a step x, where what follows it is accepted: a refusal is its own; and if the whole is accepted, it is passed
+module _ (x : Answer) (vs : List ℕ) where
+  pub first-refused : (why : Refusal) (next : Unit {0} → Answer) → refusal why ≡ andThen x (λ _. accepted vs) → refusal why ≡ andThen x next
+  first-refused why next e = go x e
+    where
+      go : (y : Answer) → refusal why ≡ andThen y (λ _. accepted vs) → refusal why ≡ andThen y next
+      go (accepted ws) e = never-accepted why e
+      go (refused n ws) e = e
+
+  pub first-accepted : {ws : List ℕ} (next : Unit {0} → Answer) → accepted ws ≡ andThen x (λ _. accepted vs) → andThen x next ≡ next tt
+  first-accepted {ws} next e = go x e
+    where
+      go : (y : Answer) → accepted ws ≡ andThen y (λ _. accepted vs) → andThen y next ≡ next tt
+      go (accepted us) e = refl
+      go (refused n us) e = let z : _≡_ {A = ℕ} 0 1 = cc in absurd (omega arith)
+
+  pub same-values : {ws : List ℕ} → accepted ws ≡ andThen x (λ _. accepted vs) → ws ≡ vs
+  same-values {ws} e = go x e
+    where
+      go : (y : Answer) → accepted ws ≡ andThen y (λ _. accepted vs) → ws ≡ vs
+      go (accepted us) e = cc
+      go (refused n us) e = let z : _≡_ {A = ℕ} 0 1 = cc in absurd (omega arith)
+
+-- LAW: what follows two steps follows the second
+pub after-both : (x : Answer) (y z : Unit {0} → Answer) → andThen (andThen x y) z ≡ andThen x (λ _. andThen (y tt) z)
+after-both (accepted vs) y z = refl
+after-both (refused n vs) y z = refl
