@@ -1,0 +1,4 @@
+pub mod FormOf
+pub mod Dots
+pub mod Bases
+pub mod Reading
