@@ -15,7 +15,7 @@ use Rattle.types.specs.Types.{indexBase, index2Base, listLength, atNode}
 use Rattle.types.specs.declared.Form.{Form}
 
 -- the children of the node that a stretch begins with, as code cuts them
-module _ (names : L.List ℕ) (i : ℕ) (t : L.List ℕ) {e : ℕ} (e-is : e ≡ spanOf t) {k : L.List ℕ} (k-is : k ≡ take (e - 24) (drop 24 t)) where
+module _ (i : ℕ) (t : L.List ℕ) {e : ℕ} (e-is : e ≡ spanOf t) {k : L.List ℕ} (k-is : k ≡ take (e - 24) (drop 24 t)) where
   kids : kidsOf t ≡ k
   kids = sym (k-is ∙ kids-part e t e-is)
 
@@ -28,14 +28,14 @@ module _ (names : L.List ℕ) (i : ℕ) (t : L.List ℕ) {e : ℕ} (e-is : e ≡
     unfolding listLength
     list-none r-is = r-is ∙ rw (kids, forest-none (i + 1) k short) refl
 
-  pub index2-none : length k < 24 → accepted L.[] ≡ index2Base names (forest (i + 1) (kidsOf t))
+  pub index2-none : (names : L.List ℕ) → length k < 24 → accepted L.[] ≡ index2Base names (forest (i + 1) (kidsOf t))
   unfolding index2Base
-  index2-none short = rw (kids, forest-none (i + 1) k short) refl
+  index2-none names short = rw (kids, forest-none (i + 1) k short) refl
 
   module _ (big : 24 ≤ length k) where
-    pub index2-path : {r : Answer} → r ≡ «unpack_path» names (treeOf (i + 1) k) → r ≡ index2Base names (forest (i + 1) (kidsOf t))
+    pub index2-path : (names : L.List ℕ) {r : Answer} → r ≡ «unpack_path» names (treeOf (i + 1) k) → r ≡ index2Base names (forest (i + 1) (kidsOf t))
     unfolding index2Base
-    index2-path r-is = r-is ∙ rw (kids, forest-tree (i + 1) k big) refl
+    index2-path names r-is = r-is ∙ rw (kids, forest-tree (i + 1) k big) refl
 
     module _ {b : ℕ} (b-is : b ≡ nodeOf 0 k .kind) where
       pub index-other : (b ≡ 26 → ⊥) → {r : Answer} → r ≡ refusedAt invalidType (nodeOf i t) → r ≡ indexBase (nodeOf i t) (forest (i + 1) (kidsOf t))

@@ -1,10 +1,11 @@
--- Laws of the form of a kind: one for each return of form_of. Assumes nothing.
-use mathlib.Core.Path.{_≡_, refl}
+-- Laws of the form of a kind: one for each return of form_of and form. Assumes nothing.
+use mathlib.Core.Path.{_≡_, refl, _∙_}
 use mathlib.Core.Bool.{Bool, true, false, _&&_, _||_}
 use Prim.Native.Nat.{ℕ}
 use lib.Dec.{eqb}
 use borrow.Author.Tests.{ne-eqb}
 use Rattle.types.specs.Forms.{formOf}
+use Rattle.types.specs.declared.Form.{Form}
 use Rattle.types.specs.declared.Form.the-variants.{Ellipsis, Path, Index, Index2, List, Union, Tuple, Other}
 
 module _ (k d : ℕ) where
@@ -40,3 +41,6 @@ module _ (k d : ℕ) where
     pub form-other : (eqb k 37 && eqb d 1) ≡ false → Other ≡ formOf k d
     unfolding formOf
     form-other h = rw (ne-eqb k 31 a, p, ne-eqb k 23 i, ne-eqb k 24 i2, ne-eqb k 39 l, ne-eqb k 20 t, h) refl
+
+pub form-same : {k d k′ d′ : ℕ} {f : Form} → k ≡ k′ → d ≡ d′ → f ≡ formOf k d → f ≡ formOf k′ d′
+form-same p q f-is = f-is ∙ rw (p, q) refl
