@@ -2,3 +2,4 @@ pub mod FormOf
 pub mod Dots
 pub mod Bases
 pub mod Reading
+pub mod Writing

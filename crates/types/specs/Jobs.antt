@@ -15,7 +15,7 @@ use Rattle.table.specs.Answer.{Answer, accepted, refused, andThen, refusal}
 use Rattle.table.specs.Check.{checkOf, nodeCheck, stretchOf}
 use Rattle.table.specs.declared.Wanted.the-variants.{Expression}
 use Rattle.types.specs.Types.{«dialect_check_type»}
-use Rattle.types.specs.Shapes.{shapes, afterAnswer}
+use Rattle.types.specs.Shapes.{shapesOf, afterAnswer}
 use Rattle.types.specs.declared.Shaped.{Shaped}
 use Rattle.types.specs.declared.Shaped.the-variants.{Accepted, Refused}
 
@@ -49,4 +49,4 @@ typeShapeOf t names bytes i room =
 
 -- the buffer at exit: its byte k is that of node i + k, so the nodes of the stretch are counted from 0
 abbrev pub shapesAfter : List ℕ → List ℕ → List ℕ → ℕ → List ℕ → List ℕ
-shapesAfter t names bytes i buffer = afterAnswer (typeShapeOf t names bytes i (length buffer)) (shapes (treeOf 0 (stretchOf t i))) buffer
+shapesAfter t names bytes i buffer = afterAnswer (typeShapeOf t names bytes i (length buffer)) (shapesOf (treeOf 0 (stretchOf t i))) buffer

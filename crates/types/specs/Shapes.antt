@@ -19,24 +19,24 @@ abbrev pub shapeAt : Node → ℕ → Shape
 shapeAt r s = record { at = r .at; shape = s }
 
 -- a node read as a type, given what its children give
-abbrev pub typeShapes : Node → (Unit {0} → List Shape) → (Unit {0} → List Shape) → (Unit {0} → List Shape) → List Shape
-typeShapes r types afterBase arguments =
+abbrev pub nodeShapes : Node → (Unit {0} → List Shape) → (Unit {0} → List Shape) → (Unit {0} → List Shape) → List Shape
+nodeShapes r types afterBase arguments =
     shapeAt r (shapeOf (formOf (r .kind) (r .detail)))
     ∷ ofChildren (readsOf (formOf (r .kind) (r .detail))) [] types afterBase arguments
 
 -- the nodes that are read as types and as arguments, in table order: not the base of an Index or Index2, and nothing inside a path
 unfoldable mutual
-  pub shapes : Tree → List Shape
-  shapes (node r ks) = typeShapes r (λ _. shapesEach ks) (λ _. shapesIndex ks) (λ _. shapesIndex2 ks)
+  pub shapesOf : Tree → List Shape
+  shapesOf (node r ks) = nodeShapes r (λ _. shapesEach ks) (λ _. shapesIndex ks) (λ _. shapesIndex2 ks)
 
   pub shapesArgument : Tree → List Shape
   shapesArgument (node r ks) =
       if' (eqb (r .kind) kindList) (λ _. shapeAt r listShape ∷ shapesArguments ks) (λ _.
-      typeShapes r (λ _. shapesEach ks) (λ _. shapesIndex ks) (λ _. shapesIndex2 ks))
+      nodeShapes r (λ _. shapesEach ks) (λ _. shapesIndex ks) (λ _. shapesIndex2 ks))
 
   pub shapesEach : Forest → List Shape
   shapesEach none = []
-  shapesEach (t then ts) = shapes t ++ shapesEach ts
+  shapesEach (t then ts) = shapesOf t ++ shapesEach ts
 
   pub shapesArguments : Forest → List Shape
   shapesArguments none = []

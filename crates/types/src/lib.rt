@@ -5,6 +5,7 @@
 // Copyright 2018 The Starlark in Rust Authors. Copyright (c) Facebook, Inc. and its affiliates. Licensed under Apache-2.0.
 mod forms;
 mod paths;
+mod shapes;
 mod unpack;
 
 use dialect::Decoded;
