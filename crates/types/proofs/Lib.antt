@@ -3,3 +3,5 @@ pub mod Dots
 pub mod Bases
 pub mod Reading
 pub mod Writing
+pub mod Jobs
+pub mod Promises

@@ -78,11 +78,15 @@ unfoldable mutual
   unpackIndex2 names none = accepted L.[]
   unpackIndex2 names (b then ts) = unpackArguments names ts
 
--- 45 at the type, where the dialect has no types
+-- whether a dialect has types
+abbrev pub permitsTypes : DialectTypes → Bool
+permitsTypes Disable = false
+permitsTypes ParseOnly = true
+permitsTypes Enable = true
+
+-- 45 at the type, where the dialect has none
 abbrev pub typesCheck : DialectTypes → Node → Answer
-typesCheck Disable r = refusedAt typesDisabled r
-typesCheck ParseOnly r = accepted L.[]
-typesCheck Enable r = accepted L.[]
+typesCheck types r = if' (permitsTypes types) (λ _. accepted L.[]) (λ _. refusedAt typesDisabled r)
 
 -- a type in a dialect
 unfoldable pub «dialect_check_type» : L.List ℕ → DialectTypes → Tree → Answer

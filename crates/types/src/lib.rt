@@ -15,7 +15,15 @@ use table::Refusal;
 use table::Wanted;
 use table::numbers;
 ghost use mathlib.Core.Path.{_≡_};
-ghost use Rattle.types.specs.Jobs.{shaped};
+ghost use mathlib.Core.List.{[]};
+ghost use Prim.Native.Nat.{_+_, _*_, _/_, _≤_};
+ghost use lib.ListN.{length};
+ghost use Rattle.forest.specs.Forest.{treeOf};
+ghost use Rattle.table.specs.Answer.{accepted};
+ghost use Rattle.table.specs.Check.{checkOf, stretchOf};
+ghost use Rattle.types.specs.Types.{permitsTypes, «dialect_check_type»};
+ghost use Rattle.types.specs.Shapes.{shapesOf, afterAnswer};
+ghost use Rattle.types.specs.Jobs.{shaped, typeAt, typeShapeOf, shapesAfter};
 
 // What a type may be by the kind of its node.
 enum Form {
@@ -41,4 +49,85 @@ enum Reads {
 pub enum Shaped {
     Accepted,
     Refused(Refusal),
+}
+
+// The type job: whether a node is a type in a dialect. Then the buffer gets the shape of each node that is read as a type or argument; a refusal changes nothing.
+pub fn type_shape(
+    table: &[u8],
+    names: &[u8],
+    dialect: &[u8],
+    node: usize,
+    shapes: &mut [u8],
+) -> Shaped
+    ensures { λ r. ⌜ shaped r ≡ typeShapeOf (now (table .entry)) (now (names .entry)) (now (dialect .entry)) node (length (now (shapes .entry))) ⌝ }
+    ensures { λ r. ⌜ now (shapes .exit) ≡ shapesAfter (now (table .entry)) (now (names .entry)) (now (dialect .entry)) node (now (shapes .entry)) ⌝ }
+{
+    let found = table::check(table, names);
+    if let Checked::Refused(why) = found {
+        return Shaped::Refused(why);
+    }
+    let read = dialect::from_bytes(dialect);
+    match read {
+        Decoded::Valid(d) => {
+            let types = d.enable_types;
+            type_at(table, names, types, node, shapes)
+        }
+        Decoded::Invalid => Shaped::Refused(Refusal::Bare(numbers::BAD_DIALECT)),
+    }
+}
+
+// The job on a node of a table that is sound, in a dialect with these types.
+fn type_at(
+    table: &[u8],
+    names: &[u8],
+    types: DialectTypes,
+    node: usize,
+    shapes: &mut [u8],
+) -> Shaped
+    requires { ⌜ accepted [] ≡ checkOf (now table) (now names) ⌝ }
+    ensures { λ r. ⌜ shaped r ≡ typeAt (now (table .entry)) (now (names .entry)) types node (length (now (shapes .entry))) ⌝ }
+    ensures { λ r. ⌜ now (shapes .exit) ≡ afterAnswer (typeAt (now (table .entry)) (now (names .entry)) types node (length (now (shapes .entry)))) (shapesOf (treeOf 0 (stretchOf (now (table .entry)) node))) (now (shapes .entry)) ⌝ }
+{
+    if !table::node_fits(table, node, Wanted::Expression) {
+        return Shaped::Refused(Refusal::Bare(numbers::WRONG_NODE));
+    }
+    let t = table::stretch(table, node);
+    if shapes.len() < t.len() / 24 {
+        return Shaped::Refused(Refusal::Bare(numbers::SHORT_BUFFER));
+    }
+    dialect_check_type(names, types, t, node, shapes)
+}
+
+// The type that a stretch begins with, in a dialect with these types: judged first, then written.
+fn dialect_check_type(
+    names: &[u8],
+    types: DialectTypes,
+    t: &[u8],
+    node: usize,
+    shapes: &mut [u8],
+) -> Shaped
+    requires { ⌜ (24 ≤ length (now t)) × ((24 * node + length (now t) ≤ 50400) × (length (now t) / 24 ≤ length (now shapes))) ⌝ }
+    ensures { λ r. ⌜ shaped r ≡ «dialect_check_type» (now (names .entry)) types (treeOf node (now (t .entry))) ⌝ }
+    ensures { λ r. ⌜ now (shapes .exit) ≡ afterAnswer («dialect_check_type» (now (names .entry)) types (treeOf node (now (t .entry)))) (shapesOf (treeOf 0 (now (t .entry)))) (now (shapes .entry)) ⌝ }
+{
+    if !permits_types(types) {
+        return Shaped::Refused(table::refused_at(numbers::TYPES_DISABLED, node as u32, t));
+    }
+    let judged = unpack::unpack(names, t, node);
+    if let Shaped::Refused(why) = judged {
+        return Shaped::Refused(why);
+    }
+    shapes::write_type(t, 0, shapes);
+    Shaped::Accepted
+}
+
+// Whether a dialect has types.
+fn permits_types(types: DialectTypes) -> bool
+    ensures { λ r. ⌜ r ≡ permitsTypes types ⌝ }
+{
+    match types {
+        DialectTypes::Disable => false,
+        DialectTypes::ParseOnly => true,
+        DialectTypes::Enable => true,
+    }
 }
