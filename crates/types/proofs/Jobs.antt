@@ -1,6 +1,6 @@
 -- Laws of the type job and its buffer, in the terms of code: one for each return. Assumes nothing.
 use mathlib.Core.Path.{_≡_, refl, sym, ap, _∙_}
-use mathlib.Core.Bool.{Bool, true, false}
+use mathlib.Core.Bool.{Bool, true, false, false≢true}
 use mathlib.Core.List.{List, [], _∷_}
 use Prim.Native.Nat.{ℕ, _/_, _<_, _≤_}
 use lib.ListN.{length}
@@ -22,7 +22,7 @@ use Rattle.table.specs.declared.Wanted.the-variants.{Expression}
 use Rattle.table.proofs.Handed.{stopped}
 use Rattle.types.specs.Types.{permitsTypes, «unpack», «dialect_check_type»}
 use Rattle.types.specs.Shapes.{Shape, shapesOf, written, afterAnswer}
-use Rattle.types.specs.Jobs.{shaped, typeAt, typeShapeOf, shapesAfter}
+use Rattle.types.specs.Jobs.{shaped, isRefused, typeAt, typeShapeOf, shapesAfter}
 use Rattle.types.specs.declared.Shaped.{Shaped}
 use Rattle.types.specs.declared.Shaped.the-variants.{Accepted, Refused}
 
@@ -56,11 +56,20 @@ module _ (names : List ℕ) (types : DialectTypes) (i : ℕ) (t s : List ℕ) wh
       unfolding «dialect_check_type»
       told = judged-is ∙ rw (← p-is, on) refl
 
-      pub check-refused : {why : Refusal} → judged ≡ Refused why → CheckLeaves (refusal why) s
-      check-refused {why} h = kept _ (shapesOf (treeOf 0 t)) s why (rw h at told)
+      module _ {q : Bool} (q-is : q ≡ isRefused judged) where
+        pub check-refused : q ≡ true → CheckLeaves (shaped judged) s
+        check-refused h = go judged (sym q-is ∙ h) told
+          where
+            go : (j : Shaped) → isRefused j ≡ true → shaped j ≡ «dialect_check_type» names types (treeOf i t) → CheckLeaves (shaped j) s
+            go Accepted e due = absurd (false≢true e)
+            go (Refused why) e due = kept _ (shapesOf (treeOf 0 t)) s why due
 
-      pub check-accepted : judged ≡ Accepted → {u : List ℕ} → u ≡ written (shapesOf (treeOf 0 t)) s → CheckLeaves (accepted []) u
-      check-accepted h u-is = filled _ (shapesOf (treeOf 0 t)) s (rw h at told) u-is
+        pub check-accepted : q ≡ false → {u : List ℕ} → u ≡ written (shapesOf (treeOf 0 t)) s → CheckLeaves (shaped judged) u
+        check-accepted h {u} u-is = go judged (sym q-is ∙ h) told
+          where
+            go : (j : Shaped) → isRefused j ≡ false → shaped j ≡ «dialect_check_type» names types (treeOf i t) → CheckLeaves (shaped j) u
+            go Accepted e due = filled _ (shapesOf (treeOf 0 t)) s due u-is
+            go (Refused why) e due = absurd (false≢true (sym e))
 
 -- the job on a node of a sound table
 module _ (t names : List ℕ) (types : DialectTypes) (i : ℕ) (s : List ℕ) where

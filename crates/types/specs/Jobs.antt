@@ -24,6 +24,11 @@ abbrev pub shaped : Shaped → Answer
 shaped Accepted = accepted []
 shaped (Refused r) = refusal r
 
+-- whether an answer is a refusal
+abbrev pub isRefused : Shaped → Bool
+isRefused Accepted = false
+isRefused (Refused r) = true
+
 -- 5: the bytes give a dialect, whose types are taken
 abbrev pub withTypes : Decoded → (DialectTypes → Answer) → Answer
 withTypes (Valid d) next = next (d .«enable_types»)

@@ -23,7 +23,7 @@ ghost use Rattle.table.specs.Answer.{accepted};
 ghost use Rattle.table.specs.Check.{checkOf, stretchOf};
 ghost use Rattle.types.specs.Types.{permitsTypes, «dialect_check_type»};
 ghost use Rattle.types.specs.Shapes.{shapesOf, afterAnswer};
-ghost use Rattle.types.specs.Jobs.{shaped, typeAt, typeShapeOf, shapesAfter};
+ghost use Rattle.types.specs.Jobs.{shaped, isRefused, typeAt, typeShapeOf, shapesAfter};
 
 // What a type may be by the kind of its node.
 enum Form {
@@ -114,11 +114,21 @@ fn dialect_check_type(
         return Shaped::Refused(table::refused_at(numbers::TYPES_DISABLED, node as u32, t));
     }
     let judged = unpack::unpack(names, t, node);
-    if let Shaped::Refused(why) = judged {
-        return Shaped::Refused(why);
+    if is_refused(judged) {
+        return judged;
     }
     shapes::write_type(t, 0, shapes);
-    Shaped::Accepted
+    judged
+}
+
+// Whether an answer is a refusal.
+fn is_refused(answer: Shaped) -> bool
+    ensures { λ r. ⌜ r ≡ isRefused answer ⌝ }
+{
+    match answer {
+        Shaped::Accepted => false,
+        Shaped::Refused(_) => true,
+    }
 }
 
 // Whether a dialect has types.
