@@ -5,3 +5,4 @@ pub mod Reading
 pub mod Writing
 pub mod Jobs
 pub mod Promises
+pub mod Places
