@@ -1,4 +1,4 @@
--- What a job knows once the table check and its node's check are passed, in the terms of code, and that no two refusals mean the same. Assumes nothing.
+-- What a job knows once the table check and its node's check are passed. Assumes nothing.
 use mathlib.Core.Path.{_≡_, refl, sym, ap, _∙_}
 use mathlib.Core.Bool.{Bool, true, false, _&&_}
 use mathlib.Core.List.{List, [], _∷_}
@@ -15,14 +15,12 @@ use Rattle.soundness.specs.Kinds.{kindOf}
 use Rattle.soundness.specs.Sound.{fieldsSound, kidsSound, rootSound, contextOf, soundNode, soundAt, recordSound, firstUnsound}
 use Rattle.soundness.proofs.Records.{and-left, and-right}
 use Rattle.soundness.proofs.Search.{none-found}
-use Rattle.table.specs.Numbers.{tableLength, nameBytes, unsoundRecord, tooDeep, wrongNode}
+use Rattle.table.specs.Numbers.{tableLength, nameBytes, unsoundRecord, tooDeep}
 use Rattle.table.specs.Depth.{firstDeep}
-use Rattle.table.specs.Answer.{Answer, accepted, refused, andThen, refusal, checked}
-use Rattle.table.specs.Check.{lengthSound, noneFound, checkOf, wants, nodeFits, nodeCheck, stretchOf}
-use Rattle.table.specs.declared.Refusal.{Refusal}
-use Rattle.table.specs.declared.Refusal.the-variants.{Bare, Placed, Spanned}
+use Rattle.table.specs.Answer.{Answer, accepted, refused, andThen, checked}
+use Rattle.table.specs.Check.{lengthSound, noneFound, checkOf, nodeFits, stretchOf}
 use Rattle.table.specs.declared.Checked.{Checked}
-use Rattle.table.specs.declared.Checked.the-variants.{Sound, Refused}
+use Rattle.table.specs.declared.Checked.the-variants.{Sound}
 use Rattle.table.specs.declared.Wanted.{Wanted}
 use Rattle.table.proofs.Checking.{length-whole}
 
@@ -31,12 +29,12 @@ pub record Passed (t names : List ℕ) : Type 0 where
   pub long : lengthSound (length t) ≡ true
   pub sound : firstUnsound t names ≡ Nothing
 
-pub passed : (t names : List ℕ) → accepted [] ≡ checkOf t names → Passed t names
+pub passed : (t names : List ℕ) {vs : List ℕ} → accepted vs ≡ checkOf t names → Passed t names
 unfolding checkOf
-passed t names e = go (lengthSound (length t)) (leb (length names) 8064) (firstUnsound t names) refl refl e
+passed t names {vs} e = go (lengthSound (length t)) (leb (length names) 8064) (firstUnsound t names) refl refl e
   where
     go : (l n : Bool) (u : Found) → lengthSound (length t) ≡ l → firstUnsound t names ≡ u
-        → accepted [] ≡ andThen (if' l (λ _. accepted []) (λ _. refused tableLength [])) (λ _. andThen (if' n (λ _. accepted []) (λ _. refused nameBytes [])) (λ _. andThen (noneFound unsoundRecord u) (λ _. noneFound tooDeep (firstDeep 0 (forest 0 t)))))
+        → accepted vs ≡ andThen (if' l (λ _. accepted []) (λ _. refused tableLength [])) (λ _. andThen (if' n (λ _. accepted []) (λ _. refused nameBytes [])) (λ _. andThen (noneFound unsoundRecord u) (λ _. noneFound tooDeep (firstDeep 0 (forest 0 t)))))
         → Passed t names
     go true true Nothing p q e = record { long = p; sound = q }
     go true true (At i) p q e = let z : _≡_ {A = ℕ} 0 1 = cc in absurd (omega arith)
@@ -54,67 +52,15 @@ size-least t names i e =
     omega (arith, eqb-true (sizeOf bs) (1 + count (forest (i + 1) (kidsOf bs))) whole)
 
 -- LAW: a node that fits has a stretch of one record or more, within the table
-module _ (t names : List ℕ) (i : ℕ) (w : Wanted) {f : Checked} (f-is : checked f ≡ checkOf t names) (f-good : f ≡ Sound) {b : Bool} (b-is : b ≡ nodeFits t i w) (b-yes : b ≡ true) where
-  fitting : i < length t / 24
-  unfolding nodeFits
-  fitting = ltb-true i (length t / 24) (and-left _ _ (sym b-is ∙ b-yes))
+pub stretch-within : (t names : List ℕ) (i : ℕ) (w : Wanted) → Passed t names → nodeFits t i w ≡ true → (24 ≤ length (stretchOf t i)) × (24 * i + length (stretchOf t i) ≤ 50400)
+unfolding nodeFits stretchOf firstUnsound
+stretch-within t names i w p fits =
+    let here = ltb-true i (length t / 24) (and-left _ _ fits) in
+    let size = size-least t names i (none-found (recordSound t names) (length t / 24) (p .sound) i here) in
+    let whole = length-whole (length t) (p .long) in
+    rw (lt-ltb i (length t / 24) here) (simp (length-take, length-drop) (omega arith))
 
-  pub handed : {s : List ℕ} → s ≡ stretchOf t i → (24 ≤ length s) × (24 * i + length s ≤ 50400)
-  unfolding stretchOf firstUnsound
-  handed s-is =
-      let p = passed t names (rw f-good at f-is) in
-      let size = size-least t names i (none-found (recordSound t names) (length t / 24) (p .sound) i fitting) in
-      let whole = length-whole (length t) (p .long) in
-      rw (s-is, lt-ltb i (length t / 24) fitting) (simp (length-take, length-drop) (omega (arith, fitting)))
-
--- LAW: no two refusals mean the same
-pub refusal-injective : (x y : Refusal) → refusal x ≡ refusal y → x ≡ y
-refusal-injective (Bare n) (Bare m) e = cc
-refusal-injective (Bare n) (Placed m k) e = cc
-refusal-injective (Bare n) (Spanned m k b s) e = cc
-refusal-injective (Placed n j) (Bare m) e = cc
-refusal-injective (Placed n j) (Placed m k) e = cc
-refusal-injective (Placed n j) (Spanned m k b s) e = cc
-refusal-injective (Spanned n j a r) (Bare m) e = cc
-refusal-injective (Spanned n j a r) (Placed m k) e = cc
-refusal-injective (Spanned n j a r) (Spanned m k b s) e = cc
-
--- a refusal is no acceptance
-pub never-accepted : {P : Type 0} (why : Refusal) {vs : List ℕ} → refusal why ≡ accepted vs → P
-never-accepted (Bare n) e = let z : _≡_ {A = ℕ} 0 1 = cc in absurd (omega arith)
-never-accepted (Placed n k) e = let z : _≡_ {A = ℕ} 0 1 = cc in absurd (omega arith)
-never-accepted (Spanned n k b s) e = let z : _≡_ {A = ℕ} 0 1 = cc in absurd (omega arith)
-
--- a refusal stops: nothing follows it
-pub stopped : (why : Refusal) (next : Unit {0} → Answer) → refusal why ≡ andThen (refusal why) next
-stopped (Bare n) next = refl
-stopped (Placed n k) next = refl
-stopped (Spanned n k b e) next = refl
-
--- LAWS of a step x, where what follows it is accepted: a refusal is its own; and if the whole is accepted, it is passed
-module _ (x : Answer) (vs : List ℕ) where
-  pub first-refused : (why : Refusal) (next : Unit {0} → Answer) → refusal why ≡ andThen x (λ _. accepted vs) → refusal why ≡ andThen x next
-  first-refused why next e = go x e
-    where
-      go : (y : Answer) → refusal why ≡ andThen y (λ _. accepted vs) → refusal why ≡ andThen y next
-      go (accepted ws) e = never-accepted why e
-      go (refused n ws) e = e
-
-  pub first-accepted : {ws : List ℕ} (next : Unit {0} → Answer) → accepted ws ≡ andThen x (λ _. accepted vs) → andThen x next ≡ next tt
-  first-accepted {ws} next e = go x e
-    where
-      go : (y : Answer) → accepted ws ≡ andThen y (λ _. accepted vs) → andThen y next ≡ next tt
-      go (accepted us) e = refl
-      go (refused n us) e = let z : _≡_ {A = ℕ} 0 1 = cc in absurd (omega arith)
-
-  pub same-values : {ws : List ℕ} → accepted ws ≡ andThen x (λ _. accepted vs) → ws ≡ vs
-  same-values {ws} e = go x e
-    where
-      go : (y : Answer) → accepted ws ≡ andThen y (λ _. accepted vs) → ws ≡ vs
-      go (accepted us) e = cc
-      go (refused n us) e = let z : _≡_ {A = ℕ} 0 1 = cc in absurd (omega arith)
-
--- LAW: what follows two steps follows the second
-pub after-both : (x : Answer) (y z : Unit {0} → Answer) → andThen (andThen x y) z ≡ andThen x (λ _. andThen (y tt) z)
-after-both (accepted vs) y z = refl
-after-both (refused n vs) y z = refl
+-- the same, in the terms of code: the check f found nothing, the node's test b is passed, and s is the stretch
+pub handed : (t names : List ℕ) (i : ℕ) (w : Wanted) {f : Checked} → checked f ≡ checkOf t names → f ≡ Sound → {b : Bool} → b ≡ nodeFits t i w → b ≡ true → {s : List ℕ} → s ≡ stretchOf t i
+    → (24 ≤ length s) × (24 * i + length s ≤ 50400)
+handed t names i w f-is good b-is b-yes s-is = rw s-is (stretch-within t names i w (passed t names (rw good at f-is)) (sym b-is ∙ b-yes))

@@ -1,0 +1,60 @@
+-- Laws of answers: no two refusals mean the same, and what follows a step. Assumes nothing.
+use mathlib.Core.Path.{_≡_, refl}
+use mathlib.Core.List.{List, [], _∷_}
+use Prim.Native.Nat.{ℕ}
+use native.Mathlib.Omega.{arith}
+use Rattle.table.specs.Answer.{Answer, accepted, refused, andThen, refusal}
+use Rattle.table.specs.declared.Refusal.{Refusal}
+use Rattle.table.specs.declared.Refusal.the-variants.{Bare, Placed, Spanned}
+
+-- LAW: no two refusals mean the same
+pub refusal-injective : (x y : Refusal) → refusal x ≡ refusal y → x ≡ y
+refusal-injective (Bare n) (Bare m) e = cc
+refusal-injective (Bare n) (Placed m k) e = cc
+refusal-injective (Bare n) (Spanned m k b s) e = cc
+refusal-injective (Placed n j) (Bare m) e = cc
+refusal-injective (Placed n j) (Placed m k) e = cc
+refusal-injective (Placed n j) (Spanned m k b s) e = cc
+refusal-injective (Spanned n j a r) (Bare m) e = cc
+refusal-injective (Spanned n j a r) (Placed m k) e = cc
+refusal-injective (Spanned n j a r) (Spanned m k b s) e = cc
+
+-- a refusal is no acceptance
+pub never-accepted : {P : Type 0} (why : Refusal) {vs : List ℕ} → refusal why ≡ accepted vs → P
+never-accepted (Bare n) e = let z : _≡_ {A = ℕ} 0 1 = cc in absurd (omega arith)
+never-accepted (Placed n k) e = let z : _≡_ {A = ℕ} 0 1 = cc in absurd (omega arith)
+never-accepted (Spanned n k b s) e = let z : _≡_ {A = ℕ} 0 1 = cc in absurd (omega arith)
+
+-- a refusal stops: nothing follows it
+pub stopped : (why : Refusal) (next : Unit {0} → Answer) → refusal why ≡ andThen (refusal why) next
+stopped (Bare n) next = refl
+stopped (Placed n k) next = refl
+stopped (Spanned n k b e) next = refl
+
+-- LAWS of a step x, where what follows it is accepted: a refusal is its own; and if the whole is accepted, it is passed
+module _ (x : Answer) (vs : List ℕ) where
+  pub first-refused : (why : Refusal) (next : Unit {0} → Answer) → refusal why ≡ andThen x (λ _. accepted vs) → refusal why ≡ andThen x next
+  first-refused why next e = go x e
+    where
+      go : (y : Answer) → refusal why ≡ andThen y (λ _. accepted vs) → refusal why ≡ andThen y next
+      go (accepted ws) e = never-accepted why e
+      go (refused n ws) e = e
+
+  pub first-accepted : {ws : List ℕ} (next : Unit {0} → Answer) → accepted ws ≡ andThen x (λ _. accepted vs) → andThen x next ≡ next tt
+  first-accepted {ws} next e = go x e
+    where
+      go : (y : Answer) → accepted ws ≡ andThen y (λ _. accepted vs) → andThen y next ≡ next tt
+      go (accepted us) e = refl
+      go (refused n us) e = let z : _≡_ {A = ℕ} 0 1 = cc in absurd (omega arith)
+
+  pub same-values : {ws : List ℕ} → accepted ws ≡ andThen x (λ _. accepted vs) → ws ≡ vs
+  same-values {ws} e = go x e
+    where
+      go : (y : Answer) → accepted ws ≡ andThen y (λ _. accepted vs) → ws ≡ vs
+      go (accepted us) e = cc
+      go (refused n us) e = let z : _≡_ {A = ℕ} 0 1 = cc in absurd (omega arith)
+
+-- LAW: what follows two steps follows the second
+pub after-both : (x : Answer) (y z : Unit {0} → Answer) → andThen (andThen x y) z ≡ andThen x (λ _. andThen (y tt) z)
+after-both (accepted vs) y z = refl
+after-both (refused n vs) y z = refl
