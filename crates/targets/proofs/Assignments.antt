@@ -16,7 +16,7 @@ use Rattle.targets.specs.Targets.{isGroup, «check_assign», leaves, cou
 use Rattle.targets.specs.Jobs.{targeted}
 use Rattle.targets.specs.declared.Targeted.{Targeted}
 use Rattle.targets.specs.declared.Targeted.the-variants.{Leaves, Refused}
-use Rattle.table.proofs.Handed.{first-refused, first-accepted, same-values}
+use Rattle.table.proofs.Answers.{first-refused, first-accepted, same-values}
 
 -- the type of an assignment t with the target lhs
 abbrev pub typed : List ℕ → List ℕ → Forest → ℕ → Answer

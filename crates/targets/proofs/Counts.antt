@@ -12,7 +12,7 @@ use Rattle.forest.proofs.Stretch.{forest-none, forest-tree, kids-part, rest-par
 use Rattle.table.specs.Numbers.{invalidLhs}
 use Rattle.table.specs.Answer.{Answer, accepted, refused, andThen, refusedAt, refusal}
 use Rattle.table.specs.declared.Refusal.{Refusal}
-use Rattle.table.proofs.Handed.{first-refused, first-accepted, same-values, after-both}
+use Rattle.table.proofs.Answers.{first-refused, first-accepted, same-values, after-both}
 use Rattle.targets.specs.Targets.{isLeaf, isGroup, «check_assign», checkEach, leaves, leavesEach, counted, countedEach}
 use Rattle.targets.specs.Jobs.{targeted}
 use Rattle.targets.specs.declared.Targeted.{Targeted}

@@ -8,7 +8,7 @@ use Rattle.table.specs.Numbers.{wrongNode}
 use Rattle.table.specs.Answer.{Answer, accepted, refused, andThen, refusal, checked}
 use Rattle.table.specs.Check.{checkOf, nodeFits, stretchOf}
 use Rattle.table.specs.declared.Refusal.{Refusal}
-use Rattle.table.proofs.Handed.{stopped}
+use Rattle.table.proofs.Answers.{stopped}
 use Rattle.table.specs.declared.Checked.{Checked}
 use Rattle.table.specs.declared.Checked.the-variants.{Sound, Refused}
 use Rattle.table.specs.declared.Wanted.{Wanted}

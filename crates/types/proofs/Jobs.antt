@@ -19,7 +19,7 @@ use Rattle.table.specs.declared.Refusal.the-variants.{Bare, Placed, Spanned}
 use Rattle.table.specs.declared.Checked as Checks
 use Rattle.table.specs.declared.Checked.the-variants as Check
 use Rattle.table.specs.declared.Wanted.the-variants.{Expression}
-use Rattle.table.proofs.Handed.{stopped}
+use Rattle.table.proofs.Answers.{stopped}
 use Rattle.types.specs.Types.{permitsTypes, «unpack», «dialect_check_type»}
 use Rattle.types.specs.Shapes.{Shape, shapesOf, written, afterAnswer}
 use Rattle.types.specs.Jobs.{shaped, isRefused, typeAt, typeShapeOf, shapesAfter}

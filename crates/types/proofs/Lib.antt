@@ -6,3 +6,4 @@ pub mod Writing
 pub mod Jobs
 pub mod Promises
 pub mod Places
+pub mod Buffer

@@ -4,7 +4,7 @@ use mathlib.Core.List.{List}
 use Prim.Native.Nat.{ℕ}
 use lib.ListN.{length}
 use Rattle.fields.proofs.Coincide.{coincide, coincide-by}
-use Rattle.table.proofs.Handed.{refusal-injective, never-accepted}
+use Rattle.table.proofs.Answers.{refusal-injective, never-accepted}
 use Rattle.types.specs.Jobs.{shaped, typeShapeOf, shapesAfter}
 use Rattle.types.specs.declared.Shaped.{Shaped}
 use Rattle.types.specs.declared.Shaped.the-variants.{Accepted, Refused}

@@ -11,7 +11,7 @@ use Rattle.forest.specs.Forest.{nodeOf, spanOf, kidsOf, restOf, Tree, node, For
 use Rattle.forest.proofs.Stretch.{forest-none, forest-tree, kids-part, rest-part, length-rest, record-or-none}
 use Rattle.table.specs.Answer.{Answer, accepted, refused, andThen, refusal}
 use Rattle.table.specs.declared.Refusal.{Refusal}
-use Rattle.table.proofs.Handed.{stopped}
+use Rattle.table.proofs.Answers.{stopped}
 use Rattle.types.specs.Forms.{formOf, readsOf}
 use Rattle.types.specs.Types.{atNode, «unpack», «unpack_argument», unpackEach, unpackArguments, unpackIndex, unpackIndex2}
 use Rattle.types.specs.Jobs.{shaped}
