@@ -7,3 +7,4 @@ pub mod Jobs
 pub mod Promises
 pub mod Places
 pub mod Buffer
+pub mod Proper

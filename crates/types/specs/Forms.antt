@@ -21,7 +21,7 @@ formOf kind detail =
     if' (eqb kind kindTuple) (λ _. Tuple) (λ _.
     if' (eqb kind kindOp && eqb detail 1) (λ _. Union) (λ _. Other)))))))
 
--- the shape of a form read as a type: a List is a Union. What is no type has none, and 0 is never written, since such a type is refused
+-- the shape of a form read as a type: a List is a Union. What is no type has none; 0 is never written, since such a type is refused (proofs/Proper)
 abbrev pub shapeOf : Form → ℕ
 shapeOf Ellipsis = 1
 shapeOf Path = 2
