@@ -48,14 +48,16 @@ module _ (number used : ℕ) (bs : List ℕ) where
   unfolding judge examine
   passing-then next e =
       let b : List ℕ = take 512 bs in
-      let m = met (leb 512 (length bs)) (eqb (sumOf b) (field 4 b 508)) (eqb (field 2 b 0) number) (eqb (field 2 b 2) used) (zeros (drop (4 + used) (take 508 b))) next e in
-      (record {
-        long = leb-true 512 (length bs) (m .0);
-        check = eqb-true (sumOf b) (field 4 b 508) (m .1);
-        numbered = eqb-true (field 2 b 0) number (m .2);
-        said = eqb-true (field 2 b 2) used (m .3);
-        padding = m .4;
-      }, m .5)
+      let m = met (leb 512 (length bs)) (eqb (sumOf b) (field 4 b 508)) (eqb (field 2 b 0) number) (eqb (field 2 b 2) used) (zeros (drop (4 + used) (take 508 b))) next e in (
+        record {
+          long = leb-true 512 (length bs) (m .0);
+          check = eqb-true (sumOf b) (field 4 b 508) (m .1);
+          numbered = eqb-true (field 2 b 0) number (m .2);
+          said = eqb-true (field 2 b 2) used (m .3);
+          padding = m .4;
+        },
+        m .5,
+      )
 
   pub passing : judge number used bs ≡ accepted [] → Passing number used bs
   passing e = passing-then (λ _. accepted []) (rw e refl) .0

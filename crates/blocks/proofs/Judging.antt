@@ -40,25 +40,25 @@ module _ {b : List ℕ} {from p : ℕ} (s : Padding b from p) where
   pad-end h = rw (drop-of-length-le (take 508 b) {i = p} (simp length-take (omega arith))) at (s .left)
 
 -- the demands, one after the other
-module _ (number used : ℕ) (b : List ℕ) {s w : ℕ} (s-is : s ≡ sumOf b) (w-is : w ≡ field 4 b 508) where
-  pub examine-check : (s ≡ w → ⊥) → refused blockCheck [] ≡ examine number used b
+module _ (number used : ℕ) (b : List ℕ) {s w n : ℕ} (s-is : s ≡ sumOf b) (w-is : w ≡ field 4 b 508) (n-is : n ≡ field 2 b 0) where
+  pub examine-check : eqb s w ≡ false → refused blockCheck [] ≡ examine number used b
   unfolding examine
-  examine-check e = rw (← s-is, ← w-is, ne-eqb s w e) refl
+  examine-check wrong = rw (← s-is, ← w-is, wrong) refl
 
-  module _ (right : s ≡ w) {n : ℕ} (n-is : n ≡ field 2 b 0) where
-    pub examine-number : (n ≡ number → ⊥) → refused blockNumber [] ≡ examine number used b
+  module _ (right : eqb s w ≡ true) where
+    pub examine-number : eqb n number ≡ false → refused blockNumber [] ≡ examine number used b
     unfolding examine
-    examine-number e = rw (← s-is, ← w-is, eq-eqb s w right, ← n-is, ne-eqb n number e) refl
+    examine-number wrong = rw (← s-is, ← w-is, right, ← n-is, wrong) refl
 
-    module _ (same : n ≡ number) {u : ℕ} (u-is : u ≡ field 2 b 2) where
+    module _ (numbered : eqb n number ≡ true) {u : ℕ} (u-is : u ≡ field 2 b 2) where
       pub examine-used : (u ≡ used → ⊥) → refused blockUsed [] ≡ examine number used b
       unfolding examine
-      examine-used e = rw (← s-is, ← w-is, eq-eqb s w right, ← n-is, eq-eqb n number same, ← u-is, ne-eqb u used e) refl
+      examine-used e = rw (← s-is, ← w-is, right, ← n-is, numbered, ← u-is, ne-eqb u used e) refl
 
       module _ (said : u ≡ used) {z : Bool} (z-is : z ≡ zeros (drop (4 + u) (take 508 b))) where
         whole : examine number used b ≡ demand z blockUsed
         unfolding examine
-        whole = rw (← s-is, ← w-is, eq-eqb s w right, ← n-is, eq-eqb n number same, ← u-is, eq-eqb u used said, z-is, said) refl
+        whole = rw (← s-is, ← w-is, right, ← n-is, numbered, ← u-is, eq-eqb u used said, z-is, said) refl
 
         pub examine-padding : z ≡ false → refused blockUsed [] ≡ examine number used b
         examine-padding e = sym (whole ∙ rw e refl)

@@ -4,3 +4,4 @@ pub mod Sums
 pub mod Judging
 pub mod Blocks
 pub mod Runs
+pub mod Promises

@@ -72,10 +72,12 @@ fn examine(b: &[u8], number: usize, used: usize) -> Judged
     requires { ⌜ length (now b) ≡ 512 ⌝ }
     ensures { λ r. ⌜ judged r ≡ examine number used (now (b .entry)) ⌝ }
 {
-    if sum(b) != fields::word(b, 508) as usize {
+    let right = sum(b) == fields::word(b, 508) as usize;
+    let numbered = fields::half(b, 0) as usize == number;
+    if !right {
         return Judged::Refused(numbers::BLOCK_CHECK);
     }
-    if fields::half(b, 0) as usize != number {
+    if !numbered {
         return Judged::Refused(numbers::BLOCK_NUMBER);
     }
     let said = fields::half(b, 2) as usize;

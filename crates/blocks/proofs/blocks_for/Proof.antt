@@ -5,7 +5,6 @@ use borrow.Author.Needs.{needs}
 use Rattle.blocks.proofs.blocks_for.Statement.{statement}
 use Rattle.blocks.proofs.blocks_for.Tie as tie
 
-
 pub blocks-for-spec : {M : Type 1} → statement M
 unfolding blocksFor
 blocks-for-spec = tie.close (tie.spec (λ c. search needs) (λ c. search needs) (λ c. search needs))

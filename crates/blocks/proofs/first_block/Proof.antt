@@ -14,7 +14,6 @@ Inv-loop bytes b₀ i₀ b i = Filled (replicate 512 0) bytes 512 b i
 abbrev μ-loop : tie.MeasureT-loop
 μ-loop bytes b₀ i₀ b i = 512 - i
 
-
 pub first-block-spec : {M : Type 1} → statement M
 first-block-spec =
     tie.close

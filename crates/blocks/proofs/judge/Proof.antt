@@ -5,7 +5,6 @@ use borrow.Author.Needs.{needs}
 use Rattle.blocks.proofs.judge.Statement.{statement}
 use Rattle.blocks.proofs.judge.Tie as tie
 
-
 pub judge-spec : {M : Type 1} → statement M
 judge-spec =
     tie.close

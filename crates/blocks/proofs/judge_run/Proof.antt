@@ -11,7 +11,6 @@ Inv-loop bytes first total left₀ number₀ more₀ left number more = Running 
 abbrev μ-loop : tie.MeasureT-loop
 μ-loop bytes first total left₀ number₀ more₀ left number more = more
 
-
 pub judge-run-spec : {M : Type 1} → statement M
 judge-run-spec =
     tie.close

@@ -11,7 +11,6 @@ Inv-loop b from p₀ p = Padding b from p
 abbrev μ-loop : tie.MeasureT-loop
 μ-loop b from p₀ p = 508 - p
 
-
 pub padded-spec : {M : Type 1} → statement M
 padded-spec =
     tie.close

@@ -12,7 +12,6 @@ Inv-loop b sum₀ p₀ sum p = Summed b sum p
 abbrev μ-loop : tie.MeasureT-loop
 μ-loop b sum₀ p₀ sum p = 508 - p
 
-
 pub sum-spec : {M : Type 1} → statement M
 sum-spec =
     tie.close
