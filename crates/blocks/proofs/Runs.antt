@@ -10,12 +10,20 @@ use lib.Seq.{take-all, length-take-le, take-at, drop-at, take-append-le, take-ap
 use Rattle.fields.proofs.Fields.{tail-part}
 use Rattle.table.specs.Numbers.{blockCheck}
 use Rattle.table.specs.Answer.{Answer, accepted, refused, andThen}
+use Rattle.table.proofs.Answers.{after-both}
 use Rattle.blocks.specs.declared.Judged.{Judged}
 use Rattle.blocks.specs.declared.Judged.the-variants.{Passed, Refused}
 use Rattle.blocks.specs.Block.{blockOf, judge, judged}
 use Rattle.blocks.specs.Run.{blocksFor, blocksOf, runOf, judgeBlocks, judgeRun, contents, contentOf}
 use Rattle.blocks.proofs.Blocks.{Passing, passing, passing-then, passes, drop-take, take-min, length-block, content-there, block-passes, passed-is-block, changed-block, judge-outside}
 use Rattle.blocks.proofs.Spelling.{le-or-lt, Bytes, bytes-take, bytes-drop}
+
+-- a byte behind the first n
+pub drop-set : (n : ℕ) (l : List ℕ) (i v : ℕ) → n ≤ i → drop n (set l i v) ≡ set (drop n l) (i - n) v
+drop-set n l i v h = let at : i ≡ n + (i - n) = omega arith in ap (λ (x : ℕ). drop n (set l x v)) at ∙ drop-set-add n l (i - n) v
+
+pub getD-behind : (n : ℕ) (l : List ℕ) (i : ℕ) → n ≤ i → getD (drop n l) (i - n) 0 ≡ getD l i 0
+getD-behind n l i h = let at : n + (i - n) ≡ i = omega arith in getD-drop n l (i - n) 0 ∙ ap (λ (x : ℕ). getD l x 0) at
 
 -- one block and the others
 pub blocks-more : (total : ℕ) → 0 < total → blocksFor total ≡ suc (blocksFor (total - 504))
@@ -125,6 +133,20 @@ pub run-long : (number total : ℕ) (bs : List ℕ) → judgeRun number total bs
 unfolding judgeRun
 run-long number total bs e = blocks-long (blocksFor total) number total bs e
 
+-- LAW: a run that passes, and what follows it
+blocks-then : (n number total : ℕ) (bs : List ℕ) (next : Unit {0} → Answer) → andThen (judgeBlocks n number total bs) next ≡ accepted [] → (judgeBlocks n number total bs ≡ accepted []) × (next tt ≡ accepted [])
+unfolding judgeBlocks
+blocks-then zero number total bs next e = (refl, e)
+blocks-then (suc n) number total bs next e =
+    let later : Unit {0} → Answer = λ _. judgeBlocks n (number + 1) (total - 504) (drop 512 bs) in
+    let step = passing-then number (min 504 total) bs (λ _. andThen (later tt) next) (sym (after-both (judge number (min 504 total) bs) later next) ∙ e) in
+    let rest = blocks-then n (number + 1) (total - 504) (drop 512 bs) next (step .1) in
+    (rw (passes number (min 504 total) bs (step .0)) (rest .0), rest .1)
+
+pub run-then : (number total : ℕ) (bs : List ℕ) (next : Unit {0} → Answer) → andThen (judgeRun number total bs) next ≡ accepted [] → (judgeRun number total bs ≡ accepted []) × (next tt ≡ accepted [])
+unfolding judgeRun
+run-then number total bs next e = blocks-then (blocksFor total) number total bs next e
+
 -- a content that begins with one block's
 module _ (total : ℕ) (here others : List ℕ) (long : length here ≡ 504) where
   first-part : take 504 (take total (here ++ others)) ≡ take (min 504 total) here
@@ -200,6 +222,18 @@ pub run-holds : (number : ℕ) (content rest : List ℕ) → contentOf (length c
 unfolding contentOf runOf blocksFor
 run-holds number content rest = blocks-hold (blocksFor (length content)) number content rest (omega arith)
 
+-- LAW: a byte behind a run does not matter to it
+blocks-outside : (n number total : ℕ) (bs : List ℕ) (i v : ℕ) → 512 * n ≤ i → judgeBlocks n number total (set bs i v) ≡ judgeBlocks n number total bs
+unfolding judgeBlocks
+blocks-outside zero number total bs i v h = refl
+blocks-outside (suc n) number total bs i v h =
+    let later : drop 512 (set bs i v) ≡ set (drop 512 bs) (i - 512) v = drop-set 512 bs i v (omega arith) in
+    rw (judge-outside number (min 504 total) bs i v (omega arith), later, blocks-outside n (number + 1) (total - 504) (drop 512 bs) (i - 512) v (omega arith)) refl
+
+pub run-outside : (number total : ℕ) (bs : List ℕ) (i v : ℕ) → 512 * blocksFor total ≤ i → judgeRun number total (set bs i v) ≡ judgeRun number total bs
+unfolding judgeRun
+run-outside number total bs i v h = blocks-outside (blocksFor total) number total bs i v h
+
 -- THEOREM: any one byte of a run that passes changed to any other value gives 72
 changed-blocks : (n number total : ℕ) (bs : List ℕ) (i v : ℕ) → judgeBlocks n number total bs ≡ accepted [] → i < 512 * n → (v ≡ getD bs i 0 → ⊥) → judgeBlocks n number total (set bs i v) ≡ refused blockCheck []
 unfolding judgeBlocks
@@ -209,9 +243,8 @@ changed-blocks (suc n) number total bs i v e h other =
     let step = passing-then number (min 504 total) bs next e in
     ⊎-elim
     (λ (q : 512 ≤ i).
-    let at : i ≡ 512 + (i - 512) = omega arith in
-    let later : drop 512 (set bs i v) ≡ set (drop 512 bs) (i - 512) v = ap (λ (x : ℕ). drop 512 (set bs x v)) at ∙ drop-set-add 512 bs (i - 512) v in
-    let old : getD (drop 512 bs) (i - 512) 0 ≡ getD bs i 0 = getD-drop 512 bs (i - 512) 0 ∙ ap (λ (x : ℕ). getD bs x 0) (sym at) in
+    let later : drop 512 (set bs i v) ≡ set (drop 512 bs) (i - 512) v = drop-set 512 bs i v q in
+    let old : getD (drop 512 bs) (i - 512) 0 ≡ getD bs i 0 = getD-behind 512 bs i q in
     rw
     (judge-outside number (min 504 total) bs i v q, passes number (min 504 total) bs (step .0), later)
     (changed-blocks n (number + 1) (total - 504) (drop 512 bs) (i - 512) v (step .1) (omega arith) (λ g. other (g ∙ old))))
