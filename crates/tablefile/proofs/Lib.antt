@@ -1,3 +1,4 @@
 pub mod Copies
 pub mod Fronts
 pub mod Loads
+pub mod Files
