@@ -122,3 +122,155 @@ module _ (bs : List ℕ) (f : Fronted bs) (i v : ℕ) (other : v ≡ getD bs i 0
       (le-or-lt (512 * blocksFor (namesAt bs)) (i - 512)))
       (λ (p : i < 512). header-changed p)
       (le-or-lt 512 i)
+
+-- ---- the file of a content, and anything behind it, reads as that content
+pub record Fits (c : Content) : Type 0 where
+  pub whole : 24 * (length (c .table) / 24) ≡ length (c .table)
+  pub some : 24 ≤ length (c .table)
+  pub few : length (c .table) ≤ 50400
+  pub names : length (c .names) ≤ 8064
+  pub dialect : (length (c .dialect) ≡ 0) ⊎ (length (c .dialect) ≡ 9)
+  pub table-bytes : Bytes (c .table)
+  pub names-bytes : Bytes (c .names)
+  pub dialect-bytes : Bytes (c .dialect)
+
+module _ (c : Content) (fit : Fits c) (rest : List ℕ) where
+  abbrev bs : List ℕ
+  bs = fileOf c ++ rest
+
+  abbrev nodes : ℕ
+  nodes = length (c .table) / 24
+
+  abbrev first : ℕ
+  first = 1 + blocksFor (length (c .names))
+
+  abbrev node-part : List ℕ
+  node-part = runOf first (c .table) ++ rest
+
+  abbrev name-part : List ℕ
+  name-part = runOf 1 (c .names) ++ node-part
+
+  parts : bs ≡ blockOf 0 (headerOf c) ++ name-part
+  unfolding fileOf
+  parts =
+      append-assoc (blockOf 0 (headerOf c)) (runOf 1 (c .names) ++ runOf first (c .table)) rest
+      ∙ ap (λ (x : List ℕ). blockOf 0 (headerOf c) ++ x) (append-assoc (runOf 1 (c .names)) (runOf first (c .table)) rest)
+
+  dialect-small : length (c .dialect) ≤ 9
+  dialect-small = ⊎-elim (λ (e : length (c .dialect) ≡ 0). omega arith) (λ (e : length (c .dialect) ≡ 9). omega arith) (fit .dialect)
+
+  header-length : length (headerOf c) ≡ 4 + length (c .dialect)
+  unfolding headerOf
+  header-length = simp (length-append, length-bytes) (omega arith)
+
+  header-fits : length (headerOf c) ≤ 504
+  header-fits = omega (arith, header-length, dialect-small)
+
+  header-bytes : Bytes (headerOf c)
+  unfolding headerOf
+  header-bytes = bytes-append (bytesOf 2 nodes) _ (bytes-spelled 2 nodes) (bytes-append (bytesOf 2 (length (c .names))) _ (bytes-spelled 2 (length (c .names))) (fit .dialect-bytes))
+
+  header-passes : judge 0 (length (headerOf c)) bs ≡ accepted []
+  header-passes = rw parts (block-passes 0 (headerOf c) header-fits header-bytes (omega arith) name-part)
+
+  dialect-so : dialectAt bs ≡ length (c .dialect)
+  unfolding dialectAt
+  dialect-so =
+      let p : Passing 0 (length (headerOf c)) bs = passing 0 (length (headerOf c)) bs header-passes in
+      let said : field 2 bs 2 ≡ 4 + length (c .dialect) = sym (field-take 2 bs 512 2 (omega arith)) ∙ p .said ∙ header-length in
+      ⊎-elim
+      (λ (e : length (c .dialect) ≡ 0). rw (said, e) refl)
+      (λ (e : length (c .dialect) ≡ 9). rw (said, e) refl)
+      (fit .dialect)
+
+  abbrev zeros : List ℕ
+  zeros = replicate (504 - length (headerOf c)) 0
+
+  header-there : take 504 (drop 4 bs) ≡ bytesOf 2 nodes ++ (bytesOf 2 (length (c .names)) ++ (c .dialect ++ zeros))
+  unfolding headerOf
+  header-there =
+      ap (λ (x : List ℕ). take 504 (drop 4 x)) parts
+      ∙ content-there 0 (headerOf c) header-fits name-part
+      ∙ append-assoc (bytesOf 2 nodes) (bytesOf 2 (length (c .names)) ++ c .dialect) zeros
+      ∙ ap (λ (x : List ℕ). bytesOf 2 nodes ++ x) (append-assoc (bytesOf 2 (length (c .names))) (c .dialect) zeros)
+
+  field-there : (at : ℕ) → at + 2 ≤ 504 → field 2 bs (4 + at) ≡ field 2 (bytesOf 2 nodes ++ (bytesOf 2 (length (c .names)) ++ (c .dialect ++ zeros))) at
+  field-there at h = sym (field-drop 2 bs 4 at) ∙ sym (field-take 2 (drop 4 bs) 504 at h) ∙ ap (λ (x : List ℕ). field 2 x at) header-there
+
+  nodes-so : nodesAt bs ≡ nodes
+  unfolding nodesAt
+  nodes-so = field-there 0 (omega arith) ∙ field-bytes 2 nodes _ (omega (arith, fit .few))
+
+  names-so : namesAt bs ≡ length (c .names)
+  unfolding namesAt
+  names-so =
+      let tail : List ℕ = bytesOf 2 (length (c .names)) ++ (c .dialect ++ zeros) in
+      let behind : field 2 (bytesOf 2 nodes ++ tail) (length (bytesOf 2 nodes) + 0) ≡ length (c .names) =
+      field-behind 2 (bytesOf 2 nodes) tail 0 ∙ field-bytes 2 (length (c .names)) (c .dialect ++ zeros) (omega (arith, fit .names)) in
+      field-there 2 (omega arith) ∙ (rw (length-bytes 2 nodes, add-zero 2) at behind)
+
+  dialect-there : take (length (c .dialect)) (drop 8 bs) ≡ c .dialect
+  dialect-there =
+      let tail : List ℕ = bytesOf 2 (length (c .names)) ++ (c .dialect ++ zeros) in
+      let behind : drop 4 (bytesOf 2 nodes ++ tail) ≡ c .dialect ++ zeros =
+      sym (drop-drop 2 2 (bytesOf 2 nodes ++ tail)) ∙ ap (drop 2) (drop-at (bytesOf 2 nodes) tail 2 (length-bytes 2 nodes)) ∙ drop-at (bytesOf 2 (length (c .names))) (c .dialect ++ zeros) 2 (length-bytes 2 (length (c .names))) in
+      let inside : take 500 (drop 8 bs) ≡ c .dialect ++ zeros =
+      ap (take 500) (sym (drop-drop 4 4 bs)) ∙ sym (drop-take 4 504 (drop 4 bs)) ∙ ap (drop 4) header-there ∙ behind in
+      sym (take-take (length (c .dialect)) 500 (drop 8 bs) (omega (arith, dialect-small))) ∙ ap (take (length (c .dialect))) inside ∙ take-at (c .dialect) zeros (length (c .dialect)) refl
+
+  names-behind : drop 512 bs ≡ name-part
+  names-behind = ap (drop 512) parts ∙ drop-at (blockOf 0 (headerOf c)) name-part 512 (length-block 0 (headerOf c) header-fits)
+
+  first-so : firstNodes bs ≡ first
+  unfolding firstNodes
+  first-so = rw names-so refl
+
+  nodes-behind : drop (512 * firstNodes bs) bs ≡ node-part
+  nodes-behind =
+      let a : ℕ = 512 * blocksFor (length (c .names)) in
+      let at : 512 * firstNodes bs ≡ 512 + a = omega (arith, first-so) in
+      ap (λ (x : ℕ). drop x bs) at ∙ sym (drop-drop a 512 bs) ∙ ap (drop a) names-behind ∙ drop-at (runOf 1 (c .names)) node-part a (length-run 1 (c .names))
+
+  table-so : 24 * nodesAt bs ≡ length (c .table)
+  table-so = omega (arith, nodes-so, fit .whole)
+
+  first-small : blocksFor (length (c .names)) ≤ 16
+  unfolding blocksFor
+  first-small = omega (arith, fit .names)
+
+  last-small : blocksFor (length (c .table)) ≤ 100
+  unfolding blocksFor
+  last-small = omega (arith, fit .few)
+
+  counts-so : countsFit (nodesAt bs) (namesAt bs) ≡ true
+  unfolding countsFit
+  counts-so =
+      let some : 1 ≤ nodes = omega (arith, fit .some) in
+      let few : nodes ≤ 2100 = omega (arith, fit .few) in
+      rw (nodes-so, names-so, le-leb 1 nodes some, le-leb nodes 2100 few, le-leb (length (c .names)) 8064 (fit .names)) refl
+
+  names-pass : judgeRun 1 (namesAt bs) (drop 512 bs) ≡ accepted []
+  names-pass = rw (names-so, names-behind) (run-passes 1 (c .names) node-part (fit .names-bytes) (omega (arith, first-small)))
+
+  nodes-pass : judgeRun (firstNodes bs) (24 * nodesAt bs) (drop (512 * firstNodes bs) bs) ≡ accepted []
+  nodes-pass = rw (nodes-behind, first-so, table-so) (run-passes first (c .table) rest (fit .table-bytes) (omega (arith, first-small, last-small)))
+
+  -- THEOREM, in three parts: it passes, it holds the content, and it takes the file's bytes
+  pub file-passes : frontCheck (fileOf c ++ rest) ≡ accepted []
+  unfolding frontCheck
+  file-passes =
+      let used : 4 + dialectAt bs ≡ length (headerOf c) = omega (arith, dialect-so, header-length) in
+      rw (used, header-passes, counts-so, names-pass) nodes-pass
+
+  pub file-holds : contentAt (fileOf c ++ rest) ≡ c
+  unfolding contentAt
+  file-holds =
+      rw
+      (dialect-so, dialect-there, names-so, names-behind, run-holds 1 (c .names) node-part, nodes-behind, table-so, run-holds first (c .table) rest)
+      refl
+
+  pub file-taken : takenAt (fileOf c ++ rest) ≡ length (fileOf c)
+  unfolding takenAt fileOf
+  file-taken =
+      rw (first-so, table-so)
+      (simp (length-append, length-block 0 (headerOf c) header-fits, length-run 1 (c .names), length-run first (c .table)) (omega arith))
