@@ -111,7 +111,8 @@ pub record Fronted (bs : List ℕ) : Type 0 where
   pub names : judgeRun 1 (namesAt bs) (drop 512 bs) ≡ accepted []
   pub nodes : judgeRun (firstNodes bs) (24 * nodesAt bs) (drop (512 * firstNodes bs) bs) ≡ accepted []
 
-demand-then : (b : Bool) (n : ℕ) (next : Unit {0} → Answer) → andThen (demand b n) next ≡ accepted [] → (b ≡ true) × (next tt ≡ accepted [])
+-- a demand that is met, and what follows it
+pub demand-then : (b : Bool) (n : ℕ) (next : Unit {0} → Answer) → andThen (demand b n) next ≡ accepted [] → (b ≡ true) × (next tt ≡ accepted [])
 demand-then true n next e = (refl, e)
 demand-then false n next e = let z : _≡_ {A = ℕ} 0 1 = cc in absurd (omega arith)
 
