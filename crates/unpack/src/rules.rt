@@ -109,7 +109,7 @@ fn kwargs_rule(state: State) -> Check
     match state {
         State::Normal => Check::Fine,
         State::SeenSlash => Check::Fine,
-        State::SeenStar => Check::Fine,
+        State::SeenStar => Check::Fine, // 18, if any, waits for the end
         State::SeenStarStar => Check::Broken(numbers::MULTIPLE_KWARGS),
     }
 }
