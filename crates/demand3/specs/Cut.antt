@@ -195,3 +195,26 @@ pub record ByRange (r : Ranges) (ms : List ℕ) : Type 0 where
   pub args : InRange (r .args) 4 ms
   pub namedOnly : InRange (r .namedOnly) 3 ms
   pub kwargs : InRange (r .kwargs) 5 ms
+
+-- five ranges follow one another from 0 to n
+pub record Follow (r : Ranges) (n : ℕ) : Type 0 where
+  pub first : r .posOnly .from ≡ 0
+  pub second : r .posOnly .upto ≡ r .posOrNamed .from
+  pub third : r .posOrNamed .upto ≡ r .args .from
+  pub fourth : r .args .upto ≡ r .namedOnly .from
+  pub fifth : r .namedOnly .upto ≡ r .kwargs .from
+  pub end : r .kwargs .upto ≡ n
+  pub posOnly : r .posOnly .from ≤ r .posOnly .upto
+  pub posOrNamed : r .posOrNamed .from ≤ r .posOrNamed .upto
+  pub args : r .args .from ≤ r .args .upto
+  pub namedOnly : r .namedOnly .from ≤ r .namedOnly .upto
+  pub kwargs : r .kwargs .from ≤ r .kwargs .upto
+
+-- the ranges cut a list into five parts
+pub record CutBy (r : Ranges) (l : List Param) (p : Parts) : Type 0 where
+  pub posOnly : slice (r .posOnly) l ≡ p .posOnly
+  pub posOrNamed : slice (r .posOrNamed) l ≡ p .posOrNamed
+  pub args : slice (r .args) l ≡ p .args
+  pub namedOnly : slice (r .namedOnly) l ≡ p .namedOnly
+  pub kwargs : slice (r .kwargs) l ≡ p .kwargs
+  pub all : r .kwargs .upto ≡ length l
