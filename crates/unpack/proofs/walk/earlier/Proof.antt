@@ -1,10 +1,10 @@
--- `unpack::list::earlier` meets its contract: the parameters that are left decide. Assumes nothing.
+-- `unpack::walk::earlier` meets its contract: the parameters that are left decide. Assumes nothing.
 use borrow.Author.Needs.{needs}
 use Prim.Native.Nat.{_-_}
 use native.Mathlib.Omega.{arith}
 use Rattle.unpack.proofs.Reading.{Searching, search-start, search-here, search-on, search-end, search-long}
-use Rattle.unpack.proofs.list.earlier.Statement.{statement}
-use Rattle.unpack.proofs.list.earlier.Tie as tie
+use Rattle.unpack.proofs.walk.earlier.Statement.{statement}
+use Rattle.unpack.proofs.walk.earlier.Tie as tie
 
 abbrev Inv-loop : tie.InvT-loop
 Inv-loop names name kids first n left₀ at₀ i₀ left at i = Searching names name kids first (n .0) left at i

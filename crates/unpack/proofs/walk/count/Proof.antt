@@ -1,8 +1,8 @@
--- `unpack::rules::count` meets its contract: it is the definition, kind by kind. Assumes nothing.
+-- `unpack::walk::count` meets its contract: it is the definition, kind by kind. Assumes nothing.
 use mathlib.Core.Path.{refl, _∙_, ap}
 use borrow.Author.Needs.{needs}
-use Rattle.unpack.proofs.rules.count.Statement.{statement}
-use Rattle.unpack.proofs.rules.count.Tie as tie
+use Rattle.unpack.proofs.walk.count.Statement.{statement}
+use Rattle.unpack.proofs.walk.count.Tie as tie
 
 pub count-spec : {M : Type 1} → statement M
 count-spec =

@@ -1,10 +1,10 @@
--- `parameters::modes::list_length` meets its contract: at the end all are counted. Assumes nothing.
+-- `parameters::list_length` meets its contract: at the end all are counted. Assumes nothing.
 use borrow.Author.Needs.{needs}
 use lib.ListN.{length}
 use Rattle.unpack.proofs.Reading.{rest-less}
 use Rattle.parameters.proofs.Lists.{Counting, count-start, count-on, count-end}
-use Rattle.parameters.proofs.modes.list_length.Statement.{statement}
-use Rattle.parameters.proofs.modes.list_length.Tie as tie
+use Rattle.parameters.proofs.list_length.Statement.{statement}
+use Rattle.parameters.proofs.list_length.Tie as tie
 
 abbrev Inv-loop : tie.InvT-loop
 Inv-loop kids left₀ n₀ left n = Counting kids left n

@@ -1,8 +1,8 @@
--- `unpack::rules::more_positional` meets its contract: it is the definition, state by state. Assumes nothing.
+-- `unpack::walk::more_positional` meets its contract: it is the definition, state by state. Assumes nothing.
 use mathlib.Core.Path.{refl, _∙_, ap}
 use borrow.Author.Needs.{needs}
-use Rattle.unpack.proofs.rules.more_positional.Statement.{statement}
-use Rattle.unpack.proofs.rules.more_positional.Tie as tie
+use Rattle.unpack.proofs.walk.more_positional.Statement.{statement}
+use Rattle.unpack.proofs.walk.more_positional.Tie as tie
 
 pub more-positional-spec : {M : Type 1} → statement M
 more-positional-spec =

@@ -1,8 +1,8 @@
--- `parameters::modes::mode` meets its contract: it is the definition, kind by kind. Assumes nothing.
+-- `parameters::mode` meets its contract: it is the definition, kind by kind. Assumes nothing.
 use mathlib.Core.Path.{refl, _∙_, ap, sym}
 use borrow.Author.Needs.{needs}
-use Rattle.parameters.proofs.modes.mode.Statement.{statement}
-use Rattle.parameters.proofs.modes.mode.Tie as tie
+use Rattle.parameters.proofs.mode.Statement.{statement}
+use Rattle.parameters.proofs.mode.Tie as tie
 
 pub mode-spec : {M : Type 1} → statement M
 mode-spec =

@@ -1,10 +1,10 @@
--- `parameters::convert::counted` meets its contract: it is the definition, field by field. Assumes nothing.
+-- `parameters::counted` meets its contract: it is the definition, field by field. Assumes nothing.
 use native.Mathlib.Omega.{arith}
 use mathlib.Core.Path.{refl, _∙_, ap, sym}
 use Rattle.unpack.specs.Indices.{countedOf}
 use borrow.Author.Needs.{needs}
-use Rattle.parameters.proofs.convert.counted.Statement.{statement}
-use Rattle.parameters.proofs.convert.counted.Tie as tie
+use Rattle.parameters.proofs.counted.Statement.{statement}
+use Rattle.parameters.proofs.counted.Tie as tie
 
 pub counted-spec : {M : Type 1} → statement M
 unfolding countedOf

@@ -1,10 +1,10 @@
--- `parameters::modes::write_modes` meets its contract: the modes that are left decide. Assumes nothing.
+-- `parameters::write_modes` meets its contract: the modes that are left decide. Assumes nothing.
 use borrow.Author.Needs.{needs}
 use lib.ListN.{length}
 use Rattle.unpack.proofs.Reading.{rest-less}
 use Rattle.parameters.proofs.Lists.{Writing, write-start, write-room, write-on, write-end}
-use Rattle.parameters.proofs.modes.write_modes.Statement.{statement}
-use Rattle.parameters.proofs.modes.write_modes.Tie as tie
+use Rattle.parameters.proofs.write_modes.Statement.{statement}
+use Rattle.parameters.proofs.write_modes.Tie as tie
 
 abbrev Inv-loop : tie.InvT-loop
 Inv-loop kids modes₀ left₀ state₀ flat₀ modes left state flat = Writing kids modes₀ state₀ modes left state (flat .0)

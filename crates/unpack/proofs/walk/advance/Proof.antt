@@ -1,9 +1,9 @@
--- `unpack::rules::advance` meets its contract: it is the definition, field by field. Assumes nothing.
+-- `unpack::walk::advance` meets its contract: it is the definition, field by field. Assumes nothing.
 use mathlib.Core.Path.{refl, _∙_, ap}
 use Rattle.unpack.specs.Unpack.{advance}
 use borrow.Author.Needs.{needs}
-use Rattle.unpack.proofs.rules.advance.Statement.{statement}
-use Rattle.unpack.proofs.rules.advance.Tie as tie
+use Rattle.unpack.proofs.walk.advance.Statement.{statement}
+use Rattle.unpack.proofs.walk.advance.Tie as tie
 
 pub advance-spec : {M : Type 1} → statement M
 unfolding advance
