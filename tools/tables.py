@@ -8,7 +8,8 @@ A tree is written (Kind children): (Statements (Break) (Return (Identifier x))).
   :1              the detail
   x               the name, where the kind has one
   size=3 span=4-9 pad=1 pos=7 name=0+256 kind=13     a field that is not as usual (name: start and length)
-^3<text> is the text three times over: ^3<(Break)>, and ^3<(Not >(Int)^3<)> for (Not (Not (Not (Int)))).
+^3<text> is the text three times over: ^3<(Break)>, and ^3<(Not >(Int)^3<)> for (Not (Not (Not (Int)))); a # in it is the turn's
+number, from 0, in base 36.
 Sizes follow from the tree, names are put one after the other, and node i has the span i to i + 1.
 """
 import re
@@ -20,7 +21,7 @@ KINDS = """1 Statements 2 Def 3 For 4 If 5 IfElse 6 Break 7 Continue 8 Return 9 
 33 Not 34 Minus 35 Plus 36 BitNot 37 Op 38 IfExpr 39 List 40 Dict 41 ListComprehension 42 DictComprehension 43 FString
 50 Normal 51 NoArgs 52 Slash 53 ArgsParam 54 KwArgsParam 60 Positional 61 Named 62 ArgsArg 63 KwArgsArg""".split()
 NUMBER = {name: int(number) for number, name in zip(KINDS[::2], KINDS[1::2])}
-JOBS = {"check": 1, "node": 2, "dialect": 3}
+JOBS = {"check": 1, "node": 2, "dialect": 3, "call": 4, "params": 5, "target": 6, "assignment": 7, "type": 8}
 WANTED = {"parameters": 1, "call": 2, "assignment": 3, "expression": 4}
 TOKEN = re.compile(r"[()]|[^\s()]+")
 
@@ -52,9 +53,18 @@ def word_of(node, word):
         node.fields[key] = int(value)
 
 
+def base36(n):
+    return ("" if n < 36 else base36(n // 36)) + "0123456789abcdefghijklmnopqrstuvwxyz"[n % 36]
+
+
+def repeated(match):
+    times, text = match.groups()
+    return "".join(text.replace("#", base36(n)) for n in range(int(times)))
+
+
 def trees(text):
     """The trees that stand side by side in a text."""
-    tokens = TOKEN.findall(re.sub(r"\^(\d+)<([^>]*)>", lambda m: int(m.group(1)) * m.group(2), text))
+    tokens = TOKEN.findall(re.sub(r"\^(\d+)<([^>]*)>", repeated, text))
     roots = Node(0, 0)
     way = [roots]
     for before, token in zip([None] + tokens, tokens):
@@ -95,11 +105,11 @@ def table_of(roots):
 def request(line):
     """A line of cases: a heading, or a label, what is asked, and the tree."""
     if line.startswith("#"):
-        return pack(0, line, b"", b"", b"", 0, 0)
+        return pack(0, line, b"", b"", b"", 0, 0, 0)
     label, asked, *tree = [part.strip() for part in line.split("|")]
     job, *words = asked.split()
     table, names = table_of(trees(tree[0] if tree else ""))
-    dialect, wanted, node = b"", 0, 0
+    dialect, wanted, node, room = b"", 0, 0, 0
     for word in words:
         key, mark, value = word.partition("=")
         if key == "names":
@@ -108,16 +118,18 @@ def request(line):
             table = table[:int(value)].ljust(int(value), b"\0")
         elif key == "bits":
             dialect = bytes(int(c) for c in value)
+        elif key == "room":
+            room = int(value)
         elif word.isdigit():
             node = int(word)
         else:
             wanted = WANTED[word]
-    return pack(JOBS[job], label + ": ", table, names, dialect, wanted, node)
+    return pack(JOBS[job], label + ": ", table, names, dialect, wanted, room, node)
 
 
-def pack(job, label, table, names, dialect, wanted, node):
+def pack(job, label, table, names, dialect, wanted, room, node):
     text = label.encode()
-    lengths = struct.pack("<HHHHHHI", job, len(text), len(table), len(names), len(dialect), wanted, node)
+    lengths = struct.pack("<HHHHHHHHI", job, len(text), len(table), len(names), len(dialect), wanted, room, 0, node)
     return lengths + text + table + names + dialect
 
 

@@ -4,3 +4,4 @@ pub mod Never
 pub mod Order
 pub mod Names
 pub mod Converse
+pub mod Promises

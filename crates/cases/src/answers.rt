@@ -1,11 +1,19 @@
 // The answer to one case, printed behind its label.
+use arguments::CallArgs;
+use arguments::Called;
+use arguments::Place;
 use dialect::Decoded;
 use dialect::Dialect;
 use dialect::DialectTypes;
 use libc::STDOUT_FILENO;
+use parameters::Unpacked;
 use table::Checked;
 use table::Refusal;
 use table::Wanted;
+use targets::Targeted;
+use types::Shaped;
+use unpack::Counted;
+use unpack::Range;
 
 // What a request asks: its job, how long its parts are, and the job's node.
 pub struct Asked {
@@ -15,6 +23,7 @@ pub struct Asked {
     pub names: usize,
     pub dialect: usize,
     pub wanted: u16,
+    pub room: usize,
     pub node: usize,
 }
 
@@ -126,13 +135,121 @@ fn say_decoded(bytes: &[u8]) {
     }
 }
 
-// 0 is a heading, 1 the table check, 2 a job's node, 3 the bytes of a dialect.
+fn say_place(p: Place) {
+    match p {
+        Place::Given(i) => say_number(i as u64),
+        Place::Missing => say(b"none"),
+    }
+}
+
+// What a list of arguments is: how many positional and named, and the places of star and `**`.
+fn say_arguments(a: CallArgs) {
+    let star = a.star;
+    let star_star = a.star_star;
+    say(b"positional ");
+    say_number(a.num_pos as u64);
+    say(b", named ");
+    say_number(a.num_named as u64);
+    say(b", star ");
+    say_place(star);
+    say(b", kwargs ");
+    say_place(star_star);
+}
+
+fn say_call(table: &[u8], names: &[u8], node: usize) {
+    let c = arguments::call(table, names, node);
+    match c {
+        Called::Accepted(a) => say_arguments(a),
+        Called::Refused(r) => say_refusal(r),
+    }
+}
+
+// The bytes of a buffer, one behind the other.
+fn say_bytes(s: &[u8]) {
+    let n = s.len();
+    let mut i = 0;
+    while i < n {
+        say(b" ");
+        say_number(s[i] as u64);
+        i += 1;
+    }
+}
+
+fn say_range(r: Range) {
+    say(b" ");
+    say_number(r.from as u64);
+    say(b"..");
+    say_number(r.upto as u64);
+}
+
+// The five ranges of an accepted list, and its flat count.
+fn say_counted(c: Counted) {
+    let i = c.indices;
+    let n = c.flat as usize;
+    say(b"ranges");
+    say_range(i.pos_only());
+    say_range(i.pos_or_named());
+    say_range(i.args_range());
+    say_range(i.named_only(n));
+    say_range(i.kwargs_range(n));
+    say(b", flat ");
+    say_number(c.flat as u64);
+}
+
+// The parameter job, and the mode buffer afterwards, which held 9 in every byte.
+fn say_params(table: &[u8], names: &[u8], a: Asked) {
+    let room = a.room;
+    let mut modes = [9u8; 2100];
+    if 2100 < room {
+        return;
+    }
+    let u = parameters::params(table, names, a.node, &mut modes[0..room]);
+    match u {
+        Unpacked::Accepted(c) => say_counted(c),
+        Unpacked::Refused(r) => say_refusal(r),
+    }
+    say(b", modes");
+    say_bytes(front(&modes, room));
+}
+
+fn say_targeted(t: Targeted) {
+    match t {
+        Targeted::Leaves(n) => {
+            say(b"leaves ");
+            say_number(n as u64);
+        }
+        Targeted::Refused(r) => say_refusal(r),
+    }
+}
+
+// The type job, and the shape buffer afterwards, which held 9 in every byte.
+fn say_type(table: &[u8], names: &[u8], dialect: &[u8], a: Asked) {
+    let room = a.room;
+    let mut shapes = [9u8; 2100];
+    if 2100 < room {
+        return;
+    }
+    let s = types::type_shape(table, names, dialect, a.node, &mut shapes[0..room]);
+    match s {
+        Shaped::Accepted => say(b"accepted"),
+        Shaped::Refused(r) => say_refusal(r),
+    }
+    say(b", shapes");
+    say_bytes(front(&shapes, room));
+}
+
+// 0 is a heading, 1 the table check, 2 a job's node, 3 the bytes of a dialect, 4 a call's arguments, 5 parameters, 6 a target, 7 an assignment, 8 a type.
 pub fn answer(a: Asked, table: &[u8], names: &[u8], dialect: &[u8]) {
     let job = a.job;
     match job {
         1 => say_check(table, names),
         2 => say_node(table, a.node, a.wanted),
         3 => say_decoded(dialect),
+        4 => say_call(table, names, a.node),
+        5 => say_params(table, names, a),
+        6 => say_targeted(targets::target(table, names, a.node)),
+        7 => say_targeted(targets::assignment(table, names, a.node)),
+        8 => say_type(table, names, dialect, a),
         _ => say(b""),
     }
 }

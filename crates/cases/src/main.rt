@@ -5,7 +5,7 @@ mod answers;
 use answers::Asked;
 use libc::STDOUT_FILENO;
 
-// The head of a request: fields of two bytes, the last two of four.
+// The head of a request: fields of two bytes, and the node in four.
 fn head_of(head: &[u8]) -> Asked {
     Asked {
         job: fields::half(head, 0),
@@ -14,7 +14,8 @@ fn head_of(head: &[u8]) -> Asked {
         names: fields::half(head, 6) as usize,
         dialect: fields::half(head, 8) as usize,
         wanted: fields::half(head, 10),
-        node: fields::word(head, 12) as usize,
+        room: fields::half(head, 12) as usize,
+        node: fields::word(head, 16) as usize,
     }
 }
 
@@ -28,8 +29,8 @@ fn filled(fd: i32, space: &mut [u8], len: usize) -> bool {
 
 // One request: false at the end of the file.
 fn one(fd: i32) -> bool {
-    let mut head = [0u8; 16];
-    if !filled(fd, &mut head, 16) {
+    let mut head = [0u8; 20];
+    if !filled(fd, &mut head, 20) {
         return false;
     }
     let a = head_of(&head);

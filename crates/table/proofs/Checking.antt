@@ -81,23 +81,23 @@ pub record Clean (t names : List ℕ) : Type 0 where
 never : {P : Type 0} {n : ℕ} {vs ws : List ℕ} → refused n vs ≡ accepted ws → P
 never e = let z : _≡_ {A = ℕ} 0 1 = cc in absurd (omega arith)
 
-pub accepted-clean : (t names : List ℕ) → checkOf t names ≡ accepted [] → Clean t names
+pub accepted-clean : (t names : List ℕ) {vs : List ℕ} → checkOf t names ≡ accepted vs → Clean t names
 unfolding checkOf
-accepted-clean t names e = by-length (lengthSound (length t)) refl e
+accepted-clean t names {vs} e = by-length (lengthSound (length t)) refl e
   where
-    by-deep : lengthSound (length t) ≡ true → length names ≤ 8064 → firstUnsound t names ≡ Nothing → (f : Found) → firstDeep 0 (forest 0 t) ≡ f → noneFound tooDeep f ≡ accepted [] → Clean t names
+    by-deep : lengthSound (length t) ≡ true → length names ≤ 8064 → firstUnsound t names ≡ Nothing → (f : Found) → firstDeep 0 (forest 0 t) ≡ f → noneFound tooDeep f ≡ accepted vs → Clean t names
     by-deep l n u (At i) d e = never e
     by-deep l n u Nothing d e = let w = length-whole (length t) l in record { least = w .0; most = w .1; whole = w .2; few = n; unsound = u; deep = d }
 
-    by-unsound : lengthSound (length t) ≡ true → length names ≤ 8064 → (f : Found) → firstUnsound t names ≡ f → andThen (noneFound unsoundRecord f) (λ _. noneFound tooDeep (firstDeep 0 (forest 0 t))) ≡ accepted [] → Clean t names
+    by-unsound : lengthSound (length t) ≡ true → length names ≤ 8064 → (f : Found) → firstUnsound t names ≡ f → andThen (noneFound unsoundRecord f) (λ _. noneFound tooDeep (firstDeep 0 (forest 0 t))) ≡ accepted vs → Clean t names
     by-unsound l n (At i) u e = never e
     by-unsound l n Nothing u e = by-deep l n u (firstDeep 0 (forest 0 t)) refl e
 
-    by-names : lengthSound (length t) ≡ true → (b : Bool) → leb (length names) 8064 ≡ b → andThen (if' b (λ _. accepted []) (λ _. refused nameBytes [])) (λ _. andThen (noneFound unsoundRecord (firstUnsound t names)) (λ _. noneFound tooDeep (firstDeep 0 (forest 0 t)))) ≡ accepted [] → Clean t names
+    by-names : lengthSound (length t) ≡ true → (b : Bool) → leb (length names) 8064 ≡ b → andThen (if' b (λ _. accepted []) (λ _. refused nameBytes [])) (λ _. andThen (noneFound unsoundRecord (firstUnsound t names)) (λ _. noneFound tooDeep (firstDeep 0 (forest 0 t)))) ≡ accepted vs → Clean t names
     by-names l true n e = by-unsound l (leb-true (length names) 8064 n) (firstUnsound t names) refl e
     by-names l false n e = never e
 
-    by-length : (b : Bool) → lengthSound (length t) ≡ b → andThen (if' b (λ _. accepted []) (λ _. refused tableLength [])) (λ _. andThen (namesCheck (length names)) (λ _. andThen (noneFound unsoundRecord (firstUnsound t names)) (λ _. noneFound tooDeep (firstDeep 0 (forest 0 t))))) ≡ accepted [] → Clean t names
+    by-length : (b : Bool) → lengthSound (length t) ≡ b → andThen (if' b (λ _. accepted []) (λ _. refused tableLength [])) (λ _. andThen (namesCheck (length names)) (λ _. andThen (noneFound unsoundRecord (firstUnsound t names)) (λ _. noneFound tooDeep (firstDeep 0 (forest 0 t))))) ≡ accepted vs → Clean t names
     by-length true l e = by-names l (leb (length names) 8064) refl e
     by-length false l e = never e
 

@@ -14,16 +14,26 @@ use Rattle.table.specs.declared.Checked.the-variants.{Sound}
 use Rattle.table.specs.declared.Wanted.{Wanted}
 use Rattle.table.proofs.Checking.{Clean, accepted-clean, stretch-is, stretch-size}
 
+-- a table that passes the check
+pub passed : (t names : List ℕ) {vs : List ℕ} → accepted vs ≡ checkOf t names → Clean t names
+passed t names e = accepted-clean t names (sym e)
+
+-- LAW: a node that fits has a stretch of one record or more, within the table
+pub stretch-within : (t names : List ℕ) (i : ℕ) (w : Wanted) → Clean t names → nodeFits t i w ≡ true → (24 ≤ length (stretchOf t i)) × (24 * i + length (stretchOf t i) ≤ 50400)
+unfolding nodeFits
+stretch-within t names i w c fits =
+    let here = ltb-true i (length t / 24) (and-left _ _ fits) in
+    let z = stretch-size c i here in
+    rw (stretch-is c i here) (simp (length-take, length-drop) (omega (arith, c .most)))
+
+-- the same, in the terms of code: the check f found nothing, the node's test b is passed, and s is the stretch
 module _ (t names : List ℕ) (i : ℕ) (w : Wanted) {f : Checked} (f-is : checked f ≡ checkOf t names) (f-good : f ≡ Sound) {b : Bool} (b-is : b ≡ nodeFits t i w) (b-yes : b ≡ true) where
   pub clean : Clean t names
-  clean = accepted-clean t names (sym (rw f-good at f-is))
+  clean = passed t names (rw f-good at f-is)
 
   pub fitting : i < length t / 24
   unfolding nodeFits
   fitting = ltb-true i (length t / 24) (and-left _ _ (sym b-is ∙ b-yes))
 
-  -- LAW: a node that fits has a stretch of one record or more, within the table
   pub handed : {s : List ℕ} → s ≡ stretchOf t i → (24 ≤ length s) × (24 * i + length s ≤ 50400)
-  handed s-is =
-      let z = stretch-size clean i fitting in
-      rw (s-is, stretch-is clean i fitting) (simp (length-take, length-drop) (omega (arith, clean .most)))
+  handed s-is = rw s-is (stretch-within t names i w clean (sym b-is ∙ b-yes))

@@ -1,0 +1,4 @@
+pub mod Counts
+pub mod Assignments
+pub mod Jobs
+pub mod Promises

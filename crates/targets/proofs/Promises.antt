@@ -1,0 +1,25 @@
+-- Two answers that meet the promise of a public function coincide, for every table, names and node. Assumes nothing.
+use mathlib.Core.Path.{_≡_, sym, ap}
+use mathlib.Core.List.{List}
+use Prim.Native.Nat.{ℕ}
+use Rattle.fields.proofs.Coincide.{coincide-by}
+use Rattle.table.proofs.Answers.{refusal-injective, never-accepted}
+use Rattle.table.specs.Answer.{refusal}
+use Rattle.targets.specs.Jobs.{targeted, targetOf, assignmentOf}
+use Rattle.targets.specs.declared.Targeted.{Targeted}
+use Rattle.targets.specs.declared.Targeted.the-variants.{Leaves, Refused}
+
+-- no two answers mean the same
+pub targeted-injective : (x y : Targeted) → targeted x ≡ targeted y → x ≡ y
+targeted-injective (Leaves n) (Leaves m) e = cc
+targeted-injective (Leaves n) (Refused r) e = never-accepted r (sym e)
+targeted-injective (Refused q) (Leaves m) e = never-accepted q e
+targeted-injective (Refused q) (Refused r) e = ap Refused (refusal-injective q r e)
+
+-- of `target`
+pub target-one : (table names : List ℕ) (node : ℕ) {r s : Targeted} → targeted r ≡ targetOf table names node → targeted s ≡ targetOf table names node → r ≡ s
+target-one table names node = coincide-by targeted targeted-injective
+
+-- of `assignment`
+pub assignment-one : (table names : List ℕ) (node : ℕ) {r s : Targeted} → targeted r ≡ assignmentOf table names node → targeted s ≡ assignmentOf table names node → r ≡ s
+assignment-one table names node = coincide-by targeted targeted-injective

@@ -1,0 +1,143 @@
+// Assignment targets: the target job and the assignment job.
+//
+// Ported from src/syntax/grammar_util.rs of starlark_syntax 0.14.2 (check_assign, check_assignment), and changed: a target is a stretch of the node table.
+// Copyright 2018 The Starlark in Rust Authors. Copyright (c) Facebook, Inc. and its affiliates. Licensed under Apache-2.0.
+use soundness::kinds;
+use table::Checked;
+use table::Refusal;
+use table::Wanted;
+use table::numbers;
+ghost use mathlib.Core.Path.{_≡_};
+ghost use mathlib.Core.List.{[], _∷_};
+ghost use Prim.Native.Nat.{_+_, _*_, _≤_};
+ghost use lib.ListN.{length};
+ghost use Rattle.forest.specs.Forest.{nodeOf, treeOf, forest};
+ghost use Rattle.table.specs.Answer.{accepted, andThen};
+ghost use Rattle.targets.specs.Targets.{isLeaf, isGroup, counted, countedEach, typeCheck, «check_assignment»};
+ghost use Rattle.targets.specs.Jobs.{targeted, targetOf, assignmentOf};
+
+// What the target and assignment jobs answer: how many leaves the target has, or why it is refused.
+pub enum Targeted {
+    Leaves(u32),
+    Refused(Refusal),
+}
+
+// The target job: whether a node is a target, and how many Identifier, Dot and Index leaves it has.
+pub fn target(table: &[u8], names: &[u8], node: usize) -> Targeted
+    ensures { λ r. ⌜ targeted r ≡ targetOf (now (table .entry)) (now (names .entry)) node ⌝ }
+{
+    let found = table::check(table, names);
+    if let Checked::Refused(why) = found {
+        return Targeted::Refused(why);
+    }
+    if !table::node_fits(table, node, Wanted::Expression) {
+        return Targeted::Refused(Refusal::Bare(numbers::WRONG_NODE));
+    }
+    check_assign(table::stretch(table, node), node, 0)
+}
+
+// The assignment job: whether a node is an assignment whose target and type may stand together, and how many leaves its target has.
+pub fn assignment(table: &[u8], names: &[u8], node: usize) -> Targeted
+    ensures { λ r. ⌜ targeted r ≡ assignmentOf (now (table .entry)) (now (names .entry)) node ⌝ }
+{
+    let found = table::check(table, names);
+    if let Checked::Refused(why) = found {
+        return Targeted::Refused(why);
+    }
+    if !table::node_fits(table, node, Wanted::Assignment) {
+        return Targeted::Refused(Refusal::Bare(numbers::WRONG_NODE));
+    }
+    check_assignment(table::stretch(table, node), node)
+}
+
+// Whether a kind is a leaf of targets: Identifier, Dot or Index.
+fn is_leaf(kind: u8) -> bool
+    ensures { λ r. ⌜ r ≡ isLeaf kind ⌝ }
+{
+    (kind == kinds::IDENTIFIER) | ((kind == kinds::DOT) | (kind == kinds::INDEX))
+}
+
+// Whether a kind holds targets: Tuple or List.
+fn is_group(kind: u8) -> bool
+    ensures { λ r. ⌜ r ≡ isGroup kind ⌝ }
+{
+    (kind == kinds::TUPLE) | (kind == kinds::LIST)
+}
+
+// The target that a stretch begins with; count leaves stand before it.
+fn check_assign(t: &[u8], node: usize, count: u32) -> Targeted
+    requires { ⌜ (24 ≤ length (now t)) × ((24 * node + length (now t) ≤ 50400) × (count ≤ node)) ⌝ }
+    ensures { λ r. ⌜ targeted r ≡ counted count (treeOf node (now (t .entry))) ⌝ }
+{
+    let kind = forest::kind(t);
+    if is_leaf(kind) {
+        return Targeted::Leaves(count + 1);
+    }
+    if is_group(kind) {
+        let e = forest::span(t);
+        return check_each(&t[24..e], node + 1, count);
+    }
+    Targeted::Refused(table::refused_at(numbers::INVALID_LHS, node as u32, t))
+}
+
+// The targets side by side in a stretch; count leaves stand before them.
+fn check_each(t: &[u8], node: usize, count: u32) -> Targeted
+    requires { ⌜ (24 * node + length (now t) ≤ 50400) × (count ≤ node) ⌝ }
+    ensures { λ r. ⌜ targeted r ≡ countedEach count (forest node (now (t .entry))) ⌝ }
+{
+    if t.len() < 24 {
+        return Targeted::Leaves(count);
+    }
+    let first = check_assign(t, node, count);
+    match first {
+        Targeted::Leaves(n) => {
+            let e = forest::span(t);
+            check_each(&t[e..], node + e / 24, n)
+        }
+        Targeted::Refused(why) => Targeted::Refused(why),
+    }
+}
+
+// The assignment that a stretch begins with: its target, then its type.
+fn check_assignment(t: &[u8], node: usize) -> Targeted
+    requires { ⌜ (24 ≤ length (now t)) × (24 * node + length (now t) ≤ 50400) ⌝ }
+    ensures { λ r. ⌜ targeted r ≡ «check_assignment» (treeOf node (now (t .entry))) ⌝ }
+{
+    let e = forest::span(t);
+    let lhs = &t[24..e];
+    if lhs.len() < 24 {
+        return Targeted::Leaves(0);
+    }
+    let at = node + 1;
+    if (forest::kind(t) == kinds::ASSIGN_MODIFY) & is_group(forest::kind(lhs)) {
+        return Targeted::Refused(table::refused_at(numbers::INVALID_MODIFY_LHS, at as u32, lhs));
+    }
+    let first = check_assign(lhs, at, 0);
+    match first {
+        Targeted::Leaves(n) => {
+            let a = forest::span(lhs);
+            check_type(t, lhs, &lhs[a..], at + a / 24, n)
+        }
+        Targeted::Refused(why) => Targeted::Refused(why),
+    }
+}
+
+// Whether the type of an assignment t with the target lhs may stand there; the type, if there is one, begins ty.
+fn check_type(t: &[u8], lhs: &[u8], ty: &[u8], node: usize, leaves: u32) -> Targeted
+    requires { ⌜ 24 * node + length (now ty) ≤ 50400 ⌝ }
+    ensures { λ r. ⌜ targeted r ≡ andThen (typeCheck (nodeOf 0 (now (t .entry))) (nodeOf 0 (now (lhs .entry))) (forest node (now (ty .entry)))) (λ _. accepted (leaves ∷ [])) ⌝ }
+{
+    if forest::detail(t) != 1 {
+        return Targeted::Leaves(leaves);
+    }
+    if ty.len() < 24 {
+        return Targeted::Leaves(leaves);
+    }
+    if forest::kind(t) == kinds::ASSIGN_MODIFY {
+        return Targeted::Refused(table::refused_at(numbers::TYPE_ON_AUGMENTED, node as u32, ty));
+    }
+    if is_group(forest::kind(lhs)) {
+        return Targeted::Refused(table::refused_at(numbers::TYPE_ON_TUPLE, node as u32, ty));
+    }
+    Targeted::Leaves(leaves)
+}

@@ -1,0 +1,10 @@
+pub mod FormOf
+pub mod Dots
+pub mod Bases
+pub mod Reading
+pub mod Writing
+pub mod Jobs
+pub mod Promises
+pub mod Places
+pub mod Buffer
+pub mod Proper

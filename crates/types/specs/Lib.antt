@@ -1,0 +1,5 @@
+pub mod Forms
+pub mod Paths
+pub mod Types
+pub mod Shapes
+pub mod Jobs

@@ -1,0 +1,61 @@
+-- Shapes: which byte of the buffer gets which shape. These are definitions.
+use mathlib.Core.Bool.{Bool, true, false}
+use mathlib.Core.List.{List, [], _∷_, _++_}
+use Prim.Native.Nat.{ℕ}
+use lib.Dec.{eqb}
+use lib.ListN.{set}
+use Rattle.fields.specs.Choice.{if'}
+use Rattle.forest.specs.Forest.{Node, Tree, node, Forest, none, _then_}
+use Rattle.soundness.specs.KindNumbers.{kindList}
+use Rattle.table.specs.Answer.{Answer, accepted, refused}
+use Rattle.types.specs.Forms.{formOf, shapeOf, listShape, readsOf, ofChildren}
+
+-- a node that is read, by its index, and its shape
+pub record Shape : Type 0 where
+  pub at : ℕ
+  pub shape : ℕ
+
+abbrev pub shapeAt : Node → ℕ → Shape
+shapeAt r s = record { at = r .at; shape = s }
+
+-- a node read as a type, given what its children give
+abbrev pub nodeShapes : Node → (Unit {0} → List Shape) → (Unit {0} → List Shape) → (Unit {0} → List Shape) → List Shape
+nodeShapes r types afterBase arguments =
+    shapeAt r (shapeOf (formOf (r .kind) (r .detail)))
+    ∷ ofChildren (readsOf (formOf (r .kind) (r .detail))) [] types afterBase arguments
+
+-- the nodes that are read as types and as arguments, in table order: not the base of an Index or Index2, and nothing inside a path
+unfoldable mutual
+  pub shapesOf : Tree → List Shape
+  shapesOf (node r ks) = nodeShapes r (λ _. shapesEach ks) (λ _. shapesIndex ks) (λ _. shapesIndex2 ks)
+
+  pub shapesArgument : Tree → List Shape
+  shapesArgument (node r ks) =
+      if' (eqb (r .kind) kindList) (λ _. shapeAt r listShape ∷ shapesArguments ks) (λ _.
+      nodeShapes r (λ _. shapesEach ks) (λ _. shapesIndex ks) (λ _. shapesIndex2 ks))
+
+  pub shapesEach : Forest → List Shape
+  shapesEach none = []
+  shapesEach (t then ts) = shapesOf t ++ shapesEach ts
+
+  pub shapesArguments : Forest → List Shape
+  shapesArguments none = []
+  shapesArguments (t then ts) = shapesArgument t ++ shapesArguments ts
+
+  pub shapesIndex : Forest → List Shape
+  shapesIndex none = []
+  shapesIndex (b then ts) = shapesEach ts
+
+  pub shapesIndex2 : Forest → List Shape
+  shapesIndex2 none = []
+  shapesIndex2 (b then ts) = shapesArguments ts
+
+-- a buffer after shapes are written, each at its index; other bytes stay
+unfoldable pub written : List Shape → List ℕ → List ℕ
+written [] bytes = bytes
+written (s ∷ ss) bytes = written ss (set bytes (s .at) (s .shape))
+
+-- a buffer after an answer: accepted, the shapes are written; a refusal changes nothing
+abbrev pub afterAnswer : Answer → List Shape → List ℕ → List ℕ
+afterAnswer (accepted vs) ss bytes = written ss bytes
+afterAnswer (refused n vs) ss bytes = bytes
