@@ -2,48 +2,42 @@
 //
 // Ported from src/syntax/def.rs of starlark_syntax 0.14.2, and changed: the flat list is a buffer of mode bytes, written once the list is accepted.
 // Copyright 2018 The Starlark in Rust Authors. Copyright (c) Facebook, Inc. and its affiliates. Licensed under Apache-2.0.
-mod convert;
-mod modes;
-
 use table::Checked;
 use table::Refusal;
 use table::Wanted;
 use table::numbers;
 use unpack::Counted;
 use unpack::Counts;
+use unpack::DefParamIndices;
+use unpack::Fault;
+use unpack::Flat;
+use unpack::FlatPlace;
 use unpack::Judged;
+use unpack::Kind;
+use unpack::Place;
+use unpack::State;
+use unpack::entry;
+use unpack::states;
 ghost use mathlib.Core.Path.{_≡_};
-ghost use Prim.Native.Nat.{_≤_};
+ghost use mathlib.Core.Bool.{true};
+ghost use mathlib.Core.List.{List, [], _∷_};
+ghost use Prim.Native.Nat.{ℕ, _+_, _≤_, _<_, _^_};
 ghost use lib.ListN.{length};
-ghost use Rattle.unpack.specs.Written.{written};
-ghost use Rattle.unpack.specs.Unpack.{modes as modesOf};
+ghost use lib.Seq.{sets};
+ghost use Rattle.forest.specs.Forest.{forest};
+ghost use Rattle.table.specs.Answer.{refused, refusal as refusalOf};
+ghost use Rattle.unpack.specs.Written.{paramsIn, written};
+ghost use Rattle.unpack.specs.Unpack.{modesFrom, modes as modesOf};
+ghost use Rattle.unpack.specs.Indices.{placeOf, countedOf};
+ghost use Rattle.unpack.specs.Reading.{PlaceBelow, Bounded};
+ghost use Rattle.unpack.specs.declared.Kind.the-variants.{Normal};
 ghost use Rattle.parameters.specs.Params.{unpacked, listAnswer, paramsOf, afterwards, modesAfter};
+ghost use Rattle.parameters.specs.Writing.{modeByte, modeIn, AtMost};
 
 // The answer of the job.
 pub enum Unpacked {
     Accepted(Counted),
     Refused(Refusal),
-}
-
-// 7, then unpack's answer for the list of a node, whose stretch is lent; the modes are written once the list is accepted.
-fn unpack_into(names: &[u8], t: &[u8], node: u32, modes: &mut [u8]) -> Unpacked
-    requires { ⌜ (length (now t) ≤ 50400) × (node ≤ 2100) ⌝ }
-    ensures { λ r. ⌜ unpacked r ≡ listAnswer (written (now (names .entry)) node (now (t .entry))) (length (now (modes .entry))) ⌝ }
-    ensures { λ r. ⌜ now (modes .exit) ≡ afterwards (listAnswer (written (now (names .entry)) node (now (t .entry))) (length (now (modes .entry)))) (modesOf (written (now (names .entry)) node (now (t .entry)))) (now (modes .entry)) ⌝ }
-{
-    let kids = unpack::children(t);
-    if modes.len() < modes::list_length(kids) {
-        return Unpacked::Refused(Refusal::Bare(numbers::SHORT_BUFFER));
-    }
-    let judged = unpack::judge(names, t, node);
-    match judged {
-        Judged::Accepted(c) => {
-            let only = c.num_positional_only;
-            modes::write_modes(kids, unpack::states::first_state(only), modes);
-            Unpacked::Accepted(convert::counted(c))
-        }
-        Judged::Refused(f) => Unpacked::Refused(convert::refusal(f)),
-    }
 }
 
 // The parameter list of the def or lambda at a node: 1 to 4, 6, 7, 10 to 18; or its ranges and flat count, with the modes at the front of the buffer.
@@ -59,4 +53,147 @@ pub fn params(table: &[u8], names: &[u8], node: usize, modes: &mut [u8]) -> Unpa
         return Unpacked::Refused(Refusal::Bare(numbers::WRONG_NODE));
     }
     unpack_into(names, table::stretch(table, node), node as u32, modes)
+}
+
+// 7, then unpack's answer for the list of a node, whose stretch is lent; the modes are written once the list is accepted.
+fn unpack_into(names: &[u8], t: &[u8], node: u32, modes: &mut [u8]) -> Unpacked
+    requires { ⌜ (length (now t) ≤ 50400) × (node ≤ 2100) ⌝ }
+    ensures { λ r. ⌜ unpacked r ≡ listAnswer (written (now (names .entry)) node (now (t .entry))) (length (now (modes .entry))) ⌝ }
+    ensures { λ r. ⌜ now (modes .exit) ≡ afterwards (listAnswer (written (now (names .entry)) node (now (t .entry))) (length (now (modes .entry)))) (modesOf (written (now (names .entry)) node (now (t .entry)))) (now (modes .entry)) ⌝ }
+{
+    let kids = unpack::children(t);
+    if modes.len() < list_length(kids) {
+        return Unpacked::Refused(Refusal::Bare(numbers::SHORT_BUFFER));
+    }
+    let judged = unpack::judge(names, t, node);
+    match judged {
+        Judged::Accepted(c) => {
+            let only = c.num_positional_only;
+            write_modes(kids, states::first_state(only), modes);
+            Unpacked::Accepted(counted(c))
+        }
+        Judged::Refused(f) => Unpacked::Refused(refusal(f)),
+    }
+}
+
+// How many parameters a list has, marks counted.
+fn list_length(kids: &[u8]) -> usize
+    ensures { λ r. ⌜ ((names : List ℕ) (i : ℕ) → r ≡ length (paramsIn names (forest i (now (kids .entry))))) ⌝ }
+{
+    let mut left = kids;
+    let mut n = 0;
+    while entry::listed(left) {
+        let e = forest::span(left);
+        left = &left[e..];
+        n += 1;
+    }
+    n
+}
+
+// The mode of an ordinary parameter: 1 PosOnly, 2 PosOrName, 3 NameOnly.
+fn normal_mode(state: State) -> u8
+    ensures { λ r. ⌜ r ≡ modeByte state (Normal true) ⌝ }
+{
+    match state {
+        State::Normal => 1,
+        State::SeenSlash => 2,
+        State::SeenStar => 3,
+        State::SeenStarStar => 3,
+    }
+}
+
+// The mode of a parameter, 4 Args and 5 Kwargs; 0 for a mark.
+fn mode(state: State, kind: Kind) -> u8
+    ensures { λ r. ⌜ r ≡ modeByte state kind ⌝ }
+{
+    match kind {
+        Kind::Normal(_) => normal_mode(state),
+        Kind::NoArgs => 0,
+        Kind::Slash => 0,
+        Kind::Args => 4,
+        Kind::KwArgs => 5,
+    }
+}
+
+// Writes the mode of a flat parameter at its index, and answers the next index; for a mark neither changes.
+fn put(modes: &mut [u8], flat: Flat, mode: u8) -> Flat
+    requires { ⌜ flat .0 < length (now modes) ⌝ }
+    ensures { λ r. ⌜ r .0 ≡ flat .0 + length (modeIn mode) ⌝ }
+    ensures { λ r. ⌜ now (modes .exit) ≡ sets (now (modes .entry)) (flat .0) (modeIn mode) ⌝ }
+{
+    if mode == 0 {
+        return flat;
+    }
+    let at = flat.0;
+    modes[at] = mode;
+    Flat(at + 1)
+}
+
+// Writes the modes of a list that begins in a state, at the front of the buffer.
+fn write_modes(kids: &[u8], first: State, modes: &mut [u8])
+    requires { ⌜ AtMost (now kids) (length (now modes)) ⌝ }
+    ensures { λ r. ⌜ ((names : List ℕ) (i : ℕ) → now (modes .exit) ≡ sets (now (modes .entry)) 0 (modesFrom first (paramsIn names (forest i (now (kids .entry)))))) ⌝ }
+{
+    let mut left = kids;
+    let mut state = first;
+    let mut flat = Flat(0);
+    while entry::listed(left) {
+        let kind = entry::kind_of(left);
+        flat = put(modes, flat, mode(state, kind));
+        state = states::next_state(state, kind);
+        let e = forest::span(left);
+        left = &left[e..];
+    }
+}
+
+// A count as the crate keeps it.
+fn number(n: Flat) -> u32
+    requires { ⌜ n .0 < 2 ^ 32 ⌝ }
+    ensures { λ r. ⌜ r ≡ n .0 ⌝ }
+{
+    n.0 as u32
+}
+
+fn place(p: FlatPlace) -> Place
+    requires { ⌜ PlaceBelow 4294967295 p ⌝ }
+    ensures { λ r. ⌜ r ≡ placeOf p ⌝ }
+{
+    match p {
+        FlatPlace::AtFlat(i) => Place::At(number(i)),
+        FlatPlace::NoFlat => Place::Nothing,
+    }
+}
+
+// DefParamIndices and the flat count.
+fn counted(c: Counts) -> Counted
+    requires { ⌜ Bounded 4294967295 4294967295 c ⌝ }
+    ensures { λ r. ⌜ r ≡ countedOf c ⌝ }
+{
+    let positional = c.num_positional;
+    let only = c.num_positional_only;
+    let args = c.args;
+    let kwargs = c.kwargs;
+    let flat = c.flat;
+    Counted {
+        indices: DefParamIndices {
+            num_positional: number(positional),
+            num_positional_only: number(only),
+            args: place(args),
+            kwargs: place(kwargs),
+        },
+        flat: number(flat),
+    }
+}
+
+// A refusal at a parameter.
+fn refusal(f: Fault) -> Refusal
+    requires { ⌜ f .node < 2 ^ 32 ⌝ }
+    ensures { λ r. ⌜ refusalOf r ≡ refused (f .number) (f .node ∷ f .begin ∷ f .end ∷ []) ⌝ }
+{
+    Refusal::Spanned {
+        number: f.number,
+        node: f.node as u32,
+        begin: f.begin,
+        end: f.end,
+    }
 }

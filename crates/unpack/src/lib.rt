@@ -136,9 +136,7 @@ pub fn judge(names: &[u8], t: &[u8], node: u32) -> Judged
     ensures { λ r. ⌜ r ≡ told (unpack (written (now (names .entry)) node (now (t .entry)))) ⌝ }
     ensures { λ r. ⌜ Inside (node + 1 + length (now (t .entry)) / 24) r ⌝ }
 {
-    let kids = children(t);
-    let first = (node as usize) + 1;
-    walk::unpack(names, kids, first)
+    walk::judge(names, t, node)
 }
 
 // unpack's one error, for the module pass.

@@ -3,43 +3,22 @@ use crate::Written;
 use crate::WrittenPlace;
 use crate::entry;
 use crate::rules;
-use forest::Found;
 ghost use mathlib.Core.Path.{_≡_};
 ghost use mathlib.Core.List.{List};
-ghost use Prim.Native.Nat.{ℕ, _+_, _*_, _/_, _≤_, _<_, _^_};
-ghost use lib.ListN.{length, take, drop};
+ghost use Prim.Native.Nat.{ℕ, _+_, _/_, _≤_};
+ghost use lib.ListN.{length, drop};
 ghost use Rattle.forest.specs.Forest.{nodeOf, forest};
 ghost use Rattle.unpack.specs.Written.{paramOf, paramsIn};
-ghost use Rattle.unpack.specs.Unpack.{hasName, firstSame, firstSlash};
+ghost use Rattle.unpack.specs.Unpack.{hasName, firstSlash};
 
 // Whether the parameter that a stretch begins with has this name.
-fn has_name(names: &[u8], name: &[u8], t: &[u8]) -> bool
+pub fn has_name(names: &[u8], name: &[u8], t: &[u8]) -> bool
     ensures { λ r. ⌜ ((i : ℕ) → r ≡ hasName (now (name .entry)) (paramOf (now (names .entry)) (nodeOf i (now (t .entry))))) ⌝ }
 {
     if !rules::is_named(entry::kind_of(t)) {
         return false;
     }
     forest::names::same_bytes(forest::names::name(names, t), name)
-}
-
-// The node of the first of n parameters that has this name; first is the node of the first record.
-pub fn earlier(names: &[u8], name: &[u8], kids: &[u8], first: usize, n: Written) -> Found
-    requires { ⌜ (24 * first + length (now kids) < 2 ^ 64) × (n .0 ≤ length (paramsIn (now names) (forest first (now kids)))) ⌝ }
-    ensures { λ r. ⌜ r ≡ firstSame (now (name .entry)) (take (n .0) (paramsIn (now (names .entry)) (forest first (now (kids .entry))))) ⌝ }
-{
-    let mut left = kids;
-    let mut at = first;
-    let mut i = 0;
-    while i < n.0 {
-        if has_name(names, name, left) {
-            return Found::At(at);
-        }
-        let e = forest::span(left);
-        at += e / 24;
-        left = &left[e..];
-        i += 1;
-    }
-    Found::Nothing
 }
 
 // The written position of the first `/`.

@@ -1,4 +1,4 @@
-// The rules of the kinds, and what a parameter changes, as the body of unpack's loop has them.
+// The rules of the kinds, and what a parameter changes in the written list.
 use crate::Check;
 use crate::Counts;
 use crate::Flat;
@@ -12,8 +12,7 @@ use crate::states;
 use table::numbers;
 ghost use mathlib.Core.Path.{_≡_};
 ghost use mathlib.Core.Bool.{_||_};
-ghost use Prim.Native.Nat.{_<_, _^_};
-ghost use Rattle.unpack.specs.Unpack.{defaultRule, normalRule, starRule, slashRule, kwargsRule, rule as ruleOf, nextOptional, nextStar, oneMore, morePositional, count as countOf, advance as advanceOf, start as startOf, isSlash, positionalOnly};
+ghost use Rattle.unpack.specs.Unpack.{defaultRule, normalRule, starRule, slashRule, kwargsRule, rule as ruleOf, nextOptional, nextStar, start as startOf, isSlash, positionalOnly};
 ghost use Rattle.unpack.specs.Reading.{isNamed, isNormal};
 
 // Whether a parameter of a kind has a name.
@@ -109,7 +108,7 @@ fn kwargs_rule(state: State) -> Check
     match state {
         State::Normal => Check::Fine,
         State::SeenSlash => Check::Fine,
-        State::SeenStar => Check::Fine,
+        State::SeenStar => Check::Fine, // 18, if any, waits for the end
         State::SeenStarStar => Check::Broken(numbers::MULTIPLE_KWARGS),
     }
 }
@@ -133,7 +132,7 @@ fn or(a: bool, b: bool) -> bool
     a | b
 }
 
-fn next_optional(optional: bool, kind: Kind) -> bool
+pub fn next_optional(optional: bool, kind: Kind) -> bool
     ensures { λ r. ⌜ r ≡ nextOptional optional kind ⌝ }
 {
     match kind {
@@ -145,7 +144,7 @@ fn next_optional(optional: bool, kind: Kind) -> bool
     }
 }
 
-fn next_star(star: WrittenPlace, i: Written, kind: Kind) -> WrittenPlace
+pub fn next_star(star: WrittenPlace, i: Written, kind: Kind) -> WrittenPlace
     ensures { λ r. ⌜ r ≡ nextStar star i kind ⌝ }
 {
     match kind {
@@ -154,80 +153,6 @@ fn next_star(star: WrittenPlace, i: Written, kind: Kind) -> WrittenPlace
         Kind::Slash => star,
         Kind::Args => star,
         Kind::KwArgs => star,
-    }
-}
-
-// One more in the flat list.
-fn one_more(flat: Flat) -> Flat
-    requires { ⌜ flat .0 < 2 ^ 63 ⌝ }
-    ensures { λ r. ⌜ r ≡ oneMore flat ⌝ }
-{
-    Flat(flat.0 + 1)
-}
-
-// One more that can be filled positionally, before any star.
-fn more_positional(state: State, n: Flat) -> Flat
-    requires { ⌜ n .0 < 2 ^ 63 ⌝ }
-    ensures { λ r. ⌜ r ≡ morePositional state n ⌝ }
-{
-    match state {
-        State::Normal => one_more(n),
-        State::SeenSlash => one_more(n),
-        State::SeenStar => n,
-        State::SeenStarStar => n,
-    }
-}
-
-// What is counted at a parameter of a kind.
-fn count(state: State, c: Counts, kind: Kind) -> Counts
-    requires { ⌜ (c .«num_positional» .0 < 2 ^ 63) × (c .flat .0 < 2 ^ 63) ⌝ }
-    ensures { λ r. ⌜ r ≡ countOf state c kind ⌝ }
-{
-    let positional = c.num_positional;
-    let only = c.num_positional_only;
-    let args = c.args;
-    let kwargs = c.kwargs;
-    let flat = c.flat;
-    match kind {
-        Kind::Normal(_) => Counts {
-            num_positional: more_positional(state, positional),
-            num_positional_only: only,
-            args,
-            kwargs,
-            flat: one_more(flat),
-        },
-        Kind::NoArgs => c,
-        Kind::Slash => c,
-        Kind::Args => Counts {
-            num_positional: positional,
-            num_positional_only: only,
-            args: FlatPlace::AtFlat(flat),
-            kwargs,
-            flat: one_more(flat),
-        },
-        Kind::KwArgs => Counts {
-            num_positional: positional,
-            num_positional_only: only,
-            args,
-            kwargs: FlatPlace::AtFlat(flat),
-            flat: one_more(flat),
-        },
-    }
-}
-
-// All that is kept after a parameter of a kind, which stands at i in the written list.
-pub fn advance(u: Unpacking, i: Written, kind: Kind) -> Unpacking
-    requires { ⌜ (u .counts .«num_positional» .0 < 2 ^ 63) × (u .counts .flat .0 < 2 ^ 63) ⌝ }
-    ensures { λ r. ⌜ r ≡ advanceOf u i kind ⌝ }
-{
-    let state = u.state;
-    let star = u.index_of_star;
-    let counts = u.counts;
-    Unpacking {
-        state: states::next_state(state, kind),
-        seen_optional: next_optional(u.seen_optional, kind),
-        index_of_star: next_star(star, i, kind),
-        counts: count(state, counts, kind),
     }
 }
 

@@ -3,14 +3,17 @@ use crate::Check;
 use crate::Counts;
 use crate::Fault;
 use crate::Flat;
+use crate::FlatPlace;
 use crate::Judged;
 use crate::Kind;
 use crate::State;
+use crate::Unpacking;
 use crate::Written;
 use crate::WrittenPlace;
 use crate::entry;
 use crate::list;
 use crate::rules;
+use crate::states;
 use forest::Found;
 use table::numbers;
 ghost use mathlib.Core.Path.{_≡_};
@@ -18,11 +21,31 @@ ghost use mathlib.Core.List.{List, []};
 ghost use Prim.Native.Nat.{ℕ, _+_, _*_, _/_, _≤_, _<_, _^_};
 ghost use lib.ListN.{length, take};
 ghost use Rattle.forest.specs.Forest.{nodeOf, forest};
-ghost use Rattle.unpack.specs.Written.{paramOf, paramsIn};
-ghost use Rattle.unpack.specs.Unpack.{repeats, check as checkOf, finish as finishOf, run as runOf, start as startOf, unpack as unpackOf};
+ghost use Rattle.unpack.specs.Written.{paramOf, paramsIn, written};
+ghost use Rattle.unpack.specs.Unpack.{firstSame, repeats, check as checkOf, oneMore, morePositional, count as countOf, advance as advanceOf, finish as finishOf, run as runOf, start as startOf, unpack as unpackOf};
 ghost use Rattle.unpack.specs.declared.WrittenPlace.the-variants.{AtWritten};
 ghost use Rattle.unpack.specs.Indices.{fault as faultOf, told};
 ghost use Rattle.unpack.specs.Reading.{kindHere, beginsWithSlash, Inside, StarIn};
+
+// The node of the first of n parameters that has this name; first is the node of the first record.
+fn earlier(names: &[u8], name: &[u8], kids: &[u8], first: usize, n: Written) -> Found
+    requires { ⌜ (24 * first + length (now kids) < 2 ^ 64) × (n .0 ≤ length (paramsIn (now names) (forest first (now kids)))) ⌝ }
+    ensures { λ r. ⌜ r ≡ firstSame (now (name .entry)) (take (n .0) (paramsIn (now (names .entry)) (forest first (now (kids .entry))))) ⌝ }
+{
+    let mut left = kids;
+    let mut at = first;
+    let mut i = 0;
+    while i < n.0 {
+        if list::has_name(names, name, left) {
+            return Found::At(at);
+        }
+        let e = forest::span(left);
+        at += e / 24;
+        left = &left[e..];
+        i += 1;
+    }
+    Found::Nothing
+}
 
 // A refusal at the record that a stretch begins with.
 fn fault(number: u32, node: usize, t: &[u8]) -> Fault
@@ -44,7 +67,7 @@ fn repeated(names: &[u8], kids: &[u8], first: usize, n: Written, left: &[u8], ki
     if !rules::is_named(kind) {
         return Found::Nothing;
     }
-    list::earlier(names, forest::names::name(names, left), kids, first, n)
+    earlier(names, forest::names::name(names, left), kids, first, n)
 }
 
 // 11 before the rule of the kind.
@@ -65,6 +88,80 @@ fn check(
     match found {
         Found::At(_) => Check::Broken(numbers::DUPLICATED_PARAMETER),
         Found::Nothing => rules::rule(state, optional, kind),
+    }
+}
+
+// One more in the flat list.
+fn one_more(flat: Flat) -> Flat
+    requires { ⌜ flat .0 < 2 ^ 63 ⌝ }
+    ensures { λ r. ⌜ r ≡ oneMore flat ⌝ }
+{
+    Flat(flat.0 + 1)
+}
+
+// One more that can be filled positionally, before any star.
+fn more_positional(state: State, n: Flat) -> Flat
+    requires { ⌜ n .0 < 2 ^ 63 ⌝ }
+    ensures { λ r. ⌜ r ≡ morePositional state n ⌝ }
+{
+    match state {
+        State::Normal => one_more(n),
+        State::SeenSlash => one_more(n),
+        State::SeenStar => n,
+        State::SeenStarStar => n,
+    }
+}
+
+// What is counted at a parameter of a kind.
+fn count(state: State, c: Counts, kind: Kind) -> Counts
+    requires { ⌜ (c .«num_positional» .0 < 2 ^ 63) × (c .flat .0 < 2 ^ 63) ⌝ }
+    ensures { λ r. ⌜ r ≡ countOf state c kind ⌝ }
+{
+    let positional = c.num_positional;
+    let only = c.num_positional_only;
+    let args = c.args;
+    let kwargs = c.kwargs;
+    let flat = c.flat;
+    match kind {
+        Kind::Normal(_) => Counts {
+            num_positional: more_positional(state, positional),
+            num_positional_only: only,
+            args,
+            kwargs,
+            flat: one_more(flat),
+        },
+        Kind::NoArgs => c,
+        Kind::Slash => c,
+        Kind::Args => Counts {
+            num_positional: positional,
+            num_positional_only: only,
+            args: FlatPlace::AtFlat(flat),
+            kwargs,
+            flat: one_more(flat),
+        },
+        Kind::KwArgs => Counts {
+            num_positional: positional,
+            num_positional_only: only,
+            args,
+            kwargs: FlatPlace::AtFlat(flat),
+            flat: one_more(flat),
+        },
+    }
+}
+
+// All that is kept after a parameter of a kind, which stands at i in the written list.
+fn advance(u: Unpacking, i: Written, kind: Kind) -> Unpacking
+    requires { ⌜ (u .counts .«num_positional» .0 < 2 ^ 63) × (u .counts .flat .0 < 2 ^ 63) ⌝ }
+    ensures { λ r. ⌜ r ≡ advanceOf u i kind ⌝ }
+{
+    let state = u.state;
+    let star = u.index_of_star;
+    let counts = u.counts;
+    Unpacking {
+        state: states::next_state(state, kind),
+        seen_optional: rules::next_optional(u.seen_optional, kind),
+        index_of_star: rules::next_star(star, i, kind),
+        counts: count(state, counts, kind),
     }
 }
 
@@ -126,7 +223,7 @@ fn run(names: &[u8], kids: &[u8], first: usize, only: Flat) -> Judged
         if let Check::Broken(number) = c {
             return Judged::Refused(fault(number, at, left));
         }
-        u = rules::advance(u, Written(n), kind);
+        u = advance(u, Written(n), kind);
         n += 1;
         let e = forest::span(left);
         at += e / 24;
@@ -145,7 +242,7 @@ fn slash_first(kids: &[u8]) -> bool
 }
 
 // 10 first, then the parameters in turn; first is the node of the first record.
-pub fn unpack(names: &[u8], kids: &[u8], first: usize) -> Judged
+fn unpack(names: &[u8], kids: &[u8], first: usize) -> Judged
     requires { ⌜ 24 * first + length (now kids) < 2 ^ 64 ⌝ }
     ensures { λ r. ⌜ r ≡ told (unpackOf (paramsIn (now (names .entry)) (forest first (now (kids .entry))))) ⌝ }
     ensures { λ r. ⌜ Inside (first + length (now (kids .entry)) / 24) r ⌝ }
@@ -155,4 +252,14 @@ pub fn unpack(names: &[u8], kids: &[u8], first: usize) -> Judged
     }
     let slash = list::first_slash(kids);
     run(names, kids, first, rules::positional_only(slash))
+}
+
+// DefParams::unpack of the written list of a node, whose stretch is lent: what is counted, or the first refusal.
+pub fn judge(names: &[u8], t: &[u8], node: u32) -> Judged
+    ensures { λ r. ⌜ r ≡ told (unpackOf (written (now (names .entry)) node (now (t .entry)))) ⌝ }
+    ensures { λ r. ⌜ Inside (node + 1 + length (now (t .entry)) / 24) r ⌝ }
+{
+    let kids = crate::children(t);
+    let first = (node as usize) + 1;
+    unpack(names, kids, first)
 }

@@ -1,0 +1,67 @@
+-- DEMAND 3, in the user's words:
+--
+--   In a sound table, with a long enough mode buffer, the parameter list of a def or lambda is accepted exactly when it can be cut, in written order, into:
+--   nothing, or one or more ordinary parameters and `/`; ordinary parameters; nothing, or `*` with at least one ordinary parameter, or `*args` with any number;
+--   nothing or `**kwargs`; all names distinct; and in the first two parts none without default after one with. The cut is unique. The five index ranges are then
+--   the cut's, marks omitted: the ordinary parameters before `/`, those of the second part, `*args`, the ordinary ones after the star, `**kwargs`. They follow in
+--   order and cover 0 to the flat count once, and each flat parameter's mode is written and is its range's.
+--
+-- specs/Given.antt says what is given, specs/Cut.antt what a cut is and what is asked of it; neither speaks of unpack. The job `parameters::params` promises to
+-- answer `paramsOf` and to leave `modesAfter` in the lent buffer, so each theorem is about its answer and the buffer at exit. Assumes nothing.
+use mathlib.Core.Path.{_≡_, refl, sym, _∙_}
+use mathlib.Core.Logic.{_↔_}
+use mathlib.Core.List.{List}
+use Prim.Native.Nat.{ℕ, _<_, _≤_}
+use lib.ListN.{length, getD}
+use Rattle.table.specs.Answer.{accepted}
+use Rattle.unpack.specs.Written.{Param}
+use Rattle.unpack.specs.declared.Counted.{Counted}
+use Rattle.parameters.specs.Params.{unpacked, listOf, paramsOf, modesAfter}
+use Rattle.parameters.specs.declared.Unpacked.{Unpacked}
+use Rattle.parameters.specs.declared.Unpacked.the-variants.{Accepted}
+use Rattle.demand3.specs.Cut.{Cut, join, partsOf, flatList, Ranges, cutRanges, cutFlat, holders, cutValues, ByRange, Follow, CutBy}
+use Rattle.demand3.specs.Given.{Given, CutOf, RangesAre}
+use Rattle.demand3.proofs.Cuts.{join-injective}
+use Rattle.demand3.proofs.Ranges as ranges
+use Rattle.demand3.proofs.OverTheJob as job
+
+-- "The cut is unique."
+pub cut-unique : (l : List Param) (c d : Cut) → CutOf l c → CutOf l d → c ≡ d
+cut-unique l c d x y = join-injective c d (x .joins ∙ sym (y .joins))
+
+-- "In a sound table, with a long enough mode buffer, the parameter list of a def or lambda"
+module _ (t names : List ℕ) (node : ℕ) (ms : List ℕ) (given : Given t names node ms) where
+  -- "is accepted exactly when it can be cut"
+  pub accepted-iff-cut : ((vs : List ℕ) × (paramsOf t names node (length ms) ≡ accepted vs)) ↔ ((c : Cut) × CutOf (listOf t names node) c)
+  accepted-iff-cut = (λ x. job.has-cut t names node ms given (x .1), λ x. (cutValues (x .0), job.cut-answer t names node ms given (x .0) (x .1)))
+
+  -- where c is the cut of the list
+  module _ (c : Cut) (cut : CutOf (listOf t names node) c) where
+    -- "The five index ranges are then the cut's": the values of the answer, and the ranges of what code answers
+    pub ranges-are-the-cuts : paramsOf t names node (length ms) ≡ accepted (cutValues c)
+    ranges-are-the-cuts = job.cut-answer t names node ms given c cut
+
+    pub answer-has-the-ranges : (r : Unpacked) → unpacked r ≡ paramsOf t names node (length ms) → (a : Counted) × (r ≡ Accepted a) × RangesAre a (cutRanges c)
+    answer-has-the-ranges = job.answer-is t names node ms given c cut
+
+    -- "marks omitted: the ordinary parameters before `/`, those of the second part, `*args`, the ordinary ones after the star, `**kwargs`"
+    pub ranges-cut-the-flat-list : CutBy (cutRanges c) (flatList (listOf t names node)) (partsOf c)
+    ranges-cut-the-flat-list = rw (← cut .joins) (ranges.cut-parts c)
+
+    -- "They follow in order and cover 0 to the flat count once"
+    pub ranges-follow : Follow (cutRanges c) (cutFlat c)
+    ranges-follow = ranges.ranges-follow (partsOf c)
+
+    pub ranges-cover-once : (i : ℕ) → i < cutFlat c → holders (cutRanges c) i ≡ 1
+    ranges-cover-once = ranges.ranges-cover (partsOf c)
+
+    -- "and each flat parameter's mode is written and is its range's": in the lent buffer afterwards
+    pub modes-are-the-ranges : ByRange (cutRanges c) (modesAfter t names node ms)
+    modes-are-the-ranges = job.modes-there t names node ms given c cut
+
+    -- every other byte is as it was
+    pub other-bytes-stay : (i : ℕ) → cutFlat c ≤ i → getD (modesAfter t names node ms) i 0 ≡ getD ms i 0
+    other-bytes-stay = job.others-stay t names node ms given c cut
+
+    pub buffer-as-long : length (modesAfter t names node ms) ≡ length ms
+    buffer-as-long = job.as-long t names node ms given c cut

@@ -1,0 +1,152 @@
+-- Lists that keep the rules have the form of a cut, and lists of that form keep the rules. Assumes nothing.
+use mathlib.Core.Path.{_≡_, refl, sym, ap, _∙_}
+use mathlib.Core.Bool.{Bool, true, false, _||_}
+use mathlib.Core.Logic.{_⊎_, inl, inr}
+use mathlib.Core.List.{List, [], _∷_, _++_}
+use Prim.Native.Nat.{ℕ, zero, suc, _+_, _≤_}
+use native.Mathlib.Omega.{arith}
+use lib.ListN.{length}
+use Rattle.forest.specs.Forest.{Node}
+use Rattle.unpack.specs.Written.{Name, Param, normal, noArgs, slash, args, kwargs, kindIn}
+use Rattle.unpack.specs.Unpack.{writtenAt, defaultRule, isSlash, slashFrom}
+use Rattle.unpack.specs.declared.State.{State}
+use Rattle.unpack.specs.declared.State.the-variants.{Normal as BeforeSlash, SeenSlash, SeenStar, SeenStarStar}
+use Rattle.unpack.specs.declared.Check.the-variants.{Fine, Broken}
+use Rattle.fields.specs.Choice.{if'}
+use Rattle.unpack.specs.declared.Written.{Written}
+use Rattle.unpack.specs.declared.WrittenPlace.{WrittenPlace}
+use Rattle.unpack.specs.declared.WrittenPlace.the-variants.{AtWritten, NoWritten}
+use Rattle.unpack.proofs.Steps.{broken≢fine}
+use Rattle.demand3.specs.Cut.{Ordinary, Star, noStar, bare, starred, Last, noKwargs, withKwargs, ordinary, starPart, kwargsPart}
+use Rattle.demand3.proofs.Walks.{Rules}
+
+-- the default rule along ordinary parameters, where o says whether there was a default
+abbrev pub Defaults : Bool → List Ordinary → Type 0
+Defaults o [] = Unit {0}
+Defaults o (q ∷ qs) = (defaultRule o (q .default) ≡ Fine) × Defaults (o || q .default) qs
+
+-- the star's part and `**kwargs`
+abbrev pub tail : Star → Last → List Param
+tail s k = starPart s ++ kwargsPart k
+
+abbrev pub one : Node → Name → Bool → Ordinary
+one r n d = record { node = r; name = n; default = d }
+
+and-then : {p : Param} {l m : List Param} → l ≡ m → p ∷ l ≡ p ∷ m
+and-then {p} e = ap (λ (x : List Param). p ∷ x) e
+
+-- after `**kwargs` nothing
+last-rules : (o : Bool) (l : List Param) → Rules SeenStarStar o l → l ≡ []
+last-rules o [] r = refl
+last-rules o (normal x n d ∷ ps) r = broken≢fine (r .0)
+last-rules o (noArgs x ∷ ps) r = broken≢fine (r .0)
+last-rules o (slash x ∷ ps) r = broken≢fine (r .0)
+last-rules o (args x n ∷ ps) r = broken≢fine (r .0)
+last-rules o (kwargs x n ∷ ps) r = broken≢fine (r .0)
+
+-- after a star ordinary parameters, then perhaps `**kwargs`
+named-rules : (o : Bool) (l : List Param) → Rules SeenStar o l → (qs : List Ordinary) × (k : Last) × (l ≡ ordinary qs ++ kwargsPart k)
+named-rules o [] r = ([], noKwargs, refl)
+named-rules o (normal x n d ∷ ps) r = let h = named-rules (o || d) ps (r .1) in (one x n d ∷ h .0, h .1, and-then (h .2))
+named-rules o (noArgs x ∷ ps) r = broken≢fine (r .0)
+named-rules o (slash x ∷ ps) r = broken≢fine (r .0)
+named-rules o (args x n ∷ ps) r = broken≢fine (r .0)
+named-rules o (kwargs x n ∷ ps) r = ([], withKwargs x n, and-then (last-rules o ps (r .1)))
+
+-- after `/`, or where there is none
+pub either-rules : (o : Bool) (l : List Param) → Rules SeenSlash o l → (ms : List Ordinary) × (s : Star) × (k : Last) × (l ≡ ordinary ms ++ tail s k) × Defaults o ms
+either-rules o [] r = ([], noStar, noKwargs, refl, tt)
+either-rules o (normal x n d ∷ ps) r = let h = either-rules (o || d) ps (r .1) in (one x n d ∷ h .0, h .1, h .2, and-then (h .3), (r .0, h .4))
+either-rules o (noArgs x ∷ ps) r = let h = named-rules o ps (r .1) in ([], bare x (h .0), h .1, and-then (h .2), tt)
+either-rules o (slash x ∷ ps) r = broken≢fine (r .0)
+either-rules o (args x n ∷ ps) r = let h = named-rules o ps (r .1) in ([], starred x n (h .0), h .1, and-then (h .2), tt)
+either-rules o (kwargs x n ∷ ps) r = ([], noStar, withKwargs x n, and-then (last-rules o ps (r .1)), tt)
+
+-- a list without `/`, wherever it is counted from
+abbrev pub NoSlash : List Param → Type 0
+NoSlash l = (i : ℕ) → slashFrom i l ≡ NoWritten
+
+none-empty : NoSlash []
+unfolding slashFrom
+none-empty i = refl
+
+none-more : (p : Param) (l : List Param) → isSlash (kindIn p) ≡ false → NoSlash l → NoSlash (p ∷ l)
+unfolding slashFrom
+none-more p l e h i = rw e (h (i + 1))
+
+named-no-slash : (o : Bool) (l : List Param) → Rules SeenStar o l → NoSlash l
+named-no-slash o [] r = none-empty
+named-no-slash o (normal x n d ∷ ps) r = none-more (normal x n d) ps refl (named-no-slash (o || d) ps (r .1))
+named-no-slash o (noArgs x ∷ ps) r = broken≢fine (r .0)
+named-no-slash o (slash x ∷ ps) r = broken≢fine (r .0)
+named-no-slash o (args x n ∷ ps) r = broken≢fine (r .0)
+named-no-slash o (kwargs x n ∷ ps) r = none-more (kwargs x n) ps refl (rw (last-rules o ps (r .1)) none-empty)
+
+-- before `/`: the list has the form with `/`, or it has none
+abbrev pub Slashed : Bool → List Param → Type 0
+Slashed o l = (qs : List Ordinary) × (x : Node) × (ms : List Ordinary) × (s : Star) × (k : Last) × (l ≡ ordinary qs ++ slash x ∷ (ordinary ms ++ tail s k)) × Defaults o (qs ++ ms)
+
+pub pos-rules : (o : Bool) (l : List Param) → Rules BeforeSlash o l → Slashed o l ⊎ NoSlash l
+pos-rules o [] r = inr none-empty
+pos-rules o (normal x n d ∷ ps) r = go (pos-rules (o || d) ps (r .1))
+  where
+    go : Slashed (o || d) ps ⊎ NoSlash ps → Slashed o (normal x n d ∷ ps) ⊎ NoSlash (normal x n d ∷ ps)
+    go (inl h) = inl (one x n d ∷ h .0, h .1, h .2, h .3, h .4, and-then (h .5), (r .0, h .6))
+    go (inr e) = inr (none-more (normal x n d) ps refl e)
+pos-rules o (noArgs x ∷ ps) r = inr (none-more (noArgs x) ps refl (named-no-slash o ps (r .1)))
+pos-rules o (slash x ∷ ps) r = let h = either-rules o ps (r .1) in inl ([], x, h .0, h .1, h .2, and-then (h .3), h .4)
+pos-rules o (args x n ∷ ps) r = inr (none-more (args x n) ps refl (named-no-slash o ps (r .1)))
+pos-rules o (kwargs x n ∷ ps) r = inr (none-more (kwargs x n) ps refl (rw (last-rules o ps (r .1)) none-empty))
+
+-- and back
+rules-named : (o : Bool) (qs : List Ordinary) (k : Last) → Rules SeenStar o (ordinary qs ++ kwargsPart k)
+rules-named o [] noKwargs = tt
+rules-named o [] (withKwargs x n) = (refl, tt)
+rules-named o (q ∷ qs) k = (refl, rules-named (o || q .default) qs k)
+
+rules-tail : (o : Bool) (s : Star) (k : Last) → Rules SeenSlash o (tail s k)
+rules-tail o noStar noKwargs = tt
+rules-tail o noStar (withKwargs x n) = (refl, tt)
+rules-tail o (bare x qs) k = (refl, rules-named o qs k)
+rules-tail o (starred x n qs) k = (refl, rules-named o qs k)
+
+pub rules-either : (o : Bool) (ms : List Ordinary) (s : Star) (k : Last) → Defaults o ms → Rules SeenSlash o (ordinary ms ++ tail s k)
+rules-either o [] s k d = rules-tail o s k
+rules-either o (m ∷ ms) s k d = (d .0, rules-either (o || m .default) ms s k (d .1))
+
+pub rules-pos : (o : Bool) (qs : List Ordinary) (x : Node) (ms : List Ordinary) (s : Star) (k : Last) → Defaults o (qs ++ ms) → Rules BeforeSlash o (ordinary qs ++ slash x ∷ (ordinary ms ++ tail s k))
+rules-pos o [] x ms s k d = (refl, rules-either o ms s k d)
+rules-pos o (q ∷ qs) x ms s k d = (d .0, rules-pos (o || q .default) qs x ms s k (d .1))
+
+-- where the first `/` stands
+pub slash-at : (i : ℕ) (qs : List Ordinary) (x : Node) (l : List Param) → slashFrom i (ordinary qs ++ slash x ∷ l) ≡ AtWritten (writtenAt (i + length (ordinary qs)))
+unfolding slashFrom
+slash-at i [] x l = let e : i + 0 ≡ i = omega arith in rw e refl
+slash-at i (q ∷ qs) x l = let e : i + suc (length (ordinary qs)) ≡ i + 1 + length (ordinary qs) = omega arith in rw e (slash-at (i + 1) qs x l)
+
+-- it stands no earlier than the list is counted from
+pub slash-from : (i : ℕ) (l : List Param) {w : Written} → slashFrom i l ≡ AtWritten w → i ≤ w .0
+unfolding slashFrom
+slash-from i [] e = let z : _≡_ {A = ℕ} 0 1 = cc in absurd (omega arith)
+slash-from i (p ∷ ps) {w} e = go (isSlash (kindIn p)) e (λ h. slash-from (i + 1) ps h)
+  where
+    go : (b : Bool) → if' b (λ _. AtWritten (writtenAt i)) (λ _. slashFrom (i + 1) ps) ≡ AtWritten w → (slashFrom (i + 1) ps ≡ AtWritten w → i + 1 ≤ w .0) → i ≤ w .0
+    go true e f = let same : writtenAt i ≡ w = cc in rw (← same) (omega arith)
+    go false e f = omega (arith, f e)
+
+pub none-either : (ms : List Ordinary) (s : Star) (k : Last) → NoSlash (ordinary ms ++ tail s k)
+none-either [] s k = none-tail s k
+  where
+    none-last : (k : Last) → NoSlash (kwargsPart k)
+    none-last noKwargs = none-empty
+    none-last (withKwargs x n) = none-more (kwargs x n) [] refl none-empty
+
+    none-named : (qs : List Ordinary) (k : Last) → NoSlash (ordinary qs ++ kwargsPart k)
+    none-named [] k = none-last k
+    none-named (q ∷ qs) k = none-more (normal (q .node) (q .name) (q .default)) (ordinary qs ++ kwargsPart k) refl (none-named qs k)
+
+    none-tail : (s : Star) (k : Last) → NoSlash (tail s k)
+    none-tail noStar k = none-last k
+    none-tail (bare x qs) k = none-more (noArgs x) (ordinary qs ++ kwargsPart k) refl (none-named qs k)
+    none-tail (starred x n qs) k = none-more (args x n) (ordinary qs ++ kwargsPart k) refl (none-named qs k)
+none-either (m ∷ ms) s k = none-more (normal (m .node) (m .name) (m .default)) (ordinary ms ++ tail s k) refl (none-either ms s k)

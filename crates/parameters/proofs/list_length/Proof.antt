@@ -1,0 +1,30 @@
+-- `parameters::list_length` meets its contract: at the end all are counted. Assumes nothing.
+use borrow.Author.Needs.{needs}
+use lib.ListN.{length}
+use Rattle.unpack.proofs.Reading.{rest-less}
+use Rattle.parameters.proofs.Lists.{Counting, count-start, count-on, count-end}
+use Rattle.parameters.proofs.list_length.Statement.{statement}
+use Rattle.parameters.proofs.list_length.Tie as tie
+
+abbrev Inv-loop : tie.InvT-loop
+Inv-loop kids left₀ n₀ left n = Counting kids left n
+
+abbrev μ-loop : tie.MeasureT-loop
+μ-loop kids left₀ n₀ left n = length left
+
+pub list-length-spec : {M : Type 1} → statement M
+list-length-spec =
+    tie.close
+    (tie.spec
+    Inv-loop
+    μ-loop
+    (λ c. count-start _)
+    (λ c κs. search needs)
+    (λ c κs. search needs)
+    (λ c. search needs)
+    (λ c. search needs)
+    (λ c. search needs)
+    (λ c. search needs)
+    (λ c. rest-less _ (c .before .before .before .listed .ensures) (c .before .before .if1 .taken) (c .before .span .ensures))
+    (λ c. count-on (c .before .before .before .before .loop .inv) (c .before .before .before .listed .ensures) (c .before .before .if1 .taken) (c .before .span .ensures))
+    (λ c. count-end (c .before .before .loop .inv) (c .before .listed .ensures) (c .if1 .left)))
