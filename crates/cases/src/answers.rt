@@ -11,7 +11,7 @@ use table::Checked;
 use table::Refusal;
 use table::Wanted;
 use targets::Targeted;
-use types::Shaped;
+use typerules::Shaped;
 use unpack::Counted;
 use unpack::Range;
 

@@ -1,7 +1,3 @@
-pub mod FormOf
-pub mod Dots
-pub mod Bases
-pub mod Reading
 pub mod Writing
 pub mod Jobs
 pub mod Promises

@@ -10,16 +10,12 @@ use Rattle.fields.specs.Choice.{if'}
 use Rattle.forest.specs.Forest.{Node, Tree, node, Forest, none, _then_}
 use Rattle.soundness.specs.KindNumbers.{kindList}
 use Rattle.table.specs.Answer.{Answer, accepted, refused, andThen}
-use Rattle.types.specs.Forms.{formOf, shapeOf, listShape, readsOf, ofChildren}
-use Rattle.types.specs.Types.{atNode, typeRule, «unpack», «unpack_argument», unpackEach, unpackArguments, unpackIndex, unpackIndex2}
+use Rattle.typerules.specs.Forms.{formOf, shapeOf, listShape, readsOf, ofChildren}
+use Rattle.typerules.specs.Types.{atNode, typeRule, «unpack», «unpack_argument», unpackEach, unpackArguments, unpackIndex, unpackIndex2}
+use Rattle.types.proofs.Jobs.{Passes}
 use Rattle.types.specs.Shapes.{Shape, shapeAt, nodeShapes, shapesOf, shapesArgument, shapesEach, shapesArguments, shapesIndex, shapesIndex2}
-use Rattle.types.specs.declared.Form.{Form}
-use Rattle.types.specs.declared.Form.the-variants.{Ellipsis, Path, Index, Index2, List, Union, Tuple, Other}
-
--- an answer that is no refusal
-abbrev pub Passes : Answer → Type 0
-Passes (accepted vs) = Unit {0}
-Passes (refused n vs) = ⊥
+use Rattle.typerules.specs.declared.Form.{Form}
+use Rattle.typerules.specs.declared.Form.the-variants.{Ellipsis, Path, Index, Index2, List, Union, Tuple, Other}
 
 -- every shape is one of document 01's
 unfoldable pub Proper : L.List Shape → Type 0

@@ -8,12 +8,12 @@ use lib.Dec.{eqb}
 use borrow.Author.Tests.{eq-eqb, ne-eqb}
 use Rattle.forest.specs.Forest.{nodeOf, spanOf, kidsOf, restOf, Tree, node, Forest, none, _then_, forest, treeOf}
 use Rattle.forest.proofs.Stretch.{forest-none, forest-tree, kids-part, rest-part}
-use Rattle.types.specs.Forms.{formOf, shapeOf, listShape, readsOf}
+use Rattle.typerules.specs.Forms.{formOf, shapeOf, listShape, readsOf}
 use Rattle.types.specs.Shapes.{Shape, shapesOf, shapesArgument, shapesEach, shapesArguments, shapesIndex, shapesIndex2, written}
-use Rattle.types.specs.declared.Form.{Form}
-use Rattle.types.specs.declared.Reads.{Reads}
-use Rattle.types.specs.declared.Reads.the-variants.{Nothing, Types, AfterBase, Arguments}
-use Rattle.types.proofs.Reading.{after-base}
+use Rattle.typerules.specs.declared.Form.{Form}
+use Rattle.typerules.specs.declared.Reads.{Reads}
+use Rattle.typerules.specs.declared.Reads.the-variants.{Nothing, Types, AfterBase, Arguments}
+use Rattle.typerules.proofs.Reading.{after-base}
 
 -- LAW: some shapes are written, then others
 pub written-append : (ss us : List Shape) (s : List ℕ) → written (ss ++ us) s ≡ written us (written ss s)

@@ -1,56 +1,19 @@
--- The type job, in document 01's order of numbers, its buffer at exit, and what its answers mean. These are definitions.
+-- The buffer of the type job at exit. These are definitions.
 use mathlib.Core.Bool.{Bool, true, false}
-use mathlib.Core.List.{List, [], _∷_}
-use Prim.Native.Nat.{ℕ, _/_}
-use lib.Dec.{leb}
+use mathlib.Core.List.{List}
+use Prim.Native.Nat.{ℕ}
 use lib.ListN.{length}
-use Rattle.fields.specs.Choice.{if'}
 use Rattle.forest.specs.Forest.{treeOf}
-use Rattle.dialect.specs.Bytes.{fromBytes}
-use Rattle.dialect.specs.declared.DialectTypes.{DialectTypes}
-use Rattle.dialect.specs.declared.Decoded.{Decoded}
-use Rattle.dialect.specs.declared.Decoded.the-variants.{Valid, Invalid}
-use Rattle.table.specs.Numbers.{badDialect, shortBuffer}
-use Rattle.table.specs.Answer.{Answer, accepted, refused, andThen, refusal}
-use Rattle.table.specs.Check.{checkOf, nodeCheck, stretchOf}
-use Rattle.table.specs.declared.Wanted.the-variants.{Expression}
-use Rattle.types.specs.Types.{«dialect_check_type»}
+use Rattle.table.specs.Check.{stretchOf}
+use Rattle.typerules.specs.Jobs.{typeShapeOf}
+use Rattle.typerules.specs.declared.Shaped.{Shaped}
+use Rattle.typerules.specs.declared.Shaped.the-variants.{Accepted, Refused}
 use Rattle.types.specs.Shapes.{shapesOf, afterAnswer}
-use Rattle.types.specs.declared.Shaped.{Shaped}
-use Rattle.types.specs.declared.Shaped.the-variants.{Accepted, Refused}
-
--- what an answer of the type job means: accepted, or refused
-abbrev pub shaped : Shaped → Answer
-shaped Accepted = accepted []
-shaped (Refused r) = refusal r
 
 -- whether an answer is a refusal
 abbrev pub isRefused : Shaped → Bool
 isRefused Accepted = false
 isRefused (Refused r) = true
-
--- 5: the bytes give a dialect, whose types are taken
-abbrev pub withTypes : Decoded → (DialectTypes → Answer) → Answer
-withTypes (Valid d) next = next (d .«enable_types»)
-withTypes Invalid next = refused badDialect []
-
--- 7: the buffer has a byte for each node of the type's subtree
-abbrev pub roomCheck : ℕ → List ℕ → Answer
-roomCheck room t = if' (leb (length t / 24) room) (λ _. accepted []) (λ _. refused shortBuffer [])
-
--- the type job on node i of the table t, for a buffer of so many bytes, where the table is sound and the dialect known: 6, 7, then the type
-unfoldable pub typeAt : List ℕ → List ℕ → DialectTypes → ℕ → ℕ → Answer
-typeAt t names types i room =
-    andThen (nodeCheck t i Expression) (λ _.
-    andThen (roomCheck room (stretchOf t i)) (λ _.
-    «dialect_check_type» names types (treeOf i (stretchOf t i))))
-
--- the whole job: 1 to 4, 5, 6, 7, 45, 40 to 44
-unfoldable pub typeShapeOf : List ℕ → List ℕ → List ℕ → ℕ → ℕ → Answer
-typeShapeOf t names bytes i room =
-    andThen (checkOf t names) (λ _.
-    withTypes (fromBytes bytes) (λ types.
-    typeAt t names types i room))
 
 -- the buffer at exit: its byte k is that of node i + k, so the nodes of the stretch are counted from 0
 abbrev pub shapesAfter : List ℕ → List ℕ → List ℕ → ℕ → List ℕ → List ℕ

@@ -1,5 +1,2 @@
-pub mod Forms
-pub mod Paths
-pub mod Types
 pub mod Shapes
 pub mod Jobs

@@ -8,7 +8,7 @@ use Rattle.fields.specs.Choice.{if'}
 use Rattle.forest.specs.Forest.{Node, Tree, node, Forest, none, _then_}
 use Rattle.soundness.specs.KindNumbers.{kindList}
 use Rattle.table.specs.Answer.{Answer, accepted, refused}
-use Rattle.types.specs.Forms.{formOf, shapeOf, listShape, readsOf, ofChildren}
+use Rattle.typerules.specs.Forms.{formOf, shapeOf, listShape, readsOf, ofChildren}
 
 -- a node that is read, by its index, and its shape
 pub record Shape : Type 0 where

@@ -1,7 +1,7 @@
 // Shapes: the bytes that a type's nodes get in the buffer, once the type is accepted.
-use crate::Reads;
-use crate::forms;
 use soundness::kinds;
+use typerules::Reads;
+use typerules::forms;
 ghost use mathlib.Core.Path.{_≡_};
 ghost use Prim.Native.Nat.{_+_, _/_, _≤_};
 ghost use lib.ListN.{length};

@@ -23,9 +23,9 @@ use Rattle.types.proofs.shapes.write_type.Kinds as write-type-kinds
 use Rattle.types.proofs.shapes.+write_argument+write_arguments+write_each+write_type.Lts-write_type as write-type-lts
 use Rattle.forest.proofs.kind.Reads as kind-reads
 use Rattle.forest.proofs.span.Reads as span-reads
-use Rattle.types.proofs.forms.form.Reads as form-reads
-use Rattle.types.proofs.forms.reads_of.Reads as reads-of-reads
-use Rattle.types.proofs.forms.shape_of.Reads as shape-of-reads
+use Rattle.typerules.proofs.forms.form.Reads as form-reads
+use Rattle.typerules.proofs.forms.reads_of.Reads as reads-of-reads
+use Rattle.typerules.proofs.forms.shape_of.Reads as shape-of-reads
 use Rattle.types.proofs.shapes.+write_argument+write_arguments+write_each+write_type.{
   statement,
 }

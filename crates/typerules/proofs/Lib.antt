@@ -1,0 +1,6 @@
+pub mod FormOf
+pub mod Dots
+pub mod Bases
+pub mod Reading
+pub mod Jobs
+pub mod Promises

@@ -1,0 +1,25 @@
+-- `typerules::forms::reads_of` meets its contract, variant by variant. Assumes nothing.
+use borrow.Author.Needs.{needs}
+use Rattle.typerules.proofs.forms.reads_of.Statement.{statement}
+use Rattle.typerules.proofs.forms.reads_of.Tie as tie
+
+pub reads-of-spec : {M : Type 1} → statement M
+reads-of-spec =
+    tie.close
+    (tie.spec
+    (λ c. search needs)
+    (λ c. search needs)
+    (λ c. search needs)
+    (λ c. search needs)
+    (λ c. search needs)
+    (λ c. search needs)
+    (λ c. search needs)
+    (λ c. search needs)
+    (λ c. search needs)
+    (λ c. search needs)
+    (λ c. search needs)
+    (λ c. search needs)
+    (λ c. search needs)
+    (λ c. search needs)
+    (λ c. search needs)
+    (λ c. search needs))

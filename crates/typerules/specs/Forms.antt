@@ -1,0 +1,55 @@
+-- The forms of type expressions: TypeExprUnpackP of src/syntax/type_expr.rs by the kind of a node. These are definitions.
+-- Copyright 2018 The Starlark in Rust Authors. Copyright (c) Facebook, Inc. and its affiliates. Licensed under Apache-2.0; changed.
+use mathlib.Core.Bool.{Bool, true, false, _&&_, _||_}
+use Prim.Native.Nat.{ℕ}
+use lib.Dec.{eqb}
+use Rattle.fields.specs.Choice.{if'}
+use Rattle.soundness.specs.KindNumbers.{kindTuple, kindDot, kindIndex, kindIndex2, kindIdentifier, kindEllipsis, kindOp, kindList}
+use Rattle.typerules.specs.declared.Form.{Form}
+use Rattle.typerules.specs.declared.Form.the-variants.{Ellipsis, Path, Index, Index2, List, Union, Tuple, Other}
+use Rattle.typerules.specs.declared.Reads.{Reads}
+use Rattle.typerules.specs.declared.Reads.the-variants.{Nothing, Types, AfterBase, Arguments}
+
+-- the form that a kind and its detail may have; an Op is a Union where its detail says `|`
+unfoldable pub formOf : ℕ → ℕ → Form
+formOf kind detail =
+    if' (eqb kind kindEllipsis) (λ _. Ellipsis) (λ _.
+    if' (eqb kind kindIdentifier || eqb kind kindDot) (λ _. Path) (λ _.
+    if' (eqb kind kindIndex) (λ _. Index) (λ _.
+    if' (eqb kind kindIndex2) (λ _. Index2) (λ _.
+    if' (eqb kind kindList) (λ _. List) (λ _.
+    if' (eqb kind kindTuple) (λ _. Tuple) (λ _.
+    if' (eqb kind kindOp && eqb detail 1) (λ _. Union) (λ _. Other)))))))
+
+-- the shape of a form read as a type: a List is a Union. What is no type has none; 0 is never written, since such a type is refused (proofs/Proper)
+abbrev pub shapeOf : Form → ℕ
+shapeOf Ellipsis = 1
+shapeOf Path = 2
+shapeOf Index = 3
+shapeOf Index2 = 4
+shapeOf List = 6
+shapeOf Union = 6
+shapeOf Tuple = 7
+shapeOf Other = 0
+
+-- the shape of a List that is an argument
+abbrev pub listShape : ℕ
+listShape = 5
+
+-- which children a form reads: none, all as types, or those after its base, as types or as arguments
+abbrev pub readsOf : Form → Reads
+readsOf Ellipsis = Nothing
+readsOf Path = Nothing
+readsOf Index = AfterBase
+readsOf Index2 = Arguments
+readsOf List = Types
+readsOf Union = Types
+readsOf Tuple = Types
+readsOf Other = Nothing
+
+-- what is made of the children that are read
+abbrev pub ofChildren : {A : Type 0} → Reads → A → (Unit {0} → A) → (Unit {0} → A) → (Unit {0} → A) → A
+ofChildren Nothing nothing types afterBase arguments = nothing
+ofChildren Types nothing types afterBase arguments = types tt
+ofChildren AfterBase nothing types afterBase arguments = afterBase tt
+ofChildren Arguments nothing types afterBase arguments = arguments tt

@@ -1,0 +1,47 @@
+-- The answer of the type job, in document 01's order of numbers, and what answers mean. These are definitions.
+use mathlib.Core.Bool.{Bool, true, false}
+use mathlib.Core.List.{List, [], _∷_}
+use Prim.Native.Nat.{ℕ, _/_}
+use lib.Dec.{leb}
+use lib.ListN.{length}
+use Rattle.fields.specs.Choice.{if'}
+use Rattle.forest.specs.Forest.{treeOf}
+use Rattle.dialect.specs.Bytes.{fromBytes}
+use Rattle.dialect.specs.declared.DialectTypes.{DialectTypes}
+use Rattle.dialect.specs.declared.Decoded.{Decoded}
+use Rattle.dialect.specs.declared.Decoded.the-variants.{Valid, Invalid}
+use Rattle.table.specs.Numbers.{badDialect, shortBuffer}
+use Rattle.table.specs.Answer.{Answer, accepted, refused, andThen, refusal}
+use Rattle.table.specs.Check.{checkOf, nodeCheck, stretchOf}
+use Rattle.table.specs.declared.Wanted.the-variants.{Expression}
+use Rattle.typerules.specs.Types.{«dialect_check_type»}
+use Rattle.typerules.specs.declared.Shaped.{Shaped}
+use Rattle.typerules.specs.declared.Shaped.the-variants.{Accepted, Refused}
+
+-- what an answer of the type job means: accepted, or refused
+abbrev pub shaped : Shaped → Answer
+shaped Accepted = accepted []
+shaped (Refused r) = refusal r
+
+-- 5: the bytes give a dialect, whose types are taken
+abbrev pub withTypes : Decoded → (DialectTypes → Answer) → Answer
+withTypes (Valid d) next = next (d .«enable_types»)
+withTypes Invalid next = refused badDialect []
+
+-- 7: the buffer has a byte for each node of the type's subtree
+abbrev pub roomCheck : ℕ → List ℕ → Answer
+roomCheck room t = if' (leb (length t / 24) room) (λ _. accepted []) (λ _. refused shortBuffer [])
+
+-- the type job on node i of the table t, for a buffer of so many bytes, where the table is sound and the dialect known: 6, 7, then the type
+unfoldable pub typeAt : List ℕ → List ℕ → DialectTypes → ℕ → ℕ → Answer
+typeAt t names types i room =
+    andThen (nodeCheck t i Expression) (λ _.
+    andThen (roomCheck room (stretchOf t i)) (λ _.
+    «dialect_check_type» names types (treeOf i (stretchOf t i))))
+
+-- the whole job: 1 to 4, 5, 6, 7, 45, 40 to 44
+unfoldable pub typeShapeOf : List ℕ → List ℕ → List ℕ → ℕ → ℕ → Answer
+typeShapeOf t names bytes i room =
+    andThen (checkOf t names) (λ _.
+    withTypes (fromBytes bytes) (λ types.
+    typeAt t names types i room))

@@ -1,0 +1,4 @@
+pub mod Forms
+pub mod Paths
+pub mod Types
+pub mod Jobs

@@ -1,0 +1,105 @@
+// Types: the type rule and the argument rule on a node of a table, judged with no buffer.
+//
+// Ported from src/syntax/type_expr.rs (TypeExprUnpackP::unpack) and src/syntax/grammar_util.rs (dialect_check_type) of starlark_syntax 0.14.2, and changed:
+// a type is a stretch of the node table, and its first refusal is the answer.
+// Copyright 2018 The Starlark in Rust Authors. Copyright (c) Facebook, Inc. and its affiliates. Licensed under Apache-2.0.
+pub mod forms;
+mod paths;
+mod unpack;
+
+use dialect::Decoded;
+use dialect::DialectTypes;
+use table::Checked;
+use table::Refusal;
+use table::Wanted;
+use table::numbers;
+ghost use mathlib.Core.Path.{_≡_};
+ghost use mathlib.Core.List.{[]};
+ghost use Prim.Native.Nat.{_+_, _*_, _≤_};
+ghost use lib.ListN.{length};
+ghost use Rattle.forest.specs.Forest.{treeOf};
+ghost use Rattle.table.specs.Answer.{accepted};
+ghost use Rattle.table.specs.Check.{checkOf};
+ghost use Rattle.typerules.specs.Types.{permitsTypes, «dialect_check_type»};
+ghost use Rattle.typerules.specs.Jobs.{shaped, typeAt, typeShapeOf};
+
+// What a type may be by the kind of its node.
+pub enum Form {
+    Ellipsis,
+    Path,
+    Index,
+    Index2,
+    List,
+    Union,
+    Tuple,
+    Other,
+}
+
+// Which children of a type are read: none, all as types, or those after its base, as types or as arguments.
+pub enum Reads {
+    Nothing,
+    Types,
+    AfterBase,
+    Arguments,
+}
+
+// What the type job answers: accepted, or why it is refused.
+pub enum Shaped {
+    Accepted,
+    Refused(Refusal),
+}
+
+// Whether a node is a type in a dialect, for a buffer with room for so many shapes.
+pub fn judge(table: &[u8], names: &[u8], dialect: &[u8], node: usize, room: usize) -> Shaped
+    ensures { λ r. ⌜ shaped r ≡ typeShapeOf (now (table .entry)) (now (names .entry)) (now (dialect .entry)) node room ⌝ }
+{
+    let found = table::check(table, names);
+    if let Checked::Refused(why) = found {
+        return Shaped::Refused(why);
+    }
+    let read = dialect::from_bytes(dialect);
+    match read {
+        Decoded::Valid(d) => {
+            let types = d.enable_types;
+            type_at(table, names, types, node, room)
+        }
+        Decoded::Invalid => Shaped::Refused(Refusal::Bare(numbers::BAD_DIALECT)),
+    }
+}
+
+// The same for a table that is sound, in a dialect with these types.
+fn type_at(table: &[u8], names: &[u8], types: DialectTypes, node: usize, room: usize) -> Shaped
+    requires { ⌜ accepted [] ≡ checkOf (now table) (now names) ⌝ }
+    ensures { λ r. ⌜ shaped r ≡ typeAt (now (table .entry)) (now (names .entry)) types node room ⌝ }
+{
+    if !table::node_fits(table, node, Wanted::Expression) {
+        return Shaped::Refused(Refusal::Bare(numbers::WRONG_NODE));
+    }
+    let t = table::stretch(table, node);
+    if room < t.len() / 24 {
+        return Shaped::Refused(Refusal::Bare(numbers::SHORT_BUFFER));
+    }
+    dialect_check_type(names, types, t, node)
+}
+
+// The type that a stretch begins with, in a dialect with these types.
+fn dialect_check_type(names: &[u8], types: DialectTypes, t: &[u8], node: usize) -> Shaped
+    requires { ⌜ (24 ≤ length (now t)) × (24 * node + length (now t) ≤ 50400) ⌝ }
+    ensures { λ r. ⌜ shaped r ≡ «dialect_check_type» (now (names .entry)) types (treeOf node (now (t .entry))) ⌝ }
+{
+    if !permits_types(types) {
+        return Shaped::Refused(table::refused_at(numbers::TYPES_DISABLED, node as u32, t));
+    }
+    unpack::unpack(names, t, node)
+}
+
+// Whether a dialect has types.
+fn permits_types(types: DialectTypes) -> bool
+    ensures { λ r. ⌜ r ≡ permitsTypes types ⌝ }
+{
+    match types {
+        DialectTypes::Disable => false,
+        DialectTypes::ParseOnly => true,
+        DialectTypes::Enable => true,
+    }
+}
