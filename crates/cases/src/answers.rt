@@ -164,13 +164,17 @@ fn say_call(table: &[u8], names: &[u8], node: usize) {
     }
 }
 
+fn say_byte(b: u8) {
+    say(b" ");
+    say_number(b as u64);
+}
+
 // The bytes of a buffer, one behind the other.
 fn say_bytes(s: &[u8]) {
     let n = s.len();
     let mut i = 0;
     while i < n {
-        say(b" ");
-        say_number(s[i] as u64);
+        say_byte(fields::byte(s, i));
         i += 1;
     }
 }
@@ -196,20 +200,15 @@ fn say_counted(c: Counted) {
     say_number(c.flat as u64);
 }
 
-// The parameter job, and the mode buffer afterwards, which held 9 in every byte.
-fn say_params(table: &[u8], names: &[u8], a: Asked) {
-    let room = a.room;
-    let mut modes = [9u8; 2100];
-    if 2100 < room {
-        return;
-    }
-    let u = parameters::params(table, names, a.node, &mut modes[0..room]);
+// The parameter job, and the mode buffer afterwards.
+fn say_params(table: &[u8], names: &[u8], node: usize, modes: &mut [u8]) {
+    let u = parameters::params(table, names, node, modes);
     match u {
         Unpacked::Accepted(c) => say_counted(c),
         Unpacked::Refused(r) => say_refusal(r),
     }
     say(b", modes");
-    say_bytes(front(&modes, room));
+    say_bytes(modes);
 }
 
 fn say_targeted(t: Targeted) {
@@ -222,20 +221,30 @@ fn say_targeted(t: Targeted) {
     }
 }
 
-// The type job, and the shape buffer afterwards, which held 9 in every byte.
-fn say_type(table: &[u8], names: &[u8], dialect: &[u8], a: Asked) {
-    let room = a.room;
-    let mut shapes = [9u8; 2100];
-    if 2100 < room {
-        return;
-    }
-    let s = types::type_shape(table, names, dialect, a.node, &mut shapes[0..room]);
+// The type job, and the shape buffer afterwards.
+fn say_type(table: &[u8], names: &[u8], dialect: &[u8], node: usize, shapes: &mut [u8]) {
+    let s = types::type_shape(table, names, dialect, node, shapes);
     match s {
         Shaped::Accepted => say(b"accepted"),
         Shaped::Refused(r) => say_refusal(r),
     }
     say(b", shapes");
-    say_bytes(front(&shapes, room));
+    say_bytes(shapes);
+}
+
+// The jobs that are lent a buffer: it holds 9 in every byte, and is as long as the request says.
+fn say_lent(a: Asked, table: &[u8], names: &[u8], dialect: &[u8]) {
+    let room = a.room;
+    let mut space = [9u8; 2100];
+    let lent: &mut [u8] = &mut space;
+    if lent.len() < room {
+        return;
+    }
+    if a.job == 5 {
+        say_params(table, names, a.node, &mut lent[0..room]);
+        return;
+    }
+    say_type(table, names, dialect, a.node, &mut lent[0..room]);
 }
 
 // 0 is a heading, 1 the table check, 2 a job's node, 3 the bytes of a dialect, 4 a call's arguments, 5 parameters, 6 a target, 7 an assignment, 8 a type.
@@ -246,10 +255,9 @@ pub fn answer(a: Asked, table: &[u8], names: &[u8], dialect: &[u8]) {
         2 => say_node(table, a.node, a.wanted),
         3 => say_decoded(dialect),
         4 => say_call(table, names, a.node),
-        5 => say_params(table, names, a),
+        5 | 8 => say_lent(a, table, names, dialect),
         6 => say_targeted(targets::target(table, names, a.node)),
         7 => say_targeted(targets::assignment(table, names, a.node)),
-        8 => say_type(table, names, dialect, a),
         _ => say(b""),
     }
 }

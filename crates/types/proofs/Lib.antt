@@ -6,5 +6,6 @@ pub mod Writing
 pub mod Jobs
 pub mod Promises
 pub mod Places
-pub mod Buffer
 pub mod Proper
+pub mod Indices
+pub mod Buffer

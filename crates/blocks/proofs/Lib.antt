@@ -1,0 +1,7 @@
+pub mod Filling
+pub mod Spelling
+pub mod Sums
+pub mod Judging
+pub mod Blocks
+pub mod Runs
+pub mod Promises

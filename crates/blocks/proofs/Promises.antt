@@ -1,0 +1,29 @@
+-- Two answers that meet the promise of a public function coincide. Assumes nothing.
+use mathlib.Core.Path.{_≡_, refl}
+use mathlib.Core.List.{List}
+use Prim.Native.Nat.{ℕ}
+use native.Mathlib.Omega.{arith}
+use Rattle.fields.proofs.Coincide.{coincide, coincide-by}
+use Rattle.blocks.specs.declared.Judged.{Judged}
+use Rattle.blocks.specs.declared.Judged.the-variants.{Passed, Refused}
+use Rattle.blocks.specs.Block.{judge, judged}
+use Rattle.blocks.specs.Run.{blocksFor, judgeRun}
+
+-- no two judgements mean the same
+pub judged-injective : (r s : Judged) → judged r ≡ judged s → r ≡ s
+judged-injective Passed Passed e = refl
+judged-injective Passed (Refused n) e = let z : _≡_ {A = ℕ} 0 1 = cc in absurd (omega arith)
+judged-injective (Refused m) Passed e = let z : _≡_ {A = ℕ} 0 1 = cc in absurd (omega arith)
+judged-injective (Refused m) (Refused n) e = cc
+
+-- of `judge`, the bytes as lent
+pub judge-one : (bytes : List ℕ) (number used : ℕ) {r s : Judged} → judged r ≡ judge number used bytes → judged s ≡ judge number used bytes → r ≡ s
+judge-one bytes number used = coincide-by judged judged-injective
+
+-- of `judge_run`, the bytes as lent
+pub judge-run-one : (bytes : List ℕ) (first total : ℕ) {r s : Judged} → judged r ≡ judgeRun first total bytes → judged s ≡ judgeRun first total bytes → r ≡ s
+judge-run-one bytes first total = coincide-by judged judged-injective
+
+-- of `blocks_for`
+pub blocks-for-one : (total : ℕ) {r s : ℕ} → r ≡ blocksFor total → s ≡ blocksFor total → r ≡ s
+blocks-for-one total = coincide

@@ -1,0 +1,115 @@
+-- Laws of numbers as bytes, over the width: reading gives back what is spelled, and spelling what is read. Assumes nothing.
+use mathlib.Core.Path.{_≡_, refl, sym, ap, _∙_}
+use mathlib.Core.Bool.{Bool, true, false}
+use mathlib.Core.Logic.{_⊎_, inl, inr, ⊎-elim}
+use mathlib.Core.List.{List, [], _∷_, _++_}
+use Prim.Native.Nat.{ℕ, zero, suc, _+_, _*_, _-_, _/_, _%_, _<_, _≤_, _^_}
+use native.Mathlib.Nat.{zero-add, add-zero, one-mul, add-assoc, mul-assoc, mul-add, pow-succ', suc-add, eq-of-mul-eq-mul-left}
+use native.Mathlib.Numerals.{add-one, one-add}
+use native.Mathlib.Omega.{arith}
+use lib.ListN.{length, getD, take, drop, set, replicate, length-take, List·getD-append, List·getD-eq-default}
+use lib.Dec.{leb}
+use borrow.Author.Tests.{leb-true, leb-false}
+use lib.Seq.{getD-take, getD-drop, getD-set-same, getD-set-other, drop-cons, drop-at, drop-append-seam}
+use Rattle.fields.specs.Field.{field}
+use Rattle.fields.proofs.Fields.{field-drop, field-take}
+use Rattle.blocks.specs.Block.{bytesOf}
+
+-- one of two numbers is not above the other
+pub le-or-lt : (a b : ℕ) → (a ≤ b) ⊎ (b < a)
+le-or-lt a b = go (leb a b) refl
+  where
+    go : (t : Bool) → leb a b ≡ t → (a ≤ b) ⊎ (b < a)
+    go true e = inl (leb-true a b e)
+    go false e = inr (leb-false a b e)
+
+-- every byte is below 256
+abbrev pub Bytes : List ℕ → Type 0
+Bytes l = (i : ℕ) → getD l i 0 < 256
+
+pub bytes-take : (l : List ℕ) (n : ℕ) → Bytes l → Bytes (take n l)
+bytes-take l n small i = ⊎-elim
+    (λ (h : n ≤ i). let e : getD (take n l) i 0 ≡ 0 = List·getD-eq-default (take n l) 0 (simp length-take (omega arith)) in omega arith)
+    (λ (h : i < n). rw (getD-take n l i 0 h) (small i))
+    (le-or-lt n i)
+
+pub bytes-append : (a l : List ℕ) → Bytes a → Bytes l → Bytes (a ++ l)
+bytes-append [] l p q i = q i
+bytes-append (x ∷ a) l p q zero = p zero
+bytes-append (x ∷ a) l p q (suc i) = bytes-append a l (λ j. p (suc j)) q i
+
+pub bytes-zeros : (n : ℕ) → Bytes (replicate n 0)
+bytes-zeros zero i = omega arith
+bytes-zeros (suc n) zero = omega arith
+bytes-zeros (suc n) (suc i) = bytes-zeros n i
+
+pub bytes-drop : (l : List ℕ) (n : ℕ) → Bytes l → Bytes (drop n l)
+bytes-drop l n small i = rw (getD-drop n l i 0) (small (n + i))
+
+pub bytes-spelled : (w n : ℕ) → Bytes (bytesOf w n)
+unfolding bytesOf
+bytes-spelled zero n i = omega arith
+bytes-spelled (suc w) n zero = omega arith
+bytes-spelled (suc w) n (suc i) = bytes-spelled w (n / 256) i
+
+pub length-bytes : (w n : ℕ) → length (bytesOf w n) ≡ w
+unfolding bytesOf
+length-bytes zero n = refl
+length-bytes (suc w) n = ap suc (length-bytes w (n / 256))
+
+-- a field behind the front of a list, and one in it
+pub field-behind : (w : ℕ) (a l : List ℕ) (at : ℕ) → field w (a ++ l) (length a + at) ≡ field w l at
+field-behind w a l at = sym (field-drop w (a ++ l) (length a) at) ∙ ap (λ (x : List ℕ). field w x at) (drop-append-seam a l)
+
+pub field-before : (w : ℕ) (a l : List ℕ) (at : ℕ) → at + w ≤ length a → field w (a ++ l) at ≡ field w a at
+unfolding field
+field-before zero a l at h = refl
+field-before (suc w) a l at h = rw (List·getD-append a l 0 at (omega arith), field-before w a l (at + 1) (omega arith)) refl
+
+-- LAW: a number that fits is read as it is spelled
+pub field-bytes : (w n : ℕ) (l : List ℕ) → n < 256 ^ w → field w (bytesOf w n ++ l) 0 ≡ n
+unfolding field bytesOf
+field-bytes zero n l h = omega arith
+field-bytes (suc w) n l h =
+    let small : n / 256 < 256 ^ w = omega (arith, pow-succ' 256 w) in
+    let rest : field w (bytesOf w (n / 256) ++ l) 0 ≡ n / 256 = field-bytes w (n / 256) l small in
+    let here : field w (n % 256 ∷ bytesOf w (n / 256) ++ l) (0 + 1) ≡ field w (bytesOf w (n / 256) ++ l) 0 =
+    sym (field-drop w (n % 256 ∷ bytesOf w (n / 256) ++ l) 1 0) in
+    omega (arith, here, rest)
+
+-- LAW: bytes are spelled as they are read
+pub bytes-field : (w : ℕ) (l : List ℕ) (at : ℕ) → Bytes l → at + w ≤ length l → bytesOf w (field w l at) ≡ take w (drop at l)
+unfolding field bytesOf
+bytes-field zero l at small h = refl
+bytes-field (suc w) l at small h =
+    let b : getD l at 0 < 256 = small at in
+    let low : (getD l at 0 + 256 * field w l (at + 1)) % 256 ≡ getD l at 0 = omega arith in
+    let high : (getD l at 0 + 256 * field w l (at + 1)) / 256 ≡ field w l (at + 1) = omega arith in
+    rw (low, high, bytes-field w l (at + 1) small (omega arith), drop-cons l at 0 (omega arith), ← add-one at) refl
+
+-- a byte changed elsewhere
+pub field-outside : (w : ℕ) (l : List ℕ) (at i v : ℕ) → i < at → field w (set l i v) at ≡ field w l at
+unfolding field
+field-outside zero l at i v h = refl
+field-outside (suc w) l at i v h =
+    let other : at ≡ i → ⊥ = λ e. omega arith in
+    rw (getD-set-other l i at v 0 other, field-outside w l (at + 1) i v (omega arith)) refl
+
+-- LAW: one changed byte changes the field
+pub field-changed : (w : ℕ) (l : List ℕ) (at i v : ℕ) → at ≤ i → i < at + w → i < length l → field w (set l i v) at ≡ field w l at → v ≡ getD l i 0
+unfolding field
+field-changed zero l at i v h k m e = absurd (omega arith)
+field-changed (suc w) l at i v h k m e = go (i - at) refl (field-changed w l (at + 1) i v)
+  where
+    go : (n : ℕ) → i - at ≡ n → (at + 1 ≤ i → i < at + 1 + w → i < length l → field w (set l i v) (at + 1) ≡ field w l (at + 1) → v ≡ getD l i 0) → v ≡ getD l i 0
+    go zero d rest =
+        let here : at ≡ i = omega arith in
+        let same : field w (set l i v) (at + 1) ≡ field w l (at + 1) = field-outside w l (at + 1) i v (omega arith) in
+        let new : getD (set l i v) at 0 ≡ v = rw here (getD-set-same l i v 0 m) in
+        let old : getD l at 0 ≡ getD l i 0 = rw here refl in
+        omega (arith, e)
+    go (suc n) d rest =
+        let other : at ≡ i → ⊥ = λ q. omega arith in
+        let same : getD (set l i v) at 0 ≡ getD l at 0 = getD-set-other l i at v 0 other in
+        let next : field w (set l i v) (at + 1) ≡ field w l (at + 1) = omega (arith, e) in
+        rest (omega arith) (omega arith) m next

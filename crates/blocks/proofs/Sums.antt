@@ -1,0 +1,79 @@
+-- Laws of the sum of a block: what it depends on, its bound, and that one changed byte changes it. Assumes nothing.
+use mathlib.Core.Path.{_≡_, refl, sym, ap, _∙_}
+use mathlib.Core.Logic.{⊎-elim}
+use mathlib.Core.List.{List, [], _∷_, _++_}
+use Prim.Native.Nat.{ℕ, zero, suc, _+_, _*_, _<_, _≤_}
+use native.Mathlib.Nat.{mul-le-mul, eq-of-mul-eq-mul-left}
+use native.Mathlib.Numerals.{add-one}
+use native.Mathlib.Omega.{arith}
+use lib.ListN.{length, getD, set, List·getD-append}
+use lib.Seq.{getD-set-same, getD-set-other}
+use Rattle.blocks.specs.Block.{weighed, sumOf}
+use Rattle.blocks.proofs.Spelling.{le-or-lt, Bytes}
+
+-- what a byte adds
+pub weight-small : (p x : ℕ) → p < 508 → x < 256 → (p + 1) * x ≤ 129540
+weight-small p x h k = mul-le-mul {n₂ = 508} {m₂ = 255} (omega arith) (omega arith)
+
+-- the sum over the first n places depends on their bytes alone
+pub weighed-front : (n : ℕ) (a l : List ℕ) → n ≤ length a → weighed n (a ++ l) ≡ weighed n a
+unfolding weighed
+weighed-front zero a l h = refl
+weighed-front (suc p) a l h = rw (weighed-front p a l (omega arith), List·getD-append a l 0 p (omega arith)) refl
+
+pub weighed-outside : (n : ℕ) (l : List ℕ) (i v : ℕ) → n ≤ i → weighed n (set l i v) ≡ weighed n l
+unfolding weighed
+weighed-outside zero l i v h = refl
+weighed-outside (suc p) l i v h =
+    let other : p ≡ i → ⊥ = λ e. omega arith in
+    rw (weighed-outside p l i v (omega arith), getD-set-other l i p v 0 other) refl
+
+-- its bound
+pub weighed-small : (n : ℕ) (l : List ℕ) → n ≤ 508 → Bytes l → weighed n l ≤ 129540 * n
+unfolding weighed
+weighed-small zero l h small = omega arith
+weighed-small (suc p) l h small = omega (arith, weighed-small p l (omega arith) small, weight-small p (getD l p 0) (omega arith) (small p))
+
+pub sum-small : (l : List ℕ) → Bytes l → sumOf l < 4294967296
+unfolding sumOf
+sum-small l small = omega (arith, weighed-small 508 l (omega arith) small)
+
+-- a changed byte moves the sum by its factor
+moved : (n : ℕ) (l : List ℕ) (i v : ℕ) → i < n → i < length l → weighed n (set l i v) + (i + 1) * getD l i 0 ≡ weighed n l + (i + 1) * v
+unfolding weighed
+moved zero l i v h k = absurd (omega arith)
+moved (suc p) l i v h k = ⊎-elim
+    (λ (q : p ≤ i).
+    let e : p ≡ i = omega arith in
+    let new : (p + 1) * getD (set l i v) p 0 ≡ (i + 1) * v = rw (e, getD-set-same l i v 0 k) refl in
+    let old : (p + 1) * getD l p 0 ≡ (i + 1) * getD l i 0 = rw e refl in
+    omega (arith, new, old, weighed-outside p l i v q))
+    (λ (q : i < p).
+    let other : p ≡ i → ⊥ = λ e. omega arith in
+    let same : (p + 1) * getD (set l i v) p 0 ≡ (p + 1) * getD l p 0 = rw (getD-set-other l i p v 0 other) refl in
+    omega (arith, same, moved p l i v q k))
+    (le-or-lt p i)
+
+-- LAW: one changed byte changes the sum
+pub weighed-changed : (n : ℕ) (l : List ℕ) (i v : ℕ) → i < n → i < length l → weighed n (set l i v) ≡ weighed n l → v ≡ getD l i 0
+weighed-changed n l i v h k e =
+    eq-of-mul-eq-mul-left (i + 1) (omega arith) v (getD l i 0) (omega (arith, e, moved n l i v h k))
+
+-- the loop: the sum over the places so far
+pub record Summed (b : List ℕ) (sum p : ℕ) : Type 0 where
+  pub upto : p ≤ 508
+  pub few : sum ≤ 129540 * p
+  pub is : sum ≡ weighed p b
+
+pub sum-start : (b : List ℕ) → Summed b 0 0
+unfolding weighed
+sum-start b = record { upto = omega arith; few = omega arith; is = refl }
+
+module _ {b : List ℕ} {sum p : ℕ} (s : Summed b sum p) where
+  pub sum-on : {w : ℕ} → p < 508 → w ≡ (p + 1) * getD b p 0 → w ≤ 129540 → Summed b (sum + w) (p + 1)
+  unfolding weighed
+  sum-on {w} h e f = record { upto = omega arith; few = omega (arith, s .few); is = rw (add-one p, s .is, e) refl }
+
+  pub sum-end : 508 ≤ p → sum ≡ sumOf b
+  unfolding sumOf
+  sum-end h = let e : p ≡ 508 = omega (arith, s .upto) in rw e at (s .is)

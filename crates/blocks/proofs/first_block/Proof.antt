@@ -1,0 +1,29 @@
+-- `blocks::first_block` meets its contract: the zero bytes are filled from the front. Assumes nothing.
+use mathlib.Core.Path.{refl}
+use Prim.Native.Nat.{ℕ, _-_}
+use native.Mathlib.Omega.{arith}
+use borrow.Author.Needs.{needs}
+use lib.ListN.{replicate, length-replicate}
+use Rattle.blocks.proofs.Filling.{Filled, fill-start, fill-long, fill-on, fill-whole}
+use Rattle.blocks.proofs.first_block.Statement.{statement}
+use Rattle.blocks.proofs.first_block.Tie as tie
+
+abbrev Inv-loop : tie.InvT-loop
+Inv-loop bytes b₀ i₀ b i = Filled (replicate 512 0) bytes 512 b i
+
+abbrev μ-loop : tie.MeasureT-loop
+μ-loop bytes b₀ i₀ b i = 512 - i
+
+pub first-block-spec : {M : Type 1} → statement M
+first-block-spec =
+    tie.close
+    (tie.spec
+    Inv-loop
+    μ-loop
+    (λ c. fill-start _ _ _ (omega (arith, length-replicate {A = ℕ} 512 0)) (c .pre))
+    (λ c. search needs)
+    (λ c. omega (arith, fill-long (c .before .before .loop .inv), length-replicate {A = ℕ} 512 0))
+    (λ c. search needs)
+    (λ c. search needs)
+    (λ c. fill-on (c .before .before .loop .inv) (c .before .loop-test .taken) refl)
+    (λ c. fill-whole (c .before .loop .inv) (c .loop-test .left) (omega (arith, length-replicate {A = ℕ} 512 0))))

@@ -1,0 +1,11 @@
+-- `blocks::judge` meets its contract: a block that is short, or the demands on its 512 bytes. Assumes nothing.
+use borrow.Author.Needs.{needs}
+use Rattle.blocks.proofs.Judging.{judge-short, judge-long}
+use borrow.Author.Needs.{needs}
+use Rattle.blocks.proofs.judge.Statement.{statement}
+use Rattle.blocks.proofs.judge.Tie as tie
+
+pub judge-spec : {M : Type 1} → statement M
+judge-spec =
+    tie.close
+    (tie.spec (λ c. judge-short _ _ _ (c .if1 .taken)) (λ c κs. search needs) (λ c. search needs) (λ c κs. search needs) (λ c. judge-long _ _ _ (c .before .before .before .if1 .left) (c .before .before .first-block .ensures) (c .examine .ensures)))

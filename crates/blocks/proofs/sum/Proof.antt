@@ -1,0 +1,28 @@
+-- `blocks::sum` meets its contract: the sum over the places so far. Assumes nothing.
+use Prim.Native.Nat.{_-_}
+use native.Mathlib.Omega.{arith}
+use borrow.Author.Needs.{needs}
+use Rattle.blocks.proofs.Sums.{Summed, sum-start, sum-on, sum-end}
+use Rattle.blocks.proofs.sum.Statement.{statement}
+use Rattle.blocks.proofs.sum.Tie as tie
+
+abbrev Inv-loop : tie.InvT-loop
+Inv-loop b sum₀ p₀ sum p = Summed b sum p
+
+abbrev μ-loop : tie.MeasureT-loop
+μ-loop b sum₀ p₀ sum p = 508 - p
+
+pub sum-spec : {M : Type 1} → statement M
+sum-spec =
+    tie.close
+    (tie.spec
+    Inv-loop
+    μ-loop
+    (λ c. sum-start _)
+    (λ c. search needs)
+    (λ c κs. search needs)
+    (λ c. omega (arith, c .before .before .before .loop .inv .few, c .weight .ensures .1))
+    (λ c. search needs)
+    (λ c. search needs)
+    (λ c. sum-on (c .before .before .before .loop .inv) (c .before .before .loop-test .taken) (c .weight .ensures .0) (c .weight .ensures .1))
+    (λ c. sum-end (c .before .loop .inv) (c .loop-test .left)))

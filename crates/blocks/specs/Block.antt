@@ -1,0 +1,59 @@
+-- Blocks of 512 bytes, little-endian: 0-1 number, 2-3 used bytes, 4-507 content, 508-511 the sum. These are definitions.
+use mathlib.Core.Bool.{Bool, true, false, _&&_}
+use mathlib.Core.List.{List, [], _∷_, _++_}
+use Prim.Native.Nat.{ℕ, zero, suc, _+_, _*_, _-_, _/_, _%_}
+use lib.ListN.{length, getD, take, drop, replicate}
+use lib.Dec.{eqb, leb}
+use Rattle.fields.specs.Choice.{if'}
+use Rattle.fields.specs.Field.{field}
+use Rattle.table.specs.Numbers.{blockShort, blockNumber, blockCheck, blockUsed}
+use Rattle.table.specs.Answer.{Answer, accepted, refused, andThen}
+use Rattle.blocks.specs.declared.Judged.{Judged}
+use Rattle.blocks.specs.declared.Judged.the-variants.{Passed, Refused}
+
+-- a number as w bytes, low byte first
+unfoldable pub bytesOf : ℕ → ℕ → List ℕ
+bytesOf zero n = []
+bytesOf (suc w) n = n % 256 ∷ bytesOf w (n / 256)
+
+-- the sum of (p + 1) times byte p over the first n places
+unfoldable pub weighed : ℕ → List ℕ → ℕ
+weighed zero b = 0
+weighed (suc p) b = weighed p b + (p + 1) * getD b p 0
+
+-- the sum of a block: over p = 0 to 507
+unfoldable pub sumOf : List ℕ → ℕ
+sumOf b = weighed 508 b
+
+-- what stands before the sum: the number, the used bytes, the content, and zeros past the used part
+unfoldable pub frontOf : ℕ → List ℕ → List ℕ
+frontOf number content = bytesOf 2 number ++ (bytesOf 2 (length content) ++ (content ++ replicate (504 - length content) 0))
+
+-- the block that has a number and a content
+unfoldable pub blockOf : ℕ → List ℕ → List ℕ
+blockOf number content = frontOf number content ++ bytesOf 4 (sumOf (frontOf number content))
+
+-- whether all bytes are zero
+unfoldable pub zeros : List ℕ → Bool
+zeros [] = true
+zeros (x ∷ l) = eqb x 0 && zeros l
+
+-- a demand that is met, or refused by its number
+abbrev pub demand : Bool → ℕ → Answer
+demand met number = if' met (λ _. accepted []) (λ _. refused number [])
+
+-- the demands on the 512 bytes of a block: 72 check, 71 number, 73 used bytes or padding
+unfoldable pub examine : ℕ → ℕ → List ℕ → Answer
+examine number used b =
+    andThen (demand (eqb (sumOf b) (field 4 b 508)) blockCheck) (λ _.
+    andThen (demand (eqb (field 2 b 0) number) blockNumber) (λ _.
+    demand (eqb (field 2 b 2) used && zeros (drop (4 + used) (take 508 b))) blockUsed))
+
+-- the judgement of the block at the front of some bytes, that is to have a number and used bytes: 70 short, then the demands on its 512 bytes
+unfoldable pub judge : ℕ → ℕ → List ℕ → Answer
+judge number used bs = andThen (demand (leb 512 (length bs)) blockShort) (λ _. examine number used (take 512 bs))
+
+-- what the answers of code mean
+abbrev pub judged : Judged → Answer
+judged Passed = accepted []
+judged (Refused n) = refused n []

@@ -1,0 +1,37 @@
+-- Runs of blocks: a content of any length, 504 bytes a block; only the last may be partly used, and the numbers run on. These are definitions.
+use mathlib.Core.List.{List, [], _++_}
+use Prim.Native.Nat.{ℕ, zero, suc, _+_, _-_, _/_, min}
+use lib.ListN.{length, take, drop}
+use Rattle.table.specs.Answer.{Answer, accepted, andThen}
+use Rattle.blocks.specs.Block.{blockOf, judge}
+
+-- how many blocks a content of so many bytes fills: none if there are none
+unfoldable pub blocksFor : ℕ → ℕ
+blocksFor total = (total + 503) / 504
+
+-- the first n blocks of a content, the first of which has a number
+unfoldable pub blocksOf : ℕ → ℕ → List ℕ → List ℕ
+blocksOf zero number content = []
+blocksOf (suc n) number content = blockOf number (take 504 content) ++ blocksOf n (number + 1) (drop 504 content)
+
+-- the blocks of a content
+unfoldable pub runOf : ℕ → List ℕ → List ℕ
+runOf number content = blocksOf (blocksFor (length content)) number content
+
+-- the judgement of n blocks in turn that are to hold so many bytes
+unfoldable pub judgeBlocks : ℕ → ℕ → ℕ → List ℕ → Answer
+judgeBlocks zero number total bs = accepted []
+judgeBlocks (suc n) number total bs = andThen (judge number (min 504 total) bs) (λ _. judgeBlocks n (number + 1) (total - 504) (drop 512 bs))
+
+-- the judgement of the run at the front of some bytes
+unfoldable pub judgeRun : ℕ → ℕ → List ℕ → Answer
+judgeRun number total bs = judgeBlocks (blocksFor total) number total bs
+
+-- the contents of n blocks, one after the other: bytes 4 to 507 of each
+unfoldable pub contents : ℕ → List ℕ → List ℕ
+contents zero bs = []
+contents (suc n) bs = take 504 (drop 4 bs) ++ contents n (drop 512 bs)
+
+-- the content of so many bytes that the run at the front of some bytes holds
+unfoldable pub contentOf : ℕ → List ℕ → List ℕ
+contentOf total bs = take total (contents (blocksFor total) bs)

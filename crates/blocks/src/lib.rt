@@ -1,0 +1,135 @@
+// Blocks of 512 bytes: number, used bytes, content and sum, judged one by one or as a run.
+use table::numbers;
+ghost use mathlib.Core.Path.{_≡_};
+ghost use Prim.Native.Nat.{_+_, _*_, _≤_, _<_, min};
+ghost use lib.ListN.{length, take, drop};
+ghost use Rattle.blocks.specs.Block.{sumOf, zeros, examine, judge, judged};
+ghost use Rattle.blocks.specs.Run.{blocksFor, judgeRun};
+
+// The judgement of blocks: they pass, or are refused by a number.
+pub enum Judged {
+    Passed,
+    Refused(u32),
+}
+
+// The block at the front of some bytes, that is to have a number and used bytes: 70, 72, 71, 73.
+pub fn judge(bytes: &[u8], number: usize, used: usize) -> Judged
+    ensures { λ r. ⌜ judged r ≡ judge number used (now (bytes .entry)) ⌝ }
+{
+    if bytes.len() < 512 {
+        return Judged::Refused(numbers::BLOCK_SHORT);
+    }
+    let b = first_block(bytes);
+    examine(&b, number, used)
+}
+
+// The blocks that hold total bytes, 504 each, the first of which has a number: each is judged in turn.
+pub fn judge_run(bytes: &[u8], first: u16, total: usize) -> Judged
+    ensures { λ r. ⌜ judged r ≡ judgeRun first total (now (bytes .entry)) ⌝ }
+{
+    let mut left = bytes;
+    let mut number = first as usize;
+    let mut more = total;
+    while 0 < more {
+        let used = used_here(more);
+        let here = judge(left, number, used);
+        if let Judged::Refused(n) = here {
+            return Judged::Refused(n);
+        }
+        left = &left[512..];
+        number += 1;
+        more -= used;
+    }
+    Judged::Passed
+}
+
+// How many blocks hold total bytes.
+pub fn blocks_for(total: usize) -> usize
+    ensures { λ r. ⌜ r ≡ blocksFor total ⌝ }
+{
+    if total % 504 == 0 {
+        return total / 504;
+    }
+    total / 504 + 1
+}
+
+// The 512 bytes at the front, from 512 zero bytes.
+fn first_block(bytes: &[u8]) -> [u8; 512]
+    requires { ⌜ 512 ≤ length (now bytes) ⌝ }
+    ensures { λ r. ⌜ r ≡ take 512 (now (bytes .entry)) ⌝ }
+{
+    let mut b = [0u8; 512];
+    let mut i = 0;
+    while i < 512 {
+        b[i] = bytes[i];
+        i += 1;
+    }
+    b
+}
+
+// The demands on the 512 bytes of a block: 72, 71, 73.
+fn examine(b: &[u8], number: usize, used: usize) -> Judged
+    requires { ⌜ length (now b) ≡ 512 ⌝ }
+    ensures { λ r. ⌜ judged r ≡ examine number used (now (b .entry)) ⌝ }
+{
+    let right = sum(b) == fields::word(b, 508) as usize;
+    let numbered = fields::half(b, 0) as usize == number;
+    if !right {
+        return Judged::Refused(numbers::BLOCK_CHECK);
+    }
+    if !numbered {
+        return Judged::Refused(numbers::BLOCK_NUMBER);
+    }
+    let said = fields::half(b, 2) as usize;
+    if said != used {
+        return Judged::Refused(numbers::BLOCK_USED);
+    }
+    if !padded(b, 4 + said) {
+        return Judged::Refused(numbers::BLOCK_USED);
+    }
+    Judged::Passed
+}
+
+// What a byte adds to the sum.
+fn weight(p: usize, x: u8) -> usize
+    requires { ⌜ p < 508 ⌝ }
+    ensures { λ r. ⌜ (r ≡ (p + 1) * x) × (r ≤ 129540) ⌝ }
+{
+    (p + 1) * (x as usize)
+}
+
+// The sum of (p + 1) times byte p over p = 0 to 507.
+fn sum(b: &[u8]) -> usize
+    requires { ⌜ length (now b) ≡ 512 ⌝ }
+    ensures { λ r. ⌜ r ≡ sumOf (now (b .entry)) ⌝ }
+{
+    let mut sum = 0;
+    let mut p = 0;
+    while p < 508 {
+        sum += weight(p, b[p]);
+        p += 1;
+    }
+    sum
+}
+
+// Whether the content is zero from a place on.
+fn padded(b: &[u8], from: usize) -> bool
+    requires { ⌜ length (now b) ≡ 512 ⌝ }
+    ensures { λ r. ⌜ r ≡ zeros (drop from (take 508 (now (b .entry)))) ⌝ }
+{
+    let mut p = from;
+    while p < 508 {
+        if b[p] != 0 {
+            return false;
+        }
+        p += 1;
+    }
+    true
+}
+
+// How many bytes the first block of a run uses.
+fn used_here(more: usize) -> usize
+    ensures { λ r. ⌜ r ≡ min 504 more ⌝ }
+{
+    if more < 504 { more } else { 504 }
+}

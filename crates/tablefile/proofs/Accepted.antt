@@ -1,0 +1,113 @@
+-- What acceptance says: the blocks pass, nothing is left over, and what the file holds is sound. Assumes nothing.
+use mathlib.Core.Path.{_≡_, refl, sym, ap, _∙_}
+use mathlib.Core.Bool.{Bool, true, false}
+use mathlib.Core.Logic.{_⊎_, inl, inr}
+use mathlib.Core.List.{List, [], _∷_, _++_, append-nil}
+use Prim.Native.Nat.{ℕ, _+_, _*_, _/_, _<_, _≤_}
+use native.Mathlib.Omega.{arith}
+use lib.ListN.{length, getD, take, set}
+use lib.Seq.{take-all}
+use lib.Dec.{eqb, leb}
+use borrow.Author.Tests.{leb-true, le-leb, eqb-true, eqb-false}
+use Rattle.dialect.specs.Bytes.{fromBytes}
+use Rattle.dialect.specs.declared.Decoded.the-variants.{Invalid}
+use Rattle.dialect.proofs.Laws.{other-length}
+use Rattle.table.specs.Numbers.{blockCheck, bytesLeftOver}
+use Rattle.table.specs.Answer.{Answer, accepted, refused, andThen, refusal}
+use Rattle.table.specs.Check.{checkOf}
+use Rattle.table.specs.declared.Refusal.the-variants.{Bare}
+use Rattle.table.proofs.Answers.{refusal-injective, never-accepted}
+use Rattle.table.proofs.Checking.{accepted-clean}
+use Rattle.blocks.specs.Block.{demand}
+use Rattle.blocks.proofs.Spelling.{Bytes}
+use Rattle.tablefile.specs.File.{Content, fileOf}
+use Rattle.tablefile.specs.Reading.{takenAt, contentAt, frontCheck, dialectCheck, soundCheck, readCheck}
+use Rattle.tablefile.specs.Loading.{verdict}
+use Rattle.tablefile.specs.declared.Verdict.{Verdict}
+use Rattle.tablefile.specs.declared.Verdict.the-variants.{Accepted, Refused}
+use Rattle.tablefile.proofs.Fronts.{Fronted, demand-then, fronted-then, taken-there}
+use Rattle.tablefile.proofs.Files.{Fits, front-is-file, front-changed, file-passes, file-holds, file-taken}
+
+-- no two verdicts mean the same
+pub verdict-injective : (r s : Verdict) → verdict r ≡ verdict s → r ≡ s
+verdict-injective Accepted Accepted e = refl
+verdict-injective Accepted (Refused s) e = never-accepted s (sym e)
+verdict-injective (Refused r) Accepted e = never-accepted r e
+verdict-injective (Refused r) (Refused s) e = ap Refused (refusal-injective r s e)
+
+-- what a file that is accepted is
+module _ (bs : List ℕ) (e : readCheck bs ≡ accepted []) where
+  steps : Fronted bs × (leb (length bs) (takenAt bs) ≡ true) × (soundCheck (contentAt bs) ≡ accepted [])
+  unfolding readCheck
+  steps =
+      let sound : Unit {0} → Answer = λ _. soundCheck (contentAt bs) in
+      let one = fronted-then bs (λ _. andThen (demand (leb (length bs) (takenAt bs)) bytesLeftOver) sound) e in
+      let two = demand-then (leb (length bs) (takenAt bs)) bytesLeftOver sound (one .1) in
+      (one .0, two .0, two .1)
+
+  pub read-fronted : Fronted bs
+  read-fronted = steps .0
+
+  pub read-whole : length bs ≡ takenAt bs
+  read-whole = omega (arith, leb-true (length bs) (takenAt bs) (steps .1), taken-there bs read-fronted)
+
+  pub read-is-sound : soundCheck (contentAt bs) ≡ accepted []
+  read-is-sound = steps .2
+
+  pub read-is-file : Bytes bs → bs ≡ fileOf (contentAt bs)
+  read-is-file small = sym (take-all (takenAt bs) bs (omega (arith, read-whole))) ∙ front-is-file bs small read-fronted
+
+  pub read-changed : (i v : ℕ) → i < length bs → (v ≡ getD bs i 0 → ⊥) → readCheck (set bs i v) ≡ refused blockCheck []
+  unfolding readCheck
+  read-changed i v h other = rw (front-changed bs read-fronted i v other (omega (arith, read-whole))) refl
+
+-- a dialect that is valid has no bytes or nine
+dialect-lengths : (ds : List ℕ) → dialectCheck (fromBytes ds) ≡ accepted [] → (length ds ≡ 0) ⊎ (length ds ≡ 9)
+dialect-lengths ds e = go (eqb (length ds) 0) (eqb (length ds) 9) refl refl
+  where
+    go : (a b : Bool) → eqb (length ds) 0 ≡ a → eqb (length ds) 9 ≡ b → (length ds ≡ 0) ⊎ (length ds ≡ 9)
+    go true b p q = inl (eqb-true (length ds) 0 p)
+    go false true p q = inr (eqb-true (length ds) 9 q)
+    go false false p q =
+        let bad : fromBytes ds ≡ Invalid = other-length ds (eqb-false (length ds) 0 p) (eqb-false (length ds) 9 q) in
+        let no : dialectCheck Invalid ≡ accepted [] = rw bad at e in
+        never-accepted (Bare 5) no
+
+-- a content that is sound: its table passes 1 to 4 with its names, its dialect bytes are valid, and all are bytes
+pub record SoundContent (c : Content) : Type 0 where
+  pub checks : checkOf (c .table) (c .names) ≡ accepted []
+  pub valid : dialectCheck (fromBytes (c .dialect)) ≡ accepted []
+  pub table-bytes : Bytes (c .table)
+  pub names-bytes : Bytes (c .names)
+  pub dialect-bytes : Bytes (c .dialect)
+
+module _ (c : Content) (s : SoundContent c) where
+  pub sound-fits : Fits c
+  sound-fits =
+      let clean = accepted-clean (c .table) (c .names) (s .checks) in
+      record {
+        whole = clean .whole;
+        some = clean .least;
+        few = clean .most;
+        names = clean .few;
+        dialect = dialect-lengths (c .dialect) (s .valid);
+        table-bytes = s .table-bytes;
+        names-bytes = s .names-bytes;
+        dialect-bytes = s .dialect-bytes;
+      }
+
+  sound-so : soundCheck c ≡ accepted []
+  unfolding soundCheck
+  sound-so = rw (s .checks) (s .valid)
+
+  pub back-holds : contentAt (fileOf c) ≡ c
+  back-holds = ap contentAt (sym (append-nil (fileOf c))) ∙ file-holds c sound-fits []
+
+  pub back-taken : takenAt (fileOf c) ≡ length (fileOf c)
+  back-taken = ap takenAt (sym (append-nil (fileOf c))) ∙ file-taken c sound-fits []
+
+  pub back-accepted : readCheck (fileOf c) ≡ accepted []
+  unfolding readCheck
+  back-accepted =
+      let passes : frontCheck (fileOf c) ≡ accepted [] = ap frontCheck (sym (append-nil (fileOf c))) ∙ file-passes c sound-fits [] in
+      rw (passes, back-taken, le-leb (length (fileOf c)) (length (fileOf c)) (omega arith), back-holds) sound-so

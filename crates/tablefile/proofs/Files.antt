@@ -1,0 +1,276 @@
+-- The file at the front and the file of a content: each is the other's inverse, and one changed byte is told. Assumes nothing.
+use mathlib.Core.Path.{_≡_, refl, sym, ap, _∙_}
+use mathlib.Core.Bool.{Bool, true, false}
+use mathlib.Core.Logic.{_⊎_, inl, inr, ⊎-elim}
+use mathlib.Core.List.{List, [], _∷_, _++_, append-assoc}
+use Prim.Native.Nat.{ℕ, zero, suc, _+_, _*_, _-_, _/_, _<_, _≤_}
+use native.Mathlib.Nat.{add-zero}
+use native.Mathlib.Omega.{arith}
+use lib.ListN.{length, getD, take, drop, set, replicate, length-append, length-drop, length-set}
+use lib.Seq.{take-at, drop-at, take-take, take-add, drop-drop, take-set-le}
+use lib.Dec.{eqb, leb}
+use borrow.Author.Tests.{le-leb, eq-eqb, ne-eqb}
+use Rattle.fields.specs.Choice.{if'}
+use Rattle.fields.specs.Field.{field}
+use Rattle.fields.proofs.Fields.{field-drop, field-take}
+use Rattle.table.specs.Numbers.{blockCheck, blockCounts}
+use Rattle.table.specs.Answer.{Answer, accepted, refused, andThen}
+use Rattle.blocks.specs.Block.{bytesOf, blockOf, demand, judge}
+use Rattle.blocks.specs.Run.{blocksFor, runOf, judgeRun, contentOf}
+use Rattle.blocks.proofs.Spelling.{le-or-lt, Bytes, bytes-take, bytes-drop, bytes-append, bytes-spelled, length-bytes, field-behind, field-before, field-bytes, bytes-field}
+use Rattle.blocks.proofs.Blocks.{Passing, passing, passes, drop-take, length-block, content-there, block-passes, passed-is-block, changed-block, judge-outside}
+use Rattle.blocks.proofs.Runs.{drop-set, getD-behind, length-run, passed-is-run, run-passes, run-holds, run-outside, changed-run}
+use Rattle.tablefile.specs.File.{Content, headerOf, fileOf}
+use Rattle.tablefile.specs.Reading.{nodesAt, namesAt, dialectAt, firstNodes, takenAt, contentAt, countsFit, frontCheck}
+use Rattle.tablefile.proofs.Fronts.{Fronted, dialect-few, first-there, table-length, names-length}
+
+-- ---- a file at the front whose blocks pass is the file of what it holds
+module _ (bs : List ℕ) (small : Bytes bs) (f : Fronted bs) where
+  header-is : take (4 + dialectAt bs) (drop 4 bs) ≡ headerOf (contentAt bs)
+  unfolding headerOf contentAt nodesAt namesAt
+  header-is =
+      let d : ℕ = dialectAt bs in
+      let nodes : length (contentAt bs .table) / 24 ≡ field 2 bs 4 = omega (arith, table-length bs f) in
+      let names : length (contentAt bs .names) ≡ field 2 bs 6 = names-length bs f in
+      let spelled : bytesOf 2 (field 2 bs 4) ≡ take 2 (drop 4 bs) = bytes-field 2 bs 4 small (omega (arith, f .header .long)) in
+      let spelled′ : bytesOf 2 (field 2 bs 6) ≡ take 2 (drop 6 bs) = bytes-field 2 bs 6 small (omega (arith, f .header .long)) in
+      let cut : 4 + d ≡ 2 + (2 + d) = omega arith in
+      rw
+      (nodes, names, spelled, spelled′, cut, take-add 2 (2 + d) (drop 4 bs), drop-drop 2 4 bs, take-add 2 d (drop 6 bs), drop-drop 2 6 bs)
+      refl
+
+  names-are : take (512 * blocksFor (namesAt bs)) (drop 512 bs) ≡ runOf 1 (contentAt bs .names)
+  unfolding contentAt
+  names-are = passed-is-run 1 (namesAt bs) (drop 512 bs) (bytes-drop bs 512 small) (f .names)
+
+  nodes-are : take (512 * blocksFor (24 * nodesAt bs)) (drop (512 * firstNodes bs) bs) ≡ runOf (firstNodes bs) (contentAt bs .table)
+  unfolding contentAt
+  nodes-are = passed-is-run (firstNodes bs) (24 * nodesAt bs) (drop (512 * firstNodes bs) bs) (bytes-drop bs (512 * firstNodes bs) small) (f .nodes)
+
+  -- THEOREM
+  pub front-is-file : take (takenAt bs) bs ≡ fileOf (contentAt bs)
+  unfolding takenAt fileOf firstNodes
+  front-is-file =
+      let a : ℕ = blocksFor (namesAt bs) in
+      let m : ℕ = blocksFor (24 * nodesAt bs) in
+      let cut : 512 * (1 + a + m) ≡ 512 + (512 * a + 512 * m) = omega arith in
+      let at : 512 * (1 + a) ≡ 512 + 512 * a = omega arith in
+      let block : take 512 bs ≡ blockOf 0 (headerOf (contentAt bs)) = passed-is-block 0 (4 + dialectAt bs) bs (omega (arith, dialect-few bs f)) small (f .header) ∙ ap (blockOf 0) header-is in
+      let names : take (512 * a) (drop 512 bs) ≡ runOf 1 (contentAt bs .names) = names-are in
+      let nodes : take (512 * m) (drop (512 + 512 * a) bs) ≡ runOf (1 + a) (contentAt bs .table) = ap (λ (x : ℕ). take (512 * m) (drop x bs)) (sym at) ∙ nodes-are in
+      rw
+      (cut, take-add 512 (512 * a + 512 * m) bs, take-add (512 * a) (512 * m) (drop 512 bs), drop-drop (512 * a) 512 bs, block, names, nodes, names-length bs f)
+      refl
+
+-- ---- one changed byte of it gives 72
+module _ (bs : List ℕ) (f : Fronted bs) (i v : ℕ) (other : v ≡ getD bs i 0 → ⊥) where
+  header-changed : i < 512 → frontCheck (set bs i v) ≡ refused blockCheck []
+  unfolding frontCheck
+  header-changed h = rw (changed-block 0 (4 + dialectAt bs) bs i v (f .header) h other 0 (4 + dialectAt (set bs i v))) refl
+
+  -- behind block 0 it is read as before
+  module _ (h : 512 ≤ i) where
+    same-field : (at : ℕ) → at + 2 ≤ 512 → field 2 (set bs i v) at ≡ field 2 bs at
+    same-field at k = sym (field-take 2 (set bs i v) 512 at k) ∙ ap (λ (x : List ℕ). field 2 x at) (take-set-le 512 bs i v h) ∙ field-take 2 bs 512 at k
+
+    same-nodes : nodesAt (set bs i v) ≡ nodesAt bs
+    unfolding nodesAt
+    same-nodes = same-field 4 (omega arith)
+
+    same-names : namesAt (set bs i v) ≡ namesAt bs
+    unfolding namesAt
+    same-names = same-field 6 (omega arith)
+
+    same-dialect : dialectAt (set bs i v) ≡ dialectAt bs
+    unfolding dialectAt
+    same-dialect = rw (same-field 2 (omega arith)) refl
+
+    same-first : firstNodes (set bs i v) ≡ firstNodes bs
+    unfolding firstNodes
+    same-first = rw same-names refl
+
+    fits : countsFit (nodesAt bs) (namesAt bs) ≡ true
+    unfolding countsFit
+    fits = rw (le-leb 1 (nodesAt bs) (f .counts .0), le-leb (nodesAt bs) 2100 (f .counts .1), le-leb (namesAt bs) 8064 (f .counts .2)) refl
+
+    later : frontCheck (set bs i v) ≡ andThen (judgeRun 1 (namesAt bs) (set (drop 512 bs) (i - 512) v)) (λ _. judgeRun (firstNodes bs) (24 * nodesAt bs) (drop (512 * firstNodes bs) (set bs i v)))
+    unfolding frontCheck
+    later =
+        rw
+        (same-nodes, same-names, same-dialect, same-first, judge-outside 0 (4 + dialectAt bs) bs i v h, passes 0 (4 + dialectAt bs) bs (f .header), fits, drop-set 512 bs i v h)
+        refl
+
+    names-changed : i - 512 < 512 * blocksFor (namesAt bs) → frontCheck (set bs i v) ≡ refused blockCheck []
+    names-changed k =
+        later ∙ rw (changed-run 1 (namesAt bs) (drop 512 bs) (i - 512) v (f .names) k (λ e. other (e ∙ getD-behind 512 bs i h))) refl
+
+    nodes-changed : 512 * blocksFor (namesAt bs) ≤ i - 512 → 512 * firstNodes bs ≤ i → i < takenAt bs → frontCheck (set bs i v) ≡ refused blockCheck []
+    unfolding takenAt
+    nodes-changed k l m =
+        later
+        ∙ rw
+        (run-outside 1 (namesAt bs) (drop 512 bs) (i - 512) v k, f .names, drop-set (512 * firstNodes bs) bs i v l)
+        (changed-run (firstNodes bs) (24 * nodesAt bs) (drop (512 * firstNodes bs) bs) (i - 512 * firstNodes bs) v (f .nodes) (omega arith) (λ e. other (e ∙ getD-behind (512 * firstNodes bs) bs i l)))
+
+  -- THEOREM
+  pub front-changed : i < takenAt bs → frontCheck (set bs i v) ≡ refused blockCheck []
+  unfolding firstNodes
+  front-changed h = ⊎-elim
+      (λ (p : 512 ≤ i). ⊎-elim
+      (λ (q : 512 * blocksFor (namesAt bs) ≤ i - 512). nodes-changed p q (omega arith) h)
+      (λ (q : i - 512 < 512 * blocksFor (namesAt bs)). names-changed p q)
+      (le-or-lt (512 * blocksFor (namesAt bs)) (i - 512)))
+      (λ (p : i < 512). header-changed p)
+      (le-or-lt 512 i)
+
+-- ---- the file of a content, and anything behind it, reads as that content
+pub record Fits (c : Content) : Type 0 where
+  pub whole : 24 * (length (c .table) / 24) ≡ length (c .table)
+  pub some : 24 ≤ length (c .table)
+  pub few : length (c .table) ≤ 50400
+  pub names : length (c .names) ≤ 8064
+  pub dialect : (length (c .dialect) ≡ 0) ⊎ (length (c .dialect) ≡ 9)
+  pub table-bytes : Bytes (c .table)
+  pub names-bytes : Bytes (c .names)
+  pub dialect-bytes : Bytes (c .dialect)
+
+module _ (c : Content) (fit : Fits c) (rest : List ℕ) where
+  abbrev bs : List ℕ
+  bs = fileOf c ++ rest
+
+  abbrev nodes : ℕ
+  nodes = length (c .table) / 24
+
+  abbrev first : ℕ
+  first = 1 + blocksFor (length (c .names))
+
+  abbrev node-part : List ℕ
+  node-part = runOf first (c .table) ++ rest
+
+  abbrev name-part : List ℕ
+  name-part = runOf 1 (c .names) ++ node-part
+
+  parts : bs ≡ blockOf 0 (headerOf c) ++ name-part
+  unfolding fileOf
+  parts =
+      append-assoc (blockOf 0 (headerOf c)) (runOf 1 (c .names) ++ runOf first (c .table)) rest
+      ∙ ap (λ (x : List ℕ). blockOf 0 (headerOf c) ++ x) (append-assoc (runOf 1 (c .names)) (runOf first (c .table)) rest)
+
+  dialect-small : length (c .dialect) ≤ 9
+  dialect-small = ⊎-elim (λ (e : length (c .dialect) ≡ 0). omega arith) (λ (e : length (c .dialect) ≡ 9). omega arith) (fit .dialect)
+
+  header-length : length (headerOf c) ≡ 4 + length (c .dialect)
+  unfolding headerOf
+  header-length = simp (length-append, length-bytes) (omega arith)
+
+  header-fits : length (headerOf c) ≤ 504
+  header-fits = omega (arith, header-length, dialect-small)
+
+  header-bytes : Bytes (headerOf c)
+  unfolding headerOf
+  header-bytes = bytes-append (bytesOf 2 nodes) _ (bytes-spelled 2 nodes) (bytes-append (bytesOf 2 (length (c .names))) _ (bytes-spelled 2 (length (c .names))) (fit .dialect-bytes))
+
+  header-passes : judge 0 (length (headerOf c)) bs ≡ accepted []
+  header-passes = rw parts (block-passes 0 (headerOf c) header-fits header-bytes (omega arith) name-part)
+
+  dialect-so : dialectAt bs ≡ length (c .dialect)
+  unfolding dialectAt
+  dialect-so =
+      let p : Passing 0 (length (headerOf c)) bs = passing 0 (length (headerOf c)) bs header-passes in
+      let said : field 2 bs 2 ≡ 4 + length (c .dialect) = sym (field-take 2 bs 512 2 (omega arith)) ∙ p .said ∙ header-length in
+      ⊎-elim
+      (λ (e : length (c .dialect) ≡ 0). rw (said, e) refl)
+      (λ (e : length (c .dialect) ≡ 9). rw (said, e) refl)
+      (fit .dialect)
+
+  abbrev zeros : List ℕ
+  zeros = replicate (504 - length (headerOf c)) 0
+
+  header-there : take 504 (drop 4 bs) ≡ bytesOf 2 nodes ++ (bytesOf 2 (length (c .names)) ++ (c .dialect ++ zeros))
+  unfolding headerOf
+  header-there =
+      ap (λ (x : List ℕ). take 504 (drop 4 x)) parts
+      ∙ content-there 0 (headerOf c) header-fits name-part
+      ∙ append-assoc (bytesOf 2 nodes) (bytesOf 2 (length (c .names)) ++ c .dialect) zeros
+      ∙ ap (λ (x : List ℕ). bytesOf 2 nodes ++ x) (append-assoc (bytesOf 2 (length (c .names))) (c .dialect) zeros)
+
+  field-there : (at : ℕ) → at + 2 ≤ 504 → field 2 bs (4 + at) ≡ field 2 (bytesOf 2 nodes ++ (bytesOf 2 (length (c .names)) ++ (c .dialect ++ zeros))) at
+  field-there at h = sym (field-drop 2 bs 4 at) ∙ sym (field-take 2 (drop 4 bs) 504 at h) ∙ ap (λ (x : List ℕ). field 2 x at) header-there
+
+  nodes-so : nodesAt bs ≡ nodes
+  unfolding nodesAt
+  nodes-so = field-there 0 (omega arith) ∙ field-bytes 2 nodes _ (omega (arith, fit .few))
+
+  names-so : namesAt bs ≡ length (c .names)
+  unfolding namesAt
+  names-so =
+      let tail : List ℕ = bytesOf 2 (length (c .names)) ++ (c .dialect ++ zeros) in
+      let behind : field 2 (bytesOf 2 nodes ++ tail) (length (bytesOf 2 nodes) + 0) ≡ length (c .names) =
+      field-behind 2 (bytesOf 2 nodes) tail 0 ∙ field-bytes 2 (length (c .names)) (c .dialect ++ zeros) (omega (arith, fit .names)) in
+      field-there 2 (omega arith) ∙ (rw (length-bytes 2 nodes, add-zero 2) at behind)
+
+  dialect-there : take (length (c .dialect)) (drop 8 bs) ≡ c .dialect
+  dialect-there =
+      let tail : List ℕ = bytesOf 2 (length (c .names)) ++ (c .dialect ++ zeros) in
+      let behind : drop 4 (bytesOf 2 nodes ++ tail) ≡ c .dialect ++ zeros =
+      sym (drop-drop 2 2 (bytesOf 2 nodes ++ tail)) ∙ ap (drop 2) (drop-at (bytesOf 2 nodes) tail 2 (length-bytes 2 nodes)) ∙ drop-at (bytesOf 2 (length (c .names))) (c .dialect ++ zeros) 2 (length-bytes 2 (length (c .names))) in
+      let inside : take 500 (drop 8 bs) ≡ c .dialect ++ zeros =
+      ap (take 500) (sym (drop-drop 4 4 bs)) ∙ sym (drop-take 4 504 (drop 4 bs)) ∙ ap (drop 4) header-there ∙ behind in
+      sym (take-take (length (c .dialect)) 500 (drop 8 bs) (omega (arith, dialect-small))) ∙ ap (take (length (c .dialect))) inside ∙ take-at (c .dialect) zeros (length (c .dialect)) refl
+
+  names-behind : drop 512 bs ≡ name-part
+  names-behind = ap (drop 512) parts ∙ drop-at (blockOf 0 (headerOf c)) name-part 512 (length-block 0 (headerOf c) header-fits)
+
+  first-so : firstNodes bs ≡ first
+  unfolding firstNodes
+  first-so = rw names-so refl
+
+  nodes-behind : drop (512 * firstNodes bs) bs ≡ node-part
+  nodes-behind =
+      let a : ℕ = 512 * blocksFor (length (c .names)) in
+      let at : 512 * firstNodes bs ≡ 512 + a = omega (arith, first-so) in
+      ap (λ (x : ℕ). drop x bs) at ∙ sym (drop-drop a 512 bs) ∙ ap (drop a) names-behind ∙ drop-at (runOf 1 (c .names)) node-part a (length-run 1 (c .names))
+
+  table-so : 24 * nodesAt bs ≡ length (c .table)
+  table-so = omega (arith, nodes-so, fit .whole)
+
+  first-small : blocksFor (length (c .names)) ≤ 16
+  unfolding blocksFor
+  first-small = omega (arith, fit .names)
+
+  last-small : blocksFor (length (c .table)) ≤ 100
+  unfolding blocksFor
+  last-small = omega (arith, fit .few)
+
+  counts-so : countsFit (nodesAt bs) (namesAt bs) ≡ true
+  unfolding countsFit
+  counts-so =
+      let some : 1 ≤ nodes = omega (arith, fit .some) in
+      let few : nodes ≤ 2100 = omega (arith, fit .few) in
+      rw (nodes-so, names-so, le-leb 1 nodes some, le-leb nodes 2100 few, le-leb (length (c .names)) 8064 (fit .names)) refl
+
+  names-pass : judgeRun 1 (namesAt bs) (drop 512 bs) ≡ accepted []
+  names-pass = rw (names-so, names-behind) (run-passes 1 (c .names) node-part (fit .names-bytes) (omega (arith, first-small)))
+
+  nodes-pass : judgeRun (firstNodes bs) (24 * nodesAt bs) (drop (512 * firstNodes bs) bs) ≡ accepted []
+  nodes-pass = rw (nodes-behind, first-so, table-so) (run-passes first (c .table) rest (fit .table-bytes) (omega (arith, first-small, last-small)))
+
+  -- THEOREM, in three parts: it passes, it holds the content, and it takes the file's bytes
+  pub file-passes : frontCheck (fileOf c ++ rest) ≡ accepted []
+  unfolding frontCheck
+  file-passes =
+      let used : 4 + dialectAt bs ≡ length (headerOf c) = omega (arith, dialect-so, header-length) in
+      rw (used, header-passes, counts-so, names-pass) nodes-pass
+
+  pub file-holds : contentAt (fileOf c ++ rest) ≡ c
+  unfolding contentAt
+  file-holds =
+      rw
+      (dialect-so, dialect-there, names-so, names-behind, run-holds 1 (c .names) node-part, nodes-behind, table-so, run-holds first (c .table) rest)
+      refl
+
+  pub file-taken : takenAt (fileOf c ++ rest) ≡ length (fileOf c)
+  unfolding takenAt fileOf
+  file-taken =
+      rw (first-so, table-so)
+      (simp (length-append, length-block 0 (headerOf c) header-fits, length-run 1 (c .names), length-run first (c .table)) (omega arith))

@@ -1,0 +1,20 @@
+-- The table file: what a file is for a table, names and a dialect or none. These are definitions.
+use mathlib.Core.List.{List, _++_}
+use Prim.Native.Nat.{ℕ, _+_, _/_}
+use lib.ListN.{length}
+use Rattle.blocks.specs.Block.{bytesOf, blockOf}
+use Rattle.blocks.specs.Run.{blocksFor, runOf}
+
+-- what a file holds: a table, names, and the bytes of a dialect, none or nine
+pub record Content : Type 0 where
+  pub table : List ℕ
+  pub names : List ℕ
+  pub dialect : List ℕ
+
+-- what block 0 holds: node count, name byte count and the dialect, so 4 or 13 used
+unfoldable pub headerOf : Content → List ℕ
+headerOf c = bytesOf 2 (length (c .table) / 24) ++ (bytesOf 2 (length (c .names)) ++ c .dialect)
+
+-- the file: block 0, then names, 504 a block, and nodes, 21 a block; the numbers run on
+unfoldable pub fileOf : Content → List ℕ
+fileOf c = blockOf 0 (headerOf c) ++ (runOf 1 (c .names) ++ runOf (1 + blocksFor (length (c .names))) (c .table))

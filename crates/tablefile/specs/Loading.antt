@@ -1,0 +1,53 @@
+-- What the reader answers by value: table, names and dialect with their lengths, zero past them, and all zero when refused. These are definitions.
+use mathlib.Core.List.{List, [], _++_}
+use Prim.Native.Nat.{ℕ, _-_}
+use lib.ListN.{length, take, replicate}
+use Rattle.table.specs.Answer.{Answer, accepted, refusal}
+use Rattle.tablefile.specs.File.{Content}
+use Rattle.tablefile.specs.declared.Verdict.{Verdict}
+use Rattle.tablefile.specs.declared.Verdict.the-variants.{Accepted, Refused}
+use Rattle.tablefile.specs.declared.Loaded.{Loaded}
+
+-- what a verdict means
+abbrev pub verdict : Verdict → Answer
+verdict Accepted = accepted []
+verdict (Refused r) = refusal r
+
+-- bytes at the front of so many, and zeros past them
+unfoldable pub laid : ℕ → List ℕ → List ℕ
+laid n l = l ++ replicate (n - length l) 0
+
+-- the answer: all zero when refused; else what the file holds, and how many bytes it takes
+unfoldable pub loadedOf : Verdict → Content → ℕ → Loaded
+loadedOf Accepted c taken = record {
+  verdict = Accepted;
+  taken = taken;
+  table = laid 50400 (c .table);
+  «table_len» = length (c .table);
+  names = laid 8064 (c .names);
+  «names_len» = length (c .names);
+  dialect = laid 9 (c .dialect);
+  «dialect_len» = length (c .dialect);
+}
+loadedOf (Refused r) c taken = record {
+  verdict = Refused r;
+  taken = 0;
+  table = replicate 50400 0;
+  «table_len» = 0;
+  names = replicate 8064 0;
+  «names_len» = 0;
+  dialect = replicate 9 0;
+  «dialect_len» = 0;
+}
+
+-- nothing held
+abbrev pub none : Content
+none = record { table = []; names = []; dialect = [] }
+
+-- what an answer holds: the bytes within its lengths
+unfoldable pub held : Loaded → Content
+held r = record {
+  table = take (r .«table_len») (r .table);
+  names = take (r .«names_len») (r .names);
+  dialect = take (r .«dialect_len») (r .dialect);
+}
