@@ -6,14 +6,14 @@ use dialect::Decoded;
 use dialect::Dialect;
 use dialect::DialectTypes;
 use libc::STDOUT_FILENO;
+use parameters::Counted;
+use parameters::Range;
 use parameters::Unpacked;
 use table::Checked;
 use table::Refusal;
 use table::Wanted;
 use targets::Targeted;
 use typerules::Shaped;
-use unpack::Counted;
-use unpack::Range;
 
 // What a request asks: its job, how long its parts are, and the job's node.
 pub struct Asked {

@@ -17,9 +17,9 @@ use Rattle.table.specs.declared.Wanted.the-variants.{Parameters}
 use Rattle.table.proofs.Answers.{never-accepted}
 use Rattle.unpack.specs.Written.{Param}
 use Rattle.unpack.specs.Unpack.{unpack, modes}
-use Rattle.unpack.specs.Indices.{range, valuesOf, countedOf, posOnly, posOrNamed, argsRange, namedOnly, kwargsRange}
-use Rattle.unpack.specs.declared.Range.{Range}
-use Rattle.unpack.specs.declared.Counted.{Counted}
+use Rattle.parameters.specs.Indices.{range, valuesOf, countedOf, posOnly, posOrNamed, argsRange, namedOnly, kwargsRange}
+use Rattle.parameters.specs.declared.Range.{Range}
+use Rattle.parameters.specs.declared.Counted.{Counted}
 use Rattle.unpack.proofs.Theorems.{modes-short}
 use Rattle.parameters.specs.Params.{unpacked, listOf, paramsOf, modesAfter}
 use Rattle.parameters.specs.declared.Unpacked.{Unpacked}

@@ -10,8 +10,8 @@ use lib.Dec.{leb, ltb}
 use borrow.Author.Tests.{leb-true, leb-false, ltb-true, ltb-false, lt-ltb, le-ltb}
 use Rattle.fields.specs.Choice.{if'}
 use Rattle.unpack.specs.Written.{Param, normal, noArgs, slash, args, kwargs}
-use Rattle.unpack.specs.Indices.{range, placeRange, placeOf, valuesOf, countedOf}
-use Rattle.unpack.specs.declared.Range.{Range}
+use Rattle.parameters.specs.Indices.{range, placeRange, placeOf, valuesOf, countedOf}
+use Rattle.parameters.specs.declared.Range.{Range}
 use Rattle.demand3.specs.Cut.{Ordinary, Before, noSlash, upToSlash, Star, noStar, bare, starred, Last, noKwargs, withKwargs, Cut, firsts, afterStar, ordinary, slashPart, starPart, kwargsPart, join, argsPart, Parts, partsOf, flatList, Ranges, rangesOf, cutRanges, cutFlat, slice, holds, holders, cutValues, partModes, InRange, ByRange, Follow, CutBy}
 use Rattle.demand3.proofs.Counting.{argsPlace, kwargsPlace}
 use Rattle.demand3.proofs.Cuts.{cutCounts}

@@ -8,8 +8,8 @@ use lib.Dec.{leb, ltb}
 use Rattle.fields.specs.Choice.{if'}
 use Rattle.forest.specs.Forest.{Node}
 use Rattle.unpack.specs.Written.{Name, Param, normal, noArgs, slash, args, kwargs}
-use Rattle.unpack.specs.Indices.{range}
-use Rattle.unpack.specs.declared.Range.{Range}
+use Rattle.parameters.specs.Indices.{range}
+use Rattle.parameters.specs.declared.Range.{Range}
 
 -- an ordinary parameter
 pub record Ordinary : Type 0 where

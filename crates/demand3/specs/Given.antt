@@ -9,8 +9,8 @@ use Rattle.soundness.specs.KindNumbers.{kindDef, kindLambda}
 use Rattle.table.specs.Answer.{accepted}
 use Rattle.table.specs.Check.{checkOf}
 use Rattle.unpack.specs.Written.{Param}
-use Rattle.unpack.specs.Indices.{posOnly, posOrNamed, argsRange, namedOnly, kwargsRange}
-use Rattle.unpack.specs.declared.Counted.{Counted}
+use Rattle.parameters.specs.Indices.{posOnly, posOrNamed, argsRange, namedOnly, kwargsRange}
+use Rattle.parameters.specs.declared.Counted.{Counted}
 use Rattle.parameters.specs.Params.{listOf}
 use Rattle.demand3.specs.Cut.{Cut, join, Good, Ranges}
 

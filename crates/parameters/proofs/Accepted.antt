@@ -22,7 +22,7 @@ use Rattle.table.proofs.Checking.{accepted-clean}
 use Rattle.table.proofs.Handed.{handed}
 use Rattle.unpack.specs.Written.{Param, written}
 use Rattle.unpack.specs.Unpack as def
-use Rattle.unpack.specs.Indices.{placeRange, placeOf, valuesOf, countedOf}
+use Rattle.parameters.specs.Indices.{placeRange, placeOf, valuesOf, countedOf}
 use Rattle.unpack.specs.Reading.{PlaceBelow, Bounded}
 use Rattle.unpack.specs.declared.FlatPlace.{FlatPlace}
 use Rattle.unpack.specs.declared.FlatPlace.the-variants.{AtFlat, NoFlat}

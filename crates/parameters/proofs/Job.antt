@@ -24,13 +24,14 @@ use Rattle.table.proofs.Handed.{clean, fitting, handed}
 use Rattle.unpack.specs.Written.{Param, paramsIn, written}
 use Rattle.unpack.specs.Unpack as def
 use Rattle.unpack.specs.Unpack.{modes}
-use Rattle.unpack.specs.Indices.{valuesOf, countedOf, fault, told}
+use Rattle.unpack.specs.Told.{fault, told}
+use Rattle.parameters.specs.Indices.{valuesOf, countedOf}
 use Rattle.unpack.specs.Reading.{Inside, PlaceBelow, Bounded}
 use Rattle.unpack.specs.declared.State.{State}
 use Rattle.unpack.specs.declared.FlatPlace.{FlatPlace}
 use Rattle.unpack.specs.declared.FlatPlace.the-variants.{AtFlat, NoFlat}
 use Rattle.unpack.specs.declared.Counts.{Counts}
-use Rattle.unpack.specs.declared.Counted.{Counted}
+use Rattle.parameters.specs.declared.Counted.{Counted}
 use Rattle.unpack.specs.declared.Fault.{Fault}
 use Rattle.unpack.specs.declared.Judged.{Judged}
 use Rattle.unpack.specs.declared.Judged.the-variants.{Accepted, Refused}

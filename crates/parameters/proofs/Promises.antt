@@ -7,11 +7,12 @@ use lib.ListN.{length, getD}
 use Rattle.fields.proofs.Coincide.{coincide, coincide-by}
 use Rattle.table.specs.Answer.{Answer, accepted, refused, refusal}
 use Rattle.table.proofs.Answers.{refusal-injective, never-accepted}
-use Rattle.unpack.specs.Indices.{placeRange, valuesOf}
-use Rattle.unpack.specs.declared.Place.{Place}
-use Rattle.unpack.specs.declared.Place.the-variants.{At, Nothing}
-use Rattle.unpack.specs.declared.DefParamIndices.{DefParamIndices}
-use Rattle.unpack.specs.declared.Counted.{Counted}
+use Rattle.parameters.specs.Indices.{posOnly, posOrNamed, argsRange, namedOnly, kwargsRange, placeRange, valuesOf}
+use Rattle.parameters.specs.declared.Range.{Range}
+use Rattle.parameters.specs.declared.Place.{Place}
+use Rattle.parameters.specs.declared.Place.the-variants.{At, Nothing}
+use Rattle.parameters.specs.declared.DefParamIndices.{DefParamIndices}
+use Rattle.parameters.specs.declared.Counted.{Counted}
 use Rattle.parameters.specs.Params.{unpacked, paramsOf, modesAfter}
 use Rattle.parameters.specs.declared.Unpacked.{Unpacked}
 use Rattle.parameters.specs.declared.Unpacked.the-variants.{Accepted, Refused}
@@ -51,3 +52,19 @@ pub params-one : (t names : List ℕ) (node : ℕ) (ms : List ℕ) {r s : Unpack
     → (unpacked s ≡ paramsOf t names node (length ms)) × (ys ≡ modesAfter t names node ms)
     → (r ≡ s) × (xs ≡ ys)
 params-one t names node ms p q = (coincide-by unpacked unpacked-injective (p .0) (q .0), coincide (p .1) (q .1))
+
+-- of the five ranges
+pub pos-only-one : (i : DefParamIndices) {r s : Range} → r ≡ posOnly i → s ≡ posOnly i → r ≡ s
+pos-only-one i = coincide
+
+pub pos-or-named-one : (i : DefParamIndices) {r s : Range} → r ≡ posOrNamed i → s ≡ posOrNamed i → r ≡ s
+pos-or-named-one i = coincide
+
+pub args-range-one : (i : DefParamIndices) {r s : Range} → r ≡ argsRange i → s ≡ argsRange i → r ≡ s
+args-range-one i = coincide
+
+pub named-only-one : (i : DefParamIndices) (n : ℕ) {r s : Range} → r ≡ namedOnly i n → s ≡ namedOnly i n → r ≡ s
+named-only-one i n = coincide
+
+pub kwargs-range-one : (i : DefParamIndices) (n : ℕ) {r s : Range} → r ≡ kwargsRange i n → s ≡ kwargsRange i n → r ≡ s
+kwargs-range-one i n = coincide

@@ -11,7 +11,8 @@ use Rattle.table.specs.Check.{checkOf, nodeCheck, stretchOf}
 use Rattle.table.specs.declared.Wanted.the-variants.{Parameters}
 use Rattle.unpack.specs.Written.{Param, written}
 use Rattle.unpack.specs.Unpack as def
-use Rattle.unpack.specs.Indices.{valuesOf, countedOf, internalError}
+use Rattle.unpack.specs.Told.{internalError}
+use Rattle.parameters.specs.Indices.{valuesOf, countedOf}
 use Rattle.parameters.specs.declared.Unpacked.{Unpacked}
 use Rattle.parameters.specs.declared.Unpacked.the-variants.{Accepted, Refused}
 

@@ -2,19 +2,18 @@
 //
 // Ported from src/syntax/def.rs of starlark_syntax 0.14.2, and changed: the flat list is a buffer of mode bytes, written once the list is accepted.
 // Copyright 2018 The Starlark in Rust Authors. Copyright (c) Facebook, Inc. and its affiliates. Licensed under Apache-2.0.
+pub mod indices;
+
 use table::Checked;
 use table::Refusal;
 use table::Wanted;
 use table::numbers;
-use unpack::Counted;
 use unpack::Counts;
-use unpack::DefParamIndices;
 use unpack::Fault;
 use unpack::Flat;
 use unpack::FlatPlace;
 use unpack::Judged;
 use unpack::Kind;
-use unpack::Place;
 use unpack::State;
 use unpack::entry;
 use unpack::states;
@@ -28,11 +27,37 @@ ghost use Rattle.forest.specs.Forest.{forest};
 ghost use Rattle.table.specs.Answer.{refused, refusal as refusalOf};
 ghost use Rattle.unpack.specs.Written.{paramsIn, written};
 ghost use Rattle.unpack.specs.Unpack.{modesFrom, modes as modesOf};
-ghost use Rattle.unpack.specs.Indices.{placeOf, countedOf};
 ghost use Rattle.unpack.specs.Reading.{PlaceBelow, Bounded};
 ghost use Rattle.unpack.specs.declared.Kind.the-variants.{Normal};
+ghost use Rattle.parameters.specs.Indices.{placeOf, countedOf};
 ghost use Rattle.parameters.specs.Params.{unpacked, listAnswer, paramsOf, afterwards, modesAfter};
 ghost use Rattle.parameters.specs.Writing.{modeByte, modeIn, AtMost};
+
+// An index in the flat list, or none.
+pub enum Place {
+    At(u32),
+    Nothing,
+}
+
+// The sizes and indices that split the flat list into its parts, as the crate has them.
+pub struct DefParamIndices {
+    pub num_positional: u32,
+    pub num_positional_only: u32,
+    pub args: Place,
+    pub kwargs: Place,
+}
+
+// DefParamIndices and the flat count.
+pub struct Counted {
+    pub indices: DefParamIndices,
+    pub flat: u32,
+}
+
+// The indices from one up to, but not with, another.
+pub struct Range {
+    pub from: usize,
+    pub upto: usize,
+}
 
 // The answer of the job.
 pub enum Unpacked {
@@ -70,7 +95,7 @@ fn unpack_into(names: &[u8], t: &[u8], node: u32, modes: &mut [u8]) -> Unpacked
         Judged::Accepted(c) => {
             let only = c.num_positional_only;
             write_modes(kids, states::first_state(only), modes);
-            Unpacked::Accepted(counted(c))
+            Unpacked::Accepted(numbered(c))
         }
         Judged::Refused(f) => Unpacked::Refused(refusal(f)),
     }
@@ -154,7 +179,7 @@ fn number(n: Flat) -> u32
     n.0 as u32
 }
 
-fn place(p: FlatPlace) -> Place
+fn place_of(p: FlatPlace) -> Place
     requires { ⌜ PlaceBelow 4294967295 p ⌝ }
     ensures { λ r. ⌜ r ≡ placeOf p ⌝ }
 {
@@ -165,7 +190,7 @@ fn place(p: FlatPlace) -> Place
 }
 
 // DefParamIndices and the flat count.
-fn counted(c: Counts) -> Counted
+fn numbered(c: Counts) -> Counted
     requires { ⌜ Bounded 4294967295 4294967295 c ⌝ }
     ensures { λ r. ⌜ r ≡ countedOf c ⌝ }
 {
@@ -178,8 +203,8 @@ fn counted(c: Counts) -> Counted
         indices: DefParamIndices {
             num_positional: number(positional),
             num_positional_only: number(only),
-            args: place(args),
-            kwargs: place(kwargs),
+            args: place_of(args),
+            kwargs: place_of(kwargs),
         },
         flat: number(flat),
     }

@@ -7,13 +7,11 @@ use Rattle.fields.proofs.Coincide.{coincide}
 use Rattle.forest.specs.Forest.{kidsOf}
 use Rattle.unpack.specs.Written.{written}
 use Rattle.unpack.specs.Unpack.{nextState, firstState, unpack}
-use Rattle.unpack.specs.Indices.{posOnly, posOrNamed, argsRange, namedOnly, kwargsRange, told, errorOf}
+use Rattle.unpack.specs.Told.{told, errorOf}
 use Rattle.unpack.specs.Reading.{isListed, kindHere}
 use Rattle.unpack.specs.declared.Kind.{Kind}
 use Rattle.unpack.specs.declared.State.{State}
 use Rattle.unpack.specs.declared.Flat.{Flat}
-use Rattle.unpack.specs.declared.DefParamIndices.{DefParamIndices}
-use Rattle.unpack.specs.declared.Range.{Range}
 use Rattle.unpack.specs.declared.Judged.{Judged}
 use Rattle.unpack.specs.declared.ListError.{ListError}
 
@@ -41,19 +39,3 @@ first-state-one only = coincide
 
 pub next-state-one : (state : State) (kind : Kind) {r s : State} → r ≡ nextState state kind → s ≡ nextState state kind → r ≡ s
 next-state-one state kind = coincide
-
--- of the five ranges
-pub pos-only-one : (i : DefParamIndices) {r s : Range} → r ≡ posOnly i → s ≡ posOnly i → r ≡ s
-pos-only-one i = coincide
-
-pub pos-or-named-one : (i : DefParamIndices) {r s : Range} → r ≡ posOrNamed i → s ≡ posOrNamed i → r ≡ s
-pos-or-named-one i = coincide
-
-pub args-range-one : (i : DefParamIndices) {r s : Range} → r ≡ argsRange i → s ≡ argsRange i → r ≡ s
-args-range-one i = coincide
-
-pub named-only-one : (i : DefParamIndices) (n : ℕ) {r s : Range} → r ≡ namedOnly i n → s ≡ namedOnly i n → r ≡ s
-named-only-one i n = coincide
-
-pub kwargs-range-one : (i : DefParamIndices) (n : ℕ) {r s : Range} → r ≡ kwargsRange i n → s ≡ kwargsRange i n → r ≡ s
-kwargs-range-one i n = coincide

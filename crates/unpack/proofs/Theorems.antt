@@ -12,7 +12,7 @@ use Rattle.forest.specs.Forest.{Node, spanOf, kidsOf, restOf, forest}
 use Rattle.forest.proofs.Stretch.{forest-induction, length-kids, length-rest, rest-part}
 use Rattle.unpack.specs.Written.{Param, normal, noArgs, slash, args, kwargs, nodeIn, kindIn, paramsIn, written}
 use Rattle.unpack.specs.Unpack.{writtenAt, flatAt, check, nextState, count, advance, modeOf, modesFrom, modes, start, isSlash, slashFrom, firstSlash, positionalOnly, normalNext, fromStar, finish, Internal, Outcome, accepted, refused, internal, run, unpack}
-use Rattle.unpack.specs.Indices.{told}
+use Rattle.unpack.specs.Told.{told}
 use Rattle.unpack.specs.Reading.{isListed, Bounded}
 use Rattle.unpack.specs.declared.Kind.{Kind}
 use Rattle.unpack.specs.declared.Kind.the-variants.{Normal, NoArgs, Slash, Args, KwArgs}

@@ -16,7 +16,7 @@ use Rattle.table.specs.Numbers.{slashFirst, duplicatedParameter, starLast, noNo
 use Rattle.soundness.proofs.Records.{and-left, and-right}
 use Rattle.unpack.specs.Written.{Name, Param, normal, noArgs, slash, args, kwargs, nodeIn, kindIn, param, paramOf, paramsIn, written, kindAt}
 use Rattle.unpack.specs.Unpack.{writtenAt, flatAt, firstSame, repeats, rule, firstly, check, advance, nextStar, start, slashFrom, firstSlash, positionalOnly, isSlash, normalNext, fromStar, finish, Outcome, accepted, refused, internal, run, unpack}
-use Rattle.unpack.specs.Indices.{fault, told, errorOf}
+use Rattle.unpack.specs.Told.{fault, told, errorOf}
 use Rattle.unpack.specs.Reading.{isListed, kindHere, beginsWithSlash, isNamed, isNormal, StarIn, Inside, Bounded}
 use Rattle.unpack.specs.declared.Kind.{Kind}
 use Rattle.unpack.specs.declared.Kind.the-variants.{Normal, NoArgs, Slash, Args, KwArgs}

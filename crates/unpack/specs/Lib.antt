@@ -1,4 +1,4 @@
 pub mod Written
 pub mod Unpack
-pub mod Indices
+pub mod Told
 pub mod Reading

@@ -3,7 +3,6 @@
 // Ported from src/syntax/def.rs of starlark_syntax 0.14.2, and changed: the list is a stretch of the node table, names are compared instead of hashed, and the modes are left to the job.
 // Copyright 2018 The Starlark in Rust Authors. Copyright (c) Facebook, Inc. and its affiliates. Licensed under Apache-2.0.
 pub mod entry;
-pub mod indices;
 mod list;
 mod rules;
 pub mod states;
@@ -15,7 +14,7 @@ ghost use lib.ListN.{length};
 ghost use Rattle.forest.specs.Forest.{kidsOf};
 ghost use Rattle.unpack.specs.Written.{written};
 ghost use Rattle.unpack.specs.Unpack.{unpack};
-ghost use Rattle.unpack.specs.Indices.{told, errorOf};
+ghost use Rattle.unpack.specs.Told.{told, errorOf};
 ghost use Rattle.unpack.specs.Reading.{Inside};
 
 // Where unpack stands in the list, in this order.
@@ -92,32 +91,6 @@ pub enum Judged {
 pub enum ListError {
     Error { number: u32, begin: u32, end: u32 },
     NoError,
-}
-
-// An index in the flat list, or none.
-pub enum Place {
-    At(u32),
-    Nothing,
-}
-
-// The sizes and indices that split the flat list into its parts, as the crate has them.
-pub struct DefParamIndices {
-    pub num_positional: u32,
-    pub num_positional_only: u32,
-    pub args: Place,
-    pub kwargs: Place,
-}
-
-// DefParamIndices and the flat count.
-pub struct Counted {
-    pub indices: DefParamIndices,
-    pub flat: u32,
-}
-
-// The indices from one up to, but not with, another.
-pub struct Range {
-    pub from: usize,
-    pub upto: usize,
 }
 
 // The children of the node that a stretch begins with.

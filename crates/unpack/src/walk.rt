@@ -24,7 +24,7 @@ ghost use Rattle.forest.specs.Forest.{nodeOf, forest};
 ghost use Rattle.unpack.specs.Written.{paramOf, paramsIn, written};
 ghost use Rattle.unpack.specs.Unpack.{firstSame, repeats, check as checkOf, oneMore, morePositional, count as countOf, advance as advanceOf, finish as finishOf, run as runOf, start as startOf, unpack as unpackOf};
 ghost use Rattle.unpack.specs.declared.WrittenPlace.the-variants.{AtWritten};
-ghost use Rattle.unpack.specs.Indices.{fault as faultOf, told};
+ghost use Rattle.unpack.specs.Told.{fault as faultOf, told};
 ghost use Rattle.unpack.specs.Reading.{kindHere, beginsWithSlash, Inside, StarIn};
 
 // The node of the first of n parameters that has this name; first is the node of the first record.

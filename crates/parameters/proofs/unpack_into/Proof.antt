@@ -19,5 +19,5 @@ unpack-into-spec =
     (λ c. search needs)
     (λ c κs. refused-small (c .before .before .before .judge .ensures .1) (c .before .judged2 .given .1) (c .before .before .before .before .before .before .before .before .before .before .pre .1) (c .before .before .before .before .before .before .before .before .before .before .pre .0))
     (λ c. search needs)
-    (λ c. into-accepted _ _ _ _ (c .before .before .before .before .before .before .before .before .before .before .before .before .before .children .ensures) (c .before .before .before .before .before .before .before .before .before .before .before .before .list-length .ensures) (c .before .before .before .before .before .before .before .before .before .before .before .if1 .left) (c .before .before .before .before .before .before .before .before .before .before .judge .ensures .0) (c .before .before .before .before .before .before .before .before .judged .given .1) (c .before .before .before .before .before .first-state .ensures) (c .before .before .before .write-modes .ensures) (c .counted .ensures))
+    (λ c. into-accepted _ _ _ _ (c .before .before .before .before .before .before .before .before .before .before .before .before .before .children .ensures) (c .before .before .before .before .before .before .before .before .before .before .before .before .list-length .ensures) (c .before .before .before .before .before .before .before .before .before .before .before .if1 .left) (c .before .before .before .before .before .before .before .before .before .before .judge .ensures .0) (c .before .before .before .before .before .before .before .before .judged .given .1) (c .before .before .before .before .before .first-state .ensures) (c .before .before .before .write-modes .ensures) (c .numbered .ensures))
     (λ c. into-refused _ _ _ _ (c .before .before .before .before .before .before .before .children .ensures) (c .before .before .before .before .before .before .list-length .ensures) (c .before .before .before .before .before .if1 .left) (c .before .before .before .before .judge .ensures .0) (c .before .before .judged2 .given .1) (c .refusal .ensures)))

@@ -1,8 +1,8 @@
--- `unpack::indices::place_range` meets its contract: it is the definition, case by case. Assumes nothing.
+-- `parameters::indices::place_range` meets its contract: it is the definition, case by case. Assumes nothing.
 use mathlib.Core.Path.{refl, _∙_, ap}
 use borrow.Author.Needs.{needs}
-use Rattle.unpack.proofs.indices.place_range.Statement.{statement}
-use Rattle.unpack.proofs.indices.place_range.Tie as tie
+use Rattle.parameters.proofs.indices.place_range.Statement.{statement}
+use Rattle.parameters.proofs.indices.place_range.Tie as tie
 
 pub place-range-spec : {M : Type 1} → statement M
 place-range-spec =

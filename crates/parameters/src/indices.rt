@@ -1,14 +1,9 @@
-// The five ranges of DefParamIndices, and DefParamIndices from what unpack has counted.
-use crate::Counted;
-use crate::Counts;
+// The five ranges of DefParamIndices.
 use crate::DefParamIndices;
-use crate::Flat;
-use crate::FlatPlace;
 use crate::Place;
 use crate::Range;
 ghost use mathlib.Core.Path.{_≡_};
-ghost use Prim.Native.Nat.{_<_, _^_};
-ghost use Rattle.unpack.specs.Indices.{posOnly, posOrNamed, argsRange, namedOnly, kwargsRange, placeRange, placeOf};
+ghost use Rattle.parameters.specs.Indices.{posOnly, posOrNamed, argsRange, namedOnly, kwargsRange, placeRange};
 
 // The range of a place: the empty one at none where there is none.
 fn place_range(place: Place, none: usize) -> Range

@@ -1,0 +1,28 @@
+-- What code answers for an outcome of unpack. These are definitions.
+use Prim.Native.Nat.{ℕ}
+use Rattle.forest.specs.Forest.{Node}
+use Rattle.unpack.specs.Unpack.{Outcome, accepted, refused, internal}
+use Rattle.unpack.specs.declared.Fault.{Fault}
+use Rattle.unpack.specs.declared.Judged.{Judged}
+use Rattle.unpack.specs.declared.Judged.the-variants.{Accepted, Refused}
+use Rattle.unpack.specs.declared.ListError.{ListError}
+use Rattle.unpack.specs.declared.ListError.the-variants.{Error, NoError}
+
+-- a refusal at a record: its number, its node and its span
+abbrev pub fault : ℕ → Node → Fault
+fault n r = record { number = n; node = r .at; begin = r .begin; end = r .stop }
+
+-- 0 is no number of document 01: it would tell an internal error, and none arises
+abbrev pub internalError : ℕ
+internalError = 0
+
+-- what the code answers for an outcome, and what the module pass is told of it: a number and a span, or no error
+abbrev pub told : Outcome → Judged
+told (accepted c) = Accepted c
+told (refused n r) = Refused (fault n r)
+told (internal e r) = Refused (fault internalError r)
+
+abbrev pub errorOf : Outcome → ListError
+errorOf (accepted c) = NoError
+errorOf (refused n r) = Error n (r .begin) (r .stop)
+errorOf (internal e r) = Error internalError (r .begin) (r .stop)
