@@ -56,11 +56,6 @@ end-step before p ps star c =
     let long : length (before ++ p ∷ []) ≡ length before + 1 = length-append before (p ∷ []) in
     rw (whole, long) refl
 
-module _ (u : Unpacking) (i : ℕ) (p : Param) where
-  state-on : advance u (writtenAt i) (kindIn p) .state ≡ nextState (u .state) (kindIn p)
-  unfolding advance
-  state-on = refl
-
 -- what is accepted keeps every rule, repeats no name, and ends with what is counted
 pub run-accepted : (before : List Param) (u : Unpacking) (l : List Param) {c : Counts} → Cleared u → run before u l ≡ accepted c
     → Rules (u .state) (u .«seen_optional») l × Fresh before l × (finish (before ++ l) (starFrom (u .«index_of_star») (length before) l) (countsFrom (u .state) (u .counts) l) ≡ accepted c)

@@ -1,4 +1,4 @@
--- What code asks of a stretch while it reads a list. These are definitions that only contracts of private functions use, and `Inside`.
+-- What code asks of a stretch while it reads a list, and bounds of what it answers. These are definitions.
 use mathlib.Core.Bool.{Bool, true, false, _&&_}
 use mathlib.Core.List.{List}
 use Prim.Native.Nat.{ℕ, _<_, _≤_}
