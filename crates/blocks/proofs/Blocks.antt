@@ -5,18 +5,17 @@ use mathlib.Core.Bool.{Bool, true, false, _&&_}
 use mathlib.Core.Logic.{⊎-elim}
 use mathlib.Core.List.{List, [], _∷_, _++_, append-assoc, append-nil}
 use Prim.Native.Nat.{ℕ, zero, suc, _+_, _-_, _<_, _≤_, min}
-use native.Mathlib.Nat.{zero-add, add-zero}
+use native.Mathlib.Nat.{add-zero}
 use native.Mathlib.Omega.{arith}
-use lib.ListN.{length, getD, take, drop, set, replicate, length-append, length-take, length-drop, length-set, length-replicate, take-append-drop}
+use lib.ListN.{length, getD, take, drop, set, replicate, length-append, length-drop, length-set, length-replicate, take-append-drop}
 use lib.Seq.{take-all, length-take-le, take-at, drop-at, take-take, take-nil, drop-drop, getD-take, take-set-lt, take-set-le}
 use lib.Dec.{eqb, leb}
 use borrow.Author.Tests.{eq-eqb, ne-eqb, eqb-true, le-leb, leb-true}
-use Rattle.fields.specs.Choice.{if'}
 use Rattle.fields.specs.Field.{field}
 use Rattle.fields.proofs.Fields.{field-take}
 use Rattle.table.specs.Numbers.{blockShort, blockNumber, blockCheck, blockUsed}
 use Rattle.table.specs.Answer.{Answer, accepted, refused, andThen}
-use Rattle.blocks.specs.Block.{bytesOf, sumOf, weighed, frontOf, blockOf, zeros, demand, examine, judge}
+use Rattle.blocks.specs.Block.{bytesOf, sumOf, weighed, beforeSum, blockOf, zeros, demand, examine, judge}
 use Rattle.blocks.proofs.Spelling.{le-or-lt, Bytes, bytes-take, bytes-append, bytes-zeros, bytes-spelled, length-bytes, field-behind, field-before, field-bytes, bytes-field, field-outside, field-changed}
 use Rattle.blocks.proofs.Sums.{weighed-front, weighed-outside, weighed-changed, sum-small}
 
@@ -104,8 +103,8 @@ are-zeros (suc n) = are-zeros n
 
 -- the block of a number and a content
 module _ (number : ℕ) (content : List ℕ) (fits : length content ≤ 504) where
-  pub length-front : length (frontOf number content) ≡ 508
-  unfolding frontOf
+  pub length-front : length (beforeSum number content) ≡ 508
+  unfolding beforeSum
   length-front = simp (length-append, length-bytes, length-replicate {A = ℕ}) (omega arith)
 
   pub length-block : length (blockOf number content) ≡ 512
@@ -113,27 +112,27 @@ module _ (number : ℕ) (content : List ℕ) (fits : length content ≤ 504) whe
   length-block = simp (length-append, length-bytes, length-front) refl
 
   -- what stands behind its first four bytes
-  front-content : drop 4 (frontOf number content) ≡ content ++ replicate (504 - length content) 0
-  unfolding frontOf
+  front-content : drop 4 (beforeSum number content) ≡ content ++ replicate (504 - length content) 0
+  unfolding beforeSum
   front-content =
       let rest : List ℕ = content ++ replicate (504 - length content) 0 in
       sym (drop-drop 2 2 (bytesOf 2 number ++ (bytesOf 2 (length content) ++ rest)))
       ∙ ap (drop 2) (drop-at (bytesOf 2 number) (bytesOf 2 (length content) ++ rest) 2 (length-bytes 2 number))
       ∙ drop-at (bytesOf 2 (length content)) rest 2 (length-bytes 2 (length content))
 
-  block-front : (rest : List ℕ) → take 508 (blockOf number content ++ rest) ≡ frontOf number content
+  block-front : (rest : List ℕ) → take 508 (blockOf number content ++ rest) ≡ beforeSum number content
   unfolding blockOf
   block-front rest =
-      let sum : List ℕ = bytesOf 4 (sumOf (frontOf number content)) in
-      ap (take 508) (append-assoc (frontOf number content) sum rest) ∙ take-at (frontOf number content) (sum ++ rest) 508 length-front
+      let sum : List ℕ = bytesOf 4 (sumOf (beforeSum number content)) in
+      ap (take 508) (append-assoc (beforeSum number content) sum rest) ∙ take-at (beforeSum number content) (sum ++ rest) 508 length-front
 
   -- LAW: its content stands there, and zeros behind it
   pub content-there : (rest : List ℕ) → take 504 (drop 4 (blockOf number content ++ rest)) ≡ content ++ replicate (504 - length content) 0
   content-there rest = sym (drop-take 4 508 (blockOf number content ++ rest)) ∙ ap (drop 4) (block-front rest) ∙ front-content
 
   module _ (small : Bytes content) (few : number < 65536) (rest : List ℕ) where
-    bytes-front : Bytes (frontOf number content)
-    unfolding frontOf
+    bytes-front : Bytes (beforeSum number content)
+    unfolding beforeSum
     bytes-front =
         bytes-append (bytesOf 2 number) _ (bytes-spelled 2 number)
         (bytes-append (bytesOf 2 (length content)) _ (bytes-spelled 2 (length content)) (bytes-append content _ small (bytes-zeros (504 - length content))))
@@ -144,32 +143,32 @@ module _ (number : ℕ) (content : List ℕ) (fits : length content ≤ 504) whe
     summed : sumOf (blockOf number content) ≡ field 4 (blockOf number content) 508
     unfolding blockOf sumOf
     summed =
-        let f : List ℕ = frontOf number content in
+        let f : List ℕ = beforeSum number content in
         let s : ℕ = weighed 508 f in
         let there : field 4 (f ++ bytesOf 4 s) (length f + 0) ≡ s =
         field-behind 4 f (bytesOf 4 s) 0 ∙ ap (λ (l : List ℕ). field 4 l 0) (sym (append-nil (bytesOf 4 s))) ∙ field-bytes 4 s [] (sum-small f bytes-front) in
         weighed-front 508 f (bytesOf 4 s) (omega (arith, length-front)) ∙ sym (rw (length-front, add-zero 508) at there)
 
     numbered-so : field 2 (blockOf number content) 0 ≡ number
-    unfolding blockOf frontOf
+    unfolding blockOf beforeSum
     numbered-so =
-        field-before 2 (frontOf number content) (bytesOf 4 (sumOf (frontOf number content))) 0 (omega (arith, length-front))
+        field-before 2 (beforeSum number content) (bytesOf 4 (sumOf (beforeSum number content))) 0 (omega (arith, length-front))
         ∙ field-bytes 2 number (bytesOf 2 (length content) ++ (content ++ replicate (504 - length content) 0)) few
 
     said-so : field 2 (blockOf number content) 2 ≡ length content
-    unfolding blockOf frontOf
+    unfolding blockOf beforeSum
     said-so =
         let behind : List ℕ = content ++ replicate (504 - length content) 0 in
         let there : field 2 (bytesOf 2 number ++ (bytesOf 2 (length content) ++ behind)) (length (bytesOf 2 number) + 0) ≡ length content =
         field-behind 2 (bytesOf 2 number) (bytesOf 2 (length content) ++ behind) 0 ∙ field-bytes 2 (length content) behind (omega arith) in
-        field-before 2 (frontOf number content) (bytesOf 4 (sumOf (frontOf number content))) 2 (omega (arith, length-front))
+        field-before 2 (beforeSum number content) (bytesOf 4 (sumOf (beforeSum number content))) 2 (omega (arith, length-front))
         ∙ (rw (length-bytes 2 number, add-zero 2) at there)
 
     padded-so : zeros (drop (4 + length content) (take 508 (blockOf number content))) ≡ true
     padded-so =
-        let cut : take 508 (blockOf number content) ≡ frontOf number content = ap (take 508) (sym (append-nil (blockOf number content))) ∙ block-front [] in
-        let behind : drop (4 + length content) (frontOf number content) ≡ replicate (504 - length content) 0 =
-        sym (drop-drop (length content) 4 (frontOf number content)) ∙ ap (drop (length content)) front-content ∙ drop-at content (replicate (504 - length content) 0) (length content) refl in
+        let cut : take 508 (blockOf number content) ≡ beforeSum number content = ap (take 508) (sym (append-nil (blockOf number content))) ∙ block-front [] in
+        let behind : drop (4 + length content) (beforeSum number content) ≡ replicate (504 - length content) 0 =
+        sym (drop-drop (length content) 4 (beforeSum number content)) ∙ ap (drop (length content)) front-content ∙ drop-at content (replicate (504 - length content) 0) (length content) refl in
         rw (cut, behind) (are-zeros (504 - length content))
 
     -- THEOREM: the block of a number and a content passes
@@ -184,7 +183,7 @@ module _ (number : ℕ) (content : List ℕ) (fits : length content ≤ 504) whe
 
 -- THEOREM: a block that passes is the block of its content and nothing else
 pub passed-is-block : (number used : ℕ) (bs : List ℕ) → used ≤ 504 → Bytes bs → Passing number used bs → take 512 bs ≡ blockOf number (take used (drop 4 bs))
-unfolding blockOf frontOf
+unfolding blockOf beforeSum
 passed-is-block number used bs fits small p =
     let b : List ℕ = take 512 bs in
     let long : length b ≡ 512 = length-take-le 512 bs (p .long) in

@@ -1,12 +1,12 @@
 -- Laws of a list that is filled from the front: s over d, as far as it goes. Assumes nothing.
-use mathlib.Core.Path.{_≡_, refl, sym, ap, _∙_}
-use mathlib.Core.List.{List, [], _∷_, _++_, append-nil}
-use Prim.Native.Nat.{ℕ, zero, suc, _+_, _-_, _<_, _≤_}
+use mathlib.Core.Path.{_≡_, refl, ap, _∙_}
+use mathlib.Core.List.{List, _++_, append-nil}
+use Prim.Native.Nat.{ℕ, _+_, _<_, _≤_}
 use native.Mathlib.Nat.{zero-add}
 use native.Mathlib.Numerals.{add-one}
 use native.Mathlib.Omega.{arith}
-use lib.ListN.{length, getD, take, drop, set, replicate, length-replicate, drop-of-length-le}
-use lib.Seq.{paste-zero, paste-suc, length-paste}
+use lib.ListN.{length, getD, take, drop, set, drop-of-length-le}
+use lib.Seq.{paste-suc, length-paste}
 
 -- the first i of n bytes of s stand in b, and behind them what stood in d
 pub record Filled (d s : List ℕ) (n : ℕ) (b : List ℕ) (i : ℕ) : Type 0 where

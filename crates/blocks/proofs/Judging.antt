@@ -1,17 +1,17 @@
 -- Laws of the judgement of a block, in the terms of code. Assumes nothing.
 use mathlib.Core.Path.{_≡_, refl, sym, ap, _∙_}
 use mathlib.Core.Bool.{Bool, true, false, _&&_}
-use mathlib.Core.List.{List, [], _∷_}
-use Prim.Native.Nat.{ℕ, zero, suc, _+_, _-_, _<_, _≤_, min}
+use mathlib.Core.List.{List, []}
+use Prim.Native.Nat.{ℕ, _+_, _<_, _≤_}
 use native.Mathlib.Numerals.{add-one}
 use native.Mathlib.Omega.{arith}
 use lib.ListN.{length, getD, take, drop, length-take, drop-of-length-le}
 use lib.Seq.{drop-cons, getD-take, length-take-le}
-use lib.Dec.{eqb, leb}
+use lib.Dec.{eqb}
 use borrow.Author.Tests.{eq-eqb, ne-eqb, le-leb, lt-leb}
 use Rattle.fields.specs.Field.{field}
 use Rattle.table.specs.Numbers.{blockShort, blockNumber, blockCheck, blockUsed}
-use Rattle.table.specs.Answer.{Answer, accepted, refused, andThen}
+use Rattle.table.specs.Answer.{Answer, accepted, refused}
 use Rattle.blocks.specs.Block.{sumOf, zeros, demand, examine, judge}
 
 -- the padding: what is left decides

@@ -15,7 +15,7 @@ use Rattle.blocks.specs.declared.Judged.{Judged}
 use Rattle.blocks.specs.declared.Judged.the-variants.{Passed, Refused}
 use Rattle.blocks.specs.Block.{blockOf, judge, judged}
 use Rattle.blocks.specs.Run.{blocksFor, blocksOf, runOf, judgeBlocks, judgeRun, contents, contentOf}
-use Rattle.blocks.proofs.Blocks.{Passing, passing, passing-then, passes, drop-take, take-min, length-block, content-there, block-passes, passed-is-block, changed-block, judge-outside}
+use Rattle.blocks.proofs.Blocks.{passing, passing-then, passes, drop-take, take-min, length-block, content-there, block-passes, passed-is-block, changed-block, judge-outside}
 use Rattle.blocks.proofs.Spelling.{le-or-lt, Bytes, bytes-take, bytes-drop}
 
 -- a byte behind the first n

@@ -4,15 +4,15 @@ use mathlib.Core.Bool.{Bool, true, false}
 use mathlib.Core.Logic.{_⊎_, inl, inr, ⊎-elim}
 use mathlib.Core.List.{List, [], _∷_, _++_}
 use Prim.Native.Nat.{ℕ, zero, suc, _+_, _*_, _-_, _/_, _%_, _<_, _≤_, _^_}
-use native.Mathlib.Nat.{zero-add, add-zero, one-mul, add-assoc, mul-assoc, mul-add, pow-succ', suc-add, eq-of-mul-eq-mul-left}
-use native.Mathlib.Numerals.{add-one, one-add}
+use native.Mathlib.Nat.{pow-succ'}
+use native.Mathlib.Numerals.{add-one}
 use native.Mathlib.Omega.{arith}
 use lib.ListN.{length, getD, take, drop, set, replicate, length-take, List·getD-append, List·getD-eq-default}
 use lib.Dec.{leb}
 use borrow.Author.Tests.{leb-true, leb-false}
-use lib.Seq.{getD-take, getD-drop, getD-set-same, getD-set-other, drop-cons, drop-at, drop-append-seam}
+use lib.Seq.{getD-take, getD-drop, getD-set-same, getD-set-other, drop-cons, drop-append-seam}
 use Rattle.fields.specs.Field.{field}
-use Rattle.fields.proofs.Fields.{field-drop, field-take}
+use Rattle.fields.proofs.Fields.{field-drop}
 use Rattle.blocks.specs.Block.{bytesOf}
 
 -- one of two numbers is not above the other

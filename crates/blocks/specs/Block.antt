@@ -1,5 +1,5 @@
 -- Blocks of 512 bytes, little-endian: 0-1 number, 2-3 used bytes, 4-507 content, 508-511 the sum. These are definitions.
-use mathlib.Core.Bool.{Bool, true, false, _&&_}
+use mathlib.Core.Bool.{Bool, true, _&&_}
 use mathlib.Core.List.{List, [], _∷_, _++_}
 use Prim.Native.Nat.{ℕ, zero, suc, _+_, _*_, _-_, _/_, _%_}
 use lib.ListN.{length, getD, take, drop, replicate}
@@ -26,12 +26,12 @@ unfoldable pub sumOf : List ℕ → ℕ
 sumOf b = weighed 508 b
 
 -- what stands before the sum: the number, the used bytes, the content, and zeros past the used part
-unfoldable pub frontOf : ℕ → List ℕ → List ℕ
-frontOf number content = bytesOf 2 number ++ (bytesOf 2 (length content) ++ (content ++ replicate (504 - length content) 0))
+unfoldable pub beforeSum : ℕ → List ℕ → List ℕ
+beforeSum number content = bytesOf 2 number ++ (bytesOf 2 (length content) ++ (content ++ replicate (504 - length content) 0))
 
 -- the block that has a number and a content
 unfoldable pub blockOf : ℕ → List ℕ → List ℕ
-blockOf number content = frontOf number content ++ bytesOf 4 (sumOf (frontOf number content))
+blockOf number content = beforeSum number content ++ bytesOf 4 (sumOf (beforeSum number content))
 
 -- whether all bytes are zero
 unfoldable pub zeros : List ℕ → Bool

@@ -1,12 +1,12 @@
 -- Laws of the bytes that the reader copies, in the terms of code. Assumes nothing.
 use mathlib.Core.Path.{_≡_, refl, sym, ap, _∙_}
-use mathlib.Core.List.{List, [], _∷_, _++_}
+use mathlib.Core.List.{List, _++_}
 use Prim.Native.Nat.{ℕ, zero, suc, _+_, _*_, _-_, _/_, _%_, _<_, _≤_}
 use native.Mathlib.Omega.{arith}
 use lib.ListN.{length, getD, take, drop, set, replicate, length-drop, length-replicate}
 use lib.Seq.{take-all, length-take-le, getD-drop}
 use Rattle.blocks.specs.Run.{blocksFor, contentOf}
-use Rattle.blocks.proofs.Filling.{Filled, fill-start, fill-long, fill-on, fill-end}
+use Rattle.blocks.proofs.Filling.{Filled, fill-start, fill-on, fill-end}
 use Rattle.blocks.proofs.Runs.{content-long, content-at}
 use Rattle.tablefile.specs.Loading.{laid}
 

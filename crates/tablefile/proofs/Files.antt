@@ -1,28 +1,26 @@
 -- The file at the front and the file of a content: each is the other's inverse, and one changed byte is told. Assumes nothing.
 use mathlib.Core.Path.{_≡_, refl, sym, ap, _∙_}
-use mathlib.Core.Bool.{Bool, true, false}
-use mathlib.Core.Logic.{_⊎_, inl, inr, ⊎-elim}
-use mathlib.Core.List.{List, [], _∷_, _++_, append-assoc}
-use Prim.Native.Nat.{ℕ, zero, suc, _+_, _*_, _-_, _/_, _<_, _≤_}
+use mathlib.Core.Bool.{true}
+use mathlib.Core.Logic.{_⊎_, ⊎-elim}
+use mathlib.Core.List.{List, [], _++_, append-assoc}
+use Prim.Native.Nat.{ℕ, _+_, _*_, _-_, _/_, _<_, _≤_}
 use native.Mathlib.Nat.{add-zero}
 use native.Mathlib.Omega.{arith}
-use lib.ListN.{length, getD, take, drop, set, replicate, length-append, length-drop, length-set}
+use lib.ListN.{length, getD, take, drop, set, replicate, length-append}
 use lib.Seq.{take-at, drop-at, take-take, take-add, drop-drop, take-set-le}
-use lib.Dec.{eqb, leb}
-use borrow.Author.Tests.{le-leb, eq-eqb, ne-eqb}
-use Rattle.fields.specs.Choice.{if'}
+use borrow.Author.Tests.{le-leb}
 use Rattle.fields.specs.Field.{field}
 use Rattle.fields.proofs.Fields.{field-drop, field-take}
-use Rattle.table.specs.Numbers.{blockCheck, blockCounts}
-use Rattle.table.specs.Answer.{Answer, accepted, refused, andThen}
-use Rattle.blocks.specs.Block.{bytesOf, blockOf, demand, judge}
-use Rattle.blocks.specs.Run.{blocksFor, runOf, judgeRun, contentOf}
-use Rattle.blocks.proofs.Spelling.{le-or-lt, Bytes, bytes-take, bytes-drop, bytes-append, bytes-spelled, length-bytes, field-behind, field-before, field-bytes, bytes-field}
+use Rattle.table.specs.Numbers.{blockCheck}
+use Rattle.table.specs.Answer.{accepted, refused, andThen}
+use Rattle.blocks.specs.Block.{bytesOf, blockOf, judge}
+use Rattle.blocks.specs.Run.{blocksFor, runOf, judgeRun}
+use Rattle.blocks.proofs.Spelling.{le-or-lt, Bytes, bytes-drop, bytes-append, bytes-spelled, length-bytes, field-behind, field-bytes, bytes-field}
 use Rattle.blocks.proofs.Blocks.{Passing, passing, passes, drop-take, length-block, content-there, block-passes, passed-is-block, changed-block, judge-outside}
 use Rattle.blocks.proofs.Runs.{drop-set, getD-behind, length-run, passed-is-run, run-passes, run-holds, run-outside, changed-run}
 use Rattle.tablefile.specs.File.{Content, headerOf, fileOf}
 use Rattle.tablefile.specs.Reading.{nodesAt, namesAt, dialectAt, firstNodes, takenAt, contentAt, countsFit, frontCheck}
-use Rattle.tablefile.proofs.Fronts.{Fronted, dialect-few, first-there, table-length, names-length}
+use Rattle.tablefile.proofs.Fronts.{Fronted, dialect-few, table-length, names-length}
 
 -- ---- a file at the front whose blocks pass is the file of what it holds
 module _ (bs : List ℕ) (small : Bytes bs) (f : Fronted bs) where

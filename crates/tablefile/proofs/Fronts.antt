@@ -1,12 +1,12 @@
 -- Laws of the file at the front, in the terms of code. Assumes nothing.
 use mathlib.Core.Path.{_≡_, refl, sym, ap, _∙_}
 use mathlib.Core.Bool.{Bool, true, false, _&&_}
-use mathlib.Core.List.{List, [], _∷_, _++_}
-use Prim.Native.Nat.{ℕ, zero, suc, _+_, _*_, _-_, _/_, _%_, _<_, _≤_}
+use mathlib.Core.List.{List, []}
+use Prim.Native.Nat.{ℕ, _+_, _*_, _-_, _≤_}
 use native.Mathlib.Omega.{arith}
-use lib.ListN.{length, getD, take, drop, length-drop}
+use lib.ListN.{length, take, drop, length-drop}
 use lib.Dec.{eqb, leb}
-use borrow.Author.Tests.{eq-eqb, ne-eqb, leb-true, le-leb, lt-leb}
+use borrow.Author.Tests.{eq-eqb, ne-eqb, leb-true}
 use Rattle.fields.specs.Choice.{if'}
 use Rattle.fields.specs.Field.{field}
 use Rattle.fields.proofs.Fields.{tail-part}
@@ -15,28 +15,22 @@ use Rattle.dialect.specs.declared.Dialect.{Dialect}
 use Rattle.dialect.specs.declared.Decoded.{Decoded}
 use Rattle.dialect.specs.declared.Decoded.the-variants.{Valid, Invalid}
 use Rattle.soundness.proofs.Records.{and-left, and-right}
-use Rattle.table.specs.Numbers.{badDialect, blockCounts, bytesLeftOver}
+use Rattle.table.specs.Numbers.{badDialect, blockCounts}
 use Rattle.table.specs.Answer.{Answer, accepted, refused, andThen, refusal, checked}
 use Rattle.table.specs.Check.{checkOf}
 use Rattle.table.specs.declared.Refusal.{Refusal}
-use Rattle.table.specs.declared.Refusal.the-variants.{Bare}
 use Rattle.table.specs.declared.Checked.{Checked}
 use Rattle.table.specs.declared.Checked.the-variants.{Sound}
 use Rattle.table.specs.declared.Checked.the-variants as table-answers
 use Rattle.table.proofs.Answers.{stopped, after-both}
 use Rattle.blocks.specs.Block.{demand, judge, judged}
-use Rattle.blocks.specs.Run.{blocksFor, judgeRun, contentOf}
+use Rattle.blocks.specs.Run.{blocksFor, judgeRun}
 use Rattle.blocks.specs.declared.Judged.{Judged}
 use Rattle.blocks.specs.declared.Judged.the-variants.{Passed}
 use Rattle.blocks.specs.declared.Judged.the-variants as judgements
 use Rattle.blocks.proofs.Blocks.{Passing, passing, passing-then}
 use Rattle.blocks.proofs.Runs.{run-long, run-then, content-long}
-use Rattle.tablefile.specs.File.{Content}
-use Rattle.tablefile.specs.Reading.{nodesAt, namesAt, dialectAt, firstNodes, takenAt, contentAt, countsFit, frontCheck, dialectCheck, soundCheck, readCheck}
-use Rattle.tablefile.specs.Loading.{verdict, laid, loadedOf, none}
-use Rattle.tablefile.specs.declared.Verdict.{Verdict}
-use Rattle.tablefile.specs.declared.Verdict.the-variants.{Accepted, Refused}
-use Rattle.tablefile.specs.declared.Loaded.{Loaded}
+use Rattle.tablefile.specs.Reading.{nodesAt, namesAt, dialectAt, firstNodes, takenAt, contentAt, countsFit, frontCheck, soundCheck}
 use Rattle.tablefile.proofs.Copies.{dialect-long}
 
 -- how many dialect bytes block 0 has

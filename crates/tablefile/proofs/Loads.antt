@@ -1,19 +1,15 @@
 -- Laws of what the reader answers by value, in the terms of code. Assumes nothing.
 use mathlib.Core.Path.{_≡_, refl, sym, ap, _∙_}
-use mathlib.Core.Bool.{Bool, true, false}
-use mathlib.Core.List.{List, [], _∷_, _++_}
-use Prim.Native.Nat.{ℕ, zero, suc, _+_, _*_, _-_, _/_, _<_, _≤_}
+use mathlib.Core.List.{List, []}
+use Prim.Native.Nat.{ℕ, _+_, _*_, _-_, _<_, _≤_}
 use native.Mathlib.Omega.{arith}
-use lib.ListN.{length, take, drop, replicate, length-append, length-drop}
+use lib.ListN.{length, take, drop, replicate, length-append}
 use lib.Seq.{take-append-seam}
-use lib.Dec.{leb}
 use borrow.Author.Tests.{le-leb, lt-leb}
 use Rattle.fields.proofs.Fields.{tail-part}
 use Rattle.table.specs.Numbers.{bytesLeftOver}
-use Rattle.table.specs.Answer.{Answer, accepted, refused, andThen, refusal}
+use Rattle.table.specs.Answer.{Answer, accepted, refused, refusal}
 use Rattle.table.specs.declared.Refusal.{Refusal}
-use Rattle.table.specs.declared.Refusal.the-variants.{Bare}
-use Rattle.table.proofs.Answers.{stopped}
 use Rattle.blocks.specs.Block.{judged}
 use Rattle.blocks.specs.Run.{blocksFor, contentOf}
 use Rattle.blocks.specs.declared.Judged.{Judged}
