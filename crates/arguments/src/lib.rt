@@ -1,7 +1,7 @@
 // Call arguments: positional, then named, then at most one star, then at most one `**`, names distinct.
 //
 // Ported from src/syntax/call.rs of starlark_syntax 0.14.2, and changed: the arguments are records of a node table, the set of names is a search.
-// Copyright 2019 The Starlark in Rust Authors. Copyright (c) Facebook, Inc. and its affiliates. Licensed under Apache-2.0.
+// Copyright 2018 The Starlark in Rust Authors. Copyright (c) Facebook, Inc. and its affiliates. Licensed under Apache-2.0.
 use forest::Found;
 use soundness::kinds;
 use table::Checked;

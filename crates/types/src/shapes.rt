@@ -1,4 +1,7 @@
 // Shapes: the bytes that a type's nodes get in the buffer, once the type is accepted.
+//
+// Ported from src/syntax/type_expr.rs of starlark_syntax 0.14.2, and changed: the type that unpack builds is a byte for each node that it reads.
+// Copyright 2018 The Starlark in Rust Authors. Copyright (c) Facebook, Inc. and its affiliates. Licensed under Apache-2.0.
 use soundness::kinds;
 use typerules::Reads;
 use typerules::forms;

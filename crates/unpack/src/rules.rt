@@ -1,4 +1,7 @@
 // The rules of the kinds, and what a parameter changes in the written list.
+//
+// Ported from src/syntax/def.rs of starlark_syntax 0.14.2, and changed: each rule answers its number or lets the parameter pass.
+// Copyright 2018 The Starlark in Rust Authors. Copyright (c) Facebook, Inc. and its affiliates. Licensed under Apache-2.0.
 use crate::Check;
 use crate::Counts;
 use crate::Flat;

@@ -1,4 +1,7 @@
 // unpack: 10, then the parameters in turn, then what follows a bare `*`.
+//
+// Ported from src/syntax/def.rs of starlark_syntax 0.14.2, and changed: the list is a stretch of the node table, and names are compared instead of hashed.
+// Copyright 2018 The Starlark in Rust Authors. Copyright (c) Facebook, Inc. and its affiliates. Licensed under Apache-2.0.
 use crate::Check;
 use crate::Counts;
 use crate::Fault;
