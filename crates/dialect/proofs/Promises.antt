@@ -1,12 +1,14 @@
 -- Two answers that meet the promise of a public function coincide. Assumes nothing.
 use mathlib.Core.Path.{_≡_}
+use mathlib.Core.Bool.{Bool}
 use mathlib.Core.List.{List}
 use Prim.Native.Nat.{ℕ}
 use Rattle.fields.proofs.Coincide.{coincide}
 use Rattle.dialect.specs.declared.Decoded.{Decoded}
 use Rattle.dialect.specs.declared.Dialect.{Dialect}
+use Rattle.dialect.specs.declared.DialectTypes.{DialectTypes}
 use Rattle.dialect.specs.declared.Name.{Name}
-use Rattle.dialect.specs.Rows.{dialectNamed}
+use Rattle.dialect.specs.Rows.{permitsTypes, dialectNamed}
 use Rattle.dialect.specs.Bytes.{fromBytes}
 
 -- of `named`
@@ -16,3 +18,7 @@ named-one name = coincide
 -- of `from_bytes`, the bytes as lent
 pub from-bytes-one : (bytes : List ℕ) {r s : Decoded} → r ≡ fromBytes bytes → s ≡ fromBytes bytes → r ≡ s
 from-bytes-one bytes = coincide
+
+-- of `permits_types`
+pub permits-types-one : (types : DialectTypes) {r s : Bool} → r ≡ permitsTypes types → s ≡ permitsTypes types → r ≡ s
+permits-types-one types = coincide

@@ -21,6 +21,12 @@ rowNamed AllOptionsInternal = 1 ∷ 1 ∷ 1 ∷ 1 ∷ 1 ∷ 2 ∷ 1 ∷ 1 ∷ 1 
 abbrev pub typesOf : ℕ → DialectTypes
 typesOf n = if' (eqb n 0) (λ _. Disable) (λ _. if' (eqb n 1) (λ _. ParseOnly) (λ _. Enable))
 
+-- whether a dialect with these types has them at all
+abbrev pub permitsTypes : DialectTypes → Bool
+permitsTypes Disable = false
+permitsTypes ParseOnly = true
+permitsTypes Enable = true
+
 -- the dialect of nine numbers: a feature is permitted where its number is 1
 unfoldable pub recordOf : List ℕ → Dialect
 recordOf row = record {

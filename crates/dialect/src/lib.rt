@@ -4,7 +4,7 @@
 // Copyright 2018 The Starlark in Rust Authors. Copyright (c) Facebook, Inc. and its affiliates. Licensed under Apache-2.0.
 ghost use mathlib.Core.Path.{_≡_};
 ghost use lib.ListN.{length};
-ghost use Rattle.dialect.specs.Rows.{rowNamed, typesOf, recordOf, dialectNamed};
+ghost use Rattle.dialect.specs.Rows.{rowNamed, typesOf, permitsTypes, recordOf, dialectNamed};
 ghost use Rattle.dialect.specs.Bytes.{validBytes, fromBytes};
 
 // How type annotations are handled.
@@ -69,6 +69,17 @@ pub fn from_bytes(bytes: &[u8]) -> Decoded
         return Decoded::Valid(record_of(bytes));
     }
     Decoded::Invalid
+}
+
+// Whether a dialect with these types has them at all.
+pub fn permits_types(types: DialectTypes) -> bool
+    ensures { λ r. ⌜ r ≡ permitsTypes types ⌝ }
+{
+    match types {
+        DialectTypes::Disable => false,
+        DialectTypes::ParseOnly => true,
+        DialectTypes::Enable => true,
+    }
 }
 
 // The row of a name.

@@ -6,6 +6,7 @@ use Prim.Native.Nat.{ℕ, _/_, _<_, _≤_}
 use lib.ListN.{length}
 use borrow.Author.Tests.{le-leb, lt-leb}
 use Rattle.forest.specs.Forest.{nodeOf, treeOf}
+use Rattle.dialect.specs.Rows.{permitsTypes}
 use Rattle.dialect.specs.Bytes.{fromBytes}
 use Rattle.dialect.specs.declared.Dialect.{Dialect}
 use Rattle.dialect.specs.declared.DialectTypes.{DialectTypes}
@@ -19,7 +20,7 @@ use Rattle.table.specs.declared.Checked as Checks
 use Rattle.table.specs.declared.Checked.the-variants as Check
 use Rattle.table.specs.declared.Wanted.the-variants.{Expression}
 use Rattle.table.proofs.Answers.{stopped}
-use Rattle.typerules.specs.Types.{permitsTypes, «unpack», «dialect_check_type»}
+use Rattle.typerules.specs.Types.{«unpack», «dialect_check_type»}
 use Rattle.typerules.specs.Jobs.{typeAt, typeShapeOf}
 
 -- a type in a dialect

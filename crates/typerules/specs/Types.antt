@@ -8,7 +8,7 @@ use Rattle.fields.specs.Choice.{if'}
 use Rattle.forest.specs.Forest.{Node, Tree, node, Forest, none, _then_}
 use Rattle.soundness.specs.KindNumbers.{kindIdentifier, kindList}
 use Rattle.dialect.specs.declared.DialectTypes.{DialectTypes}
-use Rattle.dialect.specs.declared.DialectTypes.the-variants.{Disable, ParseOnly, Enable}
+use Rattle.dialect.specs.Rows.{permitsTypes}
 use Rattle.table.specs.Numbers.{invalidType, emptyListInType, typesDisabled}
 use Rattle.table.specs.Answer.{Answer, accepted, refused, andThen, refusedAt}
 use Rattle.typerules.specs.Forms.{formOf, readsOf, ofChildren}
@@ -77,12 +77,6 @@ unfoldable mutual
   pub unpackIndex2 : L.List ℕ → Forest → Answer
   unpackIndex2 names none = accepted L.[]
   unpackIndex2 names (b then ts) = unpackArguments names ts
-
--- whether a dialect has types
-abbrev pub permitsTypes : DialectTypes → Bool
-permitsTypes Disable = false
-permitsTypes ParseOnly = true
-permitsTypes Enable = true
 
 -- 45 at the type, where the dialect has none
 abbrev pub typesCheck : DialectTypes → Node → Answer

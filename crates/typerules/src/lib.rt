@@ -20,7 +20,7 @@ ghost use lib.ListN.{length};
 ghost use Rattle.forest.specs.Forest.{treeOf};
 ghost use Rattle.table.specs.Answer.{accepted};
 ghost use Rattle.table.specs.Check.{checkOf};
-ghost use Rattle.typerules.specs.Types.{permitsTypes, «dialect_check_type»};
+ghost use Rattle.typerules.specs.Types.{«dialect_check_type»};
 ghost use Rattle.typerules.specs.Jobs.{shaped, typeAt, typeShapeOf};
 
 // What a type may be by the kind of its node.
@@ -87,19 +87,8 @@ fn dialect_check_type(names: &[u8], types: DialectTypes, t: &[u8], node: usize) 
     requires { ⌜ (24 ≤ length (now t)) × (24 * node + length (now t) ≤ 50400) ⌝ }
     ensures { λ r. ⌜ shaped r ≡ «dialect_check_type» (now (names .entry)) types (treeOf node (now (t .entry))) ⌝ }
 {
-    if !permits_types(types) {
+    if !dialect::permits_types(types) {
         return Shaped::Refused(table::refused_at(numbers::TYPES_DISABLED, node as u32, t));
     }
     unpack::unpack(names, t, node)
-}
-
-// Whether a dialect has types.
-fn permits_types(types: DialectTypes) -> bool
-    ensures { λ r. ⌜ r ≡ permitsTypes types ⌝ }
-{
-    match types {
-        DialectTypes::Disable => false,
-        DialectTypes::ParseOnly => true,
-        DialectTypes::Enable => true,
-    }
 }
