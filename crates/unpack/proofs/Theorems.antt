@@ -127,7 +127,7 @@ unfolding isListed
 short-end t s = rw (lt-leb 24 (length t) s) refl
 
 -- LAW: a written list is shorter than its node's stretch has records
-list-short : (ns : List ℕ) (i : ℕ) (t : List ℕ) → 24 * length (paramsIn ns (forest i t)) ≤ length t
+pub list-short : (ns : List ℕ) (i : ℕ) (t : List ℕ) → 24 * length (paramsIn ns (forest i t)) ≤ length t
 list-short ns =
     forest-induction (λ i t. 24 * length (paramsIn ns (forest i t)) ≤ length t)
     (λ i t s. rw (list-end ns i t (short-end t s)) (omega arith))

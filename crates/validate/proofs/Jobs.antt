@@ -1,0 +1,67 @@
+-- Laws of the module job, in the terms of code: one for each return. Assumes nothing.
+use mathlib.Core.Path.{_≡_, refl, sym, ap, _∙_}
+use mathlib.Core.Bool.{true, false}
+use mathlib.Core.List.{List, [], _∷_}
+use Prim.Native.Nat.{ℕ, _+_, _-_, _*_, _/_, _<_, _≤_, min}
+use native.Mathlib.Omega.{arith}
+use lib.ListN.{length, take, drop}
+use borrow.Rule.Slice.PartMut.{putMid}
+use Rattle.dialect.specs.Bytes.{fromBytes}
+use Rattle.dialect.specs.declared.Dialect.{Dialect}
+use Rattle.dialect.specs.declared.Decoded.{Decoded}
+use Rattle.dialect.specs.declared.Decoded.the-variants.{Valid, Invalid}
+use Rattle.forest.specs.Forest.{forest, count}
+use Rattle.forest.proofs.Stretch.{count-forest}
+use Rattle.table.specs.Numbers.{badDialect}
+use Rattle.table.specs.Answer.{Answer, accepted, refused, andThen, refusal, checked}
+use Rattle.table.specs.Check.{checkOf}
+use Rattle.table.specs.declared.Refusal.{Refusal}
+use Rattle.table.specs.declared.Refusal.the-variants.{Bare, Placed, Spanned}
+use Rattle.table.specs.declared.Checked.{Checked}
+use Rattle.table.specs.declared.Checked.the-variants.{Sound, Refused}
+use Rattle.table.proofs.Checking.{Clean}
+use Rattle.table.proofs.Handed.{passed}
+use Rattle.validate.specs.Errors.{Err, width, stored, Stores}
+use Rattle.validate.specs.Module.{«visit_stmt», «visit_expr», «validate_module»}
+use Rattle.validate.specs.Job.{moduleCheck, errorsOf, moduleOf, errorsAfter}
+use Rattle.validate.proofs.Storing.{stored-none, stores-both}
+use Rattle.validate.proofs.Bounds.{module-few}
+
+-- statements, then expressions
+pub module-all : (d : Dialect) (names t : List ℕ) {xs ys zs : List ℕ} {m n at : ℕ} → Stores («visit_stmt» d names true false false (forest 0 t)) xs m ys → at ≡ min (width * m) (length ys)
+    → Stores («visit_expr» d names (forest 0 t)) (take (length ys - at) (drop at ys)) n zs → Stores («validate_module» d names (forest 0 t)) xs (m + n) (putMid at (length ys - at) ys zs)
+unfolding «validate_module»
+module-all d names t s at-is q = stores-both _ _ s at-is q
+
+-- a total is little
+pub total-short : (d : Dialect) (names t : List ℕ) {xs ys : List ℕ} {n : ℕ} → Stores («validate_module» d names (forest 0 t)) xs n ys → 12 * n ≤ length t
+total-short d names t s = omega (arith, s .count, module-few d names (forest 0 t), count-forest 0 t)
+
+-- what the promises say where the job refuses, and where it does not
+abbrev pub Promised : List ℕ → List ℕ → List ℕ → List ℕ → Answer → List ℕ → Type 0
+Promised t names bytes xs r ys = (r ≡ moduleOf t names bytes) × (ys ≡ errorsAfter t names bytes xs)
+
+module _ (t names bytes xs : List ℕ) {found : Checked} (f-is : checked found ≡ checkOf t names) where
+  pub job-refused : {why : Refusal} → found ≡ Refused why → Promised t names bytes xs (refusal why) xs
+  unfolding moduleCheck errorsOf
+  job-refused {why} h = go why (sym f-is ∙ ap checked h)
+    where
+      go : (why : Refusal) → checkOf t names ≡ refusal why → Promised t names bytes xs (refusal why) xs
+      go (Bare n) told = (rw told refl, rw told (sym (stored-none xs)))
+      go (Placed n k) told = (rw told refl, rw told (sym (stored-none xs)))
+      go (Spanned n k b e) told = (rw told refl, rw told (sym (stored-none xs)))
+
+  module _ (sound : found ≡ Sound) {read : Decoded} (read-is : read ≡ fromBytes bytes) where
+    told : checkOf t names ≡ accepted []
+    told = sym f-is ∙ ap checked sound
+
+    pub table-short : length t ≤ 50400
+    table-short = passed t names (sym told) .most
+
+    pub job-dialect : read ≡ Invalid → Promised t names bytes xs (refused badDialect []) xs
+    unfolding moduleCheck errorsOf
+    job-dialect h = (rw (told, ← read-is, h) refl, rw (told, ← read-is, h) (sym (stored-none xs)))
+
+    pub job-total : {d : Dialect} {n : ℕ} {ys : List ℕ} → read ≡ Valid d → Stores («validate_module» d names (forest 0 t)) xs n ys → Promised t names bytes xs (accepted (n ∷ [])) ys
+    unfolding moduleCheck errorsOf
+    job-total h s = (rw (told, ← read-is, h, s .count) refl, rw (told, ← read-is, h) (s .words))

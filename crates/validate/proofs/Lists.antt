@@ -1,0 +1,103 @@
+-- Laws of the checks of a parameter list, in the terms of code: one for each return. Assumes nothing.
+use mathlib.Core.Path.{_≡_, refl, sym, ap, _∙_}
+use mathlib.Core.Bool.{Bool, true, false}
+use mathlib.Core.List.{List, [], _∷_, _++_}
+use Prim.Native.Nat.{ℕ, zero, suc, _+_, _-_, _*_, _/_, _<_, _≤_, min}
+use native.Mathlib.Omega.{arith}
+use lib.ListN.{length, take, drop, length-take, length-drop}
+use borrow.Rule.Slice.PartMut.{putMid}
+use Rattle.dialect.specs.declared.Dialect.{Dialect}
+use Rattle.forest.specs.Forest.{Node, nodeOf, spanOf, kidsOf, forest}
+use Rattle.forest.proofs.Stretch.{length-kids}
+use Rattle.unpack.specs.Written.{Param, nodeIn, kindIn, paramOf, paramsIn, written}
+use Rattle.unpack.specs.Unpack.{Outcome, accepted, refused, internal, unpack}
+use Rattle.unpack.specs.Told.{told}
+use Rattle.unpack.specs.Reading.{isListed, kindHere}
+use Rattle.unpack.specs.declared.Counts.{Counts}
+use Rattle.unpack.specs.declared.Kind.{Kind}
+use Rattle.unpack.specs.declared.Fault.{Fault}
+use Rattle.unpack.specs.declared.Judged.{Judged}
+use Rattle.unpack.specs.declared.Judged.the-variants.{Accepted, Refused}
+use Rattle.unpack.proofs.Reading.{node-in, kind-in, list-end, list-on}
+use Rattle.unpack.proofs.Theorems.{list-short, written-short}
+use Rattle.validate.specs.Errors.{Err, err, errAt, unless, width, stored, Stores}
+use Rattle.validate.specs.Params.{isMark, permits, notPermitted, everyMark, marks, unpackError, «validate_params», withParams}
+use Rattle.validate.specs.Inner.{Anywhere}
+use Rattle.validate.specs.declared.Mark.{Mark}
+use Rattle.validate.specs.declared.Mark.the-variants.{Star, Slash as SlashMark}
+use Rattle.validate.proofs.Storing.{stores-none, stores-both}
+use Rattle.validate.proofs.Bounds.{every-few, marks-few, unpack-few, params-few}
+
+-- every mark of a sort in a list that begins a stretch
+module _ (m : Mark) (t xs : List ℕ) {l : Bool} (l-is : l ≡ isListed t) where
+  pub every-end : l ≡ false → Anywhere (everyMark m) t xs 0 xs
+  unfolding everyMark
+  every-end h names i = rw (list-end names i t (sym l-is ∙ h)) (stores-none xs)
+
+  module _ (yes : l ≡ true) {e : ℕ} (e-is : e ≡ spanOf t) {k : Kind} (k-is : k ≡ kindHere t) {b : Bool} (b-is : b ≡ isMark m k) where
+    mark-is : isMark m (kindHere t) ≡ b
+    mark-is = sym (b-is ∙ ap (isMark m) k-is)
+
+    pub every-other : b ≡ false → {n : ℕ} {ys : List ℕ} → Anywhere (everyMark m) (take (length t - e) (drop e t)) xs n ys → Anywhere (everyMark m) t xs n ys
+    unfolding everyMark
+    every-other h s names i = rw (list-on names i t (sym l-is ∙ yes) e-is, kind-in names i t, mark-is, h) (s names (i + e / 24))
+
+    pub every-here : b ≡ true → {n n₁ n₂ at : ℕ} {ys zs : List ℕ} → n ≡ notPermitted m → Stores (errAt n (nodeOf 0 t) ∷ []) xs n₁ ys → at ≡ min (width * n₁) (length ys)
+        → Anywhere (everyMark m) (take (length t - e) (drop e t)) (take (length ys - at) (drop at ys)) n₂ zs → Anywhere (everyMark m) t xs (n₁ + n₂) (putMid at (length ys - at) ys zs)
+    unfolding everyMark
+    every-here h {n} n-is s at-is q names i =
+        rw (list-on names i t (sym l-is ∙ yes) e-is, kind-in names i t, mark-is, h, node-in names (nodeOf i t), ← n-is)
+        (stores-both (errAt n (nodeOf 0 t) ∷ []) (everyMark m (paramsIn names (forest (i + e / 24) (take (length t - e) (drop e t))))) s at-is (q names (i + e / 24)))
+
+-- there are no more marks in a list than records after it begins
+pub every-short : (m : Mark) (t : List ℕ) (e : ℕ) {xs ys : List ℕ} {n : ℕ} → Anywhere (everyMark m) (take (length t - e) (drop e t)) xs n ys → 24 * n ≤ length t
+every-short m t e {n = n} s =
+    let rest = take (length t - e) (drop e t) in
+    let few : length rest ≤ length t = simp (length-take, length-drop) (omega arith) in
+    omega (arith, s [] 0 .count, every-few m (paramsIn [] (forest 0 rest)), list-short [] 0 rest)
+
+-- what unpack says of a list
+unpack-fine : (o : Outcome) {j : Judged} {c : Counts} → j ≡ told o → j ≡ Accepted c → unpackError o ≡ []
+unpack-fine (accepted c) p q = refl
+unpack-fine (refused n r) p q = let z : _≡_ {A = ℕ} 0 1 = cc in absurd (omega arith)
+unpack-fine (internal e r) p q = let z : _≡_ {A = ℕ} 0 1 = cc in absurd (omega arith)
+
+unpack-fault : (o : Outcome) {j : Judged} {a : Fault} → j ≡ told o → j ≡ Refused a → unpackError o ≡ err (a .number) (a .begin) (a .end) ∷ []
+unpack-fault (accepted c) p q = let z : _≡_ {A = ℕ} 0 1 = cc in absurd (omega arith)
+unpack-fault (refused n r) {j} {a} p q = let same : record { number = n; node = r .at; begin = r .begin; end = r .stop } ≡ a = cc in rw (← same) refl
+unpack-fault (internal e r) {j} {a} p q = let same : record { number = 0; node = r .at; begin = r .begin; end = r .stop } ≡ a = cc in rw (← same) refl
+
+module _ (o : Outcome) {j : Judged} (j-is : j ≡ told o) (xs : List ℕ) where
+  pub error-none : {c : Counts} → j ≡ Accepted c → Stores (unpackError o) xs 0 xs
+  error-none h = rw (unpack-fine o j-is h) (stores-none xs)
+
+  pub error-one : {a : Fault} → j ≡ Refused a → {n : ℕ} {ys : List ℕ} → Stores (err (a .number) (a .begin) (a .end) ∷ []) xs n ys → Stores (unpackError o) xs n ys
+  error-one h s = rw (unpack-fault o j-is h) s
+
+-- every mark of a sort, unless the dialect permits it
+module _ (d : Dialect) (m : Mark) (t xs : List ℕ) {b : Bool} (b-is : b ≡ permits d m) where
+  pub marks-permitted : b ≡ true → Anywhere (marks d m) t xs 0 xs
+  marks-permitted h names i = rw (← b-is, h) (stores-none xs)
+
+  pub marks-not : b ≡ false → {n : ℕ} {ys : List ℕ} → Anywhere (everyMark m) t xs n ys → Anywhere (marks d m) t xs n ys
+  marks-not h s names i = rw (← b-is, h) (s names i)
+
+-- what is counted in a list is little
+pub marks-short : (d : Dialect) (m : Mark) (t : List ℕ) {list xs ys : List ℕ} {n : ℕ} → list ≡ kidsOf t → Anywhere (marks d m) list xs n ys → 24 * n ≤ length t
+marks-short d m t {list} {n = n} list-is s =
+    omega (arith, s [] 0 .count, marks-few d m (paramsIn [] (forest 0 list)), every-few m (paramsIn [] (forest 0 list)), list-short [] 0 list, ap length list-is, length-kids t)
+
+pub error-short : (o : Outcome) {xs ys : List ℕ} {n : ℕ} → Stores (unpackError o) xs n ys → n ≤ 1
+error-short o s = omega (arith, s .count, unpack-few o)
+
+pub params-short : (d : Dialect) (names t : List ℕ) (i : ℕ) {xs ys : List ℕ} {n : ℕ} → Stores («validate_params» d (written names i t)) xs n ys → 24 * n ≤ 24 + length t
+params-short d names t i s = omega (arith, s .count, params-few d (written names i t), written-short names i t)
+
+-- the whole of a list: every `*`, every `/`, unpack's error
+pub params-all : (d : Dialect) (names t : List ℕ) (i : ℕ) {list xs ys zs vs : List ℕ} {a b c k m : ℕ} → list ≡ kidsOf t
+    → Anywhere (marks d Star) list xs a ys → k ≡ min (width * a) (length ys)
+    → Anywhere (marks d SlashMark) list (take (length ys - k) (drop k ys)) b zs → m ≡ min (width * (a + b)) (length (putMid k (length ys - k) ys zs))
+    → Stores (unpackError (unpack (written names i t))) (take (length (putMid k (length ys - k) ys zs) - m) (drop m (putMid k (length ys - k) ys zs))) c vs
+    → Stores («validate_params» d (written names i t)) xs (a + b + c) (putMid m (length (putMid k (length ys - k) ys zs) - m) (putMid k (length ys - k) ys zs) vs)
+unfolding «validate_params» written
+params-all d names t i list-is stars k-is slashes m-is last = stores-both _ _ (stores-both _ _ (rw list-is at (stars names (i + 1))) k-is (rw list-is at (slashes names (i + 1)))) m-is last

@@ -1,0 +1,117 @@
+-- Laws of errors stored in a list of words: what a check leaves, and two checks of which the second is lent the words that are still free. Assumes nothing.
+use mathlib.Core.Path.{_≡_, refl, sym, ap, _∙_}
+use mathlib.Core.Bool.{Bool, true, false}
+use mathlib.Core.List.{List, [], _∷_, _++_, append-nil}
+use Prim.Native.Nat.{ℕ, zero, suc, _+_, _*_, _-_, _<_, _≤_, min}
+use native.Mathlib.Omega.{arith}
+use lib.Dec.{leb}
+use lib.ListN.{length, take, drop, set, length-drop, length-append, drop-of-length-le}
+use lib.Seq.{take-length, drop-length}
+use borrow.Author.Tests.{le-leb, lt-leb, leb-true, leb-false}
+use borrow.Rule.Slice.PartMut.{putMid}
+use Rattle.fields.proofs.Fields.{tail-part}
+use Rattle.forest.specs.Forest.{Node, nodeOf}
+use Rattle.validate.specs.Errors.{Err, err, errAt, unless, width, wordsOf, stored, Stores}
+
+-- there is room for an error, or none
+room : {P : Type 0} (xs : List ℕ) → (3 ≤ length xs → P) → (length xs < 3 → P) → P
+room {P} xs fits full = go (leb 3 (length xs)) refl
+  where
+    go : (b : Bool) → leb 3 (length xs) ≡ b → P
+    go true e = fits (leb-true 3 (length xs) e)
+    go false e = full (leb-false 3 (length xs) e)
+
+-- storing one error and then others
+module _ (e : Err) (es : List Err) (xs : List ℕ) where
+  stored-fits : 3 ≤ length xs → stored (e ∷ es) xs ≡ wordsOf e ++ stored es (drop 3 xs)
+  unfolding stored
+  stored-fits h = rw (le-leb 3 (length xs) h) refl
+
+  stored-full : length xs < 3 → stored (e ∷ es) xs ≡ xs
+  unfolding stored
+  stored-full h = rw (lt-leb 3 (length xs) h) refl
+
+-- LAW: nothing is stored of no errors, and no word is added or taken
+pub stored-none : (xs : List ℕ) → stored [] xs ≡ xs
+unfolding stored
+stored-none xs = refl
+
+pub stored-length : (es : List Err) (xs : List ℕ) → length (stored es xs) ≡ length xs
+stored-length [] xs = ap length (stored-none xs)
+stored-length (e ∷ es) xs =
+    room xs
+    (λ h. ap length (stored-fits e es xs h) ∙ (let n = stored-length es (drop 3 xs) in omega (arith, n, length-drop 3 xs)))
+    (λ h. ap length (stored-full e es xs h))
+
+stored-nil : (es : List Err) → stored es [] ≡ []
+unfolding stored
+stored-nil [] = refl
+stored-nil (e ∷ es) = refl
+
+-- LAW: where the first errors are stored, the next begin at the first free word, or at the end
+pub stored-append : (es fs : List Err) (xs : List ℕ) →
+    stored (es ++ fs) xs ≡ take (min (width * length es) (length xs)) (stored es xs) ++ stored fs (drop (min (width * length es) (length xs)) (stored es xs))
+stored-append [] fs xs = let z : min 0 (length xs) ≡ 0 = omega arith in rw (z, stored-none xs) refl
+stored-append (e ∷ es) fs xs =
+    room xs
+    (λ h.
+    let m : min (3 * suc (length es)) (length xs) ≡ suc (suc (suc (min (3 * length es) (length (drop 3 xs))))) = omega (arith, length-drop 3 xs) in
+    rw (stored-fits e (es ++ fs) xs h, stored-fits e es xs h, m, stored-append es fs (drop 3 xs)) refl)
+    (λ h.
+    let m : min (3 * suc (length es)) (length xs) ≡ length xs = omega arith in
+    rw (stored-full e (es ++ fs) xs h, stored-full e es xs h, m, take-length xs, drop-length xs, stored-nil fs, append-nil xs) refl)
+
+-- what is put back behind the words that a check was not lent
+put-tail : (a : ℕ) (s ys : List ℕ) → putMid a (length s - a) s ys ≡ take a s ++ ys
+put-tail a s ys = simp (drop-of-length-le (drop a s) {i = length s - a} (simp length-drop (omega arith)), append-nil)
+
+-- LAW: a check that finds nothing leaves every word
+pub stores-none : (xs : List ℕ) → Stores [] xs 0 xs
+stores-none xs = record { count = refl; words = sym (stored-none xs) }
+
+-- LAW: two checks, of which the second is lent the words that the first leaves free
+pub stores-both : (es fs : List Err) {xs ys zs : List ℕ} {m n at : ℕ} → Stores es xs m ys → at ≡ min (width * m) (length ys) → Stores fs (take (length ys - at) (drop at ys)) n zs
+    → Stores (es ++ fs) xs (m + n) (putMid at (length ys - at) ys zs)
+stores-both es fs {xs} {ys} {zs} {m} {n} {at} s at-is q =
+    let a : at ≡ min (width * length es) (length xs) = omega (arith, s .count, stored-length es xs, ap length (s .words)) in
+    let z : zs ≡ stored fs (drop at ys) = q .words ∙ ap (stored fs) (tail-part at ys) in
+    record {
+      count = omega (arith, s .count, q .count, length-append es fs);
+      words = put-tail at ys zs ∙ rw (z, s .words, a) (sym (stored-append es fs xs));
+    }
+
+-- three words at the front
+three : (xs : List ℕ) (a b c : ℕ) → 3 ≤ length xs → set (set (set xs 0 a) 1 b) 2 c ≡ a ∷ b ∷ c ∷ drop 3 xs
+three [] a b c h = absurd (omega arith)
+three (x ∷ []) a b c h = absurd (omega arith)
+three (x ∷ y ∷ []) a b c h = absurd (omega arith)
+three (x ∷ y ∷ z ∷ xs) a b c h = refl
+
+-- LAW: one error is three words where they fit, and none else
+module _ (xs : List ℕ) (a b c : ℕ) where
+  pub push-fits : 3 ≤ length xs → Stores (err a b c ∷ []) xs 1 (set (set (set xs 0 a) 1 b) 2 c)
+  push-fits h = record { count = refl; words = three xs a b c h ∙ sym (stored-fits (err a b c) [] xs h ∙ ap (λ (l : List ℕ). wordsOf (err a b c) ++ l) (stored-none (drop 3 xs))) }
+
+  pub push-full : length xs < 3 → Stores (err a b c ∷ []) xs 1 xs
+  push-full h = record { count = refl; words = sym (stored-full (err a b c) [] xs h) }
+
+-- LAW: an error at a record has the record's span
+pub push-spanned : (n : ℕ) (t : List ℕ) {b e m : ℕ} {xs ys : List ℕ} → b ≡ nodeOf 0 t .begin → e ≡ nodeOf 0 t .stop → Stores (err n b e ∷ []) xs m ys → Stores (errAt n (nodeOf 0 t) ∷ []) xs m ys
+push-spanned n t b-is e-is s = rw (← b-is, ← e-is) s
+
+-- LAW: an error unless something is permitted
+module _ (r : Node) (n : ℕ) {b : Bool} {xs : List ℕ} where
+  pub unless-permitted : b ≡ true → Stores (unless b n r) xs 0 xs
+  unless-permitted h = rw h (stores-none xs)
+
+  pub unless-not : {ys : List ℕ} {m : ℕ} → b ≡ false → Stores (errAt n r ∷ []) xs m ys → Stores (unless b n r) xs m ys
+  unless-not h s = rw h s
+
+pub unless-one : (b : Bool) (n : ℕ) (r : Node) {xs ys : List ℕ} {m : ℕ} → Stores (unless b n r) xs m ys → m ≤ 1
+unless-one true n r s = omega (arith, s .count)
+unless-one false n r s = omega (arith, s .count)
+
+-- where a record stands does not matter to its errors
+pub unless-at : (b : Bool) (n i : ℕ) (t : List ℕ) → unless b n (nodeOf i t) ≡ unless b n (nodeOf 0 t)
+unless-at true n i t = refl
+unless-at false n i t = refl

@@ -1,0 +1,18 @@
+-- `validate::errors::push` meets its contract: three words where they fit. Assumes nothing.
+use lib.ListN.{length-set}
+use native.Mathlib.Omega.{arith}
+use Rattle.validate.proofs.Storing.{push-fits, push-full}
+use borrow.Author.Needs.{needs}
+use Rattle.validate.proofs.errors.push.Statement.{statement}
+use Rattle.validate.proofs.errors.push.Tie as tie
+
+pub push-spec : {M : Type 1} → statement M
+push-spec =
+    tie.close
+    (tie.spec
+    (λ c. search needs)
+    (λ c. simp length-set (omega arith))
+    (λ c. search needs)
+    (λ c. search needs)
+    (λ c. push-fits _ _ _ _ (c .if1 .taken))
+    (λ c. push-full _ _ _ _ (c .if1 .left)))

@@ -1,0 +1,21 @@
+-- `validate::statements::load_errors` meets its contract: 58, then 59. Assumes nothing.
+use native.Mathlib.Omega.{arith}
+use Rattle.validate.proofs.Storing.{stores-both, unless-one}
+use borrow.Author.Needs.{needs}
+use Rattle.validate.proofs.statements.load_errors.Statement.{statement}
+use Rattle.validate.proofs.statements.load_errors.Tie as tie
+
+pub load-errors-spec : {M : Type 1} → statement M
+load-errors-spec =
+    tie.close
+    (tie.spec
+    (λ c κs. search needs)
+    (λ c κs. search needs)
+    (λ c. search needs)
+    (λ c. search needs)
+    (λ c. search needs)
+    (λ c. search needs)
+    (λ c κs. search needs)
+    (λ c. omega (arith, unless-one (c .before .before .before .before .before .before .before .before .before .before .before .args .top-level) _ _ (c .before .before .before .before .before .before .before .push-unless .ensures), unless-one (c .before .before .before .before .before .before .before .before .before .before .before .args .d .«enable_load») _ _ (c .before .before .push-unless2 .ensures)))
+    (λ c. search needs)
+    (λ c. stores-both _ _ (c .before .before .before .before .before .before .before .push-unless .ensures) (c .before .before .before .before .free .ensures) (c .before .before .push-unless2 .ensures)))

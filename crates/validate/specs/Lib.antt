@@ -1,0 +1,5 @@
+pub mod Errors
+pub mod Params
+pub mod Inner
+pub mod Module
+pub mod Job

@@ -1,0 +1,60 @@
+-- The parameters of a def or lambda in the module pass: validate_params of src/syntax/validate.rs. These are definitions.
+-- Copyright 2018 The Starlark in Rust Authors. Copyright (c) Facebook, Inc. and its affiliates. Licensed under Apache-2.0; changed.
+use mathlib.Core.Bool.{Bool, true, false}
+use mathlib.Core.List.{List, [], _∷_, _++_}
+use Prim.Native.Nat.{ℕ}
+use Rattle.fields.specs.Choice.{if'}
+use Rattle.dialect.specs.declared.Dialect.{Dialect}
+use Rattle.forest.specs.Forest.{Node, Forest}
+use Rattle.table.specs.Numbers.{starNotPermitted, slashNotPermitted}
+use Rattle.unpack.specs.Written.{Param, nodeIn, kindIn, paramsIn}
+use Rattle.unpack.specs.Unpack.{isSlash, Outcome, accepted, refused, internal, unpack}
+use Rattle.unpack.specs.Told.{internalError}
+use Rattle.unpack.specs.declared.Kind.{Kind}
+use Rattle.unpack.specs.declared.Kind.the-variants.{Normal, NoArgs, Slash, Args, KwArgs}
+use Rattle.validate.specs.Errors.{Err, errAt, unless}
+use Rattle.validate.specs.declared.Mark.{Mark}
+use Rattle.validate.specs.declared.Mark.the-variants.{Star, Slash as SlashMark}
+
+-- which parameters are a mark: the bare `*`, or `/`
+abbrev pub isNoArgs : Kind → Bool
+isNoArgs (Normal default) = false
+isNoArgs NoArgs = true
+isNoArgs Slash = false
+isNoArgs Args = false
+isNoArgs KwArgs = false
+
+abbrev pub isMark : Mark → Kind → Bool
+isMark Star k = isNoArgs k
+isMark SlashMark k = isSlash k
+
+-- the switch of a mark, and the number where it is off
+abbrev pub permits : Dialect → Mark → Bool
+permits d Star = d .«enable_keyword_only_arguments»
+permits d SlashMark = d .«enable_positional_only_arguments»
+
+abbrev pub notPermitted : Mark → ℕ
+notPermitted Star = starNotPermitted
+notPermitted SlashMark = slashNotPermitted
+
+-- an error at every mark of a sort, and none where the dialect permits it
+unfoldable pub everyMark : Mark → List Param → List Err
+everyMark m [] = []
+everyMark m (p ∷ ps) = if' (isMark m (kindIn p)) (λ _. errAt (notPermitted m) (nodeIn p) ∷ everyMark m ps) (λ _. everyMark m ps)
+
+abbrev pub marks : Dialect → Mark → List Param → List Err
+marks d m ps = if' (permits d m) (λ _. []) (λ _. everyMark m ps)
+
+-- unpack's one error; that none is internal is a theorem
+abbrev pub unpackError : Outcome → List Err
+unpackError (accepted c) = []
+unpackError (refused n r) = errAt n r ∷ []
+unpackError (internal e r) = errAt internalError r ∷ []
+
+-- every 50, then every 51, then unpack's one error
+unfoldable pub «validate_params» : Dialect → List Param → List Err
+«validate_params» d ps = (marks d Star ps ++ marks d SlashMark ps) ++ unpackError (unpack ps)
+
+-- what may not be in this dialect, then its parameters, which stand first among its children
+unfoldable pub withParams : Dialect → List ℕ → Bool → ℕ → Node → Forest → List Err
+withParams d names permitted n r ks = unless permitted n r ++ «validate_params» d (paramsIn names ks)

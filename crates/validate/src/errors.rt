@@ -1,0 +1,45 @@
+// The lent list of words: storing an error where it fits whole, and where the words begin that are still free.
+ghost use mathlib.Core.Path.{_≡_};
+ghost use mathlib.Core.List.{[], _∷_};
+ghost use Prim.Native.Nat.{_*_, min};
+ghost use Rattle.forest.specs.Forest.{nodeOf};
+ghost use Rattle.validate.specs.Errors.{err, errAt, unless, width, Stores};
+
+// One error: stored where there is room for it, and counted in any case. Here alone an error becomes words.
+pub(crate) fn push(number: u32, begin: u32, end: u32, errors: &mut [u32]) -> usize
+    ensures { λ r. ⌜ Stores (err number begin end ∷ []) (now (errors .entry)) r (now (errors .exit)) ⌝ }
+{
+    if 3 <= errors.len() {
+        errors[0] = number;
+        errors[1] = begin;
+        errors[2] = end;
+    }
+    1
+}
+
+// An error at the record that a stretch begins with.
+pub(crate) fn push_at(number: u32, t: &[u8], errors: &mut [u32]) -> usize
+    ensures { λ r. ⌜ Stores (errAt number (nodeOf 0 (now (t .entry))) ∷ []) (now (errors .entry)) r (now (errors .exit)) ⌝ }
+{
+    push(number, forest::begin(t), forest::stop(t), errors)
+}
+
+// The same, unless something is permitted.
+pub(crate) fn push_unless(permitted: bool, number: u32, t: &[u8], errors: &mut [u32]) -> usize
+    ensures { λ r. ⌜ Stores (unless permitted number (nodeOf 0 (now (t .entry)))) (now (errors .entry)) r (now (errors .exit)) ⌝ }
+{
+    if permitted {
+        return 0;
+    }
+    push_at(number, t, errors)
+}
+
+// Where the free words begin after so many errors: behind them, or at the end.
+pub(crate) fn free(len: usize, count: usize) -> usize
+    ensures { λ r. ⌜ r ≡ min (width * count) len ⌝ }
+{
+    if count <= len / 3 {
+        return 3 * count;
+    }
+    len
+}

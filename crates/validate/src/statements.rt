@@ -1,0 +1,163 @@
+// The statement walk of the module pass: which statements may not stand where they are.
+//
+// Ported from src/syntax/validate.rs of starlark_syntax 0.14.2 (validate_module's inner f), and changed: statements are stretches of the node table.
+// Copyright 2018 The Starlark in Rust Authors. Copyright (c) Facebook, Inc. and its affiliates. Licensed under Apache-2.0.
+use crate::errors;
+use crate::params;
+use dialect::Dialect;
+use soundness::kinds;
+use table::numbers;
+ghost use mathlib.Core.Path.{_≡_};
+ghost use Prim.Native.Nat.{_+_, _*_, _≤_};
+ghost use lib.ListN.{length};
+ghost use Rattle.forest.specs.Forest.{nodeOf, treeOf, forest};
+ghost use Rattle.validate.specs.Errors.{Stores};
+ghost use Rattle.validate.specs.Module.{isBanned, isIf, loadErrors, f, «visit_stmt»};
+
+// The statements among the nodes side by side in a stretch whose first record has the index at.
+pub(crate) fn visit_stmt(
+    d: Dialect,
+    names: &[u8],
+    t: &[u8],
+    at: usize,
+    top_level: bool,
+    inside_for: bool,
+    inside_def: bool,
+    errors: &mut [u32],
+) -> usize
+    requires { ⌜ 24 * at + length (now t) ≤ 50400 ⌝ }
+    ensures { λ r. ⌜ Stores («visit_stmt» d (now (names .entry)) «top_level» «inside_for» «inside_def» (forest at (now (t .entry)))) (now (errors .entry)) r (now (errors .exit)) ⌝ }
+{
+    if t.len() < 24 {
+        return 0;
+    }
+    let e = forest::span(t);
+    let first = check_statement(d, names, t, at, top_level, inside_for, inside_def, errors);
+    let free = errors::free(errors.len(), first);
+    let rest = visit_stmt(
+        d,
+        names,
+        &t[e..],
+        at + e / 24,
+        top_level,
+        inside_for,
+        inside_def,
+        &mut errors[free..],
+    );
+    first + rest
+}
+
+// The node that a stretch begins with, if it is a statement: the inner f, arm by arm.
+fn check_statement(
+    d: Dialect,
+    names: &[u8],
+    t: &[u8],
+    at: usize,
+    top_level: bool,
+    inside_for: bool,
+    inside_def: bool,
+    errors: &mut [u32],
+) -> usize
+    requires { ⌜ (24 ≤ length (now t)) × (24 * at + length (now t) ≤ 50400) ⌝ }
+    ensures { λ r. ⌜ Stores (f d (now (names .entry)) «top_level» «inside_for» «inside_def» (treeOf at (now (t .entry)))) (now (errors .entry)) r (now (errors .exit)) ⌝ }
+{
+    if table::class(t) != 1 {
+        return 0;
+    }
+    let kind = forest::kind(t);
+    let e = forest::span(t);
+    if kind == kinds::DEF {
+        let first = params::with_params(
+            d.enable_def,
+            numbers::DEF_NOT_PERMITTED,
+            d,
+            names,
+            t,
+            at,
+            errors,
+        );
+        let free = errors::free(errors.len(), first);
+        let rest = visit_stmt(
+            d,
+            names,
+            &t[24..e],
+            at + 1,
+            false,
+            false,
+            true,
+            &mut errors[free..],
+        );
+        return first + rest;
+    }
+    if kind == kinds::FOR {
+        if is_banned(d, top_level) {
+            return errors::push_at(numbers::TOP_LEVEL_FOR, t, errors);
+        }
+        return visit_stmt(d, names, &t[24..e], at + 1, false, true, inside_def, errors);
+    }
+    if is_if(kind) {
+        if is_banned(d, top_level) {
+            return errors::push_at(numbers::TOP_LEVEL_IF, t, errors);
+        }
+        return visit_stmt(
+            d,
+            names,
+            &t[24..e],
+            at + 1,
+            false,
+            inside_for,
+            inside_def,
+            errors,
+        );
+    }
+    if (kind == kinds::BREAK) & !inside_for {
+        return errors::push_at(numbers::BREAK_MISPLACED, t, errors);
+    }
+    if (kind == kinds::CONTINUE) & !inside_for {
+        return errors::push_at(numbers::CONTINUE_MISPLACED, t, errors);
+    }
+    if (kind == kinds::RETURN) & !inside_def {
+        return errors::push_at(numbers::RETURN_MISPLACED, t, errors);
+    }
+    if kind == kinds::LOAD {
+        return load_errors(d, top_level, t, errors);
+    }
+    visit_stmt(
+        d,
+        names,
+        &t[24..e],
+        at + 1,
+        top_level,
+        inside_for,
+        inside_def,
+        errors,
+    )
+}
+
+// Whether a for or if may not stand here: at the top level, where the dialect does not permit it.
+fn is_banned(d: Dialect, top_level: bool) -> bool
+    ensures { λ r. ⌜ r ≡ isBanned d «top_level» ⌝ }
+{
+    top_level & !d.enable_top_level_stmt
+}
+
+fn is_if(kind: u8) -> bool
+    ensures { λ r. ⌜ r ≡ isIf kind ⌝ }
+{
+    (kind == kinds::IF) | (kind == kinds::IF_ELSE)
+}
+
+// A load that is not at the top, and then one that the dialect does not permit.
+fn load_errors(d: Dialect, top_level: bool, t: &[u8], errors: &mut [u32]) -> usize
+    ensures { λ r. ⌜ Stores (loadErrors d «top_level» (nodeOf 0 (now (t .entry)))) (now (errors .entry)) r (now (errors .exit)) ⌝ }
+{
+    let first = errors::push_unless(top_level, numbers::LOAD_NOT_AT_TOP, t, errors);
+    let free = errors::free(errors.len(), first);
+    let rest = errors::push_unless(
+        d.enable_load,
+        numbers::LOAD_NOT_PERMITTED,
+        t,
+        &mut errors[free..],
+    );
+    first + rest
+}
