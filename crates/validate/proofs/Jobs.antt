@@ -2,7 +2,7 @@
 use mathlib.Core.Path.{_≡_, refl, sym, ap, _∙_}
 use mathlib.Core.Bool.{true, false}
 use mathlib.Core.List.{List, [], _∷_}
-use Prim.Native.Nat.{ℕ, _+_, _-_, _*_, _/_, _<_, _≤_, min}
+use Prim.Native.Nat.{ℕ, _+_, _-_, _*_, _≤_, min}
 use native.Mathlib.Omega.{arith}
 use lib.ListN.{length, take, drop}
 use borrow.Rule.Slice.PartMut.{putMid}
@@ -13,18 +13,17 @@ use Rattle.dialect.specs.declared.Decoded.the-variants.{Valid, Invalid}
 use Rattle.forest.specs.Forest.{forest, count}
 use Rattle.forest.proofs.Stretch.{count-forest}
 use Rattle.table.specs.Numbers.{badDialect}
-use Rattle.table.specs.Answer.{Answer, accepted, refused, andThen, refusal, checked}
+use Rattle.table.specs.Answer.{Answer, accepted, refused, refusal, checked}
 use Rattle.table.specs.Check.{checkOf}
 use Rattle.table.specs.declared.Refusal.{Refusal}
 use Rattle.table.specs.declared.Refusal.the-variants.{Bare, Placed, Spanned}
 use Rattle.table.specs.declared.Checked.{Checked}
 use Rattle.table.specs.declared.Checked.the-variants.{Sound, Refused}
-use Rattle.table.proofs.Checking.{Clean}
 use Rattle.table.proofs.Handed.{passed}
-use Rattle.validate.specs.Errors.{Err, width, stored, Stores}
+use Rattle.errors.specs.Errors.{width, Stores}
 use Rattle.validate.specs.Module.{«visit_stmt», «visit_expr», «validate_module»}
 use Rattle.validate.specs.Job.{moduleCheck, errorsOf, moduleOf, errorsAfter}
-use Rattle.validate.proofs.Storing.{stored-none, stores-both}
+use Rattle.errors.proofs.Storing.{stored-none, stores-both}
 use Rattle.validate.proofs.Bounds.{module-few}
 
 -- statements, then expressions

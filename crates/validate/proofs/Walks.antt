@@ -1,27 +1,26 @@
 -- Laws of the two walks over a stretch, in the terms of code: one for each return. Assumes nothing.
-use mathlib.Core.Path.{_≡_, refl, sym, ap, _∙_}
+use mathlib.Core.Path.{_≡_, refl, _∙_}
 use mathlib.Core.Bool.{Bool, true, false, _&&_, not}
 use mathlib.Core.List.{List, [], _∷_, _++_}
-use Prim.Native.Nat.{ℕ, zero, suc, _+_, _-_, _*_, _/_, _<_, _≤_, min}
+use Prim.Native.Nat.{ℕ, _+_, _-_, _*_, _/_, _<_, _≤_, min}
 use native.Mathlib.Omega.{arith}
 use lib.Dec.{eqb}
 use lib.ListN.{length, take, drop, length-take, length-drop}
 use borrow.Author.Tests.{eq-eqb, ne-eqb}
 use borrow.Rule.Slice.PartMut.{putMid}
-use Rattle.fields.specs.Choice.{if'}
 use Rattle.dialect.specs.declared.Dialect.{Dialect}
 use Rattle.dialect.specs.Rows.{permitsTypes}
-use Rattle.forest.specs.Forest.{Node, nodeOf, spanOf, kidsOf, Tree, node, Forest, none, _then_, forest, treeOf}
+use Rattle.forest.specs.Forest.{nodeOf, spanOf, kidsOf, node, Forest, none, forest, treeOf}
 use Rattle.forest.proofs.Stretch.{forest-none, kids-part, length-kids, each-cut}
 use Rattle.soundness.specs.Kinds.{statement, classOf}
 use Rattle.table.specs.Numbers.{defNotPermitted, topLevelFor, topLevelIf, breakMisplaced, continueMisplaced, returnMisplaced, loadNotAtTop, loadNotPermitted, ellipsisNotPermitted, lambdaNotPermitted}
-use Rattle.unpack.specs.Written.{written}
 use Rattle.unpack.proofs.Theorems.{list-short}
-use Rattle.validate.specs.Errors.{Err, errAt, unless, width, stored, Stores}
-use Rattle.validate.specs.Params.{«validate_params», withParams}
-use Rattle.validate.specs.Module.{defErrors, isBanned, isIf, loadErrors, arms, f, «visit_stmt», exprErrors, expr, «visit_expr», «validate_module»}
-use Rattle.validate.proofs.Storing.{stores-none, stores-both, unless-at}
-use Rattle.validate.proofs.Bounds.{visits-few, f-few, own-short, with-few}
+use Rattle.errors.specs.Errors.{Err, errAt, unless, width, Stores}
+use Rattle.errors.specs.Params.{withParams}
+use Rattle.validate.specs.Module.{defErrors, isBanned, isIf, loadErrors, arms, f, «visit_stmt», exprErrors, expr, «visit_expr»}
+use Rattle.errors.proofs.Storing.{stores-none, stores-both, unless-at}
+use Rattle.errors.proofs.Few.{with-few}
+use Rattle.validate.proofs.Bounds.{visits-few, f-few, own-short}
 
 -- a part of a stretch is no longer
 part-short : (a n : ℕ) (t : List ℕ) → length (take n (drop a t)) ≤ length t
@@ -192,9 +191,3 @@ module _ (d : Dialect) (names : List ℕ) (i : ℕ) (t : List ℕ) {xs : List �
   expr-on big {e} e-is own k-is kids m-is rest =
       let cut = each-cut (λ ts. «visit_expr» d names ts) i e t (λ u. expr d names u) (λ es fs. es ++ fs) (λ u us. refl) big e-is in
       rw cut (stores-both _ _ (stores-both _ _ own k-is (rw (kids-part e t e-is) at kids)) m-is rest)
-
--- what a parameter list's node is told
-pub with-all : (d : Dialect) (names : List ℕ) (i : ℕ) (t : List ℕ) (b : Bool) (n : ℕ) {xs ys zs : List ℕ} {m l at : ℕ} → Stores (unless b n (nodeOf 0 t)) xs m ys → at ≡ min (width * m) (length ys)
-    → Stores («validate_params» d (written names i t)) (take (length ys - at) (drop at ys)) l zs → Stores (withParams d names b n (nodeOf i t) (children i t)) xs (m + l) (putMid at (length ys - at) ys zs)
-unfolding withParams written
-with-all d names i t b n s at-is q = rw (unless-at b n i t) (stores-both _ _ s at-is q)

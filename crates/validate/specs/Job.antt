@@ -9,7 +9,7 @@ use Rattle.forest.specs.Forest.{forest}
 use Rattle.table.specs.Numbers.{badDialect}
 use Rattle.table.specs.Answer.{Answer, accepted, refused, andThen, refusal}
 use Rattle.table.specs.Check.{checkOf}
-use Rattle.validate.specs.Errors.{Err, stored}
+use Rattle.errors.specs.Errors.{Err, stored}
 use Rattle.validate.specs.Module.{«validate_module»}
 use Rattle.validate.specs.declared.Listed.{Listed}
 use Rattle.validate.specs.declared.Listed.the-variants.{Total, Refused}

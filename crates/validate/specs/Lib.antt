@@ -1,5 +1,2 @@
-pub mod Errors
-pub mod Params
-pub mod Inner
 pub mod Module
 pub mod Job

@@ -2,16 +2,14 @@
 //
 // Ported from src/syntax/validate.rs of starlark_syntax 0.14.2 (validate_module's inner expr), and changed: expressions are stretches of the node table.
 // Copyright 2018 The Starlark in Rust Authors. Copyright (c) Facebook, Inc. and its affiliates. Licensed under Apache-2.0.
-use crate::errors;
-use crate::params;
 use dialect::Dialect;
+use errors::params;
 use soundness::kinds;
 use table::numbers;
-ghost use mathlib.Core.Path.{_≡_};
 ghost use Prim.Native.Nat.{_+_, _*_, _≤_};
 ghost use lib.ListN.{length};
 ghost use Rattle.forest.specs.Forest.{nodeOf, kidsOf, forest};
-ghost use Rattle.validate.specs.Errors.{Stores};
+ghost use Rattle.errors.specs.Errors.{Stores};
 ghost use Rattle.validate.specs.Module.{exprErrors, «visit_expr»};
 
 // The expressions of a stretch whose first record has the index at: the first record's own, those below it, those after it.
@@ -49,7 +47,7 @@ fn expression(d: Dialect, names: &[u8], t: &[u8], at: usize, errors: &mut [u32])
             d,
             names,
             t,
-            at,
+            at as u32,
             errors,
         );
     }

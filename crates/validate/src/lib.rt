@@ -2,9 +2,7 @@
 //
 // Ported from src/syntax/validate.rs of starlark_syntax 0.14.2 (validate_module), and changed: a module is a node table, and errors go into a lent list.
 // Copyright 2018 The Starlark in Rust Authors. Copyright (c) Facebook, Inc. and its affiliates. Licensed under Apache-2.0.
-mod errors;
 mod expressions;
-mod params;
 mod statements;
 
 use dialect::Decoded;
@@ -16,7 +14,7 @@ ghost use mathlib.Core.Path.{_≡_};
 ghost use Prim.Native.Nat.{_≤_};
 ghost use lib.ListN.{length};
 ghost use Rattle.forest.specs.Forest.{forest};
-ghost use Rattle.validate.specs.Errors.{Stores};
+ghost use Rattle.errors.specs.Errors.{Stores};
 ghost use Rattle.validate.specs.Module.{«validate_module»};
 ghost use Rattle.validate.specs.Job.{listed, moduleOf, errorsAfter};
 
@@ -24,12 +22,6 @@ ghost use Rattle.validate.specs.Job.{listed, moduleOf, errorsAfter};
 pub enum Listed {
     Total(u32),
     Refused(Refusal),
-}
-
-// A mark in a parameter list that a dialect may not permit.
-pub enum Mark {
-    Star, // the bare `*`
-    Slash,
 }
 
 // The module job. A list that is too short for all errors holds the first that fit whole, and is no refusal.

@@ -2,16 +2,15 @@
 //
 // Ported from src/syntax/validate.rs of starlark_syntax 0.14.2 (validate_module's inner f), and changed: statements are stretches of the node table.
 // Copyright 2018 The Starlark in Rust Authors. Copyright (c) Facebook, Inc. and its affiliates. Licensed under Apache-2.0.
-use crate::errors;
-use crate::params;
 use dialect::Dialect;
+use errors::params;
 use soundness::kinds;
 use table::numbers;
 ghost use mathlib.Core.Path.{_≡_};
 ghost use Prim.Native.Nat.{_+_, _*_, _≤_};
 ghost use lib.ListN.{length};
 ghost use Rattle.forest.specs.Forest.{nodeOf, treeOf, forest};
-ghost use Rattle.validate.specs.Errors.{Stores};
+ghost use Rattle.errors.specs.Errors.{Stores};
 ghost use Rattle.validate.specs.Module.{isBanned, isIf, loadErrors, f, «visit_stmt»};
 
 // The statements among the nodes side by side in a stretch whose first record has the index at.
@@ -73,7 +72,7 @@ fn check_statement(
             d,
             names,
             t,
-            at,
+            at as u32,
             errors,
         );
         let free = errors::free(errors.len(), first);

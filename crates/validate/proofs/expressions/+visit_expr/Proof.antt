@@ -11,7 +11,7 @@ use Rattle.validate.proofs.expressions.visit_expr.Reads as visit-expr
 use Rattle.validate.proofs.expressions.visit_expr.Kinds as visit-expr-kinds
 use Rattle.validate.proofs.expressions.+visit_expr.Lts-visit_expr as visit-expr-lts
 use Rattle.forest.proofs.span.Reads as span-reads
-use Rattle.validate.proofs.errors.free.Reads as free-reads
+use Rattle.errors.proofs.free.Reads as free-reads
 use Rattle.validate.proofs.expressions.expression.Reads as expression-reads
 use Rattle.validate.proofs.expressions.+visit_expr.{statement}
 use Rattle.validate.proofs.expressions.+visit_expr.Tie.{close}

@@ -13,6 +13,7 @@ expression-spec =
     (λ c κs. search needs)
     (λ c. search needs)
     (λ c. own-ellipsis _ _ _ (c .before .before .before .before .before .before .before .before .before .before .args .t .now) (c .before .before .before .before .before .before .kind .ensures) (c .before .before .before .before .before .if1 .taken) (c .before .before .before .before .permits-types .ensures) (c .before .before .push-unless .ensures))
+    (λ c. search needs)
     (λ c κs. search needs)
     (λ c. search needs)
     (λ c. own-lambda _ _ _ (c .before .before .before .before .before .before .before .before .before .before .args .t .now) (c .before .before .before .before .before .before .kind .ensures) (c .before .before .before .before .before .if1 .left) (c .before .before .before .before .if2 .taken) (c .before .before .with-params .ensures))

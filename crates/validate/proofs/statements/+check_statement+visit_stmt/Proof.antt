@@ -16,9 +16,9 @@ use Rattle.validate.proofs.statements.+check_statement+visit_stmt.Lts-v
 use Rattle.forest.proofs.kind.Reads as kind-reads
 use Rattle.forest.proofs.span.Reads as span-reads
 use Rattle.table.proofs.class.Reads as class-reads
-use Rattle.validate.proofs.errors.free.Reads as free-reads
-use Rattle.validate.proofs.errors.push_at.Reads as push-at-reads
-use Rattle.validate.proofs.params.with_params.Reads as with-params-reads
+use Rattle.errors.proofs.free.Reads as free-reads
+use Rattle.errors.proofs.push_at.Reads as push-at-reads
+use Rattle.errors.proofs.params.with_params.Reads as with-params-reads
 use Rattle.validate.proofs.statements.is_banned.Reads as is-banned-reads
 use Rattle.validate.proofs.statements.is_if.Reads as is-if-reads
 use Rattle.validate.proofs.statements.load_errors.Reads as load-errors-reads
@@ -85,6 +85,7 @@ pub +check-statement+visit-stmt-spec : {M : Type 1} → statement M
     (λ c. f-none _ _ _ _ _ _ (c .before .before .before .before .before .args .t .now) (c .before .class .ensures) (c .if1 .taken))
     (λ c κs. search needs)
     (λ c κs. search needs)
+    (λ c. search needs)
     (λ c κs. search needs)
     (λ c κs. search needs)
     (λ c. search needs)

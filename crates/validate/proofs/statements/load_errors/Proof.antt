@@ -1,6 +1,6 @@
 -- `validate::statements::load_errors` meets its contract: 58, then 59. Assumes nothing.
 use native.Mathlib.Omega.{arith}
-use Rattle.validate.proofs.Storing.{stores-both, unless-one}
+use Rattle.errors.proofs.Storing.{stores-both, unless-one}
 use borrow.Author.Needs.{needs}
 use Rattle.validate.proofs.statements.load_errors.Statement.{statement}
 use Rattle.validate.proofs.statements.load_errors.Tie as tie

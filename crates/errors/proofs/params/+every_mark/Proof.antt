@@ -1,25 +1,25 @@
--- `validate::params::every_mark` meets its contract: no list, a parameter that is no such mark, or one that is, and then the rest. Assumes nothing.
+-- `errors::params::every_mark` meets its contract: no list, a parameter that is no such mark, or one that is, and then the rest. Assumes nothing.
 use borrow.Author.Needs.{needs}
 use lib.ListN.{length}
 use native.Mathlib.Omega.{arith}
 use borrow.Author.Tests.{not-true, not-false}
 use Rattle.unpack.proofs.Reading.{rest-less}
-use Rattle.validate.proofs.Lists.{every-end, every-other, every-here, every-short}
+use Rattle.errors.proofs.Lists.{every-end, every-other, every-here, every-short}
 use Prim.Native.Nat.{ℕ, _<_}
 use borrow.Fn.Kinds.{In}
 use borrow.Fn.PlainCycle.{Measures, is, falls, and}
-use Rattle.validate.proofs.params.every_mark.Reads as every-mark
-use Rattle.validate.proofs.params.every_mark.Kinds as every-mark-kinds
-use Rattle.validate.proofs.params.+every_mark.Lts-every_mark as every-mark-lts
+use Rattle.errors.proofs.params.every_mark.Reads as every-mark
+use Rattle.errors.proofs.params.every_mark.Kinds as every-mark-kinds
+use Rattle.errors.proofs.params.+every_mark.Lts-every_mark as every-mark-lts
 use Rattle.forest.proofs.span.Reads as span-reads
 use Rattle.unpack.proofs.entry.kind_of.Reads as kind-of-reads
 use Rattle.unpack.proofs.entry.listed.Reads as listed-reads
-use Rattle.validate.proofs.errors.free.Reads as free-reads
-use Rattle.validate.proofs.errors.push_at.Reads as push-at-reads
-use Rattle.validate.proofs.params.is_mark.Reads as is-mark-reads
-use Rattle.validate.proofs.params.number_of.Reads as number-of-reads
-use Rattle.validate.proofs.params.+every_mark.{statement}
-use Rattle.validate.proofs.params.+every_mark.Tie.{close}
+use Rattle.errors.proofs.free.Reads as free-reads
+use Rattle.errors.proofs.push_at.Reads as push-at-reads
+use Rattle.errors.proofs.params.is_mark.Reads as is-mark-reads
+use Rattle.errors.proofs.params.number_of.Reads as number-of-reads
+use Rattle.errors.proofs.params.+every_mark.{statement}
+use Rattle.errors.proofs.params.+every_mark.Tie.{close}
 
 abbrev μ-every-mark : Measures 2 every-mark-kinds.ps ℕ
 μ-every-mark κs a = length (a .1 .0 .now)

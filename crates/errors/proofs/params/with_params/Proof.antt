@@ -1,10 +1,9 @@
--- `validate::params::with_params` meets its contract: what may not be, then the parameters. Assumes nothing.
-use Rattle.validate.proofs.Storing.{unless-one}
-use Rattle.validate.proofs.Lists.{params-short}
-use Rattle.validate.proofs.Walks.{with-all}
+-- `errors::params::with_params` meets its contract: what may not be, then the parameters. Assumes nothing.
+use Rattle.errors.proofs.Storing.{unless-one}
+use Rattle.errors.proofs.Lists.{params-short, with-all}
 use borrow.Author.Needs.{needs}
-use Rattle.validate.proofs.params.with_params.Statement.{statement}
-use Rattle.validate.proofs.params.with_params.Tie as tie
+use Rattle.errors.proofs.params.with_params.Statement.{statement}
+use Rattle.errors.proofs.params.with_params.Tie as tie
 
 pub with-params-spec : {M : Type 1} → statement M
 with-params-spec =

@@ -3,64 +3,59 @@
 // Ported from src/syntax/validate.rs of starlark_syntax 0.14.2 (validate_params), and changed: the list is a stretch of the node table.
 // Copyright 2018 The Starlark in Rust Authors. Copyright (c) Facebook, Inc. and its affiliates. Licensed under Apache-2.0.
 use crate::Mark;
-use crate::errors;
 use dialect::Dialect;
 use table::numbers;
 use unpack::Judged;
 use unpack::Kind;
 use unpack::entry;
 ghost use mathlib.Core.Path.{_≡_};
-ghost use Prim.Native.Nat.{_+_, _*_, _≤_};
-ghost use lib.ListN.{length};
+ghost use Prim.Native.Nat.{_+_};
 ghost use Rattle.forest.specs.Forest.{nodeOf, kidsOf, forest};
 ghost use Rattle.unpack.specs.Written.{written};
 ghost use Rattle.unpack.specs.Unpack.{isSlash, unpack};
-ghost use Rattle.validate.specs.Errors.{Stores};
-ghost use Rattle.validate.specs.Inner.{Anywhere};
-ghost use Rattle.validate.specs.Params.{isNoArgs, isMark, permits, notPermitted, everyMark, marks, unpackError, «validate_params», withParams};
+ghost use Rattle.errors.specs.Errors.{Stores};
+ghost use Rattle.errors.specs.Inner.{Anywhere};
+ghost use Rattle.errors.specs.Params.{isNoArgs, isMark, permits, notPermitted, everyMark, marks, unpackError, «validate_params», withParams};
 
 // What may not be in this dialect, then the parameters of the node that a stretch begins with.
-pub(crate) fn with_params(
+pub fn with_params(
     permitted: bool,
     number: u32,
     d: Dialect,
     names: &[u8],
     t: &[u8],
-    at: usize,
+    at: u32,
     errors: &mut [u32],
 ) -> usize
-    requires { ⌜ (24 ≤ length (now t)) × (24 * at + length (now t) ≤ 50400) ⌝ }
     ensures { λ r. ⌜ Stores (withParams d (now (names .entry)) permitted number (nodeOf at (now (t .entry))) (forest (at + 1) (kidsOf (now (t .entry))))) (now (errors .entry)) r (now (errors .exit)) ⌝ }
 {
-    let first = errors::push_unless(permitted, number, t, errors);
-    let free = errors::free(errors.len(), first);
+    let first = crate::push_unless(permitted, number, t, errors);
+    let free = crate::free(errors.len(), first);
     let rest = validate_params(d, names, t, at, &mut errors[free..]);
     first + rest
 }
 
 // Every `*` and then every `/` that is not permitted, then unpack's one error.
-fn validate_params(d: Dialect, names: &[u8], t: &[u8], at: usize, errors: &mut [u32]) -> usize
-    requires { ⌜ (24 ≤ length (now t)) × (24 * at + length (now t) ≤ 50400) ⌝ }
+fn validate_params(d: Dialect, names: &[u8], t: &[u8], at: u32, errors: &mut [u32]) -> usize
     ensures { λ r. ⌜ Stores («validate_params» d (written (now (names .entry)) at (now (t .entry)))) (now (errors .entry)) r (now (errors .exit)) ⌝ }
 {
     let list = unpack::children(t);
     let stars = marks_of(d, Mark::Star, list, errors);
-    let after_stars = errors::free(errors.len(), stars);
+    let after_stars = crate::free(errors.len(), stars);
     let slashes = marks_of(d, Mark::Slash, list, &mut errors[after_stars..]);
-    let after_marks = errors::free(errors.len(), stars + slashes);
+    let after_marks = crate::free(errors.len(), stars + slashes);
     let last = unpack_error(names, t, at, &mut errors[after_marks..]);
     stars + slashes + last
 }
 
 // unpack's one error, if it has one.
-fn unpack_error(names: &[u8], t: &[u8], at: usize, errors: &mut [u32]) -> usize
-    requires { ⌜ 24 * at + length (now t) ≤ 50400 ⌝ }
+fn unpack_error(names: &[u8], t: &[u8], at: u32, errors: &mut [u32]) -> usize
     ensures { λ r. ⌜ Stores (unpackError (unpack (written (now (names .entry)) at (now (t .entry))))) (now (errors .entry)) r (now (errors .exit)) ⌝ }
 {
-    let judged = unpack::judge(names, t, at as u32);
+    let judged = unpack::judge(names, t, at);
     match judged {
         Judged::Accepted(_) => 0,
-        Judged::Refused(f) => errors::push(f.number, f.begin, f.end, errors),
+        Judged::Refused(f) => crate::push(f.number, f.begin, f.end, errors),
     }
 }
 
@@ -85,8 +80,8 @@ fn every_mark(mark: Mark, list: &[u8], errors: &mut [u32]) -> usize
     if !is_mark(mark, entry::kind_of(list)) {
         return every_mark(mark, &list[e..], errors);
     }
-    let first = errors::push_at(number_of(mark), list, errors);
-    let free = errors::free(errors.len(), first);
+    let first = crate::push_at(number_of(mark), list, errors);
+    let free = crate::free(errors.len(), first);
     let rest = every_mark(mark, &list[e..], &mut errors[free..]);
     first + rest
 }

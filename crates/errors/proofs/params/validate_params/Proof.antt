@@ -1,11 +1,11 @@
--- `validate::params::validate_params` meets its contract: the three checks, each lent what is still free. Assumes nothing.
+-- `errors::params::validate_params` meets its contract: the three checks, each lent what is still free. Assumes nothing.
 use Rattle.unpack.specs.Written.{written}
 use Rattle.unpack.specs.Unpack.{unpack}
-use Rattle.validate.specs.declared.Mark.the-variants.{Star, Slash}
-use Rattle.validate.proofs.Lists.{params-all, marks-short, error-short}
+use Rattle.errors.specs.declared.Mark.the-variants.{Star, Slash}
+use Rattle.errors.proofs.Lists.{params-all, marks-short, error-short}
 use borrow.Author.Needs.{needs}
-use Rattle.validate.proofs.params.validate_params.Statement.{statement}
-use Rattle.validate.proofs.params.validate_params.Tie as tie
+use Rattle.errors.proofs.params.validate_params.Statement.{statement}
+use Rattle.errors.proofs.params.validate_params.Tie as tie
 
 pub validate-params-spec : {M : Type 1} → statement M
 validate-params-spec =

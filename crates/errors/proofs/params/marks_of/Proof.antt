@@ -1,8 +1,8 @@
--- `validate::params::marks_of` meets its contract: nothing, or every mark. Assumes nothing.
-use Rattle.validate.proofs.Lists.{marks-permitted, marks-not}
+-- `errors::params::marks_of` meets its contract: nothing, or every mark. Assumes nothing.
+use Rattle.errors.proofs.Lists.{marks-permitted, marks-not}
 use borrow.Author.Needs.{needs}
-use Rattle.validate.proofs.params.marks_of.Statement.{statement}
-use Rattle.validate.proofs.params.marks_of.Tie as tie
+use Rattle.errors.proofs.params.marks_of.Statement.{statement}
+use Rattle.errors.proofs.params.marks_of.Tie as tie
 
 pub marks-of-spec : {M : Type 1} → statement M
 marks-of-spec =

@@ -1,16 +1,15 @@
--- `validate::params::unpack_error` meets its contract: what unpack says of the list. Assumes nothing.
+-- `errors::params::unpack_error` meets its contract: what unpack says of the list. Assumes nothing.
 use Rattle.unpack.specs.Written.{written}
 use Rattle.unpack.specs.Unpack.{unpack}
-use Rattle.validate.proofs.Lists.{error-none, error-one}
+use Rattle.errors.proofs.Lists.{error-none, error-one}
 use borrow.Author.Needs.{needs}
-use Rattle.validate.proofs.params.unpack_error.Statement.{statement}
-use Rattle.validate.proofs.params.unpack_error.Tie as tie
+use Rattle.errors.proofs.params.unpack_error.Statement.{statement}
+use Rattle.errors.proofs.params.unpack_error.Tie as tie
 
 pub unpack-error-spec : {M : Type 1} → statement M
 unpack-error-spec =
     tie.close
     (tie.spec
-    (λ c. search needs)
     (λ c κs. search needs)
     (λ c. search needs)
     (λ c. search needs)

@@ -1,15 +1,15 @@
 -- Laws of the checks of a parameter list, in the terms of code: one for each return. Assumes nothing.
 use mathlib.Core.Path.{_≡_, refl, sym, ap, _∙_}
 use mathlib.Core.Bool.{Bool, true, false}
-use mathlib.Core.List.{List, [], _∷_, _++_}
-use Prim.Native.Nat.{ℕ, zero, suc, _+_, _-_, _*_, _/_, _<_, _≤_, min}
+use mathlib.Core.List.{List, [], _∷_}
+use Prim.Native.Nat.{ℕ, _+_, _-_, _*_, _/_, _≤_, min}
 use native.Mathlib.Omega.{arith}
 use lib.ListN.{length, take, drop, length-take, length-drop}
 use borrow.Rule.Slice.PartMut.{putMid}
 use Rattle.dialect.specs.declared.Dialect.{Dialect}
-use Rattle.forest.specs.Forest.{Node, nodeOf, spanOf, kidsOf, forest}
+use Rattle.forest.specs.Forest.{nodeOf, spanOf, kidsOf, forest}
 use Rattle.forest.proofs.Stretch.{length-kids}
-use Rattle.unpack.specs.Written.{Param, nodeIn, kindIn, paramOf, paramsIn, written}
+use Rattle.unpack.specs.Written.{paramsIn, written}
 use Rattle.unpack.specs.Unpack.{Outcome, accepted, refused, internal, unpack}
 use Rattle.unpack.specs.Told.{told}
 use Rattle.unpack.specs.Reading.{isListed, kindHere}
@@ -20,13 +20,13 @@ use Rattle.unpack.specs.declared.Judged.{Judged}
 use Rattle.unpack.specs.declared.Judged.the-variants.{Accepted, Refused}
 use Rattle.unpack.proofs.Reading.{node-in, kind-in, list-end, list-on}
 use Rattle.unpack.proofs.Theorems.{list-short, written-short}
-use Rattle.validate.specs.Errors.{Err, err, errAt, unless, width, stored, Stores}
-use Rattle.validate.specs.Params.{isMark, permits, notPermitted, everyMark, marks, unpackError, «validate_params», withParams}
-use Rattle.validate.specs.Inner.{Anywhere}
-use Rattle.validate.specs.declared.Mark.{Mark}
-use Rattle.validate.specs.declared.Mark.the-variants.{Star, Slash as SlashMark}
-use Rattle.validate.proofs.Storing.{stores-none, stores-both}
-use Rattle.validate.proofs.Bounds.{every-few, marks-few, unpack-few, params-few}
+use Rattle.errors.specs.Errors.{err, errAt, unless, width, Stores}
+use Rattle.errors.specs.Params.{withParams, isMark, permits, notPermitted, everyMark, marks, unpackError, «validate_params»}
+use Rattle.errors.specs.Inner.{Anywhere}
+use Rattle.errors.specs.declared.Mark.{Mark}
+use Rattle.errors.specs.declared.Mark.the-variants.{Star, Slash as SlashMark}
+use Rattle.errors.proofs.Storing.{stores-none, stores-both, unless-at}
+use Rattle.errors.proofs.Few.{every-few, marks-few, unpack-few, params-few}
 
 -- every mark of a sort in a list that begins a stretch
 module _ (m : Mark) (t xs : List ℕ) {l : Bool} (l-is : l ≡ isListed t) where
@@ -101,3 +101,9 @@ pub params-all : (d : Dialect) (names t : List ℕ) (i : ℕ) {list xs ys zs vs 
     → Stores («validate_params» d (written names i t)) xs (a + b + c) (putMid m (length (putMid k (length ys - k) ys zs) - m) (putMid k (length ys - k) ys zs) vs)
 unfolding «validate_params» written
 params-all d names t i list-is stars k-is slashes m-is last = stores-both _ _ (stores-both _ _ (rw list-is at (stars names (i + 1))) k-is (rw list-is at (slashes names (i + 1)))) m-is last
+
+-- what a parameter list's node is told
+pub with-all : (d : Dialect) (names : List ℕ) (i : ℕ) (t : List ℕ) (b : Bool) (n : ℕ) {xs ys zs : List ℕ} {m l at : ℕ} → Stores (unless b n (nodeOf 0 t)) xs m ys → at ≡ min (width * m) (length ys)
+    → Stores («validate_params» d (written names i t)) (take (length ys - at) (drop at ys)) l zs → Stores (withParams d names b n (nodeOf i t) (forest (i + 1) (kidsOf t))) xs (m + l) (putMid at (length ys - at) ys zs)
+unfolding withParams written
+with-all d names i t b n s at-is q = rw (unless-at b n i t) (stores-both _ _ s at-is q)

@@ -2,7 +2,7 @@
 use mathlib.Core.Path.{_≡_, refl, sym, ap, _∙_}
 use mathlib.Core.Bool.{Bool, true, false}
 use mathlib.Core.List.{List, [], _∷_, _++_, append-nil}
-use Prim.Native.Nat.{ℕ, zero, suc, _+_, _*_, _-_, _<_, _≤_, min}
+use Prim.Native.Nat.{ℕ, suc, _+_, _*_, _-_, _<_, _≤_, min}
 use native.Mathlib.Omega.{arith}
 use lib.Dec.{leb}
 use lib.ListN.{length, take, drop, set, length-drop, length-append, drop-of-length-le}
@@ -11,7 +11,7 @@ use borrow.Author.Tests.{le-leb, lt-leb, leb-true, leb-false}
 use borrow.Rule.Slice.PartMut.{putMid}
 use Rattle.fields.proofs.Fields.{tail-part}
 use Rattle.forest.specs.Forest.{Node, nodeOf}
-use Rattle.validate.specs.Errors.{Err, err, errAt, unless, width, wordsOf, stored, Stores}
+use Rattle.errors.specs.Errors.{Err, err, errAt, unless, width, wordsOf, stored, Stores}
 
 -- there is room for an error, or none
 room : {P : Type 0} (xs : List ℕ) → (3 ≤ length xs → P) → (length xs < 3 → P) → P

@@ -1,8 +1,8 @@
--- `validate::errors::push_at` meets its contract: the span of the record. Assumes nothing.
-use Rattle.validate.proofs.Storing.{push-spanned}
+-- `errors::push_at` meets its contract: the span of the record. Assumes nothing.
+use Rattle.errors.proofs.Storing.{push-spanned}
 use borrow.Author.Needs.{needs}
-use Rattle.validate.proofs.errors.push_at.Statement.{statement}
-use Rattle.validate.proofs.errors.push_at.Tie as tie
+use Rattle.errors.proofs.push_at.Statement.{statement}
+use Rattle.errors.proofs.push_at.Tie as tie
 
 pub push-at-spec : {M : Type 1} → statement M
 push-at-spec = tie.close (tie.spec (λ c κs. search needs) (λ c κs. search needs) (λ c κs. search needs) (λ c. search needs) (λ c. push-spanned _ _ (c .before .before .before .before .before .begin .ensures) (c .before .before .before .before .stop .ensures) (c .before .before .push .ensures)))

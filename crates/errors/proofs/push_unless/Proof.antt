@@ -1,8 +1,8 @@
--- `validate::errors::push_unless` meets its contract: nothing, or the error. Assumes nothing.
-use Rattle.validate.proofs.Storing.{unless-permitted, unless-not}
+-- `errors::push_unless` meets its contract: nothing, or the error. Assumes nothing.
+use Rattle.errors.proofs.Storing.{unless-permitted, unless-not}
 use borrow.Author.Needs.{needs}
-use Rattle.validate.proofs.errors.push_unless.Statement.{statement}
-use Rattle.validate.proofs.errors.push_unless.Tie as tie
+use Rattle.errors.proofs.push_unless.Statement.{statement}
+use Rattle.errors.proofs.push_unless.Tie as tie
 
 pub push-unless-spec : {M : Type 1} → statement M
 push-unless-spec = tie.close (tie.spec (λ c. unless-permitted _ _ (c .if1 .taken)) (λ c κs. search needs) (λ c. search needs) (λ c. unless-not _ _ (c .before .before .before .before .if1 .left) (c .before .before .push-at .ensures)))

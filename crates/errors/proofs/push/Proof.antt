@@ -1,10 +1,10 @@
--- `validate::errors::push` meets its contract: three words where they fit. Assumes nothing.
+-- `errors::push` meets its contract: three words where they fit. Assumes nothing.
 use lib.ListN.{length-set}
 use native.Mathlib.Omega.{arith}
-use Rattle.validate.proofs.Storing.{push-fits, push-full}
+use Rattle.errors.proofs.Storing.{push-fits, push-full}
 use borrow.Author.Needs.{needs}
-use Rattle.validate.proofs.errors.push.Statement.{statement}
-use Rattle.validate.proofs.errors.push.Tie as tie
+use Rattle.errors.proofs.push.Statement.{statement}
+use Rattle.errors.proofs.push.Tie as tie
 
 pub push-spec : {M : Type 1} → statement M
 push-spec =

@@ -1,9 +1,18 @@
-// The lent list of words: storing an error where it fits whole, and where the words begin that are still free.
+// Errors of the module pass in a lent list of words: storing one where it fits whole, and where the words begin that are still free.
+// A check is lent only the words that are still free, counts all its errors, and stores the first that fit.
+pub mod params;
+
 ghost use mathlib.Core.Path.{_≡_};
 ghost use mathlib.Core.List.{[], _∷_};
 ghost use Prim.Native.Nat.{_*_, min};
 ghost use Rattle.forest.specs.Forest.{nodeOf};
-ghost use Rattle.validate.specs.Errors.{err, errAt, unless, width, Stores};
+ghost use Rattle.errors.specs.Errors.{err, errAt, unless, width, Stores};
+
+// A mark in a parameter list that a dialect may not permit.
+pub enum Mark {
+    Star, // the bare `*`
+    Slash,
+}
 
 // One error: stored where there is room for it, and counted in any case. Here alone an error becomes words.
 pub(crate) fn push(number: u32, begin: u32, end: u32, errors: &mut [u32]) -> usize
@@ -18,14 +27,14 @@ pub(crate) fn push(number: u32, begin: u32, end: u32, errors: &mut [u32]) -> usi
 }
 
 // An error at the record that a stretch begins with.
-pub(crate) fn push_at(number: u32, t: &[u8], errors: &mut [u32]) -> usize
+pub fn push_at(number: u32, t: &[u8], errors: &mut [u32]) -> usize
     ensures { λ r. ⌜ Stores (errAt number (nodeOf 0 (now (t .entry))) ∷ []) (now (errors .entry)) r (now (errors .exit)) ⌝ }
 {
     push(number, forest::begin(t), forest::stop(t), errors)
 }
 
 // The same, unless something is permitted.
-pub(crate) fn push_unless(permitted: bool, number: u32, t: &[u8], errors: &mut [u32]) -> usize
+pub fn push_unless(permitted: bool, number: u32, t: &[u8], errors: &mut [u32]) -> usize
     ensures { λ r. ⌜ Stores (unless permitted number (nodeOf 0 (now (t .entry)))) (now (errors .entry)) r (now (errors .exit)) ⌝ }
 {
     if permitted {
@@ -35,7 +44,7 @@ pub(crate) fn push_unless(permitted: bool, number: u32, t: &[u8], errors: &mut [
 }
 
 // Where the free words begin after so many errors: behind them, or at the end.
-pub(crate) fn free(len: usize, count: usize) -> usize
+pub fn free(len: usize, count: usize) -> usize
     ensures { λ r. ⌜ r ≡ min (width * count) len ⌝ }
 {
     if count <= len / 3 {

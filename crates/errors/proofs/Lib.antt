@@ -1,0 +1,3 @@
+pub mod Storing
+pub mod Few
+pub mod Lists
