@@ -1,3 +1,4 @@
 pub mod Storing
 pub mod Few
 pub mod Lists
+pub mod Promises

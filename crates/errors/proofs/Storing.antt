@@ -6,7 +6,7 @@ use Prim.Native.Nat.{ℕ, suc, _+_, _*_, _-_, _<_, _≤_, min}
 use native.Mathlib.Omega.{arith}
 use lib.Dec.{leb}
 use lib.ListN.{length, take, drop, set, length-drop, length-append, drop-of-length-le}
-use lib.Seq.{take-length, drop-length}
+use lib.Seq.{drop-drop, take-length, drop-length}
 use borrow.Author.Tests.{le-leb, lt-leb, leb-true, leb-false}
 use borrow.Rule.Slice.PartMut.{putMid}
 use Rattle.fields.proofs.Fields.{tail-part}
@@ -115,3 +115,16 @@ unless-one false n r s = omega (arith, s .count)
 pub unless-at : (b : Bool) (n i : ℕ) (t : List ℕ) → unless b n (nodeOf i t) ≡ unless b n (nodeOf 0 t)
 unless-at true n i t = refl
 unless-at false n i t = refl
+
+-- LAW: a list with room for all errors holds the words of each, and its other words stay
+abbrev pub allWords : List Err → List ℕ
+allWords [] = []
+allWords (e ∷ es) = wordsOf e ++ allWords es
+
+pub stored-all : (es : List Err) (xs : List ℕ) → width * length es ≤ length xs → stored es xs ≡ allWords es ++ drop (width * length es) xs
+stored-all [] xs h = stored-none xs
+stored-all (e ∷ es) xs h =
+    let next = stored-all es (drop 3 xs) (omega (arith, length-drop 3 xs)) in
+    let more : 3 + 3 * length es ≡ 3 * suc (length es) = omega arith in
+    let skip : drop (3 * length es) (drop 3 xs) ≡ drop (3 * suc (length es)) xs = drop-drop (3 * length es) 3 xs ∙ ap (λ (n : ℕ). drop n xs) more in
+    rw (stored-fits e es xs (omega arith), next, skip) refl

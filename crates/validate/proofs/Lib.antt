@@ -1,3 +1,5 @@
 pub mod Bounds
 pub mod Walks
 pub mod Jobs
+pub mod Theorems
+pub mod Promises

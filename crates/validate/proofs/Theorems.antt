@@ -1,0 +1,43 @@
+-- What users of the module job rely on: a refusal changes no word, the total is at most twice the node count, and a list with room for that many errors holds all. Assumes nothing.
+use mathlib.Core.Path.{_≡_, refl, sym, ap, _∙_}
+use mathlib.Core.List.{List, [], _∷_, _++_}
+use Prim.Native.Nat.{ℕ, _+_, _*_, _/_, _<_, _≤_}
+use native.Mathlib.Omega.{arith}
+use lib.ListN.{length, drop}
+use Rattle.dialect.specs.Bytes.{fromBytes}
+use Rattle.dialect.specs.declared.Decoded.{Decoded}
+use Rattle.dialect.specs.declared.Decoded.the-variants.{Valid, Invalid}
+use Rattle.forest.specs.Forest.{forest}
+use Rattle.forest.proofs.Stretch.{count-forest}
+use Rattle.table.specs.Answer.{Answer, accepted, refused, andThen}
+use Rattle.table.specs.Check.{checkOf}
+use Rattle.table.proofs.Handed.{passed}
+use Rattle.errors.specs.Errors.{Err, width, wordsOf, stored}
+use Rattle.errors.proofs.Storing.{allWords, stored-all, stored-none}
+use Rattle.validate.specs.Job.{dialectCheck, moduleCheck, errorsIn, ifAccepted, errorsOf, moduleOf, errorsAfter}
+use Rattle.validate.proofs.Bounds.{module-few}
+
+module _ (t names bytes : List ℕ) where
+  -- THEOREM: a refusal changes no word
+  pub refusal-keeps : {n : ℕ} {vs : List ℕ} (xs : List ℕ) → moduleOf t names bytes ≡ refused n vs → errorsAfter t names bytes xs ≡ xs
+  unfolding errorsOf
+  refusal-keeps {n} {vs} xs e = go (moduleCheck t names bytes) (errorsIn (fromBytes bytes) names t) e
+    where
+      go : (a : Answer) (es : List Err) → andThen a (λ _. accepted (length (ifAccepted a es) ∷ [])) ≡ refused n vs → stored (ifAccepted a es) xs ≡ xs
+      go (accepted ws) es h = let z : _≡_ {A = ℕ} 0 1 = cc in absurd (omega arith)
+      go (refused m ws) es h = stored-none xs
+
+  -- THEOREM: there are at most twice as many errors as nodes
+  pub errors-few : length (errorsOf t names bytes) ≤ 2 * (length t / 24)
+  unfolding errorsOf
+  errors-few = go (moduleCheck t names bytes) (fromBytes bytes)
+    where
+      go : (a : Answer) (d : Decoded) → length (ifAccepted a (errorsIn d names t)) ≤ 2 * (length t / 24)
+      go (refused n vs) d = omega arith
+      go (accepted vs) Invalid = omega arith
+      go (accepted vs) (Valid d) = omega (arith, module-few d names (forest 0 t), count-forest 0 t)
+
+  -- THEOREM: a list of words with room for twice the node count holds all errors, one after the other, and its other words stay
+  pub list-holds-all : (xs : List ℕ) → width * (2 * (length t / 24)) ≤ length xs
+      → errorsAfter t names bytes xs ≡ allWords (errorsOf t names bytes) ++ drop (width * length (errorsOf t names bytes)) xs
+  list-holds-all xs room = stored-all (errorsOf t names bytes) xs (omega (arith, errors-few))
