@@ -34,16 +34,8 @@ pub(crate) fn visit_stmt(
     let free = errors::free(errors.len(), first);
     let e = forest::span(t);
     let after = &t[e..];
-    let rest = visit_stmt(
-        d,
-        names,
-        after,
-        at + e / 24,
-        top,
-        in_for,
-        in_def,
-        &mut errors[free..],
-    );
+    let left = &mut errors[free..];
+    let rest = visit_stmt(d, names, after, at + e / 24, top, in_for, in_def, left);
     first + rest
 }
 
@@ -70,16 +62,8 @@ fn check_statement(
     if kind == kinds::DEF {
         let first = def_errors(d, names, t, at, errors);
         let free = errors::free(errors.len(), first);
-        let rest = visit_stmt(
-            d,
-            names,
-            below,
-            at + 1,
-            false,
-            false,
-            true,
-            &mut errors[free..],
-        );
+        let left = &mut errors[free..];
+        let rest = visit_stmt(d, names, below, at + 1, false, false, true, left);
         return first + rest;
     }
     if kind == kinds::FOR {
