@@ -2,6 +2,7 @@
 """Node tables and table files from words.
 
 tables.py cases TEXT OUT            write the requests of crates/cases from its cases in words
+tables.py filecases TEXT OUT        write the table files of crates/filetest from its cases in words
 tables.py file TEXT OUT             write the table file of a tree in words
 tables.py files TEXT...             the same for several: from X.txt to X.table
 Each with --check behind it: only say whether the file is what its text gives (exit status 1 if not).
@@ -13,6 +14,9 @@ A tree is written (Kind children): (Statements (Break) (Return (Identifier x))).
 ^3<text> is the text three times over: ^3<(Break)>, and ^3<(Not >(Int)^3<)> for (Not (Not (Not (Int)))); a # in it is the turn's
 number, from 0, in base 36.
 Sizes follow from the tree, names are put one after the other, and node i has the span i to i + 1.
+
+Cases of files have, between label and tree: bits= the dialect's numbers, names= so many name bytes, byte=P:V byte P becomes V and its
+block's sum is made anew, damage=P:V the same without a new sum, more= so many zeros behind the file, cut= so many bytes of it.
 
 The text of a table file is a tree below such lines:
   # a comment
@@ -212,10 +216,36 @@ def table_file(path):
     return bytes(made[:int(said.get("cut", len(made)))])
 
 
-def cases(path):
-    """The requests that the lines of cases give."""
-    lines = open(path, encoding="utf-8").read().split("\n")
-    return b"".join(request(line) for line in lines if line.strip())
+def summed(made, at):
+    """Makes the sum of the block that byte `at` is in anew."""
+    start = at // 512 * 512
+    total = sum((p + 1) * byte for p, byte in enumerate(made[start:start + 508]))
+    made[start + 508:start + 512] = struct.pack("<I", total)
+
+
+def file_case(line):
+    """A line of filecases: a heading, or a label, what is done to the file, and the tree."""
+    if line.startswith("#"):
+        return struct.pack("<HH", len(line.encode()), 0) + line.encode()
+    label, done, tree = [part.strip() for part in line.split("|")]
+    said = [word.partition("=")[::2] for word in done.split()]
+    (table, names), length = table_of(trees(tree)), dict(said).get("names")
+    made = bytearray(file_of(table, names.ljust(int(length or 0), b"a"), bytes(int(c) for c in dict(said).get("bits", ""))))
+    for key, value in said:
+        if key in ("byte", "damage"):
+            at, byte = numbers(value, ":")
+            demand(made[at] != byte, f"{label}: byte {at} is {byte} already")
+            made[at] = byte
+        if key == "byte":
+            summed(made, at)
+    made = (made + bytes(int(dict(said).get("more", 0))))[:int(dict(said).get("cut", 65535))]
+    text = (label + ": ").encode()
+    return struct.pack("<HH", len(text), len(made)) + text + bytes(made)
+
+
+def lines_of(one):
+    """Makes all lines of a text by what makes one."""
+    return lambda path: b"".join(one(line) for line in open(path, encoding="utf-8").read().split("\n") if line.strip())
 
 
 def pack(job, label, table, names, dialect, wanted, room, node):
@@ -226,9 +256,9 @@ def pack(job, label, table, names, dialect, wanted, room, node):
 
 def main():
     what, *files = [word for word in sys.argv[1:] if word != "--check"] or [""]
-    make = cases if what == "cases" else table_file
+    make = {"cases": lines_of(request), "filecases": lines_of(file_case)}.get(what, table_file)
     pairs = [(text, text.removesuffix(".txt") + ".table") for text in files] if what == "files" else [tuple(files)]
-    if what not in ("cases", "file", "files") or any(len(pair) != 2 for pair in pairs):
+    if what not in ("cases", "filecases", "file", "files") or any(len(pair) != 2 for pair in pairs):
         sys.exit(__doc__)
     right = True
     for text, out in pairs:

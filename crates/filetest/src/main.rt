@@ -1,8 +1,11 @@
-// Reads an accepted file whole, with each of its bytes changed to every other value, cut at every length, and with a byte more, and
-// prints how often the reader gave which answer. Document 01: any one changed byte is refused with 72; a file cut short is 70.
+// Tries the reader of table files. First an accepted file: whole, with each of its bytes changed to eight other values, cut at every
+// length, and with a byte more; it prints how often the reader gave which answer. Document 01: any one changed byte is refused with 72,
+// and a file cut short with 70. Then the files of data/files.bin: both sides of each limit and of each rule, one answer a line.
+mod changes;
+mod files;
+
 use libc::STDOUT_FILENO;
 use table::Refusal;
-use tablefile::Verdict;
 
 fn main() {
     let fd = os::open_read(b"parameters.table");
@@ -13,81 +16,14 @@ fn main() {
     let mut space = io::large_buffer();
     let n = io::read_full(fd, &mut space);
     libc::close(fd);
-    all(&mut space, n);
-}
-
-// The file at the front of a buffer, in all these ways.
-fn all(space: &mut [u8], n: usize) {
-    if space.len() <= n {
+    changes::all(&mut space, n);
+    let fd = os::open_read(b"files.bin");
+    if fd < 0 {
+        os::fail(b"files.bin");
         return;
     }
-    once(b"whole", &space[0..n]);
-    change_all(&mut space[0..n]);
-    cut_all(front(space, n));
-    once(b"a byte more", front(space, n + 1));
-}
-
-fn once(what: &[u8], file: &[u8]) {
-    let mut counts = [0u32; 256];
-    count(file, &mut counts);
-    say_counts(what, &counts);
-}
-
-// Every byte, from the last on.
-fn change_all(file: &mut [u8]) {
-    let mut counts = [0u32; 256];
-    let mut left = file.len();
-    while 0 < left {
-        left -= 1;
-        change(file, left, &mut counts);
-    }
-    say_counts(b"a byte changed", &counts);
-}
-
-// One byte, to every other value.
-fn change(file: &mut [u8], at: usize, counts: &mut [u32; 256]) {
-    let mut step = 255u8;
-    while 0 < step {
-        add(file, at, step);
-        count(file, counts);
-        add(file, at, std::num::wrapping_sub_u8(0, step));
-        step -= 1;
-    }
-}
-
-fn add(file: &mut [u8], at: usize, step: u8) {
-    if at < file.len() {
-        file[at] = std::num::wrapping_add_u8(file[at], step);
-    }
-}
-
-// Every length that is shorter than the file's.
-fn cut_all(file: &[u8]) {
-    let mut counts = [0u32; 256];
-    let mut left = file.len();
-    while 0 < left {
-        left -= 1;
-        count(front(file, left), &mut counts);
-    }
-    say_counts(b"cut", &counts);
-}
-
-// The front of some bytes, as much of it as is there.
-fn front(s: &[u8], len: usize) -> &[u8] {
-    if len <= s.len() {
-        return &s[0..len];
-    }
-    s
-}
-
-// Counts the answer to a file: 0 if it is accepted, or the refusal's number.
-fn count(file: &[u8], counts: &mut [u32; 256]) {
-    let l = tablefile::read(file);
-    let verdict = l.verdict;
-    match verdict {
-        Verdict::Accepted => raise(counts, 0),
-        Verdict::Refused(r) => raise(counts, number(r) as usize),
-    }
+    files::all(fd);
+    libc::close(fd);
 }
 
 fn number(r: Refusal) -> u32 {
@@ -103,43 +39,10 @@ fn number(r: Refusal) -> u32 {
     }
 }
 
-fn raise(counts: &mut [u32], i: usize) {
-    if i < counts.len() {
-        if counts[i] < 4294967295 {
-            counts[i] += 1;
-        }
-    }
-}
-
-// A line for each answer that was given: how often.
-fn say_counts(what: &[u8], counts: &[u32; 256]) {
-    say_from(what, counts);
-}
-
-fn say_from(what: &[u8], counts: &[u32]) {
-    let mut i = 0;
-    while i < counts.len() {
-        say_count(what, i, counts[i]);
-        i += 1;
-    }
-}
-
-fn say_count(what: &[u8], answer: usize, times: u32) {
-    if times == 0 {
-        return;
-    }
-    say(what);
-    say(b": ");
-    io::print_decimal(STDOUT_FILENO, times as u64);
-    if answer == 0 {
-        say(b" accepted\n");
-        return;
-    }
-    say(b" refused ");
-    io::print_decimal(STDOUT_FILENO, answer as u64);
-    say(b"\n");
-}
-
 fn say(text: &[u8]) {
     io::write_all(STDOUT_FILENO, text);
+}
+
+fn say_number(n: u64) {
+    io::print_decimal(STDOUT_FILENO, n);
 }

@@ -1,9 +1,9 @@
--- `filetest::change` ends: the step falls. Assumes nothing.
+-- `filetest::changes::change` ends: the step falls. Assumes nothing.
 use borrow.Author.Needs.{needs}
 use mathlib.Core.Path.{_≡_}
 use lib.ListN.{length}
-use Rattle.filetest.proofs.change.Statement.{statement}
-use Rattle.filetest.proofs.change.Tie as tie
+use Rattle.filetest.proofs.changes.change.Statement.{statement}
+use Rattle.filetest.proofs.changes.change.Tie as tie
 
 abbrev Inv-loop : tie.InvT-loop
 Inv-loop file₀ at counts₀ step₀ file counts step = length file ≡ length file₀
@@ -22,7 +22,6 @@ change-spec =
     (λ c κs. search needs)
     (λ c κs. search needs)
     (λ c κs. search needs)
-    (λ c. search needs)
     (λ c. search needs)
     (λ c. search needs)
     (λ c. search needs)

@@ -1,9 +1,9 @@
--- `filetest::change_all` ends: the bytes left fall. Assumes nothing.
+-- `filetest::changes::change_all` ends: the bytes left fall. Assumes nothing.
 use borrow.Author.Needs.{needs}
 use mathlib.Core.Path.{_≡_}
 use lib.ListN.{length}
-use Rattle.filetest.proofs.change_all.Statement.{statement}
-use Rattle.filetest.proofs.change_all.Tie as tie
+use Rattle.filetest.proofs.changes.change_all.Statement.{statement}
+use Rattle.filetest.proofs.changes.change_all.Tie as tie
 
 abbrev Inv-loop : tie.InvT-loop
 Inv-loop file₀ counts₀ left₀ t4 file counts left = length file ≡ length file₀

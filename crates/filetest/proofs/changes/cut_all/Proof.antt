@@ -1,7 +1,7 @@
--- `filetest::cut_all` ends: the length falls. Assumes nothing.
+-- `filetest::changes::cut_all` ends: the length falls. Assumes nothing.
 use borrow.Author.Needs.{needs}
-use Rattle.filetest.proofs.cut_all.Statement.{statement}
-use Rattle.filetest.proofs.cut_all.Tie as tie
+use Rattle.filetest.proofs.changes.cut_all.Statement.{statement}
+use Rattle.filetest.proofs.changes.cut_all.Tie as tie
 
 abbrev Inv-loop : tie.InvT-loop
 Inv-loop file counts₀ left₀ t4 counts left = Unit {0}

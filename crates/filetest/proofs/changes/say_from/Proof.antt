@@ -1,9 +1,9 @@
--- `filetest::say_from` ends: i comes nearer to the end. Assumes nothing.
+-- `filetest::changes::say_from` ends: i comes nearer to the end. Assumes nothing.
 use borrow.Author.Needs.{needs}
 use Prim.Native.Nat.{_-_}
 use lib.ListN.{length}
-use Rattle.filetest.proofs.say_from.Statement.{statement}
-use Rattle.filetest.proofs.say_from.Tie as tie
+use Rattle.filetest.proofs.changes.say_from.Statement.{statement}
+use Rattle.filetest.proofs.changes.say_from.Tie as tie
 
 abbrev Inv-loop : tie.InvT-loop
 Inv-loop what counts i₀ i = Unit {0}
