@@ -208,6 +208,7 @@ def table_file(path):
         for root in roots:
             place(root, script, 0, len(script))
     dialect = said.get("dialect", "none")
+    demand(dialect in DIALECTS or dialect.isdigit(), f"no dialect is called {dialect}")
     made = bytearray(file_of(*table_of(roots), bytes(int(c) for c in DIALECTS.get(dialect, dialect))))
     if "change" in said:
         at, value = numbers(said["change"], None)
@@ -257,14 +258,14 @@ def pack(job, label, table, names, dialect, wanted, room, node):
 def main():
     what, *files = [word for word in sys.argv[1:] if word != "--check"] or [""]
     make = {"cases": lines_of(request), "filecases": lines_of(file_case)}.get(what, table_file)
-    pairs = [(text, text.removesuffix(".txt") + ".table") for text in files] if what == "files" else [tuple(files)]
+    pairs = [(text, os.path.splitext(text)[0] + ".table") for text in files] if what == "files" else [tuple(files)]
     if what not in ("cases", "filecases", "file", "files") or any(len(pair) != 2 for pair in pairs):
         sys.exit(__doc__)
     right = True
     for text, out in pairs:
         try:
             made = make(text)
-        except (ValueError, struct.error) as error:
+        except (ValueError, OSError, struct.error) as error:
             sys.exit(f"{text}: {error}")
         if "--check" not in sys.argv:
             open(out, "wb").write(made)
