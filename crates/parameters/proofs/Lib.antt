@@ -2,3 +2,4 @@ pub mod Lists
 pub mod Job
 pub mod Accepted
 pub mod Promises
+pub mod Buffer

@@ -3,3 +3,4 @@ pub mod Deep
 pub mod Nodes
 pub mod Checking
 pub mod Handed
+pub mod Promises

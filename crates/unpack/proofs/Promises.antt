@@ -7,21 +7,16 @@ use Rattle.fields.proofs.Coincide.{coincide}
 use Rattle.forest.specs.Forest.{kidsOf}
 use Rattle.unpack.specs.Written.{written}
 use Rattle.unpack.specs.Unpack.{nextState, firstState, unpack}
-use Rattle.unpack.specs.Told.{told, errorOf}
+use Rattle.unpack.specs.Told.{told}
 use Rattle.unpack.specs.Reading.{isListed, kindHere}
 use Rattle.unpack.specs.declared.Kind.{Kind}
 use Rattle.unpack.specs.declared.State.{State}
 use Rattle.unpack.specs.declared.Flat.{Flat}
 use Rattle.unpack.specs.declared.Judged.{Judged}
-use Rattle.unpack.specs.declared.ListError.{ListError}
 
 -- of `judge`; its second promise only bounds what the first determines
 pub judge-one : (names t : List ℕ) (node : ℕ) {r s : Judged} → r ≡ told (unpack (written names node t)) → s ≡ told (unpack (written names node t)) → r ≡ s
 judge-one names t node = coincide
-
--- of `list_error`
-pub list-error-one : (names t : List ℕ) {r s : ListError} → r ≡ errorOf (unpack (written names 0 t)) → s ≡ errorOf (unpack (written names 0 t)) → r ≡ s
-list-error-one names t = coincide
 
 -- of `children`, `entry::listed`, `entry::kind_of`
 pub children-one : (t : List ℕ) {r s : List ℕ} → r ≡ kidsOf t → s ≡ kidsOf t → r ≡ s

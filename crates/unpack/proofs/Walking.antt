@@ -16,7 +16,7 @@ use Rattle.table.specs.Numbers.{slashFirst, duplicatedParameter, starLast, noNo
 use Rattle.soundness.proofs.Records.{and-left, and-right}
 use Rattle.unpack.specs.Written.{Name, Param, normal, noArgs, slash, args, kwargs, nodeIn, kindIn, param, paramOf, paramsIn, written, kindAt}
 use Rattle.unpack.specs.Unpack.{writtenAt, flatAt, firstSame, repeats, rule, firstly, check, advance, nextStar, start, slashFrom, firstSlash, positionalOnly, isSlash, normalNext, fromStar, finish, Outcome, accepted, refused, internal, run, unpack}
-use Rattle.unpack.specs.Told.{fault, told, errorOf}
+use Rattle.unpack.specs.Told.{fault, told}
 use Rattle.unpack.specs.Reading.{isListed, kindHere, beginsWithSlash, isNamed, isNormal, StarIn, Inside, Bounded}
 use Rattle.unpack.specs.declared.Kind.{Kind}
 use Rattle.unpack.specs.declared.Kind.the-variants.{Normal, NoArgs, Slash, Args, KwArgs}
@@ -32,8 +32,6 @@ use Rattle.unpack.specs.declared.Unpacking.{Unpacking}
 use Rattle.unpack.specs.declared.Fault.{Fault}
 use Rattle.unpack.specs.declared.Judged.{Judged}
 use Rattle.unpack.specs.declared.Judged.the-variants.{Accepted, Refused}
-use Rattle.unpack.specs.declared.ListError.{ListError}
-use Rattle.unpack.specs.declared.ListError.the-variants.{Error, NoError}
 use Rattle.unpack.proofs.Parts.{never}
 use Rattle.unpack.proofs.Reading.{node-in, kind-in, listed-long, list-end, list-on, Reading, read-start, read-here, read-on, read-end}
 use Rattle.unpack.proofs.Steps.{Cleared, run-stop, run-on, clear-on, clear-start, bounded-on}
@@ -274,20 +272,3 @@ module _ (t : List ℕ) (node : ℕ) {kids : List ℕ} (kids-are : kids ≡ kids
       wider : (r : Judged) → Inside (node + 1 + length kids / 24) r → Inside (node + 1 + length t / 24) r
       wider (Accepted c) h = tt
       wider (Refused f) h = omega (arith, judge-room)
-
--- what the module pass is told
-abbrev toldError : Judged → ListError
-toldError (Accepted c) = NoError
-toldError (Refused f) = Error (f .number) (f .begin) (f .end)
-
-told-error : (o : Outcome) {r : Judged} → r ≡ told o → toldError r ≡ errorOf o
-told-error (accepted c) e = ap toldError e
-told-error (refused n r) e = ap toldError e
-told-error (internal i r) e = ap toldError e
-
-module _ (o : Outcome) {r : Judged} (r-is : r ≡ told o) where
-  pub error-none : {c : Counts} → r ≡ Accepted c → NoError ≡ errorOf o
-  error-none e = ap toldError (sym e) ∙ told-error o r-is
-
-  pub error-some : {f : Fault} → r ≡ Refused f → Error (f .number) (f .begin) (f .end) ≡ errorOf o
-  error-some e = ap toldError (sym e) ∙ told-error o r-is

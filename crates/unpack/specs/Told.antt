@@ -5,8 +5,6 @@ use Rattle.unpack.specs.Unpack.{Outcome, accepted, refused, internal}
 use Rattle.unpack.specs.declared.Fault.{Fault}
 use Rattle.unpack.specs.declared.Judged.{Judged}
 use Rattle.unpack.specs.declared.Judged.the-variants.{Accepted, Refused}
-use Rattle.unpack.specs.declared.ListError.{ListError}
-use Rattle.unpack.specs.declared.ListError.the-variants.{Error, NoError}
 
 -- a refusal at a record: its number, its node and its span
 abbrev pub fault : ℕ → Node → Fault
@@ -16,13 +14,8 @@ fault n r = record { number = n; node = r .at; begin = r .begin; end = r .stop }
 abbrev pub internalError : ℕ
 internalError = 0
 
--- what the code answers for an outcome, and what the module pass is told of it: a number and a span, or no error
+-- what the code answers for an outcome
 abbrev pub told : Outcome → Judged
 told (accepted c) = Accepted c
 told (refused n r) = Refused (fault n r)
 told (internal e r) = Refused (fault internalError r)
-
-abbrev pub errorOf : Outcome → ListError
-errorOf (accepted c) = NoError
-errorOf (refused n r) = Error n (r .begin) (r .stop)
-errorOf (internal e r) = Error internalError (r .begin) (r .stop)

@@ -14,7 +14,7 @@ ghost use lib.ListN.{length};
 ghost use Rattle.forest.specs.Forest.{kidsOf};
 ghost use Rattle.unpack.specs.Written.{written};
 ghost use Rattle.unpack.specs.Unpack.{unpack};
-ghost use Rattle.unpack.specs.Told.{told, errorOf};
+ghost use Rattle.unpack.specs.Told.{told};
 ghost use Rattle.unpack.specs.Reading.{Inside};
 
 // Where unpack stands in the list, in this order.
@@ -87,12 +87,6 @@ pub enum Judged {
     Refused(Fault),
 }
 
-// What the module pass is told of a list: the number and the span of its one error, or none.
-pub enum ListError {
-    Error { number: u32, begin: u32, end: u32 },
-    NoError,
-}
-
 // The children of the node that a stretch begins with.
 pub fn children(t: &[u8]) -> &[u8]
     ensures { λ r. ⌜ now r ≡ kidsOf (now (t .entry)) ⌝ }
@@ -110,19 +104,4 @@ pub fn judge(names: &[u8], t: &[u8], node: u32) -> Judged
     ensures { λ r. ⌜ Inside (node + 1 + length (now (t .entry)) / 24) r ⌝ }
 {
     walk::judge(names, t, node)
-}
-
-// unpack's one error, for the module pass.
-pub fn list_error(names: &[u8], t: &[u8]) -> ListError
-    ensures { λ r. ⌜ r ≡ errorOf (unpack (written (now (names .entry)) 0 (now (t .entry)))) ⌝ }
-{
-    let judged = judge(names, t, 0);
-    match judged {
-        Judged::Accepted(_) => ListError::NoError,
-        Judged::Refused(f) => ListError::Error {
-            number: f.number,
-            begin: f.begin,
-            end: f.end,
-        },
-    }
 }

@@ -1,0 +1,16 @@
+-- Two answers that meet the promise of a public function coincide. Assumes nothing.
+use mathlib.Core.Path.{_≡_}
+use mathlib.Core.List.{List}
+use Prim.Native.Nat.{ℕ}
+use Rattle.fields.proofs.Coincide.{coincide}
+use Rattle.forest.specs.declared.Found.{Found}
+use Rattle.soundness.specs.Kinds.{classOf}
+use Rattle.soundness.specs.Sound.{firstUnsound}
+
+-- of `class`
+pub class-one : (kind : ℕ) {r s : ℕ} → r ≡ classOf kind → s ≡ classOf kind → r ≡ s
+class-one kind = coincide
+
+-- of `first_unsound`
+pub first-unsound-one : (table names : List ℕ) {r s : Found} → r ≡ firstUnsound table names → s ≡ firstUnsound table names → r ≡ s
+first-unsound-one table names = coincide
