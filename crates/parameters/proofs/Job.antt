@@ -1,16 +1,13 @@
 -- The job, return by return, in the terms of code. Assumes nothing.
 use mathlib.Core.Path.{_≡_, refl, sym, ap, _∙_}
-use mathlib.Core.Bool.{Bool, true, false, _&&_}
+use mathlib.Core.Bool.{Bool, true, false}
 use mathlib.Core.List.{List, [], _∷_, _++_}
-use Prim.Native.Nat.{ℕ, zero, suc, _+_, _-_, _*_, _/_, _<_, _≤_, _^_, min, max}
+use Prim.Native.Nat.{ℕ, _+_, _-_, _/_, _<_, _≤_, _^_}
 use native.Mathlib.Omega.{arith}
-use lib.ListN.{length, take, drop, length-take, length-drop}
+use lib.ListN.{length, drop}
 use lib.Seq.{sets, sets-eq}
-use lib.Dec.{leb, ltb}
-use borrow.Author.Tests.{le-leb, lt-leb, ltb-true}
-use Rattle.fields.specs.Choice.{if'}
-use Rattle.forest.specs.Forest.{sizeOf, kidsOf, forest}
-use Rattle.soundness.proofs.Records.{and-left}
+use borrow.Author.Tests.{le-leb, lt-leb}
+use Rattle.forest.specs.Forest.{kidsOf, forest}
 use Rattle.table.specs.Numbers.{wrongNode, shortBuffer}
 use Rattle.table.specs.Answer.{Answer, accepted, refused, andThen, refusal, checked}
 use Rattle.table.specs.Check.{checkOf, nodeFits, nodeCheck, stretchOf}
@@ -21,24 +18,23 @@ use Rattle.table.specs.declared.Checked.the-variants.{Sound, Refused as Unsound
 use Rattle.table.specs.declared.Wanted.the-variants.{Parameters}
 use Rattle.table.proofs.Answers.{stopped}
 use Rattle.table.proofs.Handed.{clean, fitting, handed}
-use Rattle.unpack.specs.Written.{Param, paramsIn, written}
+use Rattle.unpack.specs.Written.{paramsIn, written}
 use Rattle.unpack.specs.Unpack as def
 use Rattle.unpack.specs.Unpack.{modes}
-use Rattle.unpack.specs.Told.{fault, told}
-use Rattle.parameters.specs.Indices.{valuesOf, countedOf}
+use Rattle.unpack.specs.Told.{told}
 use Rattle.unpack.specs.Reading.{Inside, PlaceBelow, Bounded}
 use Rattle.unpack.specs.declared.State.{State}
 use Rattle.unpack.specs.declared.FlatPlace.{FlatPlace}
 use Rattle.unpack.specs.declared.FlatPlace.the-variants.{AtFlat, NoFlat}
 use Rattle.unpack.specs.declared.Counts.{Counts}
-use Rattle.parameters.specs.declared.Counted.{Counted}
-use Rattle.unpack.specs.declared.Fault.{Fault}
 use Rattle.unpack.specs.declared.Judged.{Judged}
 use Rattle.unpack.specs.declared.Judged.the-variants.{Accepted, Refused}
 use Rattle.unpack.proofs.Theorems.{accepted-bounded, accepted-only, written-short, modes-short, told-accepted}
-use Rattle.parameters.specs.Params.{unpacked, answerOf, roomCheck, listAnswer, listOf, paramsOf, afterwards, modesAfter}
-use Rattle.parameters.specs.Writing.{AtMost}
-use Rattle.parameters.specs.declared.Unpacked.{Unpacked}
+use Rattle.parameters.specs.declared.Counted.{Counted}
+use Rattle.unpack.specs.declared.Fault.{Fault}
+use Rattle.parameters.specs.Indices.{valuesOf, countedOf}
+use Rattle.parameters.specs.Params.{answerOf, listAnswer, listOf, paramsOf, afterwards, modesAfter}
+use Rattle.parameters.specs.Writing.{isRefused, firstOf, judgedAnswer, Small, AtMost}
 
 -- wider bounds
 place-wider : {m n : ℕ} (p : FlatPlace) → PlaceBelow m p → m ≤ n → PlaceBelow n p
@@ -48,11 +44,29 @@ place-wider (AtFlat i) h g = omega arith
 bounded-wider : {m n : ℕ} (c : Counts) → Bounded m m c → m ≤ n → Bounded n n c
 bounded-wider c b h = record { positional = omega (arith, b .positional); only = omega (arith, b .only); args = place-wider (c .args) (b .args) h; kwargs = place-wider (c .kwargs) (b .kwargs) h; flat = omega (arith, b .flat) }
 
--- what was told to be refused is
-told-refused : (o : def.Outcome) {f : Fault} → told o ≡ Refused f → answerOf o ≡ refused (f .number) (f .node ∷ f .begin ∷ f .end ∷ [])
-told-refused (def.accepted c) e = let z : _≡_ {A = ℕ} 0 1 = cc in absurd (omega arith)
-told-refused (def.refused n r) {f} e = let h : fault n r ≡ f = cc in ap (λ (x : Fault). refused (x .number) (x .node ∷ x .begin ∷ x .end ∷ [])) h
-told-refused (def.internal i r) {f} e = let h : fault 0 r ≡ f = cc in ap (λ (x : Fault). refused (x .number) (x .node ∷ x .begin ∷ x .end ∷ [])) h
+-- the job's answer for what unpack says
+judged-answer : (o : def.Outcome) → judgedAnswer (told o) ≡ answerOf o
+judged-answer (def.accepted c) = refl
+judged-answer (def.refused n r) = refl
+judged-answer (def.internal e r) = refl
+
+-- an accepted answer of unpack, and a refused one
+module _ {j : Judged} {c : Counts} (j-is : j ≡ Accepted c) where
+  pub accepted-small : Small j → Bounded 4294967295 4294967295 c
+  accepted-small h = rw j-is at h
+
+  pub accepted-answer : {r : Counted} → r ≡ countedOf c → accepted (valuesOf r) ≡ judgedAnswer j
+  accepted-answer r-is = rw (j-is, r-is) refl
+
+  pub accepted-first : {s : State} → s ≡ def.firstState (c .«num_positional_only») → s ≡ firstOf j
+  accepted-first s-is = s-is ∙ sym (ap firstOf j-is)
+
+module _ {j : Judged} {f : Fault} (j-is : j ≡ Refused f) where
+  pub refused-small : Small j → f .node < 2 ^ 32
+  refused-small h = rw j-is at h
+
+  pub refused-answer : {u : Answer} → u ≡ refused (f .number) (f .node ∷ f .begin ∷ f .end ∷ []) → u ≡ judgedAnswer j
+  refused-answer u-is = u-is ∙ sym (ap judgedAnswer j-is)
 
 -- the list of a node: m parameters stand in its children
 module _ (ns t ms : List ℕ) (node : ℕ) {kids : List ℕ} (kids-are : kids ≡ kidsOf t) {m : ℕ} (m-is : (names : List ℕ) (i : ℕ) → m ≡ length (paramsIn names (forest i kids))) where
@@ -75,41 +89,44 @@ module _ (ns t ms : List ℕ) (node : ℕ) {kids : List ℕ} (kids-are : kids �
     unfolding listAnswer
     roomy = rw (le-leb (length (written ns node t)) (length ms) (omega (arith, list-long))) refl
 
+    stored : def.modes (written ns node t) ++ drop (length (def.modes (written ns node t))) ms ≡ sets ms 0 (def.modes (written ns node t))
+    stored =
+        let none-before : 0 + length (def.modes (written ns node t)) ≡ length (def.modes (written ns node t)) = omega arith in
+        rw none-before at (sym (sets-eq (def.modes (written ns node t)) ms 0 (omega (arith, modes-short (written ns node t), list-long))))
+
+    same-modes : {c : Counts} → def.unpack (written ns node t) ≡ def.accepted c → {s : State} → s ≡ def.firstState (c .«num_positional_only») → def.modesFrom s (paramsIn ns (forest (node + 1) kids)) ≡ def.modes (written ns node t)
+    unfolding modes written
+    same-modes outcome s-is =
+        let first = s-is ∙ ap def.firstState (accepted-only (written ns node t) outcome) in
+        rw (first, kids-are) refl
+
     module _ {j : Judged} (j-is : j ≡ told (def.unpack (written ns node t))) where
-      pub into-refused : {f : Fault} → j ≡ Refused f → {u : Answer} → u ≡ refused (f .number) (f .node ∷ f .begin ∷ f .end ∷ [])
-          → (u ≡ listAnswer (written ns node t) (length ms)) × (ms ≡ afterwards (listAnswer (written ns node t) (length ms)) (def.modes (written ns node t)) ms)
-      into-refused e u-is =
-          let answer = roomy ∙ told-refused (def.unpack (written ns node t)) (sym j-is ∙ e) in
-          rw answer (u-is, refl)
+      answer-is : judgedAnswer j ≡ listAnswer (written ns node t) (length ms)
+      answer-is = ap judgedAnswer j-is ∙ judged-answer (def.unpack (written ns node t)) ∙ sym roomy
 
-      module _ {c : Counts} (e : j ≡ Accepted c) where
-        outcome : def.unpack (written ns node t) ≡ def.accepted c
-        outcome = told-accepted (def.unpack (written ns node t)) (sym j-is ∙ e)
+      -- every number of the answer is small
+      pub into-small : node ≤ 2100 → length t ≤ 50400 → Inside (node + 1 + length t / 24) j → Small j
+      into-small few short inside = go j j-is inside
+        where
+          go : (x : Judged) → x ≡ told (def.unpack (written ns node t)) → Inside (node + 1 + length t / 24) x → Small x
+          go (Accepted c) e h = bounded-wider c (accepted-bounded (written ns node t) (told-accepted (def.unpack (written ns node t)) (sym e))) (omega (arith, written-short ns node t))
+          go (Refused f) e h = omega (arith, h)
 
-        pub into-bounded : length t ≤ 50400 → Bounded 4294967295 4294967295 c
-        into-bounded small = bounded-wider c (accepted-bounded (written ns node t) outcome) (omega (arith, written-short ns node t))
+      module _ {b : Bool} (b-is : b ≡ isRefused j) {u : Answer} (u-is : u ≡ judgedAnswer j) where
+        pub into-refused : b ≡ true → (u ≡ listAnswer (written ns node t) (length ms)) × (ms ≡ afterwards (listAnswer (written ns node t) (length ms)) (def.modes (written ns node t)) ms)
+        into-refused h = rw (← answer-is) (u-is, kept j (sym b-is ∙ h))
+          where
+            kept : (x : Judged) → isRefused x ≡ true → ms ≡ afterwards (judgedAnswer x) (def.modes (written ns node t)) ms
+            kept (Accepted c) e = let z : _≡_ {A = ℕ} 0 1 = cc in absurd (omega arith)
+            kept (Refused f) e = refl
 
-        same-modes : {s : State} → s ≡ def.firstState (c .«num_positional_only») → def.modesFrom s (paramsIn ns (forest (node + 1) kids)) ≡ def.modes (written ns node t)
-        unfolding modes written
-        same-modes s-is =
-            let first = s-is ∙ ap def.firstState (accepted-only (written ns node t) outcome) in
-            rw (first, kids-are) refl
-
-        stored : def.modes (written ns node t) ++ drop (length (def.modes (written ns node t))) ms ≡ sets ms 0 (def.modes (written ns node t))
-        stored =
-            let none-before : 0 + length (def.modes (written ns node t)) ≡ length (def.modes (written ns node t)) = omega arith in
-            rw none-before at (sym (sets-eq (def.modes (written ns node t)) ms 0 (omega (arith, modes-short (written ns node t), list-long))))
-
-        pub into-accepted : {s : State} → s ≡ def.firstState (c .«num_positional_only») → {ms′ : List ℕ} → ((names : List ℕ) (i : ℕ) → ms′ ≡ sets ms 0 (def.modesFrom s (paramsIn names (forest i kids))))
-            → {r : Counted} → r ≡ countedOf c
-            → (accepted (valuesOf r) ≡ listAnswer (written ns node t) (length ms)) × (ms′ ≡ afterwards (listAnswer (written ns node t) (length ms)) (def.modes (written ns node t)) ms)
-        into-accepted s-is ms-is r-is =
-            let answer : listAnswer (written ns node t) (length ms) ≡ accepted (valuesOf (countedOf c)) = roomy ∙ ap answerOf outcome in
-            rw (answer, r-is) (refl, ms-is ns (node + 1) ∙ ap (sets ms 0) (same-modes s-is) ∙ sym stored)
-
--- a refusal's node is a small number
-pub refused-small : {n m : ℕ} {j : Judged} {f : Fault} → Inside (n + 1 + m / 24) j → j ≡ Refused f → n ≤ 2100 → m ≤ 50400 → f .node < 2 ^ 32
-refused-small {n} {m} inside e small short = let h = rw e at inside in omega (arith, h)
+        pub into-accepted : b ≡ false → {s : State} → s ≡ firstOf j → {ms′ : List ℕ} → ((names : List ℕ) (i : ℕ) → ms′ ≡ sets ms 0 (def.modesFrom s (paramsIn names (forest i kids))))
+            → (u ≡ listAnswer (written ns node t) (length ms)) × (ms′ ≡ afterwards (listAnswer (written ns node t) (length ms)) (def.modes (written ns node t)) ms)
+        into-accepted h {s} s-is {ms′} ms-is = rw (← answer-is) (u-is, written-over j j-is (sym b-is ∙ h) s-is)
+          where
+            written-over : (x : Judged) → x ≡ told (def.unpack (written ns node t)) → isRefused x ≡ false → s ≡ firstOf x → ms′ ≡ afterwards (judgedAnswer x) (def.modes (written ns node t)) ms
+            written-over (Accepted c) e g q = ms-is ns (node + 1) ∙ ap (sets ms 0) (same-modes (told-accepted (def.unpack (written ns node t)) (sym e)) q) ∙ sym stored
+            written-over (Refused f) e g q = let z : _≡_ {A = ℕ} 0 1 = cc in absurd (omega arith)
 
 -- a refusal leaves the buffer
 unchanged : (r : Refusal) (modes ms : List ℕ) → afterwards (refusal r) modes ms ≡ ms

@@ -1,16 +1,40 @@
 -- What code asks while it counts a list and writes its modes. These are definitions that only contracts of private functions use.
 use mathlib.Core.Bool.{Bool, true, false}
 use mathlib.Core.List.{List, [], _∷_}
-use Prim.Native.Nat.{ℕ, zero, suc, _≤_}
+use Prim.Native.Nat.{ℕ, zero, suc, _≤_, _<_, _^_}
 use lib.ListN.{length}
 use lib.Seq.{sets}
 use Rattle.fields.specs.Choice.{if'}
 use Rattle.forest.specs.Forest.{forest}
 use Rattle.unpack.specs.Written.{paramsIn}
-use Rattle.unpack.specs.Unpack.{seenSlash, seenStar, modesFrom}
+use Rattle.unpack.specs.Unpack.{firstState, seenSlash, seenStar, modesFrom}
 use Rattle.unpack.specs.declared.Kind.{Kind}
 use Rattle.unpack.specs.declared.Kind.the-variants.{Normal, NoArgs, Slash, Args, KwArgs}
+use Rattle.unpack.specs.Reading.{Bounded}
 use Rattle.unpack.specs.declared.State.{State}
+use Rattle.unpack.specs.declared.State.the-variants.{SeenSlash}
+use Rattle.unpack.specs.declared.Judged.{Judged}
+use Rattle.unpack.specs.declared.Judged.the-variants.{Accepted, Refused}
+use Rattle.table.specs.Answer.{Answer, accepted, refused}
+use Rattle.parameters.specs.Indices.{valuesOf, countedOf}
+
+-- whether unpack's answer is a refusal, and the state that an accepted list begins in
+abbrev pub isRefused : Judged → Bool
+isRefused (Accepted c) = false
+isRefused (Refused f) = true
+
+abbrev pub firstOf : Judged → State
+firstOf (Accepted c) = firstState (c .«num_positional_only»)
+firstOf (Refused f) = SeenSlash
+
+-- what the job answers for it, and that its numbers fit 32 bits
+abbrev pub judgedAnswer : Judged → Answer
+judgedAnswer (Accepted c) = accepted (valuesOf (countedOf c))
+judgedAnswer (Refused f) = refused (f .number) (f .node ∷ f .begin ∷ f .end ∷ [])
+
+abbrev pub Small : Judged → Type 0
+Small (Accepted c) = Bounded 4294967295 4294967295 c
+Small (Refused f) = f .node < 2 ^ 32
 
 -- the mode of a parameter as a byte: 0 for a mark
 abbrev pub modeByte : State → Kind → ℕ

@@ -31,7 +31,7 @@ ghost use Rattle.unpack.specs.Reading.{PlaceBelow, Bounded};
 ghost use Rattle.unpack.specs.declared.Kind.the-variants.{Normal};
 ghost use Rattle.parameters.specs.Indices.{placeOf, countedOf};
 ghost use Rattle.parameters.specs.Params.{unpacked, listAnswer, paramsOf, afterwards, modesAfter};
-ghost use Rattle.parameters.specs.Writing.{modeByte, modeIn, AtMost};
+ghost use Rattle.parameters.specs.Writing.{isRefused, firstOf, judgedAnswer, Small, modeByte, modeIn, AtMost};
 
 // An index in the flat list, or none.
 pub enum Place {
@@ -91,12 +91,43 @@ fn unpack_into(names: &[u8], t: &[u8], node: u32, modes: &mut [u8]) -> Unpacked
         return Unpacked::Refused(Refusal::Bare(numbers::SHORT_BUFFER));
     }
     let judged = unpack::judge(names, t, node);
+    if is_refused(judged) {
+        return answer(judged);
+    }
+    write_modes(kids, first_of(judged), modes);
+    answer(judged)
+}
+
+// Whether unpack refuses a list.
+fn is_refused(judged: Judged) -> bool
+    ensures { λ r. ⌜ r ≡ isRefused judged ⌝ }
+{
+    match judged {
+        Judged::Accepted(_) => false,
+        Judged::Refused(_) => true,
+    }
+}
+
+// The state that an accepted list begins in.
+fn first_of(judged: Judged) -> State
+    ensures { λ r. ⌜ r ≡ firstOf judged ⌝ }
+{
     match judged {
         Judged::Accepted(c) => {
             let only = c.num_positional_only;
-            write_modes(kids, states::first_state(only), modes);
-            Unpacked::Accepted(numbered(c))
+            states::first_state(only)
         }
+        Judged::Refused(_) => State::SeenSlash,
+    }
+}
+
+// What the job answers for what unpack says.
+fn answer(judged: Judged) -> Unpacked
+    requires { ⌜ Small judged ⌝ }
+    ensures { λ r. ⌜ unpacked r ≡ judgedAnswer judged ⌝ }
+{
+    match judged {
+        Judged::Accepted(c) => Unpacked::Accepted(numbered(c)),
         Judged::Refused(f) => Unpacked::Refused(refusal(f)),
     }
 }
