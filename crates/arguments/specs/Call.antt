@@ -1,5 +1,5 @@
 -- CallArgsUnpack::unpack of src/syntax/call.rs, with all its outcomes. These are definitions.
--- Ported from starlark_syntax 0.14.2 and changed. Copyright 2019 The Starlark in Rust Authors. Copyright (c) Facebook, Inc. and its affiliates. Apache-2.0.
+-- Copyright 2018 The Starlark in Rust Authors. Copyright (c) Facebook, Inc. and its affiliates. Licensed under Apache-2.0; changed.
 use mathlib.Core.Bool.{Bool, true, false, not}
 use mathlib.Core.List.{List}
 use Prim.Native.Nat.{ℕ, _+_}

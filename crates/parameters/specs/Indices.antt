@@ -1,4 +1,5 @@
--- DefParamIndices with its five ranges, the flat count, and the values of document 01. These are definitions.
+-- DefParamIndices of src/syntax/def.rs with its five ranges, the flat count, and the values of document 01. These are definitions.
+-- Copyright 2018 The Starlark in Rust Authors. Copyright (c) Facebook, Inc. and its affiliates. Licensed under Apache-2.0; changed.
 use mathlib.Core.List.{List, [], _∷_}
 use Prim.Native.Nat.{ℕ, _+_}
 use Rattle.unpack.specs.declared.FlatPlace.{FlatPlace}

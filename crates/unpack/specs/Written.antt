@@ -1,4 +1,6 @@
 -- The written parameter list of a def or lambda, for any bytes. These are definitions.
+-- Parameters as ParameterP of src/syntax/ast.rs has them.
+-- Copyright 2018 The Starlark in Rust Authors. Copyright (c) Facebook, Inc. and its affiliates. Licensed under Apache-2.0; changed.
 use mathlib.Core.Bool.{Bool, true, false, _||_}
 use mathlib.Core.List.{List, [], _∷_}
 use Prim.Native.Nat.{ℕ, _+_}
