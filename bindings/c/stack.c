@@ -24,7 +24,11 @@ static uint8_t table[STARLARK_NODES * STARLARK_NODE_BYTES];
 static size_t nodes;
 static uint8_t names[STARLARK_NAME_BYTES];
 static uint8_t buffer[STARLARK_NODES];
+static uint32_t errors[3 * STARLARK_ERRORS];
 static uint32_t out[STARLARK_WORDS];
+/* every switch on, so that types are read; every switch off, so that each error is given */
+static const uint8_t all_on[9] = {1, 1, 1, 1, 1, 2, 1, 1, 1};
+static const uint8_t all_off[9] = {0};
 
 /* Nodes are opened and closed; a node's size is filled in when it is closed. */
 static size_t open_node(int kind, int detail) {
@@ -63,15 +67,21 @@ static void run_call(void) { number = starlark_call(table, STARLARK_NODE_BYTES *
 static void run_target(void) { number = starlark_target(table, STARLARK_NODE_BYTES * nodes, names, sizeof names, job_node, out); }
 static void run_assignment(void) { number = starlark_assignment(table, STARLARK_NODE_BYTES * nodes, names, sizeof names, job_node, out); }
 static void run_type(void) {
-    static const uint8_t types[9] = {1, 1, 1, 1, 1, 2, 1, 1, 1};
-    number = starlark_type(table, STARLARK_NODE_BYTES * nodes, names, sizeof names, types, 9, job_node, buffer, sizeof buffer, out);
+    number = starlark_type(table, STARLARK_NODE_BYTES * nodes, names, sizeof names, all_on, 9, job_node, buffer, sizeof buffer, out);
+}
+static void run_module(void) {
+    number = starlark_module(table, STARLARK_NODE_BYTES * nodes, names, sizeof names, all_on, 9, errors, 3 * STARLARK_ERRORS, out);
+}
+static void run_refusing(void) {
+    number = starlark_module(table, STARLARK_NODE_BYTES * nodes, names, sizeof names, all_off, 9, errors, 3 * STARLARK_ERRORS, out);
 }
 
 struct job {
     const char *name;
     void (*run)(void);
     size_t most;
-} jobs[] = {{"table", run_table, 0}, {"params", run_params, 0}, {"call", run_call, 0}, {"target", run_target, 0}, {"assignment", run_assignment, 0}, {"type", run_type, 0}};
+} jobs[] = {{"table", run_table, 0}, {"params", run_params, 0}, {"call", run_call, 0}, {"target", run_target, 0}, {"assignment", run_assignment, 0}, {"type", run_type, 0},
+          {"module", run_module, 0}, {"module with all switches off", run_refusing, 0}};
 enum { JOBS = sizeof jobs / sizeof *jobs };
 
 /* Whether a job ends on a stack of so many bytes. */
@@ -177,6 +187,26 @@ static void many_statements(void) {
     measure("2,099 statements", 0);
 }
 
+/* Statements of `kind` inside each other, each with statements that end none before the next. */
+static void nested_statements(const char *shape, int kind, size_t limit) {
+    size_t opened[STARLARK_DEPTH];
+    int depth = STARLARK_DEPTH - 2;
+    size_t root = open_node(STATEMENTS, 0), each = (limit - nodes - 3 * depth) / depth;
+    int pairs = depth / 2;
+    for (int d = 0; d < pairs; d++) {
+        opened[2 * d] = open_node(kind, 0);
+        if (kind == FOR) leaf(IDENTIFIER);
+        if (kind == FOR || kind == IF) leaf(ELLIPSIS);
+        if (kind == DEF) leaf(NORMAL);
+        opened[2 * d + 1] = open_node(STATEMENTS, 0);
+        for (size_t i = 0; i < 2 * each; i++) leaf(BREAK);
+    }
+    leaf(BREAK);
+    for (int d = 2 * pairs; d-- > 0;) close_node(opened[d]);
+    close_node(root);
+    measure(shape, 0);
+}
+
 static void many_parameters(void) {
     size_t root = open_node(STATEMENTS, 0), def = open_node(DEF, 0);
     while (nodes < STARLARK_NODES - 1) leaf(NORMAL);
@@ -225,6 +255,9 @@ int main(void) {
     in_depth("61 nested Index2", INDEX2, IDENTIFIER, STARLARK_NODES);
     argument_lists("Index2 with a list of 2,094", 1);
     argument_lists("Index2 with 60 nested lists of 33", STARLARK_DEPTH - 4);
+    nested_statements("31 nested def", DEF, STARLARK_NODES);
+    nested_statements("31 nested for", FOR, STARLARK_NODES);
+    nested_statements("31 nested if", IF, STARLARK_NODES);
     in_depth("61 nested not", NOT, IDENTIFIER, STARLARK_NODES);
     size_t most = 0;
     printf("most:");

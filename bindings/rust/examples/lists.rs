@@ -61,5 +61,7 @@ fn main() {
     println!("check: {:?}", table.check());
     println!("f(1, a=2, *x): {:?}", table.call(places[0]));
     println!("f(*x, a=2): {:?}", table.call(places[1]));
+    let mut errors = [0; 6];
+    println!("the module, in the Standard dialect: {:?} error, {:?}", table.module(&[], &mut errors), &errors[..3]);
     println!("lambda a, *, b: a: {:?}, modes {:?}", table.params(places[2], &mut modes), &modes[..2]);
 }

@@ -28,6 +28,17 @@ extern "C" {
         shapes_len: usize,
         out: *mut u32,
     ) -> u32;
+    fn starlark_module(
+        table: *const u8,
+        table_len: usize,
+        names: *const u8,
+        names_len: usize,
+        dialect: *const u8,
+        dialect_len: usize,
+        errors: *mut u32,
+        errors_len: usize,
+        out: *mut u32,
+    ) -> u32;
     fn starlark_call(t: *const u8, tl: usize, n: *const u8, nl: usize, node: usize, out: *mut u32) -> u32;
     fn starlark_target(t: *const u8, tl: usize, n: *const u8, nl: usize, node: usize, out: *mut u32) -> u32;
     fn starlark_assignment(t: *const u8, tl: usize, n: *const u8, nl: usize, node: usize, out: *mut u32) -> u32;
@@ -66,4 +77,12 @@ pub fn type_shape(table: Table, dialect: &[u8], node: usize, shapes: &mut [u8], 
     let (start, length) = (shapes.as_mut_ptr(), shapes.len());
     let out = out.as_mut_ptr();
     unsafe { starlark_type(t, tl, n, nl, dialect.as_ptr(), dialect.len(), node, start, length, out) }
+}
+
+pub fn module(table: Table, dialect: &[u8], errors: &mut [u32], out: &mut Words) -> u32 {
+    let Table { nodes, names } = table;
+    let (t, tl, n, nl) = (nodes.as_ptr(), nodes.len(), names.as_ptr(), names.len());
+    let (start, length) = (errors.as_mut_ptr(), errors.len());
+    let out = out.as_mut_ptr();
+    unsafe { starlark_module(t, tl, n, nl, dialect.as_ptr(), dialect.len(), start, length, out) }
 }

@@ -116,4 +116,10 @@ impl Table<'_> {
     pub fn type_shape(self, dialect: &[u8], node: usize, shapes: &mut [u8]) -> Result<(), Refused> {
         accepted(|out| interface::type_shape(self, dialect, node, shapes, out)).map(|_| ())
     }
+
+    /// How many errors the module has under a dialect (nine bytes, or none for Standard). Three words of `errors` for each: number, begin and
+    /// end; the first that fit whole are stored.
+    pub fn module(self, dialect: &[u8], errors: &mut [u32]) -> Result<u32, Refused> {
+        accepted(|out| interface::module(self, dialect, errors, out)).map(|out| out[0])
+    }
 }

@@ -11,6 +11,7 @@ use Rattle.arguments.specs.Job.{callOf}
 use Rattle.targets.specs.Jobs.{targetOf, assignmentOf}
 use Rattle.typerules.specs.Jobs.{typeShapeOf}
 use Rattle.types.specs.Jobs.{shapesAfter}
+use Rattle.validate.specs.Job.{moduleOf, errorsAfter}
 use Rattle.ffi.specs.Words.{number, words, callWords, laid}
 
 -- a number and words that meet the promise for the answer a, whose words are ws, where the words were out
@@ -42,3 +43,7 @@ module _ (table names out : List ℕ) {n m : ℕ} {xs ys : List ℕ} where
   pub starlark-type-one : (dialect : List ℕ) (node : ℕ) (shapes : List ℕ) {u v : List ℕ} → let a = typeShapeOf table names dialect node (length shapes) in
       Promised a (words a) out n xs → u ≡ shapesAfter table names dialect node shapes → Promised a (words a) out m ys → v ≡ shapesAfter table names dialect node shapes → ((n ≡ m) × (xs ≡ ys)) × (u ≡ v)
   starlark-type-one dialect node shapes p h q k = (one p q, coincide h k)
+
+  pub starlark-module-one : (dialect errors : List ℕ) {u v : List ℕ} → let a = moduleOf table names dialect in
+      Promised a (words a) out n xs → u ≡ errorsAfter table names dialect errors → Promised a (words a) out m ys → v ≡ errorsAfter table names dialect errors → ((n ≡ m) × (xs ≡ ys)) × (u ≡ v)
+  starlark-module-one dialect errors p h q k = (one p q, coincide h k)

@@ -8,6 +8,7 @@ use table::Checked;
 use table::Refusal;
 use targets::Targeted;
 use typerules::Shaped;
+use validate::Listed;
 ghost use mathlib.Core.Path.{_≡_};
 ghost use mathlib.Core.List.{[], _∷_};
 ghost use Prim.Native.Nat.{_+_, _<_, _≤_};
@@ -20,6 +21,7 @@ ghost use Rattle.arguments.specs.Job.{placeValues, callValues, callOf};
 ghost use Rattle.targets.specs.Jobs.{targetOf, assignmentOf};
 ghost use Rattle.typerules.specs.Jobs.{typeShapeOf};
 ghost use Rattle.types.specs.Jobs.{shapesAfter};
+ghost use Rattle.validate.specs.Job.{moduleOf, errorsAfter};
 ghost use Rattle.ffi.specs.Words.{number, words, callWords, laid, Fit, placeIn};
 
 // A refusal: what it carries, and its number.
@@ -207,5 +209,25 @@ pub extern "C" fn starlark_type(
     match answer {
         Shaped::Accepted => 0,
         Shaped::Refused(r) => put_refused(r, out),
+    }
+}
+
+// The module pass: the total, and the first errors that fit.
+#[no_mangle]
+pub extern "C" fn starlark_module(
+    table: &[u8],
+    names: &[u8],
+    dialect: &[u8],
+    errors: &mut [u32],
+    out: &mut [u32; 12],
+) -> u32
+    ensures { λ r. ⌜ r ≡ number (moduleOf (now (table .entry)) (now (names .entry)) (now (dialect .entry))) ⌝ }
+    ensures { λ r. ⌜ now (out .exit) ≡ laid (words (moduleOf (now (table .entry)) (now (names .entry)) (now (dialect .entry)))) 0 (now (out .entry)) ⌝ }
+    ensures { λ r. ⌜ now (errors .exit) ≡ errorsAfter (now (table .entry)) (now (names .entry)) (now (dialect .entry)) (now (errors .entry)) ⌝ }
+{
+    let answer = validate::module(table, names, dialect, errors);
+    match answer {
+        Listed::Total(n) => put_count(n, out),
+        Listed::Refused(r) => put_refused(r, out),
     }
 }

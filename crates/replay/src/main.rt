@@ -20,7 +20,7 @@ fn at(counts: &[u64], job: usize) -> u64 {
 }
 
 // A job's line: how many of its requests agree, and the number of the first that does not, from 1.
-fn say_counts(name: &[u8], job: usize, agree: &[u64; 6], differ: &[u64; 6], first: &[u64; 6]) {
+fn say_counts(name: &[u8], job: usize, agree: &[u64; 7], differ: &[u64; 7], first: &[u64; 7]) {
     say(name);
     say(b": ");
     say_number(at(agree, job));
@@ -91,9 +91,9 @@ fn main() {
         os::fail(b"requests.bin");
         return;
     }
-    let mut agree = [0u64; 6];
-    let mut differ = [0u64; 6];
-    let mut first = [0u64; 6];
+    let mut agree = [0u64; 7];
+    let mut differ = [0u64; 7];
+    let mut first = [0u64; 7];
     all(fd, &mut agree, &mut differ, &mut first);
     libc::close(fd);
     say_counts(b"table", 0, &agree, &differ, &first);
@@ -102,4 +102,5 @@ fn main() {
     say_counts(b"target", 3, &agree, &differ, &first);
     say_counts(b"assignment", 4, &agree, &differ, &first);
     say_counts(b"type", 5, &agree, &differ, &first);
+    say_counts(b"module", 6, &agree, &differ, &first);
 }

@@ -20,6 +20,9 @@ struct Asked {
     words: usize,
 }
 
+// The job whose buffer is one of words.
+const MODULE: usize = 6;
+
 // What each byte of the lent memory is before a job.
 const FILL: u8 = 0xEE;
 
@@ -54,7 +57,15 @@ fn front(s: &[u8], len: usize) -> &[u8] {
     &s[0..0]
 }
 
-// A request's job: the number that it answers.
+// The same of words.
+fn front_words(s: &[u32], len: usize) -> &[u32] {
+    if len <= s.len() {
+        return &s[0..len];
+    }
+    &s[0..0]
+}
+
+// A request's job, but for the module pass: the number that it answers.
 fn run(
     a: Asked,
     table: &[u8],
@@ -77,7 +88,7 @@ fn run(
 // A word of the answer: one of those recorded, or as it was.
 fn word_of(recorded: &[u8], len: usize, i: usize) -> u32 {
     if i < len {
-        if i < 12 {
+        if i < 65536 {
             return fields::word(recorded, 4 * i);
         }
     }
@@ -127,6 +138,58 @@ fn agrees(
     names::same_bytes(front(whole, room), after)
 }
 
+// The same for the module pass, whose buffer is one of words.
+fn module_agrees(
+    a: Asked,
+    table: &[u8],
+    names: &[u8],
+    dialect: &[u8],
+    words: &[u8],
+    after: &[u8],
+) -> bool {
+    let mut space = [FILL_WORD; 256];
+    let mut out = [FILL_WORD; 12];
+    let errors: &mut [u32] = &mut space;
+    let room = a.room;
+    if errors.len() < room {
+        return false;
+    }
+    let number = ffi::starlark_module(table, names, dialect, &mut errors[0..room], &mut out);
+    if number != a.number {
+        return false;
+    }
+    if !same_words(words, a.words, &out) {
+        return false;
+    }
+    let whole = &errors[..];
+    each_word(after, room, front_words(whole, room))
+}
+
+// How many bytes the recorded buffer has: the module pass has words.
+fn after_len(job: usize, room: usize) -> usize {
+    if job == MODULE {
+        if room < 65536 {
+            return 4 * room;
+        }
+    }
+    room
+}
+
+// Whether a request's answer is the recorded one.
+fn is_same(
+    a: Asked,
+    table: &[u8],
+    names: &[u8],
+    dialect: &[u8],
+    words: &[u8],
+    after: &[u8],
+) -> bool {
+    if a.job == MODULE {
+        return module_agrees(a, table, names, dialect, words, after);
+    }
+    agrees(a, table, names, dialect, words, after)
+}
+
 // The next request of the file.
 pub fn one(fd: i32) -> Replayed {
     let mut head = [0u8; 20];
@@ -138,7 +201,7 @@ pub fn one(fd: i32) -> Replayed {
     let mut names = [0u8; 512];
     let mut dialect = [0u8; 256];
     let mut words = [0u8; 48];
-    let mut after = [0u8; 256];
+    let mut after = [0u8; 1024];
     if !filled(fd, &mut table, a.table) {
         return Replayed::End;
     }
@@ -155,16 +218,17 @@ pub fn one(fd: i32) -> Replayed {
     if !filled(fd, &mut words, 4 * count) {
         return Replayed::End;
     }
-    if !filled(fd, &mut after, a.room) {
+    let size = after_len(a.job, a.room);
+    if !filled(fd, &mut after, size) {
         return Replayed::End;
     }
-    let same = agrees(
+    let same = is_same(
         a,
         front(&table, a.table),
         front(&names, a.names),
         front(&dialect, a.dialect),
         &words,
-        front(&after, a.room),
+        front(&after, size),
     );
     if same {
         return Replayed::Same(a.job);
