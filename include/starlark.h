@@ -18,8 +18,9 @@
  *   Each pointer points to as many elements as the length beside it says, and `out` to twelve words.
  *   No two of the buffers that one call is lent overlap: not the table, the names, the dialect, the written buffer, `out`.
  *   No pointer is NULL, not even one of length 0; words are aligned to four bytes.
- *   The thread has stack enough. Measured (bindings/c/stack.c, aarch64): every job needs 270 KB at 2,100 nodes side by side, for the table
- *   check; the type job up to 471 KB, at an Index2 with a list of 2,094 arguments. Nesting alone, 64 deep, needs 48 KB at most.
+ *   The thread has stack enough: STARLARK_STACK_BYTES is twice what any job was measured to need (bindings/c/stack.c, on aarch64), which
+ *   grows with the nodes that stand side by side. At 2,100 nodes the table check needs 270 KB, and with it every job; the type job up to 470 KB
+ *   (an Index2 with a list of 2,094 arguments), the module pass up to 505 KB (statements). Nesting alone, 64 deep, needs less than 50 KB.
  */
 #ifndef STARLARK_H
 #define STARLARK_H

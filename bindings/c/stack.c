@@ -201,7 +201,7 @@ static void nested_statements(const char *shape, int kind, size_t limit) {
         opened[2 * d + 1] = open_node(STATEMENTS, 0);
         for (size_t i = 0; i < 2 * each; i++) leaf(BREAK);
     }
-    leaf(BREAK);
+    while (nodes < limit) leaf(BREAK);
     for (int d = 2 * pairs; d-- > 0;) close_node(opened[d]);
     close_node(root);
     measure(shape, 0);
