@@ -1,5 +1,6 @@
 // One recorded request: it is read, its job is run on memory with a pattern, and all of that memory is held to what is recorded.
 use forest::names;
+ghost use Prim.Native.Nat.{_<_};
 
 // What comes of a request: there is none left, or its job and whether the answer is the recorded one.
 pub enum Replayed {
@@ -8,7 +9,7 @@ pub enum Replayed {
     Different(usize),
 }
 
-// The head of a request: the job, how long its parts are, the job's node, and the number that it answers.
+// The head of a request: the job, how long its parts are, the job's node, the number that it answers, and how many words.
 struct Asked {
     job: usize,
     dialect: usize,
@@ -41,6 +42,27 @@ fn head_of(head: &[u8]) -> Asked {
     }
 }
 
+// How many bytes so many words are.
+fn bytes_of(words: usize) -> usize {
+    4 * (words % 65536)
+}
+
+// How many bytes the recorded buffer has.
+fn buffer_len(job: usize, room: usize) -> usize
+    ensures { λ r. ⌜ r < 262144 ⌝ }
+{
+    if job == MODULE {
+        return 4 * (room % 65536);
+    }
+    room % 65536
+}
+
+// How many bytes stand behind the head.
+fn size_of(a: Asked) -> usize {
+    let parts = a.table % 65536 + a.names % 65536 + a.dialect % 65536;
+    parts + 4 * (a.words % 65536) + buffer_len(a.job, a.room)
+}
+
 // The next bytes of the file, put at the front of a buffer: whether they were all there.
 fn filled(fd: i32, space: &mut [u8], len: usize) -> bool {
     if space.len() < len {
@@ -49,7 +71,7 @@ fn filled(fd: i32, space: &mut [u8], len: usize) -> bool {
     io::read_full(fd, &mut space[0..len]) == len
 }
 
-// The front of a buffer, as much of it as is there.
+// The front of a buffer, as much of it as is there, and what stands behind it.
 fn front(s: &[u8], len: usize) -> &[u8] {
     if len <= s.len() {
         return &s[0..len];
@@ -57,10 +79,9 @@ fn front(s: &[u8], len: usize) -> &[u8] {
     &s[0..0]
 }
 
-// The same of words.
-fn front_words(s: &[u32], len: usize) -> &[u32] {
+fn behind(s: &[u8], len: usize) -> &[u8] {
     if len <= s.len() {
-        return &s[0..len];
+        return &s[len..];
     }
     &s[0..0]
 }
@@ -85,21 +106,15 @@ fn run(
     }
 }
 
-// A word of the answer: one of those recorded, or as it was.
+// A recorded word, or what a word was where none is recorded.
 fn word_of(recorded: &[u8], len: usize, i: usize) -> u32 {
     if i < len {
-        if i < 65536 {
-            return fields::word(recorded, 4 * i);
-        }
+        return fields::word(recorded, bytes_of(i));
     }
     FILL_WORD
 }
 
-// Whether the words are the recorded ones, so many of them, and the others are as they were.
-fn same_words(recorded: &[u8], len: usize, out: &[u32; 12]) -> bool {
-    each_word(recorded, len, out)
-}
-
+// Whether words are the recorded ones, so many of them, and the others are as they were.
 fn each_word(recorded: &[u8], len: usize, out: &[u32]) -> bool {
     let mut i = 0;
     while i < out.len() {
@@ -111,15 +126,13 @@ fn each_word(recorded: &[u8], len: usize, out: &[u32]) -> bool {
     true
 }
 
+// The recorded answer begins with the words of `out`; number and words must be as recorded.
+fn is_told(a: Asked, number: u32, answer: &[u8], out: &[u32; 12]) -> bool {
+    (number == a.number) & each_word(answer, a.words, out)
+}
+
 // Whether a request's job leaves number, words and buffer as recorded.
-fn agrees(
-    a: Asked,
-    table: &[u8],
-    names: &[u8],
-    dialect: &[u8],
-    words: &[u8],
-    after: &[u8],
-) -> bool {
+fn agrees(a: Asked, table: &[u8], names: &[u8], dialect: &[u8], answer: &[u8]) -> bool {
     let mut space = [FILL; 256];
     let mut out = [FILL_WORD; 12];
     let buffer: &mut [u8] = &mut space;
@@ -128,25 +141,15 @@ fn agrees(
         return false;
     }
     let number = run(a, table, names, dialect, &mut buffer[0..room], &mut out);
-    if number != a.number {
-        return false;
-    }
-    if !same_words(words, a.words, &out) {
+    if !is_told(a, number, answer, &out) {
         return false;
     }
     let whole = &buffer[..];
-    names::same_bytes(front(whole, room), after)
+    names::same_bytes(front(whole, room), behind(answer, bytes_of(a.words)))
 }
 
 // The same for the module pass, whose buffer is one of words.
-fn module_agrees(
-    a: Asked,
-    table: &[u8],
-    names: &[u8],
-    dialect: &[u8],
-    words: &[u8],
-    after: &[u8],
-) -> bool {
+fn module_agrees(a: Asked, table: &[u8], names: &[u8], dialect: &[u8], answer: &[u8]) -> bool {
     let mut space = [FILL_WORD; 256];
     let mut out = [FILL_WORD; 12];
     let errors: &mut [u32] = &mut space;
@@ -155,39 +158,25 @@ fn module_agrees(
         return false;
     }
     let number = ffi::starlark_module(table, names, dialect, &mut errors[0..room], &mut out);
-    if number != a.number {
-        return false;
-    }
-    if !same_words(words, a.words, &out) {
+    if !is_told(a, number, answer, &out) {
         return false;
     }
     let whole = &errors[..];
-    each_word(after, room, front_words(whole, room))
+    each_word(behind(answer, bytes_of(a.words)), room, whole)
 }
 
-// How many bytes the recorded buffer has: the module pass has words.
-fn after_len(job: usize, room: usize) -> usize {
-    if job == MODULE {
-        if room < 65536 {
-            return 4 * room;
-        }
-    }
-    room
-}
-
-// Whether a request's answer is the recorded one.
-fn is_same(
-    a: Asked,
-    table: &[u8],
-    names: &[u8],
-    dialect: &[u8],
-    words: &[u8],
-    after: &[u8],
-) -> bool {
+// Whether a request's answer is the recorded one, where the request stands behind its head.
+fn is_same(a: Asked, body: &[u8]) -> bool {
+    let table = front(body, a.table);
+    let left = behind(body, a.table);
+    let names = front(left, a.names);
+    let left = behind(left, a.names);
+    let dialect = front(left, a.dialect);
+    let answer = behind(left, a.dialect);
     if a.job == MODULE {
-        return module_agrees(a, table, names, dialect, words, after);
+        return module_agrees(a, table, names, dialect, answer);
     }
-    agrees(a, table, names, dialect, words, after)
+    agrees(a, table, names, dialect, answer)
 }
 
 // The next request of the file.
@@ -197,40 +186,12 @@ pub fn one(fd: i32) -> Replayed {
         return Replayed::End;
     }
     let a = head_of(&head);
-    let mut table = io::buffer();
-    let mut names = [0u8; 512];
-    let mut dialect = [0u8; 256];
-    let mut words = [0u8; 48];
-    let mut after = [0u8; 1024];
-    if !filled(fd, &mut table, a.table) {
+    let size = size_of(a);
+    let mut space = io::buffer();
+    if !filled(fd, &mut space, size) {
         return Replayed::End;
     }
-    if !filled(fd, &mut names, a.names) {
-        return Replayed::End;
-    }
-    if !filled(fd, &mut dialect, a.dialect) {
-        return Replayed::End;
-    }
-    let count = a.words;
-    if 12 < count {
-        return Replayed::End;
-    }
-    if !filled(fd, &mut words, 4 * count) {
-        return Replayed::End;
-    }
-    let size = after_len(a.job, a.room);
-    if !filled(fd, &mut after, size) {
-        return Replayed::End;
-    }
-    let same = is_same(
-        a,
-        front(&table, a.table),
-        front(&names, a.names),
-        front(&dialect, a.dialect),
-        &words,
-        front(&after, size),
-    );
-    if same {
+    if is_same(a, front(&space, size)) {
         return Replayed::Same(a.job);
     }
     Replayed::Different(a.job)
