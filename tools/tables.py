@@ -1,8 +1,11 @@
 #!/usr/bin/env python3
-"""Node tables from words.
+"""Node tables and table files from words.
 
 tables.py cases TEXT OUT            write the requests of crates/cases from its cases in words
-tables.py cases TEXT OUT --check    only say whether OUT is what TEXT gives (exit status 1 if not)
+tables.py filecases TEXT OUT        write the table files of crates/filetest from its cases in words
+tables.py file TEXT OUT             write the table file of a tree in words
+tables.py files TEXT...             the same for several: from X.txt to X.table
+Each with --check behind it: only say whether the file is what its text gives (exit status 1 if not).
 
 A tree is written (Kind children): (Statements (Break) (Return (Identifier x))). Behind the kind may stand
   :1              the detail
@@ -11,7 +14,20 @@ A tree is written (Kind children): (Statements (Break) (Return (Identifier x))).
 ^3<text> is the text three times over: ^3<(Break)>, and ^3<(Not >(Int)^3<)> for (Not (Not (Not (Int)))); a # in it is the turn's
 number, from 0, in base 36.
 Sizes follow from the tree, names are put one after the other, and node i has the span i to i + 1.
+
+Cases of files have, between label and tree: bits= the dialect's numbers, names= so many name bytes, byte=P:V byte P becomes V and its
+block's sum is made anew, damage=P:V the same without a new sum, more= so many zeros behind the file, cut= so many bytes of it.
+
+The text of a table file is a tree below such lines:
+  # a comment
+  script: FILE          the script that the tree stands for, beside the text; then each node quotes its part of it: (Break `break`)
+  dialect: none         or Standard, Extended, AllOptionsInternal, or the nine numbers one after the other: 111000100
+  change: 600 7         byte 600 of the file made is changed to 7
+  cut: 700              of the file made only 700 bytes are kept
+A quote is the first such text within the parent's, behind the child before it and behind the name of a Normal or a Named, with which
+their quotes begin. `def f…break` goes from the first words to the first such last words behind them. span=4-9 stands for a quote too.
 """
+import os
 import re
 import struct
 import sys
@@ -21,14 +37,20 @@ KINDS = """1 Statements 2 Def 3 For 4 If 5 IfElse 6 Break 7 Continue 8 Return 9 
 33 Not 34 Minus 35 Plus 36 BitNot 37 Op 38 IfExpr 39 List 40 Dict 41 ListComprehension 42 DictComprehension 43 FString
 50 Normal 51 NoArgs 52 Slash 53 ArgsParam 54 KwArgsParam 60 Positional 61 Named 62 ArgsArg 63 KwArgsArg""".split()
 NUMBER = {name: int(number) for number, name in zip(KINDS[::2], KINDS[1::2])}
-JOBS = {"check": 1, "node": 2, "dialect": 3, "call": 4, "params": 5, "target": 6, "assignment": 7, "type": 8}
+JOBS = {"check": 1, "node": 2, "dialect": 3, "call": 4, "params": 5, "target": 6, "assignment": 7, "type": 8, "module": 9}
 WANTED = {"parameters": 1, "call": 2, "assignment": 3, "expression": 4}
-TOKEN = re.compile(r"[()]|[^\s()]+")
+DIALECTS = {"none": "", "Standard": "111000100", "Extended": "111102110", "AllOptionsInternal": "111112111"}
+TOKEN = re.compile(r"[()]|`[^`]*`|[^\s()]+")
 
 
 class Node:
     def __init__(self, kind, detail):
-        self.kind, self.detail, self.name, self.fields, self.children = kind, detail, b"", {}, []
+        self.kind, self.detail, self.name, self.quote, self.fields, self.children = kind, detail, b"", None, {}, []
+
+
+def demand(met, words):
+    if not met:
+        raise ValueError(words)
 
 
 def numbers(text, mark):
@@ -37,13 +59,16 @@ def numbers(text, mark):
 
 def head(word):
     kind, _, detail = word.partition(":")
+    demand(kind in NUMBER, f"no kind is called {kind}")
     return Node(NUMBER[kind], int(detail or 0))
 
 
 def word_of(node, word):
-    """A word behind the kind: a field, or the name."""
+    """A word behind the kind: a quote, a field, or the name."""
     key, mark, value = word.partition("=")
-    if not mark:
+    if word.startswith("`"):
+        node.quote = word[1:-1].encode()
+    elif not mark:
         node.name = word.encode()
     elif key == "span":
         node.fields[key] = numbers(value, "-")
@@ -75,7 +100,7 @@ def trees(text):
             way.pop()
         elif token != "(":
             word_of(way[-1], token)
-    assert way == [roots], "brackets: " + text
+    demand(way == [roots], "brackets that do not match: " + text)
     return roots.children
 
 
@@ -127,6 +152,103 @@ def request(line):
     return pack(JOBS[job], label + ": ", table, names, dialect, wanted, room, node)
 
 
+def found(text, script, begin, end):
+    """Where a text stands in a part of a script: its begin and its end."""
+    at = script.find(text, begin, end)
+    demand(0 <= at, f"`{text.decode()}` does not stand between {begin} and {end} of the script")
+    return at, at + len(text)
+
+
+def place(node, script, begin, end):
+    """Gives a node and all below it the spans of their quotes, and answers the node's."""
+    if "span" not in node.fields:
+        demand(node.quote, "a node quotes nothing of the script")
+        first, mark, last = node.quote.partition("…".encode())
+        start, stop = found(first, script, begin, end)
+        if mark:
+            stop = found(last, script, stop, end)[1]
+        node.fields["span"] = start, stop
+    start, stop = node.fields["span"]
+    behind = start
+    if node.kind in (NUMBER["Normal"], NUMBER["Named"]):
+        behind += len(node.name)
+    if node.kind == NUMBER["Named"]:
+        node.fields.setdefault("pos", start)
+    for child in node.children:
+        behind = place(child, script, behind, stop)[1]
+    return start, stop
+
+
+def block(number, content):
+    """A block of 512 bytes: number, used bytes, content, and the sum."""
+    front = struct.pack("<HH", number, len(content)) + content.ljust(504, b"\0")
+    return front + struct.pack("<I", sum((p + 1) * byte for p, byte in enumerate(front)))
+
+
+def file_of(table, names, dialect):
+    """The table file: block 0, then the names and the nodes, 504 bytes a block."""
+    parts = [struct.pack("<HH", len(table) // 24, len(names)) + dialect]
+    for content in (names, table):
+        parts += [content[at:at + 504] for at in range(0, len(content), 504)]
+    return b"".join(block(number, content) for number, content in enumerate(parts))
+
+
+def table_file(path):
+    """The table file that a text gives."""
+    said, tree = {}, []
+    for line in open(path, encoding="utf-8"):
+        key, mark, value = line.partition(":")
+        if mark and key in ("script", "dialect", "change", "cut"):
+            said[key] = value.strip()
+        elif not line.startswith("#"):
+            tree.append(line)
+    roots = trees("".join(tree))
+    if "script" in said:
+        script = open(os.path.join(os.path.dirname(path), said["script"]), "rb").read()
+        for root in roots:
+            place(root, script, 0, len(script))
+    dialect = said.get("dialect", "none")
+    demand(dialect in DIALECTS or dialect.isdigit(), f"no dialect is called {dialect}")
+    made = bytearray(file_of(*table_of(roots), bytes(int(c) for c in DIALECTS.get(dialect, dialect))))
+    if "change" in said:
+        at, value = numbers(said["change"], None)
+        demand(made[at] != value, f"byte {at} is {value} already")
+        made[at] = value
+    return bytes(made[:int(said.get("cut", len(made)))])
+
+
+def summed(made, at):
+    """Makes the sum of the block that byte `at` is in anew."""
+    start = at // 512 * 512
+    total = sum((p + 1) * byte for p, byte in enumerate(made[start:start + 508]))
+    made[start + 508:start + 512] = struct.pack("<I", total)
+
+
+def file_case(line):
+    """A line of filecases: a heading, or a label, what is done to the file, and the tree."""
+    if line.startswith("#"):
+        return struct.pack("<HH", len(line.encode()), 0) + line.encode()
+    label, done, tree = [part.strip() for part in line.split("|")]
+    said = [word.partition("=")[::2] for word in done.split()]
+    (table, names), length = table_of(trees(tree)), dict(said).get("names")
+    made = bytearray(file_of(table, names.ljust(int(length or 0), b"a"), bytes(int(c) for c in dict(said).get("bits", ""))))
+    for key, value in said:
+        if key in ("byte", "damage"):
+            at, byte = numbers(value, ":")
+            demand(made[at] != byte, f"{label}: byte {at} is {byte} already")
+            made[at] = byte
+        if key == "byte":
+            summed(made, at)
+    made = (made + bytes(int(dict(said).get("more", 0))))[:int(dict(said).get("cut", 65535))]
+    text = (label + ": ").encode()
+    return struct.pack("<HH", len(text), len(made)) + text + bytes(made)
+
+
+def lines_of(one):
+    """Makes all lines of a text by what makes one."""
+    return lambda path: b"".join(one(line) for line in open(path, encoding="utf-8").read().split("\n") if line.strip())
+
+
 def pack(job, label, table, names, dialect, wanted, room, node):
     text = label.encode()
     lengths = struct.pack("<HHHHHHHHI", job, len(text), len(table), len(names), len(dialect), wanted, room, 0, node)
@@ -134,15 +256,25 @@ def pack(job, label, table, names, dialect, wanted, room, node):
 
 
 def main():
-    _, what, text, out, *rest = sys.argv
-    assert what == "cases"
-    lines = open(text, encoding="utf-8").read().split("\n")
-    made = b"".join(request(line) for line in lines if line.strip())
-    if rest == ["--check"]:
-        kept = open(out, "rb").read() == made
-        print(f"{out}: {'is' if kept else 'is NOT'} what {text} gives")
-        sys.exit(0 if kept else 1)
-    open(out, "wb").write(made)
+    what, *files = [word for word in sys.argv[1:] if word != "--check"] or [""]
+    make = {"cases": lines_of(request), "filecases": lines_of(file_case)}.get(what, table_file)
+    pairs = [(text, os.path.splitext(text)[0] + ".table") for text in files] if what == "files" else [tuple(files)]
+    if what not in ("cases", "filecases", "file", "files") or any(len(pair) != 2 for pair in pairs):
+        sys.exit(__doc__)
+    right = True
+    for text, out in pairs:
+        try:
+            made = make(text)
+        except (ValueError, OSError, struct.error) as error:
+            sys.exit(f"{text}: {error}")
+        if "--check" not in sys.argv:
+            open(out, "wb").write(made)
+        elif not os.path.exists(out) or open(out, "rb").read() != made:
+            print(f"{out}: is NOT what {text} gives")
+            right = False
+    if "--check" in sys.argv and right:
+        print(f"{', '.join(out for _, out in pairs)}: what {'their texts give' if 1 < len(pairs) else pairs[0][0] + ' gives'}")
+    sys.exit(0 if right else 1)
 
 
 main()

@@ -29,7 +29,7 @@ sumOf b = weighed 508 b
 unfoldable pub beforeSum : ℕ → List ℕ → List ℕ
 beforeSum number content = bytesOf 2 number ++ (bytesOf 2 (length content) ++ (content ++ replicate (504 - length content) 0))
 
--- the block that has a number and a content
+-- the block that has this number and this content
 unfoldable pub blockOf : ℕ → List ℕ → List ℕ
 blockOf number content = beforeSum number content ++ bytesOf 4 (sumOf (beforeSum number content))
 
@@ -42,14 +42,14 @@ zeros (x ∷ l) = eqb x 0 && zeros l
 abbrev pub demand : Bool → ℕ → Answer
 demand met number = if' met (λ _. accepted []) (λ _. refused number [])
 
--- the demands on the 512 bytes of a block: 72 check, 71 number, 73 used bytes or padding
+-- the demands on the 512 bytes of a block that is to have this number and so many used bytes: 72 check, 71 number, 73 used bytes or padding
 unfoldable pub examine : ℕ → ℕ → List ℕ → Answer
 examine number used b =
     andThen (demand (eqb (sumOf b) (field 4 b 508)) blockCheck) (λ _.
     andThen (demand (eqb (field 2 b 0) number) blockNumber) (λ _.
     demand (eqb (field 2 b 2) used && zeros (drop (4 + used) (take 508 b))) blockUsed))
 
--- the judgement of the block at the front of some bytes, that is to have a number and used bytes: 70 short, then the demands on its 512 bytes
+-- the block at the front of some bytes, which is to have this number and so many used bytes: 70 short, then the demands on its 512 bytes
 unfoldable pub judge : ℕ → ℕ → List ℕ → Answer
 judge number used bs = andThen (demand (leb 512 (length bs)) blockShort) (λ _. examine number used (take 512 bs))
 

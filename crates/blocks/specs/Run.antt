@@ -9,21 +9,21 @@ use Rattle.blocks.specs.Block.{blockOf, judge}
 unfoldable pub blocksFor : ℕ → ℕ
 blocksFor total = (total + 503) / 504
 
--- the first n blocks of a content, the first of which has a number
+-- the first n blocks of a content, numbered from this number on
 unfoldable pub blocksOf : ℕ → ℕ → List ℕ → List ℕ
 blocksOf zero number content = []
 blocksOf (suc n) number content = blockOf number (take 504 content) ++ blocksOf n (number + 1) (drop 504 content)
 
--- the blocks of a content
+-- all blocks of a content
 unfoldable pub runOf : ℕ → List ℕ → List ℕ
 runOf number content = blocksOf (blocksFor (length content)) number content
 
--- the judgement of n blocks in turn that are to hold so many bytes
+-- n blocks, judged one after the other, that are numbered from this number on and are to hold so many bytes: each uses 504, or what is left
 unfoldable pub judgeBlocks : ℕ → ℕ → ℕ → List ℕ → Answer
 judgeBlocks zero number total bs = accepted []
 judgeBlocks (suc n) number total bs = andThen (judge number (min 504 total) bs) (λ _. judgeBlocks n (number + 1) (total - 504) (drop 512 bs))
 
--- the judgement of the run at the front of some bytes
+-- the run at the front of some bytes: as many blocks as so many bytes fill
 unfoldable pub judgeRun : ℕ → ℕ → List ℕ → Answer
 judgeRun number total bs = judgeBlocks (blocksFor total) number total bs
 

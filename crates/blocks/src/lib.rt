@@ -12,7 +12,7 @@ pub enum Judged {
     Refused(u32),
 }
 
-// The block at the front of some bytes, that is to have a number and used bytes: 70, 72, 71, 73.
+// The block at the front of some bytes, which is to have this number and so many used bytes: 70, 72, 71, 73.
 pub fn judge(bytes: &[u8], number: usize, used: usize) -> Judged
     ensures { λ r. ⌜ judged r ≡ judge number used (now (bytes .entry)) ⌝ }
 {
@@ -23,7 +23,7 @@ pub fn judge(bytes: &[u8], number: usize, used: usize) -> Judged
     examine(&b, number, used)
 }
 
-// The blocks that hold total bytes, 504 each, the first of which has a number: each is judged in turn.
+// The blocks that hold total bytes, 504 each, numbered from first on: each is judged in turn.
 pub fn judge_run(bytes: &[u8], first: u16, total: usize) -> Judged
     ensures { λ r. ⌜ judged r ≡ judgeRun first total (now (bytes .entry)) ⌝ }
 {

@@ -14,6 +14,7 @@ use table::Refusal;
 use table::Wanted;
 use targets::Targeted;
 use typerules::Shaped;
+use validate::Listed;
 
 // What a request asks: its job, how long its parts are, and the job's node.
 pub struct Asked {
@@ -247,7 +248,46 @@ fn say_lent(a: Asked, table: &[u8], names: &[u8], dialect: &[u8]) {
     say_type(table, names, dialect, a.node, &mut lent[0..room]);
 }
 
-// 0 is a heading, 1 the table check, 2 a job's node, 3 the bytes of a dialect, 4 a call's arguments, 5 parameters, 6 a target, 7 an assignment, 8 a type.
+fn say_word(w: u32) {
+    say(b" ");
+    say_number(w as u64);
+}
+
+// The words of a list, one behind the other.
+fn say_words(s: &[u32]) {
+    let n = s.len();
+    let mut i = 0;
+    while i < n {
+        say_word(s[i]);
+        i += 1;
+    }
+}
+
+fn say_listed(l: Listed) {
+    match l {
+        Listed::Total(n) => {
+            say(b"errors ");
+            say_number(n as u64);
+        }
+        Listed::Refused(r) => say_refusal(r),
+    }
+}
+
+// The module job, and its list of words afterwards: it holds 9 in every word, and is as long as the request says.
+fn say_module(table: &[u8], names: &[u8], dialect: &[u8], room: usize) {
+    let mut space = [9u32; 64];
+    let lent: &mut [u32] = &mut space;
+    if lent.len() < room {
+        return;
+    }
+    let list = &mut lent[0..room];
+    let l = validate::module(table, names, dialect, list);
+    say_listed(l);
+    say(b", words");
+    say_words(list);
+}
+
+// 0 is a heading, 1 the table check, 2 a job's node, 3 the bytes of a dialect, 4 a call's arguments, 5 parameters, 6 a target, 7 an assignment, 8 a type, 9 a module.
 pub fn answer(a: Asked, table: &[u8], names: &[u8], dialect: &[u8]) {
     let job = a.job;
     match job {
@@ -258,6 +298,7 @@ pub fn answer(a: Asked, table: &[u8], names: &[u8], dialect: &[u8]) {
         5 | 8 => say_lent(a, table, names, dialect),
         6 => say_targeted(targets::target(table, names, a.node)),
         7 => say_targeted(targets::assignment(table, names, a.node)),
+        9 => say_module(table, names, dialect, a.room),
         _ => say(b""),
     }
 }

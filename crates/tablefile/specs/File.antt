@@ -11,7 +11,7 @@ pub record Content : Type 0 where
   pub names : List ℕ
   pub dialect : List ℕ
 
--- what block 0 holds: node count, name byte count and the dialect, so 4 or 13 used
+-- what block 0 holds: node count, name byte count (2 bytes each) and the dialect, so 4 or 13 used
 unfoldable pub headerOf : Content → List ℕ
 headerOf c = bytesOf 2 (length (c .table) / 24) ++ (bytesOf 2 (length (c .names)) ++ c .dialect)
 

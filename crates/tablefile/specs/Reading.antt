@@ -23,7 +23,7 @@ nodesAt bs = field 2 bs 4
 unfoldable pub namesAt : List ℕ → ℕ
 namesAt bs = field 2 bs 6
 
--- nine bytes of a dialect if block 0 uses 13, else none
+-- how many dialect bytes block 0 has: nine if it uses 13, else none, so that any used bytes but 4 and 13 are 73
 unfoldable pub dialectAt : List ℕ → ℕ
 dialectAt bs = if' (eqb (field 2 bs 2) 13) (λ _. 9) (λ _. 0)
 

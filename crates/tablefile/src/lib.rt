@@ -21,7 +21,8 @@ pub enum Verdict {
     Refused(Refusal),
 }
 
-// What a file holds, by value. No dialect has length 0. All is zero when refused, and past the lengths.
+// What a file holds, by value, and how many bytes it takes. Where it has no dialect, dialect_len is 0. All is zero when refused, and past
+// the lengths.
 pub struct Loaded {
     pub verdict: Verdict,
     pub taken: usize,

@@ -20,12 +20,13 @@ pub(crate) fn visit_expr(d: Dialect, names: &[u8], t: &[u8], at: usize, errors: 
     if t.len() < 24 {
         return 0;
     }
-    let e = forest::span(t);
     let own = expression(d, names, t, at, errors);
     let after_own = errors::free(errors.len(), own);
+    let e = forest::span(t);
     let below = visit_expr(d, names, &t[24..e], at + 1, &mut errors[after_own..]);
     let after_tree = errors::free(errors.len(), own + below);
-    let rest = visit_expr(d, names, &t[e..], at + e / 24, &mut errors[after_tree..]);
+    let after = &t[e..];
+    let rest = visit_expr(d, names, after, at + e / 24, &mut errors[after_tree..]);
     own + below + rest
 }
 
@@ -41,15 +42,9 @@ fn expression(d: Dialect, names: &[u8], t: &[u8], at: usize, errors: &mut [u32])
         return errors::push_unless(permitted, numbers::ELLIPSIS_NOT_PERMITTED, t, errors);
     }
     if kind == kinds::LAMBDA {
-        return params::with_params(
-            d.enable_lambda,
-            numbers::LAMBDA_NOT_PERMITTED,
-            d,
-            names,
-            t,
-            at as u32,
-            errors,
-        );
+        let permitted = d.enable_lambda;
+        let number = numbers::LAMBDA_NOT_PERMITTED;
+        return params::with_params(permitted, number, d, names, t, at as u32, errors);
     }
     0
 }

@@ -9,9 +9,9 @@ use table::numbers;
 ghost use mathlib.Core.Path.{_≡_};
 ghost use Prim.Native.Nat.{_+_, _*_, _≤_};
 ghost use lib.ListN.{length};
-ghost use Rattle.forest.specs.Forest.{nodeOf, treeOf, forest};
+ghost use Rattle.forest.specs.Forest.{nodeOf, kidsOf, treeOf, forest};
 ghost use Rattle.errors.specs.Errors.{Stores};
-ghost use Rattle.validate.specs.Module.{isBanned, isIf, loadErrors, f, «visit_stmt»};
+ghost use Rattle.validate.specs.Module.{defErrors, isBanned, isIf, loadErrors, f, «visit_stmt»};
 
 // The statements among the nodes side by side in a stretch whose first record has the index at.
 pub(crate) fn visit_stmt(
@@ -19,30 +19,23 @@ pub(crate) fn visit_stmt(
     names: &[u8],
     t: &[u8],
     at: usize,
-    top_level: bool,
-    inside_for: bool,
-    inside_def: bool,
+    top: bool,
+    in_for: bool,
+    in_def: bool,
     errors: &mut [u32],
 ) -> usize
     requires { ⌜ 24 * at + length (now t) ≤ 50400 ⌝ }
-    ensures { λ r. ⌜ Stores («visit_stmt» d (now (names .entry)) «top_level» «inside_for» «inside_def» (forest at (now (t .entry)))) (now (errors .entry)) r (now (errors .exit)) ⌝ }
+    ensures { λ r. ⌜ Stores («visit_stmt» d (now (names .entry)) «top» «in_for» «in_def» (forest at (now (t .entry)))) (now (errors .entry)) r (now (errors .exit)) ⌝ }
 {
     if t.len() < 24 {
         return 0;
     }
-    let e = forest::span(t);
-    let first = check_statement(d, names, t, at, top_level, inside_for, inside_def, errors);
+    let first = check_statement(d, names, t, at, top, in_for, in_def, errors);
     let free = errors::free(errors.len(), first);
-    let rest = visit_stmt(
-        d,
-        names,
-        &t[e..],
-        at + e / 24,
-        top_level,
-        inside_for,
-        inside_def,
-        &mut errors[free..],
-    );
+    let e = forest::span(t);
+    let after = &t[e..];
+    let left = &mut errors[free..];
+    let rest = visit_stmt(d, names, after, at + e / 24, top, in_for, in_def, left);
     first + rest
 }
 
@@ -52,92 +45,69 @@ fn check_statement(
     names: &[u8],
     t: &[u8],
     at: usize,
-    top_level: bool,
-    inside_for: bool,
-    inside_def: bool,
+    top: bool,
+    in_for: bool,
+    in_def: bool,
     errors: &mut [u32],
 ) -> usize
     requires { ⌜ (24 ≤ length (now t)) × (24 * at + length (now t) ≤ 50400) ⌝ }
-    ensures { λ r. ⌜ Stores (f d (now (names .entry)) «top_level» «inside_for» «inside_def» (treeOf at (now (t .entry)))) (now (errors .entry)) r (now (errors .exit)) ⌝ }
+    ensures { λ r. ⌜ Stores (f d (now (names .entry)) «top» «in_for» «in_def» (treeOf at (now (t .entry)))) (now (errors .entry)) r (now (errors .exit)) ⌝ }
 {
     if table::class(t) != 1 {
         return 0;
     }
     let kind = forest::kind(t);
     let e = forest::span(t);
+    let below = &t[24..e];
     if kind == kinds::DEF {
-        let first = params::with_params(
-            d.enable_def,
-            numbers::DEF_NOT_PERMITTED,
-            d,
-            names,
-            t,
-            at as u32,
-            errors,
-        );
+        let first = def_errors(d, names, t, at, errors);
         let free = errors::free(errors.len(), first);
-        let rest = visit_stmt(
-            d,
-            names,
-            &t[24..e],
-            at + 1,
-            false,
-            false,
-            true,
-            &mut errors[free..],
-        );
+        let left = &mut errors[free..];
+        let rest = visit_stmt(d, names, below, at + 1, false, false, true, left);
         return first + rest;
     }
     if kind == kinds::FOR {
-        if is_banned(d, top_level) {
+        if is_banned(d, top) {
             return errors::push_at(numbers::TOP_LEVEL_FOR, t, errors);
         }
-        return visit_stmt(d, names, &t[24..e], at + 1, false, true, inside_def, errors);
+        return visit_stmt(d, names, below, at + 1, false, true, in_def, errors);
     }
     if is_if(kind) {
-        if is_banned(d, top_level) {
+        if is_banned(d, top) {
             return errors::push_at(numbers::TOP_LEVEL_IF, t, errors);
         }
-        return visit_stmt(
-            d,
-            names,
-            &t[24..e],
-            at + 1,
-            false,
-            inside_for,
-            inside_def,
-            errors,
-        );
+        return visit_stmt(d, names, below, at + 1, false, in_for, in_def, errors);
     }
-    if (kind == kinds::BREAK) & !inside_for {
+    if (kind == kinds::BREAK) & !in_for {
         return errors::push_at(numbers::BREAK_MISPLACED, t, errors);
     }
-    if (kind == kinds::CONTINUE) & !inside_for {
+    if (kind == kinds::CONTINUE) & !in_for {
         return errors::push_at(numbers::CONTINUE_MISPLACED, t, errors);
     }
-    if (kind == kinds::RETURN) & !inside_def {
+    if (kind == kinds::RETURN) & !in_def {
         return errors::push_at(numbers::RETURN_MISPLACED, t, errors);
     }
     if kind == kinds::LOAD {
-        return load_errors(d, top_level, t, errors);
+        return load_errors(d, top, t, errors);
     }
-    visit_stmt(
-        d,
-        names,
-        &t[24..e],
-        at + 1,
-        top_level,
-        inside_for,
-        inside_def,
-        errors,
-    )
+    visit_stmt(d, names, below, at + 1, top, in_for, in_def, errors)
+}
+
+// A def that the dialect does not permit, and then its parameters.
+fn def_errors(d: Dialect, names: &[u8], t: &[u8], at: usize, errors: &mut [u32]) -> usize
+    requires { ⌜ 24 * at + length (now t) ≤ 50400 ⌝ }
+    ensures { λ r. ⌜ Stores (defErrors d (now (names .entry)) (nodeOf at (now (t .entry))) (forest (at + 1) (kidsOf (now (t .entry))))) (now (errors .entry)) r (now (errors .exit)) ⌝ }
+{
+    let permitted = d.enable_def;
+    let number = numbers::DEF_NOT_PERMITTED;
+    params::with_params(permitted, number, d, names, t, at as u32, errors)
 }
 
 // Whether a for or if may not stand here: at the top level, where the dialect does not permit it.
-fn is_banned(d: Dialect, top_level: bool) -> bool
-    ensures { λ r. ⌜ r ≡ isBanned d «top_level» ⌝ }
+fn is_banned(d: Dialect, top: bool) -> bool
+    ensures { λ r. ⌜ r ≡ isBanned d «top» ⌝ }
 {
-    top_level & !d.enable_top_level_stmt
+    top & !d.enable_top_level_stmt
 }
 
 fn is_if(kind: u8) -> bool
@@ -147,16 +117,13 @@ fn is_if(kind: u8) -> bool
 }
 
 // A load that is not at the top, and then one that the dialect does not permit.
-fn load_errors(d: Dialect, top_level: bool, t: &[u8], errors: &mut [u32]) -> usize
-    ensures { λ r. ⌜ Stores (loadErrors d «top_level» (nodeOf 0 (now (t .entry)))) (now (errors .entry)) r (now (errors .exit)) ⌝ }
+fn load_errors(d: Dialect, top: bool, t: &[u8], errors: &mut [u32]) -> usize
+    ensures { λ r. ⌜ Stores (loadErrors d «top» (nodeOf 0 (now (t .entry)))) (now (errors .entry)) r (now (errors .exit)) ⌝ }
 {
-    let first = errors::push_unless(top_level, numbers::LOAD_NOT_AT_TOP, t, errors);
+    let permitted = d.enable_load;
+    let first = errors::push_unless(top, numbers::LOAD_NOT_AT_TOP, t, errors);
     let free = errors::free(errors.len(), first);
-    let rest = errors::push_unless(
-        d.enable_load,
-        numbers::LOAD_NOT_PERMITTED,
-        t,
-        &mut errors[free..],
-    );
+    let left = &mut errors[free..];
+    let rest = errors::push_unless(permitted, numbers::LOAD_NOT_PERMITTED, t, left);
     first + rest
 }

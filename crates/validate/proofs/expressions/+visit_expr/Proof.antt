@@ -2,7 +2,6 @@
 use borrow.Author.Needs.{needs}
 use lib.ListN.{length}
 use Prim.Native.Nat.{_-_}
-use native.Mathlib.Omega.{arith}
 use Rattle.validate.proofs.Walks.{own-count, expr-none, expr-on, expr-part-short}
 use Prim.Native.Nat.{ℕ, _<_}
 use borrow.Fn.Kinds.{In}
@@ -10,8 +9,8 @@ use borrow.Fn.PlainCycle.{Measures, is, falls, and}
 use Rattle.validate.proofs.expressions.visit_expr.Reads as visit-expr
 use Rattle.validate.proofs.expressions.visit_expr.Kinds as visit-expr-kinds
 use Rattle.validate.proofs.expressions.+visit_expr.Lts-visit_expr as visit-expr-lts
-use Rattle.forest.proofs.span.Reads as span-reads
 use Rattle.errors.proofs.free.Reads as free-reads
+use Rattle.forest.proofs.span.Reads as span-reads
 use Rattle.validate.proofs.expressions.expression.Reads as expression-reads
 use Rattle.validate.proofs.expressions.+visit_expr.{statement}
 use Rattle.validate.proofs.expressions.+visit_expr.Tie.{close}
@@ -29,12 +28,12 @@ visit-expr-below t =
 
 pub +visit-expr-spec : {M : Type 1} → statement M
 +visit-expr-spec = close μ-visit-expr λ t. visit-expr-lts.spec (
-  span-reads.Asked,
-  span-reads.Learnt,
   expression-reads.Asked,
   expression-reads.Learnt,
   free-reads.Asked,
   free-reads.Learnt,
+  span-reads.Asked,
+  span-reads.Learnt,
   visit-expr-below t,
   visit-expr.Post,
 )
@@ -53,7 +52,7 @@ pub +visit-expr-spec : {M : Type 1} → statement M
     (λ c. search needs)
     (λ c. search needs)
     (λ c κs. search needs)
-    (λ c. let a = own-count (c .before .before .before .before .before .before .before .before .before .before .before .before .before .before .before .args .d) (c .before .before .before .before .before .before .before .before .before .before .before .before .before .before .before .args .names .now) (c .before .before .before .before .before .before .before .before .before .before .before .before .before .before .before .args .t .now) (c .before .before .before .before .before .before .before .before .before .before .before .before .before .before .before .args .at) (c .before .before .before .before .before .before .before .before .expression .ensures) in let b = expr-part-short (c .before .before .before .before .before .before .before .before .before .before .before .before .before .before .before .args .d) (c .before .before .before .before .before .before .before .before .before .before .before .before .before .before .before .args .names .now) (c .before .before .before .before .before .before .before .before .before .before .before .before .before .before .before .args .t .now) _ 24 ((c .before .before .before .before .before .before .before .before .before .before .span .result) - 24) (c .before .before .visit-expr .ensures) in search needs)
+    (λ c. let a = own-count (c .before .before .before .before .before .before .before .before .before .before .before .before .before .before .before .args .d) (c .before .before .before .before .before .before .before .before .before .before .before .before .before .before .before .args .names .now) (c .before .before .before .before .before .before .before .before .before .before .before .before .before .before .before .args .t .now) (c .before .before .before .before .before .before .before .before .before .before .before .before .before .before .before .args .at) (c .before .before .before .before .before .before .before .before .before .expression .ensures) in let b = expr-part-short (c .before .before .before .before .before .before .before .before .before .before .before .before .before .before .before .args .d) (c .before .before .before .before .before .before .before .before .before .before .before .before .before .before .before .args .names .now) (c .before .before .before .before .before .before .before .before .before .before .before .before .before .before .before .args .t .now) _ 24 ((c .before .before .before .before .before .span .result) - 24) (c .before .before .visit-expr .ensures) in search needs)
     (λ c κs. search needs)
     (λ c. search needs)
     (λ c. search needs)
@@ -64,7 +63,7 @@ pub +visit-expr-spec : {M : Type 1} → statement M
     (λ c. search needs)
     (λ c. search needs)
     (λ c κs. search needs)
-    (λ c. let a = own-count (c .before .before .before .before .before .before .before .before .before .before .before .before .before .before .before .before .before .before .before .before .before .args .d) (c .before .before .before .before .before .before .before .before .before .before .before .before .before .before .before .before .before .before .before .before .before .args .names .now) (c .before .before .before .before .before .before .before .before .before .before .before .before .before .before .before .before .before .before .before .before .before .args .t .now) (c .before .before .before .before .before .before .before .before .before .before .before .before .before .before .before .before .before .before .before .before .before .args .at) (c .before .before .before .before .before .before .before .before .before .before .before .before .before .before .expression .ensures) in let b = expr-part-short (c .before .before .before .before .before .before .before .before .before .before .before .before .before .before .before .before .before .before .before .before .before .args .d) (c .before .before .before .before .before .before .before .before .before .before .before .before .before .before .before .before .before .before .before .before .before .args .names .now) (c .before .before .before .before .before .before .before .before .before .before .before .before .before .before .before .before .before .before .before .before .before .args .t .now) _ 24 ((c .before .before .before .before .before .before .before .before .before .before .before .before .before .before .before .before .span .result) - 24) (c .before .before .before .before .before .before .before .before .visit-expr .ensures) in search needs)
-    (λ c. let a = own-count (c .before .before .before .before .before .before .before .before .before .before .before .before .before .before .before .before .before .before .before .before .before .args .d) (c .before .before .before .before .before .before .before .before .before .before .before .before .before .before .before .before .before .before .before .before .before .args .names .now) (c .before .before .before .before .before .before .before .before .before .before .before .before .before .before .before .before .before .before .before .before .before .args .t .now) (c .before .before .before .before .before .before .before .before .before .before .before .before .before .before .before .before .before .before .before .before .before .args .at) (c .before .before .before .before .before .before .before .before .before .before .before .before .before .before .expression .ensures) in let b = expr-part-short (c .before .before .before .before .before .before .before .before .before .before .before .before .before .before .before .before .before .before .before .before .before .args .d) (c .before .before .before .before .before .before .before .before .before .before .before .before .before .before .before .before .before .before .before .before .before .args .names .now) (c .before .before .before .before .before .before .before .before .before .before .before .before .before .before .before .before .before .before .before .before .before .args .t .now) _ 24 ((c .before .before .before .before .before .before .before .before .before .before .before .before .before .before .before .before .span .result) - 24) (c .before .before .before .before .before .before .before .before .visit-expr .ensures) in let e = expr-part-short (c .before .before .before .before .before .before .before .before .before .before .before .before .before .before .before .before .before .before .before .before .before .args .d) (c .before .before .before .before .before .before .before .before .before .before .before .before .before .before .before .before .before .before .before .before .before .args .names .now) (c .before .before .before .before .before .before .before .before .before .before .before .before .before .before .before .before .before .before .before .before .before .args .t .now) _ (c .before .before .before .before .before .before .before .before .before .before .before .before .before .before .before .before .span .result) (length (c .before .before .before .before .before .before .before .before .before .before .before .before .before .before .before .before .before .before .before .before .before .args .t .now) - (c .before .before .before .before .before .before .before .before .before .before .before .before .before .before .before .before .span .result)) (c .before .before .visit-expr2 .ensures) in search needs)
+    (λ c. let a = own-count (c .before .before .before .before .before .before .before .before .before .before .before .before .before .before .before .before .before .before .before .before .before .args .d) (c .before .before .before .before .before .before .before .before .before .before .before .before .before .before .before .before .before .before .before .before .before .args .names .now) (c .before .before .before .before .before .before .before .before .before .before .before .before .before .before .before .before .before .before .before .before .before .args .t .now) (c .before .before .before .before .before .before .before .before .before .before .before .before .before .before .before .before .before .before .before .before .before .args .at) (c .before .before .before .before .before .before .before .before .before .before .before .before .before .before .before .expression .ensures) in let b = expr-part-short (c .before .before .before .before .before .before .before .before .before .before .before .before .before .before .before .before .before .before .before .before .before .args .d) (c .before .before .before .before .before .before .before .before .before .before .before .before .before .before .before .before .before .before .before .before .before .args .names .now) (c .before .before .before .before .before .before .before .before .before .before .before .before .before .before .before .before .before .before .before .before .before .args .t .now) _ 24 ((c .before .before .before .before .before .before .before .before .before .before .before .span .result) - 24) (c .before .before .before .before .before .before .before .before .visit-expr .ensures) in search needs)
+    (λ c. let a = own-count (c .before .before .before .before .before .before .before .before .before .before .before .before .before .before .before .before .before .before .before .before .before .args .d) (c .before .before .before .before .before .before .before .before .before .before .before .before .before .before .before .before .before .before .before .before .before .args .names .now) (c .before .before .before .before .before .before .before .before .before .before .before .before .before .before .before .before .before .before .before .before .before .args .t .now) (c .before .before .before .before .before .before .before .before .before .before .before .before .before .before .before .before .before .before .before .before .before .args .at) (c .before .before .before .before .before .before .before .before .before .before .before .before .before .before .before .expression .ensures) in let b = expr-part-short (c .before .before .before .before .before .before .before .before .before .before .before .before .before .before .before .before .before .before .before .before .before .args .d) (c .before .before .before .before .before .before .before .before .before .before .before .before .before .before .before .before .before .before .before .before .before .args .names .now) (c .before .before .before .before .before .before .before .before .before .before .before .before .before .before .before .before .before .before .before .before .before .args .t .now) _ 24 ((c .before .before .before .before .before .before .before .before .before .before .before .span .result) - 24) (c .before .before .before .before .before .before .before .before .visit-expr .ensures) in let e = expr-part-short (c .before .before .before .before .before .before .before .before .before .before .before .before .before .before .before .before .before .before .before .before .before .args .d) (c .before .before .before .before .before .before .before .before .before .before .before .before .before .before .before .before .before .before .before .before .before .args .names .now) (c .before .before .before .before .before .before .before .before .before .before .before .before .before .before .before .before .before .before .before .before .before .args .t .now) _ (c .before .before .before .before .before .before .before .before .before .before .before .span .result) (length (c .before .before .before .before .before .before .before .before .before .before .before .before .before .before .before .before .before .before .before .before .before .args .t .now) - (c .before .before .before .before .before .before .before .before .before .before .before .span .result)) (c .before .before .visit-expr2 .ensures) in search needs)
     (λ c. search needs)
-    (λ c. expr-on _ _ _ _ (c .before .before .before .before .before .before .before .before .before .before .before .before .before .before .before .before .before .if1 .left) (c .before .before .before .before .before .before .before .before .before .before .before .before .before .before .before .before .span .ensures) (c .before .before .before .before .before .before .before .before .before .before .before .before .before .before .expression .ensures) (c .before .before .before .before .before .before .before .before .before .before .before .free .ensures) (c .before .before .before .before .before .before .before .before .visit-expr .ensures) (c .before .before .before .before .before .free2 .ensures) (c .before .before .visit-expr2 .ensures))
+    (λ c. expr-on _ _ _ _ (c .before .before .before .before .before .before .before .before .before .before .before .before .before .before .before .before .before .if1 .left) (c .before .before .before .before .before .before .before .before .before .before .before .span .ensures) (c .before .before .before .before .before .before .before .before .before .before .before .before .before .before .before .expression .ensures) (c .before .before .before .before .before .before .before .before .before .before .before .before .free .ensures) (c .before .before .before .before .before .before .before .before .visit-expr .ensures) (c .before .before .before .before .before .free2 .ensures) (c .before .before .visit-expr2 .ensures))

@@ -1,0 +1,115 @@
+// The files of data/files.bin, each behind its label. They stand in words in files.txt, and tools/tables.py makes them.
+use crate::say;
+use crate::say_number;
+use table::Refusal;
+use tablefile::Loaded;
+use tablefile::Verdict;
+
+// At most as many as there could be labels.
+pub(crate) fn all(fd: i32) {
+    let mut left = 65536u64;
+    while 0 < left {
+        if !one(fd) {
+            return;
+        }
+        left -= 1;
+    }
+}
+
+// One label and its file; a label without a file is a heading. False at the end.
+fn one(fd: i32) -> bool {
+    let mut head = [0u8; 4];
+    if !filled(fd, &mut head, 4) {
+        return false;
+    }
+    let label_len = fields::half(&head, 0) as usize;
+    let file_len = fields::half(&head, 2) as usize;
+    let mut label = [0u8; 256];
+    let mut file = io::large_buffer();
+    if !filled(fd, &mut label, label_len) {
+        return false;
+    }
+    if !filled(fd, &mut file, file_len) {
+        return false;
+    }
+    say(front(&label, label_len));
+    if label[0] != b'#' {
+        say_answer(tablefile::read(front(&file, file_len)));
+    }
+    say(b"\n");
+    true
+}
+
+// The next bytes, put at the front of a buffer: whether they were all there.
+fn filled(fd: i32, space: &mut [u8], len: usize) -> bool {
+    if space.len() < len {
+        return false;
+    }
+    io::read_full(fd, &mut space[0..len]) == len
+}
+
+// The front of a buffer, as much of it as is there.
+fn front(s: &[u8], len: usize) -> &[u8] {
+    if len <= s.len() {
+        return &s[0..len];
+    }
+    s
+}
+
+// The verdict, what is held, and whether all past it is zero.
+fn say_answer(l: Loaded) {
+    let verdict = l.verdict;
+    match verdict {
+        Verdict::Accepted => say_held(l),
+        Verdict::Refused(r) => say_refused(r),
+    }
+    let table = l.table;
+    let names = l.names;
+    let dialect = l.dialect;
+    say_rest(&table, l.table_len);
+    say_rest(&names, l.names_len);
+    say_rest(&dialect, l.dialect_len);
+}
+
+fn say_held(l: Loaded) {
+    say(b"accepted, nodes ");
+    say_number((l.table_len / 24) as u64);
+    say(b", name bytes ");
+    say_number(l.names_len as u64);
+    say(b", dialect bytes ");
+    say_number(l.dialect_len as u64);
+    say(b", taken ");
+    say_number(l.taken as u64);
+}
+
+fn say_refused(r: Refusal) {
+    say(b"refused ");
+    match r {
+        Refusal::Bare(number) => say_number(number as u64),
+        Refusal::Placed { number, node } => say_placed(number, node),
+        Refusal::Spanned {
+            number,
+            node,
+            begin,
+            end,
+        } => say_placed(number, node),
+    }
+}
+
+fn say_placed(number: u32, node: u32) {
+    say_number(number as u64);
+    say(b" at ");
+    say_number(node as u64);
+}
+
+// Nothing, if all bytes from a place on are zero.
+fn say_rest(bytes: &[u8], from: usize) {
+    let mut i = from;
+    while i < bytes.len() {
+        if bytes[i] != 0 {
+            say(b", NOT ZERO BEHIND THAT");
+            return;
+        }
+        i += 1;
+    }
+}

@@ -1,0 +1,48 @@
+// Tries the reader of table files. First an accepted file: whole, with each of its bytes changed to eight other values, cut at every
+// length, and with a byte more; it prints how often the reader gave which answer. Document 01: any one changed byte is refused with 72,
+// and a file cut short with 70. Then the files of data/files.bin: both sides of each limit and of each rule, one answer a line.
+mod changes;
+mod files;
+
+use libc::STDOUT_FILENO;
+use table::Refusal;
+
+fn main() {
+    let fd = os::open_read(b"parameters.table");
+    if fd < 0 {
+        os::fail(b"parameters.table");
+        return;
+    }
+    let mut space = io::large_buffer();
+    let n = io::read_full(fd, &mut space);
+    libc::close(fd);
+    changes::all(&mut space, n);
+    let fd = os::open_read(b"files.bin");
+    if fd < 0 {
+        os::fail(b"files.bin");
+        return;
+    }
+    files::all(fd);
+    libc::close(fd);
+}
+
+fn number(r: Refusal) -> u32 {
+    match r {
+        Refusal::Bare(number) => number,
+        Refusal::Placed { number, node } => number,
+        Refusal::Spanned {
+            number,
+            node,
+            begin,
+            end,
+        } => number,
+    }
+}
+
+fn say(text: &[u8]) {
+    io::write_all(STDOUT_FILENO, text);
+}
+
+fn say_number(n: u64) {
+    io::print_decimal(STDOUT_FILENO, n);
+}

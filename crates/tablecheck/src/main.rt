@@ -1,0 +1,148 @@
+// Checks the table file that its argument names, or else standard input. It prints `nodes N`, a line `number begin end` for each
+// error and `errors N`; or, for a file that is refused, the one line `refused K`.
+use libc::STDIN_FILENO;
+use libc::STDOUT_FILENO;
+use table::Refusal;
+use tablefile::Loaded;
+use tablefile::Verdict;
+use validate::Listed;
+
+// What came of reading: so many bytes, or a read that failed.
+enum Got {
+    Bytes(usize),
+    Failed,
+}
+
+fn main() {
+    if os::arg_count() < 2 {
+        check(STDIN_FILENO, b"standard input");
+        return;
+    }
+    let mut path = io::buffer();
+    let k = os::arg(1, &mut path);
+    if os::errno() != 0 {
+        os::fail(b"the file's name");
+        return;
+    }
+    let fd = os::open_read(&path[..k]);
+    if fd < 0 {
+        os::fail(&path[..k]);
+        return;
+    }
+    check(fd, &path[..k]);
+    libc::close(fd);
+}
+
+// The whole file, or as much of it as tells 75: 117 blocks, the most that a file has, and one byte.
+fn check(fd: i32, name: &[u8]) {
+    let mut file = [0u8; 59905];
+    let got = fill(fd, &mut file);
+    match got {
+        Got::Bytes(n) => report(front(&file, n)),
+        Got::Failed => os::fail(name),
+    }
+}
+
+// Reads until the buffer is full or the input ends, and tells a read that fails from an end.
+fn fill(fd: i32, file: &mut [u8]) -> Got {
+    let mut done = 0;
+    while done < file.len() {
+        let got = libc::read(fd, &mut file[done..]);
+        if got < 0 {
+            return Got::Failed;
+        }
+        let more = io::count(got, &file[done..]);
+        if more == 0 {
+            return Got::Bytes(done);
+        }
+        done += more;
+    }
+    Got::Bytes(done)
+}
+
+// The front of some bytes, as much of it as is there.
+fn front(s: &[u8], len: usize) -> &[u8] {
+    if len <= s.len() {
+        return &s[0..len];
+    }
+    s
+}
+
+// What the program prints of a file.
+fn report(file: &[u8]) {
+    let l = tablefile::read(file);
+    let verdict = l.verdict;
+    match verdict {
+        Verdict::Accepted => list(l),
+        Verdict::Refused(r) => say_refused(r),
+    }
+}
+
+// The module pass over what a file holds. No table has more errors than twice its 2,100 nodes, so the list has room for all.
+fn list(l: Loaded) {
+    let table = l.table;
+    let names = l.names;
+    let dialect = l.dialect;
+    let mut errors = [0u32; 12600];
+    let listed = validate::module(
+        front(&table, l.table_len),
+        front(&names, l.names_len),
+        front(&dialect, l.dialect_len),
+        &mut errors,
+    );
+    match listed {
+        Listed::Total(n) => {
+            say_line(b"nodes ", (l.table_len / 24) as u64);
+            say_errors(&errors, n);
+            say_line(b"errors ", n as u64);
+        }
+        Listed::Refused(r) => say_refused(r),
+    }
+}
+
+// A line for each error: its three words.
+fn say_errors(errors: &[u32], total: u32) {
+    let mut left = errors;
+    let mut more = total;
+    while 0 < more {
+        if left.len() < 3 {
+            return;
+        }
+        say_number(left[0]);
+        say(b" ");
+        say_number(left[1]);
+        say(b" ");
+        say_number(left[2]);
+        say(b"\n");
+        left = &left[3..];
+        more -= 1;
+    }
+}
+
+// A refusal's line has its number alone, also where it carries a node.
+fn say_refused(r: Refusal) {
+    match r {
+        Refusal::Bare(number) => say_line(b"refused ", number as u64),
+        Refusal::Placed { number, node } => say_line(b"refused ", number as u64),
+        Refusal::Spanned {
+            number,
+            node,
+            begin,
+            end,
+        } => say_line(b"refused ", number as u64),
+    }
+}
+
+fn say_line(text: &[u8], n: u64) {
+    say(text);
+    io::print_decimal(STDOUT_FILENO, n);
+    say(b"\n");
+}
+
+fn say_number(n: u32) {
+    io::print_decimal(STDOUT_FILENO, n as u64);
+}
+
+fn say(text: &[u8]) {
+    io::write_all(STDOUT_FILENO, text);
+}
