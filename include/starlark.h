@@ -20,7 +20,7 @@
  *   No pointer is NULL, not even one of length 0; words are aligned to four bytes.
  *   The thread has stack enough: STARLARK_STACK_BYTES is twice what any job was measured to need (bindings/c/stack.c, on aarch64), which
  *   grows with the nodes that stand side by side. At 2,100 nodes the table check needs 270 KB, and with it every job; the type job up to 470 KB
- *   (an Index2 with a list of 2,094 arguments), the module pass up to 505 KB (statements). Nesting alone, 64 deep, needs less than 50 KB.
+ *   (an Index2 with a list of 2,094 arguments), the module pass up to 572 KB (statements). Nesting alone, 64 deep, needs less than 50 KB.
  */
 #ifndef STARLARK_H
 #define STARLARK_H
@@ -48,7 +48,7 @@ extern "C" {
 #define STARLARK_ERRORS 4200
 
 /* Stack enough for every job, twice over. */
-#define STARLARK_STACK_BYTES (1 << 20)
+#define STARLARK_STACK_BYTES (3 << 19)
 
 /* The table check: 1 to 4. Accepted: nothing. */
 uint32_t starlark_table(const uint8_t *table, size_t table_len, const uint8_t *names, size_t names_len, uint32_t *out);
