@@ -47,6 +47,9 @@ fn main() -> ExitCode {
         eprintln!("compare: the archive lacks {}; --jobs leaves jobs out", missing.join(", "));
         return ExitCode::from(2);
     }
+    if !options.left_out.is_empty() {
+        println!("compare: left out, since the archive or the program for it is missing: {}", options.left_out.join(", "));
+    }
     let done = run(&options);
     if let Some(path) = &options.record {
         write_sample(path, &done);

@@ -1,11 +1,15 @@
 //! The command line.
 
 use crate::families::Family;
+use crate::port::FILE;
+use crate::port::IN_ARCHIVE;
 use crate::port::JOBS;
 use crate::port::NAMES;
 
 pub struct Options {
     pub wanted: [bool; JOBS],
+    /// The jobs that were not asked for by name and that the archive lacks.
+    pub left_out: Vec<&'static str>,
     pub seed: u64,
     /// 1 is the quick run.
     pub scale: u64,
@@ -27,8 +31,10 @@ const LONG: u64 = 12;
 
 impl Options {
     pub fn read() -> Result<Options, String> {
+        let mut named: Option<String> = None;
         let mut options = Options {
             wanted: [true; JOBS],
+            left_out: Vec::new(),
             seed: 1,
             scale: 1,
             threads: 2,
@@ -42,7 +48,7 @@ impl Options {
         while let Some(word) = words.next() {
             let mut value = || words.next().ok_or(format!("{word} wants a value"));
             match word.as_str() {
-                "--jobs" => options.wanted = jobs(&value()?)?,
+                "--jobs" => named = Some(value()?),
                 "--seed" => options.seed = number(&value()?)?,
                 "--threads" => options.threads = number(&value()?)?.max(1) as usize,
                 "--long" => options.scale = LONG,
@@ -55,7 +61,25 @@ impl Options {
                 _ => return Err(format!("{word} is not known")),
             }
         }
+        match named {
+            Some(list) => options.wanted = jobs(&list)?,
+            None => options.leave_out_missing(),
+        }
         Ok(options)
+    }
+
+    /// Where no jobs are named, those are run that the archive has.
+    fn leave_out_missing(&mut self) {
+        for (at, name) in NAMES.iter().enumerate().take(FILE) {
+            if !IN_ARCHIVE[at] {
+                self.wanted[at] = false;
+                self.left_out.push(name);
+            }
+        }
+        if self.program.is_none() {
+            self.wanted[FILE] = false;
+            self.left_out.push(NAMES[FILE]);
+        }
     }
 
     pub fn is_long(&self) -> bool {

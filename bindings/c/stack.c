@@ -1,0 +1,270 @@
+/* Measures what stack each job needs: it runs on a stack of its own that is made smaller and smaller, down to the smallest on which it
+ * still ends. A stack that is too small meets a page that may not be touched, so each try is a process of its own.
+ * Prints a line for each shape of table: the bytes of the smallest stack for each job that takes the node, behind it the number that it
+ * answers, and the most at the end.
+ * Exits with 1 where a job needs more than half of STARLARK_STACK_BYTES. */
+#define _GNU_SOURCE
+#include <stdio.h>
+#include <stdlib.h>
+#include <string.h>
+#include <sys/mman.h>
+#include <sys/wait.h>
+#include <ucontext.h>
+#include <unistd.h>
+
+#include "starlark.h"
+
+enum { MOST = 4 << 20, PAGE = 65536, STEP = 256 };
+enum { STATEMENTS = 1, DEF = 2, FOR = 3, IF = 4, BREAK = 6, SIMPLE = 10, ASSIGN = 11 };
+enum { TUPLE = 20, CALL = 22, INDEX = 23, INDEX2 = 24, IDENTIFIER = 26, LAMBDA = 27, ELLIPSIS = 31, NOT = 33, OP = 37, LIST = 39 };
+enum { NORMAL = 50, POSITIONAL = 60 };
+enum { WRONG_NODE = 6 };
+
+static uint8_t table[STARLARK_NODES * STARLARK_NODE_BYTES];
+static size_t nodes;
+static uint8_t names[STARLARK_NAME_BYTES];
+static uint8_t buffer[STARLARK_NODES];
+static uint32_t errors[3 * STARLARK_ERRORS];
+static uint32_t out[STARLARK_WORDS];
+/* every switch on, so that types are read; every switch off, so that each error is given */
+static const uint8_t all_on[9] = {1, 1, 1, 1, 1, 2, 1, 1, 1};
+static const uint8_t all_off[9] = {0};
+
+/* Nodes are opened and closed; a node's size is filled in when it is closed. */
+static size_t open_node(int kind, int detail) {
+    uint8_t *at = table + STARLARK_NODE_BYTES * nodes;
+    memset(at, 0, STARLARK_NODE_BYTES);
+    at[0] = kind;
+    at[1] = detail;
+    if (kind == IDENTIFIER || kind == NORMAL) {
+        /* three bytes of a name of its own */
+        at[2] = 3;
+        at[4] = nodes * 3 & 255;
+        at[5] = nodes * 3 >> 8;
+        names[nodes * 3] = 'a' + nodes % 26;
+        names[nodes * 3 + 1] = 'a' + nodes / 26 % 26;
+        names[nodes * 3 + 2] = 'a' + nodes / 676;
+    }
+    return nodes++;
+}
+
+static void close_node(size_t at) {
+    size_t size = nodes - at;
+    table[STARLARK_NODE_BYTES * at + 16] = size & 255;
+    table[STARLARK_NODE_BYTES * at + 17] = size >> 8;
+}
+
+static void leaf(int kind) { close_node(open_node(kind, 0)); }
+
+/* A job on the table at hand, which leaves its number. */
+static size_t job_node;
+static uint32_t number;
+static void run_table(void) { number = starlark_table(table, STARLARK_NODE_BYTES * nodes, names, sizeof names, out); }
+static void run_params(void) {
+    number = starlark_params(table, STARLARK_NODE_BYTES * nodes, names, sizeof names, job_node, buffer, sizeof buffer, out);
+}
+static void run_call(void) { number = starlark_call(table, STARLARK_NODE_BYTES * nodes, names, sizeof names, job_node, out); }
+static void run_target(void) { number = starlark_target(table, STARLARK_NODE_BYTES * nodes, names, sizeof names, job_node, out); }
+static void run_assignment(void) { number = starlark_assignment(table, STARLARK_NODE_BYTES * nodes, names, sizeof names, job_node, out); }
+static void run_type(void) {
+    number = starlark_type(table, STARLARK_NODE_BYTES * nodes, names, sizeof names, all_on, 9, job_node, buffer, sizeof buffer, out);
+}
+static void run_module(void) {
+    number = starlark_module(table, STARLARK_NODE_BYTES * nodes, names, sizeof names, all_on, 9, errors, 3 * STARLARK_ERRORS, out);
+}
+static void run_refusing(void) {
+    number = starlark_module(table, STARLARK_NODE_BYTES * nodes, names, sizeof names, all_off, 9, errors, 3 * STARLARK_ERRORS, out);
+}
+
+struct job {
+    const char *name;
+    void (*run)(void);
+    size_t most;
+} jobs[] = {{"table", run_table, 0}, {"params", run_params, 0}, {"call", run_call, 0}, {"target", run_target, 0}, {"assignment", run_assignment, 0}, {"type", run_type, 0},
+          {"module", run_module, 0}, {"module with all switches off", run_refusing, 0}};
+enum { JOBS = sizeof jobs / sizeof *jobs };
+
+/* Whether a job ends on a stack of so many bytes. */
+static int ends_on(void (*run)(void), size_t bytes) {
+    fflush(stdout);
+    pid_t child = fork();
+    if (child == 0) {
+        size_t room = (bytes + PAGE - 1) / PAGE * PAGE;
+        uint8_t *low = mmap(0, room + PAGE, PROT_READ | PROT_WRITE, MAP_PRIVATE | MAP_ANONYMOUS, -1, 0);
+        if (low == MAP_FAILED || mprotect(low, PAGE, PROT_NONE) != 0) _exit(3);
+        ucontext_t here, there;
+        getcontext(&there);
+        there.uc_stack.ss_sp = low + PAGE;
+        there.uc_stack.ss_size = bytes;
+        there.uc_link = &here;
+        makecontext(&there, run, 0);
+        swapcontext(&here, &there);
+        _exit(0);
+    }
+    int status = 0;
+    if (child < 0 || waitpid(child, &status, 0) != child || (WIFEXITED(status) && WEXITSTATUS(status) != 0)) {
+        perror("stack: a try could not be made");
+        exit(2);
+    }
+    return WIFEXITED(status);
+}
+
+static size_t smallest(void (*run)(void)) {
+    size_t small = 0, large = MOST;
+    if (!ends_on(run, large)) {
+        printf("more than %d bytes\n", MOST);
+        exit(1);
+    }
+    while (large - small > STEP) {
+        size_t middle = (small + large) / 2 / 16 * 16;
+        if (ends_on(run, middle)) large = middle;
+        else small = middle;
+    }
+    return large;
+}
+
+static void measure(const char *shape, size_t node) {
+    printf("%-34s %4zu nodes:", shape, nodes);
+    job_node = node;
+    for (size_t i = 0; i < JOBS; i++) {
+        size_t bytes = smallest(jobs[i].run);
+        if (bytes > jobs[i].most) jobs[i].most = bytes;
+        jobs[i].run();
+        if (number != WRONG_NODE) printf(" %s %zu (%u)", jobs[i].name, bytes, number);
+    }
+    printf("\n");
+    nodes = 0;
+}
+
+/* An expression of `depth` nodes below each other. Each has the child last that goes on; before it stand as many leaves as its kind asks for,
+ * or, where it takes any number, as many as make the table `limit` nodes in the end. */
+static void nested(int kind, int leaf_kind, int depth, size_t limit) {
+    size_t opened[STARLARK_DEPTH];
+    int any = kind == TUPLE || kind == LIST;
+    size_t before = any ? (limit - nodes - depth) / depth : kind == OP ? 1 : kind == INDEX2 ? 2 : 0;
+    for (int d = 0; d < depth; d++) {
+        opened[d] = open_node(kind, kind == OP);
+        for (size_t i = 0; i < before; i++) leaf(leaf_kind);
+    }
+    if (!any) leaf(leaf_kind);
+    while (any && nodes < limit) leaf(leaf_kind);
+    while (depth-- > 0) close_node(opened[depth]);
+}
+
+static void siblings(const char *shape, int group, int kind) {
+    size_t root = open_node(STATEMENTS, 0), simple = open_node(SIMPLE, 0), at = open_node(group, 0);
+    while (nodes < STARLARK_NODES) leaf(kind);
+    close_node(at);
+    close_node(simple);
+    close_node(root);
+    measure(shape, 2);
+}
+
+static void in_depth(const char *shape, int kind, int leaf_kind, size_t limit) {
+    size_t root = open_node(STATEMENTS, 0), simple = open_node(SIMPLE, 0);
+    nested(kind, leaf_kind, STARLARK_DEPTH - 3, limit);
+    close_node(simple);
+    close_node(root);
+    measure(shape, 2);
+}
+
+/* Lists as the argument of an Index2, where they may be of any length. */
+static void argument_lists(const char *shape, int depth) {
+    size_t root = open_node(STATEMENTS, 0), simple = open_node(SIMPLE, 0), index = open_node(INDEX2, 0);
+    leaf(IDENTIFIER);
+    nested(LIST, IDENTIFIER, depth, STARLARK_NODES - 1);
+    leaf(IDENTIFIER);
+    close_node(index);
+    close_node(simple);
+    close_node(root);
+    measure(shape, 2);
+}
+
+static void many_statements(void) {
+    size_t root = open_node(STATEMENTS, 0);
+    while (nodes < STARLARK_NODES) leaf(BREAK);
+    close_node(root);
+    measure("2,099 statements", 0);
+}
+
+/* Statements of `kind` inside each other, each with statements that end none before the next. */
+static void nested_statements(const char *shape, int kind, size_t limit) {
+    size_t opened[STARLARK_DEPTH];
+    int depth = STARLARK_DEPTH - 2;
+    size_t root = open_node(STATEMENTS, 0), each = (limit - nodes - 3 * depth) / depth;
+    int pairs = depth / 2;
+    for (int d = 0; d < pairs; d++) {
+        opened[2 * d] = open_node(kind, 0);
+        if (kind == FOR) leaf(IDENTIFIER);
+        if (kind == FOR || kind == IF) leaf(ELLIPSIS);
+        if (kind == DEF) leaf(NORMAL);
+        opened[2 * d + 1] = open_node(STATEMENTS, 0);
+        for (size_t i = 0; i < 2 * each; i++) leaf(BREAK);
+    }
+    while (nodes < limit) leaf(BREAK);
+    for (int d = 2 * pairs; d-- > 0;) close_node(opened[d]);
+    close_node(root);
+    measure(shape, 0);
+}
+
+static void many_parameters(void) {
+    size_t root = open_node(STATEMENTS, 0), def = open_node(DEF, 0);
+    while (nodes < STARLARK_NODES - 1) leaf(NORMAL);
+    leaf(BREAK);
+    close_node(def);
+    close_node(root);
+    measure("2,097 parameters", 1);
+}
+
+static void many_arguments(void) {
+    size_t root = open_node(STATEMENTS, 0), simple = open_node(SIMPLE, 0), call = open_node(CALL, 0);
+    leaf(IDENTIFIER);
+    while (nodes + 1 < STARLARK_NODES) {
+        size_t argument = open_node(POSITIONAL, 0);
+        leaf(ELLIPSIS);
+        close_node(argument);
+    }
+    close_node(call);
+    close_node(simple);
+    close_node(root);
+    measure("1,048 arguments", 2);
+}
+
+static void assignment_of_many(void) {
+    size_t root = open_node(STATEMENTS, 0), assign = open_node(ASSIGN, 0), tuple = open_node(TUPLE, 0);
+    while (nodes < STARLARK_NODES - 1) leaf(IDENTIFIER);
+    close_node(tuple);
+    leaf(ELLIPSIS);
+    close_node(assign);
+    close_node(root);
+    measure("a tuple of 2,096 = a value", 1);
+}
+
+int main(void) {
+    many_statements();
+    siblings("a tuple of 2,097 names", TUPLE, IDENTIFIER);
+    siblings("a list of 2,097 names", LIST, IDENTIFIER);
+    siblings("a tuple of 2,097 empty tuples", TUPLE, TUPLE);
+    many_parameters();
+    many_arguments();
+    assignment_of_many();
+    in_depth("61 nested tuples of 34", TUPLE, IDENTIFIER, STARLARK_NODES);
+    in_depth("61 nested lists of 34", LIST, IDENTIFIER, STARLARK_NODES);
+    in_depth("61 nested tuples", TUPLE, IDENTIFIER, STARLARK_DEPTH);
+    in_depth("61 nested unions", OP, IDENTIFIER, STARLARK_NODES);
+    in_depth("61 nested Index2", INDEX2, IDENTIFIER, STARLARK_NODES);
+    argument_lists("Index2 with a list of 2,094", 1);
+    argument_lists("Index2 with 60 nested lists of 33", STARLARK_DEPTH - 4);
+    nested_statements("31 nested def", DEF, STARLARK_NODES);
+    nested_statements("31 nested for", FOR, STARLARK_NODES);
+    nested_statements("31 nested if", IF, STARLARK_NODES);
+    in_depth("61 nested not", NOT, IDENTIFIER, STARLARK_NODES);
+    size_t most = 0;
+    printf("most:");
+    for (size_t i = 0; i < JOBS; i++) {
+        printf(" %s %zu", jobs[i].name, jobs[i].most);
+        if (jobs[i].most > most) most = jobs[i].most;
+    }
+    printf("\nSTARLARK_STACK_BYTES is %d\n", STARLARK_STACK_BYTES);
+    return most > STARLARK_STACK_BYTES / 2;
+}

@@ -1,0 +1,88 @@
+//! The C interface, called with slices. All that a call could break is kept by their types: a slice has its length, no pointer is null,
+//! and what is lent to be written overlaps nothing else.
+
+use crate::Table;
+use crate::Words;
+
+extern "C" {
+    fn starlark_table(table: *const u8, table_len: usize, names: *const u8, names_len: usize, out: *mut u32) -> u32;
+    fn starlark_params(
+        table: *const u8,
+        table_len: usize,
+        names: *const u8,
+        names_len: usize,
+        node: usize,
+        modes: *mut u8,
+        modes_len: usize,
+        out: *mut u32,
+    ) -> u32;
+    fn starlark_type(
+        table: *const u8,
+        table_len: usize,
+        names: *const u8,
+        names_len: usize,
+        dialect: *const u8,
+        dialect_len: usize,
+        node: usize,
+        shapes: *mut u8,
+        shapes_len: usize,
+        out: *mut u32,
+    ) -> u32;
+    fn starlark_module(
+        table: *const u8,
+        table_len: usize,
+        names: *const u8,
+        names_len: usize,
+        dialect: *const u8,
+        dialect_len: usize,
+        errors: *mut u32,
+        errors_len: usize,
+        out: *mut u32,
+    ) -> u32;
+    fn starlark_call(t: *const u8, tl: usize, n: *const u8, nl: usize, node: usize, out: *mut u32) -> u32;
+    fn starlark_target(t: *const u8, tl: usize, n: *const u8, nl: usize, node: usize, out: *mut u32) -> u32;
+    fn starlark_assignment(t: *const u8, tl: usize, n: *const u8, nl: usize, node: usize, out: *mut u32) -> u32;
+}
+
+pub fn table(table: Table, out: &mut Words) -> u32 {
+    let Table { nodes, names } = table;
+    unsafe { starlark_table(nodes.as_ptr(), nodes.len(), names.as_ptr(), names.len(), out.as_mut_ptr()) }
+}
+
+pub fn params(table: Table, node: usize, modes: &mut [u8], out: &mut Words) -> u32 {
+    let Table { nodes, names } = table;
+    let (start, length) = (modes.as_mut_ptr(), modes.len());
+    let out = out.as_mut_ptr();
+    unsafe { starlark_params(nodes.as_ptr(), nodes.len(), names.as_ptr(), names.len(), node, start, length, out) }
+}
+
+pub fn call(table: Table, node: usize, out: &mut Words) -> u32 {
+    let Table { nodes, names } = table;
+    unsafe { starlark_call(nodes.as_ptr(), nodes.len(), names.as_ptr(), names.len(), node, out.as_mut_ptr()) }
+}
+
+pub fn target(table: Table, node: usize, out: &mut Words) -> u32 {
+    let Table { nodes, names } = table;
+    unsafe { starlark_target(nodes.as_ptr(), nodes.len(), names.as_ptr(), names.len(), node, out.as_mut_ptr()) }
+}
+
+pub fn assignment(table: Table, node: usize, out: &mut Words) -> u32 {
+    let Table { nodes, names } = table;
+    unsafe { starlark_assignment(nodes.as_ptr(), nodes.len(), names.as_ptr(), names.len(), node, out.as_mut_ptr()) }
+}
+
+pub fn type_shape(table: Table, dialect: &[u8], node: usize, shapes: &mut [u8], out: &mut Words) -> u32 {
+    let Table { nodes, names } = table;
+    let (t, tl, n, nl) = (nodes.as_ptr(), nodes.len(), names.as_ptr(), names.len());
+    let (start, length) = (shapes.as_mut_ptr(), shapes.len());
+    let out = out.as_mut_ptr();
+    unsafe { starlark_type(t, tl, n, nl, dialect.as_ptr(), dialect.len(), node, start, length, out) }
+}
+
+pub fn module(table: Table, dialect: &[u8], errors: &mut [u32], out: &mut Words) -> u32 {
+    let Table { nodes, names } = table;
+    let (t, tl, n, nl) = (nodes.as_ptr(), nodes.len(), names.as_ptr(), names.len());
+    let (start, length) = (errors.as_mut_ptr(), errors.len());
+    let out = out.as_mut_ptr();
+    unsafe { starlark_module(t, tl, n, nl, dialect.as_ptr(), dialect.len(), start, length, out) }
+}

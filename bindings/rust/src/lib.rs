@@ -1,0 +1,125 @@
+//! A safe wrapper of the proved checks: each job takes slices, and answers a value or why it refuses.
+//!
+//! Any bytes may come in. A job keeps nothing between calls and allocates nothing. A job that refuses leaves the lent buffer as it was.
+//! The C header says what a job needs of the stack; the thread that Rust starts by default has more.
+
+use std::ops::Range;
+
+mod interface;
+
+/// A node table, and the bytes that its names lie in.
+#[derive(Clone, Copy, Debug)]
+pub struct Table<'a> {
+    pub nodes: &'a [u8],
+    pub names: &'a [u8],
+}
+
+/// Why a job refuses: document 01's number, and what it carries.
+#[derive(Clone, Copy, Debug, PartialEq, Eq)]
+pub struct Refused {
+    pub number: u32,
+    pub at: At,
+}
+
+/// Where a refusal stands.
+#[derive(Clone, Copy, Debug, PartialEq, Eq)]
+pub enum At {
+    Nowhere,
+    Node(u32),
+    Span { node: u32, begin: u32, end: u32 },
+}
+
+/// An accepted parameter list: five ranges of the list without its marks, and its length.
+#[derive(Clone, Debug, PartialEq, Eq)]
+pub struct Params {
+    pub pos_only: Range<u32>,
+    pub pos_or_named: Range<u32>,
+    pub args: Range<u32>,
+    pub named_only: Range<u32>,
+    pub kwargs: Range<u32>,
+    pub count: u32,
+}
+
+/// The arguments of an accepted call: how many, and the places of `*` and `**`, from 0.
+#[derive(Clone, Copy, Debug, PartialEq, Eq)]
+pub struct Call {
+    pub positional: u32,
+    pub named: u32,
+    pub star: Option<u32>,
+    pub star_star: Option<u32>,
+}
+
+const NONE: u32 = u32::MAX;
+
+type Words = [u32; 12];
+
+impl Refused {
+    fn new(number: u32, out: &Words) -> Refused {
+        let at = match number {
+            1 | 2 | 5 | 6 | 7 => At::Nowhere,
+            3 | 4 => At::Node(out[0]),
+            _ => At::Span { node: out[0], begin: out[1], end: out[2] },
+        };
+        Refused { number, at }
+    }
+}
+
+/// The words of a job that accepts.
+fn accepted(job: impl FnOnce(&mut Words) -> u32) -> Result<Words, Refused> {
+    let mut out = [0; 12];
+    match job(&mut out) {
+        0 => Ok(out),
+        number => Err(Refused::new(number, &out)),
+    }
+}
+
+impl Table<'_> {
+    /// The table check: 1 to 4.
+    pub fn check(self) -> Result<(), Refused> {
+        accepted(|out| interface::table(self, out)).map(|_| ())
+    }
+
+    /// The parameter list of the Def or Lambda at a node. `modes` gets the mode of each parameter, and needs a byte for each that is
+    /// written, marks counted.
+    pub fn params(self, node: usize, modes: &mut [u8]) -> Result<Params, Refused> {
+        let out = accepted(|out| interface::params(self, node, modes, out))?;
+        let range = |at: usize| out[at]..out[at + 1];
+        Ok(Params {
+            pos_only: range(0),
+            pos_or_named: range(2),
+            args: range(4),
+            named_only: range(6),
+            kwargs: range(8),
+            count: out[10],
+        })
+    }
+
+    /// The arguments of the Call at a node.
+    pub fn call(self, node: usize) -> Result<Call, Refused> {
+        let out = accepted(|out| interface::call(self, node, out))?;
+        let place = |word: u32| (word != NONE).then_some(word);
+        Ok(Call { positional: out[0], named: out[1], star: place(out[2]), star_star: place(out[3]) })
+    }
+
+    /// How many leaves the target at a node has.
+    pub fn target(self, node: usize) -> Result<u32, Refused> {
+        accepted(|out| interface::target(self, node, out)).map(|out| out[0])
+    }
+
+    /// How many leaves the target of the assignment at a node has.
+    pub fn assignment(self, node: usize) -> Result<u32, Refused> {
+        accepted(|out| interface::assignment(self, node, out)).map(|out| out[0])
+    }
+
+    /// Whether a node is a type in a dialect (nine bytes, or none for Standard). `shapes` gets the shape of each node that is read, and
+    /// needs a byte for each node of the type.
+    pub fn type_shape(self, dialect: &[u8], node: usize, shapes: &mut [u8]) -> Result<(), Refused> {
+        accepted(|out| interface::type_shape(self, dialect, node, shapes, out)).map(|_| ())
+    }
+
+    /// How many errors the module has under a dialect (nine bytes, or none for Standard). Three words of `errors` for each: number, begin and
+    /// end; the first that fit whole are stored.
+    pub fn module(self, dialect: &[u8], errors: &mut [u32]) -> Result<u32, Refused> {
+        accepted(|out| interface::module(self, dialect, errors, out)).map(|out| out[0])
+    }
+}

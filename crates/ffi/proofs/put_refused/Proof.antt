@@ -1,0 +1,20 @@
+-- `ffi::put_refused` meets its contract: each variant lays what it carries. Assumes nothing.
+use mathlib.Core.Path.{refl}
+use borrow.Author.Needs.{needs}
+use Rattle.ffi.proofs.put_refused.Statement.{statement}
+use Rattle.ffi.proofs.put_refused.Tie as tie
+
+pub put-refused-spec : {M : Type 1} → statement M
+put-refused-spec =
+    tie.close
+    (tie.spec
+    (λ c. search needs)
+    (λ c. search needs)
+    (λ c. search needs)
+    (λ c. search needs)
+    (λ c. search needs)
+    (λ c. search needs)
+    (λ c. search needs)
+    (λ c. search needs)
+    (λ c. rw (c .before .r2 .given .1) (refl, refl))
+    (λ c. rw (c .before .r3 .given .1) (refl, refl)))

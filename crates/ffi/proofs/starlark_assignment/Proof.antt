@@ -1,0 +1,19 @@
+-- `ffi::starlark_assignment` meets its contract: the answer of the job, arm by arm. Assumes nothing.
+use Rattle.ffi.proofs.Told.{told}
+use Rattle.ffi.specs.Words.{words}
+use Rattle.targets.specs.Jobs.{targeted}
+use borrow.Author.Needs.{needs}
+use Rattle.ffi.proofs.starlark_assignment.Statement.{statement}
+use Rattle.ffi.proofs.starlark_assignment.Tie as tie
+
+pub starlark-assignment-spec : {M : Type 1} → statement M
+starlark-assignment-spec =
+    tie.close
+    (tie.spec
+    (λ c κs. search needs)
+    (λ c. search needs)
+    (λ c κs. search needs)
+    (λ c. search needs)
+    (λ c κs. search needs)
+    (λ c. told words targeted _ _ _ _ _ _ (c .before .before .before .before .before .assignment .ensures) (c .before .before .before .answer .given .1) (c .put-count .ensures))
+    (λ c. told words targeted _ _ _ _ _ _ (c .before .before .before .before .before .assignment .ensures) (c .before .before .before .answer2 .given .1) (c .put-refused .ensures)))

@@ -1,0 +1,19 @@
+-- `ffi::starlark_call` meets its contract: the answer of the job, arm by arm. Assumes nothing.
+use Rattle.ffi.proofs.Told.{told, refused-put}
+use Rattle.ffi.specs.Words.{callWords}
+use Rattle.arguments.specs.Job.{called}
+use borrow.Author.Needs.{needs}
+use Rattle.ffi.proofs.starlark_call.Statement.{statement}
+use Rattle.ffi.proofs.starlark_call.Tie as tie
+
+pub starlark-call-spec : {M : Type 1} → statement M
+starlark-call-spec =
+    tie.close
+    (tie.spec
+    (λ c κs. search needs)
+    (λ c. search needs)
+    (λ c κs. search needs)
+    (λ c. search needs)
+    (λ c κs. search needs)
+    (λ c. told callWords called _ _ _ _ _ _ (c .before .before .before .before .before .call .ensures) (c .before .before .before .answer .given .1) (c .put-call .ensures))
+    (λ c. told callWords called _ _ _ _ _ _ (c .before .before .before .before .before .call .ensures) (c .before .before .before .answer2 .given .1) (refused-put (c .before .before .before .answer2 .given .0 .0) (c .before .before .before .before .before .before .before .before .args .out .now) (c .put-refused .ensures))))

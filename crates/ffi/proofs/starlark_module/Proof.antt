@@ -1,0 +1,21 @@
+-- `ffi::starlark_module` meets its contract: the answer of the job, arm by arm, and the errors as the job leaves them. Assumes nothing.
+use Rattle.ffi.proofs.Told.{told-with}
+use Rattle.ffi.specs.Words.{words}
+use Rattle.validate.specs.Job.{listed}
+use borrow.Author.Needs.{needs}
+use Rattle.ffi.proofs.starlark_module.Statement.{statement}
+use Rattle.ffi.proofs.starlark_module.Tie as tie
+
+pub starlark-module-spec : {M : Type 1} → statement M
+starlark-module-spec =
+    tie.close
+    (tie.spec
+    (λ c κs. search needs)
+    (λ c. search needs)
+    (λ c κs. search needs)
+    (λ c. search needs)
+    (λ c κs. search needs)
+    (λ c. search needs)
+    (λ c. told-with words listed _ _ _ _ _ _ (c .before .before .before .before .before .before .before .module .ensures) (c .before .before .before .answer .given .1) (c .put-count .ensures))
+    (λ c. search needs)
+    (λ c. told-with words listed _ _ _ _ _ _ (c .before .before .before .before .before .before .before .module .ensures) (c .before .before .before .answer2 .given .1) (c .put-refused .ensures)))

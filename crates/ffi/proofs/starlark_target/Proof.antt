@@ -1,0 +1,19 @@
+-- `ffi::starlark_target` meets its contract: the answer of the job, arm by arm. Assumes nothing.
+use Rattle.ffi.proofs.Told.{told}
+use Rattle.ffi.specs.Words.{words}
+use Rattle.targets.specs.Jobs.{targeted}
+use borrow.Author.Needs.{needs}
+use Rattle.ffi.proofs.starlark_target.Statement.{statement}
+use Rattle.ffi.proofs.starlark_target.Tie as tie
+
+pub starlark-target-spec : {M : Type 1} → statement M
+starlark-target-spec =
+    tie.close
+    (tie.spec
+    (λ c κs. search needs)
+    (λ c. search needs)
+    (λ c κs. search needs)
+    (λ c. search needs)
+    (λ c κs. search needs)
+    (λ c. told words targeted _ _ _ _ _ _ (c .before .before .before .before .before .target .ensures) (c .before .before .before .answer .given .1) (c .put-count .ensures))
+    (λ c. told words targeted _ _ _ _ _ _ (c .before .before .before .before .before .target .ensures) (c .before .before .before .answer2 .given .1) (c .put-refused .ensures)))

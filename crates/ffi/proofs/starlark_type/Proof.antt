@@ -1,0 +1,21 @@
+-- `ffi::starlark_type` meets its contract: the answer of the job, arm by arm, and the shapes as the job leaves them. Assumes nothing.
+use Rattle.ffi.proofs.Told.{told-with}
+use Rattle.ffi.specs.Words.{words}
+use mathlib.Core.Path.{refl}
+use Rattle.typerules.specs.Jobs.{shaped}
+use borrow.Author.Needs.{needs}
+use Rattle.ffi.proofs.starlark_type.Statement.{statement}
+use Rattle.ffi.proofs.starlark_type.Tie as tie
+
+pub starlark-type-spec : {M : Type 1} → statement M
+starlark-type-spec =
+    tie.close
+    (tie.spec
+    (λ c κs. search needs)
+    (λ c. search needs)
+    (λ c. search needs)
+    (λ c κs. search needs)
+    (λ c. search needs)
+    (λ c. told-with words shaped _ _ _ _ _ _ (c .before .before .before .before .type-shape .ensures) (c .enum-told .given .1) (refl, refl))
+    (λ c. search needs)
+    (λ c. told-with words shaped _ _ _ _ _ _ (c .before .before .before .before .before .before .before .type-shape .ensures) (c .before .before .before .answer .given .1) (c .put-refused .ensures)))

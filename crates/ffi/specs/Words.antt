@@ -1,0 +1,41 @@
+-- What a caller in C gets: the number that is returned, and the twelve words afterwards, from a job's answer. These are definitions.
+use mathlib.Core.Bool.{Bool, true, false}
+use mathlib.Core.List.{List, [], _∷_, _++_}
+use Prim.Native.Nat.{ℕ, _+_, _≤_}
+use lib.Dec.{eqb}
+use lib.ListN.{set, getD, take, drop}
+use Rattle.fields.specs.Choice.{if'}
+use Rattle.table.specs.Answer.{Answer, accepted, refused}
+
+-- the number that is returned: 0 for accepted
+abbrev pub number : Answer → ℕ
+number (accepted vs) = 0
+number (refused n vs) = n
+
+-- the words of an answer: the job's values, or what a refusal carries (nothing, the node, or the node and its span)
+abbrev pub words : Answer → List ℕ
+words (accepted vs) = vs
+words (refused n vs) = vs
+
+-- the word that stands for no place
+abbrev pub noPlace : ℕ
+noPlace = 4294967295
+
+-- a place in one word, from the two values that the call job has for it: whether there is one, and which
+abbrev pub placeIn : List ℕ → ℕ
+placeIn vs = if' (eqb (getD vs 0 0) 1) (λ _. getD vs 1 0) (λ _. noPlace)
+
+-- the words of the call job: positional, named, the place of star, the place of `**`
+abbrev pub callWords : Answer → List ℕ
+callWords (accepted vs) = take 2 vs ++ placeIn (drop 2 vs) ∷ placeIn (drop 4 vs) ∷ []
+callWords (refused n vs) = vs
+
+-- words written from place i on; what is not written stays
+abbrev pub laid : List ℕ → ℕ → List ℕ → List ℕ
+laid [] i xs = xs
+laid (v ∷ vs) i xs = laid vs (i + 1) (set xs i v)
+
+-- every number fits a word
+abbrev pub Fit : List ℕ → Type 0
+Fit [] = Unit {0}
+Fit (v ∷ vs) = (v ≤ 4294967295) × Fit vs

@@ -1,0 +1,198 @@
+// One recorded request: it is read, its job is run on memory with a pattern, and all of that memory is held to what is recorded.
+use forest::names;
+ghost use Prim.Native.Nat.{_<_};
+
+// What comes of a request: there is none left, or its job and whether the answer is the recorded one.
+pub enum Replayed {
+    End,
+    Same(usize),
+    Different(usize),
+}
+
+// The head of a request: the job, how long its parts are, the job's node, the number that it answers, and how many words.
+struct Asked {
+    job: usize,
+    dialect: usize,
+    table: usize,
+    names: usize,
+    room: usize,
+    node: usize,
+    number: u32,
+    words: usize,
+}
+
+// The job whose buffer is one of words.
+const MODULE: usize = 6;
+
+// What each byte of the lent memory is before a job.
+const FILL: u8 = 0xEE;
+
+const FILL_WORD: u32 = 0xEEEE_EEEE;
+
+fn head_of(head: &[u8]) -> Asked {
+    Asked {
+        job: fields::byte(head, 0) as usize,
+        dialect: fields::byte(head, 1) as usize,
+        table: fields::half(head, 2) as usize,
+        names: fields::half(head, 4) as usize,
+        room: fields::half(head, 6) as usize,
+        node: fields::word(head, 8) as usize,
+        number: fields::word(head, 12),
+        words: fields::byte(head, 16) as usize,
+    }
+}
+
+// How many bytes so many words are.
+fn bytes_of(words: usize) -> usize {
+    4 * (words % 65536)
+}
+
+// How many bytes the recorded buffer has.
+fn buffer_len(job: usize, room: usize) -> usize
+    ensures { λ r. ⌜ r < 262144 ⌝ }
+{
+    if job == MODULE {
+        return 4 * (room % 65536);
+    }
+    room % 65536
+}
+
+// How many bytes stand behind the head.
+fn size_of(a: Asked) -> usize {
+    let parts = a.table % 65536 + a.names % 65536 + a.dialect % 65536;
+    parts + 4 * (a.words % 65536) + buffer_len(a.job, a.room)
+}
+
+// The next bytes of the file, put at the front of a buffer: whether they were all there.
+fn filled(fd: i32, space: &mut [u8], len: usize) -> bool {
+    if space.len() < len {
+        return false;
+    }
+    io::read_full(fd, &mut space[0..len]) == len
+}
+
+// The front of a buffer, as much of it as is there, and what stands behind it.
+fn front(s: &[u8], len: usize) -> &[u8] {
+    if len <= s.len() {
+        return &s[0..len];
+    }
+    &s[0..0]
+}
+
+fn behind(s: &[u8], len: usize) -> &[u8] {
+    if len <= s.len() {
+        return &s[len..];
+    }
+    &s[0..0]
+}
+
+// A request's job, but for the module pass: the number that it answers.
+fn run(
+    a: Asked,
+    table: &[u8],
+    names: &[u8],
+    dialect: &[u8],
+    buffer: &mut [u8],
+    out: &mut [u32; 12],
+) -> u32 {
+    let job = a.job;
+    match job {
+        0 => ffi::starlark_table(table, names, out),
+        1 => ffi::starlark_params(table, names, a.node, buffer, out),
+        2 => ffi::starlark_call(table, names, a.node, out),
+        3 => ffi::starlark_target(table, names, a.node, out),
+        4 => ffi::starlark_assignment(table, names, a.node, out),
+        _ => ffi::starlark_type(table, names, dialect, a.node, buffer, out),
+    }
+}
+
+// A recorded word, or what a word was where none is recorded.
+fn word_of(recorded: &[u8], len: usize, i: usize) -> u32 {
+    if i < len {
+        return fields::word(recorded, bytes_of(i));
+    }
+    FILL_WORD
+}
+
+// Whether words are the recorded ones, so many of them, and the others are as they were.
+fn each_word(recorded: &[u8], len: usize, out: &[u32]) -> bool {
+    let mut i = 0;
+    while i < out.len() {
+        if out[i] != word_of(recorded, len, i) {
+            return false;
+        }
+        i += 1;
+    }
+    true
+}
+
+// The recorded answer begins with the words of `out`; number and words must be as recorded.
+fn is_told(a: Asked, number: u32, answer: &[u8], out: &[u32; 12]) -> bool {
+    (number == a.number) & each_word(answer, a.words, out)
+}
+
+// Whether a request's job leaves number, words and buffer as recorded.
+fn agrees(a: Asked, table: &[u8], names: &[u8], dialect: &[u8], answer: &[u8]) -> bool {
+    let mut space = [FILL; 256];
+    let mut out = [FILL_WORD; 12];
+    let buffer: &mut [u8] = &mut space;
+    let room = a.room;
+    if buffer.len() < room {
+        return false;
+    }
+    let number = run(a, table, names, dialect, &mut buffer[0..room], &mut out);
+    if !is_told(a, number, answer, &out) {
+        return false;
+    }
+    let whole = &buffer[..];
+    names::same_bytes(front(whole, room), behind(answer, bytes_of(a.words)))
+}
+
+// The same for the module pass, whose buffer is one of words.
+fn module_agrees(a: Asked, table: &[u8], names: &[u8], dialect: &[u8], answer: &[u8]) -> bool {
+    let mut space = [FILL_WORD; 256];
+    let mut out = [FILL_WORD; 12];
+    let errors: &mut [u32] = &mut space;
+    let room = a.room;
+    if errors.len() < room {
+        return false;
+    }
+    let number = ffi::starlark_module(table, names, dialect, &mut errors[0..room], &mut out);
+    if !is_told(a, number, answer, &out) {
+        return false;
+    }
+    let whole = &errors[..];
+    each_word(behind(answer, bytes_of(a.words)), room, whole)
+}
+
+// Whether a request's answer is the recorded one, where the request stands behind its head.
+fn is_same(a: Asked, body: &[u8]) -> bool {
+    let table = front(body, a.table);
+    let left = behind(body, a.table);
+    let names = front(left, a.names);
+    let left = behind(left, a.names);
+    let dialect = front(left, a.dialect);
+    let answer = behind(left, a.dialect);
+    if a.job == MODULE {
+        return module_agrees(a, table, names, dialect, answer);
+    }
+    agrees(a, table, names, dialect, answer)
+}
+
+// The next request of the file.
+pub fn one(fd: i32) -> Replayed {
+    let mut head = [0u8; 20];
+    if !filled(fd, &mut head, 20) {
+        return Replayed::End;
+    }
+    let a = head_of(&head);
+    let size = size_of(a);
+    let mut space = io::buffer();
+    if !filled(fd, &mut space, size) {
+        return Replayed::End;
+    }
+    if is_same(a, front(&space, size)) {
+        return Replayed::Same(a.job);
+    }
+    Replayed::Different(a.job)
+}

@@ -1,0 +1,93 @@
+/* The C interface of the proved checks: link libffi.a (`tools/native-lib ffi` makes target/native/libffi.a).
+ *
+ * A table is `table_len` bytes, 24 for each node, in preorder; `names` are the bytes that its names lie in. Any bytes may
+ * come in: a table that is not sound is refused, and no input makes a function read or write outside what it is lent.
+ *
+ * What every function does
+ *   It returns document 01's number: 0 accepted, anything else a refusal. The answer's values go into `out`.
+ *   It keeps nothing between calls and allocates nothing, so threads may call at the same time on memory of their own.
+ *
+ * `out`, twelve words
+ *   accepted      as said at each function
+ *   3, 4          out[0] the node
+ *   1, 2, 5, 6, 7 nothing
+ *   all others    out[0] the node, out[1] and out[2] begin and end of its span (22: the name's span)
+ *   Every word that is not named keeps its value. So do all bytes and words of a lent buffer when a job refuses.
+ *
+ * What the caller must see to: nothing checks it
+ *   Each pointer points to as many elements as the length beside it says, and `out` to twelve words.
+ *   No two of the buffers that one call is lent overlap: not the table, the names, the dialect, the written buffer, `out`.
+ *   No pointer is NULL, not even one of length 0; words are aligned to four bytes.
+ *   The thread has stack enough: STARLARK_STACK_BYTES is twice what any job was measured to need (bindings/c/stack.c, on aarch64), which
+ *   grows with the nodes that stand side by side. At 2,100 nodes the table check needs 270 KB, and with it every job; the type job up to 470 KB
+ *   (an Index2 with a list of 2,094 arguments), the module pass up to 572 KB (statements). Nesting alone, 64 deep, needs less than 50 KB.
+ */
+#ifndef STARLARK_H
+#define STARLARK_H
+
+#include <stddef.h>
+#include <stdint.h>
+
+#ifdef __cplusplus
+extern "C" {
+#endif
+
+/* How many words `out` has. */
+#define STARLARK_WORDS 12
+
+/* The word for "no place". */
+#define STARLARK_NONE UINT32_C(0xFFFFFFFF)
+
+/* The limits of a table: nodes, and so bytes of a mode or shape buffer that is never too short; name bytes; depth. */
+#define STARLARK_NODES 2100
+#define STARLARK_NODE_BYTES 24
+#define STARLARK_NAME_BYTES 8064
+#define STARLARK_DEPTH 64
+
+/* No module has more errors: two for each node. */
+#define STARLARK_ERRORS 4200
+
+/* Stack enough for every job, twice over. */
+#define STARLARK_STACK_BYTES (3 << 19)
+
+/* The table check: 1 to 4. Accepted: nothing. */
+uint32_t starlark_table(const uint8_t *table, size_t table_len, const uint8_t *names, size_t names_len, uint32_t *out);
+
+/* The parameter list of the Def or Lambda at `node`: 1 to 4, 6, 7, 10 to 18.
+ * Accepted: out[0..10) begin and end of pos_only, pos_or_named, args, named_only and kwargs, as indices in the list without its marks
+ * (no args: the empty range at the end of pos_or_named; no kwargs: the empty range at the count); out[10] the count.
+ * modes[i] is then the mode of parameter i: 1 PosOnly, 2 PosOrName, 3 NameOnly, 4 Args, 5 Kwargs. The buffer needs a byte for each
+ * written parameter, marks counted (else 7); bytes past the count stay. */
+uint32_t starlark_params(const uint8_t *table, size_t table_len, const uint8_t *names, size_t names_len, size_t node,
+                         uint8_t *modes, size_t modes_len, uint32_t *out);
+
+/* The arguments of the Call at `node`: 1 to 4, 6, 20 to 24.
+ * Accepted: out[0] positional, out[1] named, out[2] the place of `*`, out[3] the place of `**`, from 0, or STARLARK_NONE. */
+uint32_t starlark_call(const uint8_t *table, size_t table_len, const uint8_t *names, size_t names_len, size_t node,
+                       uint32_t *out);
+
+/* Whether the expression at `node` is a target: 1 to 4, 6, 30. Accepted: out[0] its Identifier, Dot and Index leaves. */
+uint32_t starlark_target(const uint8_t *table, size_t table_len, const uint8_t *names, size_t names_len, size_t node,
+                         uint32_t *out);
+
+/* The assignment at `node`: 1 to 4, 6, 31, 30, 32, 33. Accepted: out[0] its target's leaves. */
+uint32_t starlark_assignment(const uint8_t *table, size_t table_len, const uint8_t *names, size_t names_len, size_t node,
+                             uint32_t *out);
+
+/* Whether the expression at `node` is a type in a dialect (nine bytes, or none for Standard): 1 to 7, 45, 40 to 44. Accepted: nothing.
+ * shapes[i] is then the shape of the node i places behind `node`, where it is read as a type or argument: 1 Ellipsis, 2 Path, 3 Index,
+ * 4 Index2, 5 List, 6 Union, 7 Tuple; the other bytes stay. The buffer needs a byte for each node of the type (else 7). */
+uint32_t starlark_type(const uint8_t *table, size_t table_len, const uint8_t *names, size_t names_len, const uint8_t *dialect,
+                       size_t dialect_len, size_t node, uint8_t *shapes, size_t shapes_len, uint32_t *out);
+
+/* The module pass under a dialect (nine bytes, or none for Standard): 1 to 5. Accepted: out[0] how many errors the module has, at most
+ * STARLARK_ERRORS. Three words of `errors` for each: number (10 to 18, 50 to 61), begin and end of the span. The first errors that fit whole
+ * are stored, the other words stay; `errors_len` counts words, and a list that is too short is no refusal. */
+uint32_t starlark_module(const uint8_t *table, size_t table_len, const uint8_t *names, size_t names_len, const uint8_t *dialect,
+                         size_t dialect_len, uint32_t *errors, size_t errors_len, uint32_t *out);
+
+#ifdef __cplusplus
+}
+#endif
+
+#endif

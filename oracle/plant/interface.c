@@ -1,0 +1,42 @@
+/* The C interface of a port that was lowered as a program: rattle then makes the inner functions alone, which take a slice as a pointer to
+ * its pointer and length. This is what it makes of `extern "C"` in a static library. */
+#include <stddef.h>
+#include <stdint.h>
+
+struct slice {
+    const void *start;
+    size_t length;
+};
+
+#define SLICE(start, length) (&(struct slice){start, length})
+#define TABLE const uint8_t *t, size_t tl, const uint8_t *n, size_t nl
+
+#define ON_NODE(job)                                                                               \
+    uint32_t inner_##job(struct slice *, struct slice *, size_t, uint32_t *);          \
+    uint32_t starlark_##job(TABLE, size_t node, uint32_t *out) {                                   \
+        return inner_##job(SLICE(t, tl), SLICE(n, nl), node, out);                                 \
+    }
+
+uint32_t inner_table(struct slice *, struct slice *, uint32_t *);
+uint32_t starlark_table(TABLE, uint32_t *out) { return inner_table(SLICE(t, tl), SLICE(n, nl), out); }
+
+ON_NODE(call)
+ON_NODE(target)
+ON_NODE(assignment)
+
+uint32_t inner_params(struct slice *, struct slice *, size_t, struct slice *, uint32_t *);
+uint32_t starlark_params(TABLE, size_t node, uint8_t *modes, size_t modes_len, uint32_t *out) {
+    return inner_params(SLICE(t, tl), SLICE(n, nl), node, SLICE(modes, modes_len), out);
+}
+
+uint32_t inner_type(struct slice *, struct slice *, struct slice *, size_t, struct slice *, uint32_t *);
+uint32_t starlark_type(TABLE, const uint8_t *d, size_t dl, size_t node, uint8_t *shapes, size_t shapes_len, uint32_t *out) {
+    return inner_type(SLICE(t, tl), SLICE(n, nl), SLICE(d, dl), node, SLICE(shapes, shapes_len), out);
+}
+
+#ifdef HAS_MODULE
+uint32_t inner_module(struct slice *, struct slice *, struct slice *, struct slice *, uint32_t *);
+uint32_t starlark_module(TABLE, const uint8_t *d, size_t dl, uint32_t *errors, size_t errors_len, uint32_t *out) {
+    return inner_module(SLICE(t, tl), SLICE(n, nl), SLICE(d, dl), SLICE(errors, errors_len), out);
+}
+#endif
