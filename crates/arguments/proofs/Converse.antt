@@ -132,7 +132,7 @@ module _ (names : List ℕ) (w : Forest) where
       let on-positional = read-positional s (r .kind) (repeated names w r) r kind ∙ sym (positional-on s r st) in
       taken names w s (withPositional s) r ks f on-positional (run-positional p n a k f (withPositional s) rest y (keep s r h (r .kind) (repeated names w r) (withPositional s) on-positional .reached) st)
 
--- names stand on named arguments alone: so it is in a sound table
+-- names stand on named arguments alone: so it is in a sound table, by `sound-alone` of Sound.antt
 unfoldable pub NamedAlone : List ℕ → Forest → Type 0
 NamedAlone names none = Unit {0}
 NamedAlone names (node r ks then f) = ((readAs (r .kind) ≡ kindNamed → ⊥) → nameOf names r ≡ []) × (readAs (r .kind) ≡ kindNamed → nameOf names r ≡ [] → ⊥) × NamedAlone names f

@@ -4,4 +4,6 @@ pub mod Never
 pub mod Order
 pub mod Names
 pub mod Converse
+pub mod Sound
 pub mod Promises
+pub mod AcceptedCalls

@@ -31,7 +31,7 @@ split (Given i) Missing (Given k) (Given l) e = never (cc)
 split Missing (Given j) Missing Missing e = never (cc)
 split Missing Missing Missing (Given l) e = never (cc)
 
-args-injective : (a b : CallArgs) → callValues a ≡ callValues b → a ≡ b
+pub args-injective : (a b : CallArgs) → callValues a ≡ callValues b → a ≡ b
 args-injective a b e =
     let pos : a .«num_pos» ≡ b .«num_pos» = cc in
     let named : a .«num_named» ≡ b .«num_named» = cc in
