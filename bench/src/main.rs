@@ -44,6 +44,10 @@ const STACK_BYTES: usize = 64 << 20;
 /// A sample is short, so that few of them are interrupted.
 const SAMPLE_NANOSECONDS: f64 = 200_000.0;
 
+const MODULES: [usize; 3] = [100, 500, 2_100];
+static DIALECTS: [(&str, [u8; model::dialect::BYTES]); 2] =
+    [("Extended", model::dialect::EXTENDED), ("Standard", model::dialect::STANDARD)];
+
 fn main() -> ExitCode {
     let options = match read_options() {
         Ok(options) => options,
@@ -99,31 +103,29 @@ fn all_cases() -> Vec<Case> {
         let name = format!("target, {items} leaves");
         all.push(case(name, job, move || cases::targets(kept(scripts::target(items)))));
     }
-    for nodes in [100, 500, 2_100] {
-        let name = format!("module, {nodes} nodes, Extended");
-        let extended = &model::dialect::EXTENDED;
-        all.push(case(name, job, move || cases::module(kept(scripts::module(nodes)), extended)));
+    for (dialect, bytes) in &DIALECTS {
+        for nodes in MODULES {
+            let name = format!("module, {nodes} nodes, {dialect}, {} errors", errors(nodes, bytes));
+            all.push(case(name, job, move || cases::module(kept(scripts::module(nodes)), bytes)));
+        }
     }
-    for nodes in [100, 500, 2_100] {
-        let name = format!("module, {nodes} nodes, Standard");
-        let standard = &model::dialect::STANDARD;
-        all.push(case(name, job, move || cases::module(kept(scripts::module(nodes)), standard)));
-    }
-    for nodes in [100, 500, 2_100] {
+    for nodes in MODULES {
         let name = format!("table, {nodes} nodes");
         all.push(case(name, Kind::Table, move || cases::table(kept(scripts::module(nodes)))));
     }
-    for nodes in [100, 500, 2_100] {
-        let name = format!("file, {nodes} nodes, Extended");
-        let extended = &model::dialect::EXTENDED;
-        all.push(case(name, Kind::File, move || cases::file(kept(scripts::module(nodes)), extended)));
-    }
-    for nodes in [100, 500, 2_100] {
-        let name = format!("file, {nodes} nodes, Standard");
-        let standard = &model::dialect::STANDARD;
-        all.push(case(name, Kind::File, move || cases::file(kept(scripts::module(nodes)), standard)));
+    for (dialect, bytes) in &DIALECTS {
+        for nodes in MODULES {
+            let name = format!("file, {nodes} nodes, {dialect}, {} errors", errors(nodes, bytes));
+            all.push(case(name, Kind::File, move || cases::file(kept(scripts::module(nodes)), bytes)));
+        }
     }
     all
+}
+
+/// How many errors the module of so many nodes has.
+fn errors(nodes: usize, dialect: &[u8]) -> usize {
+    let input = scripts::module(nodes);
+    model::jobs::module(&input.table, &input.names, dialect).errors.len()
 }
 
 fn run(options: &Options) {
