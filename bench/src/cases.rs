@@ -73,12 +73,13 @@ pub fn parameters(input: &'static Input) -> Routes {
     let ready = trees(table).parameters(input.node).expect("a tree");
     vec![
         Route::new(PORT, move || port.params(&input.table, &input.names, input.node)),
-        Route::new(CRATE, move || DefParams::unpack(black_box(&ready), codemap()).is_ok()),
+        Route::new(CRATE, move || black_box(DefParams::unpack(black_box(&ready), codemap())).is_ok()),
         check_route(input),
         Route::new(FRONT, move || {
             let table = read(input);
             let list = trees(&table).parameters(input.node).expect("a tree");
-            DefParams::unpack(&list, codemap()).is_ok()
+            let accepted = black_box(DefParams::unpack(&list, codemap())).is_ok();
+            accepted
         }),
     ]
 }
@@ -91,12 +92,12 @@ pub fn arguments(input: &'static Input) -> Routes {
     let ready = CallArgsP { args: trees(table).arguments(input.node).expect("a tree") };
     vec![
         Route::new(PORT, move || port.call(&input.table, &input.names, input.node)),
-        Route::new(CRATE, move || CallArgsUnpack::unpack(black_box(&ready), codemap()).is_ok()),
+        Route::new(CRATE, move || black_box(CallArgsUnpack::unpack(black_box(&ready), codemap())).is_ok()),
         check_route(input),
         Route::new(FRONT, move || {
             let table = read(input);
             let list = CallArgsP { args: trees(&table).arguments(input.node).expect("a tree") };
-            let accepted = CallArgsUnpack::unpack(&list, codemap()).is_ok();
+            let accepted = black_box(CallArgsUnpack::unpack(&list, codemap())).is_ok();
             accepted
         }),
     ]
@@ -112,12 +113,12 @@ pub fn types(input: &'static Input) -> Routes {
     let ready = trees(table).expression(input.node).expect("a tree");
     vec![
         Route::new(PORT, move || port.type_shape(&input.table, &input.names, dialect, input.node)),
-        Route::new(CRATE, move || TypeExprUnpackP::unpack(black_box(&ready), codemap()).is_ok()),
+        Route::new(CRATE, move || black_box(TypeExprUnpackP::unpack(black_box(&ready), codemap())).is_ok()),
         check_route(input),
         Route::new(FRONT, move || {
             let table = read(input);
             let tree = trees(&table).expression(input.node).expect("a tree");
-            let accepted = TypeExprUnpackP::unpack(&tree, codemap()).is_ok();
+            let accepted = black_box(TypeExprUnpackP::unpack(&tree, codemap())).is_ok();
             accepted
         }),
     ]
@@ -147,7 +148,7 @@ pub fn table(input: &'static Input) -> Routes {
     assert_eq!(port.table(&input.table, &input.names), 0);
     vec![
         Route::new(PORT, move || port.table(&input.table, &input.names)),
-        Route::new(MODEL, move || read(input).records.len()),
+        Route::new(MODEL, move || black_box(read(input)).records.len()),
     ]
 }
 
@@ -164,12 +165,12 @@ pub fn module(input: &'static Input, dialect: &'static [u8]) -> Routes {
     let again = dialects::from_bytes(dialect);
     vec![
         Route::new(PORT, move || port.module(&input.table, &input.names, dialect)),
-        Route::new(CRATE, move || validate_module(black_box(&ready), &record, codemap()).len()),
+        Route::new(CRATE, move || black_box(validate_module(black_box(&ready), &record, codemap())).len()),
         check_route(input),
         Route::new(FRONT, move || {
             let table = read(input);
             let tree = trees(&table).statement(0).expect("a tree");
-            validate_module(&tree, &again, codemap()).len()
+            black_box(validate_module(&tree, &again, codemap())).len()
         }),
     ]
 }
@@ -190,10 +191,10 @@ pub fn file(input: &'static Input, dialect: &'static [u8]) -> Routes {
         Route::new(PORT, move || port.file(bytes)),
         Route::new(FRONT, move || rust_route(bytes)),
         Route::new(CHECK, move || inner.module(&input.table, &input.names, dialect)),
-        Route::new(READ, move || file::read(black_box(bytes)).is_ok()),
-        Route::new(MODEL, move || read(input).records.len()),
-        Route::new(TREE, move || trees(black_box(table)).statement(0).is_ok()),
-        Route::new(CRATE, move || validate_module(black_box(&ready), &record, codemap()).len()),
+        Route::new(READ, move || file::read(black_box(bytes))),
+        Route::new(MODEL, move || black_box(read(input)).records.len()),
+        Route::new(TREE, move || trees(black_box(table)).statement(0)),
+        Route::new(CRATE, move || black_box(validate_module(black_box(&ready), &record, codemap())).len()),
     ]
 }
 
@@ -202,5 +203,5 @@ fn rust_route(bytes: &[u8]) -> usize {
     let contents = file::read(black_box(bytes)).unwrap_or_else(|_| unreachable!());
     let table = Table::check(&contents.table, &contents.names).unwrap_or_else(|_| unreachable!());
     let tree = trees(&table).statement(0).expect("a tree");
-    validate_module(&tree, &dialects::from_bytes(&contents.dialect), codemap()).len()
+    black_box(validate_module(&tree, &dialects::from_bytes(&contents.dialect), codemap())).len()
 }

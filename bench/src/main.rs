@@ -105,7 +105,7 @@ fn all_cases() -> Vec<Case> {
     }
     for (dialect, bytes) in &DIALECTS {
         for nodes in MODULES {
-            let name = format!("module, {nodes} nodes, {dialect}, {} errors", errors(nodes, bytes));
+            let name = format!("module, {nodes} nodes, {dialect}, {}", errors(nodes, bytes));
             all.push(case(name, job, move || cases::module(kept(scripts::module(nodes)), bytes)));
         }
     }
@@ -115,17 +115,20 @@ fn all_cases() -> Vec<Case> {
     }
     for (dialect, bytes) in &DIALECTS {
         for nodes in MODULES {
-            let name = format!("file, {nodes} nodes, {dialect}, {} errors", errors(nodes, bytes));
+            let name = format!("file, {nodes} nodes, {dialect}, {}", errors(nodes, bytes));
             all.push(case(name, Kind::File, move || cases::file(kept(scripts::module(nodes)), bytes)));
         }
     }
     all
 }
 
-/// How many errors the module of so many nodes has.
-fn errors(nodes: usize, dialect: &[u8]) -> usize {
+/// How many errors the module of so many nodes has, in words.
+fn errors(nodes: usize, dialect: &[u8]) -> String {
     let input = scripts::module(nodes);
-    model::jobs::module(&input.table, &input.names, dialect).errors.len()
+    match model::jobs::module(&input.table, &input.names, dialect).errors.len() {
+        1 => "1 error".to_owned(),
+        count => format!("{count} errors"),
+    }
 }
 
 fn run(options: &Options) {

@@ -1,6 +1,6 @@
 //! Tables as a converter of scripts would write them: each name stands once in the name bytes.
 
-use std::collections::HashMap;
+use std::collections::BTreeMap;
 
 use model::numbers::kind;
 use model::table::has_name;
@@ -10,7 +10,7 @@ use model::table::Record;
 pub struct Tables {
     records: Vec<Record>,
     names: Vec<u8>,
-    known: HashMap<String, (u32, u16)>,
+    known: BTreeMap<String, (u32, u16)>,
 }
 
 impl Tables {
