@@ -1,0 +1,207 @@
+//! The jobs, each with its routes: the port, the crate on a ready tree, and the crate with the oracle's reading in front.
+
+use std::hint::black_box;
+
+use judge::dialects;
+use judge::run;
+use judge::trees::Spans;
+use judge::trees::Trees;
+use model::answer::Answer;
+use model::file;
+use model::file::Contents;
+use model::jobs;
+use model::table::Table;
+use starlark_syntax::codemap::CodeMap;
+use starlark_syntax::syntax::ast::CallArgsP;
+use starlark_syntax::syntax::call::CallArgsUnpack;
+use starlark_syntax::syntax::def::DefParams;
+use starlark_syntax::syntax::grammar_util::check_assign;
+use starlark_syntax::syntax::module::validate_module;
+use starlark_syntax::syntax::type_expr::TypeExprUnpackP;
+
+use crate::measure::Route;
+use crate::port::Port;
+use crate::scripts::Input;
+
+pub const PORT: &str = "port";
+pub const CHECK: &str = "port-check";
+pub const CRATE: &str = "crate";
+pub const FRONT: &str = "crate-with-front";
+pub const MODEL: &str = "model-check";
+pub const TREE: &str = "tree";
+pub const READ: &str = "model-read";
+
+type Routes = Vec<Route<'static>>;
+
+fn codemap() -> &'static CodeMap {
+    CodeMap::empty_static()
+}
+
+/// A table that stays for the whole run.
+fn checked(input: &'static Input) -> &'static Table<'static> {
+    let table = Table::check(&input.table, &input.names);
+    Box::leak(Box::new(table.unwrap_or_else(|refusal| panic!("a table of the benchmark is refused: {refusal:?}"))))
+}
+
+fn trees<'a, 'n>(table: &'a Table<'n>) -> Trees<'a, 'n> {
+    Trees { table, spans: Spans::Table }
+}
+
+/// The oracle's reading of a table, as it stands in front of a tree.
+fn read(input: &Input) -> Table<'_> {
+    let (table, names) = black_box((&input.table, &input.names));
+    Table::check(table, names).unwrap_or_else(|_| unreachable!())
+}
+
+/// A measured job on which port and crate do not agree would say nothing.
+fn must_agree(port: &Port, number: u32, answer: &Answer) {
+    assert_eq!(number, answer.number, "port and crate agree on what is measured");
+    assert_eq!(port.out[..answer.words.len()], answer.words[..], "port and crate agree on what is measured");
+    assert_eq!(port.bytes[..answer.bytes.len()], answer.bytes[..], "port and crate agree on what is measured");
+}
+
+fn check_route(input: &'static Input) -> Route<'static> {
+    let mut port = Port::new();
+    Route::new(CHECK, move || port.table(&input.table, &input.names))
+}
+
+pub fn parameters(input: &'static Input) -> Routes {
+    let table = checked(input);
+    let mut port = Port::new();
+    let number = port.params(&input.table, &input.names, input.node);
+    must_agree(&port, number, &run::params(table, input.node).expect("a tree"));
+    let ready = trees(table).parameters(input.node).expect("a tree");
+    vec![
+        Route::new(PORT, move || port.params(&input.table, &input.names, input.node)),
+        Route::new(CRATE, move || black_box(DefParams::unpack(black_box(&ready), codemap())).is_ok()),
+        check_route(input),
+        Route::new(FRONT, move || {
+            let table = read(input);
+            let list = trees(&table).parameters(input.node).expect("a tree");
+            let accepted = black_box(DefParams::unpack(&list, codemap())).is_ok();
+            accepted
+        }),
+    ]
+}
+
+pub fn arguments(input: &'static Input) -> Routes {
+    let table = checked(input);
+    let mut port = Port::new();
+    let number = port.call(&input.table, &input.names, input.node);
+    must_agree(&port, number, &run::call(table, input.node).expect("a tree"));
+    let ready = CallArgsP { args: trees(table).arguments(input.node).expect("a tree") };
+    vec![
+        Route::new(PORT, move || port.call(&input.table, &input.names, input.node)),
+        Route::new(CRATE, move || black_box(CallArgsUnpack::unpack(black_box(&ready), codemap())).is_ok()),
+        check_route(input),
+        Route::new(FRONT, move || {
+            let table = read(input);
+            let list = CallArgsP { args: trees(&table).arguments(input.node).expect("a tree") };
+            let accepted = black_box(CallArgsUnpack::unpack(&list, codemap())).is_ok();
+            accepted
+        }),
+    ]
+}
+
+pub fn types(input: &'static Input) -> Routes {
+    let table = checked(input);
+    let dialect = &model::dialect::EXTENDED;
+    let mut port = Port::new();
+    let number = port.type_shape(&input.table, &input.names, dialect, input.node);
+    let judged = run::type_shape(table, input.node, &dialects::from_bytes(dialect)).expect("a tree");
+    must_agree(&port, number, &judged);
+    let ready = trees(table).expression(input.node).expect("a tree");
+    vec![
+        Route::new(PORT, move || port.type_shape(&input.table, &input.names, dialect, input.node)),
+        Route::new(CRATE, move || black_box(TypeExprUnpackP::unpack(black_box(&ready), codemap())).is_ok()),
+        check_route(input),
+        Route::new(FRONT, move || {
+            let table = read(input);
+            let tree = trees(&table).expression(input.node).expect("a tree");
+            let accepted = black_box(TypeExprUnpackP::unpack(&tree, codemap())).is_ok();
+            accepted
+        }),
+    ]
+}
+
+pub fn targets(input: &'static Input) -> Routes {
+    let table = checked(input);
+    let mut port = Port::new();
+    let number = port.target(&input.table, &input.names, input.node);
+    must_agree(&port, number, &run::target(table, input.node).expect("a tree"));
+    let ready = trees(table).expression(input.node).expect("a tree");
+    vec![
+        Route::new(PORT, move || port.target(&input.table, &input.names, input.node)),
+        Route::eating(CRATE, move || ready.clone(), |tree| check_assign(codemap(), tree)),
+        check_route(input),
+        Route::new(FRONT, move || {
+            let table = read(input);
+            let tree = trees(&table).expression(input.node).expect("a tree");
+            check_assign(codemap(), tree)
+        }),
+    ]
+}
+
+/// The table check against the oracle's own: the crate has no tables.
+pub fn table(input: &'static Input) -> Routes {
+    let mut port = Port::new();
+    assert_eq!(port.table(&input.table, &input.names), 0);
+    vec![
+        Route::new(PORT, move || port.table(&input.table, &input.names)),
+        Route::new(MODEL, move || black_box(read(input)).records.len()),
+    ]
+}
+
+pub fn module(input: &'static Input, dialect: &'static [u8]) -> Routes {
+    let table = checked(input);
+    let mut port = Port::new();
+    let number = port.module(&input.table, &input.names, dialect);
+    let record = dialects::from_bytes(dialect);
+    let listed = run::Module::of(table).expect("a tree").validate(&record);
+    let answer = jobs::listed_answer(table, &listed);
+    must_agree(&port, number, &answer);
+    assert_eq!(port.errors[..3 * answer.errors.len()], answer.errors.concat()[..]);
+    let ready = trees(table).statement(0).expect("a tree");
+    let again = dialects::from_bytes(dialect);
+    vec![
+        Route::new(PORT, move || port.module(&input.table, &input.names, dialect)),
+        Route::new(CRATE, move || black_box(validate_module(black_box(&ready), &record, codemap())).len()),
+        check_route(input),
+        Route::new(FRONT, move || {
+            let table = read(input);
+            let tree = trees(&table).statement(0).expect("a tree");
+            black_box(validate_module(&tree, &again, codemap())).len()
+        }),
+    ]
+}
+
+/// A file to its errors, and the parts of the Rust route.
+pub fn file(input: &'static Input, dialect: &'static [u8]) -> Routes {
+    let contents =
+        Contents { table: input.table.clone(), names: input.names.clone(), dialect: dialect.to_vec() };
+    let bytes: &'static [u8] = Vec::leak(file::write(&contents));
+    let table = checked(input);
+    let mut port = Port::new();
+    let number = port.file(bytes);
+    must_agree(&port, number, &jobs::module(&input.table, &input.names, dialect));
+    let mut inner = Port::new();
+    let ready = trees(table).statement(0).expect("a tree");
+    let record = dialects::from_bytes(dialect);
+    vec![
+        Route::new(PORT, move || port.file(bytes)),
+        Route::new(FRONT, move || rust_route(bytes)),
+        Route::new(CHECK, move || inner.module(&input.table, &input.names, dialect)),
+        Route::new(READ, move || file::read(black_box(bytes))),
+        Route::new(MODEL, move || black_box(read(input)).records.len()),
+        Route::new(TREE, move || trees(black_box(table)).statement(0)),
+        Route::new(CRATE, move || black_box(validate_module(black_box(&ready), &record, codemap())).len()),
+    ]
+}
+
+/// Read, check, build the tree, validate.
+fn rust_route(bytes: &[u8]) -> usize {
+    let contents = file::read(black_box(bytes)).unwrap_or_else(|_| unreachable!());
+    let table = Table::check(&contents.table, &contents.names).unwrap_or_else(|_| unreachable!());
+    let tree = trees(&table).statement(0).expect("a tree");
+    black_box(validate_module(&tree, &dialects::from_bytes(&contents.dialect), codemap())).len()
+}

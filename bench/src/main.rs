@@ -1,0 +1,210 @@
+//! Port against crate: the same jobs on the same trees in one process. `bench/run` builds and starts it.
+//!
+//!   --rounds N           how often each route is timed (default 201)
+//!   --only TEXT          only the cases whose names hold TEXT
+//!   --alone ROUTE N      no times: each case's route of this name is run N times, for a profiler
+
+mod cases;
+mod clock;
+mod measure;
+mod port;
+mod scripts;
+mod tables;
+
+use std::process::ExitCode;
+
+use measure::Effort;
+use measure::Route;
+use measure::Spread;
+use measure::Times;
+use scripts::Input;
+
+/// How a case is printed.
+#[derive(Clone, Copy, PartialEq, Eq)]
+enum Kind {
+    Job,
+    Table,
+    File,
+}
+
+struct Case {
+    name: String,
+    kind: Kind,
+    routes: Box<dyn Fn() -> Vec<Route<'static>>>,
+}
+
+struct Options {
+    rounds: usize,
+    only: String,
+    alone: Option<(String, usize)>,
+}
+
+/// Recursion over 2,100 siblings needs some hundred kilobytes, a read file some more.
+const STACK_BYTES: usize = 64 << 20;
+/// A sample is short, so that few of them are interrupted.
+const SAMPLE_NANOSECONDS: f64 = 200_000.0;
+
+const MODULES: [usize; 3] = [100, 500, 2_100];
+static DIALECTS: [(&str, [u8; model::dialect::BYTES]); 2] =
+    [("Extended", model::dialect::EXTENDED), ("Standard", model::dialect::STANDARD)];
+
+fn main() -> ExitCode {
+    let options = match read_options() {
+        Ok(options) => options,
+        Err(text) => {
+            eprintln!("bench: {text}");
+            return ExitCode::from(2);
+        }
+    };
+    let thread = std::thread::Builder::new().stack_size(STACK_BYTES);
+    let run = thread.spawn(move || run(&options)).expect("a thread starts");
+    if run.join().is_ok() { ExitCode::SUCCESS } else { ExitCode::from(2) }
+}
+
+fn read_options() -> Result<Options, String> {
+    let mut options = Options { rounds: 201, only: String::new(), alone: None };
+    let mut left = std::env::args().skip(1);
+    let number = |text: String| text.parse::<usize>().map_err(|_| format!("{text} is no number"));
+    while let Some(option) = left.next() {
+        let mut value = || left.next().ok_or_else(|| format!("{option} wants a value"));
+        match option.as_str() {
+            "--rounds" => options.rounds = number(value()?)?.max(1),
+            "--only" => options.only = value()?,
+            "--alone" => options.alone = Some((value()?, number(value()?)?)),
+            _ => return Err(format!("{option} is not known")),
+        }
+    }
+    Ok(options)
+}
+
+fn kept(input: Input) -> &'static Input {
+    Box::leak(Box::new(input))
+}
+
+fn case(name: String, kind: Kind, routes: impl Fn() -> Vec<Route<'static>> + 'static) -> Case {
+    Case { name, kind, routes: Box::new(routes) }
+}
+
+fn all_cases() -> Vec<Case> {
+    let mut all = Vec::new();
+    let job = Kind::Job;
+    for entries in [4, 16, 48, 384] {
+        let name = format!("params, {entries} entries");
+        all.push(case(name, job, move || cases::parameters(kept(scripts::parameters(entries)))));
+    }
+    for entries in [4, 16, 48, 384] {
+        let name = format!("call, {entries} arguments");
+        all.push(case(name, job, move || cases::arguments(kept(scripts::arguments(entries)))));
+    }
+    all.push(case("type, 3 nodes".into(), job, || cases::types(kept(scripts::small_type()))));
+    all.push(case("type, 8 nodes".into(), job, || cases::types(kept(scripts::middle_type()))));
+    all.push(case("type, 55 nodes".into(), job, || cases::types(kept(scripts::large_type(48)))));
+    for items in [3, 24] {
+        let name = format!("target, {items} leaves");
+        all.push(case(name, job, move || cases::targets(kept(scripts::target(items)))));
+    }
+    for (dialect, bytes) in &DIALECTS {
+        for nodes in MODULES {
+            let name = format!("module, {nodes} nodes, {dialect}, {}", errors(nodes, bytes));
+            all.push(case(name, job, move || cases::module(kept(scripts::module(nodes)), bytes)));
+        }
+    }
+    for nodes in MODULES {
+        let name = format!("table, {nodes} nodes");
+        all.push(case(name, Kind::Table, move || cases::table(kept(scripts::module(nodes)))));
+    }
+    for (dialect, bytes) in &DIALECTS {
+        for nodes in MODULES {
+            let name = format!("file, {nodes} nodes, {dialect}, {}", errors(nodes, bytes));
+            all.push(case(name, Kind::File, move || cases::file(kept(scripts::module(nodes)), bytes)));
+        }
+    }
+    all
+}
+
+/// How many errors the module of so many nodes has, in words.
+fn errors(nodes: usize, dialect: &[u8]) -> String {
+    let input = scripts::module(nodes);
+    match model::jobs::module(&input.table, &input.names, dialect).errors.len() {
+        1 => "1 error".to_owned(),
+        count => format!("{count} errors"),
+    }
+}
+
+fn run(options: &Options) {
+    let all = all_cases().into_iter().filter(|case| case.name.contains(&options.only));
+    if let Some((label, times)) = &options.alone {
+        for case in all {
+            (case.routes)().iter_mut().filter(|route| route.label == label).for_each(|route| {
+                route.run(*times);
+            });
+        }
+        return;
+    }
+    println!("{} rounds, each route in its turn; medians of processor time in microseconds, quartiles in brackets", options.rounds);
+    let effort = Effort { rounds: options.rounds, sample: SAMPLE_NANOSECONDS };
+    let mut before = None;
+    for case in all {
+        if before != Some(case.kind) {
+            print_head(case.kind);
+            before = Some(case.kind);
+        }
+        let times = measure::in_turn(&mut (case.routes)(), &effort);
+        print_row(&case, &times);
+    }
+}
+
+fn of<'t>(times: &'t [Times], label: &str) -> &'t Times {
+    times.iter().find(|times| times.label == label).expect("a route of this case")
+}
+
+fn print_head(kind: Kind) {
+    println!();
+    let columns = match kind {
+        Kind::Job => "job | port | of it table check | crate | port / crate | crate with reading and tree | port / that",
+        Kind::Table => "check | port | the oracle's check | port / that",
+        Kind::File => {
+            "file to errors | port | of it module job | Rust route | port / Rust | reading and check | second check | tree | crate | port / (tree and crate alone)"
+        }
+    };
+    println!("| {columns} |");
+    println!("|{}", "---|".repeat(columns.split('|').count()));
+}
+
+fn micros(spread: Spread) -> String {
+    format!("{:.2} ({:.2}–{:.2})", spread.median / 1e3, spread.low / 1e3, spread.high / 1e3)
+}
+
+fn middle(times: &Times) -> String {
+    format!("{:.2}", times.spread().median / 1e3)
+}
+
+fn ratio(spread: Spread) -> String {
+    format!("{:.2} ({:.2}–{:.2})", spread.median, spread.low, spread.high)
+}
+
+fn print_row(case: &Case, times: &[Times]) {
+    let port = of(times, cases::PORT);
+    let mut row = vec![case.name.clone(), micros(port.spread())];
+    match case.kind {
+        Kind::Job => {
+            let (ready, front) = (of(times, cases::CRATE), of(times, cases::FRONT));
+            row.push(middle(of(times, cases::CHECK)));
+            row.extend([micros(ready.spread()), ratio(port.part_of(ready))]);
+            row.extend([micros(front.spread()), ratio(port.part_of(front))]);
+        }
+        Kind::Table => {
+            let model = of(times, cases::MODEL);
+            row.extend([micros(model.spread()), ratio(port.part_of(model))]);
+        }
+        Kind::File => {
+            let front = of(times, cases::FRONT);
+            row.push(middle(of(times, cases::CHECK)));
+            row.extend([micros(front.spread()), ratio(port.part_of(front))]);
+            row.extend([cases::READ, cases::MODEL, cases::TREE, cases::CRATE].map(|label| middle(of(times, label))));
+            let least = [cases::TREE, cases::CRATE].map(|label| of(times, label).spread().median);
+            row.push(format!("{:.2}", port.spread().median / least.iter().sum::<f64>()));
+        }
+    }
+    println!("| {} |", row.join(" | "));
+}

@@ -1,0 +1,134 @@
+//! The port's functions on lent memory that is used again from call to call and never cleared.
+
+use std::hint::black_box;
+
+type Words = [u32; 12];
+
+extern "C" {
+    fn starlark_table(t: *const u8, tl: usize, n: *const u8, nl: usize, out: *mut Words) -> u32;
+    fn starlark_params(
+        t: *const u8,
+        tl: usize,
+        n: *const u8,
+        nl: usize,
+        node: usize,
+        modes: *mut u8,
+        modes_len: usize,
+        out: *mut Words,
+    ) -> u32;
+    fn starlark_call(t: *const u8, tl: usize, n: *const u8, nl: usize, node: usize, out: *mut Words) -> u32;
+    fn starlark_target(t: *const u8, tl: usize, n: *const u8, nl: usize, node: usize, out: *mut Words) -> u32;
+    fn starlark_type(
+        t: *const u8,
+        tl: usize,
+        n: *const u8,
+        nl: usize,
+        dialect: *const u8,
+        dialect_len: usize,
+        node: usize,
+        shapes: *mut u8,
+        shapes_len: usize,
+        out: *mut Words,
+    ) -> u32;
+    fn starlark_module(
+        t: *const u8,
+        tl: usize,
+        n: *const u8,
+        nl: usize,
+        dialect: *const u8,
+        dialect_len: usize,
+        errors: *mut u32,
+        errors_len: usize,
+        out: *mut Words,
+    ) -> u32;
+    fn bench_file(file: *const u8, file_len: usize, errors: *mut u32, errors_len: usize, out: *mut Words) -> u32;
+}
+
+/// Memory for any job: no job needs more.
+pub struct Port {
+    pub out: Words,
+    pub bytes: Vec<u8>,
+    pub errors: Vec<u32>,
+}
+
+// In each call every pointer is to memory of the length beside it, and no two of them overlap.
+impl Port {
+    pub fn new() -> Port {
+        Port { out: [0; 12], bytes: vec![0; 2_100], errors: vec![0; 3 * 4_200] }
+    }
+
+    pub fn table(&mut self, table: &[u8], names: &[u8]) -> u32 {
+        let (table, names) = black_box((table, names));
+        unsafe { starlark_table(table.as_ptr(), table.len(), names.as_ptr(), names.len(), &mut self.out) }
+    }
+
+    pub fn params(&mut self, table: &[u8], names: &[u8], node: usize) -> u32 {
+        let (table, names) = black_box((table, names));
+        let (modes, modes_len) = (self.bytes.as_mut_ptr(), self.bytes.len());
+        unsafe {
+            starlark_params(
+                table.as_ptr(),
+                table.len(),
+                names.as_ptr(),
+                names.len(),
+                node,
+                modes,
+                modes_len,
+                &mut self.out,
+            )
+        }
+    }
+
+    pub fn call(&mut self, table: &[u8], names: &[u8], node: usize) -> u32 {
+        let (table, names) = black_box((table, names));
+        unsafe { starlark_call(table.as_ptr(), table.len(), names.as_ptr(), names.len(), node, &mut self.out) }
+    }
+
+    pub fn target(&mut self, table: &[u8], names: &[u8], node: usize) -> u32 {
+        let (table, names) = black_box((table, names));
+        unsafe { starlark_target(table.as_ptr(), table.len(), names.as_ptr(), names.len(), node, &mut self.out) }
+    }
+
+    pub fn type_shape(&mut self, table: &[u8], names: &[u8], dialect: &[u8], node: usize) -> u32 {
+        let (table, names) = black_box((table, names));
+        let (shapes, shapes_len) = (self.bytes.as_mut_ptr(), self.bytes.len());
+        unsafe {
+            starlark_type(
+                table.as_ptr(),
+                table.len(),
+                names.as_ptr(),
+                names.len(),
+                dialect.as_ptr(),
+                dialect.len(),
+                node,
+                shapes,
+                shapes_len,
+                &mut self.out,
+            )
+        }
+    }
+
+    pub fn module(&mut self, table: &[u8], names: &[u8], dialect: &[u8]) -> u32 {
+        let (table, names) = black_box((table, names));
+        let (errors, errors_len) = (self.errors.as_mut_ptr(), self.errors.len());
+        unsafe {
+            starlark_module(
+                table.as_ptr(),
+                table.len(),
+                names.as_ptr(),
+                names.len(),
+                dialect.as_ptr(),
+                dialect.len(),
+                errors,
+                errors_len,
+                &mut self.out,
+            )
+        }
+    }
+
+    pub fn file(&mut self, file: &[u8]) -> u32 {
+        let file = black_box(file);
+        let (errors, errors_len) = (self.errors.as_mut_ptr(), self.errors.len());
+        unsafe { bench_file(file.as_ptr(), file.len(), errors, errors_len, &mut self.out) }
+    }
+}

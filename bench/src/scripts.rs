@@ -1,0 +1,263 @@
+//! What is measured on: lists, types and targets of a given length, and ordinary modules of a given number of nodes.
+
+use model::numbers::kind;
+
+use crate::tables::Tables;
+
+/// A table, its name bytes, and the node that a job is asked about.
+pub struct Input {
+    pub table: Vec<u8>,
+    pub names: Vec<u8>,
+    pub node: usize,
+}
+
+fn input(tables: Tables, node: usize) -> Input {
+    let (table, names) = tables.finish();
+    Input { table, names, node }
+}
+
+fn long_name(number: usize) -> String {
+    const WORDS: [&str; 8] = ["srcs", "deps", "visibility", "output", "compiler_flags", "name", "tags", "platform"];
+    format!("{}_{number}", WORDS[number % WORDS.len()])
+}
+
+/// `def f(a, b, c = 1, *, d = 2, **kwargs)` of so many entries, a third of them without a default, and `pass`. The Def is node 0.
+pub fn parameters(entries: usize) -> Input {
+    let mut tables = Tables::default();
+    tables.node(kind::DEF, |t| {
+        let star = if entries >= 16 { entries / 2 } else { entries };
+        for at in 0..entries - 1 {
+            match at {
+                _ if at == star => t.leaf(kind::NO_ARGS),
+                _ if at < entries / 3 => t.full(kind::NORMAL, 0, &long_name(at), |_| {}),
+                _ => t.full(kind::NORMAL, 2, &long_name(at), |t| t.leaf(kind::INT)),
+            }
+        }
+        t.full(kind::KWARGS, 0, "kwargs", |_| {});
+        t.leaf(kind::SIMPLE);
+    });
+    input(tables, 0)
+}
+
+/// `f(1, 2, a = 3, b = 4, **kwargs)` of so many arguments, a quarter of them positional. The Call is node 1.
+pub fn arguments(entries: usize) -> Input {
+    let mut tables = Tables::default();
+    tables.node(kind::SIMPLE, |t| {
+        t.node(kind::CALL, |t| {
+            t.ident("rule");
+            for at in 0..entries - 1 {
+                match at < entries / 4 {
+                    true => t.positional(|t| t.leaf(kind::STRING)),
+                    false => t.named(&long_name(at), |t| t.leaf(kind::STRING)),
+                }
+            }
+            t.node(kind::STAR_STAR_ARGUMENT, |t| t.ident("kwargs"));
+        })
+    });
+    input(tables, 1)
+}
+
+/// Node 1 is the type.
+fn typed(build: impl FnOnce(&mut Tables)) -> Input {
+    let mut tables = Tables::default();
+    tables.node(kind::SIMPLE, build);
+    input(tables, 1)
+}
+
+/// `list[str]`
+pub fn small_type() -> Input {
+    typed(|t| t.index_type("list", "str"))
+}
+
+/// `dict[str, list[int] | None]`: an Index2 over a union.
+pub fn middle_type() -> Input {
+    typed(|t| {
+        t.node(kind::INDEX2, |t| {
+            t.ident("dict");
+            t.ident("str");
+            t.full(kind::OP, 1, "", |t| {
+                t.index_type("list", "int");
+                t.ident("None");
+            });
+        })
+    })
+}
+
+/// `typing.Callable[[a, b, ...], c]` with so many types in its list.
+pub fn large_type(items: usize) -> Input {
+    typed(|t| {
+        t.node(kind::INDEX2, |t| {
+            t.dot("typing", "Callable");
+            t.node(kind::LIST, |t| (0..items).for_each(|at| t.ident(&long_name(at))));
+            t.index_type("list", "str");
+        })
+    })
+}
+
+/// `(a, b.c, d[0], ...)`. Node 1 is the target.
+pub fn target(items: usize) -> Input {
+    typed(|t| {
+        t.node(kind::TUPLE, |t| {
+            for at in 0..items {
+                match at % 3 {
+                    0 => t.ident(&long_name(at)),
+                    1 => t.dot(&long_name(at), "value"),
+                    _ => t.node(kind::INDEX, |t| {
+                        t.ident(&long_name(at));
+                        t.leaf(kind::INT);
+                    }),
+                }
+            }
+        })
+    })
+}
+
+/// A module of exactly so many nodes: parts of build scripts in turn, then `pass` for what is left. Extended accepts it; in Standard the
+/// bare `*` of each def and the statements that stand at the top level are errors.
+pub fn module(nodes: usize) -> Input {
+    const PARTS: [fn(&mut Tables, usize); 6] = [loads, constants, function, rule, comprehension, top_level];
+    let mut tables = Tables::default();
+    tables.node(kind::STATEMENTS, |t| {
+        for number in 0.. {
+            let mut longer = t.clone();
+            PARTS[number % PARTS.len()](&mut longer, number);
+            if longer.len() > nodes {
+                break;
+            }
+            *t = longer;
+        }
+        while t.len() < nodes {
+            t.leaf(kind::SIMPLE);
+        }
+    });
+    input(tables, 0)
+}
+
+fn loads(t: &mut Tables, _number: usize) {
+    t.leaf(kind::LOAD);
+    t.leaf(kind::LOAD);
+}
+
+/// `NAME = {"a": [1, 2], "b": x.y}`
+fn constants(t: &mut Tables, number: usize) {
+    t.node(kind::ASSIGN, |t| {
+        t.ident(&long_name(number));
+        t.node(kind::DICT, |t| {
+            t.leaf(kind::STRING);
+            t.node(kind::LIST, |t| (0..2).for_each(|_| t.leaf(kind::INT)));
+            t.leaf(kind::STRING);
+            t.dot("config", "value");
+        });
+    });
+}
+
+/// A def with types and defaults, and a body with a loop, a branch and a return.
+fn function(t: &mut Tables, _number: usize) {
+    t.full(kind::DEF, 1, "", |t| {
+        t.full(kind::NORMAL, 0, "ctx", |_| {});
+        t.full(kind::NORMAL, 1, "srcs", |t| t.index_type("list", "str"));
+        t.leaf(kind::NO_ARGS);
+        t.full(kind::NORMAL, 3, "deps", |t| {
+            t.index_type("list", "str");
+            t.leaf(kind::LIST);
+        });
+        t.full(kind::NORMAL, 2, "visibility", |t| t.ident("None"));
+        t.full(kind::KWARGS, 0, "kwargs", |_| {});
+        t.ident("struct");
+        t.node(kind::STATEMENTS, body);
+    });
+}
+
+fn body(t: &mut Tables) {
+    t.node(kind::SIMPLE, |t| t.leaf(kind::STRING));
+    t.node(kind::ASSIGN, |t| {
+        t.ident("result");
+        t.leaf(kind::LIST);
+    });
+    t.node(kind::FOR, |t| {
+        t.ident("src");
+        t.ident("srcs");
+        t.node(kind::STATEMENTS, |t| {
+            t.node(kind::IF_STATEMENT, |t| {
+                method(t, "src", "endswith", |t| t.leaf(kind::STRING));
+                t.leaf(kind::CONTINUE);
+            });
+            t.node(kind::SIMPLE, |t| method(t, "result", "append", |t| t.ident("src")));
+        });
+    });
+    t.node(kind::IF_ELSE, |t| {
+        t.node(kind::NOT, |t| t.ident("deps"));
+        t.node(kind::ASSIGN_MODIFY, |t| {
+            t.ident("result");
+            t.ident("deps");
+        });
+        t.leaf(kind::SIMPLE);
+    });
+    t.node(kind::RETURN, |t| {
+        t.node(kind::CALL, |t| {
+            t.ident("struct");
+            t.named("files", |t| t.ident("result"));
+            t.named("deps", |t| t.ident("deps"));
+            t.node(kind::STAR_STAR_ARGUMENT, |t| t.ident("kwargs"));
+        })
+    });
+}
+
+fn method(t: &mut Tables, object: &str, field: &str, argument: impl FnOnce(&mut Tables)) {
+    t.node(kind::CALL, |t| {
+        t.dot(object, field);
+        t.positional(argument);
+    })
+}
+
+/// `library(name = "...", srcs = [...], deps = [...], visibility = [...])`
+fn rule(t: &mut Tables, _number: usize) {
+    t.node(kind::SIMPLE, |t| {
+        t.node(kind::CALL, |t| {
+            t.ident("library");
+            t.named("name", |t| t.leaf(kind::STRING));
+            t.named("srcs", |t| method(t, "native", "glob", |t| t.leaf(kind::STRING)));
+            t.named("deps", |t| t.node(kind::LIST, |t| (0..4).for_each(|_| t.leaf(kind::STRING))));
+            t.named("visibility", |t| t.node(kind::LIST, |t| t.leaf(kind::STRING)));
+        })
+    });
+}
+
+/// `x = [f(y) for y in sorted(z, key = lambda a: a.b) if y]`
+fn comprehension(t: &mut Tables, number: usize) {
+    t.node(kind::ASSIGN, |t| {
+        t.ident(&long_name(number));
+        t.node(kind::LIST_COMPREHENSION, |t| {
+            t.node(kind::CALL, |t| {
+                t.ident("str");
+                t.positional(|t| t.ident("item"));
+            });
+            t.ident("item");
+            t.node(kind::CALL, |t| {
+                t.ident("sorted");
+                t.positional(|t| t.ident("items"));
+                t.named("key", |t| {
+                    t.node(kind::LAMBDA, |t| {
+                        t.full(kind::NORMAL, 0, "entry", |_| {});
+                        t.dot("entry", "name");
+                    })
+                });
+            });
+            t.ident("item");
+        });
+    });
+}
+
+/// `if a == b: x += 1` where Standard has no such statement.
+fn top_level(t: &mut Tables, _number: usize) {
+    t.node(kind::IF_STATEMENT, |t| {
+        t.node(kind::OP, |t| {
+            t.ident("platform");
+            t.leaf(kind::STRING);
+        });
+        t.node(kind::ASSIGN_MODIFY, |t| {
+            t.ident("count");
+            t.leaf(kind::INT);
+        });
+    });
+}
