@@ -1,16 +1,15 @@
 -- The packed rows of code say what specs/Kinds says: a computed test for each column, and one law that turns a test into the rule at each kind.
 -- Assumes nothing.
 use mathlib.Core.Path.{_≡_, refl, sym, ap, _∙_}
-use mathlib.Core.Bool.{Bool, true, false, _&&_}
+use mathlib.Core.Bool.{Bool, true, false, _&&_, _||_}
 use mathlib.Core.List.{List, [], _∷_}
 use Prim.Native.Nat.{ℕ, zero, suc, _+_, _<_, _≤_}
 use native.Mathlib.Nat.{not-suc-le-zero}
 use native.Mathlib.Omega.{arith}
-use lib.ListN.{length, getD, take, replicate}
+use lib.ListN.{getD, take, replicate}
 use lib.Dec.{eqb, ltb, leb}
 use borrow.Author.Tests.{eqb-true, eqb-false, ne-eqb, ltb-true, leb-true, le-leb, lt-leb}
-use Rattle.fields.specs.Choice.{if'}
-use Rattle.soundness.specs.Kinds.{Times, Children, children, Kind, kind, kinds, noName, exactly, kindIn, kindOf, classOf}
+use Rattle.soundness.specs.Kinds.{Children, children, Kind, kind, kinds, noName, exactly, kindIn, kindOf}
 use Rattle.soundness.specs.Packed.{timesOf, rules, ruleAt, ruleOf, RowOf}
 
 -- the values of a function below n
@@ -121,28 +120,9 @@ packedKinds =
     (4 ∷ 0 ∷ 0 ∷ 1 ∷ 0 ∷ 0 ∷ 0 ∷ []) ∷  -- 63 KwArgsArg
     []
 
--- past the last kind there is none
+-- the row of a number that no kind has
 abbrev none : ℕ → Kind
 none n = kind n 0 0 noName (λ d. exactly [])
-
-abbrev allBelow : ℕ → List Kind → Bool
-allBelow n [] = true
-allBelow n (k ∷ ks) = ltb (k .number) n && allBelow n ks
-
-kind-past-in : (m n : ℕ) (ks : List Kind) → allBelow m ks ≡ true → m ≤ n → kindIn ks n ≡ none n
-unfolding kindIn
-kind-past-in m n [] e h = refl
-kind-past-in m n (k ∷ ks) e h = go (ltb (k .number) m) refl e (λ t. kind-past-in m n ks t h)
-  where
-    go : (b : Bool) → ltb (k .number) m ≡ b → (b && allBelow m ks) ≡ true → (allBelow m ks ≡ true → kindIn ks n ≡ none n) → kindIn (k ∷ ks) n ≡ none n
-    go true t e rest =
-        let small : k .number < m = ltb-true (k .number) m t in
-        rw (ne-eqb (k .number) n (λ (same : k .number ≡ n). omega arith), kindIn) (rest e)
-    go false t e rest = let z : _≡_ {A = ℕ} 0 1 = cc in absurd (omega arith)
-
-pub kind-past : (n : ℕ) → 64 ≤ n → kindOf n ≡ none n
-unfolding kindOf
-kind-past n h = kind-past-in 64 n kinds refl h
 
 -- a column of a kind's row; x is what a list reads as past its end
 abbrev column : List ℕ → ℕ → ℕ → ℕ
@@ -155,7 +135,7 @@ detailed f k = tabulate (suc (kindOf k .details)) (f k)
 at-detail : {A : Type 0} (f g : ℕ → ℕ → A) → tabulate 64 (detailed f) ≡ tabulate 64 (detailed g) → (k d : ℕ) → k < 64 → d ≤ kindOf k .details → f k d ≡ g k d
 at-detail f g e k d h l = everywhere (suc (kindOf k .details)) (f k) (g k) (everywhere 64 (detailed f) (detailed g) e k h) d (omega arith)
 
--- the row as code reads it, at the index r that it made of the kind k
+-- the row as code gives it for the kind k, whose number is r
 pub row-is : (x : List ℕ) (k : ℕ) {r : ℕ} → r ≡ k → r < 64 → RowOf k (getD packedKinds r x)
 unfolding kindOf kindIn ruleAt
 row-is x k {r} r-is h =
@@ -174,22 +154,61 @@ getD-zeros zero i = refl
 getD-zeros (suc n) zero = refl
 getD-zeros (suc n) (suc i) = getD-zeros n i
 
--- past the last kind the row is empty
+-- every place of an empty row
 nothing-at : (i : ℕ) → _≡_ {A = ℕ} (getD (0 ∷ 0 ∷ 0 ∷ 0 ∷ 0 ∷ 0 ∷ 0 ∷ []) i 0) 0
 nothing-at i = getD-zeros 7 i
 
-pub row-past : (k : ℕ) {r : ℕ} → r ≡ k → 64 ≤ r → RowOf k (0 ∷ 0 ∷ 0 ∷ 0 ∷ 0 ∷ 0 ∷ 0 ∷ [])
+row-empty : (k : ℕ) → kindOf k ≡ none k → RowOf k (0 ∷ 0 ∷ 0 ∷ 0 ∷ 0 ∷ 0 ∷ 0 ∷ [])
 unfolding ruleAt
-row-past k r-is h =
-    let past : kindOf k ≡ none k = kind-past k (omega arith) in
+row-empty k empty =
     record {
-      class = sym (ap (λ (r : Kind). r .class) past);
-      details = sym (ap (λ (r : Kind). r .details) past);
-      few = rw past (omega arith);
-      named = sym (ap (λ (r : Kind). r .named) past);
+      class = sym (ap (λ (r : Kind). r .class) empty);
+      details = sym (ap (λ (r : Kind). r .details) empty);
+      few = rw empty (omega arith);
+      named = sym (ap (λ (r : Kind). r .named) empty);
       small = λ d l. omega (arith, nothing-at (3 + d));
-      rule = λ d l. rw (nothing-at (3 + d), past) refl;
+      rule = λ d l. rw (nothing-at (3 + d), empty) refl;
     }
+
+-- a number that is none of some, as code tells it: the last of them outermost
+abbrev pub Apart : List ℕ → ℕ → Type 0
+Apart [] k = Unit {0}
+Apart (n ∷ ns) k = Apart ns k × (k ≡ n → ⊥)
+
+-- the numbers of the kinds, the last first
+abbrev pub numbersDown : List ℕ
+numbersDown =
+    63 ∷ 62 ∷ 61 ∷ 60 ∷ 54 ∷ 53 ∷ 52 ∷ 51 ∷ 50 ∷ 43 ∷ 42 ∷ 41 ∷ 40 ∷ 39 ∷ 38 ∷ 37 ∷ 36 ∷ 35 ∷ 34 ∷ 33 ∷ 32 ∷ 31 ∷ 30 ∷ 29 ∷ 28 ∷ 27 ∷ 26 ∷ 25 ∷ 24 ∷ 23 ∷ 22 ∷ 21 ∷ 20 ∷ 12 ∷ 11 ∷ 10 ∷ 9 ∷ 8 ∷ 7 ∷ 6 ∷ 5 ∷ 4 ∷ 3 ∷ 2 ∷ 1 ∷ []
+
+abbrev memberOf : ℕ → List ℕ → Bool
+memberOf n [] = false
+memberOf n (m ∷ ms) = eqb n m || memberOf n ms
+
+not-member : (ns : List ℕ) (k n : ℕ) → Apart ns k → memberOf n ns ≡ true → n ≡ k → ⊥
+not-member [] k n a e same = let z : _≡_ {A = ℕ} 0 1 = cc in absurd (omega arith)
+not-member (m ∷ ms) k n a e same = go (eqb n m) refl e (λ t. not-member ms k n (a .0) t same)
+  where
+    go : (b : Bool) → eqb n m ≡ b → (b || memberOf n ms) ≡ true → (memberOf n ms ≡ true → ⊥) → ⊥
+    go true t e rest = a .1 (sym same ∙ eqb-true n m t)
+    go false t e rest = rest e
+
+abbrev allIn : List Kind → List ℕ → Bool
+allIn [] ns = true
+allIn (k ∷ ks) ns = memberOf (k .number) ns && allIn ks ns
+
+kind-apart-in : (ks : List Kind) (ns : List ℕ) (n : ℕ) → allIn ks ns ≡ true → Apart ns n → kindIn ks n ≡ none n
+unfolding kindIn
+kind-apart-in [] ns n e a = refl
+kind-apart-in (k ∷ ks) ns n e a = go (memberOf (k .number) ns) refl e (λ t. kind-apart-in ks ns n t a)
+  where
+    go : (b : Bool) → memberOf (k .number) ns ≡ b → (b && allIn ks ns) ≡ true → (allIn ks ns ≡ true → kindIn ks n ≡ none n) → kindIn (k ∷ ks) n ≡ none n
+    go true t e rest = rw (ne-eqb (k .number) n (not-member ns n (k .number) a t), kindIn) (rest e)
+    go false t e rest = let z : _≡_ {A = ℕ} 0 1 = cc in absurd (omega arith)
+
+-- a number that no kind has: the row is empty
+pub row-none : (k : ℕ) → Apart numbersDown k → RowOf k (0 ∷ 0 ∷ 0 ∷ 0 ∷ 0 ∷ 0 ∷ 0 ∷ [])
+unfolding kindOf
+row-none k a = row-empty k (kind-apart-in kinds numbersDown k refl a)
 
 -- the number of a rule as code finds it
 module _ (k d : ℕ) {row : List ℕ} (row-at : RowOf k row) where

@@ -36,89 +36,65 @@ const RULES: [[u8; 9]; 18] = [
     [3, 2, 1, 1, 0, 0, 0, 0, 0], // an expression, two statements
 ];
 
-// A row for each kind: class, largest detail, whether a name stands on it, and its rule at the details 0 to 3.
-const KINDS: [[u8; 7]; 64] = [
-    [0, 0, 0, 0, 0, 0, 0], // 0 no kind
-    [1, 0, 0, 7, 0, 0, 0], // 1 Statements
-    [1, 1, 0, 4, 5, 0, 0], // 2 Def
-    [1, 0, 0, 15, 0, 0, 0], // 3 For
-    [1, 0, 0, 16, 0, 0, 0], // 4 If
-    [1, 0, 0, 17, 0, 0, 0], // 5 IfElse
-    [1, 0, 0, 0, 0, 0, 0], // 6 Break
-    [1, 0, 0, 0, 0, 0, 0], // 7 Continue
-    [1, 0, 0, 10, 0, 0, 0], // 8 Return
-    [1, 0, 0, 0, 0, 0, 0], // 9 Load
-    [1, 0, 0, 8, 0, 0, 0], // 10 OtherSimple
-    [1, 1, 0, 2, 3, 0, 0], // 11 Assign
-    [1, 1, 0, 2, 3, 0, 0], // 12 AssignModify
-    [0, 0, 0, 0, 0, 0, 0], // 13 no kind
-    [0, 0, 0, 0, 0, 0, 0], // 14 no kind
-    [0, 0, 0, 0, 0, 0, 0], // 15 no kind
-    [0, 0, 0, 0, 0, 0, 0], // 16 no kind
-    [0, 0, 0, 0, 0, 0, 0], // 17 no kind
-    [0, 0, 0, 0, 0, 0, 0], // 18 no kind
-    [0, 0, 0, 0, 0, 0, 0], // 19 no kind
-    [2, 0, 0, 8, 0, 0, 0], // 20 Tuple
-    [2, 0, 1, 1, 0, 0, 0], // 21 Dot
-    [2, 0, 0, 14, 0, 0, 0], // 22 Call
-    [2, 0, 0, 2, 0, 0, 0], // 23 Index
-    [2, 0, 0, 3, 0, 0, 0], // 24 Index2
-    [2, 0, 0, 11, 0, 0, 0], // 25 Slice
-    [2, 0, 1, 0, 0, 0, 0], // 26 Identifier
-    [2, 0, 0, 6, 0, 0, 0], // 27 Lambda
-    [2, 0, 0, 0, 0, 0, 0], // 28 String
-    [2, 0, 0, 0, 0, 0, 0], // 29 Int
-    [2, 0, 0, 0, 0, 0, 0], // 30 Float
-    [2, 0, 0, 0, 0, 0, 0], // 31 Ellipsis
-    [2, 0, 0, 0, 0, 0, 0], // 32 Bytes
-    [2, 0, 0, 1, 0, 0, 0], // 33 Not
-    [2, 0, 0, 1, 0, 0, 0], // 34 Minus
-    [2, 0, 0, 1, 0, 0, 0], // 35 Plus
-    [2, 0, 0, 1, 0, 0, 0], // 36 BitNot
-    [2, 1, 0, 2, 2, 0, 0], // 37 Op
-    [2, 0, 0, 3, 0, 0, 0], // 38 IfExpr
-    [2, 0, 0, 8, 0, 0, 0], // 39 List
-    [2, 0, 0, 9, 0, 0, 0], // 40 Dict
-    [2, 0, 0, 12, 0, 0, 0], // 41 ListComprehension
-    [2, 0, 0, 13, 0, 0, 0], // 42 DictComprehension
-    [2, 0, 0, 8, 0, 0, 0], // 43 FString
-    [0, 0, 0, 0, 0, 0, 0], // 44 no kind
-    [0, 0, 0, 0, 0, 0, 0], // 45 no kind
-    [0, 0, 0, 0, 0, 0, 0], // 46 no kind
-    [0, 0, 0, 0, 0, 0, 0], // 47 no kind
-    [0, 0, 0, 0, 0, 0, 0], // 48 no kind
-    [0, 0, 0, 0, 0, 0, 0], // 49 no kind
-    [3, 3, 1, 0, 1, 1, 2], // 50 Normal
-    [3, 0, 0, 0, 0, 0, 0], // 51 NoArgs
-    [3, 0, 0, 0, 0, 0, 0], // 52 Slash
-    [3, 1, 1, 0, 1, 0, 0], // 53 ArgsParam
-    [3, 1, 1, 0, 1, 0, 0], // 54 KwArgsParam
-    [0, 0, 0, 0, 0, 0, 0], // 55 no kind
-    [0, 0, 0, 0, 0, 0, 0], // 56 no kind
-    [0, 0, 0, 0, 0, 0, 0], // 57 no kind
-    [0, 0, 0, 0, 0, 0, 0], // 58 no kind
-    [0, 0, 0, 0, 0, 0, 0], // 59 no kind
-    [4, 0, 0, 1, 0, 0, 0], // 60 Positional
-    [4, 0, 1, 1, 0, 0, 0], // 61 Named
-    [4, 0, 0, 1, 0, 0, 0], // 62 ArgsArg
-    [4, 0, 0, 1, 0, 0, 0], // 63 KwArgsArg
-];
-
 fn wide(x: u8) -> usize
     ensures { λ r. ⌜ r ≡ x ⌝ }
 {
     x as usize
 }
 
-// The row of a kind; past the last kind there is nothing in it.
+// The row of a kind: class, largest detail, whether a name stands on it, and its rule at the details 0 to 3. A number that no kind has gives
+// nothing. A match, since a constant array would be laid out on the stack at each call.
 fn row_of(kind: u8) -> [u8; 7]
     ensures { λ r. ⌜ RowOf kind r ⌝ }
 {
-    let k = wide(kind);
-    if 64 <= k {
-        return [0; 7];
+    match kind {
+        1 => [1, 0, 0, 7, 0, 0, 0], // Statements
+        2 => [1, 1, 0, 4, 5, 0, 0], // Def
+        3 => [1, 0, 0, 15, 0, 0, 0], // For
+        4 => [1, 0, 0, 16, 0, 0, 0], // If
+        5 => [1, 0, 0, 17, 0, 0, 0], // IfElse
+        6 => [1, 0, 0, 0, 0, 0, 0], // Break
+        7 => [1, 0, 0, 0, 0, 0, 0], // Continue
+        8 => [1, 0, 0, 10, 0, 0, 0], // Return
+        9 => [1, 0, 0, 0, 0, 0, 0], // Load
+        10 => [1, 0, 0, 8, 0, 0, 0], // OtherSimple
+        11 => [1, 1, 0, 2, 3, 0, 0], // Assign
+        12 => [1, 1, 0, 2, 3, 0, 0], // AssignModify
+        20 => [2, 0, 0, 8, 0, 0, 0], // Tuple
+        21 => [2, 0, 1, 1, 0, 0, 0], // Dot
+        22 => [2, 0, 0, 14, 0, 0, 0], // Call
+        23 => [2, 0, 0, 2, 0, 0, 0], // Index
+        24 => [2, 0, 0, 3, 0, 0, 0], // Index2
+        25 => [2, 0, 0, 11, 0, 0, 0], // Slice
+        26 => [2, 0, 1, 0, 0, 0, 0], // Identifier
+        27 => [2, 0, 0, 6, 0, 0, 0], // Lambda
+        28 => [2, 0, 0, 0, 0, 0, 0], // String
+        29 => [2, 0, 0, 0, 0, 0, 0], // Int
+        30 => [2, 0, 0, 0, 0, 0, 0], // Float
+        31 => [2, 0, 0, 0, 0, 0, 0], // Ellipsis
+        32 => [2, 0, 0, 0, 0, 0, 0], // Bytes
+        33 => [2, 0, 0, 1, 0, 0, 0], // Not
+        34 => [2, 0, 0, 1, 0, 0, 0], // Minus
+        35 => [2, 0, 0, 1, 0, 0, 0], // Plus
+        36 => [2, 0, 0, 1, 0, 0, 0], // BitNot
+        37 => [2, 1, 0, 2, 2, 0, 0], // Op
+        38 => [2, 0, 0, 3, 0, 0, 0], // IfExpr
+        39 => [2, 0, 0, 8, 0, 0, 0], // List
+        40 => [2, 0, 0, 9, 0, 0, 0], // Dict
+        41 => [2, 0, 0, 12, 0, 0, 0], // ListComprehension
+        42 => [2, 0, 0, 13, 0, 0, 0], // DictComprehension
+        43 => [2, 0, 0, 8, 0, 0, 0], // FString
+        50 => [3, 3, 1, 0, 1, 1, 2], // Normal
+        51 => [3, 0, 0, 0, 0, 0, 0], // NoArgs
+        52 => [3, 0, 0, 0, 0, 0, 0], // Slash
+        53 => [3, 1, 1, 0, 1, 0, 0], // ArgsParam
+        54 => [3, 1, 1, 0, 1, 0, 0], // KwArgsParam
+        60 => [4, 0, 0, 1, 0, 0, 0], // Positional
+        61 => [4, 0, 1, 1, 0, 0, 0], // Named
+        62 => [4, 0, 0, 1, 0, 0, 0], // ArgsArg
+        63 => [4, 0, 0, 1, 0, 0, 0], // KwArgsArg
+        _ => [0; 7],
     }
-    KINDS[k]
 }
 
 // The class of a kind: 1 statement, 2 expression, 3 parameter, 4 argument, 0 no kind.
