@@ -1,10 +1,10 @@
-"""constants.py ROWS IN OUT: an LLVM module in which the tables of crates/soundness/src/rows.rt are constants (see bench/what-if)."""
+"""constants.py ROWS IN OUT: an LLVM module in which a table of crates/soundness/src/rows.rt is a constant (see bench/what-if)."""
 
 import re
 import sys
 
 # The function that names a table, the table, and how many bytes it has.
-TABLES = [("soundness::rows::row_of", "KINDS", 448), ("soundness::rows::rule_of", "RULES", 162)]
+TABLES = [("soundness::rows::rule_of", "RULES", 162)]
 
 
 def bytes_of(source, name):
