@@ -1,14 +1,18 @@
--- The table check, 1 to 4 in this order, and a job's node, 6. These are definitions.
+-- The table check, 1 to 4 in this order, a job's dialect, 5, and a job's node, 6. These are definitions.
 use mathlib.Core.Bool.{Bool, true, false, _&&_, _||_, not}
 use mathlib.Core.List.{List, [], _∷_}
 use Prim.Native.Nat.{ℕ, _*_, _/_, _%_}
 use lib.ListN.{length, take, drop}
 use lib.Dec.{eqb, ltb, leb}
 use Rattle.fields.specs.Choice.{if'}
+use Rattle.dialect.specs.Bytes.{fromBytes}
+use Rattle.dialect.specs.declared.Dialect.{Dialect}
+use Rattle.dialect.specs.declared.Decoded.{Decoded}
+use Rattle.dialect.specs.declared.Decoded.the-variants.{Valid, Invalid}
 use Rattle.forest.specs.Forest.{sizeOf, nodeOf, forest}
 use Rattle.forest.specs.declared.Found.{Found}
 use Rattle.forest.specs.declared.Found.the-variants.{At, Nothing}
-use Rattle.table.specs.Numbers.{tableLength, nameBytes, unsoundRecord, tooDeep, wrongNode}
+use Rattle.table.specs.Numbers.{tableLength, nameBytes, unsoundRecord, tooDeep, badDialect, wrongNode}
 use Rattle.soundness.specs.KindNumbers.{kindDef, kindLambda, kindCall, kindAssign, kindAssignModify}
 use Rattle.soundness.specs.Kinds.{expression, classOf}
 use Rattle.soundness.specs.Sound.{firstUnsound}
@@ -40,6 +44,18 @@ checkOf t names =
     andThen (namesCheck (length names)) (λ _.
     andThen (noneFound unsoundRecord (firstUnsound t names)) (λ _.
     noneFound tooDeep (firstDeep 0 (forest 0 t)))))
+
+-- 5: what follows with a dialect, if the bytes give one
+abbrev pub withDialect : Decoded → (Dialect → Answer) → Answer
+withDialect (Valid d) next = next d
+withDialect Invalid next = refused badDialect []
+
+abbrev pub dialectCheck : Decoded → Answer
+dialectCheck x = withDialect x (λ _. accepted [])
+
+-- 1 to 5: what a job on a table in a dialect is given
+unfoldable pub givenCheck : List ℕ → List ℕ → List ℕ → Answer
+givenCheck t names bytes = andThen (checkOf t names) (λ _. dialectCheck (fromBytes bytes))
 
 -- the kinds that a job wants: parameters 2 or 27, a call 22, an assignment 11 or 12, a target or a type an expression
 unfoldable pub wants : Wanted → ℕ → Bool

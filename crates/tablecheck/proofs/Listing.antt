@@ -6,26 +6,17 @@ use Prim.Native.Nat.{ℕ, _*_, _≤_}
 use native.Mathlib.Omega.{arith}
 use lib.ListN.{length, drop, replicate, length-replicate}
 use Rattle.dialect.specs.Bytes.{fromBytes}
-use Rattle.dialect.specs.declared.Decoded.{Decoded}
-use Rattle.dialect.specs.declared.Decoded.the-variants.{Valid, Invalid}
 use Rattle.table.specs.Answer.{Answer, accepted, refused, andThen}
-use Rattle.table.specs.Check.{checkOf}
+use Rattle.table.specs.Check.{checkOf, dialectCheck, givenCheck}
 use Rattle.table.proofs.Checking.{accepted-clean}
-use Rattle.tablefile.specs.Reading as reading
-use Rattle.tablefile.specs.Reading.{soundCheck}
 use Rattle.tablefile.specs.Loading.{held}
 use Rattle.tablefile.specs.declared.Verdict.the-variants.{Accepted}
 use Rattle.tablefile.specs.declared.Loaded.{Loaded}
 use Rattle.tablefile.proofs.Theorems.{Read, accepted-is-sound}
 use Rattle.errors.specs.Errors.{width}
 use Rattle.errors.proofs.Storing.{allWords}
-use Rattle.validate.specs.Job.{dialectCheck, moduleCheck, errorsOf, moduleOf, errorsAfter}
+use Rattle.validate.specs.Job.{errorsOf, moduleOf, errorsAfter}
 use Rattle.validate.proofs.Theorems.{list-holds-all}
-
--- reader and module pass look at 5 alike
-same-dialect : (d : Decoded) → dialectCheck d ≡ reading.dialectCheck d
-same-dialect (Valid d) = refl
-same-dialect Invalid = refl
 
 module _ (file : List ℕ) (r : Loaded) (p : Read file r) (good : r .verdict ≡ Accepted) where
   abbrev t : List ℕ
@@ -37,18 +28,15 @@ module _ (file : List ℕ) (r : Loaded) (p : Read file r) (good : r .verdict ≡
   abbrev bytes : List ℕ
   bytes = held r .dialect
 
-  checks : moduleCheck t names bytes ≡ accepted []
-  unfolding moduleCheck soundCheck
-  checks =
-      ap (λ (x : Answer). andThen (checkOf (held r .table) (held r .names)) (λ _. x)) (same-dialect (fromBytes (held r .dialect)))
-      ∙ accepted-is-sound file r p good
+  checks : givenCheck t names bytes ≡ accepted []
+  checks = accepted-is-sound file r p good
 
   -- THEOREM: the module pass does not refuse what the reader accepted
   pub accepted-is-listed : moduleOf t names bytes ≡ accepted (length (errorsOf t names bytes) ∷ [])
   accepted-is-listed = rw checks refl
 
   few-bytes : length t ≤ 50400
-  unfolding moduleCheck
+  unfolding givenCheck
   few-bytes = go (checkOf t names) refl checks
     where
       go : (x : Answer) → checkOf t names ≡ x → andThen x (λ _. dialectCheck (fromBytes bytes)) ≡ accepted [] → length t ≤ 50400

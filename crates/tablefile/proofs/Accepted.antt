@@ -14,14 +14,14 @@ use Rattle.dialect.specs.declared.Decoded.the-variants.{Invalid}
 use Rattle.dialect.proofs.Laws.{other-length}
 use Rattle.table.specs.Numbers.{blockCheck, bytesLeftOver}
 use Rattle.table.specs.Answer.{Answer, accepted, refused, andThen}
-use Rattle.table.specs.Check.{checkOf}
+use Rattle.table.specs.Check.{checkOf, dialectCheck, givenCheck}
 use Rattle.table.specs.declared.Refusal.the-variants.{Bare}
 use Rattle.table.proofs.Answers.{refusal-injective, never-accepted}
 use Rattle.table.proofs.Checking.{accepted-clean}
 use Rattle.blocks.specs.Block.{demand}
 use Rattle.blocks.proofs.Spelling.{Bytes}
 use Rattle.tablefile.specs.File.{Content, fileOf}
-use Rattle.tablefile.specs.Reading.{takenAt, contentAt, frontCheck, dialectCheck, soundCheck, readCheck}
+use Rattle.tablefile.specs.Reading.{takenAt, contentAt, frontCheck, soundCheck, readCheck}
 use Rattle.tablefile.specs.Loading.{verdict}
 use Rattle.tablefile.specs.declared.Verdict.{Verdict}
 use Rattle.tablefile.specs.declared.Verdict.the-variants.{Accepted, Refused}
@@ -97,7 +97,7 @@ module _ (c : Content) (s : SoundContent c) where
       }
 
   sound-so : soundCheck c ≡ accepted []
-  unfolding soundCheck
+  unfolding givenCheck
   sound-so = rw (s .checks) (s .valid)
 
   pub back-holds : contentAt (fileOf c) ≡ c

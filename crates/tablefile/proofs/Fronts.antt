@@ -17,7 +17,7 @@ use Rattle.dialect.specs.declared.Decoded.the-variants.{Valid, Invalid}
 use Rattle.soundness.proofs.Records.{and-left, and-right}
 use Rattle.table.specs.Numbers.{badDialect, blockCounts}
 use Rattle.table.specs.Answer.{Answer, accepted, refused, andThen, refusal, checked}
-use Rattle.table.specs.Check.{checkOf}
+use Rattle.table.specs.Check.{checkOf, givenCheck}
 use Rattle.table.specs.declared.Refusal.{Refusal}
 use Rattle.table.specs.declared.Checked.{Checked}
 use Rattle.table.specs.declared.Checked.the-variants.{Sound}
@@ -173,7 +173,7 @@ module _ (t : List ℕ) (a : ℕ) (ns : List ℕ) (b : ℕ) (ds : List ℕ) (d :
       sym (rw (p, q) at k-is)
 
   pub sound-refused : {r : Refusal} → k ≡ table-answers.Refused r → refusal r ≡ soundCheck (record { table = take a t; names = take b ns; dialect = take d ds })
-  unfolding soundCheck
+  unfolding givenCheck
   sound-refused {r} e = rw (check-is, e) (stopped r _)
 
   module _ (k-good : k ≡ Sound) {x : Decoded} (x-is : x ≡ fromBytes (take (d - 0) ds)) where
@@ -181,9 +181,9 @@ module _ (t : List ℕ) (a : ℕ) (ns : List ℕ) (b : ℕ) (ds : List ℕ) (d :
     dialect-is = let p : d - 0 ≡ d = omega arith in sym (rw p at x-is)
 
     pub sound-valid : {y : Dialect} → x ≡ Valid y → accepted [] ≡ soundCheck (record { table = take a t; names = take b ns; dialect = take d ds })
-    unfolding soundCheck
+    unfolding givenCheck
     sound-valid e = rw (check-is, k-good, dialect-is, e) refl
 
     pub sound-invalid : x ≡ Invalid → refused badDialect [] ≡ soundCheck (record { table = take a t; names = take b ns; dialect = take d ds })
-    unfolding soundCheck
+    unfolding givenCheck
     sound-invalid e = rw (check-is, k-good, dialect-is, e) refl

@@ -6,12 +6,9 @@ use lib.ListN.{length, take, drop}
 use lib.Dec.{eqb, leb}
 use Rattle.fields.specs.Choice.{if'}
 use Rattle.fields.specs.Field.{field}
-use Rattle.dialect.specs.Bytes.{fromBytes}
-use Rattle.dialect.specs.declared.Decoded.{Decoded}
-use Rattle.dialect.specs.declared.Decoded.the-variants.{Valid, Invalid}
-use Rattle.table.specs.Numbers.{badDialect, blockCounts, bytesLeftOver}
-use Rattle.table.specs.Answer.{Answer, accepted, refused, andThen}
-use Rattle.table.specs.Check.{checkOf}
+use Rattle.table.specs.Numbers.{blockCounts, bytesLeftOver}
+use Rattle.table.specs.Answer.{Answer, andThen}
+use Rattle.table.specs.Check.{givenCheck}
 use Rattle.blocks.specs.Block.{demand, judge}
 use Rattle.blocks.specs.Run.{blocksFor, judgeRun, contentOf}
 use Rattle.tablefile.specs.File.{Content}
@@ -55,14 +52,9 @@ frontCheck bs =
     andThen (judgeRun 1 (namesAt bs) (drop 512 bs)) (λ _.
     judgeRun (firstNodes bs) (24 * nodesAt bs) (drop (512 * firstNodes bs) bs))))
 
--- 5: the bytes give no dialect
-abbrev pub dialectCheck : Decoded → Answer
-dialectCheck (Valid d) = accepted []
-dialectCheck Invalid = refused badDialect []
-
--- 1 to 5: the table check, then the dialect
-unfoldable pub soundCheck : Content → Answer
-soundCheck c = andThen (checkOf (c .table) (c .names)) (λ _. dialectCheck (fromBytes (c .dialect)))
+-- 1 to 5, of what a file holds
+abbrev pub soundCheck : Content → Answer
+soundCheck c = givenCheck (c .table) (c .names) (c .dialect)
 
 -- the whole file: the file at the front, then 75 for bytes left over, then 1 to 5
 unfoldable pub readCheck : List ℕ → Answer

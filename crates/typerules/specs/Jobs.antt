@@ -8,11 +8,9 @@ use Rattle.fields.specs.Choice.{if'}
 use Rattle.forest.specs.Forest.{treeOf}
 use Rattle.dialect.specs.Bytes.{fromBytes}
 use Rattle.dialect.specs.declared.DialectTypes.{DialectTypes}
-use Rattle.dialect.specs.declared.Decoded.{Decoded}
-use Rattle.dialect.specs.declared.Decoded.the-variants.{Valid, Invalid}
-use Rattle.table.specs.Numbers.{badDialect, shortBuffer}
+use Rattle.table.specs.Numbers.{shortBuffer}
 use Rattle.table.specs.Answer.{Answer, accepted, refused, andThen, refusal}
-use Rattle.table.specs.Check.{checkOf, nodeCheck, stretchOf}
+use Rattle.table.specs.Check.{checkOf, withDialect, nodeCheck, stretchOf}
 use Rattle.table.specs.declared.Wanted.the-variants.{Expression}
 use Rattle.typerules.specs.Types.{«dialect_check_type»}
 use Rattle.typerules.specs.declared.Shaped.{Shaped}
@@ -22,11 +20,6 @@ use Rattle.typerules.specs.declared.Shaped.the-variants.{Accepted, Refus
 abbrev pub shaped : Shaped → Answer
 shaped Accepted = accepted []
 shaped (Refused r) = refusal r
-
--- 5: the bytes give a dialect, whose types are taken
-abbrev pub withTypes : Decoded → (DialectTypes → Answer) → Answer
-withTypes (Valid d) next = next (d .«enable_types»)
-withTypes Invalid next = refused badDialect []
 
 -- 7: the buffer has a byte for each node of the type's subtree
 abbrev pub roomCheck : ℕ → List ℕ → Answer
@@ -43,5 +36,5 @@ typeAt t names types i room =
 unfoldable pub typeShapeOf : List ℕ → List ℕ → List ℕ → ℕ → ℕ → Answer
 typeShapeOf t names bytes i room =
     andThen (checkOf t names) (λ _.
-    withTypes (fromBytes bytes) (λ types.
-    typeAt t names types i room))
+    withDialect (fromBytes bytes) (λ d.
+    typeAt t names (d .«enable_types») i room))

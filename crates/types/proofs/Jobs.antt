@@ -16,13 +16,13 @@ use Rattle.dialect.specs.declared.Decoded.{Decoded}
 use Rattle.dialect.specs.declared.Decoded.the-variants.{Valid, Invalid}
 use Rattle.table.specs.Numbers.{wrongNode, shortBuffer}
 use Rattle.table.specs.Answer.{Answer, accepted, refused, andThen, refusal}
-use Rattle.table.specs.Check.{checkOf, nodeFits, stretchOf}
+use Rattle.table.specs.Check.{checkOf, withDialect, nodeFits, stretchOf}
 use Rattle.table.specs.declared.Refusal.{Refusal}
 use Rattle.table.specs.declared.Refusal.the-variants.{Bare, Placed, Spanned}
 use Rattle.table.specs.declared.Wanted.the-variants.{Expression}
 use Rattle.table.proofs.Handed.{passed, stretch-within}
 use Rattle.typerules.specs.Types.{typesCheck, «unpack», «dialect_check_type»}
-use Rattle.typerules.specs.Jobs.{shaped, withTypes, typeAt, typeShapeOf}
+use Rattle.typerules.specs.Jobs.{shaped, typeAt, typeShapeOf}
 use Rattle.typerules.specs.declared.Shaped.{Shaped}
 use Rattle.typerules.specs.declared.Shaped.the-variants.{Accepted, Refused}
 use Rattle.types.specs.Shapes.{Shape, shapesOf, written, afterAnswer}
@@ -49,7 +49,7 @@ accepted-says t names bytes i room {vs} e = go (checkOf t names) (fromBytes byte
     types-pass Enable e = rw (← e) tt
 
     go : (x : Answer) (d : Decoded) (b l : Bool) → x ≡ checkOf t names → nodeFits t i Expression ≡ b → leb (length (stretchOf t i) / 24) room ≡ l
-        → accepted vs ≡ andThen x (λ _. withTypes d (λ types. andThen (if' b (λ _. accepted []) (λ _. refused wrongNode [])) (λ _. andThen (if' l (λ _. accepted []) (λ _. refused shortBuffer [])) (λ _. andThen (typesCheck types (nodeOf i (stretchOf t i))) (λ _. «unpack» names (treeOf i (stretchOf t i)))))))
+        → accepted vs ≡ andThen x (λ _. withDialect d (λ v. andThen (if' b (λ _. accepted []) (λ _. refused wrongNode [])) (λ _. andThen (if' l (λ _. accepted []) (λ _. refused shortBuffer [])) (λ _. andThen (typesCheck (v .«enable_types») (nodeOf i (stretchOf t i))) (λ _. «unpack» names (treeOf i (stretchOf t i)))))))
         → Says t names i room
     go (accepted ws) (Valid d) true true p q r e = record {
       long = stretch-within t names i Expression (passed t names p) q .0;

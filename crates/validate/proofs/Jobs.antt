@@ -14,7 +14,7 @@ use Rattle.forest.specs.Forest.{forest, count}
 use Rattle.forest.proofs.Stretch.{count-forest}
 use Rattle.table.specs.Numbers.{badDialect}
 use Rattle.table.specs.Answer.{Answer, accepted, refused, refusal, checked}
-use Rattle.table.specs.Check.{checkOf}
+use Rattle.table.specs.Check.{checkOf, givenCheck}
 use Rattle.table.specs.declared.Refusal.{Refusal}
 use Rattle.table.specs.declared.Refusal.the-variants.{Bare, Placed, Spanned}
 use Rattle.table.specs.declared.Checked.{Checked}
@@ -22,7 +22,7 @@ use Rattle.table.specs.declared.Checked.the-variants.{Sound, Refused}
 use Rattle.table.proofs.Handed.{passed}
 use Rattle.errors.specs.Errors.{width, Stores}
 use Rattle.validate.specs.Module.{«visit_stmt», «visit_expr», «validate_module»}
-use Rattle.validate.specs.Job.{moduleCheck, errorsOf, moduleOf, errorsAfter}
+use Rattle.validate.specs.Job.{errorsOf, moduleOf, errorsAfter}
 use Rattle.errors.proofs.Storing.{stored-none, stores-both}
 use Rattle.validate.proofs.Bounds.{module-few}
 
@@ -42,7 +42,7 @@ Promised t names bytes xs r ys = (r ≡ moduleOf t names bytes) × (ys ≡ error
 
 module _ (t names bytes xs : List ℕ) {found : Checked} (f-is : checked found ≡ checkOf t names) where
   pub job-refused : {why : Refusal} → found ≡ Refused why → Promised t names bytes xs (refusal why) xs
-  unfolding moduleCheck errorsOf
+  unfolding givenCheck errorsOf
   job-refused {why} h = go why (sym f-is ∙ ap checked h)
     where
       go : (why : Refusal) → checkOf t names ≡ refusal why → Promised t names bytes xs (refusal why) xs
@@ -58,9 +58,9 @@ module _ (t names bytes xs : List ℕ) {found : Checked} (f-is : checked found �
     table-short = passed t names (sym told) .most
 
     pub job-dialect : read ≡ Invalid → Promised t names bytes xs (refused badDialect []) xs
-    unfolding moduleCheck errorsOf
+    unfolding givenCheck errorsOf
     job-dialect h = (rw (told, ← read-is, h) refl, rw (told, ← read-is, h) (sym (stored-none xs)))
 
     pub job-total : {d : Dialect} {n : ℕ} {ys : List ℕ} → read ≡ Valid d → Stores («validate_module» d names (forest 0 t)) xs n ys → Promised t names bytes xs (accepted (n ∷ [])) ys
-    unfolding moduleCheck errorsOf
+    unfolding givenCheck errorsOf
     job-total h s = (rw (told, ← read-is, h, s .count) refl, rw (told, ← read-is, h) (s .words))

@@ -10,18 +10,18 @@ use Rattle.dialect.specs.declared.Decoded.the-variants.{Valid, Invalid}
 use Rattle.forest.specs.Forest.{forest}
 use Rattle.forest.proofs.Stretch.{count-forest}
 use Rattle.table.specs.Answer.{Answer, accepted, refused, andThen}
-use Rattle.table.specs.Check.{checkOf}
+use Rattle.table.specs.Check.{givenCheck}
 use Rattle.table.proofs.Handed.{passed}
 use Rattle.errors.specs.Errors.{Err, width, wordsOf, stored}
 use Rattle.errors.proofs.Storing.{allWords, stored-all, stored-none}
-use Rattle.validate.specs.Job.{dialectCheck, moduleCheck, errorsIn, ifAccepted, errorsOf, moduleOf, errorsAfter}
+use Rattle.validate.specs.Job.{errorsIn, ifAccepted, errorsOf, moduleOf, errorsAfter}
 use Rattle.validate.proofs.Bounds.{module-few}
 
 module _ (t names bytes : List ℕ) where
   -- THEOREM: a refusal changes no word
   pub refusal-keeps : {n : ℕ} {vs : List ℕ} (xs : List ℕ) → moduleOf t names bytes ≡ refused n vs → errorsAfter t names bytes xs ≡ xs
   unfolding errorsOf
-  refusal-keeps {n} {vs} xs e = go (moduleCheck t names bytes) (errorsIn (fromBytes bytes) names t) e
+  refusal-keeps {n} {vs} xs e = go (givenCheck t names bytes) (errorsIn (fromBytes bytes) names t) e
     where
       go : (a : Answer) (es : List Err) → andThen a (λ _. accepted (length (ifAccepted a es) ∷ [])) ≡ refused n vs → stored (ifAccepted a es) xs ≡ xs
       go (accepted ws) es h = let z : _≡_ {A = ℕ} 0 1 = cc in absurd (omega arith)
@@ -30,7 +30,7 @@ module _ (t names bytes : List ℕ) where
   -- THEOREM: there are at most twice as many errors as nodes
   pub errors-few : length (errorsOf t names bytes) ≤ 2 * (length t / 24)
   unfolding errorsOf
-  errors-few = go (moduleCheck t names bytes) (fromBytes bytes)
+  errors-few = go (givenCheck t names bytes) (fromBytes bytes)
     where
       go : (a : Answer) (d : Decoded) → length (ifAccepted a (errorsIn d names t)) ≤ 2 * (length t / 24)
       go (refused n vs) d = omega arith

@@ -6,9 +6,8 @@ use Rattle.dialect.specs.Bytes.{fromBytes}
 use Rattle.dialect.specs.declared.Decoded.{Decoded}
 use Rattle.dialect.specs.declared.Decoded.the-variants.{Valid, Invalid}
 use Rattle.forest.specs.Forest.{forest}
-use Rattle.table.specs.Numbers.{badDialect}
 use Rattle.table.specs.Answer.{Answer, accepted, refused, andThen, refusal}
-use Rattle.table.specs.Check.{checkOf}
+use Rattle.table.specs.Check.{givenCheck}
 use Rattle.errors.specs.Errors.{Err, stored}
 use Rattle.validate.specs.Module.{«validate_module»}
 use Rattle.validate.specs.declared.Listed.{Listed}
@@ -18,15 +17,6 @@ use Rattle.validate.specs.declared.Listed.the-variants.{Total, Refused}
 abbrev pub listed : Listed → Answer
 listed (Total n) = accepted (n ∷ [])
 listed (Refused r) = refusal r
-
--- 5: the bytes give a dialect
-abbrev pub dialectCheck : Decoded → Answer
-dialectCheck (Valid d) = accepted []
-dialectCheck Invalid = refused badDialect []
-
--- what the job asks for: 1 to 4, then 5
-unfoldable pub moduleCheck : List ℕ → List ℕ → List ℕ → Answer
-moduleCheck t names bytes = andThen (checkOf t names) (λ _. dialectCheck (fromBytes bytes))
 
 -- the errors of a module in a dialect; a job that refuses has none
 abbrev pub errorsIn : Decoded → List ℕ → List ℕ → List Err
@@ -38,11 +28,11 @@ ifAccepted (accepted vs) es = es
 ifAccepted (refused n vs) es = []
 
 unfoldable pub errorsOf : List ℕ → List ℕ → List ℕ → List Err
-errorsOf t names bytes = ifAccepted (moduleCheck t names bytes) (errorsIn (fromBytes bytes) names t)
+errorsOf t names bytes = ifAccepted (givenCheck t names bytes) (errorsIn (fromBytes bytes) names t)
 
 -- the answer: a refusal, or how many errors there are, whether they fit or not
 abbrev pub moduleOf : List ℕ → List ℕ → List ℕ → Answer
-moduleOf t names bytes = andThen (moduleCheck t names bytes) (λ _. accepted (length (errorsOf t names bytes) ∷ []))
+moduleOf t names bytes = andThen (givenCheck t names bytes) (λ _. accepted (length (errorsOf t names bytes) ∷ []))
 
 -- the list of words at exit
 abbrev pub errorsAfter : List ℕ → List ℕ → List ℕ → List ℕ → List ℕ
