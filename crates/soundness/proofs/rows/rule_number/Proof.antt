@@ -1,5 +1,5 @@
--- `soundness::rows::rule_number` meets its contract: the packed row says what the kind's row says. Assumes nothing.
-use Rattle.soundness.proofs.Packing.{rule-beyond, rule-index, rule-read}
+-- `soundness::rows::rule_number` meets its contract: each detail has its two digits. Assumes nothing.
+use Rattle.soundness.proofs.Packing.{rule-0, rule-1, rule-2, rule-3, rule-beyond}
 use borrow.Author.Needs.{needs}
 use Rattle.soundness.proofs.rows.rule_number.Statement.{statement}
 use Rattle.soundness.proofs.rows.rule_number.Tie as tie
@@ -9,10 +9,8 @@ rule-number-spec =
     tie.close
     (tie.spec
     (λ c κs. search needs)
-    (λ c. search needs)
-    (λ c. rule-beyond _ _ (c .before .row-of .ensures) (c .if1 .taken))
-    (λ c κs. search needs)
-    (λ c. search needs)
-    (λ c. rule-index _ _ (c .before .before .row-of .ensures) (c .before .if1 .left) (c .wide .ensures))
-    (λ c κs. search needs)
-    (λ c. rule-read _ _ (c .before .before .before .row-of .ensures) (c .before .before .if1 .left) (c .before .wide .ensures) (c .wide2 .ensures)))
+    (λ c. rule-0 _ _ _ (c .before .row-of .ensures) (c .match .keys1))
+    (λ c. rule-1 _ _ _ (c .before .row-of .ensures) (c .match .keys2))
+    (λ c. rule-2 _ _ _ (c .before .row-of .ensures) (c .match .keys3))
+    (λ c. rule-3 _ _ _ (c .before .row-of .ensures) (c .match .keys4))
+    (λ c. rule-beyond _ _ _ (c .before .row-of .ensures) (c .match .rest)))
