@@ -2,10 +2,10 @@
 use mathlib.Core.Path.{_≡_, refl, sym, ap, _∙_}
 use mathlib.Core.Bool.{Bool, true, false, _&&_, _||_}
 use mathlib.Core.List.{List, [], _∷_}
-use Prim.Native.Nat.{ℕ, zero, suc, _/_, _%_, _<_, _≤_}
+use Prim.Native.Nat.{ℕ, zero, suc, _/_, _%_, _≤_}
 use native.Mathlib.Omega.{arith}
-use lib.ListN.{length, getD, List·getD-eq-default}
-use lib.Dec.{eqb, leb}
+use lib.ListN.{getD, List·getD-eq-default}
+use lib.Dec.{eqb}
 use borrow.Author.Tests.{eqb-true, ne-eqb, lt-leb}
 use Rattle.soundness.specs.Kinds.{Children, Kind, kind, kinds, noName, exactly, kindIn, kindOf, classOf}
 use Rattle.soundness.specs.Packed.{rules, ruleAt, ruleOf, childrenOf, rulesIn, rulesOf, RowOf}
@@ -72,50 +72,24 @@ abbrev down : ℕ → List ℕ
 down zero = []
 down (suc n) = n ∷ down n
 
-pub past : (n m : ℕ) → Apart (down n) m → n ≤ m
+past : (n m : ℕ) → Apart (down n) m → n ≤ m
 past zero m a = omega arith
 past (suc n) m a = let h : n ≤ m = past n m (a .0) in omega (arith, a .1)
 
--- the rule of a row at each detail
-module _ (k row d : ℕ) (row-is : RowOf k row) where
-  rule-here : (i : ℕ) → getD (rulesIn row) i (exactly []) ≡ getD (rulesOf k) i (exactly [])
+-- the rule of a row at a detail, and none past the details
+module _ {k row : ℕ} (row-is : RowOf k row) where
+  pub rule-here : (i : ℕ) → getD (rulesIn row) i (exactly []) ≡ getD (rulesOf k) i (exactly [])
   rule-here i = ap (λ (l : List Children). getD l i (exactly [])) (row-is .rules)
 
-  pub rule-0 : d ≡ 0 → ruleAt (row / 0x100_0000 % 0x100) ≡ ruleOf k d
-  unfolding rulesIn rulesOf
-  rule-0 d-is = rw d-is (rule-here 0)
-
-  pub rule-1 : d ≡ 1 → ruleAt (row / 0x1_0000 % 0x100) ≡ ruleOf k d
-  unfolding rulesIn rulesOf
-  rule-1 d-is = rw d-is (rule-here 1)
-
-  pub rule-2 : d ≡ 2 → ruleAt (row / 0x100 % 0x100) ≡ ruleOf k d
-  unfolding rulesIn rulesOf
-  rule-2 d-is = rw d-is (rule-here 2)
-
-  pub rule-3 : d ≡ 3 → ruleAt (row % 0x100) ≡ ruleOf k d
-  unfolding rulesIn rulesOf
-  rule-3 d-is = rw d-is (rule-here 3)
-
-  pub rule-beyond : Apart (down 4) d → ruleAt 0 ≡ ruleOf k d
+  pub rule-beyond : (d : ℕ) → Apart (down 4) d → ruleAt 0 ≡ ruleOf k d
   unfolding ruleAt ruleOf
-  rule-beyond a = rw (lt-leb d (kindOf k .details) (omega (arith, past 4 d a, row-is .details))) refl
+  rule-beyond d a = rw (lt-leb d (kindOf k .details) (omega (arith, past 4 d a, row-is .details))) refl
 
 -- a number that no rule has: it permits nothing
 pub rule-none : (m : ℕ) → Apart (down 18) m → childrenOf 0 ≡ ruleAt m
 unfolding childrenOf ruleAt
 rule-none m a = sym (List·getD-eq-default rules (exactly []) (past 18 m a))
 
--- the class at a place of three, and none past them
-module _ (a b c j : ℕ) where
-  pub class-0 : j ≡ 0 → a ≡ getD (a ∷ b ∷ c ∷ []) j 0
-  class-0 j-is = rw j-is refl
-
-  pub class-1 : j ≡ 1 → b ≡ getD (a ∷ b ∷ c ∷ []) j 0
-  class-1 j-is = rw j-is refl
-
-  pub class-2 : j ≡ 2 → c ≡ getD (a ∷ b ∷ c ∷ []) j 0
-  class-2 j-is = rw j-is refl
-
-  pub class-none : Apart (down 3) j → 0 ≡ getD (a ∷ b ∷ c ∷ []) j 0
-  class-none h = sym (List·getD-eq-default (a ∷ b ∷ c ∷ []) 0 (past 3 j h))
+-- a place past three: no class
+pub class-none : (a b c j : ℕ) → Apart (down 3) j → 0 ≡ getD (a ∷ b ∷ c ∷ []) j 0
+class-none a b c j h = sym (List·getD-eq-default (a ∷ b ∷ c ∷ []) 0 (past 3 j h))

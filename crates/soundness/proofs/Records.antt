@@ -2,7 +2,7 @@
 use mathlib.Core.Path.{_≡_, refl, sym, ap, _∙_}
 use mathlib.Core.Bool.{Bool, true, false, _&&_}
 use mathlib.Core.List.{List, [], _∷_, _++_}
-use Prim.Native.Nat.{ℕ, zero, suc, _+_, _-_, _*_, _/_, _%_, _<_, _≤_, min, max}
+use Prim.Native.Nat.{ℕ, _+_, _-_, _*_, _/_, _%_, _<_, _≤_}
 use native.Mathlib.Numerals.{add-one}
 use native.Mathlib.Omega.{arith}
 use lib.ListN.{length, getD, take, drop, replicate, length-take, length-drop, length-append, length-replicate, getD-replicate, List·getD-append, drop-of-length-le}
@@ -10,14 +10,14 @@ use lib.Seq.{length-take-le, getD-take, getD-append-add, drop-cons}
 use lib.Dec.{eqb, ltb, leb}
 use borrow.Author.Tests.{eq-eqb, ne-eqb, le-leb, lt-leb, leb-true, leb-false, ltb-true, ltb-false, lt-ltb, le-ltb}
 use Rattle.fields.specs.Choice.{if'}
-use Rattle.forest.specs.Forest.{Node, sizeOf, nodeOf, spanOf, kidsOf, restOf, node, Forest, none, _then_, forest, count}
+use Rattle.forest.specs.Forest.{Node, sizeOf, nodeOf, spanOf, kidsOf, restOf, forest, count}
 use Rattle.forest.specs.Names.{same}
 use Rattle.forest.specs.declared.Found.the-variants.{At}
 use Rattle.fields.proofs.Fields.{tail-part}
-use Rattle.forest.proofs.Stretch.{tree, forest-none, forest-tree, forest-induction, count-forest, length-kids, length-rest, kids-part, rest-part, node-take, size-take}
+use Rattle.forest.proofs.Stretch.{forest-none, forest-tree, forest-induction, count-forest, length-kids, length-rest, kids-part, rest-part, node-take, size-take}
 use Rattle.forest.proofs.Named.{same-length}
-use Rattle.soundness.specs.Kinds.{Times, anyNumber, evenNumber, atMost, Children, kindOf, classOf}
-use Rattle.soundness.specs.Sound.{Context, fieldsSound, wholeTree, wholeTrees, classes, permitted, fixed, between, wanted, permits, kidsSound, soundNode, soundAt, context, contextOf, rootSound, recordSound, firstUnsound}
+use Rattle.soundness.specs.Kinds.{Children, kindOf, classOf}
+use Rattle.soundness.specs.Sound.{Context, fieldsSound, wholeTrees, classes, permitted, fixed, between, wanted, permits, kidsSound, soundNode, soundAt, context, contextOf, rootSound, recordSound, firstUnsound}
 use Rattle.soundness.specs.Packed.{frontsIn, frontIn, timesIn, middleIn, backsIn, backIn, timesOf, childrenOf, ruleOf, numberSound, LastFrom, classAt, childSound, childOf}
 use Rattle.soundness.proofs.Search.{look-start, look-here}
 

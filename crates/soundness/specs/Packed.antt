@@ -1,9 +1,9 @@
 -- How code's packed rows are read. That they say what Kinds says is proved, so no one needs to believe them. These are definitions.
-use mathlib.Core.Bool.{Bool, true, false, _&&_}
+use mathlib.Core.Bool.{Bool, _&&_}
 use mathlib.Core.List.{List, [], _∷_}
 use mathlib.Core.Path.{_≡_}
-use Prim.Native.Nat.{ℕ, _-_, _*_, _/_, _%_, min, max}
-use lib.ListN.{length, getD, take}
+use Prim.Native.Nat.{ℕ, _-_, _/_, _%_, min}
+use lib.ListN.{getD, take}
 use lib.Dec.{eqb, ltb, leb}
 use Rattle.fields.specs.Choice.{if'}
 use Rattle.soundness.specs.Kinds.{statement, expression, parameter, argument, one, two, three, Times, anyNumber, evenNumber, atMost, Children, children, exactly, any, evenly, upTo, thenAny, thenUpTo, anyThen, kindOf, classOf}

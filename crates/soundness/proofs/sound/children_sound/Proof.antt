@@ -1,7 +1,6 @@
 -- `soundness::sound::children_sound` meets its contract: the nodes that are left decide, and their number at the end. Assumes nothing.
 use mathlib.Core.Path.{_∙_}
 use borrow.Author.Needs.{needs}
-use native.Mathlib.Omega.{arith}
 use lib.ListN.{length}
 use Rattle.soundness.specs.Packed.{childrenOf}
 use Rattle.soundness.proofs.Records.{class-wanted, child-within, Fitting, fit-start, fit-index, fit-stop, fit-on, fit-end}

@@ -1,8 +1,5 @@
 -- `soundness::sound::kids_sound` meets its contract: the rule of the kind, and where its last ones stand. Assumes nothing.
-use mathlib.Core.Path.{_∙_, ap}
 use borrow.Author.Needs.{needs}
-use Rattle.forest.specs.Forest.{forest}
-use Rattle.soundness.specs.Sound.{kidsSound}
 use Rattle.soundness.proofs.sound.kids_sound.Statement.{statement}
 use Rattle.soundness.proofs.sound.kids_sound.Tie as tie
 
