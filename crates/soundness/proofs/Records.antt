@@ -2,24 +2,23 @@
 use mathlib.Core.Path.{_≡_, refl, sym, ap, _∙_}
 use mathlib.Core.Bool.{Bool, true, false, _&&_}
 use mathlib.Core.List.{List, [], _∷_, _++_}
-use Prim.Native.Nat.{ℕ, zero, suc, _+_, _-_, _*_, _/_, _%_, _<_, _≤_, min, max}
+use Prim.Native.Nat.{ℕ, _+_, _-_, _*_, _/_, _%_, _<_, _≤_}
 use native.Mathlib.Numerals.{add-one}
 use native.Mathlib.Omega.{arith}
 use lib.ListN.{length, getD, take, drop, replicate, length-take, length-drop, length-append, length-replicate, getD-replicate, List·getD-append, drop-of-length-le}
 use lib.Seq.{length-take-le, getD-take, getD-append-add, drop-cons}
-use lib.Dec.{eqb, leb}
-use borrow.Author.Tests.{eq-eqb, ne-eqb, le-leb, lt-leb, leb-true, leb-false}
+use lib.Dec.{eqb, ltb, leb}
+use borrow.Author.Tests.{eq-eqb, ne-eqb, le-leb, lt-leb, leb-true, leb-false, ltb-true, ltb-false, lt-ltb, le-ltb}
 use Rattle.fields.specs.Choice.{if'}
-use Rattle.forest.specs.Forest.{Node, sizeOf, nodeOf, spanOf, kidsOf, restOf, node, Forest, none, _then_, forest, count}
+use Rattle.forest.specs.Forest.{Node, sizeOf, nodeOf, spanOf, kidsOf, restOf, forest, count}
 use Rattle.forest.specs.Names.{same}
 use Rattle.forest.specs.declared.Found.the-variants.{At}
 use Rattle.fields.proofs.Fields.{tail-part}
-use Rattle.forest.proofs.Stretch.{tree, forest-none, forest-tree, forest-induction, count-forest, length-kids, length-rest, kids-part, rest-part}
+use Rattle.forest.proofs.Stretch.{forest-none, forest-tree, forest-induction, count-forest, length-kids, length-rest, kids-part, rest-part, node-take, size-take}
 use Rattle.forest.proofs.Named.{same-length}
-use Rattle.soundness.specs.Kinds.{Times, anyNumber, evenNumber, atMost, Children, kindOf, classOf}
-use Rattle.soundness.specs.Sound.{Context, fieldsSound, wholeTree, wholeTrees, classes, permitted, fixed, between, wanted, permits, kidsSound, soundNode, soundAt, context, contextOf, rootSound, recordSound, firstUnsound}
-use Rattle.soundness.specs.Packed.{timesOf, childrenOf, Fit, ruleOf, numberSound, orderSound}
-use Rattle.soundness.specs.declared.rows.Rule.{Rule}
+use Rattle.soundness.specs.Kinds.{Children, kindOf, classOf}
+use Rattle.soundness.specs.Sound.{Context, fieldsSound, wholeTrees, classes, permitted, fixed, between, wanted, permits, kidsSound, soundNode, soundAt, context, contextOf, rootSound, recordSound, firstUnsound}
+use Rattle.soundness.specs.Packed.{frontsIn, frontIn, timesIn, middleIn, backsIn, backIn, timesOf, childrenOf, ruleOf, numberSound, LastFrom, classAt, childSound, childOf}
 use Rattle.soundness.proofs.Search.{look-start, look-here}
 
 -- whether children are whole, and their classes, do not depend on their indices
@@ -46,68 +45,101 @@ pub length-wanted : (c : Children) (n : ℕ) → length (wanted c n) ≡ fixed c
 unfolding wanted
 length-wanted c n = simp (length-append, length-replicate {A = ℕ}) (omega arith)
 
-module _ (rule : Rule) (fit : Fit rule) where
-  front-long : length (take (rule .fronts) (rule .front)) ≡ rule .fronts
-  front-long = length-take-le (rule .fronts) (rule .front) (omega (arith, fit .fronts, fit .front))
+-- what a packed rule says, in the terms of code
+module _ (rule : ℕ) where
+  front-long : length (take (frontsIn rule) (frontIn rule)) ≡ frontsIn rule
+  front-long = length-take-le (frontsIn rule) (frontIn rule) (omega arith)
 
-  back-long : length (take (rule .backs) (rule .back)) ≡ rule .backs
-  back-long = length-take-le (rule .backs) (rule .back) (omega (arith, fit .backs, fit .back))
+  back-long : length (take (backsIn rule) (backIn rule)) ≡ backsIn rule
+  back-long = length-take-le (backsIn rule) (backIn rule) (omega arith)
 
-  pub fixed-is : fixed (childrenOf rule) ≡ rule .fronts + rule .backs
+  fixed-is : fixed (childrenOf rule) ≡ frontsIn rule + backsIn rule
+  unfolding childrenOf
   fixed-is = omega (arith, front-long, back-long)
 
-  -- the class of child j of n: among the first, among the last, or between them
-  module _ (n j : ℕ) (room : fixed (childrenOf rule) ≤ n) (h : j < n) where
-    pub wanted-front : j < rule .fronts → getD (rule .front) j 0 ≡ getD (wanted (childrenOf rule) n) j 0
-    unfolding wanted
+  -- the class of child j of n: among the first, between, or among the last
+  module _ (n j : ℕ) where
+    wanted-front : j < frontsIn rule → getD (frontIn rule) j 0 ≡ getD (wanted (childrenOf rule) n) j 0
+    unfolding wanted childrenOf
     wanted-front g =
-        let k : j < length (take (rule .fronts) (rule .front)) = omega (arith, front-long) in
-        sym (List·getD-append (take (rule .fronts) (rule .front)) _ 0 j k ∙ getD-take (rule .fronts) (rule .front) j 0 g)
+        let k : j < length (take (frontsIn rule) (frontIn rule)) = omega (arith, front-long) in
+        sym (List·getD-append (take (frontsIn rule) (frontIn rule)) _ 0 j k ∙ getD-take (frontsIn rule) (frontIn rule) j 0 g)
 
-    later : (m : ℕ) → j ≡ length (take (rule .fronts) (rule .front)) + m
-        → getD (wanted (childrenOf rule) n) j 0 ≡ getD (replicate (between (childrenOf rule) n) (rule .middle) ++ take (rule .backs) (rule .back)) m 0
-    unfolding wanted
-    later m e = rw e (getD-append-add (take (rule .fronts) (rule .front)) _ m 0)
+    later : (m : ℕ) → j ≡ length (take (frontsIn rule) (frontIn rule)) + m
+        → getD (wanted (childrenOf rule) n) j 0 ≡ getD (replicate (between (childrenOf rule) n) (middleIn rule) ++ take (backsIn rule) (backIn rule)) m 0
+    unfolding wanted childrenOf
+    later m e = rw e (getD-append-add (take (frontsIn rule) (frontIn rule)) _ m 0)
 
-    pub wanted-back : rule .fronts ≤ j → n - j ≤ rule .backs → getD (rule .back) (rule .backs - (n - j)) 0 ≡ getD (wanted (childrenOf rule) n) j 0
-    wanted-back g l =
-        let m : ℕ = rule .backs - (n - j) in
-        let between-long : length (replicate (between (childrenOf rule) n) (rule .middle)) ≡ between (childrenOf rule) n = length-replicate {A = ℕ} (between (childrenOf rule) n) (rule .middle) in
-        sym
-        (later (length (replicate (between (childrenOf rule) n) (rule .middle)) + m) (omega (arith, front-long, back-long))
-        ∙ getD-append-add (replicate (between (childrenOf rule) n) (rule .middle)) (take (rule .backs) (rule .back)) m 0
-        ∙ getD-take (rule .backs) (rule .back) m 0 (omega arith))
-
-    pub wanted-middle : rule .fronts ≤ j → rule .backs < n - j → rule .middle ≡ getD (wanted (childrenOf rule) n) j 0
+    wanted-middle : frontsIn rule ≤ j → j < n - backsIn rule → middleIn rule ≡ getD (wanted (childrenOf rule) n) j 0
     wanted-middle g l =
-        let between-long : length (replicate (between (childrenOf rule) n) (rule .middle)) ≡ between (childrenOf rule) n = length-replicate {A = ℕ} (between (childrenOf rule) n) (rule .middle) in
-        let k : j - rule .fronts < between (childrenOf rule) n = omega (arith, front-long, back-long) in
+        let between-long : length (replicate (between (childrenOf rule) n) (middleIn rule)) ≡ between (childrenOf rule) n = length-replicate {A = ℕ} (between (childrenOf rule) n) (middleIn rule) in
+        let k : j - frontsIn rule < between (childrenOf rule) n = omega (arith, fixed-is) in
         sym
-        (later (j - rule .fronts) (omega (arith, front-long))
-        ∙ List·getD-append (replicate (between (childrenOf rule) n) (rule .middle)) (take (rule .backs) (rule .back)) 0 (j - rule .fronts) (omega arith)
-        ∙ getD-replicate (between (childrenOf rule) n) (j - rule .fronts) (rule .middle) 0 k)
+        (later (j - frontsIn rule) (omega (arith, front-long))
+        ∙ List·getD-append (replicate (between (childrenOf rule) n) (middleIn rule)) (take (backsIn rule) (backIn rule)) 0 (j - frontsIn rule) (omega arith)
+        ∙ getD-replicate (between (childrenOf rule) n) (j - frontsIn rule) (middleIn rule) 0 k)
 
-  -- the number of children, test by test
-  module _ (n : ℕ) where
-    pub number-few : n < rule .fronts + rule .backs → false ≡ numberSound (childrenOf rule) n
+    wanted-back : fixed (childrenOf rule) ≤ n → j < n → n - backsIn rule ≤ j → getD (backIn rule) (j - (n - backsIn rule)) 0 ≡ getD (wanted (childrenOf rule) n) j 0
+    wanted-back room h l =
+        let m : ℕ = j - (n - backsIn rule) in
+        let between-long : length (replicate (between (childrenOf rule) n) (middleIn rule)) ≡ between (childrenOf rule) n = length-replicate {A = ℕ} (between (childrenOf rule) n) (middleIn rule) in
+        sym
+        (later (length (replicate (between (childrenOf rule) n) (middleIn rule)) + m) (omega (arith, front-long, fixed-is))
+        ∙ getD-append-add (replicate (between (childrenOf rule) n) (middleIn rule)) (take (backsIn rule) (backIn rule)) m 0
+        ∙ getD-take (backsIn rule) (backIn rule) m 0 (omega (arith, fixed-is)))
+
+    -- as code finds it, where the last ones stand from child m on
+    pub class-wanted : (m : ℕ) → LastFrom n (backsIn rule) m → fixed (childrenOf rule) ≤ n → j < n → classAt rule m j ≡ getD (wanted (childrenOf rule) n) j 0
+    unfolding classAt
+    class-wanted m m-is room h = go (ltb j (frontsIn rule)) refl (ltb j m) refl
+      where
+        go : (a : Bool) → ltb j (frontsIn rule) ≡ a → (b : Bool) → ltb j m ≡ b
+            → if' a (λ _. getD (frontIn rule) j 0) (λ _. if' b (λ _. middleIn rule) (λ _. getD (backIn rule) (j - m) 0)) ≡ getD (wanted (childrenOf rule) n) j 0
+        go true e b f = wanted-front (ltb-true j (frontsIn rule) e)
+        go false e true f = let l : j < m = ltb-true j m f in wanted-middle (ltb-false j (frontsIn rule) e) (omega arith)
+        go false e false f =
+            let l : m ≤ j = ltb-false j m f in
+            let at : m ≡ n - backsIn rule = omega arith in
+            rw at (wanted-back room h (omega arith))
+
+  -- the same, return by return
+  module _ (m j : ℕ) {f r : ℕ} (f-is : f ≡ frontsIn rule) where
+    pub at-front : j < f → r ≡ getD (frontIn rule) j 0 → r ≡ classAt rule m j
+    unfolding classAt
+    at-front h r-is = r-is ∙ rw (lt-ltb j (frontsIn rule) (omega arith)) refl
+
+    pub at-middle : f ≤ j → j < m → r ≡ middleIn rule → r ≡ classAt rule m j
+    unfolding classAt
+    at-middle h g r-is = r-is ∙ rw (le-ltb j (frontsIn rule) (omega arith), lt-ltb j m g) refl
+
+    pub at-back : f ≤ j → m ≤ j → r ≡ getD (backIn rule) (j - m) 0 → r ≡ classAt rule m j
+    unfolding classAt
+    at-back h g r-is = r-is ∙ rw (le-ltb j (frontsIn rule) (omega arith), le-ltb j m g) refl
+
+  -- the number of children, return by return
+  module _ (n : ℕ) {f b : ℕ} (f-is : f ≡ frontsIn rule) (b-is : b ≡ backsIn rule) where
+    pub number-few : n < f + b → false ≡ numberSound (childrenOf rule) n
     unfolding numberSound
     number-few h = rw (lt-leb (fixed (childrenOf rule)) n (omega (arith, fixed-is))) refl
 
-    number-enough : rule .fronts + rule .backs ≤ n → numberSound (childrenOf rule) n ≡ permitted (timesOf (rule .times)) (n - (rule .fronts + rule .backs))
-    unfolding numberSound
-    number-enough h = rw (le-leb (fixed (childrenOf rule)) n (omega (arith, fixed-is)), fixed-is) refl
+    module _ (h : f + b ≤ n) {times : ℕ} (times-is : times ≡ timesIn rule) where
+      number-enough : numberSound (childrenOf rule) n ≡ permitted (timesOf times) (n - (f + b))
+      unfolding numberSound childrenOf
+      number-enough =
+          let long : fixed (childrenOf rule) ≡ f + b = omega (arith, fixed-is) in
+          rw (le-leb (fixed (childrenOf rule)) n (omega arith), long, times-is) refl
 
-    pub number-any : rule .fronts + rule .backs ≤ n → rule .times ≡ 255 → true ≡ numberSound (childrenOf rule) n
-    unfolding permitted
-    number-any h e = sym (number-enough h ∙ rw e refl)
+      pub number-any : times ≡ 15 → true ≡ numberSound (childrenOf rule) n
+      unfolding permitted
+      number-any e = sym (number-enough ∙ rw e refl)
 
-    pub number-even : rule .fronts + rule .backs ≤ n → rule .times ≡ 254 → eqb ((n - (rule .fronts + rule .backs)) % 2) 0 ≡ numberSound (childrenOf rule) n
-    unfolding permitted
-    number-even h e = sym (number-enough h ∙ rw e refl)
+      pub number-even : times ≡ 14 → eqb ((n - (f + b)) % 2) 0 ≡ numberSound (childrenOf rule) n
+      unfolding permitted
+      number-even e = sym (number-enough ∙ rw e refl)
 
-    pub number-most : rule .fronts + rule .backs ≤ n → (rule .times ≡ 255 → ⊥) → (rule .times ≡ 254 → ⊥) → leb (n - (rule .fronts + rule .backs)) (rule .times) ≡ numberSound (childrenOf rule) n
-    unfolding permitted
-    number-most h d e = sym (number-enough h ∙ rw (ne-eqb (rule .times) 255 d, ne-eqb (rule .times) 254 e) refl)
+      pub number-most : (times ≡ 15 → ⊥) → (times ≡ 14 → ⊥) → leb (n - (f + b)) times ≡ numberSound (childrenOf rule) n
+      unfolding permitted
+      number-most d e = sym (number-enough ∙ rw (ne-eqb times 15 d, ne-eqb times 14 e) refl)
 
 -- a stretch of nodes side by side, cut as code cuts it
 module _ {e : ℕ} (bs : List ℕ) (big : 24 ≤ length bs) (h : e ≡ spanOf bs) where
@@ -137,62 +169,6 @@ module _ {t left : List ℕ} {n : ℕ} (s : Counting t left n) where
   pub count-end : length left < 24 → n ≡ length (classes (forest 0 t))
   unfolding classes
   count-end h = let none-left : length (classes (forest 0 left)) ≡ 0 = rw (forest-none 0 left h) refl in omega (arith, s .all)
-
--- testing n nodes side by side against the classes w: j have passed, and left are those that have not
-pub record Fitting (w t left : List ℕ) (n j : ℕ) : Type 0 where
-  pub long : length w ≡ n
-  pub room : 24 * j + length left ≤ length t
-  pub number : n ≡ j + length (classes (forest 0 left))
-  pub rest : (wholeTrees (forest 0 left) && same (classes (forest 0 left)) (drop j w)) ≡ (wholeTrees (forest 0 t) && same (classes (forest 0 t)) w)
-
-pub fit-start : (c : Children) (t : List ℕ) {n : ℕ} → fixed c ≤ n → n ≡ length (classes (forest 0 t)) → Fitting (wanted c n) t t n 0
-fit-start c t {n} room n-is = record { long = omega (arith, length-wanted c n); room = omega arith; number = omega arith; rest = refl }
-
-module _ {w t left : List ℕ} {n j : ℕ} (s : Fitting w t left n j) where
-  pub fit-end : length left < 24 → true ≡ (wholeTrees (forest 0 t) && same (classes (forest 0 t)) w)
-  unfolding wholeTrees classes same
-  fit-end h =
-      let none-left : length (classes (forest 0 left)) ≡ 0 = rw (forest-none 0 left h) refl in
-      let past : drop j w ≡ [] = drop-of-length-le w {i = j} (omega (arith, s .number, s .long)) in
-      rw (forest-none 0 left h, past) at (s .rest)
-
-  module _ {e size : ℕ} (big : 24 ≤ length left) (e-is : e ≡ spanOf left) (size-is : size ≡ sizeOf left) where
-    pub fit-index : j < n
-    fit-index = omega (arith, s .number, ap length (classes-cut left big e-is))
-
-    pub fit-size : (size ≡ e / 24 → ⊥) → false ≡ (wholeTrees (forest 0 t) && same (classes (forest 0 t)) w)
-    fit-size d = rw (whole-cut left big e-is, ← size-is, ne-eqb size (e / 24) d) at (s .rest)
-
-    module _ {kind class at : ℕ} (size-fits : size ≡ e / 24) (kind-is : kind ≡ nodeOf 0 left .kind) (class-is : class ≡ classOf kind) (at-is : at ≡ getD w j 0) where
-      step : (eqb class at && (wholeTrees (forest 0 (take (length left - e) (drop e left))) && same (classes (forest 0 (take (length left - e) (drop e left)))) (drop (j + 1) w))) ≡ (wholeTrees (forest 0 t) && same (classes (forest 0 t)) w)
-      unfolding same
-      step =
-          let here : sizeOf left ≡ e / 24 = omega arith in
-          let inside : j < length w = omega (arith, fit-index, s .long) in
-          let this : classOf (nodeOf 0 left .kind) ≡ class = sym (class-is ∙ ap classOf kind-is) in
-          go (wholeTrees (forest 0 (take (length left - e) (drop e left)))) (eqb class at)
-          ∙ (simp (whole-cut left big e-is, eq-eqb (sizeOf left) (e / 24) here, classes-cut left big e-is, drop-cons w j 0 inside, this, ← at-is, ← add-one) at (s .rest))
-        where
-          go : (a b : Bool) → (b && (a && same (classes (forest 0 (take (length left - e) (drop e left)))) (drop (j + 1) w))) ≡ (a && (b && same (classes (forest 0 (take (length left - e) (drop e left)))) (drop (j + 1) w)))
-          go true b = refl
-          go false true = refl
-          go false false = refl
-
-      pub fit-class : (class ≡ at → ⊥) → false ≡ (wholeTrees (forest 0 t) && same (classes (forest 0 t)) w)
-      fit-class d = rw (ne-eqb class at d) at step
-
-      pub fit-on : class ≡ at → Fitting w t (take (length left - e) (drop e left)) n (j + 1)
-      fit-on f = record {
-        long = s .long;
-        room = simp (length-take, length-drop) (omega (arith, s .room));
-        number = omega (arith, s .number, ap length (classes-cut left big e-is));
-        rest = rw (eq-eqb class at f) at step;
-      }
-
--- n is the number of the nodes side by side
-pub order-is : (c : Children) (t : List ℕ) {n : ℕ} → n ≡ length (classes (forest 0 t)) → (wholeTrees (forest 0 t) && same (classes (forest 0 t)) (wanted c n)) ≡ orderSound c (forest 0 t)
-unfolding orderSound
-order-is c t n-is = rw n-is refl
 
 -- both of two tests
 pub and-left : (a b : Bool) → (a && b) ≡ true → a ≡ true
@@ -227,23 +203,158 @@ and-swap true n s = refl
 and-swap false true s = refl
 and-swap false false s = refl
 
--- the children, by the two tests of code
-module _ (c : Children) (t : List ℕ) {n : ℕ} (n-is : n ≡ length (classes (forest 0 t))) {m : Bool} (m-is : m ≡ numberSound c n) where
-  kids-tests : kidsSound c (forest 0 t) ≡ (m && orderSound c (forest 0 t))
-  unfolding kidsSound orderSound
-  kids-tests =
-      rw (permits-tests c (classes (forest 0 t)), m-is, n-is)
-      (and-swap (wholeTrees (forest 0 t)) (numberSound c (length (classes (forest 0 t)))) (same (classes (forest 0 t)) (wanted c (length (classes (forest 0 t))))))
+-- how many nodes stand side by side
+abbrev pub kidsNumber : List ℕ → ℕ
+kidsNumber t = length (classes (forest 0 t))
 
-  pub kids-number : m ≡ false → false ≡ kidsSound c (forest 0 t)
-  kids-number m-no = sym (kids-tests ∙ rw m-no refl)
+number-within : (i : ℕ) (bs : List ℕ) → length (classes (forest i bs)) ≤ length bs
+unfolding classes
+number-within =
+    forest-induction (λ i bs. length (classes (forest i bs)) ≤ length bs)
+    (λ i bs s. rw (forest-none i bs s) (omega arith))
+    (λ i bs big ks rs. rw (forest-tree i bs big) (omega (arith, length-rest bs)))
 
-  pub kids-room : m ≡ true → fixed c ≤ n
-  unfolding numberSound
-  kids-room m-yes = leb-true (fixed c) n (and-left _ _ (sym m-is ∙ m-yes))
+-- where a rule has no last ones, no child stands past the bytes
+pub no-last : (t : List ℕ) {b : ℕ} → b ≡ 0 → LastFrom (kidsNumber t) b (length t)
+no-last t e = omega (arith, number-within 0 t)
 
-  pub kids-order : m ≡ true → {r : Bool} → r ≡ orderSound c (forest 0 t) → r ≡ kidsSound c (forest 0 t)
-  kids-order m-yes r-is = r-is ∙ sym (kids-tests ∙ rw m-yes refl)
+-- the nodes side by side in `left`, a rest of t, are whole and of the classes wanted of the children of t from j on
+abbrev ordered : Children → List ℕ → List ℕ → ℕ → Bool
+ordered c t left j = wholeTrees (forest 0 left) && same (classes (forest 0 left)) (drop j (wanted c (kidsNumber t)))
+
+-- the children, by the two tests of code; the order matters only where the number is permitted
+kids-tests : (c : Children) (t : List ℕ) {r : Bool} → (numberSound c (kidsNumber t) ≡ true → fixed c ≤ kidsNumber t → r ≡ ordered c t t 0) → (numberSound c (kidsNumber t) ≡ false → r ≡ false) → r ≡ kidsSound c (forest 0 t)
+unfolding kidsSound numberSound
+kids-tests c t {r} in-order few = go (numberSound c (kidsNumber t)) refl ∙ sym
+    (rw (permits-tests c (classes (forest 0 t))) (and-swap (wholeTrees (forest 0 t)) (numberSound c (kidsNumber t)) (same (classes (forest 0 t)) (wanted c (kidsNumber t)))))
+  where
+    go : (b : Bool) → numberSound c (kidsNumber t) ≡ b → r ≡ (b && ordered c t t 0)
+    go true e = in-order e (leb-true (fixed c) (kidsNumber t) (and-left _ _ e))
+    go false e = few e
+
+-- a child as code tests it
+module _ (want : ℕ) (bs : List ℕ) (big : 24 ≤ length bs) {e : ℕ} (e-is : e ≡ childOf want bs) where
+  child-cases : (P : Type 0) → (childSound want bs ≡ true → e ≡ spanOf bs → P) → (childSound want bs ≡ false → e ≡ 0 → P) → P
+  unfolding childOf
+  child-cases P sound unsound = go (childSound want bs) refl e-is
+    where
+      go : (b : Bool) → childSound want bs ≡ b → e ≡ if' b (λ _. spanOf bs) (λ _. 0) → P
+      go true s f = sound s f
+      go false s f = unsound s f
+
+  child-no : e ≡ 0 → childSound want bs ≡ false
+  child-no z = child-cases (childSound want bs ≡ false) (λ s f. absurd (omega arith)) (λ s f. s)
+
+  child-yes : (e ≡ 0 → ⊥) → childSound want bs ≡ true
+  child-yes d = child-cases (childSound want bs ≡ true) (λ s f. s) (λ s f. absurd (d f))
+
+  child-span : (e ≡ 0 → ⊥) → e ≡ spanOf bs
+  child-span d = child-cases (e ≡ spanOf bs) (λ s f. f) (λ s f. absurd (d f))
+
+  pub child-within : e ≤ length bs
+  child-within = child-cases (e ≤ length bs) (λ s f. omega arith) (λ s f. omega arith)
+
+-- testing the children of t in order: j have passed, and left are those that have not
+pub record Fitting (c : Children) (t left : List ℕ) (j : ℕ) : Type 0 where
+  pub room : 24 * j + length left ≤ length t
+  pub number : kidsNumber t ≡ j + kidsNumber left
+  pub rest : fixed c ≤ kidsNumber t → ordered c t left j ≡ ordered c t t 0
+
+pub fit-start : (c : Children) (t : List ℕ) → Fitting c t t 0
+fit-start c t = record { room = omega arith; number = omega arith; rest = λ enough. refl }
+
+and-pairs : (a x b y : Bool) → ((a && x) && (b && y)) ≡ ((a && b) && (x && y))
+and-pairs true x true y = refl
+and-pairs true true false y = refl
+and-pairs true false false y = refl
+and-pairs false x b y = refl
+
+module _ {c : Children} {t left : List ℕ} {j : ℕ} (s : Fitting c t left j) where
+  pub fit-end : length left < 24 → {r : Bool} → r ≡ numberSound c j → r ≡ kidsSound c (forest 0 t)
+  unfolding wholeTrees classes same
+  fit-end h {r} r-is =
+      let none-left : kidsNumber left ≡ 0 = rw (forest-none 0 left h) refl in
+      let all : j ≡ kidsNumber t = omega (arith, s .number) in
+      let number-is : r ≡ numberSound c (kidsNumber t) = r-is ∙ ap (numberSound c) all in
+      kids-tests c t (λ permitted enough.
+      let past : drop j (wanted c (kidsNumber t)) ≡ [] = drop-of-length-le (wanted c (kidsNumber t)) {i = j} (omega (arith, length-wanted c (kidsNumber t))) in
+      number-is ∙ permitted ∙ (rw (forest-none 0 left h, past) at (s .rest enough))) (λ few. number-is ∙ few)
+
+  module _ (big : 24 ≤ length left) where
+    pub fit-index : j < kidsNumber t
+    fit-index = omega (arith, s .number, ap length (classes-cut left big refl))
+
+    step : fixed c ≤ kidsNumber t → ordered c t left j ≡ (childSound (getD (wanted c (kidsNumber t)) j 0) left && ordered c t (take (length left - spanOf left) (drop (spanOf left) left)) (j + 1))
+    unfolding same
+    step enough =
+        let inside : j < length (wanted c (kidsNumber t)) = omega (arith, fit-index, length-wanted c (kidsNumber t)) in
+        rw (whole-cut left big refl, classes-cut left big refl, drop-cons (wanted c (kidsNumber t)) j 0 inside, add-one)
+        (and-pairs (eqb (sizeOf left) (spanOf left / 24)) _ (eqb (classOf (nodeOf 0 left .kind)) (getD (wanted c (kidsNumber t)) j 0)) _)
+
+    module _ {e at : ℕ} (at-is : fixed c ≤ kidsNumber t → at ≡ getD (wanted c (kidsNumber t)) j 0) (e-is : e ≡ childOf at left) where
+      pub fit-stop : e ≡ 0 → false ≡ kidsSound c (forest 0 t)
+      fit-stop z = kids-tests c t (λ permitted enough.
+          let this : childSound (getD (wanted c (kidsNumber t)) j 0) left ≡ false = rw (at-is enough) at (child-no at left big e-is z) in
+          (rw (step enough, this) at (s .rest enough))) (λ few. refl)
+
+      pub fit-on : (e ≡ 0 → ⊥) → Fitting c t (take (length left - e) (drop e left)) (j + 1)
+      fit-on d =
+          let span : e ≡ spanOf left = child-span at left big e-is d in
+          record {
+            room = simp (length-take, length-drop) (omega (arith, s .room));
+            number = omega (arith, s .number, ap length (classes-cut left big span));
+            rest = λ enough.
+                let this : childSound (getD (wanted c (kidsNumber t)) j 0) left ≡ true = rw (at-is enough) at (child-yes at left big e-is d) in
+                rw span (rw (step enough, this) at (s .rest enough));
+          }
+
+-- a subtree's size as code tests it
+module _ (size len : ℕ) {w : Bool} (w-is : w ≡ (leb 1 size && leb (24 * size) len)) (w-yes : w ≡ true) where
+  both : (leb 1 size && leb (24 * size) len) ≡ true
+  both = sym w-is ∙ w-yes
+
+  pub whole-start : 24 ≤ 24 * size
+  whole-start = let l : 1 ≤ size = leb-true 1 size (and-left _ _ both) in omega arith
+
+  pub whole-end : 24 * size ≤ len
+  whole-end = leb-true (24 * size) len (and-right (leb 1 size) _ both)
+
+-- its record read from 24 bytes
+module _ (t : List ℕ) (big : 24 ≤ length t) {size : ℕ} (size-is : size ≡ sizeOf (take 24 t)) {w : Bool} (w-is : w ≡ (leb 1 size && leb (24 * size) (length t))) where
+  same-size : size ≡ sizeOf t
+  same-size = size-is ∙ size-take 24 t (omega arith)
+
+  whole-no : w ≡ false → eqb (sizeOf t) (spanOf t / 24) ≡ false
+  whole-no w-no = ne-eqb (sizeOf t) (spanOf t / 24) (go (leb 1 size) refl (leb (24 * size) (length t)) refl (sym w-is ∙ w-no))
+    where
+      go : (a : Bool) → leb 1 size ≡ a → (b : Bool) → leb (24 * size) (length t) ≡ b → (a && b) ≡ false → sizeOf t ≡ spanOf t / 24 → ⊥
+      go true p true q e f = let z : _≡_ {A = ℕ} 0 1 = cc in absurd (omega arith)
+      go true p false q e f = let l : length t < 24 * size = leb-false (24 * size) (length t) q in omega (arith, same-size)
+      go false p b q e f = let l : size < 1 = leb-false 1 size p in omega (arith, same-size)
+
+  module _ (w-yes : w ≡ true) where
+    whole-span : 24 * size ≡ spanOf t
+    whole-span = omega (arith, same-size, whole-start size (length t) w-is w-yes, whole-end size (length t) w-is w-yes)
+
+    whole-yes : eqb (sizeOf t) (spanOf t / 24) ≡ true
+    whole-yes = eq-eqb (sizeOf t) (spanOf t / 24) (omega (arith, same-size, whole-span))
+
+  -- a child, return by return
+  pub child-cut : (want : ℕ) → w ≡ false → 0 ≡ childOf want t
+  unfolding childOf
+  child-cut want w-no = rw (whole-no w-no) refl
+
+  module _ {kind class : ℕ} (w-yes : w ≡ true) (kind-is : kind ≡ nodeOf 0 (take 24 t) .kind) (class-is : class ≡ classOf kind) where
+    this-class : class ≡ classOf (nodeOf 0 t .kind)
+    this-class = class-is ∙ ap classOf (kind-is ∙ ap (λ (r : Node). r .kind) (node-take 0 24 t (omega arith)))
+
+    pub child-class : (want : ℕ) → (class ≡ want → ⊥) → 0 ≡ childOf want t
+    unfolding childOf
+    child-class want d = rw (whole-yes w-yes, ← this-class, ne-eqb class want d) refl
+
+    pub child-fits : (want : ℕ) → class ≡ want → 24 * size ≡ childOf want t
+    unfolding childOf
+    child-fits want f = rw (whole-yes w-yes, ← this-class, eq-eqb class want f) (whole-span w-yes)
 
 -- the record that the rest t of a table begins with, as code tests it
 module _ (x : Context) (t : List ℕ) where
@@ -251,24 +362,32 @@ module _ (x : Context) (t : List ℕ) where
   unfolding soundAt soundNode kidsSound fieldsSound
   sound-index i = rw (classes-index (i + 1) (kidsOf t) (0 + 1), whole-index (i + 1) (kidsOf t) (0 + 1), count-forest (i + 1) (kidsOf t), count-forest (0 + 1) (kidsOf t)) refl
 
-  module _ {f : Bool} (f-is : f ≡ fieldsSound x (nodeOf 0 t)) where
+  head-is : nodeOf 0 (take 24 t) ≡ nodeOf 0 t
+  head-is = node-take 0 24 t (omega arith)
+
+  module _ {f : Bool} (f-is : f ≡ fieldsSound x (nodeOf 0 (take 24 t))) where
+    fields-are : fieldsSound x (nodeOf 0 t) ≡ f
+    fields-are = sym (f-is ∙ ap (fieldsSound x) head-is)
+
     pub record-fields : f ≡ false → false ≡ soundAt x 0 t
     unfolding soundAt soundNode
-    record-fields f-no = let bad : fieldsSound x (nodeOf 0 t) ≡ false = cc in rw bad refl
+    record-fields f-no = rw (fields-are, f-no) refl
 
-    module _ (f-yes : f ≡ true) (big : 24 ≤ length t) {e size : ℕ} (e-is : e ≡ spanOf t) (size-is : size ≡ sizeOf t) where
-      record-tests : soundAt x 0 t ≡ (eqb size (e / 24) && kidsSound (ruleOf (nodeOf 0 t .kind) (nodeOf 0 t .detail)) (forest 0 (take (e - 24) (drop 24 t))))
+    module _ (f-yes : f ≡ true) (big : 24 ≤ length t) {size : ℕ} (size-is : size ≡ sizeOf (take 24 t)) {w : Bool} (w-is : w ≡ (leb 1 size && leb (24 * size) (length t))) where
+      record-tests : soundAt x 0 t ≡ (eqb (sizeOf t) (spanOf t / 24) && kidsSound (ruleOf (nodeOf 0 t .kind) (nodeOf 0 t .detail)) (forest 0 (kidsOf t)))
       unfolding soundAt soundNode fieldsSound kidsSound ruleOf
       record-tests =
-          let good : fieldsSound x (nodeOf 0 t) ≡ true = cc in
+          let good : fieldsSound x (nodeOf 0 t) ≡ true = fields-are ∙ f-yes in
           let small : leb (nodeOf 0 t .detail) (kindOf (nodeOf 0 t .kind) .details) ≡ true = and-left _ _ (and-right (leb 1 (classOf (nodeOf 0 t .kind))) _ good) in
-          rw (good, small, whole-size (0 + 1) e t big e-is, classes-index (0 + 1) (kidsOf t) 0, whole-index (0 + 1) (kidsOf t) 0, ← (kids-part e t e-is), ← size-is) refl
+          rw (good, small, whole-size (0 + 1) (spanOf t) t big refl, classes-index (0 + 1) (kidsOf t) 0, whole-index (0 + 1) (kidsOf t) 0) refl
 
-      pub record-size : (size ≡ e / 24 → ⊥) → false ≡ soundAt x 0 t
-      record-size d = sym (record-tests ∙ rw (ne-eqb size (e / 24) d) refl)
+      pub record-size : w ≡ false → false ≡ soundAt x 0 t
+      record-size w-no = sym (record-tests ∙ rw (whole-no t big size-is w-is w-no) refl)
 
-      pub record-kids : size ≡ e / 24 → {kind detail : ℕ} {r : Bool} → kind ≡ nodeOf 0 t .kind → detail ≡ nodeOf 0 t .detail → r ≡ kidsSound (ruleOf kind detail) (forest 0 (take (e - 24) (drop 24 t))) → r ≡ soundAt x 0 t
-      record-kids fits kind-is detail-is r-is = r-is ∙ sym (record-tests ∙ rw (eq-eqb size (e / 24) fits, kind-is, detail-is) refl)
+      pub record-kids : w ≡ true → {kind detail : ℕ} {r : Bool} → kind ≡ nodeOf 0 (take 24 t) .kind → detail ≡ nodeOf 0 (take 24 t) .detail → r ≡ kidsSound (ruleOf kind detail) (forest 0 (take (24 * size - 24) (drop 24 t))) → r ≡ soundAt x 0 t
+      record-kids w-yes kind-is detail-is r-is =
+          r-is ∙ sym (record-tests
+          ∙ rw (whole-yes t big size-is w-is w-yes, ← (kids-part (24 * size) t (whole-span t big size-is w-is w-yes)), kind-is ∙ ap (λ (r : Node). r .kind) head-is, detail-is ∙ ap (λ (r : Node). r .detail) head-is) refl)
 
 -- record i of a table, as code tests it
 module _ (t names : List ℕ) {b : Bool} (b-is : b ≡ rootSound t) where

@@ -1,31 +1,41 @@
 -- How code's packed rows are read. That they say what Kinds says is proved, so no one needs to believe them. These are definitions.
-use mathlib.Core.Bool.{Bool, true, false, _&&_}
+use mathlib.Core.Bool.{Bool, _&&_}
 use mathlib.Core.List.{List, [], _∷_}
 use mathlib.Core.Path.{_≡_}
-use Prim.Native.Nat.{ℕ, _+_, _≤_, _<_}
-use lib.ListN.{length, getD, take}
-use lib.Dec.{eqb, leb}
+use Prim.Native.Nat.{ℕ, _-_, _/_, _%_, min}
+use lib.ListN.{getD, take}
+use lib.Dec.{eqb, ltb, leb}
 use Rattle.fields.specs.Choice.{if'}
 use Rattle.soundness.specs.Kinds.{statement, expression, parameter, argument, one, two, three, Times, anyNumber, evenNumber, atMost, Children, children, exactly, any, evenly, upTo, thenAny, thenUpTo, anyThen, kindOf, classOf}
-use Rattle.forest.specs.Forest.{Forest}
-use Rattle.forest.specs.Names.{same}
-use Rattle.soundness.specs.Sound.{wholeTrees, classes, permitted, fixed, between, wanted}
-use Rattle.soundness.specs.declared.rows.Rule.{Rule}
+use Rattle.forest.specs.Forest.{sizeOf, nodeOf, spanOf}
+use Rattle.soundness.specs.Sound.{permitted, fixed, between}
 
--- 255 is any number, 254 an even one, another number at most so many
+-- the parts of a packed rule: how many come first and the classes of up to three, how many then come and their class, how many come last and the classes of up to three
+abbrev pub frontsIn : ℕ → ℕ
+frontsIn r = r / 0x10_0000_0000 % 4
+
+abbrev pub frontIn : ℕ → List ℕ
+frontIn r = r / 0x1_0000_0000 % 16 ∷ r / 0x1000_0000 % 16 ∷ r / 0x100_0000 % 16 ∷ []
+
+abbrev pub timesIn : ℕ → ℕ
+timesIn r = r / 0x10_0000 % 16
+
+abbrev pub middleIn : ℕ → ℕ
+middleIn r = r / 0x1_0000 % 16
+
+abbrev pub backsIn : ℕ → ℕ
+backsIn r = r / 0x1000 % 4
+
+abbrev pub backIn : ℕ → List ℕ
+backIn r = r / 0x100 % 16 ∷ r / 16 % 16 ∷ r % 16 ∷ []
+
+-- 15 is any number, 14 an even one, another number at most so many
 abbrev pub timesOf : ℕ → Times
-timesOf n = if' (eqb n 255) (λ _. anyNumber) (λ _. if' (eqb n 254) (λ _. evenNumber) (λ _. atMost n))
+timesOf n = if' (eqb n 15) (λ _. anyNumber) (λ _. if' (eqb n 14) (λ _. evenNumber) (λ _. atMost n))
 
--- a rule whose arrays hold as many as it counts
-pub record Fit (r : Rule) : Type 0 where
-  pub fronts : r .fronts ≤ 3
-  pub backs : r .backs ≤ 2
-  pub front : length (r .front) ≡ 3
-  pub back : length (r .back) ≡ 2
-
--- the children that a rule of code permits
-abbrev pub childrenOf : Rule → Children
-childrenOf r = children (take (r .fronts) (r .front)) (timesOf (r .times)) (r .middle) (take (r .backs) (r .back))
+-- the children that a packed rule permits
+unfoldable pub childrenOf : ℕ → Children
+childrenOf r = children (take (frontsIn r) (frontIn r)) (timesOf (timesIn r)) (middleIn r) (take (backsIn r) (backIn r))
 
 -- the rules that kinds share, by number
 abbrev pub rules : List Children
@@ -44,18 +54,36 @@ ruleAt n = getD rules n (exactly [])
 unfoldable pub ruleOf : ℕ → ℕ → Children
 ruleOf k d = if' (leb d (kindOf k .details)) (λ _. kindOf k .kids d) (λ _. exactly [])
 
--- the packed row of a kind says what the kind's row says
-pub record RowOf (k : ℕ) (row : List ℕ) : Type 0 where
-  pub class : getD row 0 0 ≡ classOf k
-  pub details : getD row 1 0 ≡ kindOf k .details
-  pub few : kindOf k .details ≤ 3
-  pub named : eqb (getD row 2 0) 1 ≡ kindOf k .named
-  pub small : (d : ℕ) → d ≤ kindOf k .details → getD row (3 + d) 0 < 18
-  pub rule : (d : ℕ) → d ≤ kindOf k .details → ruleAt (getD row (3 + d) 0) ≡ kindOf k .kids d
+-- the rules of a packed row, and those of a kind, at the details 0 to 3
+unfoldable pub rulesIn : ℕ → List Children
+rulesIn row = ruleAt (row / 0x100_0000 % 0x100) ∷ ruleAt (row / 0x1_0000 % 0x100) ∷ ruleAt (row / 0x100 % 0x100) ∷ ruleAt (row % 0x100) ∷ []
 
--- the two tests that code makes of a node's children: their number, then that they are whole and of the classes wanted in order
+unfoldable pub rulesOf : ℕ → List Children
+rulesOf k = ruleOf k 0 ∷ ruleOf k 1 ∷ ruleOf k 2 ∷ ruleOf k 3 ∷ []
+
+-- the packed row of a kind says what the kind's row says
+pub record RowOf (k row : ℕ) : Type 0 where
+  pub class : row / 0x100_0000_0000 % 16 ≡ classOf k
+  pub details : row / 0x10_0000_0000 % 4 ≡ kindOf k .details
+  pub named : eqb (row / 0x1_0000_0000 % 16) 1 ≡ kindOf k .named
+  pub rules : rulesIn row ≡ rulesOf k
+
+-- the number of a node's children, which code tests last
 unfoldable pub numberSound : Children → ℕ → Bool
 numberSound c n = leb (fixed c) n && permitted (c .times) (between c n)
 
-unfoldable pub orderSound : Children → Forest → Bool
-orderSound c ks = wholeTrees ks && same (classes ks) (wanted c (length (classes ks)))
+-- of n children the last b stand from child m on; where there are none, m is past the children
+abbrev pub LastFrom : ℕ → ℕ → ℕ → Type 0
+LastFrom n b m = min m n ≡ n - b
+
+-- the class that a packed rule wants of child j, where the last ones stand from child m on
+unfoldable pub classAt : ℕ → ℕ → ℕ → ℕ
+classAt r m j = if' (ltb j (frontsIn r)) (λ _. getD (frontIn r) j 0) (λ _. if' (ltb j m) (λ _. middleIn r) (λ _. getD (backIn r) (j - m) 0))
+
+-- the node that a stretch begins with is whole and of this class
+abbrev pub childSound : ℕ → List ℕ → Bool
+childSound want bs = eqb (sizeOf bs) (spanOf bs / 24) && eqb (classOf (nodeOf 0 bs .kind)) want
+
+-- how many bytes it then takes, else zero
+unfoldable pub childOf : ℕ → List ℕ → ℕ
+childOf want bs = if' (childSound want bs) (λ _. spanOf bs) (λ _. 0)

@@ -1,99 +1,63 @@
-// What code needs of each kind, packed: its row is proved to be that of specs/Kinds.antt by one computed test over all kinds.
+// What code needs of each kind and of each rule, packed into a number each, its parts read off the hexadecimal digits: a `match` that gives numbers
+// is a table in the compiled code, where an array would be laid out on the stack at each call. specs/Packed.antt says how the digits are read; that
+// they say what specs/Kinds.antt says is proved arm by arm.
 ghost use mathlib.Core.Path.{_≡_};
-ghost use Prim.Native.Nat.{_<_};
+ghost use lib.ListN.{getD};
 ghost use Rattle.soundness.specs.Kinds.{kindOf, classOf};
-ghost use Rattle.soundness.specs.Packed.{ruleAt, ruleOf, childrenOf, Fit, RowOf};
+ghost use Rattle.soundness.specs.Packed.{RowOf, ruleAt, ruleOf, childrenOf, frontsIn, frontIn, timesIn, middleIn, backsIn, backIn};
 
-// The children that a kind permits: the classes of the first ones, how many of one class then come, and the classes of the last ones.
-pub struct Rule {
-    pub fronts: usize,
-    pub front: [u8; 3],
-    pub times: u8,
-    pub middle: u8,
-    pub backs: usize,
-    pub back: [u8; 2],
-}
-
-// A row for each rule: how many come first and their classes; how many then come (255 any, 254 an even number) and their class; how many come last and their classes.
-const RULES: [[u8; 9]; 18] = [
-    [0, 0, 0, 0, 0, 0, 0, 0, 0], // exactly nothing
-    [1, 2, 0, 0, 0, 0, 0, 0, 0], // one expression
-    [2, 2, 2, 0, 0, 0, 0, 0, 0], // two expressions
-    [3, 2, 2, 2, 0, 0, 0, 0, 0], // three expressions
-    [0, 0, 0, 0, 255, 3, 1, 1, 0], // parameters, a statement
-    [0, 0, 0, 0, 255, 3, 2, 2, 1], // parameters, an expression, a statement
-    [0, 0, 0, 0, 255, 3, 1, 2, 0], // parameters, an expression
-    [0, 0, 0, 0, 255, 1, 0, 0, 0], // any statements
-    [0, 0, 0, 0, 255, 2, 0, 0, 0], // any expressions
-    [0, 0, 0, 0, 254, 2, 0, 0, 0], // an even number of expressions
-    [0, 0, 0, 0, 1, 2, 0, 0, 0], // at most one expression
-    [1, 2, 0, 0, 3, 2, 0, 0, 0], // an expression, at most three more
-    [1, 2, 0, 0, 255, 2, 0, 0, 0], // an expression, any more
-    [2, 2, 2, 0, 255, 2, 0, 0, 0], // two expressions, any more
-    [1, 2, 0, 0, 255, 4, 0, 0, 0], // an expression, any arguments
-    [3, 2, 2, 1, 0, 0, 0, 0, 0], // two expressions, a statement
-    [2, 2, 1, 0, 0, 0, 0, 0, 0], // an expression, a statement
-    [3, 2, 1, 1, 0, 0, 0, 0, 0], // an expression, two statements
-];
-
-fn wide(x: u8) -> usize
-    ensures { λ r. ⌜ r ≡ x ⌝ }
-{
-    x as usize
-}
-
-// The row of a kind: class, largest detail, whether a name stands on it, and its rule at the details 0 to 3. A number that no kind has gives
-// nothing. A match, since a constant array would be laid out on the stack at each call.
-fn row_of(kind: u8) -> [u8; 7]
+// The row of a kind: class, largest detail, whether a name stands on it, and the number of its rule at the details 0, 1, 2 and 3, two digits each. A
+// number that no kind has gives nothing.
+fn row_of(kind: u8) -> u64
     ensures { λ r. ⌜ RowOf kind r ⌝ }
 {
     match kind {
-        1 => [1, 0, 0, 7, 0, 0, 0], // Statements
-        2 => [1, 1, 0, 4, 5, 0, 0], // Def
-        3 => [1, 0, 0, 15, 0, 0, 0], // For
-        4 => [1, 0, 0, 16, 0, 0, 0], // If
-        5 => [1, 0, 0, 17, 0, 0, 0], // IfElse
-        6 => [1, 0, 0, 0, 0, 0, 0], // Break
-        7 => [1, 0, 0, 0, 0, 0, 0], // Continue
-        8 => [1, 0, 0, 10, 0, 0, 0], // Return
-        9 => [1, 0, 0, 0, 0, 0, 0], // Load
-        10 => [1, 0, 0, 8, 0, 0, 0], // OtherSimple
-        11 => [1, 1, 0, 2, 3, 0, 0], // Assign
-        12 => [1, 1, 0, 2, 3, 0, 0], // AssignModify
-        20 => [2, 0, 0, 8, 0, 0, 0], // Tuple
-        21 => [2, 0, 1, 1, 0, 0, 0], // Dot
-        22 => [2, 0, 0, 14, 0, 0, 0], // Call
-        23 => [2, 0, 0, 2, 0, 0, 0], // Index
-        24 => [2, 0, 0, 3, 0, 0, 0], // Index2
-        25 => [2, 0, 0, 11, 0, 0, 0], // Slice
-        26 => [2, 0, 1, 0, 0, 0, 0], // Identifier
-        27 => [2, 0, 0, 6, 0, 0, 0], // Lambda
-        28 => [2, 0, 0, 0, 0, 0, 0], // String
-        29 => [2, 0, 0, 0, 0, 0, 0], // Int
-        30 => [2, 0, 0, 0, 0, 0, 0], // Float
-        31 => [2, 0, 0, 0, 0, 0, 0], // Ellipsis
-        32 => [2, 0, 0, 0, 0, 0, 0], // Bytes
-        33 => [2, 0, 0, 1, 0, 0, 0], // Not
-        34 => [2, 0, 0, 1, 0, 0, 0], // Minus
-        35 => [2, 0, 0, 1, 0, 0, 0], // Plus
-        36 => [2, 0, 0, 1, 0, 0, 0], // BitNot
-        37 => [2, 1, 0, 2, 2, 0, 0], // Op
-        38 => [2, 0, 0, 3, 0, 0, 0], // IfExpr
-        39 => [2, 0, 0, 8, 0, 0, 0], // List
-        40 => [2, 0, 0, 9, 0, 0, 0], // Dict
-        41 => [2, 0, 0, 12, 0, 0, 0], // ListComprehension
-        42 => [2, 0, 0, 13, 0, 0, 0], // DictComprehension
-        43 => [2, 0, 0, 8, 0, 0, 0], // FString
-        50 => [3, 3, 1, 0, 1, 1, 2], // Normal
-        51 => [3, 0, 0, 0, 0, 0, 0], // NoArgs
-        52 => [3, 0, 0, 0, 0, 0, 0], // Slash
-        53 => [3, 1, 1, 0, 1, 0, 0], // ArgsParam
-        54 => [3, 1, 1, 0, 1, 0, 0], // KwArgsParam
-        60 => [4, 0, 0, 1, 0, 0, 0], // Positional
-        61 => [4, 0, 1, 1, 0, 0, 0], // Named
-        62 => [4, 0, 0, 1, 0, 0, 0], // ArgsArg
-        63 => [4, 0, 0, 1, 0, 0, 0], // KwArgsArg
-        _ => [0; 7],
+        1 => 0x1_0_0_07_00_00_00, // Statements
+        2 => 0x1_1_0_04_05_00_00, // Def
+        3 => 0x1_0_0_0f_00_00_00, // For
+        4 => 0x1_0_0_10_00_00_00, // If
+        5 => 0x1_0_0_11_00_00_00, // IfElse
+        6 => 0x1_0_0_00_00_00_00, // Break
+        7 => 0x1_0_0_00_00_00_00, // Continue
+        8 => 0x1_0_0_0a_00_00_00, // Return
+        9 => 0x1_0_0_00_00_00_00, // Load
+        10 => 0x1_0_0_08_00_00_00, // OtherSimple
+        11 => 0x1_1_0_02_03_00_00, // Assign
+        12 => 0x1_1_0_02_03_00_00, // AssignModify
+        20 => 0x2_0_0_08_00_00_00, // Tuple
+        21 => 0x2_0_1_01_00_00_00, // Dot
+        22 => 0x2_0_0_0e_00_00_00, // Call
+        23 => 0x2_0_0_02_00_00_00, // Index
+        24 => 0x2_0_0_03_00_00_00, // Index2
+        25 => 0x2_0_0_0b_00_00_00, // Slice
+        26 => 0x2_0_1_00_00_00_00, // Identifier
+        27 => 0x2_0_0_06_00_00_00, // Lambda
+        28 => 0x2_0_0_00_00_00_00, // String
+        29 => 0x2_0_0_00_00_00_00, // Int
+        30 => 0x2_0_0_00_00_00_00, // Float
+        31 => 0x2_0_0_00_00_00_00, // Ellipsis
+        32 => 0x2_0_0_00_00_00_00, // Bytes
+        33 => 0x2_0_0_01_00_00_00, // Not
+        34 => 0x2_0_0_01_00_00_00, // Minus
+        35 => 0x2_0_0_01_00_00_00, // Plus
+        36 => 0x2_0_0_01_00_00_00, // BitNot
+        37 => 0x2_1_0_02_02_00_00, // Op
+        38 => 0x2_0_0_03_00_00_00, // IfExpr
+        39 => 0x2_0_0_08_00_00_00, // List
+        40 => 0x2_0_0_09_00_00_00, // Dict
+        41 => 0x2_0_0_0c_00_00_00, // ListComprehension
+        42 => 0x2_0_0_0d_00_00_00, // DictComprehension
+        43 => 0x2_0_0_08_00_00_00, // FString
+        50 => 0x3_3_1_00_01_01_02, // Normal
+        51 => 0x3_0_0_00_00_00_00, // NoArgs
+        52 => 0x3_0_0_00_00_00_00, // Slash
+        53 => 0x3_1_1_00_01_00_00, // ArgsParam
+        54 => 0x3_1_1_00_01_00_00, // KwArgsParam
+        60 => 0x4_0_0_01_00_00_00, // Positional
+        61 => 0x4_0_1_01_00_00_00, // Named
+        62 => 0x4_0_0_01_00_00_00, // ArgsArg
+        63 => 0x4_0_0_01_00_00_00, // KwArgsArg
+        _ => 0,
     }
 }
 
@@ -101,53 +65,120 @@ fn row_of(kind: u8) -> [u8; 7]
 pub fn class(kind: u8) -> u8
     ensures { λ r. ⌜ r ≡ classOf kind ⌝ }
 {
-    let row = row_of(kind);
-    row[0]
+    (row_of(kind) / 0x100_0000_0000 % 16) as u8
 }
 
 // The largest detail of a kind.
 pub fn details(kind: u8) -> u8
     ensures { λ r. ⌜ r ≡ kindOf kind .details ⌝ }
 {
-    let row = row_of(kind);
-    row[1]
+    (row_of(kind) / 0x10_0000_0000 % 4) as u8
 }
 
 // Whether a name stands on a kind.
 pub fn named(kind: u8) -> bool
     ensures { λ r. ⌜ r ≡ kindOf kind .named ⌝ }
 {
-    let row = row_of(kind);
-    row[2] == 1
+    row_of(kind) / 0x1_0000_0000 % 16 == 1
 }
 
 // The number of the rule of a kind at a detail.
-fn rule_number(kind: u8, detail: u8) -> usize
-    ensures { λ r. ⌜ (r < 18) × (ruleAt r ≡ ruleOf kind detail) ⌝ }
+fn rule_number(kind: u8, detail: u8) -> u64
+    ensures { λ r. ⌜ ruleAt r ≡ ruleOf kind detail ⌝ }
 {
     let row = row_of(kind);
-    if row[1] < detail {
-        return 0;
+    match detail {
+        0 => row / 0x100_0000 % 0x100,
+        1 => row / 0x1_0000 % 0x100,
+        2 => row / 0x100 % 0x100,
+        3 => row % 0x100,
+        _ => 0,
     }
-    let d = 3 + wide(detail);
-    wide(row[d])
+}
+
+// A rule by its number: how many children come first and the classes of up to three; how many then come (f any, e an even number, else at most so many)
+// and their class; how many come last and the classes of up to three.
+fn rule_at(number: u64) -> u64
+    ensures { λ r. ⌜ childrenOf r ≡ ruleAt number ⌝ }
+{
+    match number {
+        0x00 => 0x0_000_0_0_0_000, // exactly nothing
+        0x01 => 0x1_200_0_0_0_000, // one expression
+        0x02 => 0x2_220_0_0_0_000, // two expressions
+        0x03 => 0x3_222_0_0_0_000, // three expressions
+        0x04 => 0x0_000_f_3_1_100, // parameters, a statement
+        0x05 => 0x0_000_f_3_2_210, // parameters, an expression, a statement
+        0x06 => 0x0_000_f_3_1_200, // parameters, an expression
+        0x07 => 0x0_000_f_1_0_000, // any statements
+        0x08 => 0x0_000_f_2_0_000, // any expressions
+        0x09 => 0x0_000_e_2_0_000, // an even number of expressions
+        0x0a => 0x0_000_1_2_0_000, // at most one expression
+        0x0b => 0x1_200_3_2_0_000, // an expression, at most three more
+        0x0c => 0x1_200_f_2_0_000, // an expression, any more
+        0x0d => 0x2_220_f_2_0_000, // two expressions, any more
+        0x0e => 0x1_200_f_4_0_000, // an expression, any arguments
+        0x0f => 0x3_221_0_0_0_000, // two expressions, a statement
+        0x10 => 0x2_210_0_0_0_000, // an expression, a statement
+        0x11 => 0x3_211_0_0_0_000, // an expression, two statements
+        _ => 0,
+    }
 }
 
 // The children that a kind permits at a detail.
-pub fn rule_of(kind: u8, detail: u8) -> Rule
+pub fn rule_of(kind: u8, detail: u8) -> u64
     ensures { λ r. ⌜ childrenOf r ≡ ruleOf kind detail ⌝ }
-    ensures { λ r. ⌜ Fit r ⌝ }
 {
-    let i = rule_number(kind, detail);
-    let row = RULES[i];
-    let front = [row[1], row[2], row[3]];
-    let back = [row[7], row[8]];
-    Rule {
-        fronts: wide(row[0]),
-        front: front,
-        times: row[4],
-        middle: row[5],
-        backs: wide(row[6]),
-        back: back,
+    rule_at(rule_number(kind, detail))
+}
+
+// How many children come first.
+pub fn fronts(rule: u64) -> usize
+    ensures { λ r. ⌜ r ≡ frontsIn rule ⌝ }
+{
+    (rule / 0x10_0000_0000 % 4) as usize
+}
+
+// The class of child j among the first.
+pub fn front(rule: u64, j: usize) -> u8
+    ensures { λ r. ⌜ r ≡ getD (frontIn rule) j 0 ⌝ }
+{
+    match j {
+        0 => (rule / 0x1_0000_0000 % 16) as u8,
+        1 => (rule / 0x1000_0000 % 16) as u8,
+        2 => (rule / 0x100_0000 % 16) as u8,
+        _ => 0,
+    }
+}
+
+// How many come between the first and the last: 15 any number, 14 an even one, else at most so many.
+pub fn times(rule: u64) -> u8
+    ensures { λ r. ⌜ r ≡ timesIn rule ⌝ }
+{
+    (rule / 0x10_0000 % 16) as u8
+}
+
+// Their class.
+pub fn middle(rule: u64) -> u8
+    ensures { λ r. ⌜ r ≡ middleIn rule ⌝ }
+{
+    (rule / 0x1_0000 % 16) as u8
+}
+
+// How many children come last.
+pub fn backs(rule: u64) -> usize
+    ensures { λ r. ⌜ r ≡ backsIn rule ⌝ }
+{
+    (rule / 0x1000 % 4) as usize
+}
+
+// The class of child k of the last.
+pub fn back(rule: u64, k: usize) -> u8
+    ensures { λ r. ⌜ r ≡ getD (backIn rule) k 0 ⌝ }
+{
+    match k {
+        0 => (rule / 0x100 % 16) as u8,
+        1 => (rule / 16 % 16) as u8,
+        2 => (rule % 16) as u8,
+        _ => 0,
     }
 }

@@ -1,14 +1,15 @@
 // Soundness: the rule of a record with its children, and the first record in index order that breaks it.
 use crate::kinds;
 use crate::rows;
-use crate::rows::Rule;
 use forest::Found;
 ghost use mathlib.Core.Path.{_≡_};
-ghost use Prim.Native.Nat.{_<_, _≤_};
-ghost use lib.ListN.{length, getD};
+ghost use mathlib.Core.Bool.{_&&_};
+ghost use Prim.Native.Nat.{_*_, _≤_};
+ghost use lib.Dec.{leb};
+ghost use lib.ListN.{length};
 ghost use Rattle.forest.specs.Forest.{nodeOf, forest};
-ghost use Rattle.soundness.specs.Sound.{context, nameSound, spanSound, sourceSound, fieldsSound, classes, fixed, wanted, kidsSound, soundAt, rootSound, firstUnsound};
-ghost use Rattle.soundness.specs.Packed.{childrenOf, ruleOf, Fit, numberSound, orderSound};
+ghost use Rattle.soundness.specs.Sound.{context, nameSound, spanSound, sourceSound, fieldsSound, classes, kidsSound, soundAt, rootSound, firstUnsound};
+ghost use Rattle.soundness.specs.Packed.{backsIn, childrenOf, ruleOf, numberSound, LastFrom, classAt, childOf};
 
 // A name within the lent names where the kind has one; elsewhere length and start are zero.
 fn name_sound(named: bool, names: usize, len: u16, start: u32) -> bool
@@ -53,6 +54,14 @@ fn fields_sound(t: &[u8], names: usize) -> bool
     classed & (detailed & (named & (spanned & (padded & sourced))))
 }
 
+// Whether a subtree of so many records stands whole within so many bytes.
+fn whole(size: u16, len: usize) -> bool
+    ensures { λ r. ⌜ r ≡ (leb 1 size && leb (24 * size) len) ⌝ }
+{
+    let end = 24 * (size as usize);
+    (1 <= size) & (end <= len)
+}
+
 // How many nodes of a stretch stand side by side.
 fn children(t: &[u8]) -> usize
     ensures { λ r. ⌜ r ≡ length (classes (forest 0 (now (t .entry)))) ⌝ }
@@ -67,62 +76,84 @@ fn children(t: &[u8]) -> usize
     n
 }
 
+// The child from which on the last ones stand, of which a rule has so many: the children are counted only where it has any.
+fn last_from(t: &[u8], backs: usize) -> usize
+    ensures { λ r. ⌜ LastFrom (length (classes (forest 0 (now (t .entry))))) backs r ⌝ }
+{
+    if backs == 0 {
+        return t.len();
+    }
+    let n = children(t);
+    if n < backs {
+        return 0;
+    }
+    n - backs
+}
+
 // Whether a node may have n children.
-fn number_sound(rule: Rule, n: usize) -> bool
-    requires { ⌜ Fit rule ⌝ }
+fn number_sound(rule: u64, n: usize) -> bool
     ensures { λ r. ⌜ r ≡ numberSound (childrenOf rule) n ⌝ }
 {
-    let fixed = rule.fronts + rule.backs;
+    let fixed = rows::fronts(rule) + rows::backs(rule);
     if n < fixed {
         return false;
     }
     let m = n - fixed;
-    if rule.times == 255 {
+    let times = rows::times(rule);
+    if times == 15 {
         return true;
     }
-    if rule.times == 254 {
+    if times == 14 {
         return m % 2 == 0;
     }
-    m <= (rule.times as usize)
+    m <= (times as usize)
 }
 
-// The class of child j of n.
-fn class_wanted(rule: Rule, n: usize, j: usize) -> u8
-    requires { ⌜ Fit rule × (fixed (childrenOf rule) ≤ n) × (j < n) ⌝ }
-    ensures { λ r. ⌜ r ≡ getD (wanted (childrenOf rule) n) j 0 ⌝ }
+// The class of child j, where the last ones stand from child m on.
+fn class_wanted(rule: u64, m: usize, j: usize) -> u8
+    ensures { λ r. ⌜ r ≡ classAt rule m j ⌝ }
 {
-    if j < rule.fronts {
-        let front = rule.front;
-        return front[j];
+    if j < rows::fronts(rule) {
+        return rows::front(rule, j);
     }
-    let left = n - j;
-    if left <= rule.backs {
-        let back = rule.back;
-        let k = rule.backs - left;
-        return back[k];
+    if j < m {
+        return rows::middle(rule);
     }
-    rule.middle
+    rows::back(rule, j - m)
 }
 
-// Whether the nodes of a stretch, n side by side, are whole, and of the classes that a rule wants in order.
-fn order_sound(t: &[u8], rule: Rule, n: usize) -> bool
-    requires { ⌜ Fit rule × (fixed (childrenOf rule) ≤ n) × (n ≡ length (classes (forest 0 (now t)))) ⌝ }
-    ensures { λ r. ⌜ r ≡ orderSound (childrenOf rule) (forest 0 (now (t .entry))) ⌝ }
+// How many bytes the node takes that a stretch begins with, if it is whole and of the class wanted; else zero.
+fn child(t: &[u8], want: u8) -> usize
+    requires { ⌜ 24 ≤ length (now t) ⌝ }
+    ensures { λ r. ⌜ r ≡ childOf want (now (t .entry)) ⌝ }
+{
+    let head = &t[0..24];
+    let size = forest::size(head);
+    if !whole(size, t.len()) {
+        return 0;
+    }
+    if rows::class(forest::kind(head)) != want {
+        return 0;
+    }
+    24 * (size as usize)
+}
+
+// Whether the nodes of a stretch fill it and are the children that a rule permits, where the last ones stand from child m on.
+fn children_sound(t: &[u8], rule: u64, m: usize) -> bool
+    requires { ⌜ LastFrom (length (classes (forest 0 (now t)))) (backsIn rule) m ⌝ }
+    ensures { λ r. ⌜ r ≡ kidsSound (childrenOf rule) (forest 0 (now (t .entry))) ⌝ }
 {
     let mut left = t;
     let mut j = 0;
     while 24 <= left.len() {
-        let e = forest::span(left);
-        if (forest::size(left) as usize) != e / 24 {
-            return false;
-        }
-        if rows::class(forest::kind(left)) != class_wanted(rule, n, j) {
+        let e = child(left, class_wanted(rule, m, j));
+        if e == 0 {
             return false;
         }
         left = &left[e..];
         j += 1;
     }
-    true
+    number_sound(rule, j)
 }
 
 // Whether the nodes of a stretch fill it and are the children that a kind permits at a detail.
@@ -130,26 +161,25 @@ fn kids_sound(t: &[u8], kind: u8, detail: u8) -> bool
     ensures { λ r. ⌜ r ≡ kidsSound (ruleOf kind detail) (forest 0 (now (t .entry))) ⌝ }
 {
     let rule = rows::rule_of(kind, detail);
-    let n = children(t);
-    if !number_sound(rule, n) {
-        return false;
-    }
-    order_sound(t, rule, n)
+    let m = last_from(t, rows::backs(rule));
+    children_sound(t, rule, m)
 }
 
-// Whether the record that the rest of a table begins with is sound.
+// Whether the record that the rest of a table begins with is sound. Its fields are read from 24 bytes, where compiled code needs no test of lengths.
 fn record_sound(t: &[u8], names: usize) -> bool
     requires { ⌜ 24 ≤ length (now t) ⌝ }
     ensures { λ r. ⌜ r ≡ soundAt (context names) 0 (now (t .entry)) ⌝ }
 {
-    if !fields_sound(t, names) {
+    let head = &t[0..24];
+    if !fields_sound(head, names) {
         return false;
     }
-    let e = forest::span(t);
-    if (forest::size(t) as usize) != e / 24 {
+    let size = forest::size(head);
+    if !whole(size, t.len()) {
         return false;
     }
-    kids_sound(&t[24..e], forest::kind(t), forest::detail(t))
+    let e = 24 * (size as usize);
+    kids_sound(&t[24..e], forest::kind(head), forest::detail(head))
 }
 
 // Node 0 is a statement that covers the table.

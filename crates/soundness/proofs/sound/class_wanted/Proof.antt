@@ -1,9 +1,17 @@
--- `soundness::sound::class_wanted` meets its contract: a child is among the first, among the last, or between them. Assumes nothing.
-use Rattle.soundness.proofs.Records.{wanted-front, wanted-back, wanted-middle}
+-- `soundness::sound::class_wanted` meets its contract: a child is among the first, between, or among the last. Assumes nothing.
+use Rattle.soundness.proofs.Records.{at-front, at-middle, at-back}
 use borrow.Author.Needs.{needs}
 use Rattle.soundness.proofs.sound.class_wanted.Statement.{statement}
 use Rattle.soundness.proofs.sound.class_wanted.Tie as tie
 
 pub class-wanted-spec : {M : Type 1} → statement M
 class-wanted-spec =
-    tie.close (tie.spec (λ c. search needs) (λ c. wanted-front _ (c .before .before .before .pre .0) _ _ (c .before .before .before .pre .1) (c .before .before .before .pre .2) (c .before .if1 .taken)) (λ c. search needs) (λ c. search needs) (λ c. wanted-back _ (c .before .before .before .before .before .before .pre .0) _ _ (c .before .before .before .before .before .before .pre .1) (c .before .before .before .before .before .before .pre .2) (c .before .before .before .before .if1 .left) (c .before .before .if2 .taken)) (λ c. wanted-middle _ (c .before .before .before .before .pre .0) _ _ (c .before .before .before .before .pre .1) (c .before .before .before .before .pre .2) (c .before .before .if1 .left) (c .if2 .left)))
+    tie.close
+    (tie.spec
+    (λ c κs. search needs)
+    (λ c κs. search needs)
+    (λ c. at-front _ _ _ (c .before .before .fronts .ensures) (c .before .if1 .taken) (c .front .ensures))
+    (λ c κs. search needs)
+    (λ c. at-middle _ _ _ (c .before .before .before .fronts .ensures) (c .before .before .if1 .left) (c .before .if2 .taken) (c .middle .ensures))
+    (λ c κs. search needs)
+    (λ c. at-back _ _ _ (c .before .before .before .fronts .ensures) (c .before .before .if1 .left) (c .before .if2 .left) (c .back .ensures)))

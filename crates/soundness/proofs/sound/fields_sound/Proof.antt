@@ -1,5 +1,4 @@
 -- `soundness::sound::fields_sound` meets its contract: it is the definition, test by test. Assumes nothing.
-use mathlib.Core.Path.{refl}
 use Rattle.soundness.specs.Sound.{fieldsSound}
 use borrow.Author.Needs.{needs}
 use Rattle.soundness.proofs.sound.fields_sound.Statement.{statement}
