@@ -1,14 +1,18 @@
--- The packed rows and rules of code say what specs/Kinds says: each arm of code is one computed equation, and no other number has a row. Assumes nothing.
+-- The packed rows and rules of code say what specs/Kinds says: each arm of code is one computed equation, and no other number has a row. Below that what
+-- a packed rule says of each child and of their number, in the terms of code. Assumes nothing.
 use mathlib.Core.Path.{_≡_, refl, sym, ap, _∙_}
 use mathlib.Core.Bool.{Bool, true, false, _&&_, _||_}
-use mathlib.Core.List.{List, [], _∷_}
-use Prim.Native.Nat.{ℕ, zero, suc, _/_, _%_, _≤_}
+use mathlib.Core.List.{List, [], _∷_, _++_}
+use Prim.Native.Nat.{ℕ, zero, suc, _+_, _-_, _/_, _%_, _<_, _≤_}
 use native.Mathlib.Omega.{arith}
-use lib.ListN.{getD, List·getD-eq-default}
-use lib.Dec.{eqb}
-use borrow.Author.Tests.{eqb-true, ne-eqb, lt-leb}
+use lib.ListN.{length, getD, take, replicate, length-append, length-replicate, getD-replicate, List·getD-append, List·getD-eq-default}
+use lib.Seq.{length-take-le, getD-take, getD-append-add}
+use lib.Dec.{eqb, ltb, leb}
+use borrow.Author.Tests.{eqb-true, ne-eqb, le-leb, lt-leb, ltb-true, ltb-false, lt-ltb, le-ltb}
+use Rattle.fields.specs.Choice.{if'}
 use Rattle.soundness.specs.Kinds.{Children, Kind, kind, kinds, noName, exactly, kindIn, kindOf, classOf}
-use Rattle.soundness.specs.Packed.{rules, ruleAt, ruleOf, childrenOf, rulesIn, rulesOf, RowOf}
+use Rattle.soundness.specs.Sound.{permitted, fixed, between, wanted}
+use Rattle.soundness.specs.Packed.{frontsIn, frontIn, timesIn, middleIn, backsIn, backIn, timesOf, childrenOf, rules, ruleAt, ruleOf, rulesIn, rulesOf, RowOf, numberSound, LastFrom, classAt}
 
 -- the row of a number that no kind has
 abbrev none : ℕ → Kind
@@ -93,3 +97,104 @@ rule-none m a = sym (List·getD-eq-default rules (exactly []) (past 18 m a))
 -- a place past three: no class
 pub class-none : (a b c j : ℕ) → Apart (down 3) j → 0 ≡ getD (a ∷ b ∷ c ∷ []) j 0
 class-none a b c j h = sym (List·getD-eq-default (a ∷ b ∷ c ∷ []) 0 (past 3 j h))
+
+-- a rule's classes: as many as there are children
+pub length-wanted : (c : Children) (n : ℕ) → length (wanted c n) ≡ fixed c + between c n
+unfolding wanted
+length-wanted c n = simp (length-append, length-replicate {A = ℕ}) (omega arith)
+
+-- what a packed rule says, in the terms of code
+module _ (rule : ℕ) where
+  front-long : length (take (frontsIn rule) (frontIn rule)) ≡ frontsIn rule
+  front-long = length-take-le (frontsIn rule) (frontIn rule) (omega arith)
+
+  back-long : length (take (backsIn rule) (backIn rule)) ≡ backsIn rule
+  back-long = length-take-le (backsIn rule) (backIn rule) (omega arith)
+
+  fixed-is : fixed (childrenOf rule) ≡ frontsIn rule + backsIn rule
+  unfolding childrenOf
+  fixed-is = omega (arith, front-long, back-long)
+
+  -- the class of child j of n: among the first, between, or among the last
+  module _ (n j : ℕ) where
+    wanted-front : j < frontsIn rule → getD (frontIn rule) j 0 ≡ getD (wanted (childrenOf rule) n) j 0
+    unfolding wanted childrenOf
+    wanted-front g =
+        let k : j < length (take (frontsIn rule) (frontIn rule)) = omega (arith, front-long) in
+        sym (List·getD-append (take (frontsIn rule) (frontIn rule)) _ 0 j k ∙ getD-take (frontsIn rule) (frontIn rule) j 0 g)
+
+    later : (m : ℕ) → j ≡ length (take (frontsIn rule) (frontIn rule)) + m
+        → getD (wanted (childrenOf rule) n) j 0 ≡ getD (replicate (between (childrenOf rule) n) (middleIn rule) ++ take (backsIn rule) (backIn rule)) m 0
+    unfolding wanted childrenOf
+    later m e = rw e (getD-append-add (take (frontsIn rule) (frontIn rule)) _ m 0)
+
+    wanted-middle : frontsIn rule ≤ j → j < n - backsIn rule → middleIn rule ≡ getD (wanted (childrenOf rule) n) j 0
+    wanted-middle g l =
+        let between-long : length (replicate (between (childrenOf rule) n) (middleIn rule)) ≡ between (childrenOf rule) n = length-replicate {A = ℕ} (between (childrenOf rule) n) (middleIn rule) in
+        let k : j - frontsIn rule < between (childrenOf rule) n = omega (arith, fixed-is) in
+        sym
+        (later (j - frontsIn rule) (omega (arith, front-long))
+        ∙ List·getD-append (replicate (between (childrenOf rule) n) (middleIn rule)) (take (backsIn rule) (backIn rule)) 0 (j - frontsIn rule) (omega arith)
+        ∙ getD-replicate (between (childrenOf rule) n) (j - frontsIn rule) (middleIn rule) 0 k)
+
+    wanted-back : fixed (childrenOf rule) ≤ n → j < n → n - backsIn rule ≤ j → getD (backIn rule) (j - (n - backsIn rule)) 0 ≡ getD (wanted (childrenOf rule) n) j 0
+    wanted-back room h l =
+        let m : ℕ = j - (n - backsIn rule) in
+        let between-long : length (replicate (between (childrenOf rule) n) (middleIn rule)) ≡ between (childrenOf rule) n = length-replicate {A = ℕ} (between (childrenOf rule) n) (middleIn rule) in
+        sym
+        (later (length (replicate (between (childrenOf rule) n) (middleIn rule)) + m) (omega (arith, front-long, fixed-is))
+        ∙ getD-append-add (replicate (between (childrenOf rule) n) (middleIn rule)) (take (backsIn rule) (backIn rule)) m 0
+        ∙ getD-take (backsIn rule) (backIn rule) m 0 (omega (arith, fixed-is)))
+
+    -- as code finds it, where the last ones stand from child m on
+    pub class-wanted : (m : ℕ) → LastFrom n (backsIn rule) m → fixed (childrenOf rule) ≤ n → j < n → classAt rule m j ≡ getD (wanted (childrenOf rule) n) j 0
+    unfolding classAt
+    class-wanted m m-is room h = go (ltb j (frontsIn rule)) refl (ltb j m) refl
+      where
+        go : (a : Bool) → ltb j (frontsIn rule) ≡ a → (b : Bool) → ltb j m ≡ b
+            → if' a (λ _. getD (frontIn rule) j 0) (λ _. if' b (λ _. middleIn rule) (λ _. getD (backIn rule) (j - m) 0)) ≡ getD (wanted (childrenOf rule) n) j 0
+        go true e b f = wanted-front (ltb-true j (frontsIn rule) e)
+        go false e true f = let l : j < m = ltb-true j m f in wanted-middle (ltb-false j (frontsIn rule) e) (omega arith)
+        go false e false f =
+            let l : m ≤ j = ltb-false j m f in
+            let at : m ≡ n - backsIn rule = omega arith in
+            rw at (wanted-back room h (omega arith))
+
+  -- the same, return by return
+  module _ (m j : ℕ) {f r : ℕ} (f-is : f ≡ frontsIn rule) where
+    pub at-front : j < f → r ≡ getD (frontIn rule) j 0 → r ≡ classAt rule m j
+    unfolding classAt
+    at-front h r-is = r-is ∙ rw (lt-ltb j (frontsIn rule) (omega arith)) refl
+
+    pub at-middle : f ≤ j → j < m → r ≡ middleIn rule → r ≡ classAt rule m j
+    unfolding classAt
+    at-middle h g r-is = r-is ∙ rw (le-ltb j (frontsIn rule) (omega arith), lt-ltb j m g) refl
+
+    pub at-back : f ≤ j → m ≤ j → r ≡ getD (backIn rule) (j - m) 0 → r ≡ classAt rule m j
+    unfolding classAt
+    at-back h g r-is = r-is ∙ rw (le-ltb j (frontsIn rule) (omega arith), le-ltb j m g) refl
+
+  -- the number of children, return by return
+  module _ (n : ℕ) {f b : ℕ} (f-is : f ≡ frontsIn rule) (b-is : b ≡ backsIn rule) where
+    pub number-few : n < f + b → false ≡ numberSound (childrenOf rule) n
+    unfolding numberSound
+    number-few h = rw (lt-leb (fixed (childrenOf rule)) n (omega (arith, fixed-is))) refl
+
+    module _ (h : f + b ≤ n) {times : ℕ} (times-is : times ≡ timesIn rule) where
+      number-enough : numberSound (childrenOf rule) n ≡ permitted (timesOf times) (n - (f + b))
+      unfolding numberSound childrenOf
+      number-enough =
+          let long : fixed (childrenOf rule) ≡ f + b = omega (arith, fixed-is) in
+          rw (le-leb (fixed (childrenOf rule)) n (omega arith), long, times-is) refl
+
+      pub number-any : times ≡ 15 → true ≡ numberSound (childrenOf rule) n
+      unfolding permitted
+      number-any e = sym (number-enough ∙ rw e refl)
+
+      pub number-even : times ≡ 14 → eqb ((n - (f + b)) % 2) 0 ≡ numberSound (childrenOf rule) n
+      unfolding permitted
+      number-even e = sym (number-enough ∙ rw e refl)
+
+      pub number-most : (times ≡ 15 → ⊥) → (times ≡ 14 → ⊥) → leb (n - (f + b)) times ≡ numberSound (childrenOf rule) n
+      unfolding permitted
+      number-most d e = sym (number-enough ∙ rw (ne-eqb times 15 d, ne-eqb times 14 e) refl)

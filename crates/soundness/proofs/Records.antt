@@ -1,14 +1,14 @@
 -- Laws of the rule of a record with its children, in the terms of code. Assumes nothing.
 use mathlib.Core.Path.{_≡_, refl, sym, ap, _∙_}
 use mathlib.Core.Bool.{Bool, true, false, _&&_}
-use mathlib.Core.List.{List, [], _∷_, _++_}
-use Prim.Native.Nat.{ℕ, _+_, _-_, _*_, _/_, _%_, _<_, _≤_}
+use mathlib.Core.List.{List, [], _∷_}
+use Prim.Native.Nat.{ℕ, _+_, _-_, _*_, _/_, _<_, _≤_}
 use native.Mathlib.Numerals.{add-one}
 use native.Mathlib.Omega.{arith}
-use lib.ListN.{length, getD, take, drop, replicate, length-take, length-drop, length-append, length-replicate, getD-replicate, List·getD-append, drop-of-length-le}
-use lib.Seq.{length-take-le, getD-take, getD-append-add, drop-cons}
-use lib.Dec.{eqb, ltb, leb}
-use borrow.Author.Tests.{eq-eqb, ne-eqb, le-leb, lt-leb, leb-true, leb-false, ltb-true, ltb-false, lt-ltb, le-ltb}
+use lib.ListN.{length, getD, take, drop, length-take, length-drop, drop-of-length-le}
+use lib.Seq.{drop-cons}
+use lib.Dec.{eqb, leb}
+use borrow.Author.Tests.{eq-eqb, ne-eqb, leb-true, leb-false}
 use Rattle.fields.specs.Choice.{if'}
 use Rattle.forest.specs.Forest.{Node, sizeOf, nodeOf, spanOf, kidsOf, restOf, forest, count}
 use Rattle.forest.specs.Names.{same}
@@ -18,7 +18,8 @@ use Rattle.forest.proofs.Stretch.{forest-none, forest-tree, forest-induction, c
 use Rattle.forest.proofs.Named.{same-length}
 use Rattle.soundness.specs.Kinds.{Children, kindOf, classOf}
 use Rattle.soundness.specs.Sound.{Context, fieldsSound, wholeTrees, classes, permitted, fixed, between, wanted, permits, kidsSound, soundNode, soundAt, context, contextOf, rootSound, recordSound, firstUnsound}
-use Rattle.soundness.specs.Packed.{frontsIn, frontIn, timesIn, middleIn, backsIn, backIn, timesOf, childrenOf, ruleOf, numberSound, LastFrom, classAt, childSound, childOf}
+use Rattle.soundness.specs.Packed.{ruleOf, numberSound, LastFrom, childSound, childOf}
+use Rattle.soundness.proofs.Packing.{length-wanted}
 use Rattle.soundness.proofs.Search.{look-start, look-here}
 
 -- whether children are whole, and their classes, do not depend on their indices
@@ -39,107 +40,6 @@ whole-index =
 -- a subtree's size, as code tests it
 pub whole-size : (i e : ℕ) (bs : List ℕ) → 24 ≤ length bs → e ≡ spanOf bs → 1 + count (forest i (kidsOf bs)) ≡ e / 24
 whole-size i e bs big h = omega (arith, count-forest i (kidsOf bs), length-kids bs)
-
--- a rule's classes: as many as there are children
-pub length-wanted : (c : Children) (n : ℕ) → length (wanted c n) ≡ fixed c + between c n
-unfolding wanted
-length-wanted c n = simp (length-append, length-replicate {A = ℕ}) (omega arith)
-
--- what a packed rule says, in the terms of code
-module _ (rule : ℕ) where
-  front-long : length (take (frontsIn rule) (frontIn rule)) ≡ frontsIn rule
-  front-long = length-take-le (frontsIn rule) (frontIn rule) (omega arith)
-
-  back-long : length (take (backsIn rule) (backIn rule)) ≡ backsIn rule
-  back-long = length-take-le (backsIn rule) (backIn rule) (omega arith)
-
-  fixed-is : fixed (childrenOf rule) ≡ frontsIn rule + backsIn rule
-  unfolding childrenOf
-  fixed-is = omega (arith, front-long, back-long)
-
-  -- the class of child j of n: among the first, between, or among the last
-  module _ (n j : ℕ) where
-    wanted-front : j < frontsIn rule → getD (frontIn rule) j 0 ≡ getD (wanted (childrenOf rule) n) j 0
-    unfolding wanted childrenOf
-    wanted-front g =
-        let k : j < length (take (frontsIn rule) (frontIn rule)) = omega (arith, front-long) in
-        sym (List·getD-append (take (frontsIn rule) (frontIn rule)) _ 0 j k ∙ getD-take (frontsIn rule) (frontIn rule) j 0 g)
-
-    later : (m : ℕ) → j ≡ length (take (frontsIn rule) (frontIn rule)) + m
-        → getD (wanted (childrenOf rule) n) j 0 ≡ getD (replicate (between (childrenOf rule) n) (middleIn rule) ++ take (backsIn rule) (backIn rule)) m 0
-    unfolding wanted childrenOf
-    later m e = rw e (getD-append-add (take (frontsIn rule) (frontIn rule)) _ m 0)
-
-    wanted-middle : frontsIn rule ≤ j → j < n - backsIn rule → middleIn rule ≡ getD (wanted (childrenOf rule) n) j 0
-    wanted-middle g l =
-        let between-long : length (replicate (between (childrenOf rule) n) (middleIn rule)) ≡ between (childrenOf rule) n = length-replicate {A = ℕ} (between (childrenOf rule) n) (middleIn rule) in
-        let k : j - frontsIn rule < between (childrenOf rule) n = omega (arith, fixed-is) in
-        sym
-        (later (j - frontsIn rule) (omega (arith, front-long))
-        ∙ List·getD-append (replicate (between (childrenOf rule) n) (middleIn rule)) (take (backsIn rule) (backIn rule)) 0 (j - frontsIn rule) (omega arith)
-        ∙ getD-replicate (between (childrenOf rule) n) (j - frontsIn rule) (middleIn rule) 0 k)
-
-    wanted-back : fixed (childrenOf rule) ≤ n → j < n → n - backsIn rule ≤ j → getD (backIn rule) (j - (n - backsIn rule)) 0 ≡ getD (wanted (childrenOf rule) n) j 0
-    wanted-back room h l =
-        let m : ℕ = j - (n - backsIn rule) in
-        let between-long : length (replicate (between (childrenOf rule) n) (middleIn rule)) ≡ between (childrenOf rule) n = length-replicate {A = ℕ} (between (childrenOf rule) n) (middleIn rule) in
-        sym
-        (later (length (replicate (between (childrenOf rule) n) (middleIn rule)) + m) (omega (arith, front-long, fixed-is))
-        ∙ getD-append-add (replicate (between (childrenOf rule) n) (middleIn rule)) (take (backsIn rule) (backIn rule)) m 0
-        ∙ getD-take (backsIn rule) (backIn rule) m 0 (omega (arith, fixed-is)))
-
-    -- as code finds it, where the last ones stand from child m on
-    pub class-wanted : (m : ℕ) → LastFrom n (backsIn rule) m → fixed (childrenOf rule) ≤ n → j < n → classAt rule m j ≡ getD (wanted (childrenOf rule) n) j 0
-    unfolding classAt
-    class-wanted m m-is room h = go (ltb j (frontsIn rule)) refl (ltb j m) refl
-      where
-        go : (a : Bool) → ltb j (frontsIn rule) ≡ a → (b : Bool) → ltb j m ≡ b
-            → if' a (λ _. getD (frontIn rule) j 0) (λ _. if' b (λ _. middleIn rule) (λ _. getD (backIn rule) (j - m) 0)) ≡ getD (wanted (childrenOf rule) n) j 0
-        go true e b f = wanted-front (ltb-true j (frontsIn rule) e)
-        go false e true f = let l : j < m = ltb-true j m f in wanted-middle (ltb-false j (frontsIn rule) e) (omega arith)
-        go false e false f =
-            let l : m ≤ j = ltb-false j m f in
-            let at : m ≡ n - backsIn rule = omega arith in
-            rw at (wanted-back room h (omega arith))
-
-  -- the same, return by return
-  module _ (m j : ℕ) {f r : ℕ} (f-is : f ≡ frontsIn rule) where
-    pub at-front : j < f → r ≡ getD (frontIn rule) j 0 → r ≡ classAt rule m j
-    unfolding classAt
-    at-front h r-is = r-is ∙ rw (lt-ltb j (frontsIn rule) (omega arith)) refl
-
-    pub at-middle : f ≤ j → j < m → r ≡ middleIn rule → r ≡ classAt rule m j
-    unfolding classAt
-    at-middle h g r-is = r-is ∙ rw (le-ltb j (frontsIn rule) (omega arith), lt-ltb j m g) refl
-
-    pub at-back : f ≤ j → m ≤ j → r ≡ getD (backIn rule) (j - m) 0 → r ≡ classAt rule m j
-    unfolding classAt
-    at-back h g r-is = r-is ∙ rw (le-ltb j (frontsIn rule) (omega arith), le-ltb j m g) refl
-
-  -- the number of children, return by return
-  module _ (n : ℕ) {f b : ℕ} (f-is : f ≡ frontsIn rule) (b-is : b ≡ backsIn rule) where
-    pub number-few : n < f + b → false ≡ numberSound (childrenOf rule) n
-    unfolding numberSound
-    number-few h = rw (lt-leb (fixed (childrenOf rule)) n (omega (arith, fixed-is))) refl
-
-    module _ (h : f + b ≤ n) {times : ℕ} (times-is : times ≡ timesIn rule) where
-      number-enough : numberSound (childrenOf rule) n ≡ permitted (timesOf times) (n - (f + b))
-      unfolding numberSound childrenOf
-      number-enough =
-          let long : fixed (childrenOf rule) ≡ f + b = omega (arith, fixed-is) in
-          rw (le-leb (fixed (childrenOf rule)) n (omega arith), long, times-is) refl
-
-      pub number-any : times ≡ 15 → true ≡ numberSound (childrenOf rule) n
-      unfolding permitted
-      number-any e = sym (number-enough ∙ rw e refl)
-
-      pub number-even : times ≡ 14 → eqb ((n - (f + b)) % 2) 0 ≡ numberSound (childrenOf rule) n
-      unfolding permitted
-      number-even e = sym (number-enough ∙ rw e refl)
-
-      pub number-most : (times ≡ 15 → ⊥) → (times ≡ 14 → ⊥) → leb (n - (f + b)) times ≡ numberSound (childrenOf rule) n
-      unfolding permitted
-      number-most d e = sym (number-enough ∙ rw (ne-eqb times 15 d, ne-eqb times 14 e) refl)
 
 -- a stretch of nodes side by side, cut as code cuts it
 module _ {e : ℕ} (bs : List ℕ) (big : 24 ≤ length bs) (h : e ≡ spanOf bs) where
@@ -284,9 +184,9 @@ module _ {c : Children} {t left : List ℕ} {j : ℕ} (s : Fitting c t left j) w
     pub fit-index : j < kidsNumber t
     fit-index = omega (arith, s .number, ap length (classes-cut left big refl))
 
-    step : fixed c ≤ kidsNumber t → ordered c t left j ≡ (childSound (getD (wanted c (kidsNumber t)) j 0) left && ordered c t (take (length left - spanOf left) (drop (spanOf left) left)) (j + 1))
+    step : ordered c t left j ≡ (childSound (getD (wanted c (kidsNumber t)) j 0) left && ordered c t (take (length left - spanOf left) (drop (spanOf left) left)) (j + 1))
     unfolding same
-    step enough =
+    step =
         let inside : j < length (wanted c (kidsNumber t)) = omega (arith, fit-index, length-wanted c (kidsNumber t)) in
         rw (whole-cut left big refl, classes-cut left big refl, drop-cons (wanted c (kidsNumber t)) j 0 inside, add-one)
         (and-pairs (eqb (sizeOf left) (spanOf left / 24)) _ (eqb (classOf (nodeOf 0 left .kind)) (getD (wanted c (kidsNumber t)) j 0)) _)
@@ -295,7 +195,7 @@ module _ {c : Children} {t left : List ℕ} {j : ℕ} (s : Fitting c t left j) w
       pub fit-stop : e ≡ 0 → false ≡ kidsSound c (forest 0 t)
       fit-stop z = kids-tests c t (λ permitted enough.
           let this : childSound (getD (wanted c (kidsNumber t)) j 0) left ≡ false = rw (at-is enough) at (child-no at left big e-is z) in
-          (rw (step enough, this) at (s .rest enough))) (λ few. refl)
+          (rw (step, this) at (s .rest enough))) (λ few. refl)
 
       pub fit-on : (e ≡ 0 → ⊥) → Fitting c t (take (length left - e) (drop e left)) (j + 1)
       fit-on d =
@@ -305,7 +205,7 @@ module _ {c : Children} {t left : List ℕ} {j : ℕ} (s : Fitting c t left j) w
             number = omega (arith, s .number, ap length (classes-cut left big span));
             rest = λ enough.
                 let this : childSound (getD (wanted c (kidsNumber t)) j 0) left ≡ true = rw (at-is enough) at (child-yes at left big e-is d) in
-                rw span (rw (step enough, this) at (s .rest enough));
+                rw span (rw (step, this) at (s .rest enough));
           }
 
 -- a subtree's size as code tests it

@@ -3,7 +3,8 @@ use mathlib.Core.Path.{_∙_}
 use borrow.Author.Needs.{needs}
 use lib.ListN.{length}
 use Rattle.soundness.specs.Packed.{childrenOf}
-use Rattle.soundness.proofs.Records.{class-wanted, child-within, Fitting, fit-start, fit-index, fit-stop, fit-on, fit-end}
+use Rattle.soundness.proofs.Packing.{class-wanted}
+use Rattle.soundness.proofs.Records.{child-within, Fitting, fit-start, fit-index, fit-stop, fit-on, fit-end}
 use Rattle.soundness.proofs.sound.children_sound.Statement.{statement}
 use Rattle.soundness.proofs.sound.children_sound.Tie as tie
 
