@@ -8,18 +8,38 @@ use lib.ListN.{length, take, drop}
 use lib.Dec.{ltb}
 use borrow.Author.Tests.{lt-ltb, le-ltb}
 use Rattle.fields.specs.Choice.{if'}
-use Rattle.forest.specs.Forest.{nodeOf, spanOf, kidsOf, restOf, forest}
+use Rattle.forest.specs.Forest.{nodeOf, spanOf, kidsOf, restOf, forest, count, countTree, Tree, node, Forest, none, _then_}
 use Rattle.forest.specs.declared.Found.{Found}
 use Rattle.forest.specs.declared.Found.the-variants.{At, Nothing}
-use Rattle.forest.proofs.Stretch.{each-none, each-cut, kids-cut, forest-none, forest-tree, forest-induction, length-kids, length-rest}
+use Rattle.forest.proofs.Stretch.{count-forest, each-cut, kids-cut, forest-none, forest-tree, forest-induction, length-kids, length-rest}
 use Rattle.table.specs.Depth.{mostDepth, weight, orElse, firstDeep, deepIn}
 
-module _ (d i : ℕ) (t : List ℕ) where
-  pub deep-none : length t < 24 → Nothing ≡ firstDeep d (forest i t)
-  unfolding firstDeep
-  deep-none h = sym (each-none (firstDeep d) i 0 t h)
+-- a record adds at most one to the depth
+weight-little : (kind : ℕ) → weight kind ≤ 1
+unfolding weight
+weight-little kind = omega arith
 
-  module _ (big : 24 ≤ length t) {kind w : ℕ} (kind-is : kind ≡ nodeOf 0 t .kind) (w-is : w ≡ weight kind) where
+-- LAW: so few nodes that they cannot reach past the largest depth are not too deep
+mutual
+  unfolding firstDeep count
+
+  few-not-deep : (d : ℕ) (f : Forest) → d + count f ≤ 64 → firstDeep d f ≡ Nothing
+  few-not-deep d none h = refl
+  few-not-deep d (t then ts) h = rw (few-in d t (omega arith), few-not-deep d ts (omega arith)) refl
+
+  few-in : (d : ℕ) (t : Tree) → d + countTree t ≤ 64 → deepIn d t ≡ Nothing
+  few-in d (node r ks) h =
+      let light = weight-little (r .kind) in
+      rw (le-ltb 64 (d + weight (r .kind)) (omega arith)) (few-not-deep (d + weight (r .kind)) ks (omega arith))
+
+module _ (d i : ℕ) (t : List ℕ) where
+  pub deep-none : d + length t / 24 ≤ 64 → Nothing ≡ firstDeep d (forest i t)
+  deep-none h = sym (few-not-deep d (forest i t) (rw (count-forest i t) h))
+
+  module _ (shallow : d ≤ 64) (many : 64 < d + length t / 24) {kind w : ℕ} (kind-is : kind ≡ nodeOf 0 t .kind) (w-is : w ≡ weight kind) where
+    big : 24 ≤ length t
+    big = omega arith
+
     weighed : w ≡ weight (nodeOf i t .kind)
     weighed = w-is ∙ ap weight kind-is
 

@@ -18,7 +18,8 @@ fn deep_from(t: &[u8], at: usize, depth: usize) -> Found
     requires { ⌜ (24 * at + length (now t) < 2 ^ 63) × (depth ≤ 64) ⌝ }
     ensures { λ r. ⌜ r ≡ firstDeep depth (forest at (now (t .entry))) ⌝ }
 {
-    if t.len() < 24 {
+    // so few nodes cannot reach that deep, which spares most subtrees the walk
+    if depth + t.len() / 24 <= 64 {
         return Found::Nothing;
     }
     let here = depth + weight_of(forest::kind(t));
