@@ -3,10 +3,10 @@
 use mathlib.Core.Path.{_≡_, refl, sym, ap, _∙_}
 use mathlib.Core.Logic.{⊎-elim}
 use mathlib.Core.List.{List, [], _∷_, _++_, append-assoc, append-nil}
-use Prim.Native.Nat.{ℕ, zero, suc, _+_, _*_, _-_, _/_, _%_, _<_, _≤_, min}
+use Prim.Native.Nat.{ℕ, zero, suc, _+_, _*_, _-_, _/_, _<_, _≤_, min}
 use native.Mathlib.Omega.{arith}
-use lib.ListN.{length, getD, take, drop, set, replicate, length-append, length-take, length-drop, take-append-drop, List·getD-append}
-use lib.Seq.{take-all, length-take-le, take-at, drop-at, take-append-le, take-append-add, take-take, take-add, getD-take, getD-drop, getD-append-add, drop-set-add}
+use lib.ListN.{length, getD, take, drop, set, replicate, length-append, length-take, length-drop, take-append-drop}
+use lib.Seq.{take-all, length-take-le, take-at, drop-at, take-append-le, take-append-add, take-take, take-add, getD-drop, drop-set-add}
 use Rattle.fields.proofs.Fields.{tail-part}
 use Rattle.table.specs.Numbers.{blockCheck}
 use Rattle.table.specs.Answer.{Answer, accepted, refused, andThen}
@@ -80,7 +80,7 @@ pub length-run : (number : ℕ) (content : List ℕ) → length (runOf number co
 unfolding runOf
 length-run number content = length-blocks (blocksFor (length content)) number content
 
--- the contents of n blocks that are there: 504 bytes each, and where each of them stands
+-- the contents of n blocks that are there: 504 bytes each
 pub contents-long : (n : ℕ) (bs : List ℕ) → 512 * n ≤ length bs → length (contents n bs) ≡ 504 * n
 unfolding contents
 contents-long zero bs h = refl
@@ -88,38 +88,36 @@ contents-long (suc n) bs h =
     let r : length (contents n (drop 512 bs)) ≡ 504 * n = contents-long n (drop 512 bs) (simp length-drop (omega arith)) in
     simp (length-append, length-take-le 504 (drop 4 bs) (simp length-drop (omega arith)), r) (omega arith)
 
-pub contents-at : (n : ℕ) (bs : List ℕ) (j : ℕ) → 512 * n ≤ length bs → j < 504 * n → getD (contents n bs) j 0 ≡ getD bs (512 * (j / 504) + 4 + j % 504) 0
-unfolding contents
-contents-at zero bs j h k = absurd (omega arith)
-contents-at (suc n) bs j h k =
-    let here : List ℕ = take 504 (drop 4 bs) in
-    let long : length here ≡ 504 = length-take-le 504 (drop 4 bs) (simp length-drop (omega arith)) in
-    ⊎-elim
-    (λ (p : 504 ≤ j).
-    let i : j ≡ length here + (j - 504) = omega arith in
-    let e : 512 + (512 * ((j - 504) / 504) + 4 + (j - 504) % 504) ≡ 512 * (j / 504) + 4 + j % 504 = omega arith in
-    ap (λ (x : ℕ). getD (here ++ contents n (drop 512 bs)) x 0) i
-    ∙ getD-append-add here (contents n (drop 512 bs)) (j - 504) 0
-    ∙ contents-at n (drop 512 bs) (j - 504) (simp length-drop (omega arith)) (omega arith)
-    ∙ getD-drop 512 bs (512 * ((j - 504) / 504) + 4 + (j - 504) % 504) 0
-    ∙ ap (λ (x : ℕ). getD bs x 0) e)
-    (λ (p : j < 504).
-    let e : 4 + j ≡ 512 * (j / 504) + 4 + j % 504 = omega arith in
-    List·getD-append here (contents n (drop 512 bs)) 0 j (omega arith)
-    ∙ getD-take 504 (drop 4 bs) j 0 p
-    ∙ getD-drop 4 bs j 0
-    ∙ ap (λ (x : ℕ). getD bs x 0) e)
-    (le-or-lt 504 j)
+-- the content of a run that is there: as long as asked for
+pub content-long : (total : ℕ) (bs : List ℕ) → 512 * blocksFor total ≤ length bs → length (contentOf total bs) ≡ total
+unfolding contentOf blocksFor
+content-long total bs h = length-take-le total (contents (blocksFor total) bs) (omega (arith, contents-long (blocksFor total) bs h))
 
--- the content of a run that is there: as long as asked for, and where each byte stands
-module _ (total : ℕ) (bs : List ℕ) (h : 512 * blocksFor total ≤ length bs) where
-  pub content-long : length (contentOf total bs) ≡ total
-  unfolding contentOf blocksFor
-  content-long = length-take-le total (contents (blocksFor total) bs) (omega (arith, contents-long (blocksFor total) bs h))
+-- what stands in the first block, and in the others
+module _ (n total : ℕ) (bs : List ℕ) (h : 512 ≤ length bs) where
+  full : length (take 504 (drop 4 bs)) ≡ 504
+  full = length-take-le 504 (drop 4 bs) (simp length-drop (omega arith))
 
-  pub content-at : (j : ℕ) → j < total → getD (contentOf total bs) j 0 ≡ getD bs (512 * (j / 504) + 4 + j % 504) 0
-  unfolding contentOf blocksFor
-  content-at j k = getD-take total (contents (blocksFor total) bs) j 0 k ∙ contents-at (blocksFor total) bs j h (omega arith)
+  first-part : take 504 (take total (contents (suc n) bs)) ≡ take (min 504 total) (drop 4 bs)
+  unfolding contents
+  first-part =
+      let others : List ℕ = contents n (drop 512 bs) in
+      take-min 504 total (take 504 (drop 4 bs) ++ others)
+      ∙ take-append-le (min 504 total) (take 504 (drop 4 bs)) others (omega (arith, full))
+      ∙ take-take (min 504 total) 504 (drop 4 bs) (omega arith)
+
+  other-part : drop 504 (take total (contents (suc n) bs)) ≡ take (total - 504) (contents n (drop 512 bs))
+  unfolding contents
+  other-part =
+      let others : List ℕ = contents n (drop 512 bs) in
+      drop-take 504 total (take 504 (drop 4 bs) ++ others) ∙ ap (take (total - 504)) (drop-at (take 504 (drop 4 bs)) others 504 full)
+
+-- LAW: the content of one block and of the others
+pub content-more : (total : ℕ) (bs : List ℕ) → 0 < total → 512 ≤ length bs → contentOf total bs ≡ take (min 504 total) (drop 4 bs) ++ contentOf (total - 504) (drop 512 bs)
+unfolding contentOf
+content-more total bs more h =
+    let n : ℕ = blocksFor (total - 504) in
+    rw (blocks-more total more) (sym (take-append-drop 504 (take total (contents (suc n) bs))) ∙ rw (first-part n total bs h, other-part n total bs h) refl)
 
 -- LAW: a run that passes is there
 blocks-long : (n number total : ℕ) (bs : List ℕ) → judgeBlocks n number total bs ≡ accepted [] → 512 * n ≤ length bs
@@ -147,25 +145,15 @@ pub run-then : (number total : ℕ) (bs : List ℕ) (next : Unit {0} → Answer)
 unfolding judgeRun
 run-then number total bs next e = blocks-then (blocksFor total) number total bs next e
 
--- a content that begins with one block's
-module _ (total : ℕ) (here others : List ℕ) (long : length here ≡ 504) where
-  first-part : take 504 (take total (here ++ others)) ≡ take (min 504 total) here
-  first-part = take-min 504 total (here ++ others) ∙ take-append-le (min 504 total) here others (omega arith)
-
-  other-part : drop 504 (take total (here ++ others)) ≡ take (total - 504) others
-  other-part = drop-take 504 total (here ++ others) ∙ ap (take (total - 504)) (drop-at here others 504 long)
-
 -- THEOREM: a run that passes is the run of its content and nothing else
 passed-are-blocks : (n number total : ℕ) (bs : List ℕ) → Bytes bs → judgeBlocks n number total bs ≡ accepted [] → take (512 * n) bs ≡ blocksOf n number (take total (contents n bs))
-unfolding judgeBlocks blocksOf contents
+unfolding judgeBlocks blocksOf
 passed-are-blocks zero number total bs small e = refl
 passed-are-blocks (suc n) number total bs small e =
     let step = passing-then number (min 504 total) bs (λ _. judgeBlocks n (number + 1) (total - 504) (drop 512 bs)) e in
-    let long : length (take 504 (drop 4 bs)) ≡ 504 = length-take-le 504 (drop 4 bs) (simp length-drop (omega (arith, step .0 .long))) in
     let cut : 512 * suc n ≡ 512 + 512 * n = omega arith in
-    let others : List ℕ = contents n (drop 512 bs) in
     rw
-    (cut, take-add 512 (512 * n) bs, first-part total (take 504 (drop 4 bs)) others long, take-take (min 504 total) 504 (drop 4 bs) (omega arith), other-part total (take 504 (drop 4 bs)) others long, passed-are-blocks n (number + 1) (total - 504) (drop 512 bs) (bytes-drop bs 512 small) (step .1), passed-is-block number (min 504 total) bs (omega arith) small (step .0))
+    (cut, take-add 512 (512 * n) bs, first-part n total bs (step .0 .long), other-part n total bs (step .0 .long), passed-are-blocks n (number + 1) (total - 504) (drop 512 bs) (bytes-drop bs 512 small) (step .1), passed-is-block number (min 504 total) bs (omega arith) small (step .0))
     refl
 
 pub passed-is-run : (number total : ℕ) (bs : List ℕ) → Bytes bs → judgeRun number total bs ≡ accepted [] → take (512 * blocksFor total) bs ≡ runOf number (contentOf total bs)

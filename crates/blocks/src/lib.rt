@@ -72,7 +72,7 @@ fn examine(b: &[u8], number: usize, used: usize) -> Judged
     requires { ⌜ length (now b) ≡ 512 ⌝ }
     ensures { λ r. ⌜ judged r ≡ examine number used (now (b .entry)) ⌝ }
 {
-    let right = sum(b) == fields::word(b, 508) as usize;
+    let right = sum(b) == fields::word(b, 508);
     let numbered = fields::half(b, 0) as usize == number;
     if !right {
         return Judged::Refused(numbers::BLOCK_CHECK);
@@ -91,19 +91,19 @@ fn examine(b: &[u8], number: usize, used: usize) -> Judged
 }
 
 // What a byte adds to the sum.
-fn weight(p: usize, x: u8) -> usize
+fn weight(p: usize, x: u8) -> u32
     requires { ⌜ p < 508 ⌝ }
     ensures { λ r. ⌜ (r ≡ (p + 1) * x) × (r ≤ 129540) ⌝ }
 {
-    (p + 1) * (x as usize)
+    (p as u32 + 1) * (x as u32)
 }
 
-// The sum of (p + 1) times byte p over p = 0 to 507.
-fn sum(b: &[u8]) -> usize
+// The sum of (p + 1) times byte p over p = 0 to 507, in 32 bits: it has at most 26.
+fn sum(b: &[u8]) -> u32
     requires { ⌜ length (now b) ≡ 512 ⌝ }
     ensures { λ r. ⌜ r ≡ sumOf (now (b .entry)) ⌝ }
 {
-    let mut sum = 0;
+    let mut sum = 0u32;
     let mut p = 0;
     while p < 508 {
         sum += weight(p, b[p]);

@@ -1,13 +1,14 @@
 -- Laws of the bytes that the reader copies, in the terms of code. Assumes nothing.
 use mathlib.Core.Path.{_≡_, refl, sym, ap, _∙_}
-use mathlib.Core.List.{List, _++_}
-use Prim.Native.Nat.{ℕ, zero, suc, _+_, _*_, _-_, _/_, _%_, _<_, _≤_}
+use mathlib.Core.List.{List, [], _++_, append-assoc, append-nil}
+use Prim.Native.Nat.{ℕ, zero, suc, _+_, _*_, _-_, _≤_, min}
 use native.Mathlib.Omega.{arith}
-use lib.ListN.{length, getD, take, drop, set, replicate, length-drop, length-replicate}
-use lib.Seq.{take-all, length-take-le, getD-drop}
+use lib.ListN.{length, take, drop, replicate, length-drop, drop-of-length-le}
+use lib.Seq.{length-take-le, take-at, drop-at, drop-drop}
+use borrow.Rule.Slice.PartMut.{putMid}
+use Rattle.fields.proofs.Fields.{tail-part}
 use Rattle.blocks.specs.Run.{blocksFor, contentOf}
-use Rattle.blocks.proofs.Filling.{Filled, fill-start, fill-on, fill-end}
-use Rattle.blocks.proofs.Runs.{content-long, content-at}
+use Rattle.blocks.proofs.Runs.{content-long, content-more}
 use Rattle.tablefile.specs.Loading.{laid}
 
 -- zeros from a place on are zeros
@@ -21,36 +22,36 @@ pub laid-over : (n : ℕ) (l : List ℕ) {m : ℕ} → length l ≡ m → l ++ d
 unfolding laid
 laid-over n l h = rw (← h, drop-zeros n (length l)) refl
 
--- the content of a run, byte by byte
+-- the content of a run, block by block
+pub copy-none : (bs out : List ℕ) {len : ℕ} → len ≡ 0 → out ≡ contentOf len bs ++ drop len out
+unfolding contentOf
+copy-none bs out e = rw e refl
+
 module _ (bs : List ℕ) (len : ℕ) (h : 512 * blocksFor len ≤ length bs) where
-  pub place-inside : {j : ℕ} → j < len → 512 * (j / 504) + 4 + j % 504 < length bs
-  unfolding blocksFor
-  place-inside k = omega arith
-
-  pub copy-start : (out : List ℕ) → len ≤ length out → Filled out (contentOf len bs) len out 0
-  copy-start out k = fill-start out (contentOf len bs) len k (omega (arith, content-long len bs h))
-
-  module _ {old out : List ℕ} {j : ℕ} (f : Filled old (contentOf len bs) len out j) where
-    pub copy-on : j < len → Filled old (contentOf len bs) len (set out j (getD bs (512 * (j / 504) + 4 + j % 504) 0)) (j + 1)
-    copy-on k = fill-on f k (sym (content-at len bs h j k))
-
-    pub copy-end : len ≤ j → out ≡ contentOf len bs ++ drop len old
-    copy-end k = fill-end f k ∙ ap (λ (x : List ℕ). x ++ drop len old) (take-all len (contentOf len bs) (omega (arith, content-long len bs h)))
-
   pub laid-run : (n : ℕ) {out : List ℕ} → out ≡ contentOf len bs ++ drop len (replicate n 0) → out ≡ laid n (contentOf len bs)
   laid-run n e = e ∙ laid-over n (contentOf len bs) (content-long len bs h)
 
--- the dialect, byte by byte
+  pub copy-on : (old : List ℕ) {used : ℕ} {first rest : List ℕ} → (len ≡ 0 → ⊥) → used ≡ min 504 len → first ≡ take used (take (length bs - 4) (drop 4 bs)) ++ drop used old
+      → rest ≡ contentOf (len - used) (take (length bs - 512) (drop 512 bs)) ++ drop (len - used) (take (length first - used) (drop used first))
+      → putMid used (length first - used) first rest ≡ contentOf len bs ++ drop len old
+  unfolding blocksFor
+  copy-on old {used} {first} {rest} more used-is first-is rest-is =
+      let here : List ℕ = take used (drop 4 bs) in
+      let long : length here ≡ used = length-take-le used (drop 4 bs) (simp length-drop (omega arith)) in
+      let f : first ≡ here ++ drop used old = rw (tail-part 4 bs) at first-is in
+      let behind : drop used first ≡ drop used old = ap (drop used) f ∙ drop-at here (drop used old) used long in
+      let none : drop (length first - used) (drop used first) ≡ [] = drop-of-length-le (drop used first) {i = length first - used} (simp length-drop (omega arith)) in
+      let left : len - used ≡ len - 504 = omega arith in
+      let all : used + (len - used) ≡ len = omega arith in
+      let r : rest ≡ contentOf (len - 504) (drop 512 bs) ++ drop len old =
+      rw (tail-part 512 bs, tail-part used first, behind, drop-drop (len - used) used old, all, left) at rest-is in
+      let c : contentOf len bs ≡ here ++ contentOf (len - 504) (drop 512 bs) = rw used-is (content-more len bs (omega arith) (omega arith)) in
+      rw (none, append-nil rest, ap (take used) f ∙ take-at here (drop used old) used long, r, c) (sym (append-assoc here (contentOf (len - 504) (drop 512 bs)) (drop len old)))
+
+-- the dialect
 module _ (bs : List ℕ) (len : ℕ) (h : 512 ≤ length bs) (few : len ≤ 9) where
   pub dialect-long : length (take len (drop 8 bs)) ≡ len
   dialect-long = length-take-le len (drop 8 bs) (simp length-drop (omega arith))
 
-  pub dialect-start : Filled (replicate 9 0) (drop 8 bs) len (replicate 9 0) 0
-  dialect-start = fill-start (replicate 9 0) (drop 8 bs) len (omega (arith, length-replicate {A = ℕ} 9 0)) (simp length-drop (omega arith))
-
-  module _ {out : List ℕ} {i : ℕ} (f : Filled (replicate 9 0) (drop 8 bs) len out i) where
-    pub dialect-on : i < len → Filled (replicate 9 0) (drop 8 bs) len (set out i (getD bs (8 + i) 0)) (i + 1)
-    dialect-on k = fill-on f k (sym (getD-drop 8 bs i 0))
-
-    pub dialect-end : len ≤ i → out ≡ laid 9 (take len (drop 8 bs))
-    dialect-end k = fill-end f k ∙ laid-over 9 (take len (drop 8 bs)) dialect-long
+  pub dialect-laid : {out : List ℕ} → out ≡ take len (take (length bs - 8) (drop 8 bs)) ++ drop len (replicate 9 0) → out ≡ laid 9 (take len (drop 8 bs))
+  dialect-laid e = (rw (tail-part 8 bs) at e) ∙ laid-over 9 (take len (drop 8 bs)) dialect-long

@@ -6,7 +6,7 @@ use table::Refusal;
 use table::numbers;
 ghost use mathlib.Core.Path.{_≡_};
 ghost use mathlib.Core.List.{[], _++_};
-ghost use Prim.Native.Nat.{_+_, _*_, _≤_, _<_};
+ghost use Prim.Native.Nat.{_+_, _*_, _≤_, _<_, min};
 ghost use lib.ListN.{length, take, drop};
 ghost use Rattle.table.specs.Answer.{accepted};
 ghost use Rattle.blocks.specs.Block.{judged};
@@ -179,16 +179,36 @@ fn counts_fit(nodes: usize, names: usize) -> bool
     (1 <= nodes) & ((nodes <= 2100) & (names <= 8064))
 }
 
-// Puts len content bytes of the run at the front of some bytes into out.
+// How many of len bytes stand in the first block of a run.
+fn used_here(len: usize) -> usize
+    ensures { λ r. ⌜ r ≡ min 504 len ⌝ }
+{
+    if len < 504 { len } else { 504 }
+}
+
+// Puts the first len of some bytes at the front of out.
+fn put(from: &[u8], len: usize, out: &mut [u8])
+    requires { ⌜ (len ≤ length (now from)) × (len ≤ length (now out)) ⌝ }
+    ensures { λ r. ⌜ now (out .exit) ≡ take len (now (from .entry)) ++ drop len (now (out .entry)) ⌝ }
+{
+    let mut j = 0;
+    while j < len {
+        out[j] = from[j];
+        j += 1;
+    }
+}
+
+// Puts len content bytes of the run at the front of some bytes into out, block by block.
 fn copy(bytes: &[u8], len: usize, out: &mut [u8])
     requires { ⌜ (512 * blocksFor len ≤ length (now bytes)) × (len ≤ length (now out)) ⌝ }
     ensures { λ r. ⌜ now (out .exit) ≡ contentOf len (now (bytes .entry)) ++ drop len (now (out .entry)) ⌝ }
 {
-    let mut j = 0;
-    while j < len {
-        out[j] = bytes[512 * (j / 504) + 4 + j % 504];
-        j += 1;
+    if len == 0 {
+        return;
     }
+    let used = used_here(len);
+    put(&bytes[4..], used, out);
+    copy(&bytes[512..], len - used, &mut out[used..]);
 }
 
 // The table that a run holds.
@@ -217,10 +237,6 @@ fn dialect_of(bytes: &[u8], len: usize) -> [u8; 9]
     ensures { λ r. ⌜ r ≡ laid 9 (take len (drop 8 (now (bytes .entry)))) ⌝ }
 {
     let mut d = [0u8; 9];
-    let mut i = 0;
-    while i < len {
-        d[i] = bytes[8 + i];
-        i += 1;
-    }
+    put(&bytes[8..], len, &mut d);
     d
 }

@@ -1,7 +1,6 @@
 -- `blocks::blocks_for` meets its contract: whole blocks, and one for what is left over. Assumes nothing.
 use borrow.Author.Needs.{needs}
 use Rattle.blocks.specs.Run.{blocksFor}
-use borrow.Author.Needs.{needs}
 use Rattle.blocks.proofs.blocks_for.Statement.{statement}
 use Rattle.blocks.proofs.blocks_for.Tie as tie
 

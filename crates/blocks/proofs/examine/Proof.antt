@@ -2,7 +2,6 @@
 use borrow.Author.Needs.{needs}
 use borrow.Author.Tests.{not-true, not-false}
 use Rattle.blocks.proofs.Judging.{examine-check, examine-number, examine-used, examine-padding, examine-passed}
-use borrow.Author.Needs.{needs}
 use Rattle.blocks.proofs.examine.Statement.{statement}
 use Rattle.blocks.proofs.examine.Tie as tie
 
@@ -12,7 +11,6 @@ examine-spec =
     (tie.spec
     (λ c κs. search needs)
     (λ c κs. search needs)
-    (λ c. search needs)
     (λ c κs. search needs)
     (λ c. search needs)
     (λ c. examine-check _ _ _ (c .before .before .before .sum .ensures) (c .before .before .word .ensures) (c .before .half .ensures) (not-true _ (c .if1 .taken)))

@@ -1,7 +1,6 @@
 -- `blocks::judge` meets its contract: a block that is short, or the demands on its 512 bytes. Assumes nothing.
 use borrow.Author.Needs.{needs}
 use Rattle.blocks.proofs.Judging.{judge-short, judge-long}
-use borrow.Author.Needs.{needs}
 use Rattle.blocks.proofs.judge.Statement.{statement}
 use Rattle.blocks.proofs.judge.Tie as tie
 

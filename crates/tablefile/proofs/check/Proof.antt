@@ -1,7 +1,6 @@
 -- `tablefile::check` meets its contract: each return is one step of 1 to 5. Assumes nothing.
 use borrow.Author.Needs.{needs}
 use Rattle.tablefile.proofs.Fronts.{sound-refused, sound-valid, sound-invalid}
-use borrow.Author.Needs.{needs}
 use Rattle.tablefile.proofs.check.Statement.{statement}
 use Rattle.tablefile.proofs.check.Tie as tie
 

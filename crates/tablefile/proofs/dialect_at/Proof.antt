@@ -1,7 +1,6 @@
 -- `tablefile::dialect_at` meets its contract: 13 used bytes or others. Assumes nothing.
 use borrow.Author.Needs.{needs}
 use Rattle.tablefile.proofs.Fronts.{dialect-nine, dialect-none}
-use borrow.Author.Needs.{needs}
 use Rattle.tablefile.proofs.dialect_at.Statement.{statement}
 use Rattle.tablefile.proofs.dialect_at.Tie as tie
 

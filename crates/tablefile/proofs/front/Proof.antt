@@ -3,7 +3,6 @@ use mathlib.Core.Path.{sym, ap, _∙_}
 use borrow.Author.Needs.{needs}
 use Rattle.blocks.specs.Block.{judged}
 use Rattle.tablefile.proofs.Loads.{meets-refused, meets-accepted}
-use borrow.Author.Needs.{needs}
 use Rattle.tablefile.proofs.front.Statement.{statement}
 use Rattle.tablefile.proofs.front.Tie as tie
 

@@ -3,7 +3,6 @@ use native.Mathlib.Omega.{arith}
 use borrow.Author.Needs.{needs}
 use borrow.Author.Tests.{not-true, not-false}
 use Rattle.tablefile.proofs.Fronts.{front-header, header-long, front-counts, front-names, names-long, first-small, nodes-small, front-nodes}
-use borrow.Author.Needs.{needs}
 use Rattle.tablefile.proofs.judge_front.Statement.{statement}
 use Rattle.tablefile.proofs.judge_front.Tie as tie
 

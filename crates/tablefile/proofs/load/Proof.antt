@@ -2,7 +2,6 @@
 use native.Mathlib.Omega.{arith}
 use borrow.Author.Needs.{needs}
 use Rattle.tablefile.proofs.Loads.{load-first, load-at, load-last, load-table, load-names, load-dialect, load-is}
-use borrow.Author.Needs.{needs}
 use Rattle.tablefile.proofs.load.Statement.{statement}
 use Rattle.tablefile.proofs.load.Tie as tie
 

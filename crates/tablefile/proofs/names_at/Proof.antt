@@ -1,7 +1,6 @@
 -- `tablefile::names_at` meets its contract: it is the definition. Assumes nothing.
 use borrow.Author.Needs.{needs}
 use Rattle.tablefile.specs.Reading.{namesAt}
-use borrow.Author.Needs.{needs}
 use Rattle.tablefile.proofs.names_at.Statement.{statement}
 use Rattle.tablefile.proofs.names_at.Tie as tie
 

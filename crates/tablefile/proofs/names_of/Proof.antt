@@ -1,7 +1,6 @@
 -- `tablefile::names_of` meets its contract: the content of the run over zero bytes. Assumes nothing.
 use borrow.Author.Needs.{needs}
 use Rattle.tablefile.proofs.Copies.{laid-run}
-use borrow.Author.Needs.{needs}
 use Rattle.tablefile.proofs.names_of.Statement.{statement}
 use Rattle.tablefile.proofs.names_of.Tie as tie
 

@@ -1,7 +1,6 @@
 -- `tablefile::nodes_at` meets its contract: it is the definition. Assumes nothing.
 use borrow.Author.Needs.{needs}
 use Rattle.tablefile.specs.Reading.{nodesAt}
-use borrow.Author.Needs.{needs}
 use Rattle.tablefile.proofs.nodes_at.Statement.{statement}
 use Rattle.tablefile.proofs.nodes_at.Tie as tie
 

@@ -3,7 +3,6 @@ use mathlib.Core.Path.{sym, ap, _∙_}
 use borrow.Author.Needs.{needs}
 use Rattle.blocks.specs.Block.{judged}
 use Rattle.tablefile.proofs.Loads.{within-arrays, meets-refused, meets-accepted, read-front, read-left, read-unsound, read-sound}
-use borrow.Author.Needs.{needs}
 use Rattle.tablefile.proofs.read.Statement.{statement}
 use Rattle.tablefile.proofs.read.Tie as tie
 

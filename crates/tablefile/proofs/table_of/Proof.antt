@@ -1,7 +1,6 @@
 -- `tablefile::table_of` meets its contract: the content of the run over zero bytes. Assumes nothing.
 use borrow.Author.Needs.{needs}
 use Rattle.tablefile.proofs.Copies.{laid-run}
-use borrow.Author.Needs.{needs}
 use Rattle.tablefile.proofs.table_of.Statement.{statement}
 use Rattle.tablefile.proofs.table_of.Tie as tie
 

@@ -1,0 +1,29 @@
+-- `tablefile::put` meets its contract: out is filled from the front. Assumes nothing.
+use Prim.Native.Nat.{_-_}
+use native.Mathlib.Omega.{arith}
+use mathlib.Core.Path.{refl}
+use borrow.Author.Needs.{needs}
+use Rattle.blocks.proofs.Filling.{Filled, fill-start, fill-long, fill-on, fill-end}
+use Rattle.tablefile.proofs.put.Statement.{statement}
+use Rattle.tablefile.proofs.put.Tie as tie
+
+abbrev Inv-loop : tie.InvT-loop
+Inv-loop from len out₀ j₀ out j = Filled out₀ from len out j
+
+abbrev μ-loop : tie.MeasureT-loop
+μ-loop from len out₀ j₀ out j = len - j
+
+pub put-spec : {M : Type 1} → statement M
+put-spec =
+    tie.close
+    (tie.spec
+    Inv-loop
+    μ-loop
+    (λ c. fill-start _ _ _ (c .pre .1) (c .pre .0))
+    (λ c. search needs)
+    (λ c. omega (arith, fill-long (c .before .before .loop .inv), c .before .before .before .pre .1))
+    (λ c. search needs)
+    (λ c. search needs)
+    (λ c. fill-on (c .before .before .loop .inv) (c .before .loop-test .taken) refl)
+    (λ c. fill-long (c .before .loop .inv))
+    (λ c. fill-end (c .before .loop .inv) (c .loop-test .left)))
