@@ -98,7 +98,7 @@ fn weight(p: usize, x: u8) -> u32
     (p as u32 + 1) * (x as u32)
 }
 
-// The sum of (p + 1) times byte p over p = 0 to 507, in 32 bits: it has at most 26.
+// The sum of (p + 1) times byte p over p = 0 to 507, in 32 bits: it is below 33 million.
 fn sum(b: &[u8]) -> u32
     requires { ⌜ length (now b) ≡ 512 ⌝ }
     ensures { λ r. ⌜ r ≡ sumOf (now (b .entry)) ⌝ }
