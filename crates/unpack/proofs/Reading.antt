@@ -14,7 +14,7 @@ use Rattle.forest.specs.Forest.{Node, sizeOf, nodeOf, spanOf, restOf, forest}
 use Rattle.forest.specs.Names.{nameOf}
 use Rattle.forest.specs.declared.Found.{Found}
 use Rattle.forest.specs.declared.Found.the-variants.{At, Nothing}
-use Rattle.forest.proofs.Stretch.{forest-none, forest-tree, rest-part, record-or-none}
+use Rattle.forest.proofs.Stretch.{node-take, forest-none, forest-tree, rest-part, record-or-none}
 use Rattle.soundness.specs.Kinds.{parameter, classOf}
 use Rattle.soundness.proofs.Records.{and-left, and-right}
 use Rattle.unpack.specs.Written.{Name, Param, nodeIn, kindIn, param, paramOf, paramsIn, kindAt}
@@ -139,17 +139,21 @@ module _ {ns x kids : List ℕ} {first m : ℕ} {left : List ℕ} {at i : ℕ} (
       let k : m - i ≡ suc (m - (i + 1)) = omega arith in
       rw (k, s .reads .rest, list-on ns at left (search-listed h) e-is) refl
 
-  pub search-here : i < m → {b : Bool} → ((j : ℕ) → b ≡ hasName x (paramOf ns (nodeOf j left))) → b ≡ true → At at ≡ firstSame x (take m (paramsIn ns (forest first kids)))
+  -- code looks at the first record alone
+  here : {b : Bool} → ((j : ℕ) → b ≡ hasName x (paramOf ns (nodeOf j (take 24 left)))) → b ≡ hasName x (paramOf ns (nodeOf at left))
+  here b-is = b-is at ∙ ap (λ (r : Node). hasName x (paramOf ns r)) (node-take at 24 left (omega arith))
+
+  pub search-here : i < m → {b : Bool} → ((j : ℕ) → b ≡ hasName x (paramOf ns (nodeOf j (take 24 left)))) → b ≡ true → At at ≡ firstSame x (take m (paramsIn ns (forest first kids)))
   unfolding firstSame
   search-here h b-is b-yes =
-      let hit : hasName x (paramOf ns (nodeOf at left)) ≡ true = sym (b-is at) ∙ b-yes in
+      let hit : hasName x (paramOf ns (nodeOf at left)) ≡ true = sym (here b-is) ∙ b-yes in
       sym (sym (s .same) ∙ one h refl ∙ rw (hit, node-in ns (nodeOf at left)) refl)
 
-  pub search-on : i < m → {b : Bool} {e : ℕ} → ((j : ℕ) → b ≡ hasName x (paramOf ns (nodeOf j left))) → b ≡ false → e ≡ spanOf left
+  pub search-on : i < m → {b : Bool} {e : ℕ} → ((j : ℕ) → b ≡ hasName x (paramOf ns (nodeOf j (take 24 left)))) → b ≡ false → e ≡ spanOf left
       → Searching ns x kids first m (take (length left - e) (drop e left)) (at + e / 24) (i + 1)
   unfolding firstSame
   search-on h {b} {e} b-is b-no e-is =
-      let miss : hasName x (paramOf ns (nodeOf at left)) ≡ false = sym (b-is at) ∙ b-no in
+      let miss : hasName x (paramOf ns (nodeOf at left)) ≡ false = sym (here b-is) ∙ b-no in
       let go = read-on (s .reads) (search-listed h) e-is in
       record {
         reads = go;

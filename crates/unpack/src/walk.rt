@@ -39,7 +39,7 @@ fn earlier(names: &[u8], name: &[u8], kids: &[u8], first: usize, n: Written) -> 
     let mut at = first;
     let mut i = 0;
     while i < n.0 {
-        if list::has_name(names, name, left) {
+        if list::has_name(names, name, &left[0..24]) {
             return Found::At(at);
         }
         let e = forest::span(left);

@@ -19,8 +19,11 @@ earlier-spec =
     Inv-loop
     μ-loop
     (λ c. search-start _ _ _ _ _ (c .before .before .before .pre .1))
+    (λ c. search needs)
+    (λ c. search needs)
+    (λ c. search-long (c .before .before .loop .inv) (c .if1 .taken))
     (λ c κs. search needs)
-    (λ c. search-here (c .before .before .before .before .loop .inv) (c .before .before .if1 .taken) (c .before .has-name .ensures) (c .if2 .taken))
+    (λ c. search-here (c .before .before .before .before .before .loop .inv) (c .before .before .before .if1 .taken) (c .before .has-name .ensures) (c .if2 .taken))
     (λ c κs. search needs)
     (λ c. search needs)
     (λ c. search needs)
@@ -28,5 +31,5 @@ earlier-spec =
     (λ c. search needs)
     (λ c. search needs)
     (λ c. search needs)
-    (λ c. search-on (c .before .before .before .before .before .before .loop .inv) (c .before .before .before .before .if1 .taken) (c .before .before .before .has-name .ensures) (c .before .before .if2 .left) (c .before .span .ensures))
+    (λ c. search-on (c .before .before .before .before .before .before .before .loop .inv) (c .before .before .before .before .before .if1 .taken) (c .before .before .before .has-name .ensures) (c .before .before .if2 .left) (c .before .span .ensures))
     (λ c. search-end (c .before .before .loop .inv) (c .if1 .left)))
