@@ -108,9 +108,6 @@ count-forest =
 
 -- LAWS for a rule over what stands side by side, in the terms of code: `all` is `one` at each tree, joined from the left
 module _ {A : Type 0} (all : Forest → A) (i e : ℕ) (bs : List ℕ) where
-  pub each-none : length bs < 24 → all (forest i bs) ≡ all none
-  each-none h = ap all (forest-none i bs h)
-
   pub kids-cut : e ≡ spanOf bs → all (forest (i + 1) (take (e - 24) (drop 24 bs))) ≡ all (forest (i + 1) (kidsOf bs))
   kids-cut h = ap (λ (l : List ℕ). all (forest (i + 1) l)) (kids-part e bs h)
 

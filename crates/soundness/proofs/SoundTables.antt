@@ -58,10 +58,6 @@ module _ (x : Context) (r : Node) (ks : Forest) (e : soundNode x r ks ≡ true) 
       let c : Children = kindOf (r .kind) .kids (r .detail) in
       same-bytes-equal (classes ks) (wanted c (length (classes ks))) (and-right (permitted (c .times) (between c (length (classes ks)))) _ (and-right (wholeTrees ks) _ node-kids))
 
-  pub node-number : permitted (kindOf (r .kind) .kids (r .detail) .times) (between (kindOf (r .kind) .kids (r .detail)) (length (classes ks))) ≡ true
-  unfolding kidsSound permits
-  node-number = and-left _ _ (and-right (wholeTrees ks) _ node-kids)
-
 -- the first node of a stretch whose nodes are whole: its subtree takes its size
 module _ (i : ℕ) (bs : List ℕ) (big : 24 ≤ length bs) (whole : wholeTrees (forest i bs) ≡ true) where
   cut-whole : (wholeTree (nodeOf i bs) (forest (i + 1) (kidsOf bs)) && wholeTrees (forest (i + spanOf bs / 24) (restOf bs))) ≡ true
@@ -173,10 +169,6 @@ module _ (t names : List ℕ) (e : firstUnsound t names ≡ Nothing) where
     root : rootSound t ≡ true
     unfolding recordSound
     root = and-left (rootSound t) _ (record-clean 0 (omega arith))
-
-    pub root-statement : classOf (nodeOf 0 t .kind) ≡ statement
-    unfolding rootSound
-    root-statement = eqb-true (classOf (nodeOf 0 t .kind)) statement (and-left _ _ root)
 
     pub root-covers : 24 * sizeOf t ≡ length t
     unfolding rootSound

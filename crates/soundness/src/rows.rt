@@ -62,21 +62,21 @@ fn row_of(kind: u8) -> u64
 }
 
 // The class of a kind: 1 statement, 2 expression, 3 parameter, 4 argument, 0 no kind.
-pub fn class(kind: u8) -> u8
+pub(crate) fn class(kind: u8) -> u8
     ensures { λ r. ⌜ r ≡ classOf kind ⌝ }
 {
     (row_of(kind) / 0x100_0000_0000 % 16) as u8
 }
 
 // The largest detail of a kind.
-pub fn details(kind: u8) -> u8
+pub(crate) fn details(kind: u8) -> u8
     ensures { λ r. ⌜ r ≡ kindOf kind .details ⌝ }
 {
     (row_of(kind) / 0x10_0000_0000 % 4) as u8
 }
 
 // Whether a name stands on a kind.
-pub fn named(kind: u8) -> bool
+pub(crate) fn named(kind: u8) -> bool
     ensures { λ r. ⌜ r ≡ kindOf kind .named ⌝ }
 {
     row_of(kind) / 0x1_0000_0000 % 16 == 1
@@ -125,21 +125,21 @@ fn rule_at(number: u64) -> u64
 }
 
 // The children that a kind permits at a detail.
-pub fn rule_of(kind: u8, detail: u8) -> u64
+pub(crate) fn rule_of(kind: u8, detail: u8) -> u64
     ensures { λ r. ⌜ childrenOf r ≡ ruleOf kind detail ⌝ }
 {
     rule_at(rule_number(kind, detail))
 }
 
 // How many children come first.
-pub fn fronts(rule: u64) -> usize
+pub(crate) fn fronts(rule: u64) -> usize
     ensures { λ r. ⌜ r ≡ frontsIn rule ⌝ }
 {
     (rule / 0x10_0000_0000 % 4) as usize
 }
 
 // The class of child j among the first.
-pub fn front(rule: u64, j: usize) -> u8
+pub(crate) fn front(rule: u64, j: usize) -> u8
     ensures { λ r. ⌜ r ≡ getD (frontIn rule) j 0 ⌝ }
 {
     match j {
@@ -151,28 +151,28 @@ pub fn front(rule: u64, j: usize) -> u8
 }
 
 // How many come between the first and the last: 15 any number, 14 an even one, else at most so many.
-pub fn times(rule: u64) -> u8
+pub(crate) fn times(rule: u64) -> u8
     ensures { λ r. ⌜ r ≡ timesIn rule ⌝ }
 {
     (rule / 0x10_0000 % 16) as u8
 }
 
 // Their class.
-pub fn middle(rule: u64) -> u8
+pub(crate) fn middle(rule: u64) -> u8
     ensures { λ r. ⌜ r ≡ middleIn rule ⌝ }
 {
     (rule / 0x1_0000 % 16) as u8
 }
 
 // How many children come last.
-pub fn backs(rule: u64) -> usize
+pub(crate) fn backs(rule: u64) -> usize
     ensures { λ r. ⌜ r ≡ backsIn rule ⌝ }
 {
     (rule / 0x1000 % 4) as usize
 }
 
 // The class of child k of the last.
-pub fn back(rule: u64, k: usize) -> u8
+pub(crate) fn back(rule: u64, k: usize) -> u8
     ensures { λ r. ⌜ r ≡ getD (backIn rule) k 0 ⌝ }
 {
     match k {

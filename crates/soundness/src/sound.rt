@@ -190,7 +190,7 @@ fn root_sound(table: &[u8]) -> bool
 }
 
 // The first unsound record in index order.
-pub fn first_unsound(table: &[u8], names: &[u8]) -> Found
+pub(crate) fn first_unsound(table: &[u8], names: &[u8]) -> Found
     ensures { λ r. ⌜ r ≡ firstUnsound (now (table .entry)) (now (names .entry)) ⌝ }
 {
     let n = table.len() / 24;

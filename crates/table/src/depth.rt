@@ -35,7 +35,7 @@ fn deep_from(t: &[u8], at: usize, depth: usize) -> Found
 }
 
 // The first node of a table that is too deep.
-pub fn first_deep(table: &[u8]) -> Found
+pub(crate) fn first_deep(table: &[u8]) -> Found
     ensures { λ r. ⌜ r ≡ firstDeep 0 (forest 0 (now (table .entry))) ⌝ }
 {
     deep_from(table, 0, 0)

@@ -12,7 +12,7 @@ ghost use Rattle.unpack.specs.Written.{paramOf, paramsIn};
 ghost use Rattle.unpack.specs.Unpack.{hasName, firstSlash};
 
 // Whether the parameter that a stretch begins with has this name.
-pub fn has_name(names: &[u8], name: &[u8], t: &[u8]) -> bool
+pub(crate) fn has_name(names: &[u8], name: &[u8], t: &[u8]) -> bool
     ensures { λ r. ⌜ ((i : ℕ) → r ≡ hasName (now (name .entry)) (paramOf (now (names .entry)) (nodeOf i (now (t .entry))))) ⌝ }
 {
     if !rules::is_named(entry::kind_of(t)) {
@@ -22,7 +22,7 @@ pub fn has_name(names: &[u8], name: &[u8], t: &[u8]) -> bool
 }
 
 // The written position of the first `/`.
-pub fn first_slash(kids: &[u8]) -> WrittenPlace
+pub(crate) fn first_slash(kids: &[u8]) -> WrittenPlace
     ensures { λ r. ⌜ ((names : List ℕ) (i : ℕ) → r ≡ firstSlash (paramsIn names (forest i (now (kids .entry))))) ⌝ }
 {
     let mut left = kids;
@@ -39,7 +39,7 @@ pub fn first_slash(kids: &[u8]) -> WrittenPlace
 }
 
 // How many bytes the first n parameters take.
-pub fn skip(kids: &[u8], n: Written) -> usize
+pub(crate) fn skip(kids: &[u8], n: Written) -> usize
     ensures { λ r. ⌜ r ≤ length (now (kids .entry)) ⌝ }
     ensures { λ r. ⌜ ((names : List ℕ) (i : ℕ) → n .0 ≤ length (paramsIn names (forest i (now (kids .entry)))) → drop (n .0) (paramsIn names (forest i (now (kids .entry)))) ≡ paramsIn names (forest (i + r / 24) (drop r (now (kids .entry))))) ⌝ }
 {

@@ -19,7 +19,7 @@ ghost use Rattle.unpack.specs.Unpack.{defaultRule, normalRule, starRule,
 ghost use Rattle.unpack.specs.Reading.{isNamed, isNormal};
 
 // Whether a parameter of a kind has a name.
-pub fn is_named(kind: Kind) -> bool
+pub(crate) fn is_named(kind: Kind) -> bool
     ensures { λ r. ⌜ r ≡ isNamed kind ⌝ }
 {
     match kind {
@@ -31,7 +31,7 @@ pub fn is_named(kind: Kind) -> bool
     }
 }
 
-pub fn is_normal(kind: Kind) -> bool
+pub(crate) fn is_normal(kind: Kind) -> bool
     ensures { λ r. ⌜ r ≡ isNormal kind ⌝ }
 {
     match kind {
@@ -43,7 +43,7 @@ pub fn is_normal(kind: Kind) -> bool
     }
 }
 
-pub fn is_slash(kind: Kind) -> bool
+pub(crate) fn is_slash(kind: Kind) -> bool
     ensures { λ r. ⌜ r ≡ isSlash kind ⌝ }
 {
     match kind {
@@ -117,7 +117,7 @@ fn kwargs_rule(state: State) -> Check
 }
 
 // The rule of a parameter's kind.
-pub fn rule(state: State, optional: bool, kind: Kind) -> Check
+pub(crate) fn rule(state: State, optional: bool, kind: Kind) -> Check
     ensures { λ r. ⌜ r ≡ ruleOf state optional kind ⌝ }
 {
     match kind {
@@ -135,7 +135,7 @@ fn or(a: bool, b: bool) -> bool
     a | b
 }
 
-pub fn next_optional(optional: bool, kind: Kind) -> bool
+pub(crate) fn next_optional(optional: bool, kind: Kind) -> bool
     ensures { λ r. ⌜ r ≡ nextOptional optional kind ⌝ }
 {
     match kind {
@@ -147,7 +147,7 @@ pub fn next_optional(optional: bool, kind: Kind) -> bool
     }
 }
 
-pub fn next_star(star: WrittenPlace, i: Written, kind: Kind) -> WrittenPlace
+pub(crate) fn next_star(star: WrittenPlace, i: Written, kind: Kind) -> WrittenPlace
     ensures { λ r. ⌜ r ≡ nextStar star i kind ⌝ }
 {
     match kind {
@@ -160,7 +160,7 @@ pub fn next_star(star: WrittenPlace, i: Written, kind: Kind) -> WrittenPlace
 }
 
 // The count of positional-only parameters: the written position of `/` becomes a flat index, since no mark can stand before it.
-pub fn positional_only(slash: WrittenPlace) -> Flat
+pub(crate) fn positional_only(slash: WrittenPlace) -> Flat
     ensures { λ r. ⌜ r ≡ positionalOnly slash ⌝ }
 {
     match slash {
@@ -170,7 +170,7 @@ pub fn positional_only(slash: WrittenPlace) -> Flat
 }
 
 // What is kept before the first parameter.
-pub fn start(only: Flat) -> Unpacking
+pub(crate) fn start(only: Flat) -> Unpacking
     ensures { λ r. ⌜ r ≡ startOf only ⌝ }
 {
     Unpacking {

@@ -258,7 +258,7 @@ fn unpack(names: &[u8], kids: &[u8], first: usize) -> Judged
 }
 
 // DefParams::unpack of the written list of a node, whose stretch is lent: what is counted, or the first refusal.
-pub fn judge(names: &[u8], t: &[u8], node: u32) -> Judged
+pub(crate) fn judge(names: &[u8], t: &[u8], node: u32) -> Judged
     ensures { λ r. ⌜ r ≡ told (unpackOf (written (now (names .entry)) node (now (t .entry)))) ⌝ }
     ensures { λ r. ⌜ Inside (node + 1 + length (now (t .entry)) / 24) r ⌝ }
 {
