@@ -1,9 +1,12 @@
 #!/usr/bin/env python3
-"""Tries wrong answers: each edit of crates/NAME/wrong makes code or a definition wrong in one point, and the prover must refuse the crate.
+"""Tries wrong answers: each edit of crates/NAME/wrong makes one function wrong in one point, and the prover must refuse that function.
 
-The format is that of rt's own must-fail edits, which rt ci tries by a whole check of the crate each. Here the modules that the edit
-leaves as they are come from the crate's proved library (target/rlib), so that a trial takes seconds. So that a refusal can only be the edit's,
-each crate is first checked unchanged in the same way and must be proved.
+The format is that of rt's own must-fail edits, which rt ci tries by a whole check of the crate each. Here a trial takes seconds:
+- The modules that an edit leaves as they are come from the crate's proved library (target/rlib). So that a refusal can only be an edit's,
+  each crate is first checked unchanged in the same way and must be proved.
+- Edits of different functions share a check, since the proof of a function rests on the promises of those that it calls and not on their code.
+  An edit counts as refused only where the prover does not prove the edited function itself. Where it says that the function calls one that is
+  not proved, which may be another edit's work, the edit is tried again without the edits that are settled, in the end alone.
 
 wrong_answers.py [NAME[/EDIT]...]    after rt check or rt ci. The last line is 'N wrong answers refused, M not'; status 0 where M is 0.
 """
@@ -29,6 +32,58 @@ class BadEdit(Exception):
     pass
 
 
+class Edit:
+    """An edit: its replacements (file, old text, new text), and the functions that they stand in."""
+
+    def __init__(self, path):
+        self.crate, self.label = path.parent.parent.name, path.stem
+        self.pairs, file, old = [], None, None
+        for line in path.read_text().splitlines():
+            if line.startswith("file: "):
+                file = line[6:]
+            elif line.startswith("old: "):
+                old = line[5:]
+            elif line.startswith("new:"):
+                self.pairs.append((file, old, line[4:].removeprefix(" ")))
+        self.functions = set()
+
+    def find(self):
+        """Sees that each old text is in its file once, when the pairs before it are done, and notes the functions."""
+        texts = {}
+        for file, old, new in self.pairs:
+            text = texts.get(file) or (ROOT / "crates" / self.crate / file).read_text()
+            if text.count(old) != 1:
+                raise BadEdit(f"an 'old:' text of {self.label} is in {file} {text.count(old)} times")
+            self.functions.add(function_at(self.crate, file, text.partition(old)[0]))
+            texts[file] = text.replace(old, new)
+        if not self.pairs:
+            raise BadEdit(f"{self.label} has no pair of 'old:' and 'new:'")
+
+    def apply(self, folder):
+        """Does the replacements, each in its own function, since the edit of another function may have the same text."""
+        for file, old, new in self.pairs:
+            parts = re.split(rf"(?m)(?=^ *{HEAD})", (folder / file).read_text())
+            at = [i for i, part in enumerate(parts) if old in part and function_at(self.crate, file, "".join(parts[:i]) + part) in self.functions]
+            parts[at[0]] = parts[at[0]].replace(old, new)
+            (folder / file).write_text("".join(parts))
+
+
+# how a function begins
+HEAD = r"(?:pub(?:\(crate\))? )?(?:extern \"C\" )?fn "
+
+
+def function_at(crate, file, before):
+    """The function in which the text before a place ends, as the prover names it: a method by its type. None outside of functions."""
+    named = re.findall(rf"^( *){HEAD}(\w+)", before, re.M)
+    if not file.startswith("src/") or not named:
+        return None
+    indent, name = named[-1]
+    if indent:
+        return "::".join([crate, re.findall(r"^impl (\w+)", before, re.M)[-1], name])
+    modules = [] if file == "src/lib.rt" else file.removeprefix("src/").removesuffix(".rt").split("/")
+    return "::".join([crate, *modules, name])
+
+
 def dependencies(name):
     for line in (ROOT / "crates.txt").read_text().splitlines():
         crate, colon, rest = line.split("#")[0].partition(":")
@@ -38,7 +93,7 @@ def dependencies(name):
 
 
 def check(name, folder, kept):
-    """What rattle says of a crate in a folder, over modules that are kept from an earlier check."""
+    """What rattle says of a crate in a folder, over modules that are kept from an earlier check: proved or not, and all of its words."""
     words = [str(OWN / "bin" / "rattle"), "check", "--crate-name", name, str(folder / "src" / "lib.rt")]
     for crate in ["std", *dependencies(name)]:
         home = TARGET if (ROOT / "crates" / crate).is_dir() else OWN
@@ -47,7 +102,11 @@ def check(name, folder, kept):
     words += ["--antt-project", str(KIT / "logic" / "antt-project.json"), "--logic-built", str(OWN / "logic-built")]
     done = subprocess.run([*words, "--incremental", str(kept)], stdout=subprocess.PIPE, stderr=subprocess.STDOUT, text=True)
     (folder / ".log").write_text(done.stdout)
-    return done.returncode, done.stdout
+    if done.returncode == 0 and re.search(r"^logic=proved ", done.stdout, re.M):
+        return True, done.stdout
+    if done.returncode == 1 and re.search(r"^logic=not-proved", done.stdout, re.M):
+        return False, done.stdout
+    raise BadEdit(f"no verdict on {name}: {done.stdout[:600]}")
 
 
 def copy_of(name, label):
@@ -59,24 +118,6 @@ def copy_of(name, label):
     return folder
 
 
-def apply(edit, folder):
-    """Replacements: a 'file:' line holds for the pairs of 'old:' and 'new:' after it, and each old text must be there once."""
-    path, old, pairs = None, None, 0
-    for line in edit.read_text().splitlines():
-        if line.startswith("file: "):
-            path = folder / line[6:]
-        elif line.startswith("old: "):
-            old = line[5:]
-        elif line.startswith("new:"):
-            text = path.read_text()
-            if text.count(old) != 1:
-                raise BadEdit(f"an 'old:' text is in {path.relative_to(folder)} {text.count(old)} times")
-            path.write_text(text.replace(old, line[4:].removeprefix(" ")))
-            pairs += 1
-    if not pairs:
-        raise BadEdit("it has no pair of 'old:' and 'new:'")
-
-
 def build_folder():
     """The name that this build of rattle gives its folder of kept modules, learnt from a check of the smallest crate."""
     kept = WORK / "build"
@@ -85,57 +126,79 @@ def build_folder():
     return next(p.name for p in kept.iterdir() if p.name.startswith("antt-checked"))
 
 
-def kept_modules(name, label, build):
-    kept = WORK / name / (label + ".kept")
+def trial(name, label, edits, build):
+    """A check of the crate with these edits, over the modules of its proved library."""
+    folder, kept = copy_of(name, label), WORK / name / (label + ".kept")
+    for edit in edits:
+        edit.apply(folder)
     shutil.rmtree(kept, ignore_errors=True)
     shutil.copytree(TARGET / "rlib" / f"{name}.rlib" / "toolchain" / "checked", kept / build)
-    return kept
-
-
-def trial(name, label, build, edit=None):
-    """Whether the crate is proved, refused, or neither, with the first place that is refused."""
-    folder = copy_of(name, label)
-    if edit:
-        apply(edit, folder)
-    kept = kept_modules(name, label, build)
-    status, said = check(name, folder, kept)
+    verdict = check(name, folder, kept)
     shutil.rmtree(kept)
-    if status == 0 and re.search(r"^logic=proved ", said, re.M):
-        return "proved", ""
-    if status == 1 and re.search(r"^logic=not-proved", said, re.M):
-        first = re.search(r"^(\S+): error", said, re.M) or re.search(r"^note: (\S+:\d+:\d+):", said, re.M)
-        return "refused", first.group(1).removeprefix(f"{folder}/") if first else "no place"
-    return "neither", said[:600]
+    return verdict
 
 
-def told(name, edit, build):
-    began = time.time()
-    label = edit.stem if edit else "unchanged"
-    wanted = "refused" if edit else "proved"
+def refused_itself(edit, said):
+    """Whether the prover does not prove an edited function, and gives no function that it calls as the reason."""
+    lines = [re.search(rf"^fn {re.escape(f)}: (not proved|no proof)(.*)", said, re.M) for f in edit.functions if f]
+    return any(line and "it calls `" not in line.group(2) for line in lines)
+
+
+def shared(edits):
+    """As many of the edits, in order, as no two stand in the same function; one that stands outside of functions is alone."""
+    chosen, functions = [], set()
+    for edit in edits:
+        if None in edit.functions:
+            return chosen or [edit]
+        if not functions & edit.functions:
+            chosen.append(edit)
+            functions |= edit.functions
+    return chosen
+
+
+def of_crate(name, edits, build):
+    """Tries a crate's edits: for each its verdict in words and whether it is the right one."""
+    began, checks, told, left = time.time(), 1, [], list(edits)
     try:
-        verdict, where = trial(name, label, build, edit)
+        for edit in edits:
+            edit.find()
+        if not trial(name, "unchanged", [], build)[0]:
+            return [(False, f"wrong {name}: NOT TRIED: the crate is not proved unchanged")]
+        alone = False
+        while left:
+            some = left[:1] if alone else shared(left)
+            proved, said = trial(name, f"check-{checks}", some, build)
+            checks += 1
+            settled = [e for e in some if refused_itself(e, said) or (len(some) == 1)]
+            for edit in settled:
+                where = " or ".join(f or "the crate" for f in sorted(edit.functions, key=str))
+                right = not proved
+                told.append((right, f"wrong {name}/{edit.label}: {'refused, as it must be, at' if right else 'NOT REFUSED in'} {where}"))
+            left = [e for e in left if e not in settled]
+            alone = not settled
     except BadEdit as bad:
-        verdict, where = "a bad edit", str(bad)
-    took = round(time.time() - began)
-    if verdict == wanted:
-        return True, f"wrong {name}/{label}: {verdict}, as it must be ({'first at ' + where + '; ' if where else ''}{took} s)"
-    return False, f"wrong {name}/{label}: NOT {wanted.upper()}: {verdict} {where} ({took} s)"
+        told.append((False, f"wrong {name}: BAD EDIT: {bad}"))
+    told.append((None, f"wrong {name}: {len(edits)} edits in {checks} checks, {round(time.time() - began)} s"))
+    return told
 
 
 def main(wanted):
-    trials = []
+    crates = []
     for line in (ROOT / "crates.txt").read_text().splitlines():
         name = line.split("#")[0].split(":")[0].strip()
-        edits = sorted((ROOT / "crates" / name / "wrong").glob("*.edit")) if name else []
-        edits = [e for e in edits if not wanted or name in wanted or f"{name}/{e.stem}" in wanted]
-        trials += [(name, e) for e in [None, *edits]] if edits else []
+        edits = [Edit(e) for e in sorted((ROOT / "crates" / name / "wrong").glob("*.edit"))] if name else []
+        edits = [e for e in edits if not wanted or name in wanted or f"{name}/{e.label}" in wanted]
+        if edits:
+            crates.append((name, edits))
     build = build_folder()
+    crates.reverse()  # the upper crates take longest and come first, so that both processors end together
     refused = failed = 0
     with ThreadPoolExecutor(max_workers=int(os.environ.get("RT_JOBS", 0)) or os.cpu_count()) as pool:
-        for (_, edit), (right, line) in zip(trials, pool.map(lambda t: told(*t, build), trials)):
-            print(line, flush=True)
-            refused += right and edit is not None
-            failed += not right
+        for told in pool.map(lambda c: of_crate(*c, build), crates):
+            for right, line in told:
+                print(line, flush=True)
+                refused += right is True
+                failed += right is False
     print(f"{refused} wrong answers refused, {failed} not")
     return 0 if refused and not failed else 1
 
