@@ -2,11 +2,11 @@
 """Tries wrong answers: each edit of crates/NAME/wrong makes one function wrong in one point, and the prover must refuse that function.
 
 The format is that of rt's own must-fail edits, which rt ci tries by a whole check of the crate each. Here a trial takes seconds:
-- The modules that an edit leaves as they are come from the crate's proved library (target/rlib). So that a refusal can only be an edit's,
-  each crate is first checked unchanged in the same way and must be proved.
+- The modules that an edit leaves as they are come from the crate's proved library (target/rlib).
 - Edits of different functions share a check, since the proof of a function rests on the promises of those that it calls and not on their code.
   An edit counts as refused only where the prover does not prove the edited function itself. Where it says that the function calls one that is
   not proved, which may be another edit's work, the edit is tried again without the edits that are settled, in the end alone.
+- So that a refusal can only be an edit's, every other function of the crate must be proved, or be refused for a function that it calls.
 
 wrong_answers.py [NAME[/EDIT]...]    after rt check or rt ci. The last line is 'N wrong answers refused, M not'; status 0 where M is 0.
 """
@@ -138,10 +138,17 @@ def trial(name, label, edits, build):
     return verdict
 
 
-def refused_itself(edit, said):
-    """Whether the prover does not prove an edited function, and gives no function that it calls as the reason."""
-    lines = [re.search(rf"^fn {re.escape(f)}: (not proved|no proof)(.*)", said, re.M) for f in edit.functions if f]
-    return any(line and "it calls `" not in line.group(2) for line in lines)
+def refused_themselves(said):
+    """The functions that the prover does not prove, where it gives no function that they call as the reason."""
+    lines = re.findall(r"^fn (\S+): (?:not proved|no proof|could not tell)(.*)", said, re.M)
+    return {name for name, why in lines if "it calls `" not in why}
+
+
+def with_cycle(function, folder):
+    """A function and those that it shares its one proof with, since they call one another."""
+    above, _, name = function.rpartition("::")
+    cycles = [path.name.split("+")[1:] for path in (folder / "proofs").rglob("+*") if path.is_dir()]
+    return {function} | {f"{above}::{other}" for cycle in cycles if name in cycle for other in cycle}
 
 
 def shared(edits):
@@ -158,18 +165,20 @@ def shared(edits):
 
 def of_crate(name, edits, build):
     """Tries a crate's edits: for each its verdict in words and whether it is the right one."""
-    began, checks, told, left = time.time(), 1, [], list(edits)
+    began, checks, told, left = time.time(), 0, [], list(edits)
     try:
         for edit in edits:
             edit.find()
-        if not trial(name, "unchanged", [], build)[0]:
-            return [(False, f"wrong {name}: NOT TRIED: the crate is not proved unchanged")]
         alone = False
         while left:
             some = left[:1] if alone else shared(left)
-            proved, said = trial(name, f"check-{checks}", some, build)
             checks += 1
-            settled = [e for e in some if refused_itself(e, said) or (len(some) == 1)]
+            proved, said = trial(name, f"check-{checks}", some, build)
+            refused = refused_themselves(said)
+            edited = set().union(*(with_cycle(f, ROOT / "crates" / name) for e in some for f in e.functions if f))
+            if refused - edited and not any(None in e.functions for e in some):
+                raise BadEdit(f"{', '.join(sorted(refused - edited))} refused, which no edit touches")
+            settled = [e for e in some if e.functions & refused or len(some) == 1]
             for edit in settled:
                 where = " or ".join(f or "the crate" for f in sorted(edit.functions, key=str))
                 right = not proved
