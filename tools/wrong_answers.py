@@ -138,17 +138,18 @@ def trial(name, label, edits, build):
     return verdict
 
 
-def refused_themselves(said):
-    """The functions that the prover does not prove, where it gives no function that they call as the reason."""
-    lines = re.findall(r"^fn (\S+): (?:not proved|no proof|could not tell)(.*)", said, re.M)
-    return {name for name, why in lines if "it calls `" not in why}
-
-
 def with_cycle(function, folder):
     """A function and those that it shares its one proof with, since they call one another."""
     above, _, name = function.rpartition("::")
     cycles = [path.name.split("+")[1:] for path in (folder / "proofs").rglob("+*") if path.is_dir()]
     return {function} | {f"{above}::{other}" for cycle in cycles if name in cycle for other in cycle}
+
+
+def refused_themselves(said, folder):
+    """The functions that the prover does not prove, where it does not give as the reason a function that they, or one of their cycle, call."""
+    lines = dict(re.findall(r"^fn (\S+): (?:not proved|no proof|could not tell)(.*)", said, re.M))
+    blocked = {function for function, why in lines.items() if "it calls `" in why}
+    return {function for function in lines if not with_cycle(function, folder) & blocked}
 
 
 def shared(edits):
@@ -174,7 +175,7 @@ def of_crate(name, edits, build):
             some = left[:1] if alone else shared(left)
             checks += 1
             proved, said = trial(name, f"check-{checks}", some, build)
-            refused = refused_themselves(said)
+            refused = refused_themselves(said, ROOT / "crates" / name)
             edited = set().union(*(with_cycle(f, ROOT / "crates" / name) for e in some for f in e.functions if f))
             if refused - edited and not any(None in e.functions for e in some):
                 raise BadEdit(f"{', '.join(sorted(refused - edited))} refused, which no edit touches")
