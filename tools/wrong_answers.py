@@ -59,6 +59,10 @@ class Edit:
         if not self.pairs:
             raise BadEdit(f"{self.label} has no pair of 'old:' and 'new:'")
 
+    def proofs(self):
+        """The functions whose proof the edit touches: its own, and those that share one proof with them."""
+        return set().union(*(with_cycle(f, ROOT / "crates" / self.crate) for f in self.functions if f))
+
     def apply(self, folder):
         """Does the replacements, each in its own function, since the edit of another function may have the same text."""
         for file, old, new in self.pairs:
@@ -153,14 +157,14 @@ def refused_themselves(said, folder):
 
 
 def shared(edits):
-    """As many of the edits, in order, as no two stand in the same function; one that stands outside of functions is alone."""
-    chosen, functions = [], set()
+    """As many of the edits, in order, as no two touch the same proof; one that stands outside of functions is alone."""
+    chosen, touched = [], set()
     for edit in edits:
         if None in edit.functions:
             return chosen or [edit]
-        if not functions & edit.functions:
+        if not touched & edit.proofs():
             chosen.append(edit)
-            functions |= edit.functions
+            touched |= edit.proofs()
     return chosen
 
 
@@ -176,9 +180,9 @@ def of_crate(name, edits, build):
             checks += 1
             proved, said = trial(name, f"check-{checks}", some, build)
             refused = refused_themselves(said, ROOT / "crates" / name)
-            edited = set().union(*(with_cycle(f, ROOT / "crates" / name) for e in some for f in e.functions if f))
-            if refused - edited and not any(None in e.functions for e in some):
-                raise BadEdit(f"{', '.join(sorted(refused - edited))} refused, which no edit touches")
+            others = refused - set().union(*(e.proofs() for e in some))
+            if others and not any(None in e.functions for e in some):
+                raise BadEdit(f"{', '.join(sorted(others))} refused, which no edit touches")
             settled = [e for e in some if e.functions & refused or len(some) == 1]
             for edit in settled:
                 where = " or ".join(f or "the crate" for f in sorted(edit.functions, key=str))
