@@ -5,7 +5,8 @@ The format is that of rt's own must-fail edits, which rt ci tries by a whole che
 - The modules that an edit leaves as they are come from the crate's proved library (target/rlib).
 - Edits of different functions share a check, since the proof of a function rests on the promises of those that it calls and not on their code.
   An edit counts as refused only where the prover does not prove the edited function itself. Where it says that the function calls one that is
-  not proved, which may be another edit's work, the edit is tried again without the edits that are settled, in the end alone.
+  not proved, which may be another edit's work, the edit is tried again without the edits that are settled, in the end alone. An edit that stands outside
+  of functions, as in a constant, is tried alone, and a function that names it must be refused.
 - So that a refusal can only be an edit's, every other function of the crate must be proved, or be refused for a function that it calls.
 
 wrong_answers.py [NAME[/EDIT]...]    after rt check or rt ci. The last line is 'N wrong answers refused, M not'; status 0 where M is 0.
@@ -178,7 +179,7 @@ def of_crate(name, edits, build):
         while left:
             some = left[:1] if alone else shared(left)
             checks += 1
-            proved, said = trial(name, f"check-{checks}", some, build)
+            _, said = trial(name, f"check-{checks}", some, build)
             refused = refused_themselves(said, ROOT / "crates" / name)
             others = refused - set().union(*(e.proofs() for e in some))
             if others and not any(None in e.functions for e in some):
@@ -186,7 +187,7 @@ def of_crate(name, edits, build):
             settled = [e for e in some if e.functions & refused or len(some) == 1]
             for edit in settled:
                 where = " or ".join(f or "the crate" for f in sorted(edit.functions, key=str))
-                right = not proved
+                right = bool(refused if None in edit.functions else edit.functions & refused)
                 told.append((right, f"wrong {name}/{edit.label}: {'refused, as it must be, at' if right else 'NOT REFUSED in'} {where}"))
             left = [e for e in left if e not in settled]
             alone = not settled
