@@ -22,13 +22,17 @@ rest-short : (l : List ℕ) (c : ℕ) → length l < 24 → length (take (length
 rest-short l c h = simp (length-take, length-drop) (omega arith)
 
 -- the arguments of a call stand behind its first child
-module _ (i : ℕ) (t : List ℕ) (big : 24 ≤ length t) {e c : ℕ} (e-is : e ≡ spanOf t) (c-is : c ≡ spanOf (take (e - 24) (drop 24 t))) where
-  pub arguments-are : forest (i + 1 + c / 24) (take (length (take (e - 24) (drop 24 t)) - c) (drop c (take (e - 24) (drop 24 t)))) ≡ argumentsOf (forest i t)
+module _ (i : ℕ) (t : List ℕ) (big : 24 ≤ length t) {e c : ℕ} (e-is : e ≡ spanOf t)
+    (c-is : c ≡ spanOf (take (e - 24) (drop 24 t))) where
+  pub arguments-are : forest (i + 1 + c / 24)
+      (take (length (take (e - 24) (drop 24 t)) - c) (drop c (take (e - 24) (drop 24 t))))
+      ≡ argumentsOf (forest i t)
   arguments-are =
       let kids : List ℕ = take (e - 24) (drop 24 t) in
       rw (forest-tree i t big, ← (kids-part e t e-is))
       (record-or-none kids
-      (λ short. rw (forest-none (i + 1) kids short) (forest-none (i + 1 + c / 24) (take (length kids - c) (drop c kids)) (rest-short kids c short)))
+      (λ short. rw (forest-none (i + 1) kids short)
+      (forest-none (i + 1 + c / 24) (take (length kids - c) (drop c kids)) (rest-short kids c short)))
       (λ more. rw (forest-tree (i + 1) kids more, rest-part c kids c-is, c-is) refl))
 
 -- the job, step by step
@@ -47,6 +51,7 @@ module _ (t names : List ℕ) (i : ℕ) {f : Checked} (f-is : checked f ≡ chec
     unfolding callOf
     call-wrong b-no = let wrong : nodeFits t i Call ≡ false = cc in rw (← good, wrong) refl
 
-    pub call-answer : b ≡ true → {s : List ℕ} {a : Answer} → s ≡ stretchOf t i → a ≡ outcomeAnswer (unpack names (argumentsOf (forest i s))) → a ≡ callOf t names i
+    pub call-answer : b ≡ true → {s : List ℕ} {a : Answer} → s ≡ stretchOf t i
+        → a ≡ outcomeAnswer (unpack names (argumentsOf (forest i s))) → a ≡ callOf t names i
     unfolding callOf
     call-answer b-yes s-is a-is = let right : nodeFits t i Call ≡ true = cc in rw (← good, right, ← s-is) a-is

@@ -19,8 +19,10 @@ never : {P : Type 0} → _≡_ {A = ℕ} 0 1 → P
 never z = absurd (omega arith)
 
 -- two places side by side are told apart by their values
-split : (p q p′ q′ : Place) → placeValues p ++ placeValues q ≡ placeValues p′ ++ placeValues q′ → (p ≡ p′) × (q ≡ q′)
-split (Given i) (Given j) (Given k) (Given l) e = let a : i ≡ k = cc in let b : j ≡ l = cc in (ap Given a, ap Given b)
+split : (p q p′ q′ : Place) → placeValues p ++ placeValues q ≡ placeValues p′ ++ placeValues q′
+    → (p ≡ p′) × (q ≡ q′)
+split (Given i) (Given j) (Given k) (Given l) e = let a : i ≡ k = cc in let b : j ≡ l = cc in
+    (ap Given a, ap Given b)
 split (Given i) Missing (Given k) Missing e = let a : i ≡ k = cc in (ap Given a, refl)
 split Missing (Given j) Missing (Given l) e = let b : j ≡ l = cc in (refl, ap Given b)
 split Missing Missing Missing Missing e = (refl, refl)
@@ -35,12 +37,14 @@ pub args-injective : (a b : CallArgs) → callValues a ≡ callValues b → a �
 args-injective a b e =
     let pos : a .«num_pos» ≡ b .«num_pos» = cc in
     let named : a .«num_named» ≡ b .«num_named» = cc in
-    let places : placeValues (a .star) ++ placeValues (a .«star_star») ≡ placeValues (b .star) ++ placeValues (b .«star_star») = cc in
+    let places : placeValues (a .star) ++ placeValues (a .«star_star») ≡ placeValues (b .star)
+    ++ placeValues (b .«star_star») = cc in
     let both = split (a .star) (a .«star_star») (b .star) (b .«star_star») places in
     λ i. record { «num_pos» = pos i; «num_named» = named i; star = both .0 i; «star_star» = both .1 i }
 
 pub called-injective : (r s : Called) → called r ≡ called s → r ≡ s
-called-injective (Accepted a) (Accepted b) e = let vs : callValues a ≡ callValues b = cc in ap Accepted (args-injective a b vs)
+called-injective (Accepted a) (Accepted b) e = let vs : callValues a ≡ callValues b = cc in
+    ap Accepted (args-injective a b vs)
 called-injective (Accepted a) (Refused (Bare n)) e = never (cc)
 called-injective (Accepted a) (Refused (Placed n k)) e = never (cc)
 called-injective (Accepted a) (Refused (Spanned n k b f)) e = never (cc)
@@ -48,5 +52,6 @@ called-injective (Refused r) (Accepted b) e = never-accepted r e
 called-injective (Refused r) (Refused s) e = ap Refused (refusal-injective r s e)
 
 -- two answers that meet the promise of `call` on the same input coincide
-pub call-one : (t names : List ℕ) (i : ℕ) {r s : Called} → called r ≡ callOf t names i → called s ≡ callOf t names i → r ≡ s
+pub call-one : (t names : List ℕ) (i : ℕ) {r s : Called} → called r ≡ callOf t names i → called s ≡ callOf t names i
+    → r ≡ s
 call-one t names i = coincide-by called called-injective

@@ -12,11 +12,16 @@ use Rattle.forest.specs.Forest.{Node, nodeOf, spanOf, kidsOf, restOf, node, For
 use Rattle.forest.specs.Names.{nameOf, same, firstNamed}
 use Rattle.forest.specs.declared.Found.{Found}
 use Rattle.forest.specs.declared.Found.the-variants.{At, Nothing}
-use Rattle.forest.proofs.Stretch.{tree, forest-none, forest-tree, forest-induction, length-kids, length-rest, kids-part, rest-part, record-or-none}
+use Rattle.forest.proofs.Stretch.{tree, forest-none, forest-tree, forest-induction, length-kids, length-rest}
+use Rattle.forest.proofs.Stretch.{kids-part, rest-part, record-or-none}
 use Rattle.soundness.specs.KindNumbers.{kindPositional, kindNamed, kindArgsArg}
-use Rattle.table.specs.Numbers.{positionalAfterNonPositional, namedAfterStar, secondStar, secondKwargs, repeatedNamed}
+use Rattle.table.specs.Numbers.{positionalAfterNonPositional, namedAfterStar, secondStar, secondKwargs}
+use Rattle.table.specs.Numbers.{repeatedNamed}
 use Rattle.table.specs.Answer.{Answer, accepted, refused, refusedAt}
-use Rattle.arguments.specs.Call.{Positional, Named, Args, Kwargs, start, withPositional, withNamed, withArgs, withKwargs, Outcome, on, refusedWith, repeatedName, internalError, given, before, repeated, positionalRule, namedRule, argsRule, kwargsRule, stepBy, step, after, run, bit, counted, unpack}
+use Rattle.arguments.specs.Call.{Positional, Named, Args, Kwargs, start, withPositional, withNamed, withArgs}
+use Rattle.arguments.specs.Call.{withKwargs, Outcome, on, refusedWith, repeatedName, internalError, given}
+use Rattle.arguments.specs.Call.{before, repeated, positionalRule, namedRule, argsRule, kwargsRule, stepBy}
+use Rattle.arguments.specs.Call.{step, after, run, bit, counted, unpack}
 use Rattle.arguments.specs.Job.{argumentsOf, argsOf, callValues, refusedAtName, outcomeAnswer}
 use Rattle.arguments.specs.Reached.{Reached, againAt}
 use Rattle.arguments.specs.declared.Place.{Place}
@@ -84,8 +89,12 @@ again-named : (s : Walk) (k : ℕ) (b : Bool) (n : Node) → stepBy s k (eqb k k
 unfolding stepBy
 again-named s k b n = go (eqb k kindPositional) (eqb k kindNamed)
   where
-    go : (p q : Bool) → if' p (λ _. positionalRule s n) (λ _. if' q (λ _. namedRule s (q && b) n) (λ _. if' (eqb k kindArgsArg) (λ _. argsRule s n) (λ _. kwargsRule s n)))
-        ≡ if' p (λ _. positionalRule s n) (λ _. if' q (λ _. namedRule s b n) (λ _. if' (eqb k kindArgsArg) (λ _. argsRule s n) (λ _. kwargsRule s n)))
+    go : (p q : Bool) → if' p (λ _. positionalRule s n)
+        (λ _. if' q (λ _. namedRule s (q && b) n)
+        (λ _. if' (eqb k kindArgsArg) (λ _. argsRule s n) (λ _. kwargsRule s n)))
+        ≡ if' p (λ _. positionalRule s n)
+        (λ _. if' q (λ _. namedRule s b n)
+        (λ _. if' (eqb k kindArgsArg) (λ _. argsRule s n) (λ _. kwargsRule s n)))
     go true q = refl
     go false true = refl
     go false false = refl
@@ -95,14 +104,23 @@ abbrev moved : ℕ → Found → Found
 moved i (At j) = At (i + j)
 moved i Nothing = Nothing
 
-named-moved : (ns nm : List ℕ) (i : ℕ) (bs : List ℕ) (m j : ℕ) → i ≡ m + j → firstNamed ns nm (forest i bs) ≡ moved m (firstNamed ns nm (forest j bs))
+named-moved : (ns nm : List ℕ) (i : ℕ) (bs : List ℕ) (m j : ℕ) → i ≡ m + j
+    → firstNamed ns nm (forest i bs) ≡ moved m (firstNamed ns nm (forest j bs))
 unfolding firstNamed nameOf
 named-moved ns nm =
-    forest-induction (λ i bs. (m j : ℕ) → i ≡ m + j → firstNamed ns nm (forest i bs) ≡ moved m (firstNamed ns nm (forest j bs)))
+    forest-induction (λ i bs. (m j : ℕ) → i ≡ m + j
+    → firstNamed ns nm (forest i bs) ≡ moved m (firstNamed ns nm (forest j bs)))
     (λ i bs s m j e. rw (forest-none i bs s, forest-none j bs s) refl)
-    (λ i bs big ks rs m j e. rw (forest-tree i bs big, forest-tree j bs big, rs m (j + spanOf bs / 24) (omega arith), e) (go (same (nameOf ns (nodeOf 0 bs)) nm) m j (firstNamed ns nm (forest (j + spanOf bs / 24) (restOf bs)))))
+    (λ i bs big ks rs m j e. rw (
+      forest-tree i bs big,
+      forest-tree j bs big,
+      rs m (j + spanOf bs / 24) (omega arith),
+      e,
+    )
+    (go (same (nameOf ns (nodeOf 0 bs)) nm) m j (firstNamed ns nm (forest (j + spanOf bs / 24) (restOf bs)))))
   where
-    go : (b : Bool) (m j : ℕ) (f : Found) → if' b (λ _. At (m + j)) (λ _. moved m f) ≡ moved m (if' b (λ _. At j) (λ _. f))
+    go : (b : Bool) (m j : ℕ) (f : Found)
+        → if' b (λ _. At (m + j)) (λ _. moved m f) ≡ moved m (if' b (λ _. At j) (λ _. f))
     go true m j f = refl
     go false m j f = refl
 
@@ -120,7 +138,8 @@ module _ (args ns left : List ℕ) (place : ℕ) {kind : ℕ} (kind-is : kind �
   unfolding againAt
   not-named d = rw (← kind-is, ne-eqb kind 61 d) refl
 
-  module _ (e : kind ≡ 61) {nm : List ℕ} (nm-is : nm ≡ nameOf ns (nodeOf 0 left)) {f : Found} (f-is : f ≡ firstNamed ns nm (forest 0 args)) where
+  module _ (e : kind ≡ 61) {nm : List ℕ} (nm-is : nm ≡ nameOf ns (nodeOf 0 left)) {f : Found}
+      (f-is : f ≡ firstNamed ns nm (forest 0 args)) where
     pub named-found : {j : ℕ} → f ≡ At j → ltb j place ≡ againAt args ns left place
     unfolding againAt
     named-found at = rw (← nm-is, ← f-is, at, ← kind-is, e) refl
@@ -130,11 +149,17 @@ module _ (args ns left : List ℕ) (place : ℕ) {kind : ℕ} (kind-is : kind �
     named-new new = rw (← nm-is, ← f-is, new, ← kind-is, e) refl
 
 -- so code's answer is the definition's, at an argument of the list that begins with the index first
-again-is : (args ns left : List ℕ) (first at : ℕ) → first ≤ at → (s : Walk) (n : Node) → stepBy s (nodeOf 0 left .kind) (againAt args ns left (at - first)) n ≡ stepBy s (nodeOf at left .kind) (repeated ns (forest first args) (nodeOf at left)) n
+again-is : (args ns left : List ℕ) (first at : ℕ) → first ≤ at → (s : Walk) (n : Node)
+    → stepBy s (nodeOf 0 left .kind) (againAt args ns left (at - first)) n
+    ≡ stepBy s (nodeOf at left .kind) (repeated ns (forest first args) (nodeOf at left)) n
 unfolding againAt repeated nameOf
 again-is args ns left first at h s n =
-    again-named s (nodeOf 0 left .kind) (before (firstNamed ns (nameOf ns (nodeOf 0 left)) (forest 0 args)) (at - first)) n
-    ∙ ap (λ (b : Bool). stepBy s (nodeOf 0 left .kind) b n) (sym (before-moved first at (firstNamed ns (nameOf ns (nodeOf 0 left)) (forest 0 args)) h) ∙ ap (λ (f : Found). before f at) (sym (named-moved ns (nameOf ns (nodeOf 0 left)) first args first 0 (omega arith))))
+    again-named s (nodeOf 0 left .kind) (before (firstNamed ns (nameOf ns (nodeOf 0 left)) (forest 0 args))
+    (at - first)) n
+    ∙ ap (λ (b : Bool). stepBy s (nodeOf 0 left .kind) b n)
+    (sym (before-moved first at (firstNamed ns (nameOf ns (nodeOf 0 left)) (forest 0 args)) h)
+    ∙ ap (λ (f : Found). before f at)
+    (sym (named-moved ns (nameOf ns (nodeOf 0 left)) first args first 0 (omega arith))))
 
 -- what the walk keeps
 pub reached-start : Reached start
@@ -152,53 +177,99 @@ module _ (s : Walk) (n : Node) (k : Reached s) where
   unfolding positionalRule
   keep-positional t e = go (eqb (s .stage) Positional) e
     where
-      go : (b : Bool) → if' b (λ _. on (withPositional s)) (λ _. refusedWith positionalAfterNonPositional n) ≡ on t → Kept s t
-      go true e = let t-is : withPositional s ≡ t = cc in rw (← t-is) (record { reached = record { stages = k .stages; noStar = k .noStar; noKwargs = k .noKwargs; counts = omega (arith, k .counts) }; place = refl })
+      go : (b : Bool) → if' b (λ _. on (withPositional s)) (λ _. refusedWith positionalAfterNonPositional n) ≡ on t
+          → Kept s t
+      go true e = let t-is : withPositional s ≡ t = cc in
+          rw (← t-is)
+          (record {
+            reached = record {
+              stages = k .stages;
+              noStar = k .noStar;
+              noKwargs = k .noKwargs;
+              counts = omega (arith, k .counts);
+            };
+            place = refl;
+          })
       go false e = never (cc)
 
   keep-named : (b : Bool) (t : Walk) → namedRule s b n ≡ on t → Kept s t
   unfolding namedRule
   keep-named b t e = go (ltb Named (s .stage)) b refl e
     where
-      go : (l b : Bool) → ltb Named (s .stage) ≡ l → if' l (λ _. refusedWith namedAfterStar n) (λ _. if' b (λ _. repeatedName n) (λ _. on (withNamed s))) ≡ on t → Kept s t
+      go : (l b : Bool) → ltb Named (s .stage) ≡ l
+          → if' l (λ _. refusedWith namedAfterStar n) (λ _. if' b (λ _. repeatedName n) (λ _. on (withNamed s)))
+          ≡ on t → Kept s t
       go true b h e = never (cc)
       go false true h e = never (cc)
       go false false h e =
           let t-is : withNamed s ≡ t = cc in
           let low = ltb-false Named (s .stage) h in
-          rw (← t-is) (record { reached = record { stages = omega arith; noStar = λ l. k .noStar (omega arith); noKwargs = λ l. k .noKwargs (omega arith); counts = omega (arith, k .counts) }; place = refl })
+          rw (← t-is)
+          (record {
+            reached = record {
+              stages = omega arith;
+              noStar = λ l. k .noStar (omega arith);
+              noKwargs = λ l. k .noKwargs (omega arith);
+              counts = omega (arith, k .counts);
+            };
+            place = refl;
+          })
 
   keep-args : (t : Walk) → argsRule s n ≡ on t → Kept s t
   unfolding argsRule
   keep-args t e = go (ltb Named (s .stage)) refl e
     where
-      go : (l : Bool) → ltb Named (s .stage) ≡ l → if' l (λ _. refusedWith secondStar n) (λ _. if' (given (s .star)) (λ _. internalError) (λ _. on (withArgs s))) ≡ on t → Kept s t
+      go : (l : Bool) → ltb Named (s .stage) ≡ l
+          → if' l (λ _. refusedWith secondStar n)
+          (λ _. if' (given (s .star)) (λ _. internalError) (λ _. on (withArgs s))) ≡ on t → Kept s t
       go true h e = never (cc)
       go false h e =
           let low = ltb-false Named (s .stage) h in
           let free : s .star ≡ Missing = k .noStar (omega arith) in
           let e′ : on (withArgs s) ≡ on t = rw free at e in
           let t-is : withArgs s ≡ t = cc in
-          rw (← t-is) (record { reached = record { stages = omega arith; noStar = λ l. absurd (omega arith); noKwargs = λ l. k .noKwargs (omega arith); counts = omega (arith, rw free at (k .counts)) }; place = refl })
+          rw (← t-is)
+          (record {
+            reached = record {
+              stages = omega arith;
+              noStar = λ l. absurd (omega arith);
+              noKwargs = λ l. k .noKwargs (omega arith);
+              counts = omega (arith, rw free at (k .counts));
+            };
+            place = refl;
+          })
 
   keep-kwargs : (t : Walk) → kwargsRule s n ≡ on t → Kept s t
   unfolding kwargsRule
   keep-kwargs t e = go (eqb (s .stage) Kwargs) refl e
     where
-      go : (l : Bool) → eqb (s .stage) Kwargs ≡ l → if' l (λ _. refusedWith secondKwargs n) (λ _. if' (given (s .«star_star»)) (λ _. internalError) (λ _. on (withKwargs s))) ≡ on t → Kept s t
+      go : (l : Bool) → eqb (s .stage) Kwargs ≡ l
+          → if' l (λ _. refusedWith secondKwargs n)
+          (λ _. if' (given (s .«star_star»)) (λ _. internalError) (λ _. on (withKwargs s))) ≡ on t → Kept s t
       go true h e = never (cc)
       go false h e =
           let low = eqb-false (s .stage) Kwargs h in
           let free : s .«star_star» ≡ Missing = k .noKwargs (omega (arith, k .stages)) in
           let e′ : on (withKwargs s) ≡ on t = rw free at e in
           let t-is : withKwargs s ≡ t = cc in
-          rw (← t-is) (record { reached = record { stages = omega arith; noStar = λ l. absurd (omega arith); noKwargs = λ l. absurd (omega arith); counts = omega (arith, rw free at (k .counts)) }; place = refl })
+          rw (← t-is)
+          (record {
+            reached = record {
+              stages = omega arith;
+              noStar = λ l. absurd (omega arith);
+              noKwargs = λ l. absurd (omega arith);
+              counts = omega (arith, rw free at (k .counts));
+            };
+            place = refl;
+          })
 
   pub keep : (kind : ℕ) (b : Bool) (t : Walk) → stepBy s kind b n ≡ on t → Kept s t
   unfolding stepBy
   keep kind b t e = go (eqb kind kindPositional) (eqb kind kindNamed) (eqb kind kindArgsArg) e
     where
-      go : (p q r : Bool) → if' p (λ _. positionalRule s n) (λ _. if' q (λ _. namedRule s b n) (λ _. if' r (λ _. argsRule s n) (λ _. kwargsRule s n))) ≡ on t → Kept s t
+      go : (p q r : Bool) → if' p (λ _. positionalRule s n)
+          (λ _. if' q (λ _. namedRule s b n) (λ _. if' r (λ _. argsRule s n) (λ _. kwargsRule s n))) ≡ on t
+          → Kept s t
       go true q r e = keep-positional t e
       go false true r e = keep-named b t e
       go false false true e = keep-args t e
@@ -214,44 +285,68 @@ pub record Walking (ns args : List ℕ) (first : ℕ) (left : List ℕ) (at : �
   pub rest : run ns (forest first args) s (forest at left) ≡ run ns (forest first args) start (forest first args)
 
 pub walk-start : (ns args : List ℕ) (first : ℕ) → Walking ns args first args first start
-walk-start ns args first = record { from = omega arith; room = omega arith; reached = reached-start; places = omega arith; number = omega arith; rest = refl }
+walk-start ns args first = record {
+  from = omega arith;
+  room = omega arith;
+  reached = reached-start;
+  places = omega arith;
+  number = omega arith;
+  rest = refl;
+}
 
-module _ {ns args : List ℕ} {first : ℕ} {left : List ℕ} {at : ℕ} {s : Walk} (k : Walking ns args first left at s) where
-  pub walk-end : length left < 24 → accepted (callValues (argsOf s)) ≡ outcomeAnswer (unpack ns (forest first args))
-  unfolding unpack run roots
-  walk-end h =
-      let last : on s ≡ run ns (forest first args) start (forest first args) = rw (forest-none at left h) at (k .rest) in
-      let all : length (roots (forest at left)) ≡ 0 = rw (forest-none at left h) refl in
-      let counts = k .reached .counts in
-      rw (← last, eq-eqb (s .«num_pos» + s .«num_named» + bit (given (s .star)) + bit (given (s .«star_star»))) (length (roots (forest first args))) (omega (arith, k .number))) refl
+module _ {ns args : List ℕ} {first : ℕ} {left : List ℕ} {at : ℕ} {s : Walk} (k : Walking ns args first left at s)
+  where
+    pub walk-end : length left < 24 → accepted (callValues (argsOf s))
+        ≡ outcomeAnswer (unpack ns (forest first args))
+    unfolding unpack run roots
+    walk-end h =
+        let last : on s ≡ run ns (forest first args) start (forest first args) = rw (forest-none at left h) at
+        (k .rest) in
+        let all : length (roots (forest at left)) ≡ 0 = rw (forest-none at left h) refl in
+        let counts = k .reached .counts in
+        rw (
+          ← last,
+          eq-eqb (s .«num_pos» + s .«num_named» + bit (given (s .star)) + bit (given (s .«star_star»)))
+              (length (roots (forest first args))) (omega (arith, k .number)),
+        ) refl
 
-  module _ (big : 24 ≤ length left) {again : Bool} {kind : ℕ} (again-at : again ≡ againAt args ns left (at - first)) (kind-is : kind ≡ nodeOf 0 left .kind) where
-    here : (n : Node) → stepBy s kind again n ≡ stepBy s (nodeOf at left .kind) (repeated ns (forest first args) (nodeOf at left)) n
-    here n = rw (again-at, kind-is) (again-is args ns left first at (k .from) s n)
+    module _ (big : 24 ≤ length left) {again : Bool} {kind : ℕ}
+        (again-at : again ≡ againAt args ns left (at - first))
+        (kind-is : kind ≡ nodeOf 0 left .kind) where
+      here : (n : Node) → stepBy s kind again n
+          ≡ stepBy s (nodeOf at left .kind) (repeated ns (forest first args) (nodeOf at left)) n
+      here n = rw (again-at, kind-is) (again-is args ns left first at (k .from) s n)
 
-    turn : {o : Outcome} → o ≡ stepBy s kind again (nodeOf at left) → after o (λ (t : Walk). run ns (forest first args) t (forest (at + spanOf left / 24) (restOf left))) ≡ run ns (forest first args) start (forest first args)
-    unfolding run
-    turn {o} o-is =
-        rw (o-is ∙ here (nodeOf at left)) (rw (forest-tree at left big) at (k .rest))
+      turn : {o : Outcome} → o ≡ stepBy s kind again (nodeOf at left)
+          → after o (λ (t : Walk). run ns (forest first args) t (forest (at + spanOf left / 24) (restOf left)))
+          ≡ run ns (forest first args) start (forest first args)
+      unfolding run
+      turn {o} o-is =
+          rw (o-is ∙ here (nodeOf at left)) (rw (forest-tree at left big) at (k .rest))
 
-    pub walk-refused : {m : ℕ} → ((n : Node) → refusedWith m n ≡ stepBy s kind again n) → refusedAt m (nodeOf at left) ≡ outcomeAnswer (unpack ns (forest first args))
-    unfolding unpack
-    walk-refused e = rw (← (turn (e (nodeOf at left)))) refl
+      pub walk-refused : {m : ℕ} → ((n : Node) → refusedWith m n ≡ stepBy s kind again n)
+          → refusedAt m (nodeOf at left) ≡ outcomeAnswer (unpack ns (forest first args))
+      unfolding unpack
+      walk-refused e = rw (← (turn (e (nodeOf at left)))) refl
 
-    pub walk-repeated : ((n : Node) → repeatedName n ≡ stepBy s kind again n) → refusedAtName repeatedNamed (nodeOf at left) ≡ outcomeAnswer (unpack ns (forest first args))
-    unfolding unpack
-    walk-repeated e = rw (← (turn (e (nodeOf at left)))) refl
+      pub walk-repeated : ((n : Node) → repeatedName n ≡ stepBy s kind again n)
+          → refusedAtName repeatedNamed (nodeOf at left) ≡ outcomeAnswer (unpack ns (forest first args))
+      unfolding unpack
+      walk-repeated e = rw (← (turn (e (nodeOf at left)))) refl
 
-    pub walk-on : {t : Walk} {e : ℕ} → ((n : Node) → on t ≡ stepBy s kind again n) → e ≡ spanOf left → Walking ns args first (take (length left - e) (drop e left)) (at + e / 24) t
-    unfolding roots
-    walk-on {t} {e} t-is e-is =
-        let kept = keep s (nodeOf at left) (k .reached) kind again t (sym (t-is (nodeOf at left))) in
-        let first-root : length (roots (forest at left)) ≡ suc (length (roots (forest (at + spanOf left / 24) (restOf left)))) = rw (forest-tree at left big) refl in
-        record {
-          from = omega (arith, k .from);
-          room = simp (length-take, length-drop) (omega (arith, k .room));
-          reached = kept .reached;
-          places = omega (arith, k .places, kept .place);
-          number = rw (rest-part e left e-is, e-is) (omega (arith, k .number, kept .place));
-          rest = rw (rest-part e left e-is, e-is) (turn (t-is (nodeOf at left)));
-        }
+      pub walk-on : {t : Walk} {e : ℕ} → ((n : Node) → on t ≡ stepBy s kind again n) → e ≡ spanOf left
+          → Walking ns args first (take (length left - e) (drop e left)) (at + e / 24) t
+      unfolding roots
+      walk-on {t} {e} t-is e-is =
+          let kept = keep s (nodeOf at left) (k .reached) kind again t (sym (t-is (nodeOf at left))) in
+          let first-root : length (roots (forest at left))
+          ≡ suc (length (roots (forest (at + spanOf left / 24) (restOf left)))) = rw (forest-tree at left big)
+          refl in
+          record {
+            from = omega (arith, k .from);
+            room = simp (length-take, length-drop) (omega (arith, k .room));
+            reached = kept .reached;
+            places = omega (arith, k .places, kept .place);
+            number = rw (rest-part e left e-is, e-is) (omega (arith, k .number, kept .place));
+            rest = rw (rest-part e left e-is, e-is) (turn (t-is (nodeOf at left)));
+          }

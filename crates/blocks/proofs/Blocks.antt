@@ -7,8 +7,10 @@ use mathlib.Core.List.{List, [], _∷_, _++_, append-assoc, append-nil}
 use Prim.Native.Nat.{ℕ, zero, suc, _+_, _-_, _<_, _≤_, min}
 use native.Mathlib.Nat.{add-zero}
 use native.Mathlib.Omega.{arith}
-use lib.ListN.{length, getD, take, drop, set, replicate, length-append, length-drop, length-set, length-replicate, take-append-drop}
-use lib.Seq.{take-all, length-take-le, take-at, drop-at, take-take, take-nil, drop-drop, getD-take, take-set-lt, take-set-le}
+use lib.ListN.{length, getD, take, drop, set, replicate, length-append, length-drop, length-set, length-replicate}
+use lib.ListN.{take-append-drop}
+use lib.Seq.{take-all, length-take-le, take-at, drop-at, take-take, take-nil, drop-drop, getD-take, take-set-lt}
+use lib.Seq.{take-set-le}
 use lib.Dec.{eqb, leb}
 use borrow.Author.Tests.{eq-eqb, ne-eqb, eqb-true, le-leb, leb-true}
 use Rattle.fields.specs.Field.{field}
@@ -16,7 +18,9 @@ use Rattle.fields.proofs.Fields.{field-take}
 use Rattle.table.specs.Numbers.{blockShort, blockNumber, blockCheck, blockUsed}
 use Rattle.table.specs.Answer.{Answer, accepted, refused, andThen}
 use Rattle.blocks.specs.Block.{bytesOf, sumOf, weighed, beforeSum, blockOf, zeros, demand, examine, judge}
-use Rattle.blocks.proofs.Spelling.{le-or-lt, Bytes, bytes-take, bytes-append, bytes-zeros, bytes-spelled, length-bytes, field-behind, field-before, field-bytes, bytes-field, field-outside, field-changed}
+use Rattle.blocks.proofs.Spelling.{le-or-lt, Bytes, bytes-take, bytes-append, bytes-zeros, bytes-spelled}
+use Rattle.blocks.proofs.Spelling.{length-bytes, field-behind, field-before, field-bytes, bytes-field}
+use Rattle.blocks.proofs.Spelling.{field-outside, field-changed}
 use Rattle.blocks.proofs.Sums.{weighed-front, weighed-outside, weighed-changed, sum-small}
 
 -- what the judgement of a block demands
@@ -32,7 +36,9 @@ never e = let z : _≡_ {A = ℕ} 0 1 = cc in absurd (omega arith)
 
 -- five demands and what follows them
 met : (a b c d f : Bool) (next : Unit {0} → Answer)
-    → andThen (andThen (demand a blockShort) (λ _. andThen (demand b blockCheck) (λ _. andThen (demand c blockNumber) (λ _. demand (d && f) blockUsed)))) next ≡ accepted []
+    → andThen (andThen (demand a blockShort)
+    (λ _. andThen (demand b blockCheck) (λ _. andThen (demand c blockNumber) (λ _. demand (d && f) blockUsed))))
+    next ≡ accepted []
     → (a ≡ true) × (b ≡ true) × (c ≡ true) × (d ≡ true) × (f ≡ true) × (next tt ≡ accepted [])
 met true true true true true next e = (refl, refl, refl, refl, refl, e)
 met true true true true false next e = never e
@@ -43,11 +49,13 @@ met false b c d f next e = never e
 
 module _ (number used : ℕ) (bs : List ℕ) where
   -- LAW: a block that passes, and what follows it
-  pub passing-then : (next : Unit {0} → Answer) → andThen (judge number used bs) next ≡ accepted [] → Passing number used bs × (next tt ≡ accepted [])
+  pub passing-then : (next : Unit {0} → Answer) → andThen (judge number used bs) next ≡ accepted []
+      → Passing number used bs × (next tt ≡ accepted [])
   unfolding judge examine
   passing-then next e =
       let b : List ℕ = take 512 bs in
-      let m = met (leb 512 (length bs)) (eqb (sumOf b) (field 4 b 508)) (eqb (field 2 b 0) number) (eqb (field 2 b 2) used) (zeros (drop (4 + used) (take 508 b))) next e in (
+      let m = met (leb 512 (length bs)) (eqb (sumOf b) (field 4 b 508)) (eqb (field 2 b 0) number)
+      (eqb (field 2 b 2) used) (zeros (drop (4 + used) (take 508 b))) next e in (
         record {
           long = leb-true 512 (length bs) (m .0);
           check = eqb-true (sumOf b) (field 4 b 508) (m .1);
@@ -65,8 +73,13 @@ module _ (number used : ℕ) (bs : List ℕ) where
   unfolding judge examine
   passes p =
       let b : List ℕ = take 512 bs in
-      rw
-      (le-leb 512 (length bs) (p .long), eq-eqb (sumOf b) (field 4 b 508) (p .check), eq-eqb (field 2 b 0) number (p .numbered), eq-eqb (field 2 b 2) used (p .said), p .padding)
+      rw (
+        le-leb 512 (length bs) (p .long),
+        eq-eqb (sumOf b) (field 4 b 508) (p .check),
+        eq-eqb (field 2 b 0) number (p .numbered),
+        eq-eqb (field 2 b 2) used (p .said),
+        p .padding,
+      )
       refl
 
 -- parts of parts
@@ -80,7 +93,8 @@ pub take-min : (m n : ℕ) (l : List ℕ) → take m (take n l) ≡ take (min m 
 take-min zero n l = let e : min 0 n ≡ 0 = omega arith in rw e refl
 take-min (suc m) zero l = let e : min (suc m) 0 ≡ 0 = omega arith in rw e refl
 take-min (suc m) (suc n) [] = sym (take-nil (min (suc m) (suc n)))
-take-min (suc m) (suc n) (x ∷ l) = let e : min (suc m) (suc n) ≡ suc (min m n) = omega arith in rw e (ap (λ (r : List ℕ). x ∷ r) (take-min m n l))
+take-min (suc m) (suc n) (x ∷ l) = let e : min (suc m) (suc n) ≡ suc (min m n) = omega arith in
+    rw e (ap (λ (r : List ℕ). x ∷ r) (take-min m n l))
 
 sum-front : (f l : List ℕ) → 508 ≤ length f → sumOf (f ++ l) ≡ sumOf f
 unfolding sumOf
@@ -92,7 +106,8 @@ unfolding zeros
 zeros-are [] e = refl
 zeros-are (x ∷ l) e = go (eqb x 0) refl (zeros-are l) e
   where
-    go : (t : Bool) → eqb x 0 ≡ t → (zeros l ≡ true → l ≡ replicate (length l) 0) → (t && zeros l) ≡ true → x ∷ l ≡ 0 ∷ replicate (length l) 0
+    go : (t : Bool) → eqb x 0 ≡ t → (zeros l ≡ true → l ≡ replicate (length l) 0) → (t && zeros l) ≡ true
+        → x ∷ l ≡ 0 ∷ replicate (length l) 0
     go true p rest q = let h : x ≡ 0 = eqb-true x 0 p in let r : l ≡ replicate (length l) 0 = rest q in cc
     go false p rest q = let z : _≡_ {A = ℕ} 0 1 = cc in absurd (omega arith)
 
@@ -124,18 +139,22 @@ module _ (number : ℕ) (content : List ℕ) (fits : length content ≤ 504) whe
   unfolding blockOf
   block-front rest =
       let sum : List ℕ = bytesOf 4 (sumOf (beforeSum number content)) in
-      ap (take 508) (append-assoc (beforeSum number content) sum rest) ∙ take-at (beforeSum number content) (sum ++ rest) 508 length-front
+      ap (take 508) (append-assoc (beforeSum number content) sum rest)
+      ∙ take-at (beforeSum number content) (sum ++ rest) 508 length-front
 
   -- LAW: its content stands there, and zeros behind it
-  pub content-there : (rest : List ℕ) → take 504 (drop 4 (blockOf number content ++ rest)) ≡ content ++ replicate (504 - length content) 0
-  content-there rest = sym (drop-take 4 508 (blockOf number content ++ rest)) ∙ ap (drop 4) (block-front rest) ∙ front-content
+  pub content-there : (rest : List ℕ) → take 504 (drop 4 (blockOf number content ++ rest)) ≡ content
+      ++ replicate (504 - length content) 0
+  content-there rest = sym (drop-take 4 508 (blockOf number content ++ rest)) ∙ ap (drop 4) (block-front rest)
+      ∙ front-content
 
   module _ (small : Bytes content) (few : number < 65536) (rest : List ℕ) where
     bytes-front : Bytes (beforeSum number content)
     unfolding beforeSum
     bytes-front =
         bytes-append (bytesOf 2 number) _ (bytes-spelled 2 number)
-        (bytes-append (bytesOf 2 (length content)) _ (bytes-spelled 2 (length content)) (bytes-append content _ small (bytes-zeros (504 - length content))))
+        (bytes-append (bytesOf 2 (length content)) _ (bytes-spelled 2 (length content))
+        (bytes-append content _ small (bytes-zeros (504 - length content))))
 
     first : take 512 (blockOf number content ++ rest) ≡ blockOf number content
     first = take-at (blockOf number content) rest 512 length-block
@@ -146,29 +165,38 @@ module _ (number : ℕ) (content : List ℕ) (fits : length content ≤ 504) whe
         let f : List ℕ = beforeSum number content in
         let s : ℕ = weighed 508 f in
         let there : field 4 (f ++ bytesOf 4 s) (length f + 0) ≡ s =
-        field-behind 4 f (bytesOf 4 s) 0 ∙ ap (λ (l : List ℕ). field 4 l 0) (sym (append-nil (bytesOf 4 s))) ∙ field-bytes 4 s [] (sum-small f bytes-front) in
-        weighed-front 508 f (bytesOf 4 s) (omega (arith, length-front)) ∙ sym (rw (length-front, add-zero 508) at there)
+        field-behind 4 f (bytesOf 4 s) 0 ∙ ap (λ (l : List ℕ). field 4 l 0) (sym (append-nil (bytesOf 4 s)))
+        ∙ field-bytes 4 s [] (sum-small f bytes-front) in
+        weighed-front 508 f (bytesOf 4 s) (omega (arith, length-front))
+        ∙ sym (rw (length-front, add-zero 508) at there)
 
     numbered-so : field 2 (blockOf number content) 0 ≡ number
     unfolding blockOf beforeSum
     numbered-so =
-        field-before 2 (beforeSum number content) (bytesOf 4 (sumOf (beforeSum number content))) 0 (omega (arith, length-front))
+        field-before 2 (beforeSum number content) (bytesOf 4 (sumOf (beforeSum number content))) 0
+        (omega (arith, length-front))
         ∙ field-bytes 2 number (bytesOf 2 (length content) ++ (content ++ replicate (504 - length content) 0)) few
 
     said-so : field 2 (blockOf number content) 2 ≡ length content
     unfolding blockOf beforeSum
     said-so =
         let behind : List ℕ = content ++ replicate (504 - length content) 0 in
-        let there : field 2 (bytesOf 2 number ++ (bytesOf 2 (length content) ++ behind)) (length (bytesOf 2 number) + 0) ≡ length content =
-        field-behind 2 (bytesOf 2 number) (bytesOf 2 (length content) ++ behind) 0 ∙ field-bytes 2 (length content) behind (omega arith) in
-        field-before 2 (beforeSum number content) (bytesOf 4 (sumOf (beforeSum number content))) 2 (omega (arith, length-front))
+        let there : field 2 (bytesOf 2 number ++ (bytesOf 2 (length content) ++ behind))
+        (length (bytesOf 2 number) + 0) ≡ length content =
+        field-behind 2 (bytesOf 2 number) (bytesOf 2 (length content) ++ behind) 0
+        ∙ field-bytes 2 (length content) behind (omega arith) in
+        field-before 2 (beforeSum number content) (bytesOf 4 (sumOf (beforeSum number content))) 2
+        (omega (arith, length-front))
         ∙ (rw (length-bytes 2 number, add-zero 2) at there)
 
     padded-so : zeros (drop (4 + length content) (take 508 (blockOf number content))) ≡ true
     padded-so =
-        let cut : take 508 (blockOf number content) ≡ beforeSum number content = ap (take 508) (sym (append-nil (blockOf number content))) ∙ block-front [] in
+        let cut : take 508 (blockOf number content)
+        ≡ beforeSum number content = ap (take 508) (sym (append-nil (blockOf number content))) ∙ block-front
+        [] in
         let behind : drop (4 + length content) (beforeSum number content) ≡ replicate (504 - length content) 0 =
-        sym (drop-drop (length content) 4 (beforeSum number content)) ∙ ap (drop (length content)) front-content ∙ drop-at content (replicate (504 - length content) 0) (length content) refl in
+        sym (drop-drop (length content) 4 (beforeSum number content)) ∙ ap (drop (length content)) front-content
+        ∙ drop-at content (replicate (504 - length content) 0) (length content) refl in
         rw (cut, behind) (are-zeros (504 - length content))
 
     -- THEOREM: the block of a number and a content passes
@@ -182,7 +210,8 @@ module _ (number : ℕ) (content : List ℕ) (fits : length content ≤ 504) whe
     }
 
 -- THEOREM: a block that passes is the block of its content and nothing else
-pub passed-is-block : (number used : ℕ) (bs : List ℕ) → used ≤ 504 → Bytes bs → Passing number used bs → take 512 bs ≡ blockOf number (take used (drop 4 bs))
+pub passed-is-block : (number used : ℕ) (bs : List ℕ) → used ≤ 504 → Bytes bs → Passing number used bs
+    → take 512 bs ≡ blockOf number (take used (drop 4 bs))
 unfolding blockOf beforeSum
 passed-is-block number used bs fits small p =
     let b : List ℕ = take 512 bs in
@@ -193,38 +222,54 @@ passed-is-block number used bs fits small p =
     let small-f : Bytes f = bytes-take b 508 small-b in
     let content : List ℕ = take used (drop 4 bs) in
     let inside : take used (drop 4 f) ≡ content =
-    ap (λ (x : List ℕ). take used (drop 4 x)) (take-take 508 512 bs (omega arith)) ∙ ap (take used) (drop-take 4 508 bs) ∙ take-take used 504 (drop 4 bs) fits in
-    let long-c : length content ≡ used = length-take-le used (drop 4 bs) (simp length-drop (omega (arith, p .long))) in
-    let a : take 2 f ≡ bytesOf 2 number = sym (bytes-field 2 f 0 small-f (omega arith)) ∙ ap (bytesOf 2) (field-take 2 b 508 0 (omega arith) ∙ p .numbered) in
-    let u : take 2 (drop 2 f) ≡ bytesOf 2 (length content) = sym (bytes-field 2 f 2 small-f (omega arith)) ∙ ap (bytesOf 2) (field-take 2 b 508 2 (omega arith) ∙ p .said ∙ sym long-c) in
+    ap (λ (x : List ℕ). take used (drop 4 x)) (take-take 508 512 bs (omega arith))
+    ∙ ap (take used) (drop-take 4 508 bs) ∙ take-take used 504 (drop 4 bs) fits in
+    let long-c : length content ≡ used = length-take-le used (drop 4 bs)
+    (simp length-drop (omega (arith, p .long))) in
+    let a : take 2 f ≡ bytesOf 2 number = sym (bytes-field 2 f 0 small-f (omega arith))
+    ∙ ap (bytesOf 2) (field-take 2 b 508 0 (omega arith) ∙ p .numbered) in
+    let u : take 2 (drop 2 f) ≡ bytesOf 2 (length content) = sym (bytes-field 2 f 2 small-f (omega arith))
+    ∙ ap (bytesOf 2) (field-take 2 b 508 2 (omega arith) ∙ p .said ∙ sym long-c) in
     let behind : length (drop (4 + used) f) ≡ 504 - length content = simp length-drop (omega arith) in
-    let z : drop (4 + used) f ≡ replicate (504 - length content) 0 = zeros-are (drop (4 + used) f) (p .padding) ∙ ap (λ (n : ℕ). replicate n 0) behind in
+    let z : drop (4 + used) f ≡ replicate (504 - length content) 0 = zeros-are (drop (4 + used) f) (p .padding)
+    ∙ ap (λ (n : ℕ). replicate n 0) behind in
     let four : drop 4 f ≡ content ++ replicate (504 - length content) 0 =
     sym (take-append-drop used (drop 4 f)) ∙ rw (inside, drop-drop used 4 f, z) refl in
     let two : drop 2 f ≡ bytesOf 2 (length content) ++ (content ++ replicate (504 - length content) 0) =
     sym (take-append-drop 2 (drop 2 f)) ∙ rw (u, drop-drop 2 2 f, four) refl in
-    let front : f ≡ bytesOf 2 number ++ (bytesOf 2 (length content) ++ (content ++ replicate (504 - length content) 0)) =
+    let front : f ≡ bytesOf 2 number ++ (bytesOf 2 (length content)
+    ++ (content ++ replicate (504 - length content) 0)) =
     sym (take-append-drop 2 f) ∙ rw (a, two) refl in
-    let sum : sumOf b ≡ sumOf f = ap sumOf (sym (take-append-drop 508 b)) ∙ sum-front f (drop 508 b) (omega arith) in
+    let sum : sumOf b ≡ sumOf f = ap sumOf (sym (take-append-drop 508 b))
+    ∙ sum-front f (drop 508 b) (omega arith) in
     let s : drop 508 b ≡ bytesOf 4 (sumOf f) =
-    sym (take-all 4 (drop 508 b) (simp length-drop (omega arith))) ∙ sym (bytes-field 4 b 508 small-b (omega arith)) ∙ ap (bytesOf 4) (sym (p .check) ∙ sum) in
+    sym (take-all 4 (drop 508 b) (simp length-drop (omega arith))) ∙ sym (bytes-field 4 b 508 small-b (omega arith))
+    ∙ ap (bytesOf 4) (sym (p .check) ∙ sum) in
     sym (take-append-drop 508 b) ∙ rw (s, front) refl
 
 -- THEOREM: any one byte of a block that passes changed to any other value gives 72, whatever number and used bytes are then asked for
-pub changed-block : (number used : ℕ) (bs : List ℕ) (i v : ℕ) → Passing number used bs → i < 512 → (v ≡ getD bs i 0 → ⊥) → (number′ used′ : ℕ) → judge number′ used′ (set bs i v) ≡ refused blockCheck []
+pub changed-block : (number used : ℕ) (bs : List ℕ) (i v : ℕ) → Passing number used bs → i < 512
+    → (v ≡ getD bs i 0 → ⊥) → (number′ used′ : ℕ) → judge number′ used′ (set bs i v) ≡ refused blockCheck []
 unfolding judge examine sumOf
 changed-block number used bs i v p h other number′ used′ =
     let b : List ℕ = take 512 bs in
     let there : i < length b = omega (arith, length-take-le 512 bs (p .long)) in
     let same : getD b i 0 ≡ getD bs i 0 = getD-take 512 bs i 0 h in
     let wrong : weighed 508 (set b i v) ≡ field 4 (set b i v) 508 → ⊥ = λ e. ⊎-elim
-    (λ (q : 508 ≤ i). other (field-changed 4 b 508 i v q (omega arith) there (sym e ∙ weighed-outside 508 b i v q ∙ p .check) ∙ same))
-    (λ (q : i < 508). other (weighed-changed 508 b i v q there (e ∙ field-outside 4 b 508 i v q ∙ sym (p .check)) ∙ same))
+    (λ (q : 508 ≤ i). other (field-changed 4 b 508 i v q (omega arith) there
+    (sym e ∙ weighed-outside 508 b i v q ∙ p .check) ∙ same))
+    (λ (q : i < 508). other (weighed-changed 508 b i v q there (e ∙ field-outside 4 b 508 i v q ∙ sym (p .check))
+    ∙ same))
     (le-or-lt 508 i) in
     let long : 512 ≤ length (set bs i v) = omega (arith, length-set bs i v, p .long) in
-    rw (le-leb 512 (length (set bs i v)) long, take-set-lt 512 bs i v h, ne-eqb (weighed 508 (set b i v)) (field 4 (set b i v) 508) wrong) refl
+    rw (
+      le-leb 512 (length (set bs i v)) long,
+      take-set-lt 512 bs i v h,
+      ne-eqb (weighed 508 (set b i v)) (field 4 (set b i v) 508) wrong,
+    ) refl
 
 -- LAW: a byte behind a block does not matter to it
-pub judge-outside : (number used : ℕ) (bs : List ℕ) (i v : ℕ) → 512 ≤ i → judge number used (set bs i v) ≡ judge number used bs
+pub judge-outside : (number used : ℕ) (bs : List ℕ) (i v : ℕ) → 512 ≤ i
+    → judge number used (set bs i v) ≡ judge number used bs
 unfolding judge
 judge-outside number used bs i v h = rw (length-set bs i v, take-set-le 512 bs i v h) refl

@@ -40,7 +40,8 @@ module _ {b : List ℕ} {from p : ℕ} (s : Padding b from p) where
   pad-end h = rw (drop-of-length-le (take 508 b) {i = p} (simp length-take (omega arith))) at (s .left)
 
 -- the demands, one after the other
-module _ (number used : ℕ) (b : List ℕ) {s w n : ℕ} (s-is : s ≡ sumOf b) (w-is : w ≡ field 4 b 508) (n-is : n ≡ field 2 b 0) where
+module _ (number used : ℕ) (b : List ℕ) {s w n : ℕ} (s-is : s ≡ sumOf b) (w-is : w ≡ field 4 b 508)
+    (n-is : n ≡ field 2 b 0) where
   pub examine-check : eqb s w ≡ false → refused blockCheck [] ≡ examine number used b
   unfolding examine
   examine-check wrong = rw (← s-is, ← w-is, wrong) refl
@@ -71,6 +72,7 @@ module _ (number used : ℕ) (bs : List ℕ) where
   unfolding judge
   judge-short h = rw (lt-leb 512 (length bs) h) refl
 
-  pub judge-long : 512 ≤ length bs → {b : List ℕ} {r : Answer} → b ≡ take 512 bs → r ≡ examine number used b → r ≡ judge number used bs
+  pub judge-long : 512 ≤ length bs → {b : List ℕ} {r : Answer} → b ≡ take 512 bs → r ≡ examine number used b
+      → r ≡ judge number used bs
   unfolding judge
   judge-long h b-is r-is = r-is ∙ ap (examine number used) b-is ∙ rw (le-leb 512 (length bs) h) refl

@@ -17,11 +17,13 @@ judged-injective (Refused m) Passed e = let z : _≡_ {A = ℕ} 0 1 = cc in absu
 judged-injective (Refused m) (Refused n) e = cc
 
 -- of `judge`, the bytes as lent
-pub judge-one : (bytes : List ℕ) (number used : ℕ) {r s : Judged} → judged r ≡ judge number used bytes → judged s ≡ judge number used bytes → r ≡ s
+pub judge-one : (bytes : List ℕ) (number used : ℕ) {r s : Judged} → judged r ≡ judge number used bytes
+    → judged s ≡ judge number used bytes → r ≡ s
 judge-one bytes number used = coincide-by judged judged-injective
 
 -- of `judge_run`, the bytes as lent
-pub judge-run-one : (bytes : List ℕ) (first total : ℕ) {r s : Judged} → judged r ≡ judgeRun first total bytes → judged s ≡ judgeRun first total bytes → r ≡ s
+pub judge-run-one : (bytes : List ℕ) (first total : ℕ) {r s : Judged} → judged r ≡ judgeRun first total bytes
+    → judged s ≡ judgeRun first total bytes → r ≡ s
 judge-run-one bytes first total = coincide-by judged judged-injective
 
 -- of `blocks_for`

@@ -6,7 +6,8 @@ use mathlib.Core.List.{List, [], _∷_, _++_, append-assoc, append-nil}
 use Prim.Native.Nat.{ℕ, zero, suc, _+_, _*_, _-_, _/_, _<_, _≤_, min}
 use native.Mathlib.Omega.{arith}
 use lib.ListN.{length, getD, take, drop, set, replicate, length-append, length-take, length-drop, take-append-drop}
-use lib.Seq.{take-all, length-take-le, take-at, drop-at, take-append-le, take-append-add, take-take, take-add, getD-drop, drop-set-add}
+use lib.Seq.{take-all, length-take-le, take-at, drop-at, take-append-le, take-append-add, take-take, take-add}
+use lib.Seq.{getD-drop, drop-set-add}
 use Rattle.fields.proofs.Fields.{tail-part}
 use Rattle.table.specs.Numbers.{blockCheck}
 use Rattle.table.specs.Answer.{Answer, accepted, refused, andThen}
@@ -15,22 +16,27 @@ use Rattle.blocks.specs.declared.Judged.{Judged}
 use Rattle.blocks.specs.declared.Judged.the-variants.{Passed, Refused}
 use Rattle.blocks.specs.Block.{blockOf, judge, judged}
 use Rattle.blocks.specs.Run.{blocksFor, blocksOf, runOf, judgeBlocks, judgeRun, contents, contentOf}
-use Rattle.blocks.proofs.Blocks.{passing, passing-then, passes, drop-take, take-min, length-block, content-there, block-passes, passed-is-block, changed-block, judge-outside}
+use Rattle.blocks.proofs.Blocks.{passing, passing-then, passes, drop-take, take-min, length-block}
+use Rattle.blocks.proofs.Blocks.{content-there, block-passes, passed-is-block, changed-block, judge-outside}
 use Rattle.blocks.proofs.Spelling.{le-or-lt, Bytes, bytes-take, bytes-drop}
 
 -- a byte behind the first n
 pub drop-set : (n : ℕ) (l : List ℕ) (i v : ℕ) → n ≤ i → drop n (set l i v) ≡ set (drop n l) (i - n) v
-drop-set n l i v h = let at : i ≡ n + (i - n) = omega arith in ap (λ (x : ℕ). drop n (set l x v)) at ∙ drop-set-add n l (i - n) v
+drop-set n l i v h = let at : i ≡ n + (i - n) = omega arith in
+    ap (λ (x : ℕ). drop n (set l x v)) at ∙ drop-set-add n l (i - n) v
 
 pub getD-behind : (n : ℕ) (l : List ℕ) (i : ℕ) → n ≤ i → getD (drop n l) (i - n) 0 ≡ getD l i 0
-getD-behind n l i h = let at : n + (i - n) ≡ i = omega arith in getD-drop n l (i - n) 0 ∙ ap (λ (x : ℕ). getD l x 0) at
+getD-behind n l i h = let at : n + (i - n) ≡ i = omega arith in
+    getD-drop n l (i - n) 0 ∙ ap (λ (x : ℕ). getD l x 0) at
 
 -- one block and the others
 pub blocks-more : (total : ℕ) → 0 < total → blocksFor total ≡ suc (blocksFor (total - 504))
 unfolding blocksFor
 blocks-more total h = omega arith
 
-pub run-more : (number total : ℕ) (bs : List ℕ) → 0 < total → judgeRun number total bs ≡ andThen (judge number (min 504 total) bs) (λ _. judgeRun (number + 1) (total - 504) (drop 512 bs))
+pub run-more : (number total : ℕ) (bs : List ℕ) → 0 < total
+    → judgeRun number total bs ≡ andThen (judge number (min 504 total) bs)
+    (λ _. judgeRun (number + 1) (total - 504) (drop 512 bs))
 unfolding judgeRun judgeBlocks
 run-more number total bs h = rw (blocks-more total h) refl
 
@@ -46,11 +52,13 @@ pub record Running (bs : List ℕ) (first total : ℕ) (left : List ℕ) (number
 pub running-start : (bs : List ℕ) (first total : ℕ) → Running bs first total bs first total
 running-start bs first total = record { room = omega arith; same = refl }
 
-module _ {bs : List ℕ} {first total : ℕ} {left : List ℕ} {number more : ℕ} (s : Running bs first total left number more) where
+module _ {bs : List ℕ} {first total : ℕ} {left : List ℕ} {number more : ℕ}
+    (s : Running bs first total left number more) where
   pub running-end : more ≤ 0 → accepted [] ≡ judgeRun first total bs
   running-end h = let e : more ≡ 0 = omega arith in sym (run-none number left) ∙ (rw e at (s .same))
 
-  module _ (h : 0 < more) {used : ℕ} (used-is : used ≡ min 504 more) (j : Judged) (j-is : judged j ≡ judge number used left) where
+  module _ (h : 0 < more) {used : ℕ} (used-is : used ≡ min 504 more) (j : Judged)
+      (j-is : judged j ≡ judge number used left) where
     here : andThen (judged j) (λ _. judgeRun (number + 1) (more - 504) (drop 512 left)) ≡ judgeRun first total bs
     here = rw (j-is, used-is) (sym (run-more number more left h) ∙ s .same)
 
@@ -60,7 +68,8 @@ module _ {bs : List ℕ} {first total : ℕ} {left : List ℕ} {number more : �
     pub running-long : j ≡ Passed → 512 ≤ length left
     running-long e = passing number used left (sym (rw e at j-is)) .long
 
-    pub running-on : j ≡ Passed → Running bs first total (take (length left - 512) (drop 512 left)) (number + 1) (more - used)
+    pub running-on : j ≡ Passed → Running bs first total (take (length left - 512) (drop 512 left)) (number + 1)
+        (more - used)
     running-on e = record {
       room = simp (length-take, length-drop) (omega (arith, s .room, running-long e));
       same =
@@ -74,7 +83,11 @@ unfolding blocksOf
 length-blocks zero number content = refl
 length-blocks (suc n) number content =
     let fits : length (take 504 content) ≤ 504 = simp length-take (omega arith) in
-    simp (length-append, length-block number (take 504 content) fits, length-blocks n (number + 1) (drop 504 content)) (omega arith)
+    simp (
+      length-append,
+      length-block number (take 504 content) fits,
+      length-blocks n (number + 1) (drop 504 content),
+    ) (omega arith)
 
 pub length-run : (number : ℕ) (content : List ℕ) → length (runOf number content) ≡ 512 * blocksFor (length content)
 unfolding runOf
@@ -85,13 +98,16 @@ pub contents-long : (n : ℕ) (bs : List ℕ) → 512 * n ≤ length bs → leng
 unfolding contents
 contents-long zero bs h = refl
 contents-long (suc n) bs h =
-    let r : length (contents n (drop 512 bs)) ≡ 504 * n = contents-long n (drop 512 bs) (simp length-drop (omega arith)) in
+    let r : length (contents n (drop 512 bs)) ≡ 504
+    * n = contents-long n (drop 512 bs) (simp length-drop (omega arith)) in
     simp (length-append, length-take-le 504 (drop 4 bs) (simp length-drop (omega arith)), r) (omega arith)
 
 -- the content of a run that is there: as long as asked for
-pub content-long : (total : ℕ) (bs : List ℕ) → 512 * blocksFor total ≤ length bs → length (contentOf total bs) ≡ total
+pub content-long : (total : ℕ) (bs : List ℕ) → 512 * blocksFor total ≤ length bs
+    → length (contentOf total bs) ≡ total
 unfolding contentOf blocksFor
-content-long total bs h = length-take-le total (contents (blocksFor total) bs) (omega (arith, contents-long (blocksFor total) bs h))
+content-long total bs h = length-take-le total (contents (blocksFor total) bs)
+    (omega (arith, contents-long (blocksFor total) bs h))
 
 -- what stands in the first block, and in the others
 module _ (n total : ℕ) (bs : List ℕ) (h : 512 ≤ length bs) where
@@ -110,60 +126,86 @@ module _ (n total : ℕ) (bs : List ℕ) (h : 512 ≤ length bs) where
   unfolding contents
   other-part =
       let others : List ℕ = contents n (drop 512 bs) in
-      drop-take 504 total (take 504 (drop 4 bs) ++ others) ∙ ap (take (total - 504)) (drop-at (take 504 (drop 4 bs)) others 504 full)
+      drop-take 504 total (take 504 (drop 4 bs) ++ others)
+      ∙ ap (take (total - 504)) (drop-at (take 504 (drop 4 bs)) others 504 full)
 
 -- LAW: the content of one block and of the others
-pub content-more : (total : ℕ) (bs : List ℕ) → 0 < total → 512 ≤ length bs → contentOf total bs ≡ take (min 504 total) (drop 4 bs) ++ contentOf (total - 504) (drop 512 bs)
+pub content-more : (total : ℕ) (bs : List ℕ) → 0 < total → 512 ≤ length bs
+    → contentOf total bs ≡ take (min 504 total) (drop 4 bs) ++ contentOf (total - 504) (drop 512 bs)
 unfolding contentOf
 content-more total bs more h =
     let n : ℕ = blocksFor (total - 504) in
-    rw (blocks-more total more) (sym (take-append-drop 504 (take total (contents (suc n) bs))) ∙ rw (first-part n total bs h, other-part n total bs h) refl)
+    rw (blocks-more total more) (sym (take-append-drop 504 (take total (contents (suc n) bs)))
+    ∙ rw (first-part n total bs h, other-part n total bs h) refl)
 
 -- LAW: a run that passes is there
 blocks-long : (n number total : ℕ) (bs : List ℕ) → judgeBlocks n number total bs ≡ accepted [] → 512 * n ≤ length bs
 unfolding judgeBlocks
 blocks-long zero number total bs e = omega arith
 blocks-long (suc n) number total bs e =
-    let step = passing-then number (min 504 total) bs (λ _. judgeBlocks n (number + 1) (total - 504) (drop 512 bs)) e in
-    omega (arith, step .0 .long, length-drop 512 bs, blocks-long n (number + 1) (total - 504) (drop 512 bs) (step .1))
+    let step = passing-then number (min 504 total) bs (λ _. judgeBlocks n (number + 1) (total - 504) (drop 512 bs))
+    e in
+    omega (
+      arith,
+      step .0 .long,
+      length-drop 512 bs,
+      blocks-long n (number + 1) (total - 504) (drop 512 bs) (step .1),
+    )
 
-pub run-long : (number total : ℕ) (bs : List ℕ) → judgeRun number total bs ≡ accepted [] → 512 * blocksFor total ≤ length bs
+pub run-long : (number total : ℕ) (bs : List ℕ) → judgeRun number total bs ≡ accepted []
+    → 512 * blocksFor total ≤ length bs
 unfolding judgeRun
 run-long number total bs e = blocks-long (blocksFor total) number total bs e
 
 -- LAW: a run that passes, and what follows it
-blocks-then : (n number total : ℕ) (bs : List ℕ) (next : Unit {0} → Answer) → andThen (judgeBlocks n number total bs) next ≡ accepted [] → (judgeBlocks n number total bs ≡ accepted []) × (next tt ≡ accepted [])
+blocks-then : (n number total : ℕ) (bs : List ℕ) (next : Unit {0} → Answer)
+    → andThen (judgeBlocks n number total bs) next ≡ accepted []
+    → (judgeBlocks n number total bs ≡ accepted []) × (next tt ≡ accepted [])
 unfolding judgeBlocks
 blocks-then zero number total bs next e = (refl, e)
 blocks-then (suc n) number total bs next e =
     let later : Unit {0} → Answer = λ _. judgeBlocks n (number + 1) (total - 504) (drop 512 bs) in
-    let step = passing-then number (min 504 total) bs (λ _. andThen (later tt) next) (sym (after-both (judge number (min 504 total) bs) later next) ∙ e) in
+    let step = passing-then number (min 504 total) bs (λ _. andThen (later tt) next)
+    (sym (after-both (judge number (min 504 total) bs) later next) ∙ e) in
     let rest = blocks-then n (number + 1) (total - 504) (drop 512 bs) next (step .1) in
     (rw (passes number (min 504 total) bs (step .0)) (rest .0), rest .1)
 
-pub run-then : (number total : ℕ) (bs : List ℕ) (next : Unit {0} → Answer) → andThen (judgeRun number total bs) next ≡ accepted [] → (judgeRun number total bs ≡ accepted []) × (next tt ≡ accepted [])
+pub run-then : (number total : ℕ) (bs : List ℕ) (next : Unit {0} → Answer)
+    → andThen (judgeRun number total bs) next ≡ accepted []
+    → (judgeRun number total bs ≡ accepted []) × (next tt ≡ accepted [])
 unfolding judgeRun
 run-then number total bs next e = blocks-then (blocksFor total) number total bs next e
 
 -- THEOREM: a run that passes is the run of its content and nothing else
-passed-are-blocks : (n number total : ℕ) (bs : List ℕ) → Bytes bs → judgeBlocks n number total bs ≡ accepted [] → take (512 * n) bs ≡ blocksOf n number (take total (contents n bs))
+passed-are-blocks : (n number total : ℕ) (bs : List ℕ) → Bytes bs → judgeBlocks n number total bs ≡ accepted []
+    → take (512 * n) bs ≡ blocksOf n number (take total (contents n bs))
 unfolding judgeBlocks blocksOf
 passed-are-blocks zero number total bs small e = refl
 passed-are-blocks (suc n) number total bs small e =
-    let step = passing-then number (min 504 total) bs (λ _. judgeBlocks n (number + 1) (total - 504) (drop 512 bs)) e in
+    let step = passing-then number (min 504 total) bs (λ _. judgeBlocks n (number + 1) (total - 504) (drop 512 bs))
+    e in
     let cut : 512 * suc n ≡ 512 + 512 * n = omega arith in
-    rw
-    (cut, take-add 512 (512 * n) bs, first-part n total bs (step .0 .long), other-part n total bs (step .0 .long), passed-are-blocks n (number + 1) (total - 504) (drop 512 bs) (bytes-drop bs 512 small) (step .1), passed-is-block number (min 504 total) bs (omega arith) small (step .0))
+    rw (
+      cut,
+      take-add 512 (512 * n) bs,
+      first-part n total bs (step .0 .long),
+      other-part n total bs (step .0 .long),
+      passed-are-blocks n (number + 1) (total - 504) (drop 512 bs) (bytes-drop bs 512 small) (step .1),
+      passed-is-block number (min 504 total) bs (omega arith) small (step .0),
+    )
     refl
 
-pub passed-is-run : (number total : ℕ) (bs : List ℕ) → Bytes bs → judgeRun number total bs ≡ accepted [] → take (512 * blocksFor total) bs ≡ runOf number (contentOf total bs)
+pub passed-is-run : (number total : ℕ) (bs : List ℕ) → Bytes bs → judgeRun number total bs ≡ accepted []
+    → take (512 * blocksFor total) bs ≡ runOf number (contentOf total bs)
 unfolding judgeRun runOf contentOf
 passed-is-run number total bs small e =
     passed-are-blocks (blocksFor total) number total bs small e
-    ∙ ap (λ (n : ℕ). blocksOf (blocksFor n) number (contentOf total bs)) (sym (content-long total bs (run-long number total bs e)))
+    ∙ ap (λ (n : ℕ). blocksOf (blocksFor n) number (contentOf total bs))
+    (sym (content-long total bs (run-long number total bs e)))
 
 -- THEOREM: the run of a content passes, and its content is there
-blocks-pass : (n number : ℕ) (content rest : List ℕ) → n ≡ blocksFor (length content) → Bytes content → number + n ≤ 65536 → judgeBlocks n number (length content) (blocksOf n number content ++ rest) ≡ accepted []
+blocks-pass : (n number : ℕ) (content rest : List ℕ) → n ≡ blocksFor (length content) → Bytes content
+    → number + n ≤ 65536 → judgeBlocks n number (length content) (blocksOf n number content ++ rest) ≡ accepted []
 unfolding judgeBlocks blocksOf blocksFor
 blocks-pass zero number content rest n-is small few = refl
 blocks-pass (suc n) number content rest n-is small few =
@@ -173,15 +215,24 @@ blocks-pass (suc n) number content rest n-is small few =
     let long : min 504 (length content) ≡ length here = sym (length-take 504 content) in
     let less : length content - 504 ≡ length (drop 504 content) = sym (length-drop 504 content) in
     let count : n ≡ (length (drop 504 content) + 503) / 504 = omega arith in
-    rw
-    (append-assoc (blockOf number here) others rest, drop-at (blockOf number here) (others ++ rest) 512 (length-block number here fits), long, block-passes number here fits (bytes-take content 504 small) (omega arith) (others ++ rest), less, blocks-pass n (number + 1) (drop 504 content) rest count (bytes-drop content 504 small) (omega arith))
+    rw (
+      append-assoc (blockOf number here) others rest,
+      drop-at (blockOf number here) (others ++ rest) 512 (length-block number here fits),
+      long,
+      block-passes number here fits (bytes-take content 504 small) (omega arith) (others ++ rest),
+      less,
+      blocks-pass n (number + 1) (drop 504 content) rest count (bytes-drop content 504 small) (omega arith),
+    )
     refl
 
-pub run-passes : (number : ℕ) (content rest : List ℕ) → Bytes content → number + blocksFor (length content) ≤ 65536 → judgeRun number (length content) (runOf number content ++ rest) ≡ accepted []
+pub run-passes : (number : ℕ) (content rest : List ℕ) → Bytes content → number + blocksFor (length content) ≤ 65536
+    → judgeRun number (length content) (runOf number content ++ rest) ≡ accepted []
 unfolding judgeRun runOf
-run-passes number content rest small few = blocks-pass (blocksFor (length content)) number content rest refl small few
+run-passes number content rest small few = blocks-pass (blocksFor (length content)) number content rest refl small
+    few
 
-blocks-hold : (n number : ℕ) (content rest : List ℕ) → length content ≤ 504 * n → take (length content) (contents n (blocksOf n number content ++ rest)) ≡ content
+blocks-hold : (n number : ℕ) (content rest : List ℕ) → length content ≤ 504 * n
+    → take (length content) (contents n (blocksOf n number content ++ rest)) ≡ content
 unfolding blocksOf contents
 blocks-hold zero number [] rest h = refl
 blocks-hold zero number (x ∷ content) rest h = absurd (omega arith)
@@ -192,38 +243,52 @@ blocks-hold (suc n) number content rest h =
     let pad : List ℕ = replicate (504 - length here) 0 in
     let more : List ℕ = contents n (others ++ rest) in
     let less : length (drop 504 content) ≤ 504 * n = simp length-drop (omega arith) in
-    let there : take (length (drop 504 content)) more ≡ drop 504 content = blocks-hold n (number + 1) (drop 504 content) rest less in
-    rw
-    (append-assoc (blockOf number here) others rest, drop-at (blockOf number here) (others ++ rest) 512 (length-block number here fits), content-there number here fits (others ++ rest))
+    let there : take (length (drop 504 content)) more
+    ≡ drop 504 content = blocks-hold n (number + 1) (drop 504 content) rest less in
+    rw (
+      append-assoc (blockOf number here) others rest,
+      drop-at (blockOf number here) (others ++ rest) 512 (length-block number here fits),
+      content-there number here fits (others ++ rest),
+    )
     (⊎-elim
     (λ (q : 504 ≤ length content).
     let long : length here ≡ 504 = length-take-le 504 content q in
     let none : 504 - length here ≡ 0 = omega arith in
     let all : length content ≡ length here + length (drop 504 content) = omega (arith, length-drop 504 content) in
-    rw (all, none, append-nil here, take-append-add here more (length (drop 504 content)), there) (take-append-drop 504 content))
+    rw (all, none, append-nil here, take-append-add here more (length (drop 504 content)), there)
+    (take-append-drop 504 content))
     (λ (q : length content < 504).
     let whole : here ≡ content = take-all 504 content (omega arith) in
-    rw (whole, append-assoc content (replicate (504 - length content) 0) more) (take-at content (replicate (504 - length content) 0 ++ more) (length content) refl))
+    rw (whole, append-assoc content (replicate (504 - length content) 0) more)
+    (take-at content (replicate (504 - length content) 0 ++ more) (length content) refl))
     (le-or-lt 504 (length content)))
 
-pub run-holds : (number : ℕ) (content rest : List ℕ) → contentOf (length content) (runOf number content ++ rest) ≡ content
+pub run-holds : (number : ℕ) (content rest : List ℕ)
+    → contentOf (length content) (runOf number content ++ rest) ≡ content
 unfolding contentOf runOf blocksFor
 run-holds number content rest = blocks-hold (blocksFor (length content)) number content rest (omega arith)
 
 -- LAW: a byte behind a run does not matter to it
-blocks-outside : (n number total : ℕ) (bs : List ℕ) (i v : ℕ) → 512 * n ≤ i → judgeBlocks n number total (set bs i v) ≡ judgeBlocks n number total bs
+blocks-outside : (n number total : ℕ) (bs : List ℕ) (i v : ℕ) → 512 * n ≤ i
+    → judgeBlocks n number total (set bs i v) ≡ judgeBlocks n number total bs
 unfolding judgeBlocks
 blocks-outside zero number total bs i v h = refl
 blocks-outside (suc n) number total bs i v h =
     let later : drop 512 (set bs i v) ≡ set (drop 512 bs) (i - 512) v = drop-set 512 bs i v (omega arith) in
-    rw (judge-outside number (min 504 total) bs i v (omega arith), later, blocks-outside n (number + 1) (total - 504) (drop 512 bs) (i - 512) v (omega arith)) refl
+    rw (
+      judge-outside number (min 504 total) bs i v (omega arith),
+      later,
+      blocks-outside n (number + 1) (total - 504) (drop 512 bs) (i - 512) v (omega arith),
+    ) refl
 
-pub run-outside : (number total : ℕ) (bs : List ℕ) (i v : ℕ) → 512 * blocksFor total ≤ i → judgeRun number total (set bs i v) ≡ judgeRun number total bs
+pub run-outside : (number total : ℕ) (bs : List ℕ) (i v : ℕ) → 512 * blocksFor total ≤ i
+    → judgeRun number total (set bs i v) ≡ judgeRun number total bs
 unfolding judgeRun
 run-outside number total bs i v h = blocks-outside (blocksFor total) number total bs i v h
 
 -- THEOREM: any one byte of a run that passes changed to any other value gives 72
-changed-blocks : (n number total : ℕ) (bs : List ℕ) (i v : ℕ) → judgeBlocks n number total bs ≡ accepted [] → i < 512 * n → (v ≡ getD bs i 0 → ⊥) → judgeBlocks n number total (set bs i v) ≡ refused blockCheck []
+changed-blocks : (n number total : ℕ) (bs : List ℕ) (i v : ℕ) → judgeBlocks n number total bs ≡ accepted []
+    → i < 512 * n → (v ≡ getD bs i 0 → ⊥) → judgeBlocks n number total (set bs i v) ≡ refused blockCheck []
 unfolding judgeBlocks
 changed-blocks zero number total bs i v e h other = absurd (omega arith)
 changed-blocks (suc n) number total bs i v e h other =
@@ -235,10 +300,13 @@ changed-blocks (suc n) number total bs i v e h other =
     let old : getD (drop 512 bs) (i - 512) 0 ≡ getD bs i 0 = getD-behind 512 bs i q in
     rw
     (judge-outside number (min 504 total) bs i v q, passes number (min 504 total) bs (step .0), later)
-    (changed-blocks n (number + 1) (total - 504) (drop 512 bs) (i - 512) v (step .1) (omega arith) (λ g. other (g ∙ old))))
-    (λ (q : i < 512). rw (changed-block number (min 504 total) bs i v (step .0) q other number (min 504 total)) refl)
+    (changed-blocks n (number + 1) (total - 504) (drop 512 bs) (i - 512) v (step .1) (omega arith)
+    (λ g. other (g ∙ old))))
+    (λ (q : i < 512). rw (changed-block number (min 504 total) bs i v (step .0) q other number (min 504 total))
+    refl)
     (le-or-lt 512 i)
 
-pub changed-run : (number total : ℕ) (bs : List ℕ) (i v : ℕ) → judgeRun number total bs ≡ accepted [] → i < 512 * blocksFor total → (v ≡ getD bs i 0 → ⊥) → judgeRun number total (set bs i v) ≡ refused blockCheck []
+pub changed-run : (number total : ℕ) (bs : List ℕ) (i v : ℕ) → judgeRun number total bs ≡ accepted []
+    → i < 512 * blocksFor total → (v ≡ getD bs i 0 → ⊥) → judgeRun number total (set bs i v) ≡ refused blockCheck []
 unfolding judgeRun
 changed-run number total bs i v e h other = changed-blocks (blocksFor total) number total bs i v e h other

@@ -29,7 +29,8 @@ Bytes l = (i : ℕ) → getD l i 0 < 256
 
 pub bytes-take : (l : List ℕ) (n : ℕ) → Bytes l → Bytes (take n l)
 bytes-take l n small i = ⊎-elim
-    (λ (h : n ≤ i). let e : getD (take n l) i 0 ≡ 0 = List·getD-eq-default (take n l) 0 (simp length-take (omega arith)) in omega arith)
+    (λ (h : n ≤ i). let e : getD (take n l) i 0
+    ≡ 0 = List·getD-eq-default (take n l) 0 (simp length-take (omega arith)) in omega arith)
     (λ (h : i < n). rw (getD-take n l i 0 h) (small i))
     (le-or-lt n i)
 
@@ -59,12 +60,16 @@ length-bytes (suc w) n = ap suc (length-bytes w (n / 256))
 
 -- a field behind the front of a list, and one in it
 pub field-behind : (w : ℕ) (a l : List ℕ) (at : ℕ) → field w (a ++ l) (length a + at) ≡ field w l at
-field-behind w a l at = sym (field-drop w (a ++ l) (length a) at) ∙ ap (λ (x : List ℕ). field w x at) (drop-append-seam a l)
+field-behind w a l at = sym (field-drop w (a ++ l) (length a) at)
+    ∙ ap (λ (x : List ℕ). field w x at) (drop-append-seam a l)
 
 pub field-before : (w : ℕ) (a l : List ℕ) (at : ℕ) → at + w ≤ length a → field w (a ++ l) at ≡ field w a at
 unfolding field
 field-before zero a l at h = refl
-field-before (suc w) a l at h = rw (List·getD-append a l 0 at (omega arith), field-before w a l (at + 1) (omega arith)) refl
+field-before (suc w) a l at h = rw (
+  List·getD-append a l 0 at (omega arith),
+  field-before w a l (at + 1) (omega arith),
+) refl
 
 -- LAW: a number that fits is read as it is spelled
 pub field-bytes : (w n : ℕ) (l : List ℕ) → n < 256 ^ w → field w (bytesOf w n ++ l) 0 ≡ n
@@ -78,7 +83,8 @@ field-bytes (suc w) n l h =
     omega (arith, here, rest)
 
 -- LAW: bytes are spelled as they are read
-pub bytes-field : (w : ℕ) (l : List ℕ) (at : ℕ) → Bytes l → at + w ≤ length l → bytesOf w (field w l at) ≡ take w (drop at l)
+pub bytes-field : (w : ℕ) (l : List ℕ) (at : ℕ) → Bytes l → at + w ≤ length l
+    → bytesOf w (field w l at) ≡ take w (drop at l)
 unfolding field bytesOf
 bytes-field zero l at small h = refl
 bytes-field (suc w) l at small h =
@@ -96,15 +102,18 @@ field-outside (suc w) l at i v h =
     rw (getD-set-other l i at v 0 other, field-outside w l (at + 1) i v (omega arith)) refl
 
 -- LAW: one changed byte changes the field
-pub field-changed : (w : ℕ) (l : List ℕ) (at i v : ℕ) → at ≤ i → i < at + w → i < length l → field w (set l i v) at ≡ field w l at → v ≡ getD l i 0
+pub field-changed : (w : ℕ) (l : List ℕ) (at i v : ℕ) → at ≤ i → i < at + w → i < length l
+    → field w (set l i v) at ≡ field w l at → v ≡ getD l i 0
 unfolding field
 field-changed zero l at i v h k m e = absurd (omega arith)
 field-changed (suc w) l at i v h k m e = go (i - at) refl (field-changed w l (at + 1) i v)
   where
-    go : (n : ℕ) → i - at ≡ n → (at + 1 ≤ i → i < at + 1 + w → i < length l → field w (set l i v) (at + 1) ≡ field w l (at + 1) → v ≡ getD l i 0) → v ≡ getD l i 0
+    go : (n : ℕ) → i - at ≡ n → (at + 1 ≤ i → i < at + 1 + w → i < length l
+        → field w (set l i v) (at + 1) ≡ field w l (at + 1) → v ≡ getD l i 0) → v ≡ getD l i 0
     go zero d rest =
         let here : at ≡ i = omega arith in
-        let same : field w (set l i v) (at + 1) ≡ field w l (at + 1) = field-outside w l (at + 1) i v (omega arith) in
+        let same : field w (set l i v) (at + 1)
+        ≡ field w l (at + 1) = field-outside w l (at + 1) i v (omega arith) in
         let new : getD (set l i v) at 0 ≡ v = rw here (getD-set-same l i v 0 m) in
         let old : getD l at 0 ≡ getD l i 0 = rw here refl in
         omega (arith, e)

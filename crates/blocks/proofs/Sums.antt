@@ -32,14 +32,19 @@ weighed-outside (suc p) l i v h =
 pub weighed-small : (n : ℕ) (l : List ℕ) → n ≤ 508 → Bytes l → weighed n l ≤ 129540 * n
 unfolding weighed
 weighed-small zero l h small = omega arith
-weighed-small (suc p) l h small = omega (arith, weighed-small p l (omega arith) small, weight-small p (getD l p 0) (omega arith) (small p))
+weighed-small (suc p) l h small = omega (
+  arith,
+  weighed-small p l (omega arith) small,
+  weight-small p (getD l p 0) (omega arith) (small p),
+)
 
 pub sum-small : (l : List ℕ) → Bytes l → sumOf l < 4294967296
 unfolding sumOf
 sum-small l small = omega (arith, weighed-small 508 l (omega arith) small)
 
 -- a changed byte moves the sum by its factor
-moved : (n : ℕ) (l : List ℕ) (i v : ℕ) → i < n → i < length l → weighed n (set l i v) + (i + 1) * getD l i 0 ≡ weighed n l + (i + 1) * v
+moved : (n : ℕ) (l : List ℕ) (i v : ℕ) → i < n → i < length l
+    → weighed n (set l i v) + (i + 1) * getD l i 0 ≡ weighed n l + (i + 1) * v
 unfolding weighed
 moved zero l i v h k = absurd (omega arith)
 moved (suc p) l i v h k = ⊎-elim
@@ -55,7 +60,8 @@ moved (suc p) l i v h k = ⊎-elim
     (le-or-lt p i)
 
 -- LAW: one changed byte changes the sum
-pub weighed-changed : (n : ℕ) (l : List ℕ) (i v : ℕ) → i < n → i < length l → weighed n (set l i v) ≡ weighed n l → v ≡ getD l i 0
+pub weighed-changed : (n : ℕ) (l : List ℕ) (i v : ℕ) → i < n → i < length l → weighed n (set l i v) ≡ weighed n l
+    → v ≡ getD l i 0
 weighed-changed n l i v h k e =
     eq-of-mul-eq-mul-left (i + 1) (omega arith) v (getD l i 0) (omega (arith, e, moved n l i v h k))
 

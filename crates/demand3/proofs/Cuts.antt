@@ -10,7 +10,8 @@ use lib.Dec.{eqb}
 use borrow.Author.Tests.{ne-eqb}
 use Rattle.forest.specs.Forest.{Node}
 use Rattle.unpack.specs.Written.{Name, Param, normal, noArgs, slash, args, kwargs, nodeIn, kindIn}
-use Rattle.unpack.specs.Unpack.{writtenAt, flatAt, isSlash, slashFrom, firstSlash, positionalOnly, firstState, start, finish, Outcome, accepted, refused, run, unpack, modesFrom, modes}
+use Rattle.unpack.specs.Unpack.{writtenAt, flatAt, isSlash, slashFrom, firstSlash, positionalOnly, firstState}
+use Rattle.unpack.specs.Unpack.{start, finish, Outcome, accepted, refused, run, unpack, modesFrom, modes}
 use Rattle.unpack.specs.declared.State.{State}
 use Rattle.unpack.specs.declared.State.the-variants.{Normal as BeforeSlash, SeenSlash, SeenStar, SeenStarStar}
 use Rattle.unpack.specs.declared.Written.{Written}
@@ -20,11 +21,16 @@ use Rattle.unpack.specs.declared.Flat.{Flat}
 use Rattle.unpack.specs.declared.Counts.{Counts}
 use Rattle.unpack.proofs.Steps.{clear-start}
 use Rattle.unpack.proofs.Theorems.{refused≢accepted}
-use Rattle.demand3.specs.Cut.{Ordinary, Before, noSlash, upToSlash, Star, noStar, bare, starred, Last, noKwargs, withKwargs, Cut, firsts, afterStar, ordinary, slashPart, starPart, kwargsPart, join, namesOf, Distinct, Defaulted, Some, SlashGood, StarGood, Good, argsPart, partsOf, partModes}
+use Rattle.demand3.specs.Cut.{Ordinary, Before, noSlash, upToSlash, Star, noStar, bare, starred, Last}
+use Rattle.demand3.specs.Cut.{noKwargs, withKwargs, Cut, firsts, afterStar, ordinary, slashPart, starPart}
+use Rattle.demand3.specs.Cut.{kwargsPart, join, namesOf, Distinct, Defaulted, Some, SlashGood, StarGood, Good}
+use Rattle.demand3.specs.Cut.{argsPart, partsOf, partModes}
 use Rattle.demand3.proofs.Walks.{Rules, Fresh, countsFrom, starFrom, run-accepted, run-finished}
-use Rattle.demand3.proofs.Shapes.{Defaults, tail, either-rules, NoSlash, Slashed, pos-rules, rules-either, rules-pos, slash-at, slash-from, none-either}
+use Rattle.demand3.proofs.Shapes.{Defaults, tail, either-rules, NoSlash, Slashed, pos-rules, rules-either}
+use Rattle.demand3.proofs.Shapes.{rules-pos, slash-at, slash-from, none-either}
 use Rattle.demand3.proofs.Names.{fresh-iff, defaults-iff}
-use Rattle.demand3.proofs.Counting.{plain, withTail, counts-either, counts-pos, starPlace, star-either, star-pos, starVerdict, finish-tail, modes-either, modes-pos}
+use Rattle.demand3.proofs.Counting.{plain, withTail, counts-either, counts-pos, starPlace, star-either}
+use Rattle.demand3.proofs.Counting.{star-pos, starVerdict, finish-tail, modes-either, modes-pos}
 
 never : {P : Type 0} {b : Bool} → b ≡ true → b ≡ false → P
 never e f = let z : _≡_ {A = ℕ} 0 1 = cc in absurd (omega arith)
@@ -40,7 +46,8 @@ heads-none [] h = tt
 heads-none (p ∷ ps) h = go (isSlash (kindIn p)) refl
   where
     go : (b : Bool) → isSlash (kindIn p) ≡ b → b ≡ false
-    go true e = let z : AtWritten (writtenAt 0) ≡ NoWritten = rw e at (h 0) in let y : _≡_ {A = ℕ} 0 1 = cc in absurd (omega arith)
+    go true e = let z : AtWritten (writtenAt 0) ≡ NoWritten = rw e at (h 0) in let y : _≡_ {A = ℕ} 0 1 = cc in
+        absurd (omega arith)
     go false e = refl
 
 empty-slash : firstSlash [] ≡ NoWritten
@@ -64,22 +71,31 @@ accepted-heads (p ∷ ps) h = go (isSlash (kindIn p)) refl
 
 -- the walk from its start
 module _ (l : List Param) (only : Flat) (s : State) (first : firstState only ≡ s) where
-  start-finished : Rules s false l → Fresh [] l → run [] (start only) l ≡ finish l (starFrom NoWritten 0 l) (countsFrom s (plain 0 only) l)
+  start-finished : Rules s false l → Fresh [] l
+      → run [] (start only) l ≡ finish l (starFrom NoWritten 0 l) (countsFrom s (plain 0 only) l)
   unfolding start
-  start-finished r f = run-finished [] (start only) l (clear-start only) (rw first r) f ∙ ap (λ (x : State). finish l (starFrom NoWritten 0 l) (countsFrom x (plain 0 only) l)) first
+  start-finished r f = run-finished [] (start only) l (clear-start only) (rw first r) f
+      ∙ ap (λ (x : State). finish l (starFrom NoWritten 0 l) (countsFrom x (plain 0 only) l)) first
 
-  start-accepted : {c : Counts} → run [] (start only) l ≡ accepted c → Rules s false l × Fresh [] l × (finish l (starFrom NoWritten 0 l) (countsFrom s (plain 0 only) l) ≡ accepted c)
+  start-accepted : {c : Counts} → run [] (start only) l ≡ accepted c
+      → Rules s false l × Fresh [] l × (finish l (starFrom NoWritten 0 l) (countsFrom s (plain 0 only) l)
+      ≡ accepted c)
   unfolding start
   start-accepted h =
-      let r = run-accepted [] (start only) l (clear-start only) h in
-      (rw first at (r .0), r .1, ap (λ (x : State). finish l (starFrom NoWritten 0 l) (countsFrom x (plain 0 only) l)) (sym first) ∙ r .2)
+      let r = run-accepted [] (start only) l (clear-start only) h in (
+        rw first at (r .0),
+        r .1,
+        ap (λ (x : State). finish l (starFrom NoWritten 0 l)
+            (countsFrom x (plain 0 only) l)) (sym first) ∙ r .2,
+      )
 
 first-some : (n : ℕ) → 0 < n → firstState (flatAt n) ≡ BeforeSlash
 first-some n h = rw (ne-eqb n 0 (λ e. omega arith)) refl
 
 -- what a cut counts
 abbrev pub cutCounts : Cut → Counts
-cutCounts c = withTail (length (ordinary (firsts (c .before))) + length (ordinary (c .middle))) (flatAt (length (ordinary (firsts (c .before))))) (c .star) (c .last)
+cutCounts c = withTail (length (ordinary (firsts (c .before))) + length (ordinary (c .middle)))
+    (flatAt (length (ordinary (firsts (c .before))))) (c .star) (c .last)
 
 abbrev verdict : Cut → Outcome
 verdict c = starVerdict (c .star) (c .last) (accepted (cutCounts c))
@@ -96,46 +112,59 @@ unpack-none ms s k f d =
     ∙ ap₂ (finish l) (star-either 0 ms s k ∙ ap (starPlace s) zero-before) (counts-either 0 (flatAt 0) ms s k)
     ∙ finish-tail (ordinary ms) s k _
 
-pub slash-form : (qs : List Ordinary) (x : Node) (l : List Param) → (ordinary qs ++ slash x ∷ []) ++ l ≡ ordinary qs ++ slash x ∷ l
+pub slash-form : (qs : List Ordinary) (x : Node) (l : List Param)
+    → (ordinary qs ++ slash x ∷ []) ++ l ≡ ordinary qs ++ slash x ∷ l
 slash-form qs x l = append-assoc (ordinary qs) (slash x ∷ []) l
 
-unpack-some : (q : Ordinary) (qs : List Ordinary) (x : Node) (ms : List Ordinary) (s : Star) (k : Last) → Fresh [] (ordinary (q ∷ qs) ++ slash x ∷ (ordinary ms ++ tail s k)) → Defaults false ((q ∷ qs) ++ ms)
-    → unpack (ordinary (q ∷ qs) ++ slash x ∷ (ordinary ms ++ tail s k)) ≡ verdict (record { before = upToSlash (q ∷ qs) x; middle = ms; star = s; last = k })
+unpack-some : (q : Ordinary) (qs : List Ordinary) (x : Node) (ms : List Ordinary) (s : Star) (k : Last)
+    → Fresh [] (ordinary (q ∷ qs) ++ slash x ∷ (ordinary ms ++ tail s k)) → Defaults false ((q ∷ qs) ++ ms)
+    → unpack (ordinary (q ∷ qs) ++ slash x ∷ (ordinary ms ++ tail s k))
+    ≡ verdict (record { before = upToSlash (q ∷ qs) x; middle = ms; star = s; last = k })
 unpack-some q qs x ms s k f d =
     let firstOnes = ordinary (q ∷ qs) in
     let n = length firstOnes in
     let l = firstOnes ++ slash x ∷ (ordinary ms ++ tail s k) in
     let front = (firstOnes ++ slash x ∷ []) ++ ordinary ms in
     let zero-before : 0 + n ≡ n = omega arith in
-    let whole : l ≡ front ++ tail s k = sym (append-assoc (firstOnes ++ slash x ∷ []) (ordinary ms) (tail s k) ∙ slash-form (q ∷ qs) x _) in
-    let long : length front ≡ n + 1 + length (ordinary ms) = length-append (firstOnes ++ slash x ∷ []) (ordinary ms) ∙ ap (λ (y : ℕ). y + length (ordinary ms)) (length-append firstOnes (slash x ∷ [])) in
+    let whole : l ≡ front ++ tail s k = sym
+    (append-assoc (firstOnes ++ slash x ∷ []) (ordinary ms) (tail s k) ∙ slash-form (q ∷ qs) x _) in
+    let long : length front ≡ n + 1 + length (ordinary ms) = length-append (firstOnes ++ slash x ∷ []) (ordinary ms)
+    ∙ ap (λ (y : ℕ). y + length (ordinary ms)) (length-append firstOnes (slash x ∷ [])) in
     unpack-walk l refl
-    ∙ ap (λ (y : WrittenPlace). run [] (start (positionalOnly y)) l) (slash-at 0 (q ∷ qs) x (ordinary ms ++ tail s k))
+    ∙ ap (λ (y : WrittenPlace). run [] (start (positionalOnly y)) l)
+    (slash-at 0 (q ∷ qs) x (ordinary ms ++ tail s k))
     ∙ ap (λ (y : ℕ). run [] (start (flatAt y)) l) zero-before
     ∙ start-finished l (flatAt n) BeforeSlash (first-some n (omega arith)) (rules-pos false (q ∷ qs) x ms s k d) f
     ∙ ap₂ (finish l) (star-pos (q ∷ qs) x ms s k) (counts-pos (flatAt n) (q ∷ qs) x ms s k)
-    ∙ ap₂ (λ (y : List Param) (i : ℕ). finish y (starPlace s i) (withTail (n + length (ordinary ms)) (flatAt n) s k)) whole (sym long)
+    ∙ ap₂ (λ (y : List Param) (i : ℕ). finish y (starPlace s i)
+    (withTail (n + length (ordinary ms)) (flatAt n) s k)) whole (sym long)
     ∙ finish-tail front s k _
 
 -- LAW: unpack of a cut's list, where one or more stand before `/`, no name is repeated and the default rule is kept
-pub unpack-cut : (c : Cut) → SlashGood (c .before) → Fresh [] (join c) → Defaults false (firsts (c .before) ++ c .middle) → unpack (join c) ≡ verdict c
+pub unpack-cut : (c : Cut) → SlashGood (c .before) → Fresh [] (join c)
+    → Defaults false (firsts (c .before) ++ c .middle) → unpack (join c) ≡ verdict c
 unpack-cut c = go (c .before) (c .middle) (c .star) (c .last)
   where
-    go : (b : Before) (ms : List Ordinary) (s : Star) (k : Last) → SlashGood b → Fresh [] (slashPart b ++ (ordinary ms ++ tail s k)) → Defaults false (firsts b ++ ms)
-        → unpack (slashPart b ++ (ordinary ms ++ tail s k)) ≡ verdict (record { before = b; middle = ms; star = s; last = k })
+    go : (b : Before) (ms : List Ordinary) (s : Star) (k : Last) → SlashGood b
+        → Fresh [] (slashPart b ++ (ordinary ms ++ tail s k)) → Defaults false (firsts b ++ ms)
+        → unpack (slashPart b ++ (ordinary ms ++ tail s k))
+        ≡ verdict (record { before = b; middle = ms; star = s; last = k })
     go noSlash ms s k o f d = unpack-none ms s k f d
     go (upToSlash [] x) ms s k o f d = absurd o
-    go (upToSlash (q ∷ qs) x) ms s k o f d = ap unpack (slash-form (q ∷ qs) x _) ∙ unpack-some q qs x ms s k (subst (Fresh []) (slash-form (q ∷ qs) x _) f) d
+    go (upToSlash (q ∷ qs) x) ms s k o f d = ap unpack (slash-form (q ∷ qs) x _)
+        ∙ unpack-some q qs x ms s k (subst (Fresh []) (slash-form (q ∷ qs) x _) f) d
 
 -- a `/` that is not first stands later
 slash-later : (l : List Param) {w : Written} → Heads l → firstSlash l ≡ AtWritten w → 0 < w .0
 unfolding slashFrom
 slash-later [] h e = let z : _≡_ {A = ℕ} 0 1 = cc in absurd (omega arith)
-slash-later (p ∷ ps) h e = let rest : slashFrom (0 + 1) ps ≡ AtWritten _ = rw h at e in omega (arith, slash-from (0 + 1) ps rest)
+slash-later (p ∷ ps) h e = let rest : slashFrom (0 + 1) ps ≡ AtWritten _ = rw h at e in
+    omega (arith, slash-from (0 + 1) ps rest)
 
 -- an accepted list has a cut, but for what must follow the `*`
 abbrev Loose : List Param → Type 0
-Loose l = (c : Cut) × (join c ≡ l) × SlashGood (c .before) × Fresh [] l × Defaults false (firsts (c .before) ++ c .middle)
+Loose l = (c : Cut) × (join c ≡ l) × SlashGood (c .before) × Fresh [] l
+    × Defaults false (firsts (c .before) ++ c .middle)
 
 loose-cut : (l : List Param) {c : Counts} → unpack l ≡ accepted c → Loose l
 loose-cut l {c} h = go (firstSlash l) refl
@@ -144,18 +173,27 @@ loose-cut l {c} h = go (firstSlash l) refl
     heads = accepted-heads l h
 
     walked : (x : WrittenPlace) → firstSlash l ≡ x → run [] (start (positionalOnly x)) l ≡ accepted c
-    walked x e = ap (λ (y : WrittenPlace). run [] (start (positionalOnly y)) l) (sym e) ∙ sym (unpack-walk l heads) ∙ h
+    walked x e = ap (λ (y : WrittenPlace). run [] (start (positionalOnly y)) l) (sym e) ∙ sym (unpack-walk l heads)
+        ∙ h
 
     some-first : (m : Slashed false l) → Fresh [] l → Loose l
     some-first m f = by-first (m .0) (m .5) (m .6)
       where
-        by-first : (qs : List Ordinary) → l ≡ ordinary qs ++ slash (m .1) ∷ (ordinary (m .2) ++ tail (m .3) (m .4)) → Defaults false (qs ++ m .2) → Loose l
+        by-first : (qs : List Ordinary) → l ≡ ordinary qs ++ slash (m .1) ∷ (ordinary (m .2) ++ tail (m .3) (m .4))
+            → Defaults false (qs ++ m .2) → Loose l
         by-first [] e d = never refl (subst Heads e heads)
-        by-first (q ∷ qs) e d = (record { before = upToSlash (q ∷ qs) (m .1); middle = m .2; star = m .3; last = m .4 }, slash-form (q ∷ qs) (m .1) _ ∙ sym e, tt, f, d)
+        by-first (q ∷ qs) e d = (
+          record { before = upToSlash (q ∷ qs) (m .1); middle = m .2; star = m .3; last = m .4 },
+          slash-form (q ∷ qs) (m .1) _ ∙ sym e,
+          tt,
+          f,
+          d,
+        )
 
     slashed : {w : Written} → firstSlash l ≡ AtWritten w → Fresh [] l → Slashed false l ⊎ NoSlash l → Loose l
     slashed e f (inl m) = some-first m f
-    slashed e f (inr none) = let z : AtWritten _ ≡ NoWritten = sym e ∙ none 0 in let y : _≡_ {A = ℕ} 0 1 = cc in absurd (omega arith)
+    slashed e f (inr none) = let z : AtWritten _ ≡ NoWritten = sym e ∙ none 0 in let y : _≡_ {A = ℕ} 0 1 = cc in
+        absurd (omega arith)
 
     go : (x : WrittenPlace) → firstSlash l ≡ x → Loose l
     go NoWritten e =
@@ -163,11 +201,13 @@ loose-cut l {c} h = go (firstSlash l) refl
         let m = either-rules false l (r .0) in
         (record { before = noSlash; middle = m .0; star = m .1; last = m .2 }, sym (m .3), tt, r .1, m .4)
     go (AtWritten w) e =
-        let r = start-accepted l (flatAt (w .0)) BeforeSlash (first-some (w .0) (slash-later l heads e)) (walked (AtWritten w) e) in
+        let r = start-accepted l (flatAt (w .0)) BeforeSlash (first-some (w .0) (slash-later l heads e))
+        (walked (AtWritten w) e) in
         slashed e (r .1) (pos-rules false l (r .0))
 
 -- what follows the `*` decides
-good-star : (s : Star) (k : Last) (o : Outcome) {c : Counts} → starVerdict s k o ≡ accepted c → StarGood s × (o ≡ accepted c)
+good-star : (s : Star) (k : Last) (o : Outcome) {c : Counts} → starVerdict s k o ≡ accepted c
+    → StarGood s × (o ≡ accepted c)
 good-star noStar k o e = (tt, e)
 good-star (bare r []) noKwargs o e = refused≢accepted e
 good-star (bare r []) (withKwargs x n) o e = refused≢accepted e
@@ -183,7 +223,9 @@ star-good (starred r n qs) k o g = refl
 -- LAW: a good cut's list is accepted, with what the cut counts
 pub cut-accepted : (c : Cut) → Good c → unpack (join c) ≡ accepted (cutCounts c)
 cut-accepted c g =
-    unpack-cut c (g .slash) (fresh-iff (join c) .1 (g .distinct)) (defaults-iff (firsts (c .before) ++ c .middle) .1 (g .defaulted)) ∙ star-good (c .star) (c .last) (accepted (cutCounts c)) (g .star)
+    unpack-cut c (g .slash) (fresh-iff (join c) .1 (g .distinct))
+    (defaults-iff (firsts (c .before) ++ c .middle) .1 (g .defaulted))
+    ∙ star-good (c .star) (c .last) (accepted (cutCounts c)) (g .star)
 
 -- LAW: an accepted list has a good cut
 pub accepted-cut : (l : List Param) {a : Counts} → unpack l ≡ accepted a → (c : Cut) × (join c ≡ l) × Good c
@@ -191,25 +233,40 @@ accepted-cut l h =
     let w = loose-cut l h in
     let c = w .0 in
     let f = subst (Fresh []) (sym (w .1)) (w .3) in
-    let v = good-star (c .star) (c .last) (accepted (cutCounts c)) (sym (unpack-cut c (w .2) f (w .4)) ∙ ap unpack (w .1) ∙ h) in
-    (c, w .1, record { slash = w .2; star = v .0; distinct = fresh-iff (join c) .0 f; defaulted = defaults-iff (firsts (c .before) ++ c .middle) .0 (w .4) })
+    let v = good-star (c .star) (c .last) (accepted (cutCounts c))
+    (sym (unpack-cut c (w .2) f (w .4)) ∙ ap unpack (w .1) ∙ h) in (
+      c,
+      w .1,
+      record {
+        slash = w .2;
+        star = v .0;
+        distinct = fresh-iff (join c) .0 f;
+        defaulted = defaults-iff (firsts (c .before) ++ c .middle) .0 (w .4);
+      },
+    )
 
 -- LAW: the modes of a good cut's list are the cut's
 pub cut-modes : (c : Cut) → SlashGood (c .before) → modes (join c) ≡ partModes (partsOf c)
 unfolding modes
 cut-modes c = go (c .before) (c .middle) (c .star) (c .last)
   where
-    from : (l : List Param) (x : WrittenPlace) (s : State) → firstSlash l ≡ x → firstState (positionalOnly x) ≡ s → modesFrom (firstState (positionalOnly (firstSlash l))) l ≡ modesFrom s l
-    from l x s e f = ap (λ (y : State). modesFrom y l) (ap (λ (z : WrittenPlace). firstState (positionalOnly z)) e ∙ f)
+    from : (l : List Param) (x : WrittenPlace) (s : State) → firstSlash l ≡ x → firstState (positionalOnly x) ≡ s
+        → modesFrom (firstState (positionalOnly (firstSlash l))) l ≡ modesFrom s l
+    from l x s e f = ap (λ (y : State). modesFrom y l)
+        (ap (λ (z : WrittenPlace). firstState (positionalOnly z)) e ∙ f)
 
     go : (b : Before) (ms : List Ordinary) (s : Star) (k : Last) → SlashGood b
-        → modesFrom (firstState (positionalOnly (firstSlash (slashPart b ++ (ordinary ms ++ tail s k))))) (slashPart b ++ (ordinary ms ++ tail s k)) ≡ partModes (partsOf (record { before = b; middle = ms; star = s; last = k }))
-    go noSlash ms s k g = from (ordinary ms ++ tail s k) NoWritten SeenSlash (none-either ms s k 0) refl ∙ modes-either ms s k
+        → modesFrom (firstState (positionalOnly (firstSlash (slashPart b ++ (ordinary ms ++ tail s k)))))
+        (slashPart b ++ (ordinary ms ++ tail s k))
+        ≡ partModes (partsOf (record { before = b; middle = ms; star = s; last = k }))
+    go noSlash ms s k g = from (ordinary ms ++ tail s k) NoWritten SeenSlash (none-either ms s k 0) refl
+        ∙ modes-either ms s k
     go (upToSlash [] x) ms s k g = absurd g
     go (upToSlash (q ∷ qs) x) ms s k g =
         let l = ordinary (q ∷ qs) ++ slash x ∷ (ordinary ms ++ tail s k) in
         ap (λ (y : List Param). modesFrom (firstState (positionalOnly (firstSlash y))) y) (slash-form (q ∷ qs) x _)
-        ∙ from l _ BeforeSlash (slash-at 0 (q ∷ qs) x (ordinary ms ++ tail s k)) (first-some (0 + length (ordinary (q ∷ qs))) (omega arith))
+        ∙ from l _ BeforeSlash (slash-at 0 (q ∷ qs) x (ordinary ms ++ tail s k))
+        (first-some (0 + length (ordinary (q ∷ qs))) (omega arith))
         ∙ modes-pos (q ∷ qs) x ms s k
 
 -- The cut is unique: it can be read off the list
@@ -277,11 +334,15 @@ last-of (withKwargs r n) = refl
 tail-of : (s : Star) (k : Last) → tailOf (tail s k) ≡ (s, k)
 tail-of noStar noKwargs = refl
 tail-of noStar (withKwargs r n) = refl
-tail-of (bare r qs) k = ap (λ (x : Split). (bare r (x .0), lastOf (x .1))) (split-stop qs (kwargsPart k) (last-stop k)) ∙ ap (λ (x : Last). (bare r qs, x)) (last-of k)
-tail-of (starred r n qs) k = ap (λ (x : Split). (starred r n (x .0), lastOf (x .1))) (split-stop qs (kwargsPart k) (last-stop k)) ∙ ap (λ (x : Last). (starred r n qs, x)) (last-of k)
+tail-of (bare r qs) k = ap (λ (x : Split). (bare r (x .0), lastOf (x .1)))
+    (split-stop qs (kwargsPart k) (last-stop k)) ∙ ap (λ (x : Last). (bare r qs, x)) (last-of k)
+tail-of (starred r n qs) k = ap (λ (x : Split). (starred r n (x .0), lastOf (x .1)))
+    (split-stop qs (kwargsPart k) (last-stop k)) ∙ ap (λ (x : Last). (starred r n qs, x)) (last-of k)
 
-cut-by : (b : Before) (ms : List Ordinary) (s : Star) (k : Last) → cutBy b (ms, tail s k) ≡ record { before = b; middle = ms; star = s; last = k }
-cut-by b ms s k = ap {A = Star × Last} {B = Cut} (λ x. record { before = b; middle = ms; star = x .0; last = x .1 }) (tail-of s k)
+cut-by : (b : Before) (ms : List Ordinary) (s : Star) (k : Last)
+    → cutBy b (ms, tail s k) ≡ record { before = b; middle = ms; star = s; last = k }
+cut-by b ms s k = ap {A = Star × Last} {B = Cut} (λ x. record { before = b; middle = ms; star = x .0; last = x .1 })
+    (tail-of s k)
 
 rest-tail : (ms : List Ordinary) (s : Star) (k : Last) → cutRest ms (tail s k) ≡ cutBy noSlash (ms, tail s k)
 rest-tail ms noStar noKwargs = refl
@@ -292,8 +353,10 @@ rest-tail ms (starred r n qs) k = refl
 cut-of-join : (c : Cut) → cutOf (join c) ≡ c
 cut-of-join c = go (c .before) (c .middle) (c .star) (c .last)
   where
-    go : (b : Before) (ms : List Ordinary) (s : Star) (k : Last) → cutOf (slashPart b ++ (ordinary ms ++ tail s k)) ≡ record { before = b; middle = ms; star = s; last = k }
-    go noSlash ms s k = ap (λ (x : Split). cutRest (x .0) (x .1)) (split-stop ms (tail s k) (tail-stop s k)) ∙ rest-tail ms s k ∙ cut-by noSlash ms s k
+    go : (b : Before) (ms : List Ordinary) (s : Star) (k : Last)
+        → cutOf (slashPart b ++ (ordinary ms ++ tail s k)) ≡ record { before = b; middle = ms; star = s; last = k }
+    go noSlash ms s k = ap (λ (x : Split). cutRest (x .0) (x .1)) (split-stop ms (tail s k) (tail-stop s k))
+        ∙ rest-tail ms s k ∙ cut-by noSlash ms s k
     go (upToSlash qs x) ms s k =
         ap cutOf (slash-form qs x _)
         ∙ ap (λ (y : Split). cutRest (y .0) (y .1)) (split-stop qs (slash x ∷ (ordinary ms ++ tail s k)) refl)

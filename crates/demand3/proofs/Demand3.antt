@@ -19,7 +19,8 @@ use Rattle.parameters.specs.declared.Counted.{Counted}
 use Rattle.parameters.specs.Params.{unpacked, listOf, paramsOf, modesAfter}
 use Rattle.parameters.specs.declared.Unpacked.{Unpacked}
 use Rattle.parameters.specs.declared.Unpacked.the-variants.{Accepted}
-use Rattle.demand3.specs.Cut.{Cut, join, partsOf, flatList, Ranges, cutRanges, cutFlat, holders, cutValues, ByRange, Follow, CutBy}
+use Rattle.demand3.specs.Cut.{Cut, join, partsOf, flatList, Ranges, cutRanges, cutFlat, holders, cutValues}
+use Rattle.demand3.specs.Cut.{ByRange, Follow, CutBy}
 use Rattle.demand3.specs.Given.{Given, CutOf, RangesAre}
 use Rattle.demand3.proofs.Cuts.{join-injective}
 use Rattle.demand3.proofs.Ranges as ranges
@@ -32,8 +33,12 @@ cut-unique l c d x y = join-injective c d (x .joins ∙ sym (y .joins))
 -- "In a sound table, with a long enough mode buffer, the parameter list of a def or lambda"
 module _ (t names : List ℕ) (node : ℕ) (ms : List ℕ) (given : Given t names node ms) where
   -- "is accepted exactly when it can be cut"
-  pub accepted-iff-cut : ((vs : List ℕ) × (paramsOf t names node (length ms) ≡ accepted vs)) ↔ ((c : Cut) × CutOf (listOf t names node) c)
-  accepted-iff-cut = (λ x. job.has-cut t names node ms given (x .1), λ x. (cutValues (x .0), job.cut-answer t names node ms given (x .0) (x .1)))
+  pub accepted-iff-cut : ((vs : List ℕ) × (paramsOf t names node (length ms) ≡ accepted vs))
+      ↔ ((c : Cut) × CutOf (listOf t names node) c)
+  accepted-iff-cut = (
+    λ x. job.has-cut t names node ms given (x .1),
+    λ x. (cutValues (x .0), job.cut-answer t names node ms given (x .0) (x .1)),
+  )
 
   -- where c is the cut of the list
   module _ (c : Cut) (cut : CutOf (listOf t names node) c) where
@@ -41,7 +46,8 @@ module _ (t names : List ℕ) (node : ℕ) (ms : List ℕ) (given : Given t name
     pub ranges-are-the-cuts : paramsOf t names node (length ms) ≡ accepted (cutValues c)
     ranges-are-the-cuts = job.cut-answer t names node ms given c cut
 
-    pub answer-has-the-ranges : (r : Unpacked) → unpacked r ≡ paramsOf t names node (length ms) → (a : Counted) × (r ≡ Accepted a) × RangesAre a (cutRanges c)
+    pub answer-has-the-ranges : (r : Unpacked) → unpacked r ≡ paramsOf t names node (length ms)
+        → (a : Counted) × (r ≡ Accepted a) × RangesAre a (cutRanges c)
     answer-has-the-ranges = job.answer-is t names node ms given c cut
 
     -- "marks omitted: the ordinary parameters before `/`, those of the second part, `*args`, the ordinary ones after the star, `**kwargs`"

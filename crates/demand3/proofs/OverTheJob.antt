@@ -17,7 +17,8 @@ use Rattle.table.specs.declared.Wanted.the-variants.{Parameters}
 use Rattle.table.proofs.Answers.{never-accepted}
 use Rattle.unpack.specs.Written.{Param}
 use Rattle.unpack.specs.Unpack.{unpack, modes}
-use Rattle.parameters.specs.Indices.{range, valuesOf, countedOf, posOnly, posOrNamed, argsRange, namedOnly, kwargsRange}
+use Rattle.parameters.specs.Indices.{range, valuesOf, countedOf, posOnly, posOrNamed, argsRange, namedOnly}
+use Rattle.parameters.specs.Indices.{kwargsRange}
 use Rattle.parameters.specs.declared.Range.{Range}
 use Rattle.parameters.specs.declared.Counted.{Counted}
 use Rattle.unpack.proofs.Theorems.{modes-short}
@@ -35,11 +36,14 @@ module _ (t names : List ℕ) (node : ℕ) (ms : List ℕ) (g : Given t names no
   unfolding nodeFits wants
   fits = rw (lt-ltb node (length t / 24) (g .within)) (go (g .defOrLambda))
     where
-      go : (nodeOf node (drop (24 * node) t) .kind ≡ kindDef) ⊎ (nodeOf node (drop (24 * node) t) .kind ≡ kindLambda) → wants Parameters (nodeOf node (drop (24 * node) t) .kind) ≡ true
+      go : (nodeOf node (drop (24 * node) t) .kind ≡ kindDef)
+          ⊎ (nodeOf node (drop (24 * node) t) .kind ≡ kindLambda)
+          → wants Parameters (nodeOf node (drop (24 * node) t) .kind) ≡ true
       go (inl e) = rw e refl
       go (inr e) = rw e refl
 
-  pub has-cut : {vs : List ℕ} → paramsOf t names node (length ms) ≡ accepted vs → (c : Cut) × CutOf (listOf t names node) c
+  pub has-cut : {vs : List ℕ} → paramsOf t names node (length ms) ≡ accepted vs
+      → (c : Cut) × CutOf (listOf t names node) c
   has-cut e =
       let p = accepted-passed t names node (length ms) e in
       let w = accepted-cut (listOf t names node) (p .outcome) in
@@ -48,17 +52,24 @@ module _ (t names : List ℕ) (node : ℕ) (ms : List ℕ) (g : Given t names no
   module _ (c : Cut) (cut : CutOf (listOf t names node) c) where
     pub cut-answer : paramsOf t names node (length ms) ≡ accepted (cutValues c)
     cut-answer =
-        passed-accepted t names node (length ms) (g .sound) fits (g .room) (ap unpack (sym (cut .joins)) ∙ cut-accepted c (cut .good)) ∙ ap accepted (cut-values c)
+        passed-accepted t names node (length ms) (g .sound) fits (g .room)
+        (ap unpack (sym (cut .joins)) ∙ cut-accepted c (cut .good)) ∙ ap accepted (cut-values c)
 
     -- the buffer at exit: the cut's modes, then what stood there
     buffer : modesAfter t names node ms ≡ partModes (partsOf c) ++ drop (length (partModes (partsOf c))) ms
     unfolding modesAfter
     buffer =
-        let these : modes (listOf t names node) ≡ partModes (partsOf c) = ap modes (sym (cut .joins)) ∙ cut-modes c (cut .good .slash) in
+        let these : modes (listOf t names node) ≡ partModes (partsOf c) = ap modes (sym (cut .joins))
+        ∙ cut-modes c (cut .good .slash) in
         rw (cut-answer, these) refl
 
     short : length (partModes (partsOf c)) ≤ length ms
-    short = omega (arith, modes-short (listOf t names node), ap length (ap modes (sym (cut .joins)) ∙ cut-modes c (cut .good .slash)), g .room)
+    short = omega (
+      arith,
+      modes-short (listOf t names node),
+      ap length (ap modes (sym (cut .joins)) ∙ cut-modes c (cut .good .slash)),
+      g .room,
+    )
 
     pub modes-there : ByRange (cutRanges c) (modesAfter t names node ms)
     modes-there = rw buffer (modes-by-range (partsOf c) (drop (length (partModes (partsOf c))) ms))
@@ -76,15 +87,19 @@ module _ (t names : List ℕ) (node : ℕ) (ms : List ℕ) (g : Given t names no
     pub as-long : length (modesAfter t names node ms) ≡ length ms
     as-long =
         let m = partModes (partsOf c) in
-        let whole : length (m ++ drop (length m) ms) ≡ length m + (length ms - length m) = length-append m (drop (length m) ms) ∙ ap (λ (x : ℕ). length m + x) (length-drop (length m) ms) in
+        let whole : length (m ++ drop (length m) ms) ≡ length m
+        + (length ms - length m) = length-append m (drop (length m) ms)
+        ∙ ap (λ (x : ℕ). length m + x) (length-drop (length m) ms) in
         rw buffer (whole ∙ omega (arith, short))
 
     -- the answer's own ranges
-    pub answer-is : (r : Unpacked) → unpacked r ≡ paramsOf t names node (length ms) → (a : Counted) × (r ≡ Accepted a) × RangesAre a (cutRanges c)
+    pub answer-is : (r : Unpacked) → unpacked r ≡ paramsOf t names node (length ms)
+        → (a : Counted) × (r ≡ Accepted a) × RangesAre a (cutRanges c)
     answer-is (Refused w) e = never-accepted w (e ∙ cut-answer)
     answer-is (Accepted a) e =
         let same : valuesOf a ≡ cutValues c = values-same (e ∙ cut-answer) in
-        let value : (i : ℕ) → getD (valuesOf a) i 0 ≡ getD (cutValues c) i 0 = λ i. ap (λ (vs : List ℕ). getD vs i 0) same in (
+        let value : (i : ℕ) → getD (valuesOf a) i 0
+        ≡ getD (cutValues c) i 0 = λ i. ap (λ (vs : List ℕ). getD vs i 0) same in (
           a,
           refl,
           record {

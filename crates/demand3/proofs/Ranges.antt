@@ -4,7 +4,8 @@ use mathlib.Core.Bool.{Bool, true, false, _&&_}
 use mathlib.Core.List.{List, [], _∷_, _++_, append-assoc, append-nil}
 use Prim.Native.Nat.{ℕ, zero, suc, _+_, _-_, _<_, _≤_}
 use native.Mathlib.Omega.{arith}
-use lib.ListN.{length, getD, take, drop, replicate, length-append, length-replicate, List·getD-append, getD-replicate}
+use lib.ListN.{length, getD, take, drop, replicate, length-append, length-replicate, List·getD-append}
+use lib.ListN.{getD-replicate}
 use lib.Seq.{getD-append-add, drop-append-seam, take-append-seam}
 use lib.Dec.{leb, ltb}
 use borrow.Author.Tests.{leb-true, leb-false, ltb-true, ltb-false, lt-ltb, le-ltb}
@@ -12,7 +13,11 @@ use Rattle.fields.specs.Choice.{if'}
 use Rattle.unpack.specs.Written.{Param, normal, noArgs, slash, args, kwargs}
 use Rattle.parameters.specs.Indices.{range, placeRange, placeOf, valuesOf, countedOf}
 use Rattle.parameters.specs.declared.Range.{Range}
-use Rattle.demand3.specs.Cut.{Ordinary, Before, noSlash, upToSlash, Star, noStar, bare, starred, Last, noKwargs, withKwargs, Cut, firsts, afterStar, ordinary, slashPart, starPart, kwargsPart, join, argsPart, Parts, partsOf, flatList, Ranges, rangesOf, cutRanges, cutFlat, slice, holds, holders, cutValues, partModes, InRange, ByRange, Follow, CutBy}
+use Rattle.demand3.specs.Cut.{Ordinary, Before, noSlash, upToSlash, Star, noStar, bare, starred, Last}
+use Rattle.demand3.specs.Cut.{noKwargs, withKwargs, Cut, firsts, afterStar, ordinary, slashPart, starPart}
+use Rattle.demand3.specs.Cut.{kwargsPart, join, argsPart, Parts, partsOf, flatList, Ranges, rangesOf}
+use Rattle.demand3.specs.Cut.{cutRanges, cutFlat, slice, holds, holders, cutValues, partModes, InRange}
+use Rattle.demand3.specs.Cut.{ByRange, Follow, CutBy}
 use Rattle.demand3.proofs.Counting.{argsPlace, kwargsPlace}
 use Rattle.demand3.proofs.Cuts.{cutCounts}
 
@@ -31,7 +36,8 @@ kwargs-from : (k : Last) (m : ℕ) → placeRange (placeOf (kwargsPlace k m)) (m
 kwargs-from noKwargs m = omega arith
 kwargs-from (withKwargs r n) m = refl
 
-kwargs-upto : (k : Last) (m : ℕ) → placeRange (placeOf (kwargsPlace k m)) (m + length (kwargsPart k)) .upto ≡ m + length (kwargsPart k)
+kwargs-upto : (k : Last) (m : ℕ) → placeRange (placeOf (kwargsPlace k m)) (m + length (kwargsPart k)) .upto ≡ m
+    + length (kwargsPart k)
 kwargs-upto noKwargs m = refl
 kwargs-upto (withKwargs r n) m = refl
 
@@ -58,7 +64,8 @@ flat-ordinary (q ∷ qs) = ap (λ (x : List Param). normal (q .node) (q .name) (
 
 flat-slash : (b : Before) → flatList (slashPart b) ≡ ordinary (firsts b)
 flat-slash noSlash = refl
-flat-slash (upToSlash qs r) = flat-append (ordinary qs) (slash r ∷ []) ∙ append-nil (flatList (ordinary qs)) ∙ flat-ordinary qs
+flat-slash (upToSlash qs r) = flat-append (ordinary qs) (slash r ∷ []) ∙ append-nil (flatList (ordinary qs))
+    ∙ flat-ordinary qs
 
 flat-star : (s : Star) → flatList (starPart s) ≡ argsPart s ++ ordinary (afterStar s)
 flat-star noStar = refl
@@ -77,15 +84,20 @@ flat-join c =
     flat-append (slashPart (c .before)) _
     ∙ ap₂ _++_ (flat-slash (c .before))
     (flat-append (ordinary (c .middle)) _
-    ∙ ap₂ _++_ (flat-ordinary (c .middle)) (flat-append (starPart (c .star)) (kwargsPart (c .last)) ∙ ap₂ _++_ (flat-star (c .star)) (flat-last (c .last)) ∙ append-assoc (argsPart (c .star)) (ordinary (afterStar (c .star))) (kwargsPart (c .last))))
+    ∙ ap₂ _++_ (flat-ordinary (c .middle))
+    (flat-append (starPart (c .star)) (kwargsPart (c .last))
+    ∙ ap₂ _++_ (flat-star (c .star)) (flat-last (c .last))
+    ∙ append-assoc (argsPart (c .star)) (ordinary (afterStar (c .star))) (kwargsPart (c .last))))
 
 -- a part in the middle of a list
-slice-mid : (pre x post : List Param) (a : ℕ) → length pre ≡ a → slice (range a (a + length x)) (pre ++ (x ++ post)) ≡ x
+slice-mid : (pre x post : List Param) (a : ℕ) → length pre ≡ a
+    → slice (range a (a + length x)) (pre ++ (x ++ post)) ≡ x
 slice-mid pre x post a e =
     let long : a + length x - a ≡ length x = omega arith in
     rw (long, ← e, drop-append-seam pre (x ++ post)) (take-append-seam x post)
 
-slice-in : (l pre x post : List Param) (a : ℕ) → l ≡ pre ++ (x ++ post) → length pre ≡ a → slice (range a (a + length x)) l ≡ x
+slice-in : (l pre x post : List Param) (a : ℕ) → l ≡ pre ++ (x ++ post) → length pre ≡ a
+    → slice (range a (a + length x)) l ≡ x
 slice-in l pre x post a e g = ap (slice (range a (a + length x))) e ∙ slice-mid pre x post a g
 
 module _ (p : Parts) where
@@ -110,9 +122,13 @@ module _ (p : Parts) where
       record {
         posOnly = rw none-before at (slice-in (joined p) [] A (B ++ (S ++ (N ++ K))) 0 refl refl);
         posOrNamed = slice-in (joined p) A B (S ++ (N ++ K)) (length A) refl refl;
-        args = slice-in (joined p) (A ++ B) S (N ++ K) (length A + length B) (simp append-assoc) (simp length-append);
-        namedOnly = slice-in (joined p) (A ++ (B ++ S)) N K (length A + length B + length S) (simp append-assoc) (simp length-append (omega arith));
-        kwargs = slice-in (joined p) (A ++ (B ++ (S ++ N))) K [] (length A + length B + length S + length N) (simp (append-assoc, append-nil)) (simp length-append (omega arith));
+        args = slice-in (joined p) (A ++ B) S (N ++ K) (length A + length B) (simp append-assoc)
+            (simp length-append);
+        namedOnly = slice-in (joined p) (A ++ (B ++ S)) N K (length A + length B + length S) (simp append-assoc)
+            (simp length-append (omega arith));
+        kwargs = slice-in (joined p) (A ++ (B ++ (S ++ N))) K
+            [] (length A + length B + length S + length N) (simp (append-assoc, append-nil))
+            (simp length-append (omega arith));
         all = simp length-append (omega arith);
       }
 
@@ -131,7 +147,8 @@ below b i = if' (ltb i b) (λ _. 1) (λ _. 0)
 holds-below : (a b i : ℕ) → a ≤ b → holds (range a b) i + below a i ≡ below b i
 holds-below a b i h = go (leb a i) (ltb i b) (ltb i a) refl refl refl
   where
-    go : (x y z : Bool) → leb a i ≡ x → ltb i b ≡ y → ltb i a ≡ z → if' (x && y) (λ _. 1) (λ _. 0) + if' z (λ _. 1) (λ _. 0) ≡ if' y (λ _. 1) (λ _. 0)
+    go : (x y z : Bool) → leb a i ≡ x → ltb i b ≡ y → ltb i a ≡ z
+        → if' (x && y) (λ _. 1) (λ _. 0) + if' z (λ _. 1) (λ _. 0) ≡ if' y (λ _. 1) (λ _. 0)
     go true true true e f g = absurd (omega (arith, leb-true a i e, ltb-true i a g))
     go true true false e f g = refl
     go true false true e f g = absurd (omega (arith, leb-true a i e, ltb-true i a g))
@@ -151,10 +168,18 @@ ranges-cover p i h =
     let k = n + length (p .kwargs) in
     let none : below 0 i ≡ 0 = rw (le-ltb i 0 (omega arith)) refl in
     let all : below k i ≡ 1 = rw (lt-ltb i k h) refl in
-    omega (arith, holds-below 0 a i (omega arith), holds-below a b i (omega arith), holds-below b s i (omega arith), holds-below s n i (omega arith), holds-below n k i (omega arith))
+    omega (
+      arith,
+      holds-below 0 a i (omega arith),
+      holds-below a b i (omega arith),
+      holds-below b s i (omega arith),
+      holds-below s n i (omega arith),
+      holds-below n k i (omega arith),
+    )
 
 -- a run of equal modes in the middle of a list
-mid : (pre : List ℕ) (n v : ℕ) (post : List ℕ) (i : ℕ) → length pre ≤ i → i < length pre + n → getD (pre ++ (replicate n v ++ post)) i 0 ≡ v
+mid : (pre : List ℕ) (n v : ℕ) (post : List ℕ) (i : ℕ) → length pre ≤ i → i < length pre + n
+    → getD (pre ++ (replicate n v ++ post)) i 0 ≡ v
 mid pre n v post i h g =
     let k = i - length pre in
     let e : i ≡ length pre + k = omega arith in
@@ -164,8 +189,10 @@ mid pre n v post i h g =
     ∙ List·getD-append (replicate n v) post 0 k (rw length-replicate k<)
     ∙ getD-replicate n k v 0 k<
 
-mid-in : (pre : List ℕ) (n v : ℕ) (post ms : List ℕ) (a : ℕ) → ms ≡ pre ++ (replicate n v ++ post) → length pre ≡ a → InRange (range a (a + n)) v ms
-mid-in pre n v post ms a e q i h g = ap (λ (x : List ℕ). getD x i 0) e ∙ mid pre n v post i (omega arith) (omega arith)
+mid-in : (pre : List ℕ) (n v : ℕ) (post ms : List ℕ) (a : ℕ) → ms ≡ pre ++ (replicate n v ++ post) → length pre ≡ a
+    → InRange (range a (a + n)) v ms
+mid-in pre n v post ms a e q i h g = ap (λ (x : List ℕ). getD x i 0) e
+    ∙ mid pre n v post i (omega arith) (omega arith)
 
 pub modes-length : (p : Parts) → length (partModes p) ≡ rangesOf p .kwargs .upto
 modes-length p = simp (length-append, length-replicate) (omega arith)
@@ -185,9 +212,13 @@ modes-by-range p rest =
     let K : List ℕ = replicate k 5 in
     let ms : List ℕ = partModes p ++ rest in
     record {
-      posOnly = λ i h g. mid-in [] a 1 (B ++ (S ++ (N ++ (K ++ rest)))) ms 0 (simp append-assoc) refl i h (omega arith);
+      posOnly = λ i h g. mid-in [] a 1 (B ++ (S ++ (N ++ (K ++ rest)))) ms 0 (simp append-assoc) refl i h
+          (omega arith);
       posOrNamed = mid-in A b 2 (S ++ (N ++ (K ++ rest))) ms a (simp append-assoc) (length-replicate a 1);
-      args = mid-in (A ++ B) s 4 (N ++ (K ++ rest)) ms (a + b) (simp append-assoc) (simp (length-append, length-replicate));
-      namedOnly = mid-in (A ++ (B ++ S)) n 3 (K ++ rest) ms (a + b + s) (simp append-assoc) (simp (length-append, length-replicate) (omega arith));
-      kwargs = mid-in (A ++ (B ++ (S ++ N))) k 5 rest ms (a + b + s + n) (simp append-assoc) (simp (length-append, length-replicate) (omega arith));
+      args = mid-in (A ++ B) s 4 (N ++ (K ++ rest)) ms (a + b) (simp append-assoc)
+          (simp (length-append, length-replicate));
+      namedOnly = mid-in (A ++ (B ++ S)) n 3 (K ++ rest) ms (a + b + s) (simp append-assoc)
+          (simp (length-append, length-replicate) (omega arith));
+      kwargs = mid-in (A ++ (B ++ (S ++ N))) k 5 rest ms (a + b + s + n) (simp append-assoc)
+          (simp (length-append, length-replicate) (omega arith));
     }

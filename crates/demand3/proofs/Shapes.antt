@@ -17,7 +17,8 @@ use Rattle.unpack.specs.declared.Written.{Written}
 use Rattle.unpack.specs.declared.WrittenPlace.{WrittenPlace}
 use Rattle.unpack.specs.declared.WrittenPlace.the-variants.{AtWritten, NoWritten}
 use Rattle.unpack.proofs.Steps.{broken≢fine}
-use Rattle.demand3.specs.Cut.{Ordinary, Star, noStar, bare, starred, Last, noKwargs, withKwargs, ordinary, starPart, kwargsPart}
+use Rattle.demand3.specs.Cut.{Ordinary, Star, noStar, bare, starred, Last, noKwargs, withKwargs, ordinary}
+use Rattle.demand3.specs.Cut.{starPart, kwargsPart}
 use Rattle.demand3.proofs.Walks.{Rules}
 
 -- the default rule along ordinary parameters, where o says whether there was a default
@@ -45,21 +46,26 @@ last-rules o (args x n ∷ ps) r = broken≢fine (r .0)
 last-rules o (kwargs x n ∷ ps) r = broken≢fine (r .0)
 
 -- after a star ordinary parameters, then perhaps `**kwargs`
-named-rules : (o : Bool) (l : List Param) → Rules SeenStar o l → (qs : List Ordinary) × (k : Last) × (l ≡ ordinary qs ++ kwargsPart k)
+named-rules : (o : Bool) (l : List Param) → Rules SeenStar o l
+    → (qs : List Ordinary) × (k : Last) × (l ≡ ordinary qs ++ kwargsPart k)
 named-rules o [] r = ([], noKwargs, refl)
-named-rules o (normal x n d ∷ ps) r = let h = named-rules (o || d) ps (r .1) in (one x n d ∷ h .0, h .1, and-then (h .2))
+named-rules o (normal x n d ∷ ps) r = let h = named-rules (o || d) ps (r .1) in
+    (one x n d ∷ h .0, h .1, and-then (h .2))
 named-rules o (noArgs x ∷ ps) r = broken≢fine (r .0)
 named-rules o (slash x ∷ ps) r = broken≢fine (r .0)
 named-rules o (args x n ∷ ps) r = broken≢fine (r .0)
 named-rules o (kwargs x n ∷ ps) r = ([], withKwargs x n, and-then (last-rules o ps (r .1)))
 
 -- after `/`, or where there is none
-pub either-rules : (o : Bool) (l : List Param) → Rules SeenSlash o l → (ms : List Ordinary) × (s : Star) × (k : Last) × (l ≡ ordinary ms ++ tail s k) × Defaults o ms
+pub either-rules : (o : Bool) (l : List Param) → Rules SeenSlash o l
+    → (ms : List Ordinary) × (s : Star) × (k : Last) × (l ≡ ordinary ms ++ tail s k) × Defaults o ms
 either-rules o [] r = ([], noStar, noKwargs, refl, tt)
-either-rules o (normal x n d ∷ ps) r = let h = either-rules (o || d) ps (r .1) in (one x n d ∷ h .0, h .1, h .2, and-then (h .3), (r .0, h .4))
+either-rules o (normal x n d ∷ ps) r = let h = either-rules (o || d) ps (r .1) in
+    (one x n d ∷ h .0, h .1, h .2, and-then (h .3), (r .0, h .4))
 either-rules o (noArgs x ∷ ps) r = let h = named-rules o ps (r .1) in ([], bare x (h .0), h .1, and-then (h .2), tt)
 either-rules o (slash x ∷ ps) r = broken≢fine (r .0)
-either-rules o (args x n ∷ ps) r = let h = named-rules o ps (r .1) in ([], starred x n (h .0), h .1, and-then (h .2), tt)
+either-rules o (args x n ∷ ps) r = let h = named-rules o ps (r .1) in
+    ([], starred x n (h .0), h .1, and-then (h .2), tt)
 either-rules o (kwargs x n ∷ ps) r = ([], noStar, withKwargs x n, and-then (last-rules o ps (r .1)), tt)
 
 -- a list without `/`, wherever it is counted from
@@ -84,7 +90,8 @@ named-no-slash o (kwargs x n ∷ ps) r = none-more (kwargs x n) ps refl (rw (las
 
 -- before `/`: the list has the form with `/`, or it has none
 abbrev pub Slashed : Bool → List Param → Type 0
-Slashed o l = (qs : List Ordinary) × (x : Node) × (ms : List Ordinary) × (s : Star) × (k : Last) × (l ≡ ordinary qs ++ slash x ∷ (ordinary ms ++ tail s k)) × Defaults o (qs ++ ms)
+Slashed o l = (qs : List Ordinary) × (x : Node) × (ms : List Ordinary) × (s : Star) × (k : Last)
+    × (l ≡ ordinary qs ++ slash x ∷ (ordinary ms ++ tail s k)) × Defaults o (qs ++ ms)
 
 pub pos-rules : (o : Bool) (l : List Param) → Rules BeforeSlash o l → Slashed o l ⊎ NoSlash l
 pos-rules o [] r = inr none-empty
@@ -94,7 +101,8 @@ pos-rules o (normal x n d ∷ ps) r = go (pos-rules (o || d) ps (r .1))
     go (inl h) = inl (one x n d ∷ h .0, h .1, h .2, h .3, h .4, and-then (h .5), (r .0, h .6))
     go (inr e) = inr (none-more (normal x n d) ps refl e)
 pos-rules o (noArgs x ∷ ps) r = inr (none-more (noArgs x) ps refl (named-no-slash o ps (r .1)))
-pos-rules o (slash x ∷ ps) r = let h = either-rules o ps (r .1) in inl ([], x, h .0, h .1, h .2, and-then (h .3), h .4)
+pos-rules o (slash x ∷ ps) r = let h = either-rules o ps (r .1) in
+    inl ([], x, h .0, h .1, h .2, and-then (h .3), h .4)
 pos-rules o (args x n ∷ ps) r = inr (none-more (args x n) ps refl (named-no-slash o ps (r .1)))
 pos-rules o (kwargs x n ∷ ps) r = inr (none-more (kwargs x n) ps refl (rw (last-rules o ps (r .1)) none-empty))
 
@@ -110,19 +118,23 @@ rules-tail o noStar (withKwargs x n) = (refl, tt)
 rules-tail o (bare x qs) k = (refl, rules-named o qs k)
 rules-tail o (starred x n qs) k = (refl, rules-named o qs k)
 
-pub rules-either : (o : Bool) (ms : List Ordinary) (s : Star) (k : Last) → Defaults o ms → Rules SeenSlash o (ordinary ms ++ tail s k)
+pub rules-either : (o : Bool) (ms : List Ordinary) (s : Star) (k : Last) → Defaults o ms
+    → Rules SeenSlash o (ordinary ms ++ tail s k)
 rules-either o [] s k d = rules-tail o s k
 rules-either o (m ∷ ms) s k d = (d .0, rules-either (o || m .default) ms s k (d .1))
 
-pub rules-pos : (o : Bool) (qs : List Ordinary) (x : Node) (ms : List Ordinary) (s : Star) (k : Last) → Defaults o (qs ++ ms) → Rules BeforeSlash o (ordinary qs ++ slash x ∷ (ordinary ms ++ tail s k))
+pub rules-pos : (o : Bool) (qs : List Ordinary) (x : Node) (ms : List Ordinary) (s : Star) (k : Last)
+    → Defaults o (qs ++ ms) → Rules BeforeSlash o (ordinary qs ++ slash x ∷ (ordinary ms ++ tail s k))
 rules-pos o [] x ms s k d = (refl, rules-either o ms s k d)
 rules-pos o (q ∷ qs) x ms s k d = (d .0, rules-pos (o || q .default) qs x ms s k (d .1))
 
 -- where the first `/` stands
-pub slash-at : (i : ℕ) (qs : List Ordinary) (x : Node) (l : List Param) → slashFrom i (ordinary qs ++ slash x ∷ l) ≡ AtWritten (writtenAt (i + length (ordinary qs)))
+pub slash-at : (i : ℕ) (qs : List Ordinary) (x : Node) (l : List Param)
+    → slashFrom i (ordinary qs ++ slash x ∷ l) ≡ AtWritten (writtenAt (i + length (ordinary qs)))
 unfolding slashFrom
 slash-at i [] x l = let e : i + 0 ≡ i = omega arith in rw e refl
-slash-at i (q ∷ qs) x l = let e : i + suc (length (ordinary qs)) ≡ i + 1 + length (ordinary qs) = omega arith in rw e (slash-at (i + 1) qs x l)
+slash-at i (q ∷ qs) x l = let e : i + suc (length (ordinary qs)) ≡ i + 1 + length (ordinary qs) = omega arith in
+    rw e (slash-at (i + 1) qs x l)
 
 -- it stands no earlier than the list is counted from
 pub slash-from : (i : ℕ) (l : List Param) {w : Written} → slashFrom i l ≡ AtWritten w → i ≤ w .0
@@ -130,7 +142,8 @@ unfolding slashFrom
 slash-from i [] e = let z : _≡_ {A = ℕ} 0 1 = cc in absurd (omega arith)
 slash-from i (p ∷ ps) {w} e = go (isSlash (kindIn p)) e (λ h. slash-from (i + 1) ps h)
   where
-    go : (b : Bool) → if' b (λ _. AtWritten (writtenAt i)) (λ _. slashFrom (i + 1) ps) ≡ AtWritten w → (slashFrom (i + 1) ps ≡ AtWritten w → i + 1 ≤ w .0) → i ≤ w .0
+    go : (b : Bool) → if' b (λ _. AtWritten (writtenAt i)) (λ _. slashFrom (i + 1) ps) ≡ AtWritten w
+        → (slashFrom (i + 1) ps ≡ AtWritten w → i + 1 ≤ w .0) → i ≤ w .0
     go true e f = let same : writtenAt i ≡ w = cc in rw (← same) (omega arith)
     go false e f = omega (arith, f e)
 
@@ -143,10 +156,12 @@ none-either [] s k = none-tail s k
 
     none-named : (qs : List Ordinary) (k : Last) → NoSlash (ordinary qs ++ kwargsPart k)
     none-named [] k = none-last k
-    none-named (q ∷ qs) k = none-more (normal (q .node) (q .name) (q .default)) (ordinary qs ++ kwargsPart k) refl (none-named qs k)
+    none-named (q ∷ qs) k = none-more (normal (q .node) (q .name) (q .default)) (ordinary qs ++ kwargsPart k) refl
+        (none-named qs k)
 
     none-tail : (s : Star) (k : Last) → NoSlash (tail s k)
     none-tail noStar k = none-last k
     none-tail (bare x qs) k = none-more (noArgs x) (ordinary qs ++ kwargsPart k) refl (none-named qs k)
     none-tail (starred x n qs) k = none-more (args x n) (ordinary qs ++ kwargsPart k) refl (none-named qs k)
-none-either (m ∷ ms) s k = none-more (normal (m .node) (m .name) (m .default)) (ordinary ms ++ tail s k) refl (none-either ms s k)
+none-either (m ∷ ms) s k = none-more (normal (m .node) (m .name) (m .default)) (ordinary ms ++ tail s k) refl
+    (none-either ms s k)

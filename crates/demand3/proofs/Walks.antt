@@ -8,7 +8,8 @@ use lib.ListN.{length, length-append}
 use Rattle.forest.specs.declared.Found.{Found}
 use Rattle.forest.specs.declared.Found.the-variants.{At, Nothing}
 use Rattle.unpack.specs.Written.{Param, kindIn}
-use Rattle.unpack.specs.Unpack.{writtenAt, repeats, rule, firstly, check, nextState, nextOptional, nextStar, count, advance, finish, Outcome, accepted, refused, run}
+use Rattle.unpack.specs.Unpack.{writtenAt, repeats, rule, firstly, check, nextState, nextOptional, nextStar, count}
+use Rattle.unpack.specs.Unpack.{advance, finish, Outcome, accepted, refused, run}
 use Rattle.unpack.specs.declared.State.{State}
 use Rattle.unpack.specs.declared.Check.{Check}
 use Rattle.unpack.specs.declared.Check.the-variants.{Fine, Broken}
@@ -41,7 +42,8 @@ check-parts : (f : Found) (k : Check) → firstly f k ≡ Fine → (f ≡ Nothin
 check-parts (At i) k e = broken≢fine e
 check-parts Nothing k e = (refl, e)
 
-run-fine : (before : List Param) (u : Unpacking) (p : Param) (ps : List Param) {c : Counts} → run before u (p ∷ ps) ≡ accepted c → check before (u .state) (u .«seen_optional») p ≡ Fine
+run-fine : (before : List Param) (u : Unpacking) (p : Param) (ps : List Param) {c : Counts}
+    → run before u (p ∷ ps) ≡ accepted c → check before (u .state) (u .«seen_optional») p ≡ Fine
 run-fine before u p ps {c} h = go (check before (u .state) (u .«seen_optional») p) refl
   where
     go : (k : Check) → check before (u .state) (u .«seen_optional») p ≡ k → k ≡ Fine
@@ -50,28 +52,37 @@ run-fine before u p ps {c} h = go (check before (u .state) (u .«seen_optional»
 
 -- the end of a walk over one more
 end-step : (before : List Param) (p : Param) (ps : List Param) (star : WrittenPlace) (c : Counts)
-    → finish ((before ++ p ∷ []) ++ ps) (starFrom star (length (before ++ p ∷ [])) ps) c ≡ finish (before ++ p ∷ ps) (starFrom star (length before + 1) ps) c
+    → finish ((before ++ p ∷ []) ++ ps) (starFrom star (length (before ++ p ∷ [])) ps) c
+    ≡ finish (before ++ p ∷ ps) (starFrom star (length before + 1) ps) c
 end-step before p ps star c =
     let whole : (before ++ p ∷ []) ++ ps ≡ before ++ p ∷ ps = append-assoc before (p ∷ []) ps in
     let long : length (before ++ p ∷ []) ≡ length before + 1 = length-append before (p ∷ []) in
     rw (whole, long) refl
 
 -- what is accepted keeps every rule, repeats no name, and ends with what is counted
-pub run-accepted : (before : List Param) (u : Unpacking) (l : List Param) {c : Counts} → Cleared u → run before u l ≡ accepted c
-    → Rules (u .state) (u .«seen_optional») l × Fresh before l × (finish (before ++ l) (starFrom (u .«index_of_star») (length before) l) (countsFrom (u .state) (u .counts) l) ≡ accepted c)
+pub run-accepted : (before : List Param) (u : Unpacking) (l : List Param) {c : Counts} → Cleared u
+    → run before u l ≡ accepted c
+    → Rules (u .state) (u .«seen_optional») l × Fresh before l
+    × (finish (before ++ l) (starFrom (u .«index_of_star») (length before) l)
+    (countsFrom (u .state) (u .counts) l) ≡ accepted c)
 unfolding run advance
 run-accepted before u [] clear h = (tt, tt, rw (append-nil before) h)
 run-accepted before u (p ∷ ps) clear h =
     let fine = run-fine before u p ps h in
     let b = check-parts (repeats before p) (rule (u .state) (u .«seen_optional») (kindIn p)) fine in
-    let r = run-accepted (before ++ p ∷ []) (advance u (writtenAt (length before)) (kindIn p)) ps (clear-on before u p ps clear fine) (sym (run-on before u p ps clear fine) ∙ h) in
+    let r = run-accepted (before ++ p ∷ []) (advance u (writtenAt (length before)) (kindIn p)) ps
+    (clear-on before u p ps clear fine) (sym (run-on before u p ps clear fine) ∙ h) in
     ((b .1, r .0), (b .0, r .1), sym (end-step before p ps _ _) ∙ r .2)
 
 -- and back
-pub run-finished : (before : List Param) (u : Unpacking) (l : List Param) → Cleared u → Rules (u .state) (u .«seen_optional») l → Fresh before l
-    → run before u l ≡ finish (before ++ l) (starFrom (u .«index_of_star») (length before) l) (countsFrom (u .state) (u .counts) l)
+pub run-finished : (before : List Param) (u : Unpacking) (l : List Param) → Cleared u
+    → Rules (u .state) (u .«seen_optional») l → Fresh before l
+    → run before u l ≡ finish (before ++ l) (starFrom (u .«index_of_star») (length before) l)
+    (countsFrom (u .state) (u .counts) l)
 unfolding run advance
 run-finished before u [] clear r f = rw (append-nil before) refl
 run-finished before u (p ∷ ps) clear r f =
     let fine : check before (u .state) (u .«seen_optional») p ≡ Fine = rw (f .0) (r .0) in
-    run-on before u p ps clear fine ∙ run-finished (before ++ p ∷ []) (advance u (writtenAt (length before)) (kindIn p)) ps (clear-on before u p ps clear fine) (r .1) (f .1) ∙ end-step before p ps _ _
+    run-on before u p ps clear fine ∙ run-finished (before ++ p ∷ [])
+    (advance u (writtenAt (length before)) (kindIn p)) ps (clear-on before u p ps clear fine) (r .1) (f .1)
+    ∙ end-step before p ps _ _

@@ -63,10 +63,20 @@ pub row-of-record : (bs : List ℕ) → validBytes bs ≡ true → rowOf (record
 unfolding validBytes rowOf recordOf
 row-of-record bs e =
     let at : (i : ℕ) → getD bs i 0 ≤ getD limits i 0 = within-at limits bs e in
-    simp
-    (bit-back _ (at 0), bit-back _ (at 1), bit-back _ (at 2), bit-back _ (at 3), bit-back _ (at 4), types-back _ (at 5), bit-back _ (at 6), bit-back _ (at 7), bit-back _ (at 8))
+    simp (
+      bit-back _ (at 0),
+      bit-back _ (at 1),
+      bit-back _ (at 2),
+      bit-back _ (at 3),
+      bit-back _ (at 4),
+      types-back _ (at 5),
+      bit-back _ (at 6),
+      bit-back _ (at 7),
+      bit-back _ (at 8),
+    )
     (elements-drop 9 0 bs (valid-length bs e))
 
 -- so no two valid byte strings give one dialect
-pub same-dialect : (bs cs : List ℕ) → validBytes bs ≡ true → validBytes cs ≡ true → recordOf bs ≡ recordOf cs → bs ≡ cs
+pub same-dialect : (bs cs : List ℕ) → validBytes bs ≡ true → validBytes cs ≡ true → recordOf bs ≡ recordOf cs
+    → bs ≡ cs
 same-dialect bs cs p q e = sym (row-of-record bs p) ∙ ap rowOf e ∙ row-of-record cs q

@@ -20,5 +20,6 @@ pub from-bytes-one : (bytes : List ℕ) {r s : Decoded} → r ≡ fromBytes byte
 from-bytes-one bytes = coincide
 
 -- of `permits_types`
-pub permits-types-one : (types : DialectTypes) {r s : Bool} → r ≡ permitsTypes types → s ≡ permitsTypes types → r ≡ s
+pub permits-types-one : (types : DialectTypes) {r s : Bool} → r ≡ permitsTypes types → s ≡ permitsTypes types
+    → r ≡ s
 permits-types-one types = coincide

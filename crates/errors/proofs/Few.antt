@@ -18,7 +18,8 @@ use Rattle.errors.specs.declared.Mark.{Mark}
 use Rattle.errors.specs.declared.Mark.the-variants.{Star, Slash as SlashMark}
 
 -- a choice is as short as what is chosen
-pub if-few : (b : Bool) (x y : Unit {0} → List Err) (n : ℕ) → length (x tt) ≤ n → length (y tt) ≤ n → length (if' b x y) ≤ n
+pub if-few : (b : Bool) (x y : Unit {0} → List Err) (n : ℕ) → length (x tt) ≤ n → length (y tt) ≤ n
+    → length (if' b x y) ≤ n
 if-few true x y n p q = p
 if-few false x y n p q = q
 
@@ -28,7 +29,8 @@ unless-few false n r = omega arith
 
 -- a parameter is one mark at most
 mark-few : (k : Kind) (a b : Err) (xs ys : List Err) (n : ℕ) → length xs + length ys ≤ n
-    → length (if' (isMark Star k) (λ _. a ∷ xs) (λ _. xs)) + length (if' (isMark SlashMark k) (λ _. b ∷ ys) (λ _. ys)) ≤ suc n
+    → length (if' (isMark Star k) (λ _. a ∷ xs) (λ _. xs))
+    + length (if' (isMark SlashMark k) (λ _. b ∷ ys) (λ _. ys)) ≤ suc n
 mark-few (Normal d) a b xs ys n h = omega arith
 mark-few NoArgs a b xs ys n h = omega arith
 mark-few Slash a b xs ys n h = omega arith
@@ -46,7 +48,8 @@ every-few SlashMark ps = omega (arith, both-few ps)
 
 -- the checks of a list: no more than its parameters, and one
 pub marks-few : (d : Dialect) (m : Mark) (ps : List Param) → length (marks d m ps) ≤ length (everyMark m ps)
-marks-few d m ps = if-few (permits d m) (λ _. []) (λ _. everyMark m ps) (length (everyMark m ps)) (omega arith) (omega arith)
+marks-few d m ps = if-few (permits d m) (λ _. []) (λ _. everyMark m ps) (length (everyMark m ps)) (omega arith)
+    (omega arith)
 
 pub unpack-few : (o : Outcome) → length (unpackError o) ≤ 1
 unpack-few (accepted c) = omega arith
@@ -59,8 +62,22 @@ params-few d ps =
     let l = marks d Star ps in
     let r = marks d SlashMark ps in
     let u = unpackError (unpack ps) in
-    omega (arith, length-append (l ++ r) u, length-append l r, marks-few d Star ps, marks-few d SlashMark ps, both-few ps, unpack-few (unpack ps))
+    omega (
+      arith,
+      length-append (l ++ r) u,
+      length-append l r,
+      marks-few d Star ps,
+      marks-few d SlashMark ps,
+      both-few ps,
+      unpack-few (unpack ps),
+    )
 
-pub with-few : (d : Dialect) (names : List ℕ) (b : Bool) (n : ℕ) (r : Node) (ks : Forest) → length (withParams d names b n r ks) ≤ length (paramsIn names ks) + 2
+pub with-few : (d : Dialect) (names : List ℕ) (b : Bool) (n : ℕ) (r : Node) (ks : Forest)
+    → length (withParams d names b n r ks) ≤ length (paramsIn names ks) + 2
 unfolding withParams
-with-few d names b n r ks = omega (arith, length-append (unless b n r) («validate_params» d (paramsIn names ks)), unless-few b n r, params-few d (paramsIn names ks))
+with-few d names b n r ks = omega (
+  arith,
+  length-append (unless b n r) («validate_params» d (paramsIn names ks)),
+  unless-few b n r,
+  params-few d (paramsIn names ks),
+)

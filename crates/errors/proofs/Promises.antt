@@ -6,7 +6,8 @@ use Rattle.fields.proofs.Coincide.{coincide}
 use Rattle.errors.specs.Errors.{Err, width, Stores}
 
 -- of `push_at`, `push_unless` and `params::with_params`, whose promise is that they store some errors
-pub stores-one : (es : List Err) (xs : List ℕ) {m n : ℕ} {ys zs : List ℕ} → Stores es xs m ys → Stores es xs n zs → (m ≡ n) × (ys ≡ zs)
+pub stores-one : (es : List Err) (xs : List ℕ) {m n : ℕ} {ys zs : List ℕ} → Stores es xs m ys → Stores es xs n zs
+    → (m ≡ n) × (ys ≡ zs)
 stores-one es xs p q = (coincide (p .count) (q .count), coincide (p .words) (q .words))
 
 -- of `free`

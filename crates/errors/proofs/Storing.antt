@@ -40,7 +40,8 @@ pub stored-length : (es : List Err) (xs : List ℕ) → length (stored es xs) �
 stored-length [] xs = ap length (stored-none xs)
 stored-length (e ∷ es) xs =
     room xs
-    (λ h. ap length (stored-fits e es xs h) ∙ (let n = stored-length es (drop 3 xs) in omega (arith, n, length-drop 3 xs)))
+    (λ h. ap length (stored-fits e es xs h)
+    ∙ (let n = stored-length es (drop 3 xs) in omega (arith, n, length-drop 3 xs)))
     (λ h. ap length (stored-full e es xs h))
 
 stored-nil : (es : List Err) → stored es [] ≡ []
@@ -50,30 +51,45 @@ stored-nil (e ∷ es) = refl
 
 -- LAW: where the first errors are stored, the next begin at the first free word, or at the end
 pub stored-append : (es fs : List Err) (xs : List ℕ) →
-    stored (es ++ fs) xs ≡ take (min (width * length es) (length xs)) (stored es xs) ++ stored fs (drop (min (width * length es) (length xs)) (stored es xs))
+    stored (es ++ fs) xs ≡ take (min (width * length es) (length xs)) (stored es xs)
+    ++ stored fs (drop (min (width * length es) (length xs)) (stored es xs))
 stored-append [] fs xs = let z : min 0 (length xs) ≡ 0 = omega arith in rw (z, stored-none xs) refl
 stored-append (e ∷ es) fs xs =
     room xs
     (λ h.
-    let m : min (3 * suc (length es)) (length xs) ≡ suc (suc (suc (min (3 * length es) (length (drop 3 xs))))) = omega (arith, length-drop 3 xs) in
+    let m : min (3 * suc (length es)) (length xs)
+    ≡ suc (suc (suc (min (3 * length es) (length (drop 3 xs))))) = omega (arith, length-drop 3 xs) in
     rw (stored-fits e (es ++ fs) xs h, stored-fits e es xs h, m, stored-append es fs (drop 3 xs)) refl)
     (λ h.
     let m : min (3 * suc (length es)) (length xs) ≡ length xs = omega arith in
-    rw (stored-full e (es ++ fs) xs h, stored-full e es xs h, m, take-length xs, drop-length xs, stored-nil fs, append-nil xs) refl)
+    rw (
+      stored-full e (es ++ fs) xs h,
+      stored-full e es xs h,
+      m,
+      take-length xs,
+      drop-length xs,
+      stored-nil fs,
+      append-nil xs,
+    ) refl)
 
 -- what is put back behind the words that a check was not lent
 put-tail : (a : ℕ) (s ys : List ℕ) → putMid a (length s - a) s ys ≡ take a s ++ ys
-put-tail a s ys = simp (drop-of-length-le (drop a s) {i = length s - a} (simp length-drop (omega arith)), append-nil)
+put-tail a s ys = simp (
+  drop-of-length-le (drop a s) {i = length s - a} (simp length-drop (omega arith)),
+  append-nil,
+)
 
 -- LAW: a check that finds nothing leaves every word
 pub stores-none : (xs : List ℕ) → Stores [] xs 0 xs
 stores-none xs = record { count = refl; words = sym (stored-none xs) }
 
 -- LAW: two checks, of which the second is lent the words that the first leaves free
-pub stores-both : (es fs : List Err) {xs ys zs : List ℕ} {m n at : ℕ} → Stores es xs m ys → at ≡ min (width * m) (length ys) → Stores fs (take (length ys - at) (drop at ys)) n zs
+pub stores-both : (es fs : List Err) {xs ys zs : List ℕ} {m n at : ℕ} → Stores es xs m ys
+    → at ≡ min (width * m) (length ys) → Stores fs (take (length ys - at) (drop at ys)) n zs
     → Stores (es ++ fs) xs (m + n) (putMid at (length ys - at) ys zs)
 stores-both es fs {xs} {ys} {zs} {m} {n} {at} s at-is q =
-    let a : at ≡ min (width * length es) (length xs) = omega (arith, s .count, stored-length es xs, ap length (s .words)) in
+    let a : at ≡ min (width * length es) (length xs) = omega
+    (arith, s .count, stored-length es xs, ap length (s .words)) in
     let z : zs ≡ stored fs (drop at ys) = q .words ∙ ap (stored fs) (tail-part at ys) in
     record {
       count = omega (arith, s .count, q .count, length-append es fs);
@@ -90,13 +106,19 @@ three (x ∷ y ∷ z ∷ xs) a b c h = refl
 -- LAW: one error is three words where they fit, and none else
 module _ (xs : List ℕ) (a b c : ℕ) where
   pub push-fits : 3 ≤ length xs → Stores (err a b c ∷ []) xs 1 (set (set (set xs 0 a) 1 b) 2 c)
-  push-fits h = record { count = refl; words = three xs a b c h ∙ sym (stored-fits (err a b c) [] xs h ∙ ap (λ (l : List ℕ). wordsOf (err a b c) ++ l) (stored-none (drop 3 xs))) }
+  push-fits h = record {
+    count = refl;
+    words = three xs a b c h
+        ∙ sym (stored-fits (err a b c) [] xs h
+        ∙ ap (λ (l : List ℕ). wordsOf (err a b c) ++ l) (stored-none (drop 3 xs)));
+  }
 
   pub push-full : length xs < 3 → Stores (err a b c ∷ []) xs 1 xs
   push-full h = record { count = refl; words = sym (stored-full (err a b c) [] xs h) }
 
 -- LAW: an error at a record has the record's span
-pub push-spanned : (n : ℕ) (t : List ℕ) {b e m : ℕ} {xs ys : List ℕ} → b ≡ nodeOf 0 t .begin → e ≡ nodeOf 0 t .stop → Stores (err n b e ∷ []) xs m ys → Stores (errAt n (nodeOf 0 t) ∷ []) xs m ys
+pub push-spanned : (n : ℕ) (t : List ℕ) {b e m : ℕ} {xs ys : List ℕ} → b ≡ nodeOf 0 t .begin → e ≡ nodeOf 0 t .stop
+    → Stores (err n b e ∷ []) xs m ys → Stores (errAt n (nodeOf 0 t) ∷ []) xs m ys
 push-spanned n t b-is e-is s = rw (← b-is, ← e-is) s
 
 -- LAW: an error unless something is permitted
@@ -104,7 +126,8 @@ module _ (r : Node) (n : ℕ) {b : Bool} {xs : List ℕ} where
   pub unless-permitted : b ≡ true → Stores (unless b n r) xs 0 xs
   unless-permitted h = rw h (stores-none xs)
 
-  pub unless-not : {ys : List ℕ} {m : ℕ} → b ≡ false → Stores (errAt n r ∷ []) xs m ys → Stores (unless b n r) xs m ys
+  pub unless-not : {ys : List ℕ} {m : ℕ} → b ≡ false → Stores (errAt n r ∷ []) xs m ys
+      → Stores (unless b n r) xs m ys
   unless-not h s = rw h s
 
 pub unless-one : (b : Bool) (n : ℕ) (r : Node) {xs ys : List ℕ} {m : ℕ} → Stores (unless b n r) xs m ys → m ≤ 1
@@ -121,10 +144,12 @@ abbrev pub allWords : List Err → List ℕ
 allWords [] = []
 allWords (e ∷ es) = wordsOf e ++ allWords es
 
-pub stored-all : (es : List Err) (xs : List ℕ) → width * length es ≤ length xs → stored es xs ≡ allWords es ++ drop (width * length es) xs
+pub stored-all : (es : List Err) (xs : List ℕ) → width * length es ≤ length xs
+    → stored es xs ≡ allWords es ++ drop (width * length es) xs
 stored-all [] xs h = stored-none xs
 stored-all (e ∷ es) xs h =
     let next = stored-all es (drop 3 xs) (omega (arith, length-drop 3 xs)) in
     let more : 3 + 3 * length es ≡ 3 * suc (length es) = omega arith in
-    let skip : drop (3 * length es) (drop 3 xs) ≡ drop (3 * suc (length es)) xs = drop-drop (3 * length es) 3 xs ∙ ap (λ (n : ℕ). drop n xs) more in
+    let skip : drop (3 * length es) (drop 3 xs) ≡ drop (3 * suc (length es)) xs = drop-drop (3 * length es) 3 xs
+    ∙ ap (λ (n : ℕ). drop n xs) more in
     rw (stored-fits e es xs (omega arith), next, skip) refl

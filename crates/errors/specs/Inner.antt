@@ -6,5 +6,5 @@ use Rattle.unpack.specs.Written.{Param, paramsIn}
 use Rattle.errors.specs.Errors.{Err, Stores}
 
 -- a check of a list that begins a stretch finds what a rule says, whatever the names and wherever the list stands
-abbrev pub Anywhere : (List Param → List Err) → List ℕ → List ℕ → ℕ → List ℕ → Type 0
-Anywhere rule t xs total ys = (names : List ℕ) (i : ℕ) → Stores (rule (paramsIn names (forest i t))) xs total ys
+pub record Anywhere (rule : List Param → List Err) (t xs : List ℕ) (total : ℕ) (ys : List ℕ) : Type 0 where
+  pub stores : (names : List ℕ) (i : ℕ) → Stores (rule (paramsIn names (forest i t))) xs total ys

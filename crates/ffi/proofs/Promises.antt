@@ -19,31 +19,42 @@ pub record Promised (a : Answer) (ws out : List ℕ) (n : ℕ) (exit : List ℕ)
   pub number-is : n ≡ number a
   pub words-are : exit ≡ laid ws 0 out
 
-one : {a : Answer} {ws out : List ℕ} {n m : ℕ} {xs ys : List ℕ} → Promised a ws out n xs → Promised a ws out m ys → (n ≡ m) × (xs ≡ ys)
+one : {a : Answer} {ws out : List ℕ} {n m : ℕ} {xs ys : List ℕ} → Promised a ws out n xs → Promised a ws out m ys
+    → (n ≡ m) × (xs ≡ ys)
 one p q = (coincide (p .number-is) (q .number-is), coincide (p .words-are) (q .words-are))
 
 module _ (table names out : List ℕ) {n m : ℕ} {xs ys : List ℕ} where
-  pub starlark-table-one : let a = checkOf table names in Promised a (words a) out n xs → Promised a (words a) out m ys → (n ≡ m) × (xs ≡ ys)
+  pub starlark-table-one : let a = checkOf table names in Promised a (words a) out n xs
+      → Promised a (words a) out m ys → (n ≡ m) × (xs ≡ ys)
   starlark-table-one = one
 
-  pub starlark-call-one : (node : ℕ) → let a = callOf table names node in Promised a (callWords a) out n xs → Promised a (callWords a) out m ys → (n ≡ m) × (xs ≡ ys)
+  pub starlark-call-one : (node : ℕ) → let a = callOf table names node in Promised a (callWords a) out n xs
+      → Promised a (callWords a) out m ys → (n ≡ m) × (xs ≡ ys)
   starlark-call-one node = one
 
-  pub starlark-target-one : (node : ℕ) → let a = targetOf table names node in Promised a (words a) out n xs → Promised a (words a) out m ys → (n ≡ m) × (xs ≡ ys)
+  pub starlark-target-one : (node : ℕ) → let a = targetOf table names node in Promised a (words a) out n xs
+      → Promised a (words a) out m ys → (n ≡ m) × (xs ≡ ys)
   starlark-target-one node = one
 
-  pub starlark-assignment-one : (node : ℕ) → let a = assignmentOf table names node in Promised a (words a) out n xs → Promised a (words a) out m ys → (n ≡ m) × (xs ≡ ys)
+  pub starlark-assignment-one : (node : ℕ) → let a = assignmentOf table names node in Promised a (words a) out n xs
+      → Promised a (words a) out m ys → (n ≡ m) × (xs ≡ ys)
   starlark-assignment-one node = one
 
   -- and where a buffer is lent, u and v at exit
-  pub starlark-params-one : (node : ℕ) (modes : List ℕ) {u v : List ℕ} → let a = paramsOf table names node (length modes) in
-      Promised a (words a) out n xs → u ≡ modesAfter table names node modes → Promised a (words a) out m ys → v ≡ modesAfter table names node modes → ((n ≡ m) × (xs ≡ ys)) × (u ≡ v)
+  pub starlark-params-one : (node : ℕ) (modes : List ℕ) {u v : List ℕ} →
+      let a = paramsOf table names node (length modes) in
+      Promised a (words a) out n xs → u ≡ modesAfter table names node modes → Promised a (words a) out m ys
+      → v ≡ modesAfter table names node modes → ((n ≡ m) × (xs ≡ ys)) × (u ≡ v)
   starlark-params-one node modes p h q k = (one p q, coincide h k)
 
-  pub starlark-type-one : (dialect : List ℕ) (node : ℕ) (shapes : List ℕ) {u v : List ℕ} → let a = typeShapeOf table names dialect node (length shapes) in
-      Promised a (words a) out n xs → u ≡ shapesAfter table names dialect node shapes → Promised a (words a) out m ys → v ≡ shapesAfter table names dialect node shapes → ((n ≡ m) × (xs ≡ ys)) × (u ≡ v)
+  pub starlark-type-one : (dialect : List ℕ) (node : ℕ) (shapes : List ℕ) {u v : List ℕ} →
+      let a = typeShapeOf table names dialect node (length shapes) in
+      Promised a (words a) out n xs → u ≡ shapesAfter table names dialect node shapes
+      → Promised a (words a) out m ys → v ≡ shapesAfter table names dialect node shapes
+      → ((n ≡ m) × (xs ≡ ys)) × (u ≡ v)
   starlark-type-one dialect node shapes p h q k = (one p q, coincide h k)
 
   pub starlark-module-one : (dialect errors : List ℕ) {u v : List ℕ} → let a = moduleOf table names dialect in
-      Promised a (words a) out n xs → u ≡ errorsAfter table names dialect errors → Promised a (words a) out m ys → v ≡ errorsAfter table names dialect errors → ((n ≡ m) × (xs ≡ ys)) × (u ≡ v)
+      Promised a (words a) out n xs → u ≡ errorsAfter table names dialect errors → Promised a (words a) out m ys
+      → v ≡ errorsAfter table names dialect errors → ((n ≡ m) × (xs ≡ ys)) × (u ≡ v)
   starlark-module-one dialect errors p h q k = (one p q, coincide h k)

@@ -21,17 +21,21 @@ abbrev pub Put : (Answer → List ℕ) → Answer → ℕ → List ℕ → List 
 Put put a n xs ys = (n ≡ number a) × (ys ≡ laid (put a) 0 xs)
 
 -- LAW: what is put for the value of an arm is put for the job's answer
-pub told : {U : Type 0} (put : Answer → List ℕ) (means : U → Answer) (u v : U) (a : Answer) (n : ℕ) (xs ys : List ℕ) → means u ≡ a → u ≡ v → Put put (means v) n xs ys → Put put a n xs ys
+pub told : {U : Type 0} (put : Answer → List ℕ) (means : U → Answer) (u v : U) (a : Answer) (n : ℕ) (xs ys : List ℕ)
+    → means u ≡ a → u ≡ v → Put put (means v) n xs ys → Put put a n xs ys
 told put means u v a n xs ys e q (i, w) =
     let k : means v ≡ a = rw q at e in
     (i ∙ ap number k, w ∙ ap (λ (b : Answer). laid (put b) 0 xs) k)
 
 -- LAW: the same, with what the job promises of a lent buffer
-pub told-with : {U B : Type 0} (put : Answer → List ℕ) (means : U → Answer) (u v : U) (a : Answer) (n : ℕ) (xs ys : List ℕ) → (means u ≡ a) × B → u ≡ v → Put put (means v) n xs ys → (n ≡ number a) × ((ys ≡ laid (put a) 0 xs) × B)
+pub told-with : {U B : Type 0} (put : Answer → List ℕ) (means : U → Answer) (u v : U) (a : Answer) (n : ℕ)
+    (xs ys : List ℕ) → (means u ≡ a) × B → u ≡ v → Put put (means v) n xs ys
+    → (n ≡ number a) × ((ys ≡ laid (put a) 0 xs) × B)
 told-with put means u v a n xs ys (e, b) q p = let k = told put means u v a n xs ys e q p in (k .0, (k .1, b))
 
 -- LAW: a refusal has the same words in every job
-pub refused-put : (r : Refusal) {n : ℕ} (xs : List ℕ) {ys : List ℕ} → Put words (refusal r) n xs ys → Put callWords (refusal r) n xs ys
+pub refused-put : (r : Refusal) {n : ℕ} (xs : List ℕ) {ys : List ℕ} → Put words (refusal r) n xs ys
+    → Put callWords (refusal r) n xs ys
 refused-put (Bare n) xs p = p
 refused-put (Placed n k) xs p = p
 refused-put (Spanned n k b e) xs p = p
@@ -46,22 +50,27 @@ small-fit [] h = tt
 small-fit (v ∷ vs) (h, hs) = (omega (arith, h), small-fit vs hs)
 
 -- LAW: the values of an accepted parameter list fit words
-pub params-fit : {U : Type 0} (means : U → Answer) (u v : U) (t names : List ℕ) (node room : ℕ) (vs : List ℕ) → means u ≡ paramsOf t names node room → u ≡ v → means v ≡ accepted vs → Fit vs
+pub params-fit : {U : Type 0} (means : U → Answer) (u v : U) (t names : List ℕ) (node room : ℕ) (vs : List ℕ)
+    → means u ≡ paramsOf t names node room → u ≡ v → means v ≡ accepted vs → Fit vs
 params-fit means u v t names node room vs e q m =
     let k : means v ≡ paramsOf t names node room = rw q at e in
     small-fit vs (accepted-small t names node room (sym k ∙ m))
 
 -- the words of an accepted call
-call-words : (a : CallArgs) → callWords (accepted (callValues a)) ≡ a .«num_pos» ∷ a .«num_named» ∷ placeIn (placeValues (a .star)) ∷ placeIn (placeValues (a .«star_star»)) ∷ []
+call-words : (a : CallArgs) → callWords (accepted (callValues a)) ≡ a .«num_pos» ∷ a .«num_named»
+    ∷ placeIn (placeValues (a .star)) ∷ placeIn (placeValues (a .«star_star»)) ∷ []
 call-words a = go (a .star) (a .«star_star»)
   where
-    go : (p q : Place) → callWords (accepted (a .«num_pos» ∷ a .«num_named» ∷ placeValues p ++ placeValues q)) ≡ a .«num_pos» ∷ a .«num_named» ∷ placeIn (placeValues p) ∷ placeIn (placeValues q) ∷ []
+    go : (p q : Place) → callWords (accepted (a .«num_pos» ∷ a .«num_named» ∷ placeValues p ++ placeValues q))
+        ≡ a .«num_pos» ∷ a .«num_named» ∷ placeIn (placeValues p) ∷ placeIn (placeValues q) ∷ []
     go (Given i) (Given j) = refl
     go (Given i) Missing = refl
     go Missing (Given j) = refl
     go Missing Missing = refl
 
 -- LAW: four words, laid one after the other
-pub call-laid : (a : CallArgs) (s k : ℕ) (xs : List ℕ) → s ≡ placeIn (placeValues (a .star)) → k ≡ placeIn (placeValues (a .«star_star»))
-    → set (set (set (set xs 0 (a .«num_pos»)) 1 (a .«num_named»)) 2 s) 3 k ≡ laid (callWords (accepted (callValues a))) 0 xs
+pub call-laid : (a : CallArgs) (s k : ℕ) (xs : List ℕ) → s ≡ placeIn (placeValues (a .star))
+    → k ≡ placeIn (placeValues (a .«star_star»))
+    → set (set (set (set xs 0 (a .«num_pos»)) 1 (a .«num_named»)) 2 s) 3 k
+    ≡ laid (callWords (accepted (callValues a))) 0 xs
 call-laid a s k xs e f = rw (e, f) (ap (λ (ws : List ℕ). laid ws 0 xs) (sym (call-words a)))

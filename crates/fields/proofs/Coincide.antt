@@ -6,5 +6,6 @@ pub coincide : {A : Type 0} {x y z : A} → x ≡ z → y ≡ z → x ≡ y
 coincide p q = p ∙ sym q
 
 -- a promise that is an equation of what the answer means has one answer, if no two answers mean the same
-pub coincide-by : {A B : Type 0} (means : A → B) → ((x y : A) → means x ≡ means y → x ≡ y) → {x y : A} {z : B} → means x ≡ z → means y ≡ z → x ≡ y
+pub coincide-by : {A B : Type 0} (means : A → B) → ((x y : A) → means x ≡ means y → x ≡ y) → {x y : A} {z : B}
+    → means x ≡ z → means y ≡ z → x ≡ y
 coincide-by means injective {x} {y} p q = injective x y (coincide p q)

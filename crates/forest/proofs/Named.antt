@@ -30,9 +30,11 @@ module _ (ns t : List ℕ) {a : ℕ} (a-is : a ≡ nodeOf 0 t .nameStart) where
   unfolding nameOf
   name-outside h = rw (← a-is, drop-of-length-le ns {i = a} (omega arith)) (sym (take-nil (nodeOf 0 t .nameLen)))
 
-  pub name-short : {len : ℕ} → len ≡ nodeOf 0 t .nameLen → a ≤ length ns → length ns < a + len → take (length ns - a) (drop a ns) ≡ nameOf ns (nodeOf 0 t)
+  pub name-short : {len : ℕ} → len ≡ nodeOf 0 t .nameLen → a ≤ length ns → length ns < a + len
+      → take (length ns - a) (drop a ns) ≡ nameOf ns (nodeOf 0 t)
   unfolding nameOf
-  name-short {len} l-is h g = rw (← a-is, ← l-is) (take-clip (length ns - a) len (drop a ns) (simp length-drop (omega arith)))
+  name-short {len} l-is h g = rw (← a-is, ← l-is)
+      (take-clip (length ns - a) len (drop a ns) (simp length-drop (omega arith)))
 
   pub name-inside : {len : ℕ} → len ≡ nodeOf 0 t .nameLen → take (a + len - a) (drop a ns) ≡ nameOf ns (nodeOf 0 t)
   unfolding nameOf
@@ -46,9 +48,11 @@ pub record Alike (a b : List ℕ) (n i : ℕ) : Type 0 where
   pub left : same (drop i a) (drop i b) ≡ same a b
 
 module _ {a b : List ℕ} {n i : ℕ} (s : Alike a b n i) where
-  same-step : i < n → same (drop i a) (drop i b) ≡ (eqb (getD a i 0) (getD b i 0) && same (drop (i + 1) a) (drop (i + 1) b))
+  same-step : i < n → same (drop i a) (drop i b)
+      ≡ (eqb (getD a i 0) (getD b i 0) && same (drop (i + 1) a) (drop (i + 1) b))
   unfolding same
-  same-step h = let p : i < length a = omega arith in let q : i < length b = omega arith in simp (drop-cons a i 0 p, drop-cons b i 0 q, add-one)
+  same-step h = let p : i < length a = omega arith in let q : i < length b = omega arith in
+      simp (drop-cons a i 0 p, drop-cons b i 0 q, add-one)
 
   pub same-go : i < n → getD a i 0 ≡ getD b i 0 → Alike a b n (i + 1)
   same-go h e = record {
@@ -116,13 +120,15 @@ module _ {ns name t : List ℕ} {at : ℕ} {left : List ℕ} (s : Seeking ns nam
   unfolding firstNamed
   seek-end h = rw (forest-none at left h) at (s .same)
 
-  pub seek-here : {m : List ℕ} {b : Bool} → 24 ≤ length left → m ≡ nameOf ns (nodeOf 0 left) → b ≡ same m name → b ≡ true → At at ≡ firstNamed ns name (forest 0 t)
+  pub seek-here : {m : List ℕ} {b : Bool} → 24 ≤ length left → m ≡ nameOf ns (nodeOf 0 left) → b ≡ same m name
+      → b ≡ true → At at ≡ firstNamed ns name (forest 0 t)
   unfolding firstNamed nameOf
   seek-here big m-is b-is e =
       let hit : same (nameOf ns (nodeOf 0 left)) name ≡ true = cc in
       rw (forest-tree at left big, hit) at (s .same)
 
-  pub seek-on : {m : List ℕ} {b : Bool} {e : ℕ} → 24 ≤ length left → m ≡ nameOf ns (nodeOf 0 left) → b ≡ same m name → b ≡ false → e ≡ spanOf left
+  pub seek-on : {m : List ℕ} {b : Bool} {e : ℕ} → 24 ≤ length left → m ≡ nameOf ns (nodeOf 0 left) → b ≡ same m name
+      → b ≡ false → e ≡ spanOf left
       → Seeking ns name t (at + e / 24) (take (length left - e) (drop e left))
   unfolding firstNamed nameOf
   seek-on {m} {b} {e} big m-is b-is miss e-is =

@@ -17,7 +17,8 @@ pub span-one : (t : List ℕ) {r s : ℕ} → r ≡ spanOf t → s ≡ spanOf t 
 span-one t = coincide
 
 -- of `names::name`, whose answer is a part of the lent names
-pub name-one : (names t : List ℕ) {r s : List ℕ} → r ≡ nameOf names (nodeOf 0 t) → s ≡ nameOf names (nodeOf 0 t) → r ≡ s
+pub name-one : (names t : List ℕ) {r s : List ℕ} → r ≡ nameOf names (nodeOf 0 t) → s ≡ nameOf names (nodeOf 0 t)
+    → r ≡ s
 name-one names t = coincide
 
 -- of `names::same_bytes`
@@ -25,5 +26,6 @@ pub same-bytes-one : (a b : List ℕ) {r s : Bool} → r ≡ same a b → s ≡ 
 same-bytes-one a b = coincide
 
 -- of `names::first_named`
-pub first-named-one : (names name t : List ℕ) {r s : Found} → r ≡ firstNamed names name (forest 0 t) → s ≡ firstNamed names name (forest 0 t) → r ≡ s
+pub first-named-one : (names name t : List ℕ) {r s : Found} → r ≡ firstNamed names name (forest 0 t)
+    → s ≡ firstNamed names name (forest 0 t) → r ≡ s
 first-named-one names name t = coincide

@@ -11,7 +11,8 @@ use lib.Seq.{getD-take, drop-drop, take-nil}
 use lib.Dec.{leb}
 use borrow.Author.Tests.{le-leb, lt-leb, leb-true, leb-false}
 use Rattle.fields.proofs.Fields.{tail-part, field-take}
-use Rattle.forest.specs.Forest.{Node, sizeOf, nodeOf, spanOf, kidsOf, restOf, Tree, node, Forest, none, _then_, forestIn, forest, treeOf, count, nodes}
+use Rattle.forest.specs.Forest.{Node, sizeOf, nodeOf, spanOf, kidsOf, restOf, Tree, node, Forest, none}
+use Rattle.forest.specs.Forest.{_then_, forestIn, forest, treeOf, count, nodes}
 
 -- a node with its children and what follows
 abbrev pub tree : Node → Forest → Forest → Forest
@@ -58,17 +59,22 @@ unfolding forestIn
 forestIn-short zero i bs h = refl
 forestIn-short (suc k) i bs h = rw (lt-leb 24 (length bs) h, forestIn) refl
 
-forestIn-tree : (k i : ℕ) (bs : List ℕ) → 24 ≤ length bs → forestIn (suc k) i bs ≡ tree (nodeOf i bs) (forestIn k (i + 1) (kidsOf bs)) (forestIn k (i + spanOf bs / 24) (restOf bs))
+forestIn-tree : (k i : ℕ) (bs : List ℕ) → 24 ≤ length bs
+    → forestIn (suc k) i bs ≡ tree (nodeOf i bs) (forestIn k (i + 1) (kidsOf bs))
+    (forestIn k (i + spanOf bs / 24) (restOf bs))
 unfolding forestIn
 forestIn-tree k i bs h = rw (le-leb 24 (length bs) h, forestIn) refl
 
 -- any fuel that is enough gives the same
 forestIn-enough : (k j i : ℕ) (bs : List ℕ) → length bs ≤ k → length bs ≤ j → forestIn k i bs ≡ forestIn j i bs
 forestIn-enough zero j i bs h g = forestIn-short zero i bs (omega arith) ∙ sym (forestIn-short j i bs (omega arith))
-forestIn-enough (suc k) zero i bs h g = forestIn-short (suc k) i bs (omega arith) ∙ sym (forestIn-short zero i bs (omega arith))
+forestIn-enough (suc k) zero i bs h g = forestIn-short (suc k) i bs (omega arith)
+    ∙ sym (forestIn-short zero i bs (omega arith))
 forestIn-enough (suc k) (suc j) i bs h g =
-    let ks = forestIn-enough k j (i + 1) (kidsOf bs) (omega (arith, length-kids bs)) (omega (arith, length-kids bs)) in
-    let rs = forestIn-enough k j (i + spanOf bs / 24) (restOf bs) (omega (arith, length-rest bs)) (omega (arith, length-rest bs)) in
+    let ks = forestIn-enough k j (i + 1) (kidsOf bs) (omega (arith, length-kids bs))
+    (omega (arith, length-kids bs)) in
+    let rs = forestIn-enough k j (i + spanOf bs / 24) (restOf bs) (omega (arith, length-rest bs))
+    (omega (arith, length-rest bs)) in
     record-or-none bs (λ s. forestIn-short (suc k) i bs s ∙ sym (forestIn-short (suc j) i bs s))
     (λ s. forestIn-tree k i bs s ∙ rw (ks, rs) (sym (forestIn-tree j i bs s)))
 
@@ -77,12 +83,15 @@ pub forest-none : (i : ℕ) (bs : List ℕ) → length bs < 24 → forest i bs �
 unfolding forest
 forest-none i bs h = forestIn-short (length bs) i bs h
 
-pub forest-tree : (i : ℕ) (bs : List ℕ) → 24 ≤ length bs → forest i bs ≡ tree (nodeOf i bs) (forest (i + 1) (kidsOf bs)) (forest (i + spanOf bs / 24) (restOf bs))
+pub forest-tree : (i : ℕ) (bs : List ℕ) → 24 ≤ length bs
+    → forest i bs ≡ tree (nodeOf i bs) (forest (i + 1) (kidsOf bs)) (forest (i + spanOf bs / 24) (restOf bs))
 unfolding forest
 forest-tree i bs h =
     let all = forestIn-enough (length bs) (suc (length bs)) i bs (omega arith) (omega arith) in
-    let ks = forestIn-enough (length bs) (length (kidsOf bs)) (i + 1) (kidsOf bs) (omega (arith, length-kids bs)) (omega arith) in
-    let rs = forestIn-enough (length bs) (length (restOf bs)) (i + spanOf bs / 24) (restOf bs) (omega (arith, length-rest bs)) (omega arith) in
+    let ks = forestIn-enough (length bs) (length (kidsOf bs)) (i + 1) (kidsOf bs) (omega (arith, length-kids bs))
+    (omega arith) in
+    let rs = forestIn-enough (length bs) (length (restOf bs)) (i + spanOf bs / 24) (restOf bs)
+    (omega (arith, length-rest bs)) (omega arith) in
     all ∙ forestIn-tree (length bs) i bs h ∙ rw (ks, rs) refl
 
 -- LAW: to show something of every forest of a stretch, show it of the empty one and of a first node from its children and what follows
@@ -96,7 +105,8 @@ forest-induction P short more i bs = go (length bs) i bs (omega arith)
     go zero i bs h = short i bs (omega arith)
     go (suc k) i bs h =
         record-or-none bs (short i bs) λ big.
-        more i bs big (go k (i + 1) (kidsOf bs) (omega (arith, length-kids bs))) (go k (i + spanOf bs / 24) (restOf bs) (omega (arith, length-rest bs)))
+        more i bs big (go k (i + 1) (kidsOf bs) (omega (arith, length-kids bs)))
+        (go k (i + spanOf bs / 24) (restOf bs) (omega (arith, length-rest bs)))
 
 -- LAW: a forest has as many nodes as its stretch has records
 pub count-forest : (i : ℕ) (bs : List ℕ) → count (forest i bs) ≡ length bs / 24
@@ -108,19 +118,23 @@ count-forest =
 
 -- LAWS for a rule over what stands side by side, in the terms of code: `all` is `one` at each tree, joined from the left
 module _ {A : Type 0} (all : Forest → A) (i e : ℕ) (bs : List ℕ) where
-  pub kids-cut : e ≡ spanOf bs → all (forest (i + 1) (take (e - 24) (drop 24 bs))) ≡ all (forest (i + 1) (kidsOf bs))
+  pub kids-cut : e ≡ spanOf bs → all (forest (i + 1) (take (e - 24) (drop 24 bs)))
+      ≡ all (forest (i + 1) (kidsOf bs))
   kids-cut h = ap (λ (l : List ℕ). all (forest (i + 1) l)) (kids-part e bs h)
 
-  pub each-cut : (one : Tree → A) (join : A → A → A) → ((t : Tree) (ts : Forest) → all (t then ts) ≡ join (one t) (all ts)) → 24 ≤ length bs → e ≡ spanOf bs
+  pub each-cut : (one : Tree → A) (join : A → A → A)
+      → ((t : Tree) (ts : Forest) → all (t then ts) ≡ join (one t) (all ts)) → 24 ≤ length bs → e ≡ spanOf bs
       → all (forest i bs) ≡ join (one (treeOf i bs)) (all (forest (i + e / 24) (take (length bs - e) (drop e bs))))
-  each-cut one join then-is big h = rw (rest-part e bs h, h) (ap all (forest-tree i bs big) ∙ then-is (treeOf i bs) (forest (i + spanOf bs / 24) (restOf bs)))
+  each-cut one join then-is big h = rw (rest-part e bs h, h)
+      (ap all (forest-tree i bs big) ∙ then-is (treeOf i bs) (forest (i + spanOf bs / 24) (restOf bs)))
 
 -- n records of a stretch in order, the first with the index i
 abbrev pub records : ℕ → ℕ → List ℕ → List Node
 records zero i bs = []
 records (suc n) i bs = nodeOf i bs ∷ records n (i + 1) (drop 24 bs)
 
-records-split : (n m i : ℕ) (bs : List ℕ) → records (n + m) i bs ≡ records n i bs ++ records m (i + n) (drop (24 * n) bs)
+records-split : (n m i : ℕ) (bs : List ℕ)
+    → records (n + m) i bs ≡ records n i bs ++ records m (i + n) (drop (24 * n) bs)
 records-split zero m i bs = simp (zero-add, add-zero)
 records-split (suc n) m i bs =
     let on : 24 + 24 * n ≡ 24 * suc n = omega arith in
@@ -148,14 +162,20 @@ size-take n bs h = field-take 2 bs n 16 (omega arith)
 
 records-take : (n i k : ℕ) (bs : List ℕ) → 24 * n ≤ k → records n i (take k bs) ≡ records n i bs
 records-take zero i k bs h = refl
-records-take (suc n) i k bs h = rw (node-take i k bs (omega arith), drop-take 24 k bs, records-take n (i + 1) (k - 24) (drop 24 bs) (omega arith))
+records-take (suc n) i k bs h = rw (
+  node-take i k bs (omega arith),
+  drop-take 24 k bs,
+  records-take n (i + 1) (k - 24) (drop 24 bs) (omega arith),
+)
 
-kids-records : (k i : ℕ) (bs : List ℕ) → 24 * k ≤ length (kidsOf bs) → records k i (kidsOf bs) ≡ records k i (drop 24 bs)
+kids-records : (k i : ℕ) (bs : List ℕ) → 24 * k ≤ length (kidsOf bs)
+    → records k i (kidsOf bs) ≡ records k i (drop 24 bs)
 unfolding kidsOf
 kids-records k i bs h = records-take k i (spanOf bs - 24) (drop 24 bs) (omega (arith, length-kids bs))
 
 -- what follows a subtree that the end cuts has no record
-rest-records : (r i : ℕ) (bs : List ℕ) (k : ℕ) → 24 ≤ length bs → k ≡ (spanOf bs - 24) / 24 → r ≡ (length bs - spanOf bs) / 24 → records r i (restOf bs) ≡ records r i (drop (24 * k) (drop 24 bs))
+rest-records : (r i : ℕ) (bs : List ℕ) (k : ℕ) → 24 ≤ length bs → k ≡ (spanOf bs - 24) / 24
+    → r ≡ (length bs - spanOf bs) / 24 → records r i (restOf bs) ≡ records r i (drop (24 * k) (drop 24 bs))
 unfolding restOf
 rest-records zero i bs k big k-is r-is = refl
 rest-records (suc r) i bs k big k-is r-is =
@@ -172,7 +192,11 @@ nodes-records =
     let k : ℕ = length (kidsOf bs) / 24 in
     let r : ℕ = length (restOf bs) / 24 in
     let n : length bs / 24 ≡ suc (k + r) = omega (arith, length-kids bs, length-rest bs) in
-    let inside : records k (i + 1) (kidsOf bs) ≡ records k (i + 1) (drop 24 bs) = kids-records k (i + 1) bs (omega (arith, length-kids bs)) in
+    let inside : records k (i + 1) (kidsOf bs)
+    ≡ records k (i + 1) (drop 24 bs) = kids-records k (i + 1) bs (omega (arith, length-kids bs)) in
     let after : i + spanOf bs / 24 ≡ i + 1 + k = omega (arith, length-kids bs) in
-    let behind : records r (i + 1 + k) (restOf bs) ≡ records r (i + 1 + k) (drop (24 * k) (drop 24 bs)) = rest-records r (i + 1 + k) bs k big (omega (arith, length-kids bs)) (omega (arith, length-rest bs)) in
-    rw (forest-tree i bs big, ks, rs, n, after, inside, behind) (ap (λ (l : List Node). nodeOf i bs ∷ l) (sym (records-split k r (i + 1) (drop 24 bs)))))
+    let behind : records r (i + 1 + k) (restOf bs)
+    ≡ records r (i + 1 + k) (drop (24 * k) (drop 24 bs)) = rest-records r (i + 1 + k) bs k big
+    (omega (arith, length-kids bs)) (omega (arith, length-rest bs)) in
+    rw (forest-tree i bs big, ks, rs, n, after, inside, behind)
+    (ap (λ (l : List Node). nodeOf i bs ∷ l) (sym (records-split k r (i + 1) (drop 24 bs)))))

@@ -34,7 +34,8 @@ never : {P : Type 0} {n : ℕ} {vs ws : List ℕ} → refused n vs ≡ accepted 
 never e = let z : _≡_ {A = ℕ} 0 1 = cc in absurd (omega arith)
 
 -- a passed check has no values
-then-accepted : (x : Answer) (next : Unit {0} → Answer) {ws : List ℕ} → andThen x next ≡ accepted ws → next tt ≡ accepted ws
+then-accepted : (x : Answer) (next : Unit {0} → Answer) {ws : List ℕ} → andThen x next ≡ accepted ws
+    → next tt ≡ accepted ws
 then-accepted (accepted vs) next e = e
 then-accepted (refused n vs) next e = never e
 
@@ -46,7 +47,8 @@ check-values : (t ns : List ℕ) {ws : List ℕ} → checkOf t ns ≡ accepted w
 unfolding checkOf
 check-values t ns e =
     none-values tooDeep (firstDeep 0 (forest 0 t))
-    (then-accepted (noneFound unsoundRecord (firstUnsound t ns)) _ (then-accepted (namesCheck (length ns)) _ (then-accepted (lengthCheck (length t)) _ e)))
+    (then-accepted (noneFound unsoundRecord (firstUnsound t ns)) _
+    (then-accepted (namesCheck (length ns)) _ (then-accepted (lengthCheck (length t)) _ e)))
 
 -- an accepted answer: the table is sound, the node fits, the buffer is long enough, and unpack accepts the list with these values
 pub record Passed (t ns : List ℕ) (node room : ℕ) (vs : List ℕ) : Type 0 where
@@ -58,33 +60,47 @@ pub record Passed (t ns : List ℕ) (node room : ℕ) (vs : List ℕ) : Type 0 w
   pub values : vs ≡ valuesOf (countedOf counts)
 
 -- LAW: and such an answer is accepted
-pub passed-accepted : (t ns : List ℕ) (node room : ℕ) {c : Counts} → checkOf t ns ≡ accepted [] → nodeFits t node Parameters ≡ true → length (listOf t ns node) ≤ room → def.unpack (listOf t ns node) ≡ def.accepted c
+pub passed-accepted : (t ns : List ℕ) (node room : ℕ) {c : Counts} → checkOf t ns ≡ accepted []
+    → nodeFits t node Parameters ≡ true → length (listOf t ns node) ≤ room
+    → def.unpack (listOf t ns node) ≡ def.accepted c
     → paramsOf t ns node room ≡ accepted (valuesOf (countedOf c))
 unfolding paramsOf listAnswer
-passed-accepted t ns node room sound fits enough outcome = rw (sound, fits, le-leb (length (listOf t ns node)) room enough, outcome) refl
+passed-accepted t ns node room sound fits enough outcome = rw
+    (sound, fits, le-leb (length (listOf t ns node)) room enough, outcome) refl
 
 -- LAW: an accepted answer has passed every check
-pub accepted-passed : (t ns : List ℕ) (node room : ℕ) {vs : List ℕ} → paramsOf t ns node room ≡ accepted vs → Passed t ns node room vs
+pub accepted-passed : (t ns : List ℕ) (node room : ℕ) {vs : List ℕ} → paramsOf t ns node room ≡ accepted vs
+    → Passed t ns node room vs
 unfolding paramsOf listAnswer
 accepted-passed t ns node room {vs} e = by-check (checkOf t ns) refl e
   where
-    by-list : checkOf t ns ≡ accepted [] → nodeFits t node Parameters ≡ true → length (listOf t ns node) ≤ room → (o : def.Outcome) → def.unpack (listOf t ns node) ≡ o → answerOf o ≡ accepted vs → Passed t ns node room vs
-    by-list s f m (def.accepted c) u e = let same : valuesOf (countedOf c) ≡ vs = cc in record { sound = s; fits = f; enough = m; counts = c; outcome = u; values = sym same }
+    by-list : checkOf t ns ≡ accepted [] → nodeFits t node Parameters ≡ true → length (listOf t ns node) ≤ room
+        → (o : def.Outcome) → def.unpack (listOf t ns node) ≡ o → answerOf o ≡ accepted vs
+        → Passed t ns node room vs
+    by-list s f m (def.accepted c) u e = let same : valuesOf (countedOf c) ≡ vs = cc in
+        record { sound = s; fits = f; enough = m; counts = c; outcome = u; values = sym same }
     by-list s f m (def.refused n r) u e = never e
     by-list s f m (def.internal i r) u e = never e
 
-    by-room : checkOf t ns ≡ accepted [] → nodeFits t node Parameters ≡ true → (b : Bool) → leb (length (listOf t ns node)) room ≡ b
-        → andThen (if' b (λ _. accepted []) (λ _. refused shortBuffer [])) (λ _. answerOf (def.unpack (listOf t ns node))) ≡ accepted vs → Passed t ns node room vs
-    by-room s f true m e = by-list s f (leb-true (length (listOf t ns node)) room m) (def.unpack (listOf t ns node)) refl e
+    by-room : checkOf t ns ≡ accepted [] → nodeFits t node Parameters ≡ true → (b : Bool)
+        → leb (length (listOf t ns node)) room ≡ b
+        → andThen (if' b (λ _. accepted []) (λ _. refused shortBuffer []))
+        (λ _. answerOf (def.unpack (listOf t ns node))) ≡ accepted vs → Passed t ns node room vs
+    by-room s f true m e = by-list s f (leb-true (length (listOf t ns node)) room m) (def.unpack (listOf t ns node))
+        refl e
     by-room s f false m e = never e
 
     by-node : checkOf t ns ≡ accepted [] → (b : Bool) → nodeFits t node Parameters ≡ b
-        → andThen (if' b (λ _. accepted []) (λ _. refused wrongNode [])) (λ _. andThen (roomCheck room (listOf t ns node)) (λ _. answerOf (def.unpack (listOf t ns node)))) ≡ accepted vs → Passed t ns node room vs
+        → andThen (if' b (λ _. accepted []) (λ _. refused wrongNode []))
+        (λ _. andThen (roomCheck room (listOf t ns node)) (λ _. answerOf (def.unpack (listOf t ns node))))
+        ≡ accepted vs → Passed t ns node room vs
     by-node s true f e = by-room s f (leb (length (listOf t ns node)) room) refl e
     by-node s false f e = never e
 
     by-check : (a : Answer) → checkOf t ns ≡ a
-        → andThen a (λ _. andThen (nodeCheck t node Parameters) (λ _. andThen (roomCheck room (listOf t ns node)) (λ _. answerOf (def.unpack (listOf t ns node))))) ≡ accepted vs → Passed t ns node room vs
+        → andThen a (λ _. andThen (nodeCheck t node Parameters)
+        (λ _. andThen (roomCheck room (listOf t ns node)) (λ _. answerOf (def.unpack (listOf t ns node)))))
+        ≡ accepted vs → Passed t ns node room vs
     by-check (accepted ws) s e = by-node (s ∙ ap accepted (check-values t ns s)) (nodeFits t node Parameters) refl e
     by-check (refused n ws) s e = never e
 
@@ -93,7 +109,8 @@ abbrev pub AllBelow : ℕ → List ℕ → Type 0
 AllBelow m [] = Unit {0}
 AllBelow m (v ∷ vs) = (v ≤ m) × AllBelow m vs
 
-place-below : (p : FlatPlace) (n m : ℕ) → PlaceBelow m p → n ≤ m → (placeRange (placeOf p) n .from ≤ m) × (placeRange (placeOf p) n .upto ≤ m + 1)
+place-below : (p : FlatPlace) (n m : ℕ) → PlaceBelow m p → n ≤ m
+    → (placeRange (placeOf p) n .from ≤ m) × (placeRange (placeOf p) n .upto ≤ m + 1)
 place-below (AtFlat i) n m h g = (h, omega arith)
 place-below NoFlat n m h g = (g, omega arith)
 
@@ -114,11 +131,14 @@ all-wider m n [] h a = tt
 all-wider m n (v ∷ vs) h a = (omega (arith, a .0), all-wider m n vs h (a .1))
 
 -- THEOREM: every number of an accepted answer is at most 2,100: "Too many parameters" (def.rs:171) and the unwraps (280, 305, 346) cannot fire
-pub accepted-small : (t ns : List ℕ) (node room : ℕ) {vs : List ℕ} → paramsOf t ns node room ≡ accepted vs → AllBelow 2100 vs
+pub accepted-small : (t ns : List ℕ) (node room : ℕ) {vs : List ℕ} → paramsOf t ns node room ≡ accepted vs
+    → AllBelow 2100 vs
 unfolding listOf
 accepted-small t ns node room e =
     let p = accepted-passed t ns node room e in
     let l = listOf t ns node in
-    let size = handed t ns node Parameters {f = Sound} (sym (p .sound)) refl refl (p .fits) {s = stretchOf t node} refl in
+    let size = handed t ns node Parameters {f = Sound} (sym (p .sound)) refl refl (p .fits) {s = stretchOf t node}
+    refl in
     let short = written-short ns node (stretchOf t node) in
-    rw (p .values) (all-wider (length l + 1) 2100 (valuesOf (countedOf (p .counts))) (omega (arith, short, size)) (values-below (length l) (p .counts) (accepted-bounded l (p .outcome))))
+    rw (p .values) (all-wider (length l + 1) 2100 (valuesOf (countedOf (p .counts))) (omega (arith, short, size))
+    (values-below (length l) (p .counts) (accepted-bounded l (p .outcome))))

@@ -7,6 +7,7 @@ use Rattle.table.specs.Answer.{refused}
 use Rattle.parameters.specs.Params.{paramsOf, modesAfter}
 
 -- LAW: a refusal changes no byte
-pub refusal-keeps : (t names : List ℕ) (node : ℕ) (modes : List ℕ) {n : ℕ} {vs : List ℕ} → paramsOf t names node (length modes) ≡ refused n vs → modesAfter t names node modes ≡ modes
+pub refusal-keeps : (t names : List ℕ) (node : ℕ) (modes : List ℕ) {n : ℕ} {vs : List ℕ}
+    → paramsOf t names node (length modes) ≡ refused n vs → modesAfter t names node modes ≡ modes
 unfolding modesAfter
 refusal-keeps t names node modes e = rw e refl

@@ -42,7 +42,13 @@ place-wider NoFlat h g = tt
 place-wider (AtFlat i) h g = omega arith
 
 bounded-wider : {m n : ℕ} (c : Counts) → Bounded m m c → m ≤ n → Bounded n n c
-bounded-wider c b h = record { positional = omega (arith, b .positional); only = omega (arith, b .only); args = place-wider (c .args) (b .args) h; kwargs = place-wider (c .kwargs) (b .kwargs) h; flat = omega (arith, b .flat) }
+bounded-wider c b h = record {
+  positional = omega (arith, b .positional);
+  only = omega (arith, b .only);
+  args = place-wider (c .args) (b .args) h;
+  kwargs = place-wider (c .kwargs) (b .kwargs) h;
+  flat = omega (arith, b .flat);
+}
 
 -- the job's answer for what unpack says
 judged-answer : (o : def.Outcome) → judgedAnswer (told o) ≡ answerOf o
@@ -65,11 +71,13 @@ module _ {j : Judged} {f : Fault} (j-is : j ≡ Refused f) where
   pub refused-small : Small j → f .node < 2 ^ 32
   refused-small h = rw j-is at h
 
-  pub refused-answer : {u : Answer} → u ≡ refused (f .number) (f .node ∷ f .begin ∷ f .end ∷ []) → u ≡ judgedAnswer j
+  pub refused-answer : {u : Answer} → u ≡ refused (f .number) (f .node ∷ f .begin ∷ f .end ∷ [])
+      → u ≡ judgedAnswer j
   refused-answer u-is = u-is ∙ sym (ap judgedAnswer j-is)
 
 -- the list of a node: m parameters stand in its children
-module _ (ns t ms : List ℕ) (node : ℕ) {kids : List ℕ} (kids-are : kids ≡ kidsOf t) {m : ℕ} (m-is : (names : List ℕ) (i : ℕ) → m ≡ length (paramsIn names (forest i kids))) where
+module _ (ns t ms : List ℕ) (node : ℕ) {kids : List ℕ} (kids-are : kids ≡ kidsOf t) {m : ℕ}
+    (m-is : (names : List ℕ) (i : ℕ) → m ≡ length (paramsIn names (forest i kids))) where
   list-long : m ≡ length (written ns node t)
   unfolding written
   list-long = m-is ns (node + 1) ∙ ap (λ (l : List ℕ). length (paramsIn ns (forest (node + 1) l))) kids-are
@@ -78,7 +86,8 @@ module _ (ns t ms : List ℕ) (node : ℕ) {kids : List ℕ} (kids-are : kids �
   unfolding listAnswer
   short-answer h = rw (lt-leb (length (written ns node t)) (length ms) (omega (arith, list-long))) refl
 
-  pub into-short : length ms < m → (refused shortBuffer [] ≡ listAnswer (written ns node t) (length ms)) × (ms ≡ afterwards (listAnswer (written ns node t) (length ms)) (def.modes (written ns node t)) ms)
+  pub into-short : length ms < m → (refused shortBuffer [] ≡ listAnswer (written ns node t) (length ms))
+      × (ms ≡ afterwards (listAnswer (written ns node t) (length ms)) (def.modes (written ns node t)) ms)
   into-short h = rw (short-answer h) (refl, refl)
 
   module _ (room : m ≤ length ms) where
@@ -89,12 +98,18 @@ module _ (ns t ms : List ℕ) (node : ℕ) {kids : List ℕ} (kids-are : kids �
     unfolding listAnswer
     roomy = rw (le-leb (length (written ns node t)) (length ms) (omega (arith, list-long))) refl
 
-    stored : def.modes (written ns node t) ++ drop (length (def.modes (written ns node t))) ms ≡ sets ms 0 (def.modes (written ns node t))
+    stored : def.modes (written ns node t) ++ drop (length (def.modes (written ns node t))) ms
+        ≡ sets ms 0 (def.modes (written ns node t))
     stored =
-        let none-before : 0 + length (def.modes (written ns node t)) ≡ length (def.modes (written ns node t)) = omega arith in
-        rw none-before at (sym (sets-eq (def.modes (written ns node t)) ms 0 (omega (arith, modes-short (written ns node t), list-long))))
+        let none-before : 0 + length (def.modes (written ns node t))
+        ≡ length (def.modes (written ns node t)) = omega arith in
+        rw none-before at
+        (sym (sets-eq (def.modes (written ns node t)) ms 0
+        (omega (arith, modes-short (written ns node t), list-long))))
 
-    same-modes : {c : Counts} → def.unpack (written ns node t) ≡ def.accepted c → {s : State} → s ≡ def.firstState (c .«num_positional_only») → def.modesFrom s (paramsIn ns (forest (node + 1) kids)) ≡ def.modes (written ns node t)
+    same-modes : {c : Counts} → def.unpack (written ns node t) ≡ def.accepted c → {s : State}
+        → s ≡ def.firstState (c .«num_positional_only»)
+        → def.modesFrom s (paramsIn ns (forest (node + 1) kids)) ≡ def.modes (written ns node t)
     unfolding modes written
     same-modes outcome s-is =
         let first = s-is ∙ ap def.firstState (accepted-only (written ns node t) outcome) in
@@ -108,24 +123,34 @@ module _ (ns t ms : List ℕ) (node : ℕ) {kids : List ℕ} (kids-are : kids �
       pub into-small : node ≤ 2100 → length t ≤ 50400 → Inside (node + 1 + length t / 24) j → Small j
       into-small few short inside = go j j-is inside
         where
-          go : (x : Judged) → x ≡ told (def.unpack (written ns node t)) → Inside (node + 1 + length t / 24) x → Small x
-          go (Accepted c) e h = bounded-wider c (accepted-bounded (written ns node t) (told-accepted (def.unpack (written ns node t)) (sym e))) (omega (arith, written-short ns node t))
+          go : (x : Judged) → x ≡ told (def.unpack (written ns node t)) → Inside (node + 1 + length t / 24) x
+              → Small x
+          go (Accepted c) e h = bounded-wider c
+              (accepted-bounded (written ns node t) (told-accepted (def.unpack (written ns node t)) (sym e)))
+              (omega (arith, written-short ns node t))
           go (Refused f) e h = omega (arith, h)
 
       module _ {b : Bool} (b-is : b ≡ isRefused j) {u : Answer} (u-is : u ≡ judgedAnswer j) where
-        pub into-refused : b ≡ true → (u ≡ listAnswer (written ns node t) (length ms)) × (ms ≡ afterwards (listAnswer (written ns node t) (length ms)) (def.modes (written ns node t)) ms)
+        pub into-refused : b ≡ true → (u ≡ listAnswer (written ns node t) (length ms))
+            × (ms ≡ afterwards (listAnswer (written ns node t) (length ms)) (def.modes (written ns node t)) ms)
         into-refused h = rw (← answer-is) (u-is, kept j (sym b-is ∙ h))
           where
-            kept : (x : Judged) → isRefused x ≡ true → ms ≡ afterwards (judgedAnswer x) (def.modes (written ns node t)) ms
+            kept : (x : Judged) → isRefused x ≡ true
+                → ms ≡ afterwards (judgedAnswer x) (def.modes (written ns node t)) ms
             kept (Accepted c) e = let z : _≡_ {A = ℕ} 0 1 = cc in absurd (omega arith)
             kept (Refused f) e = refl
 
-        pub into-accepted : b ≡ false → {s : State} → s ≡ firstOf j → {ms′ : List ℕ} → ((names : List ℕ) (i : ℕ) → ms′ ≡ sets ms 0 (def.modesFrom s (paramsIn names (forest i kids))))
-            → (u ≡ listAnswer (written ns node t) (length ms)) × (ms′ ≡ afterwards (listAnswer (written ns node t) (length ms)) (def.modes (written ns node t)) ms)
+        pub into-accepted : b ≡ false → {s : State} → s ≡ firstOf j → {ms′ : List ℕ}
+            → ((names : List ℕ) (i : ℕ) → ms′ ≡ sets ms 0 (def.modesFrom s (paramsIn names (forest i kids))))
+            → (u ≡ listAnswer (written ns node t) (length ms))
+            × (ms′ ≡ afterwards (listAnswer (written ns node t) (length ms)) (def.modes (written ns node t)) ms)
         into-accepted h {s} s-is {ms′} ms-is = rw (← answer-is) (u-is, written-over j j-is (sym b-is ∙ h) s-is)
           where
-            written-over : (x : Judged) → x ≡ told (def.unpack (written ns node t)) → isRefused x ≡ false → s ≡ firstOf x → ms′ ≡ afterwards (judgedAnswer x) (def.modes (written ns node t)) ms
-            written-over (Accepted c) e g q = ms-is ns (node + 1) ∙ ap (sets ms 0) (same-modes (told-accepted (def.unpack (written ns node t)) (sym e)) q) ∙ sym stored
+            written-over : (x : Judged) → x ≡ told (def.unpack (written ns node t)) → isRefused x ≡ false
+                → s ≡ firstOf x → ms′ ≡ afterwards (judgedAnswer x) (def.modes (written ns node t)) ms
+            written-over (Accepted c) e g q = ms-is ns (node + 1)
+                ∙ ap (sets ms 0) (same-modes (told-accepted (def.unpack (written ns node t)) (sym e)) q)
+                ∙ sym stored
             written-over (Refused f) e g q = let z : _≡_ {A = ℕ} 0 1 = cc in absurd (omega arith)
 
 -- a refusal leaves the buffer
@@ -136,34 +161,43 @@ unchanged (Spanned n k b e) modes ms = refl
 
 -- 1 to 4, 6, then the list
 module _ (t ns : List ℕ) (node : ℕ) {k : Checked} (k-is : checked k ≡ checkOf t ns) where
-  pub params-unsound : (ms : List ℕ) {r : Refusal} → k ≡ Unsound r → (refusal r ≡ paramsOf t ns node (length ms)) × (ms ≡ modesAfter t ns node ms)
+  pub params-unsound : (ms : List ℕ) {r : Refusal} → k ≡ Unsound r
+      → (refusal r ≡ paramsOf t ns node (length ms)) × (ms ≡ modesAfter t ns node ms)
   unfolding paramsOf modesAfter
   params-unsound ms {r} e =
       let check : checkOf t ns ≡ refusal r = sym k-is ∙ ap checked e in
-      let answer = stopped r (λ _. andThen (nodeCheck t node Parameters) (λ _. listAnswer (listOf t ns node) (length ms))) in
+      let answer = stopped r (λ _. andThen (nodeCheck t node Parameters)
+      (λ _. listAnswer (listOf t ns node) (length ms))) in
       rw (check, ← answer) (refl, sym (unchanged r (def.modes (listOf t ns node)) ms))
 
   module _ (sound : k ≡ Sound) {b : Bool} (b-is : b ≡ nodeFits t node Parameters) where
     check : checkOf t ns ≡ accepted []
     check = sym k-is ∙ ap checked sound
 
-    pub params-node : (ms : List ℕ) → b ≡ false → (refused wrongNode [] ≡ paramsOf t ns node (length ms)) × (ms ≡ modesAfter t ns node ms)
+    pub params-node : (ms : List ℕ) → b ≡ false
+        → (refused wrongNode [] ≡ paramsOf t ns node (length ms)) × (ms ≡ modesAfter t ns node ms)
     unfolding paramsOf modesAfter
-    params-node ms b-no = let wrong : nodeFits t node Parameters ≡ false = sym b-is ∙ b-no in rw (check, wrong) (refl, refl)
+    params-node ms b-no = let wrong : nodeFits t node Parameters ≡ false = sym b-is ∙ b-no in
+        rw (check, wrong) (refl, refl)
 
     module _ (b-yes : b ≡ true) where
       fits : nodeFits t node Parameters ≡ true
       fits = sym b-is ∙ b-yes
 
       pub params-few : node < 2100
-      params-few = omega (arith, fitting t ns node Parameters k-is sound b-is b-yes, clean t ns node Parameters k-is sound b-is b-yes .most)
+      params-few = omega (
+        arith,
+        fitting t ns node Parameters k-is sound b-is b-yes,
+        clean t ns node Parameters k-is sound b-is b-yes .most,
+      )
 
       module _ {s : List ℕ} (s-is : s ≡ stretchOf t node) where
         pub params-short : length s ≤ 50400
         params-short = omega (arith, handed t ns node Parameters k-is sound b-is b-yes s-is)
 
         pub params-list : (ms : List ℕ) {u : Answer} {ms′ : List ℕ}
-            → (u ≡ listAnswer (written ns node s) (length ms)) × (ms′ ≡ afterwards (listAnswer (written ns node s) (length ms)) (def.modes (written ns node s)) ms)
+            → (u ≡ listAnswer (written ns node s) (length ms))
+            × (ms′ ≡ afterwards (listAnswer (written ns node s) (length ms)) (def.modes (written ns node s)) ms)
             → (u ≡ paramsOf t ns node (length ms)) × (ms′ ≡ modesAfter t ns node ms)
         unfolding paramsOf modesAfter listOf
         params-list ms h = rw (check, fits, ← s-is) h

@@ -19,8 +19,10 @@ use Rattle.unpack.proofs.Reading.{kind-in, listed-long, Reading, read-start, re
 use Rattle.parameters.specs.Writing.{modeByte, modeIn, AtMost}
 
 -- a list is read to its end
-all-read : (ns : List ℕ) (w : List Param) (n i : ℕ) (left : List ℕ) → Reading ns w n i left → isListed left ≡ false → n ≡ length w
-all-read ns w n i left r h = let none-left : length w - n ≡ 0 = sym (length-drop n w) ∙ ap length (read-end r h) in omega (arith, r .upto)
+all-read : (ns : List ℕ) (w : List Param) (n i : ℕ) (left : List ℕ) → Reading ns w n i left → isListed left ≡ false
+    → n ≡ length w
+all-read ns w n i left r h = let none-left : length w - n ≡ 0 = sym (length-drop n w) ∙ ap length (read-end r h) in
+    omega (arith, r .upto)
 
 -- n parameters are counted
 pub record Counting (kids left : List ℕ) (n : ℕ) : Type 0 where
@@ -42,7 +44,8 @@ module _ {kids left : List ℕ} {n : ℕ} (s : Counting kids left n) {l : Bool} 
       }
 
   pub count-end : l ≡ false → (ns : List ℕ) (i : ℕ) → n ≡ length (paramsIn ns (forest i kids))
-  count-end l-no ns i = all-read ns (paramsIn ns (forest i kids)) n (s .from ns i) left (s .reads ns i) (sym l-is ∙ l-no)
+  count-end l-no ns i = all-read ns (paramsIn ns (forest i kids)) n (s .from ns i) left (s .reads ns i)
+      (sym l-is ∙ l-no)
 
 -- the mode byte is the mode
 mode-in : (s : State) (k : Kind) → modeIn (modeByte s k) ≡ modeOf s k
@@ -60,16 +63,19 @@ pub put-mark : (ms : List ℕ) (f m : ℕ) → m ≡ 0 → (f ≡ f + length (mo
 put-mark ms f zero h = (omega arith, refl)
 put-mark ms f (suc m) h = absurd (omega arith)
 
-pub put-mode : (ms : List ℕ) (f m : ℕ) → (m ≡ 0 → ⊥) → (f + 1 ≡ f + length (modeIn m)) × (set ms f m ≡ sets ms f (modeIn m))
+pub put-mode : (ms : List ℕ) (f m : ℕ) → (m ≡ 0 → ⊥)
+    → (f + 1 ≡ f + length (modeIn m)) × (set ms f m ≡ sets ms f (modeIn m))
 put-mode ms f zero h = absurd (h refl)
 put-mode ms f (suc m) h = (refl, refl)
 
 -- one run of stores after another
 sets-append : (xs ys l : List ℕ) (i : ℕ) → sets l i (xs ++ ys) ≡ sets (sets l i xs) (i + length xs) ys
 sets-append [] ys l i = let e : i + 0 ≡ i = omega arith in rw e refl
-sets-append (x ∷ xs) ys l i = let e : i + suc (length xs) ≡ suc i + length xs = omega arith in rw e (sets-append xs ys (set l i x) (suc i))
+sets-append (x ∷ xs) ys l i = let e : i + suc (length xs) ≡ suc i + length xs = omega arith in
+    rw e (sets-append xs ys (set l i x) (suc i))
 
-cons-modes : (s : State) (p : Param) (ps : List Param) → modesFrom s (p ∷ ps) ≡ modeOf s (kindIn p) ++ modesFrom (nextState s (kindIn p)) ps
+cons-modes : (s : State) (p : Param) (ps : List Param)
+    → modesFrom s (p ∷ ps) ≡ modeOf s (kindIn p) ++ modesFrom (nextState s (kindIn p)) ps
 unfolding modesFrom
 cons-modes s p ps = refl
 
@@ -88,12 +94,22 @@ pub record Writing (kids ms₀ : List ℕ) (s₀ : State) (ms left : List ℕ) (
   pub flats : f ≤ n
   pub from : (ns : List ℕ) (i : ℕ) → ℕ
   pub reads : (ns : List ℕ) (i : ℕ) → Reading ns (paramsIn ns (forest i kids)) n (from ns i) left
-  pub same : (ns : List ℕ) (i : ℕ) → sets ms f (modesFrom s (drop n (paramsIn ns (forest i kids)))) ≡ sets ms₀ 0 (modesFrom s₀ (paramsIn ns (forest i kids)))
+  pub same : (ns : List ℕ) (i : ℕ) → sets ms f (modesFrom s (drop n (paramsIn ns (forest i kids))))
+      ≡ sets ms₀ 0 (modesFrom s₀ (paramsIn ns (forest i kids)))
 
 pub write-start : (kids ms : List ℕ) (s : State) → AtMost kids (length ms) → Writing kids ms s ms kids s 0
-write-start kids ms s h = record { n = 0; long = refl; most = h; flats = omega arith; from = λ ns i. i; reads = λ ns i. read-start ns i kids; same = λ ns i. refl }
+write-start kids ms s h = record {
+  n = 0;
+  long = refl;
+  most = h;
+  flats = omega arith;
+  from = λ ns i. i;
+  reads = λ ns i. read-start ns i kids;
+  same = λ ns i. refl;
+}
 
-module _ {kids ms₀ : List ℕ} {s₀ : State} {ms left : List ℕ} {s : State} {f : ℕ} (x : Writing kids ms₀ s₀ ms left s f) {l : Bool} (l-is : l ≡ isListed left) where
+module _ {kids ms₀ : List ℕ} {s₀ : State} {ms left : List ℕ} {s : State} {f : ℕ}
+    (x : Writing kids ms₀ s₀ ms left s f) {l : Bool} (l-is : l ≡ isListed left) where
   module _ (l-yes : l ≡ true) where
     listed : isListed left ≡ true
     listed = sym l-is ∙ l-yes
@@ -101,7 +117,8 @@ module _ {kids ms₀ : List ℕ} {s₀ : State} {ms left : List ℕ} {s : State}
     pub write-room : f < length ms
     write-room = omega (arith, x .flats, x .long, x .most [] 0, read-here (x .reads [] 0) listed refl .within)
 
-    pub write-on : {k : Kind} {m g : ℕ} {ms′ : List ℕ} {s′ : State} {e : ℕ} → k ≡ kindHere left → m ≡ modeByte s k → g ≡ f + length (modeIn m) → ms′ ≡ sets ms f (modeIn m) → s′ ≡ nextState s k → e ≡ spanOf left
+    pub write-on : {k : Kind} {m g : ℕ} {ms′ : List ℕ} {s′ : State} {e : ℕ} → k ≡ kindHere left → m ≡ modeByte s k
+        → g ≡ f + length (modeIn m) → ms′ ≡ sets ms f (modeIn m) → s′ ≡ nextState s k → e ≡ spanOf left
         → Writing kids ms₀ s₀ ms′ (take (length left - e) (drop e left)) s′ g
     write-on {k} {m} {g} {ms′} {s′} {e} k-is m-is g-is ms-is s-is e-is =
         let mode : modeIn m ≡ modeOf s k = ap modeIn m-is ∙ mode-in s k in
@@ -113,12 +130,15 @@ module _ {kids ms₀ : List ℕ} {s₀ : State} {ms left : List ℕ} {s : State}
           from = λ ns i. x .from ns i + e / 24;
           reads = λ ns i. read-on (x .reads ns i) listed e-is;
           same = λ ns i.
-              let kind : kindIn (paramOf ns (nodeOf (x .from ns i) left)) ≡ k = kind-in ns (x .from ns i) left ∙ sym k-is in
+              let kind : kindIn (paramOf ns (nodeOf (x .from ns i) left)) ≡ k = kind-in ns (x .from ns i) left
+              ∙ sym k-is in
               let here = x .reads ns i .rest ∙ list-on ns (x .from ns i) left listed e-is in
               let rest = read-on (x .reads ns i) listed e-is .rest in
               rw (ms-is, g-is, s-is, mode, rest)
               (sym (sets-append (modeOf s k) (modesFrom (nextState s k) _) ms f)
-              ∙ sym (ap (λ (y : Kind). sets ms f (modeOf s y ++ modesFrom (nextState s y) (paramsIn ns (forest (x .from ns i + e / 24) (take (length left - e) (drop e left)))))) kind)
+              ∙ sym (ap (λ (y : Kind). sets ms f
+              (modeOf s y ++ modesFrom (nextState s y)
+              (paramsIn ns (forest (x .from ns i + e / 24) (take (length left - e) (drop e left)))))) kind)
               ∙ sym (ap (sets ms f) (cons-modes s _ _))
               ∙ ap (λ (y : List Param). sets ms f (modesFrom s y)) (sym here)
               ∙ x .same ns i);

@@ -7,7 +7,8 @@ use lib.ListN.{length, getD}
 use Rattle.fields.proofs.Coincide.{coincide, coincide-by}
 use Rattle.table.specs.Answer.{Answer, accepted, refused, refusal}
 use Rattle.table.proofs.Answers.{refusal-injective, never-accepted}
-use Rattle.parameters.specs.Indices.{posOnly, posOrNamed, argsRange, namedOnly, kwargsRange, placeRange, valuesOf}
+use Rattle.parameters.specs.Indices.{posOnly, posOrNamed, argsRange, namedOnly, kwargsRange, placeRange}
+use Rattle.parameters.specs.Indices.{valuesOf}
 use Rattle.parameters.specs.declared.Range.{Range}
 use Rattle.parameters.specs.declared.Place.{Place}
 use Rattle.parameters.specs.declared.Place.the-variants.{At, Nothing}
@@ -18,30 +19,40 @@ use Rattle.parameters.specs.declared.Unpacked.{Unpacked}
 use Rattle.parameters.specs.declared.Unpacked.the-variants.{Accepted, Refused}
 
 -- a place is told by its range, and by what stands for none
-place-same : (p q : Place) (n m : ℕ) → n ≡ m → placeRange p n .from ≡ placeRange q m .from → placeRange p n .upto ≡ placeRange q m .upto → p ≡ q
+place-same : (p q : Place) (n m : ℕ) → n ≡ m → placeRange p n .from ≡ placeRange q m .from
+    → placeRange p n .upto ≡ placeRange q m .upto → p ≡ q
 place-same (At i) (At j) n m h b e = ap At b
 place-same (At i) Nothing n m h b e = absurd (omega (arith, b, e))
 place-same Nothing (At j) n m h b e = absurd (omega (arith, b, e))
 place-same Nothing Nothing n m h b e = refl
 
-indices-same : (p q : DefParamIndices) → p .«num_positional» ≡ q .«num_positional» → p .«num_positional_only» ≡ q .«num_positional_only» → p .args ≡ q .args → p .kwargs ≡ q .kwargs → p ≡ q
-indices-same p q e f g h = λ i. record { «num_positional» = e i; «num_positional_only» = f i; args = g i; kwargs = h i }
+indices-same : (p q : DefParamIndices) → p .«num_positional» ≡ q .«num_positional»
+    → p .«num_positional_only» ≡ q .«num_positional_only» → p .args ≡ q .args → p .kwargs ≡ q .kwargs → p ≡ q
+indices-same p q e f g h = λ i. record {
+  «num_positional» = e i;
+  «num_positional_only» = f i;
+  args = g i;
+  kwargs = h i;
+}
 
 -- the five ranges and the flat count tell DefParamIndices
 pub values-injective : (p q : Counted) → valuesOf p ≡ valuesOf q → p ≡ q
 values-injective p q e =
-    let value : (i : ℕ) → getD (valuesOf p) i 0 ≡ getD (valuesOf q) i 0 = λ i. ap (λ (vs : List ℕ). getD vs i 0) e in
+    let value : (i : ℕ) → getD (valuesOf p) i 0
+    ≡ getD (valuesOf q) i 0 = λ i. ap (λ (vs : List ℕ). getD vs i 0) e in
     λ i.
     record {
       indices =
-          indices-same (p .indices) (q .indices) (value 3) (value 1) (place-same (p .indices .args) (q .indices .args) _ _ (value 3) (value 4) (value 5))
+          indices-same (p .indices) (q .indices) (value 3) (value 1)
+          (place-same (p .indices .args) (q .indices .args) _ _ (value 3) (value 4) (value 5))
           (place-same (p .indices .kwargs) (q .indices .kwargs) _ _ (value 10) (value 8) (value 9)) i;
       flat = value 10 i;
     }
 
 -- no two answers mean the same
 pub unpacked-injective : (u v : Unpacked) → unpacked u ≡ unpacked v → u ≡ v
-unpacked-injective (Accepted p) (Accepted q) e = let h : valuesOf p ≡ valuesOf q = cc in ap Accepted (values-injective p q h)
+unpacked-injective (Accepted p) (Accepted q) e = let h : valuesOf p ≡ valuesOf q = cc in
+    ap Accepted (values-injective p q h)
 unpacked-injective (Accepted p) (Refused r) e = never-accepted r (sym e)
 unpacked-injective (Refused r) (Accepted p) e = never-accepted r e
 unpacked-injective (Refused r) (Refused s) e = ap Refused (refusal-injective r s e)
@@ -66,5 +77,6 @@ args-range-one i = coincide
 pub named-only-one : (i : DefParamIndices) (n : ℕ) {r s : Range} → r ≡ namedOnly i n → s ≡ namedOnly i n → r ≡ s
 named-only-one i n = coincide
 
-pub kwargs-range-one : (i : DefParamIndices) (n : ℕ) {r s : Range} → r ≡ kwargsRange i n → s ≡ kwargsRange i n → r ≡ s
+pub kwargs-range-one : (i : DefParamIndices) (n : ℕ) {r s : Range} → r ≡ kwargsRange i n → s ≡ kwargsRange i n
+    → r ≡ s
 kwargs-range-one i n = coincide

@@ -5,14 +5,17 @@ use mathlib.Core.Bool.{Bool, true, false, _&&_, _||_}
 use mathlib.Core.List.{List, [], _∷_, _++_}
 use Prim.Native.Nat.{ℕ, zero, suc, _+_, _-_, _/_, _%_, _<_, _≤_}
 use native.Mathlib.Omega.{arith}
-use lib.ListN.{length, getD, take, replicate, length-append, length-replicate, getD-replicate, List·getD-append, List·getD-eq-default}
+use lib.ListN.{length, getD, take, replicate, length-append, length-replicate, getD-replicate, List·getD-append}
+use lib.ListN.{List·getD-eq-default}
 use lib.Seq.{length-take-le, getD-take, getD-append-add}
 use lib.Dec.{eqb, ltb, leb}
 use borrow.Author.Tests.{eqb-true, ne-eqb, le-leb, lt-leb, ltb-true, ltb-false, lt-ltb, le-ltb}
 use Rattle.fields.specs.Choice.{if'}
 use Rattle.soundness.specs.Kinds.{Children, Kind, kind, kinds, noName, exactly, kindIn, kindOf, classOf}
 use Rattle.soundness.specs.Sound.{permitted, fixed, between, wanted}
-use Rattle.soundness.specs.Packed.{frontsIn, frontIn, timesIn, middleIn, backsIn, backIn, timesOf, childrenOf, rules, ruleAt, ruleOf, rulesIn, rulesOf, RowOf, numberSound, LastFrom, classAt}
+use Rattle.soundness.specs.Packed.{frontsIn, frontIn, timesIn, middleIn, backsIn, backIn, timesOf, childrenOf}
+use Rattle.soundness.specs.Packed.{rules, ruleAt, ruleOf, rulesIn, rulesOf, RowOf, numberSound, LastFrom}
+use Rattle.soundness.specs.Packed.{classAt}
 
 -- the row of a number that no kind has
 abbrev none : ℕ → Kind
@@ -26,7 +29,8 @@ Apart (n ∷ ns) k = Apart ns k × (k ≡ n → ⊥)
 -- the numbers of the kinds, the last first
 abbrev pub numbersDown : List ℕ
 numbersDown =
-    63 ∷ 62 ∷ 61 ∷ 60 ∷ 54 ∷ 53 ∷ 52 ∷ 51 ∷ 50 ∷ 43 ∷ 42 ∷ 41 ∷ 40 ∷ 39 ∷ 38 ∷ 37 ∷ 36 ∷ 35 ∷ 34 ∷ 33 ∷ 32 ∷ 31 ∷ 30 ∷ 29 ∷ 28 ∷ 27 ∷ 26 ∷ 25 ∷ 24 ∷ 23 ∷ 22 ∷ 21 ∷ 20 ∷ 12 ∷ 11 ∷ 10 ∷ 9 ∷ 8 ∷ 7 ∷ 6 ∷ 5 ∷ 4 ∷ 3 ∷ 2 ∷ 1 ∷ []
+    63 ∷ 62 ∷ 61 ∷ 60 ∷ 54 ∷ 53 ∷ 52 ∷ 51 ∷ 50 ∷ 43 ∷ 42 ∷ 41 ∷ 40 ∷ 39 ∷ 38 ∷ 37 ∷ 36 ∷ 35 ∷ 34 ∷ 33 ∷ 32 ∷ 31 ∷ 30
+    ∷ 29 ∷ 28 ∷ 27 ∷ 26 ∷ 25 ∷ 24 ∷ 23 ∷ 22 ∷ 21 ∷ 20 ∷ 12 ∷ 11 ∷ 10 ∷ 9 ∷ 8 ∷ 7 ∷ 6 ∷ 5 ∷ 4 ∷ 3 ∷ 2 ∷ 1 ∷ []
 
 abbrev memberOf : ℕ → List ℕ → Bool
 memberOf n [] = false
@@ -49,12 +53,15 @@ unfolding kindIn
 kind-apart-in [] ns n e a = refl
 kind-apart-in (k ∷ ks) ns n e a = go (memberOf (k .number) ns) refl e (λ t. kind-apart-in ks ns n t a)
   where
-    go : (b : Bool) → memberOf (k .number) ns ≡ b → (b && allIn ks ns) ≡ true → (allIn ks ns ≡ true → kindIn ks n ≡ none n) → kindIn (k ∷ ks) n ≡ none n
+    go : (b : Bool) → memberOf (k .number) ns ≡ b → (b && allIn ks ns) ≡ true
+        → (allIn ks ns ≡ true → kindIn ks n ≡ none n) → kindIn (k ∷ ks) n ≡ none n
     go true t e rest = rw (ne-eqb (k .number) n (not-member ns n (k .number) a t), kindIn) (rest e)
     go false t e rest = let z : _≡_ {A = ℕ} 0 1 = cc in absurd (omega arith)
 
 -- an arm of code: the kind k is the number n, at which the row is computed
-pub row-arm : (row n k : ℕ) → k ≡ n → row / 0x100_0000_0000 % 16 ≡ classOf n → row / 0x10_0000_0000 % 4 ≡ kindOf n .details → eqb (row / 0x1_0000_0000 % 16) 1 ≡ kindOf n .named → rulesIn row ≡ rulesOf n → RowOf k row
+pub row-arm : (row n k : ℕ) → k ≡ n → row / 0x100_0000_0000 % 16 ≡ classOf n
+    → row / 0x10_0000_0000 % 4 ≡ kindOf n .details → eqb (row / 0x1_0000_0000 % 16) 1 ≡ kindOf n .named
+    → rulesIn row ≡ rulesOf n → RowOf k row
 row-arm row n k k-is c d m r = rw k-is record { class = c; details = d; named = m; rules = r }
 
 -- a number that no kind has: the row is empty
@@ -121,40 +128,55 @@ module _ (rule : ℕ) where
     unfolding wanted childrenOf
     wanted-front g =
         let k : j < length (take (frontsIn rule) (frontIn rule)) = omega (arith, front-long) in
-        sym (List·getD-append (take (frontsIn rule) (frontIn rule)) _ 0 j k ∙ getD-take (frontsIn rule) (frontIn rule) j 0 g)
+        sym (List·getD-append (take (frontsIn rule) (frontIn rule)) _ 0 j k
+        ∙ getD-take (frontsIn rule) (frontIn rule) j 0 g)
 
     later : (m : ℕ) → j ≡ length (take (frontsIn rule) (frontIn rule)) + m
-        → getD (wanted (childrenOf rule) n) j 0 ≡ getD (replicate (between (childrenOf rule) n) (middleIn rule) ++ take (backsIn rule) (backIn rule)) m 0
+        → getD (wanted (childrenOf rule) n) j 0
+        ≡ getD (replicate (between (childrenOf rule) n) (middleIn rule) ++ take (backsIn rule) (backIn rule)) m
+        0
     unfolding wanted childrenOf
     later m e = rw e (getD-append-add (take (frontsIn rule) (frontIn rule)) _ m 0)
 
     wanted-middle : frontsIn rule ≤ j → j < n - backsIn rule → middleIn rule ≡ getD (wanted (childrenOf rule) n) j 0
     wanted-middle g l =
-        let between-long : length (replicate (between (childrenOf rule) n) (middleIn rule)) ≡ between (childrenOf rule) n = length-replicate {A = ℕ} (between (childrenOf rule) n) (middleIn rule) in
+        let between-long : length (replicate (between (childrenOf rule) n) (middleIn rule))
+        ≡ between (childrenOf rule) n = length-replicate {A = ℕ} (between (childrenOf rule) n)
+        (middleIn rule) in
         let k : j - frontsIn rule < between (childrenOf rule) n = omega (arith, fixed-is) in
         sym
         (later (j - frontsIn rule) (omega (arith, front-long))
-        ∙ List·getD-append (replicate (between (childrenOf rule) n) (middleIn rule)) (take (backsIn rule) (backIn rule)) 0 (j - frontsIn rule) (omega arith)
+        ∙ List·getD-append (replicate (between (childrenOf rule) n) (middleIn rule))
+        (take (backsIn rule) (backIn rule)) 0 (j - frontsIn rule) (omega arith)
         ∙ getD-replicate (between (childrenOf rule) n) (j - frontsIn rule) (middleIn rule) 0 k)
 
-    wanted-back : fixed (childrenOf rule) ≤ n → j < n → n - backsIn rule ≤ j → getD (backIn rule) (j - (n - backsIn rule)) 0 ≡ getD (wanted (childrenOf rule) n) j 0
+    wanted-back : fixed (childrenOf rule) ≤ n → j < n → n - backsIn rule ≤ j
+        → getD (backIn rule) (j - (n - backsIn rule)) 0 ≡ getD (wanted (childrenOf rule) n) j 0
     wanted-back room h l =
         let m : ℕ = j - (n - backsIn rule) in
-        let between-long : length (replicate (between (childrenOf rule) n) (middleIn rule)) ≡ between (childrenOf rule) n = length-replicate {A = ℕ} (between (childrenOf rule) n) (middleIn rule) in
+        let between-long : length (replicate (between (childrenOf rule) n) (middleIn rule))
+        ≡ between (childrenOf rule) n = length-replicate {A = ℕ} (between (childrenOf rule) n)
+        (middleIn rule) in
         sym
-        (later (length (replicate (between (childrenOf rule) n) (middleIn rule)) + m) (omega (arith, front-long, fixed-is))
-        ∙ getD-append-add (replicate (between (childrenOf rule) n) (middleIn rule)) (take (backsIn rule) (backIn rule)) m 0
+        (later (length (replicate (between (childrenOf rule) n) (middleIn rule)) + m)
+        (omega (arith, front-long, fixed-is))
+        ∙ getD-append-add (replicate (between (childrenOf rule) n) (middleIn rule))
+        (take (backsIn rule) (backIn rule)) m 0
         ∙ getD-take (backsIn rule) (backIn rule) m 0 (omega (arith, fixed-is)))
 
     -- as code finds it, where the last ones stand from child m on
-    pub class-wanted : (m : ℕ) → LastFrom n (backsIn rule) m → fixed (childrenOf rule) ≤ n → j < n → classAt rule m j ≡ getD (wanted (childrenOf rule) n) j 0
+    pub class-wanted : (m : ℕ) → LastFrom n (backsIn rule) m → fixed (childrenOf rule) ≤ n → j < n
+        → classAt rule m j ≡ getD (wanted (childrenOf rule) n) j 0
     unfolding classAt
     class-wanted m m-is room h = go (ltb j (frontsIn rule)) refl (ltb j m) refl
       where
         go : (a : Bool) → ltb j (frontsIn rule) ≡ a → (b : Bool) → ltb j m ≡ b
-            → if' a (λ _. getD (frontIn rule) j 0) (λ _. if' b (λ _. middleIn rule) (λ _. getD (backIn rule) (j - m) 0)) ≡ getD (wanted (childrenOf rule) n) j 0
+            → if' a (λ _. getD (frontIn rule) j 0)
+            (λ _. if' b (λ _. middleIn rule) (λ _. getD (backIn rule) (j - m) 0))
+            ≡ getD (wanted (childrenOf rule) n) j 0
         go true e b f = wanted-front (ltb-true j (frontsIn rule) e)
-        go false e true f = let l : j < m = ltb-true j m f in wanted-middle (ltb-false j (frontsIn rule) e) (omega arith)
+        go false e true f = let l : j < m = ltb-true j m f in
+            wanted-middle (ltb-false j (frontsIn rule) e) (omega arith)
         go false e false f =
             let l : m ≤ j = ltb-false j m f in
             let at : m ≡ n - backsIn rule = omega arith in
@@ -195,6 +217,7 @@ module _ (rule : ℕ) where
       unfolding permitted
       number-even e = sym (number-enough ∙ rw e refl)
 
-      pub number-most : (times ≡ 15 → ⊥) → (times ≡ 14 → ⊥) → leb (n - (f + b)) times ≡ numberSound (childrenOf rule) n
+      pub number-most : (times ≡ 15 → ⊥) → (times ≡ 14 → ⊥)
+          → leb (n - (f + b)) times ≡ numberSound (childrenOf rule) n
       unfolding permitted
       number-most d e = sym (number-enough ∙ rw (ne-eqb times 15 d, ne-eqb times 14 e) refl)

@@ -12,5 +12,6 @@ pub class-one : (kind : ℕ) {r s : ℕ} → r ≡ classOf kind → s ≡ classO
 class-one kind = coincide
 
 -- of `first_unsound`
-pub first-unsound-one : (table names : List ℕ) {r s : Found} → r ≡ firstUnsound table names → s ≡ firstUnsound table names → r ≡ s
+pub first-unsound-one : (table names : List ℕ) {r s : Found} → r ≡ firstUnsound table names
+    → s ≡ firstUnsound table names → r ≡ s
 first-unsound-one table names = coincide

@@ -14,10 +14,13 @@ use Rattle.forest.specs.Forest.{Node, sizeOf, nodeOf, spanOf, kidsOf, restOf, f
 use Rattle.forest.specs.Names.{same}
 use Rattle.forest.specs.declared.Found.the-variants.{At}
 use Rattle.fields.proofs.Fields.{tail-part}
-use Rattle.forest.proofs.Stretch.{forest-none, forest-tree, forest-induction, count-forest, length-kids, length-rest, kids-part, rest-part, node-take, size-take}
+use Rattle.forest.proofs.Stretch.{forest-none, forest-tree, forest-induction, count-forest, length-kids}
+use Rattle.forest.proofs.Stretch.{length-rest, kids-part, rest-part, node-take, size-take}
 use Rattle.forest.proofs.Named.{same-length}
 use Rattle.soundness.specs.Kinds.{Children, kindOf, classOf}
-use Rattle.soundness.specs.Sound.{Context, fieldsSound, wholeTrees, classes, permitted, fixed, between, wanted, permits, kidsSound, soundNode, soundAt, context, contextOf, rootSound, recordSound, firstUnsound}
+use Rattle.soundness.specs.Sound.{Context, fieldsSound, wholeTrees, classes, permitted, fixed, between}
+use Rattle.soundness.specs.Sound.{wanted, permits, kidsSound, soundNode, soundAt, context, contextOf}
+use Rattle.soundness.specs.Sound.{rootSound, recordSound, firstUnsound}
 use Rattle.soundness.specs.Packed.{ruleOf, numberSound, LastFrom, childSound, childOf}
 use Rattle.soundness.proofs.Packing.{length-wanted}
 use Rattle.soundness.proofs.Search.{look-start, look-here}
@@ -35,21 +38,35 @@ unfolding wholeTrees
 whole-index =
     forest-induction (λ i bs. (j : ℕ) → wholeTrees (forest i bs) ≡ wholeTrees (forest j bs))
     (λ i bs s j. rw (forest-none i bs s, forest-none j bs s) refl)
-    (λ i bs big ks rs j. rw (forest-tree i bs big, forest-tree j bs big, rs (j + spanOf bs / 24), count-forest (i + 1) (kidsOf bs), count-forest (j + 1) (kidsOf bs)) refl)
+    (λ i bs big ks rs j. rw (
+      forest-tree i bs big,
+      forest-tree j bs big,
+      rs (j + spanOf bs / 24),
+      count-forest (i + 1) (kidsOf bs),
+      count-forest (j + 1) (kidsOf bs),
+    ) refl)
 
 -- a subtree's size, as code tests it
-pub whole-size : (i e : ℕ) (bs : List ℕ) → 24 ≤ length bs → e ≡ spanOf bs → 1 + count (forest i (kidsOf bs)) ≡ e / 24
+pub whole-size : (i e : ℕ) (bs : List ℕ) → 24 ≤ length bs → e ≡ spanOf bs
+    → 1 + count (forest i (kidsOf bs)) ≡ e / 24
 whole-size i e bs big h = omega (arith, count-forest i (kidsOf bs), length-kids bs)
 
 -- a stretch of nodes side by side, cut as code cuts it
 module _ {e : ℕ} (bs : List ℕ) (big : 24 ≤ length bs) (h : e ≡ spanOf bs) where
-  pub classes-cut : classes (forest 0 bs) ≡ classOf (nodeOf 0 bs .kind) ∷ classes (forest 0 (take (length bs - e) (drop e bs)))
+  pub classes-cut : classes (forest 0 bs) ≡ classOf (nodeOf 0 bs .kind)
+      ∷ classes (forest 0 (take (length bs - e) (drop e bs)))
   unfolding classes
   classes-cut = rw (forest-tree 0 bs big, classes-index (0 + spanOf bs / 24) (restOf bs) 0, rest-part e bs h) refl
 
-  pub whole-cut : wholeTrees (forest 0 bs) ≡ (eqb (sizeOf bs) (e / 24) && wholeTrees (forest 0 (take (length bs - e) (drop e bs))))
+  pub whole-cut : wholeTrees (forest 0 bs)
+      ≡ (eqb (sizeOf bs) (e / 24) && wholeTrees (forest 0 (take (length bs - e) (drop e bs))))
   unfolding wholeTrees
-  whole-cut = rw (forest-tree 0 bs big, whole-index (0 + spanOf bs / 24) (restOf bs) 0, whole-size (0 + 1) e bs big h, rest-part e bs h) refl
+  whole-cut = rw (
+    forest-tree 0 bs big,
+    whole-index (0 + spanOf bs / 24) (restOf bs) 0,
+    whole-size (0 + 1) e bs big h,
+    rest-part e bs h,
+  ) refl
 
 -- counting the nodes side by side: n are counted, and left are those that are not
 pub record Counting (t left : List ℕ) (n : ℕ) : Type 0 where
@@ -60,7 +77,8 @@ pub count-start : (t : List ℕ) → Counting t t 0
 count-start t = record { room = omega arith; all = omega arith }
 
 module _ {t left : List ℕ} {n : ℕ} (s : Counting t left n) where
-  pub count-on : {e : ℕ} → 24 ≤ length left → e ≡ spanOf left → Counting t (take (length left - e) (drop e left)) (n + 1)
+  pub count-on : {e : ℕ} → 24 ≤ length left → e ≡ spanOf left
+      → Counting t (take (length left - e) (drop e left)) (n + 1)
   count-on {e} big h = record {
     room = simp (length-take, length-drop) (omega (arith, s .room));
     all = omega (arith, s .all, ap length (classes-cut left big h));
@@ -68,7 +86,8 @@ module _ {t left : List ℕ} {n : ℕ} (s : Counting t left n) where
 
   pub count-end : length left < 24 → n ≡ length (classes (forest 0 t))
   unfolding classes
-  count-end h = let none-left : length (classes (forest 0 left)) ≡ 0 = rw (forest-none 0 left h) refl in omega (arith, s .all)
+  count-end h = let none-left : length (classes (forest 0 left)) ≡ 0 = rw (forest-none 0 left h) refl in
+      omega (arith, s .all)
 
 -- both of two tests
 pub and-left : (a b : Bool) → (a && b) ≡ true → a ≡ true
@@ -87,15 +106,20 @@ and-false true = refl
 and-false false = refl
 
 -- what children a rule permits, as the two tests of code
-permits-tests : (c : Children) (cs : List ℕ) → permits c cs ≡ (numberSound c (length cs) && same cs (wanted c (length cs)))
+permits-tests : (c : Children) (cs : List ℕ)
+    → permits c cs ≡ (numberSound c (length cs) && same cs (wanted c (length cs)))
 unfolding permits numberSound
 permits-tests c cs = go (leb (fixed c) (length cs)) refl
   where
-    go : (b : Bool) → leb (fixed c) (length cs) ≡ b → (permitted (c .times) (between c (length cs)) && same cs (wanted c (length cs))) ≡ ((b && permitted (c .times) (between c (length cs))) && same cs (wanted c (length cs)))
+    go : (b : Bool) → leb (fixed c) (length cs) ≡ b
+        → (permitted (c .times) (between c (length cs)) && same cs (wanted c (length cs)))
+        ≡ ((b && permitted (c .times) (between c (length cs))) && same cs (wanted c (length cs)))
     go true e = refl
     go false e =
         let few : length cs < fixed c = leb-false (fixed c) (length cs) e in
-        let apart : same cs (wanted c (length cs)) ≡ false = sym (same-length cs (wanted c (length cs)) (λ (l : length cs ≡ length (wanted c (length cs))). omega (arith, length-wanted c (length cs)))) in
+        let apart : same cs (wanted c (length cs))
+        ≡ false = sym (same-length cs (wanted c (length cs))
+        (λ (l : length cs ≡ length (wanted c (length cs))). omega (arith, length-wanted c (length cs)))) in
         rw apart (and-false (permitted (c .times) (between c (length cs))))
 
 and-swap : (w n s : Bool) → (w && (n && s)) ≡ (n && (w && s))
@@ -123,10 +147,14 @@ abbrev ordered : Children → List ℕ → List ℕ → ℕ → Bool
 ordered c t left j = wholeTrees (forest 0 left) && same (classes (forest 0 left)) (drop j (wanted c (kidsNumber t)))
 
 -- the children, by the two tests of code; the order matters only where the number is permitted
-kids-tests : (c : Children) (t : List ℕ) {r : Bool} → (numberSound c (kidsNumber t) ≡ true → fixed c ≤ kidsNumber t → r ≡ ordered c t t 0) → (numberSound c (kidsNumber t) ≡ false → r ≡ false) → r ≡ kidsSound c (forest 0 t)
+kids-tests : (c : Children) (t : List ℕ) {r : Bool}
+    → (numberSound c (kidsNumber t) ≡ true → fixed c ≤ kidsNumber t → r ≡ ordered c t t 0)
+    → (numberSound c (kidsNumber t) ≡ false → r ≡ false) → r ≡ kidsSound c (forest 0 t)
 unfolding kidsSound numberSound
 kids-tests c t {r} in-order few = go (numberSound c (kidsNumber t)) refl ∙ sym
-    (rw (permits-tests c (classes (forest 0 t))) (and-swap (wholeTrees (forest 0 t)) (numberSound c (kidsNumber t)) (same (classes (forest 0 t)) (wanted c (kidsNumber t)))))
+    (rw (permits-tests c (classes (forest 0 t)))
+    (and-swap (wholeTrees (forest 0 t)) (numberSound c (kidsNumber t))
+    (same (classes (forest 0 t)) (wanted c (kidsNumber t)))))
   where
     go : (b : Bool) → numberSound c (kidsNumber t) ≡ b → r ≡ (b && ordered c t t 0)
     go true e = in-order e (leb-true (fixed c) (kidsNumber t) (and-left _ _ e))
@@ -134,7 +162,8 @@ kids-tests c t {r} in-order few = go (numberSound c (kidsNumber t)) refl ∙ sym
 
 -- a child as code tests it
 module _ (want : ℕ) (bs : List ℕ) (big : 24 ≤ length bs) {e : ℕ} (e-is : e ≡ childOf want bs) where
-  child-cases : (P : Type 0) → (childSound want bs ≡ true → e ≡ spanOf bs → P) → (childSound want bs ≡ false → e ≡ 0 → P) → P
+  child-cases : (P : Type 0) → (childSound want bs ≡ true → e ≡ spanOf bs → P)
+      → (childSound want bs ≡ false → e ≡ 0 → P) → P
   unfolding childOf
   child-cases P sound unsound = go (childSound want bs) refl e-is
     where
@@ -177,24 +206,36 @@ module _ {c : Children} {t left : List ℕ} {j : ℕ} (s : Fitting c t left j) w
       let all : j ≡ kidsNumber t = omega (arith, s .number) in
       let number-is : r ≡ numberSound c (kidsNumber t) = r-is ∙ ap (numberSound c) all in
       kids-tests c t (λ permitted enough.
-      let past : drop j (wanted c (kidsNumber t)) ≡ [] = drop-of-length-le (wanted c (kidsNumber t)) {i = j} (omega (arith, length-wanted c (kidsNumber t))) in
+      let past : drop j (wanted c (kidsNumber t)) ≡
+      [] = drop-of-length-le (wanted c (kidsNumber t)) {i = j}
+      (omega (arith, length-wanted c (kidsNumber t))) in
       number-is ∙ permitted ∙ (rw (forest-none 0 left h, past) at (s .rest enough))) (λ few. number-is ∙ few)
 
   module _ (big : 24 ≤ length left) where
     pub fit-index : j < kidsNumber t
     fit-index = omega (arith, s .number, ap length (classes-cut left big refl))
 
-    step : ordered c t left j ≡ (childSound (getD (wanted c (kidsNumber t)) j 0) left && ordered c t (take (length left - spanOf left) (drop (spanOf left) left)) (j + 1))
+    step : ordered c t left j ≡ (childSound (getD (wanted c (kidsNumber t)) j 0) left
+        && ordered c t (take (length left - spanOf left) (drop (spanOf left) left)) (j + 1))
     unfolding same
     step =
-        let inside : j < length (wanted c (kidsNumber t)) = omega (arith, fit-index, length-wanted c (kidsNumber t)) in
-        rw (whole-cut left big refl, classes-cut left big refl, drop-cons (wanted c (kidsNumber t)) j 0 inside, add-one)
-        (and-pairs (eqb (sizeOf left) (spanOf left / 24)) _ (eqb (classOf (nodeOf 0 left .kind)) (getD (wanted c (kidsNumber t)) j 0)) _)
+        let inside : j < length (wanted c (kidsNumber t)) = omega
+        (arith, fit-index, length-wanted c (kidsNumber t)) in
+        rw (
+          whole-cut left big refl,
+          classes-cut left big refl,
+          drop-cons (wanted c (kidsNumber t)) j 0 inside,
+          add-one,
+        )
+        (and-pairs (eqb (sizeOf left) (spanOf left / 24)) _
+        (eqb (classOf (nodeOf 0 left .kind)) (getD (wanted c (kidsNumber t)) j 0)) _)
 
-    module _ {e at : ℕ} (at-is : fixed c ≤ kidsNumber t → at ≡ getD (wanted c (kidsNumber t)) j 0) (e-is : e ≡ childOf at left) where
+    module _ {e at : ℕ} (at-is : fixed c ≤ kidsNumber t → at ≡ getD (wanted c (kidsNumber t)) j 0)
+        (e-is : e ≡ childOf at left) where
       pub fit-stop : e ≡ 0 → false ≡ kidsSound c (forest 0 t)
       fit-stop z = kids-tests c t (λ permitted enough.
-          let this : childSound (getD (wanted c (kidsNumber t)) j 0) left ≡ false = rw (at-is enough) at (child-no at left big e-is z) in
+          let this : childSound (getD (wanted c (kidsNumber t)) j 0) left
+          ≡ false = rw (at-is enough) at (child-no at left big e-is z) in
           (rw (step, this) at (s .rest enough))) (λ few. refl)
 
       pub fit-on : (e ≡ 0 → ⊥) → Fitting c t (take (length left - e) (drop e left)) (j + 1)
@@ -204,7 +245,8 @@ module _ {c : Children} {t left : List ℕ} {j : ℕ} (s : Fitting c t left j) w
             room = simp (length-take, length-drop) (omega (arith, s .room));
             number = omega (arith, s .number, ap length (classes-cut left big span));
             rest = λ enough.
-                let this : childSound (getD (wanted c (kidsNumber t)) j 0) left ≡ true = rw (at-is enough) at (child-yes at left big e-is d) in
+                let this : childSound (getD (wanted c (kidsNumber t)) j 0) left
+                ≡ true = rw (at-is enough) at (child-yes at left big e-is d) in
                 rw span (rw (step, this) at (s .rest enough));
           }
 
@@ -220,21 +262,30 @@ module _ (size len : ℕ) {w : Bool} (w-is : w ≡ (leb 1 size && leb (24 * size
   whole-end = leb-true (24 * size) len (and-right (leb 1 size) _ both)
 
 -- its record read from 24 bytes
-module _ (t : List ℕ) (big : 24 ≤ length t) {size : ℕ} (size-is : size ≡ sizeOf (take 24 t)) {w : Bool} (w-is : w ≡ (leb 1 size && leb (24 * size) (length t))) where
+module _ (t : List ℕ) (big : 24 ≤ length t) {size : ℕ} (size-is : size ≡ sizeOf (take 24 t)) {w : Bool}
+    (w-is : w ≡ (leb 1 size && leb (24 * size) (length t))) where
   same-size : size ≡ sizeOf t
   same-size = size-is ∙ size-take 24 t (omega arith)
 
   whole-no : w ≡ false → eqb (sizeOf t) (spanOf t / 24) ≡ false
-  whole-no w-no = ne-eqb (sizeOf t) (spanOf t / 24) (go (leb 1 size) refl (leb (24 * size) (length t)) refl (sym w-is ∙ w-no))
+  whole-no w-no = ne-eqb (sizeOf t) (spanOf t / 24)
+      (go (leb 1 size) refl (leb (24 * size) (length t)) refl (sym w-is ∙ w-no))
     where
-      go : (a : Bool) → leb 1 size ≡ a → (b : Bool) → leb (24 * size) (length t) ≡ b → (a && b) ≡ false → sizeOf t ≡ spanOf t / 24 → ⊥
+      go : (a : Bool) → leb 1 size ≡ a → (b : Bool) → leb (24 * size) (length t) ≡ b → (a && b) ≡ false
+          → sizeOf t ≡ spanOf t / 24 → ⊥
       go true p true q e f = let z : _≡_ {A = ℕ} 0 1 = cc in absurd (omega arith)
-      go true p false q e f = let l : length t < 24 * size = leb-false (24 * size) (length t) q in omega (arith, same-size)
+      go true p false q e f = let l : length t < 24 * size = leb-false (24 * size) (length t) q in
+          omega (arith, same-size)
       go false p b q e f = let l : size < 1 = leb-false 1 size p in omega (arith, same-size)
 
   module _ (w-yes : w ≡ true) where
     whole-span : 24 * size ≡ spanOf t
-    whole-span = omega (arith, same-size, whole-start size (length t) w-is w-yes, whole-end size (length t) w-is w-yes)
+    whole-span = omega (
+      arith,
+      same-size,
+      whole-start size (length t) w-is w-yes,
+      whole-end size (length t) w-is w-yes,
+    )
 
     whole-yes : eqb (sizeOf t) (spanOf t / 24) ≡ true
     whole-yes = eq-eqb (sizeOf t) (spanOf t / 24) (omega (arith, same-size, whole-span))
@@ -244,7 +295,8 @@ module _ (t : List ℕ) (big : 24 ≤ length t) {size : ℕ} (size-is : size ≡
   unfolding childOf
   child-cut want w-no = rw (whole-no w-no) refl
 
-  module _ {kind class : ℕ} (w-yes : w ≡ true) (kind-is : kind ≡ nodeOf 0 (take 24 t) .kind) (class-is : class ≡ classOf kind) where
+  module _ {kind class : ℕ} (w-yes : w ≡ true) (kind-is : kind ≡ nodeOf 0 (take 24 t) .kind)
+      (class-is : class ≡ classOf kind) where
     this-class : class ≡ classOf (nodeOf 0 t .kind)
     this-class = class-is ∙ ap classOf (kind-is ∙ ap (λ (r : Node). r .kind) (node-take 0 24 t (omega arith)))
 
@@ -260,7 +312,12 @@ module _ (t : List ℕ) (big : 24 ≤ length t) {size : ℕ} (size-is : size ≡
 module _ (x : Context) (t : List ℕ) where
   pub sound-index : (i : ℕ) → soundAt x i t ≡ soundAt x 0 t
   unfolding soundAt soundNode kidsSound fieldsSound
-  sound-index i = rw (classes-index (i + 1) (kidsOf t) (0 + 1), whole-index (i + 1) (kidsOf t) (0 + 1), count-forest (i + 1) (kidsOf t), count-forest (0 + 1) (kidsOf t)) refl
+  sound-index i = rw (
+    classes-index (i + 1) (kidsOf t) (0 + 1),
+    whole-index (i + 1) (kidsOf t) (0 + 1),
+    count-forest (i + 1) (kidsOf t),
+    count-forest (0 + 1) (kidsOf t),
+  ) refl
 
   head-is : nodeOf 0 (take 24 t) ≡ nodeOf 0 t
   head-is = node-take 0 24 t (omega arith)
@@ -273,21 +330,37 @@ module _ (x : Context) (t : List ℕ) where
     unfolding soundAt soundNode
     record-fields f-no = rw (fields-are, f-no) refl
 
-    module _ (f-yes : f ≡ true) (big : 24 ≤ length t) {size : ℕ} (size-is : size ≡ sizeOf (take 24 t)) {w : Bool} (w-is : w ≡ (leb 1 size && leb (24 * size) (length t))) where
-      record-tests : soundAt x 0 t ≡ (eqb (sizeOf t) (spanOf t / 24) && kidsSound (ruleOf (nodeOf 0 t .kind) (nodeOf 0 t .detail)) (forest 0 (kidsOf t)))
+    module _ (f-yes : f ≡ true) (big : 24 ≤ length t) {size : ℕ} (size-is : size ≡ sizeOf (take 24 t)) {w : Bool}
+        (w-is : w ≡ (leb 1 size && leb (24 * size) (length t))) where
+      record-tests : soundAt x 0 t ≡ (eqb (sizeOf t) (spanOf t / 24)
+          && kidsSound (ruleOf (nodeOf 0 t .kind) (nodeOf 0 t .detail)) (forest 0 (kidsOf t)))
       unfolding soundAt soundNode fieldsSound kidsSound ruleOf
       record-tests =
           let good : fieldsSound x (nodeOf 0 t) ≡ true = fields-are ∙ f-yes in
-          let small : leb (nodeOf 0 t .detail) (kindOf (nodeOf 0 t .kind) .details) ≡ true = and-left _ _ (and-right (leb 1 (classOf (nodeOf 0 t .kind))) _ good) in
-          rw (good, small, whole-size (0 + 1) (spanOf t) t big refl, classes-index (0 + 1) (kidsOf t) 0, whole-index (0 + 1) (kidsOf t) 0) refl
+          let small : leb (nodeOf 0 t .detail) (kindOf (nodeOf 0 t .kind) .details)
+          ≡ true = and-left _ _ (and-right (leb 1 (classOf (nodeOf 0 t .kind))) _ good) in
+          rw (
+            good,
+            small,
+            whole-size (0 + 1) (spanOf t) t big refl,
+            classes-index (0 + 1) (kidsOf t) 0,
+            whole-index (0 + 1) (kidsOf t) 0,
+          ) refl
 
       pub record-size : w ≡ false → false ≡ soundAt x 0 t
       record-size w-no = sym (record-tests ∙ rw (whole-no t big size-is w-is w-no) refl)
 
-      pub record-kids : w ≡ true → {kind detail : ℕ} {r : Bool} → kind ≡ nodeOf 0 (take 24 t) .kind → detail ≡ nodeOf 0 (take 24 t) .detail → r ≡ kidsSound (ruleOf kind detail) (forest 0 (take (24 * size - 24) (drop 24 t))) → r ≡ soundAt x 0 t
+      pub record-kids : w ≡ true → {kind detail : ℕ} {r : Bool} → kind ≡ nodeOf 0 (take 24 t) .kind
+          → detail ≡ nodeOf 0 (take 24 t) .detail
+          → r ≡ kidsSound (ruleOf kind detail) (forest 0 (take (24 * size - 24) (drop 24 t))) → r ≡ soundAt x 0 t
       record-kids w-yes kind-is detail-is r-is =
           r-is ∙ sym (record-tests
-          ∙ rw (whole-yes t big size-is w-is w-yes, ← (kids-part (24 * size) t (whole-span t big size-is w-is w-yes)), kind-is ∙ ap (λ (r : Node). r .kind) head-is, detail-is ∙ ap (λ (r : Node). r .detail) head-is) refl)
+          ∙ rw (
+            whole-yes t big size-is w-is w-yes,
+            ← (kids-part (24 * size) t (whole-span t big size-is w-is w-yes)),
+            kind-is ∙ ap (λ (r : Node). r .kind) head-is,
+            detail-is ∙ ap (λ (r : Node). r .detail) head-is,
+          ) refl)
 
 -- record i of a table, as code tests it
 module _ (t names : List ℕ) {b : Bool} (b-is : b ≡ rootSound t) where
@@ -297,10 +370,15 @@ module _ (t names : List ℕ) {b : Bool} (b-is : b ≡ rootSound t) where
       let bad : rootSound t ≡ false = cc in
       look-here (look-start (recordSound t names) (length t / 24)) (omega arith) (rw bad refl)
 
-  pub record-test : b ≡ true → (i : ℕ) {r : Bool} → r ≡ soundAt (context (length names)) 0 (take (length t - 24 * i) (drop (24 * i) t)) → recordSound t names i ≡ r
+  pub record-test : b ≡ true → (i : ℕ) {r : Bool}
+      → r ≡ soundAt (context (length names)) 0 (take (length t - 24 * i) (drop (24 * i) t))
+      → recordSound t names i ≡ r
   unfolding recordSound contextOf
   record-test b-yes i r-is =
-      let here : soundAt (context (length names)) i (drop (24 * i) t) ≡ soundAt (context (length names)) 0 (take (length t - 24 * i) (drop (24 * i) t)) = sound-index (context (length names)) (drop (24 * i) t) i ∙ ap (soundAt (context (length names)) 0) (sym (tail-part (24 * i) t)) in
+      let here : soundAt (context (length names)) i (drop (24 * i) t)
+      ≡ soundAt (context (length names)) 0 (take (length t - 24 * i) (drop (24 * i) t)) = sound-index
+      (context (length names)) (drop (24 * i) t) i
+      ∙ ap (soundAt (context (length names)) 0) (sym (tail-part (24 * i) t)) in
       rw (here, ← r-is) (go (eqb i 0))
     where
       go : (z : Bool) {r : Bool} → (if' z (λ _. rootSound t) (λ _. true) && r) ≡ r

@@ -33,7 +33,8 @@ module _ {p : ℕ → Bool} {n i : ℕ} (s : Looking p n i) where
       record { upto = omega arith; rest = sym (first-on p i (n - (i + 1)) e) ∙ (rw m at (s .rest)) }
 
   pub look-here : i < n → p i ≡ false → At i ≡ firstFalse p 0 n
-  look-here h e = let m : n - i ≡ suc (n - (i + 1)) = omega arith in sym (first-here p i (n - (i + 1)) e) ∙ (rw m at (s .rest))
+  look-here h e = let m : n - i ≡ suc (n - (i + 1)) = omega arith in
+      sym (first-here p i (n - (i + 1)) e) ∙ (rw m at (s .rest))
 
   pub look-end : n ≤ i → Nothing ≡ firstFalse p 0 n
   unfolding firstFalse
@@ -44,11 +45,14 @@ none-from : (p : ℕ → Bool) (n i : ℕ) → firstFalse p i n ≡ Nothing → 
 none-from p zero i e j h g = absurd (omega arith)
 none-from p (suc n) i e j h g = split (p i) refl (λ t. none-from p n (i + 1) t j)
   where
-    later : (firstFalse p (i + 1) n ≡ Nothing → i + 1 ≤ j → j < i + 1 + n → p j ≡ true) → p i ≡ true → (b : Bool) → eqb i j ≡ b → p j ≡ true
+    later : (firstFalse p (i + 1) n ≡ Nothing → i + 1 ≤ j → j < i + 1 + n → p j ≡ true) → p i ≡ true → (b : Bool)
+        → eqb i j ≡ b → p j ≡ true
     later rest t true same = let at : i ≡ j = eqb-true i j same in rw (← at) t
-    later rest t false apart = let d : i ≡ j → ⊥ = eqb-false i j apart in rest (sym (first-on p i n t) ∙ e) (omega arith) (omega arith)
+    later rest t false apart = let d : i ≡ j → ⊥ = eqb-false i j apart in
+        rest (sym (first-on p i n t) ∙ e) (omega arith) (omega arith)
 
-    split : (b : Bool) → p i ≡ b → (firstFalse p (i + 1) n ≡ Nothing → i + 1 ≤ j → j < i + 1 + n → p j ≡ true) → p j ≡ true
+    split : (b : Bool) → p i ≡ b → (firstFalse p (i + 1) n ≡ Nothing → i + 1 ≤ j → j < i + 1 + n → p j ≡ true)
+        → p j ≡ true
     split true t rest = later rest t (eqb i j) refl
     split false t rest = let z : _≡_ {A = ℕ} 0 1 = cc (first-here p i n t) in absurd (omega arith)
 
@@ -81,7 +85,12 @@ found-from p (suc n) i k e = split (p i) refl (λ t. found-from p n (i + 1) k t)
     split : (b : Bool) → p i ≡ b → (firstFalse p (i + 1) n ≡ At k → First p (i + 1) n k) → First p i (suc n) k
     split true t rest = passed t (rest (sym (first-on p i n t) ∙ e))
     split false t rest = let at : i ≡ k = cc (first-here p i n t) in
-        record { from = omega arith; within = omega arith; fails = rw at at t; before = λ j h g. absurd (omega arith) }
+        record {
+          from = omega arith;
+          within = omega arith;
+          fails = rw at at t;
+          before = λ j h g. absurd (omega arith);
+        }
 
 pub found : (p : ℕ → Bool) (n k : ℕ) → firstFalse p 0 n ≡ At k → First p 0 n k
 found p n k e = found-from p n 0 k e

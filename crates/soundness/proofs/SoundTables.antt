@@ -9,13 +9,17 @@ use lib.Seq.{take-all, take-take, drop-drop, length-take-le}
 use lib.Dec.{eqb}
 use borrow.Author.Tests.{eqb-true, eq-eqb}
 use Rattle.fields.specs.Choice.{if'}
-use Rattle.forest.specs.Forest.{Node, sizeOf, spanOf, nodeOf, kidsOf, restOf, Tree, node, Forest, none, _then_, forest, count}
+use Rattle.forest.specs.Forest.{Node, sizeOf, spanOf, nodeOf, kidsOf, restOf, Tree, node, Forest, none, _then_}
+use Rattle.forest.specs.Forest.{forest, count}
 use Rattle.forest.specs.Names.{same}
 use Rattle.forest.specs.declared.Found.the-variants.{Nothing}
-use Rattle.forest.proofs.Stretch.{tree, drop-take, node-take, size-take, length-kids, length-rest, forest-none, forest-tree, count-forest, record-or-none}
+use Rattle.forest.proofs.Stretch.{tree, drop-take, node-take, size-take, length-kids, length-rest, forest-none}
+use Rattle.forest.proofs.Stretch.{forest-tree, count-forest, record-or-none}
 use Rattle.forest.proofs.Named.{same-bytes-equal}
 use Rattle.soundness.specs.Kinds.{statement, Children, kindOf, classOf}
-use Rattle.soundness.specs.Sound.{Context, fieldsSound, wholeTree, wholeTrees, classes, permitted, between, wanted, permits, kidsSound, soundNode, soundAt, rootSound, contextOf, recordSound, firstUnsound}
+use Rattle.soundness.specs.Sound.{Context, fieldsSound, wholeTree, wholeTrees, classes, permitted, between}
+use Rattle.soundness.specs.Sound.{wanted, permits, kidsSound, soundNode, soundAt, rootSound, contextOf}
+use Rattle.soundness.specs.Sound.{recordSound, firstUnsound}
 use Rattle.soundness.proofs.Search.{none-found}
 use Rattle.soundness.proofs.Records.{and-left, and-right, and-both, whole-size}
 
@@ -56,17 +60,21 @@ module _ (x : Context) (r : Node) (ks : Forest) (e : soundNode x r ks ≡ true) 
   unfolding kidsSound permits
   node-classes =
       let c : Children = kindOf (r .kind) .kids (r .detail) in
-      same-bytes-equal (classes ks) (wanted c (length (classes ks))) (and-right (permitted (c .times) (between c (length (classes ks)))) _ (and-right (wholeTrees ks) _ node-kids))
+      same-bytes-equal (classes ks) (wanted c (length (classes ks)))
+      (and-right (permitted (c .times) (between c (length (classes ks)))) _
+      (and-right (wholeTrees ks) _ node-kids))
 
 -- the first node of a stretch whose nodes are whole: its subtree takes its size
 module _ (i : ℕ) (bs : List ℕ) (big : 24 ≤ length bs) (whole : wholeTrees (forest i bs) ≡ true) where
-  cut-whole : (wholeTree (nodeOf i bs) (forest (i + 1) (kidsOf bs)) && wholeTrees (forest (i + spanOf bs / 24) (restOf bs))) ≡ true
+  cut-whole : (wholeTree (nodeOf i bs) (forest (i + 1) (kidsOf bs))
+      && wholeTrees (forest (i + spanOf bs / 24) (restOf bs))) ≡ true
   unfolding wholeTrees
   cut-whole = ap wholeTrees (sym (forest-tree i bs big)) ∙ whole
 
   first-size : sizeOf bs ≡ spanOf bs / 24
   first-size =
-      eqb-true (sizeOf bs) (1 + count (forest (i + 1) (kidsOf bs))) (and-left (wholeTree (nodeOf i bs) (forest (i + 1) (kidsOf bs))) _ cut-whole)
+      eqb-true (sizeOf bs) (1 + count (forest (i + 1) (kidsOf bs)))
+      (and-left (wholeTree (nodeOf i bs) (forest (i + 1) (kidsOf bs))) _ cut-whole)
       ∙ whole-size (i + 1) (spanOf bs) bs big refl
 
   rest-whole : wholeTrees (forest (i + spanOf bs / 24) (restOf bs)) ≡ true
@@ -76,8 +84,14 @@ module _ (i : ℕ) (bs : List ℕ) (big : 24 ≤ length bs) (whole : wholeTrees 
 one-whole : (i : ℕ) (bs : List ℕ) → 1 ≤ sizeOf bs → length bs ≡ 24 * sizeOf bs → wholeTrees (forest i bs) ≡ true
 unfolding wholeTrees
 one-whole i bs some long =
-    let w : sizeOf bs ≡ 1 + count (forest (i + 1) (kidsOf bs)) = omega (arith, whole-size (i + 1) (spanOf bs) bs (omega arith) refl) in
-    rw (forest-tree i bs (omega arith), forest-none (i + spanOf bs / 24) (restOf bs) (omega (arith, length-rest bs)), ← w) (and-both _ true (eq-eqb (sizeOf bs) (sizeOf bs) refl) refl)
+    let w : sizeOf bs ≡ 1 + count (forest (i + 1) (kidsOf bs)) = omega
+    (arith, whole-size (i + 1) (spanOf bs) bs (omega arith) refl) in
+    rw (
+      forest-tree i bs (omega arith),
+      forest-none (i + spanOf bs / 24) (restOf bs)
+          (omega (arith, length-rest bs)),
+      ← w,
+    ) (and-both _ true (eq-eqb (sizeOf bs) (sizeOf bs) refl) refl)
 
 -- m records of a table t from record i on
 abbrev stretch : List ℕ → ℕ → ℕ → List ℕ
@@ -90,7 +104,8 @@ span-size : (bs : List ℕ) {s : ℕ} → s ≡ sizeOf bs → 1 ≤ s → 24 * s
 span-size bs s-is least room = omega arith
 
 -- its first node: the record, its children and what follows
-module _ (t : List ℕ) (i m : ℕ) (room : 24 * (i + m) ≤ length t) (some : 1 ≤ m) (size : spanOf (stretch t i m) ≡ 24 * sizeOf (stretch t i m)) (least : 1 ≤ sizeOf (stretch t i m)) where
+module _ (t : List ℕ) (i m : ℕ) (room : 24 * (i + m) ≤ length t) (some : 1 ≤ m)
+    (size : spanOf (stretch t i m) ≡ 24 * sizeOf (stretch t i m)) (least : 1 ≤ sizeOf (stretch t i m)) where
   same-size : sizeOf (stretch t i m) ≡ sizeOf (drop (24 * i) t)
   same-size = size-take (24 * m) (drop (24 * i) t) (omega arith)
 
@@ -102,22 +117,37 @@ module _ (t : List ℕ) (i m : ℕ) (room : 24 * (i + m) ≤ length t) (some : 1
   kids-are =
       let n : spanOf (stretch t i m) - 24 ≡ 24 * (sizeOf (stretch t i m) - 1) = omega arith in
       let a : 24 * i + 24 ≡ 24 * (i + 1) = omega arith in
-      rw (drop-take 24 (24 * m) (drop (24 * i) t), take-take (spanOf (stretch t i m) - 24) (24 * m - 24) (drop 24 (drop (24 * i) t)) (omega (arith, most)), drop-drop 24 (24 * i) t, n, a) refl
+      rw (
+        drop-take 24 (24 * m) (drop (24 * i) t),
+        take-take (spanOf (stretch t i m) - 24) (24 * m - 24) (drop 24 (drop (24 * i) t)) (omega (arith, most)),
+        drop-drop 24 (24 * i) t,
+        n,
+        a,
+      ) refl
 
   kids-same : kidsOf (stretch t i m) ≡ kidsOf (drop (24 * i) t)
   unfolding kidsOf
   kids-same =
-      let n : spanOf (drop (24 * i) t) ≡ spanOf (stretch t i m) = span-size (drop (24 * i) t) same-size least (simp length-drop (omega (arith, most))) ∙ sym size in
-      rw (n, drop-take 24 (24 * m) (drop (24 * i) t)) (take-take (spanOf (stretch t i m) - 24) (24 * m - 24) (drop 24 (drop (24 * i) t)) (omega (arith, most)))
+      let n : spanOf (drop (24 * i) t) ≡ spanOf (stretch t i m) = span-size (drop (24 * i) t) same-size least
+      (simp length-drop (omega (arith, most))) ∙ sym size in
+      rw (n, drop-take 24 (24 * m) (drop (24 * i) t))
+      (take-take (spanOf (stretch t i m) - 24) (24 * m - 24) (drop 24 (drop (24 * i) t)) (omega (arith, most)))
 
   rest-is : restOf (stretch t i m) ≡ stretch t (i + sizeOf (stretch t i m)) (m - sizeOf (stretch t i m))
   unfolding restOf
   rest-is =
       let n : 24 * m - 24 * sizeOf (stretch t i m) ≡ 24 * (m - sizeOf (stretch t i m)) = omega arith in
       let a : 24 * i + 24 * sizeOf (stretch t i m) ≡ 24 * (i + sizeOf (stretch t i m)) = omega arith in
-      rw (size, drop-take (24 * sizeOf (stretch t i m)) (24 * m) (drop (24 * i) t), drop-drop (24 * sizeOf (stretch t i m)) (24 * i) t, n, a) refl
+      rw (
+        size,
+        drop-take (24 * sizeOf (stretch t i m)) (24 * m) (drop (24 * i) t),
+        drop-drop (24 * sizeOf (stretch t i m)) (24 * i) t,
+        n,
+        a,
+      ) refl
 
-  here-sound : (x : Context) → soundAt x i (drop (24 * i) t) ≡ true → soundNode x (nodeOf i (stretch t i m)) (forest (i + 1) (kidsOf (stretch t i m))) ≡ true
+  here-sound : (x : Context) → soundAt x i (drop (24 * i) t) ≡ true
+      → soundNode x (nodeOf i (stretch t i m)) (forest (i + 1) (kidsOf (stretch t i m))) ≡ true
   unfolding soundAt
   here-sound x h = rw (kids-same, node-take i (24 * m) (drop (24 * i) t) (omega arith)) h
 
@@ -125,14 +155,18 @@ all-none : (x : ℕ → Context) (i : ℕ) (bs : List ℕ) → length bs < 24 �
 unfolding allSound
 all-none x i bs h = rw (forest-none i bs h) refl
 
-all-tree : (x : ℕ → Context) (i : ℕ) (bs : List ℕ) → 24 ≤ length bs → soundNode (x i) (nodeOf i bs) (forest (i + 1) (kidsOf bs)) ≡ true
-    → allSound x (forest (i + 1) (kidsOf bs)) ≡ true → allSound x (forest (i + spanOf bs / 24) (restOf bs)) ≡ true → allSound x (forest i bs) ≡ true
+all-tree : (x : ℕ → Context) (i : ℕ) (bs : List ℕ) → 24 ≤ length bs
+    → soundNode (x i) (nodeOf i bs) (forest (i + 1) (kidsOf bs)) ≡ true
+    → allSound x (forest (i + 1) (kidsOf bs)) ≡ true → allSound x (forest (i + spanOf bs / 24) (restOf bs)) ≡ true
+    → allSound x (forest i bs) ≡ true
 unfolding allSound
 all-tree x i bs big a b c = rw (forest-tree i bs big, a, b, c) refl
 
 -- where each record of a table is sound, so is every stretch of it whose nodes are whole
-module _ (x : ℕ → Context) (t : List ℕ) (clean : (j : ℕ) → j < length t / 24 → soundAt (x j) j (drop (24 * j) t) ≡ true) where
-  all-in : (k i m : ℕ) → m ≤ k → 24 * (i + m) ≤ length t → wholeTrees (forest i (stretch t i m)) ≡ true → allSound x (forest i (stretch t i m)) ≡ true
+module _ (x : ℕ → Context) (t : List ℕ) (clean : (j : ℕ) → j < length t / 24
+    → soundAt (x j) j (drop (24 * j) t) ≡ true) where
+  all-in : (k i m : ℕ) → m ≤ k → 24 * (i + m) ≤ length t → wholeTrees (forest i (stretch t i m)) ≡ true
+      → allSound x (forest i (stretch t i m)) ≡ true
   all-in zero i m hk room whole = all-none x i (stretch t i m) (omega (arith, length-stretch t i m room))
   all-in (suc k) i m hk room whole =
       record-or-none (stretch t i m) (all-none x i (stretch t i m)) λ big.
@@ -148,9 +182,12 @@ module _ (x : ℕ → Context) (t : List ℕ) (clean : (j : ℕ) → j < length 
       let rest-at = rest-is t i m room some span least in
       let after : i + spanOf (stretch t i m) / 24 ≡ i + s = omega arith in
       let kids : allSound x (forest (i + 1) (stretch t (i + 1) (s - 1))) ≡ true =
-      all-in k (i + 1) (s - 1) (omega arith) (omega arith) (rw kids-at at (node-whole (x i) (nodeOf i (stretch t i m)) (forest (i + 1) (kidsOf (stretch t i m))) here)) in
+      all-in k (i + 1) (s - 1) (omega arith) (omega arith)
+      (rw kids-at at (node-whole (x i) (nodeOf i (stretch t i m)) (forest (i + 1) (kidsOf (stretch t i m)))
+      here)) in
       let rest : allSound x (forest (i + s) (stretch t (i + s) (m - s))) ≡ true =
-      all-in k (i + s) (m - s) (omega arith) (omega arith) (rw (rest-at, after) at (rest-whole i (stretch t i m) big whole)) in
+      all-in k (i + s) (m - s) (omega arith) (omega arith)
+      (rw (rest-at, after) at (rest-whole i (stretch t i m) big whole)) in
       all-tree x i (stretch t i m) big here (rw kids-at kids) (rw (rest-at, after) rest)
 
 -- LAWS: a table with no unsound record
@@ -172,7 +209,8 @@ module _ (t names : List ℕ) (e : firstUnsound t names ≡ Nothing) where
 
     pub root-covers : 24 * sizeOf t ≡ length t
     unfolding rootSound
-    root-covers = eqb-true (24 * sizeOf t) (length t) (and-right (eqb (classOf (nodeOf 0 t .kind)) statement) _ root)
+    root-covers = eqb-true (24 * sizeOf t) (length t)
+        (and-right (eqb (classOf (nodeOf 0 t .kind)) statement) _ root)
 
   -- its nodes have a size, and their subtrees stand within it
   module _ (i : ℕ) (h : i < length t / 24) where
@@ -192,7 +230,8 @@ module _ (t names : List ℕ) (e : firstUnsound t names ≡ Nothing) where
         let same : sizeOf (stretch t i s) ≡ s = size-take (24 * s) (drop (24 * i) t) (omega arith) in
         record {
           records = omega arith;
-          nodes = all-in (contextOf t names) t clean s i s (omega arith) (omega arith) (one-whole i (stretch t i s) (omega arith) (omega arith));
+          nodes = all-in (contextOf t names) t clean s i s (omega arith) (omega arith)
+              (one-whole i (stretch t i s) (omega arith) (omega arith));
         }
 
   pub sound-table : 24 ≤ length t → Sound (contextOf t names) 0 t
@@ -203,11 +242,13 @@ module _ (t names : List ℕ) (e : firstUnsound t names ≡ Nothing) where
 
 -- LAWS: the first node of a sound stretch, its children and what follows
 module _ (x : ℕ → Context) (i : ℕ) (bs : List ℕ) (s : Sound x i bs) (big : 24 ≤ length bs) where
-  parts : ((soundNode (x i) (nodeOf i bs) (forest (i + 1) (kidsOf bs)) && allSound x (forest (i + 1) (kidsOf bs))) && allSound x (forest (i + spanOf bs / 24) (restOf bs))) ≡ true
+  parts : ((soundNode (x i) (nodeOf i bs) (forest (i + 1) (kidsOf bs)) && allSound x (forest (i + 1) (kidsOf bs)))
+      && allSound x (forest (i + spanOf bs / 24) (restOf bs))) ≡ true
   unfolding allSound
   parts = sym (ap (allSound x) (forest-tree i bs big)) ∙ s .nodes
 
-  tree-part : (soundNode (x i) (nodeOf i bs) (forest (i + 1) (kidsOf bs)) && allSound x (forest (i + 1) (kidsOf bs))) ≡ true
+  tree-part : (soundNode (x i) (nodeOf i bs) (forest (i + 1) (kidsOf bs))
+      && allSound x (forest (i + 1) (kidsOf bs))) ≡ true
   tree-part = and-left _ _ parts
 
   pub sound-first : soundNode (x i) (nodeOf i bs) (forest (i + 1) (kidsOf bs)) ≡ true
@@ -220,7 +261,14 @@ module _ (x : ℕ → Context) (i : ℕ) (bs : List ℕ) (s : Sound x i bs) (big
       omega (arith, whole-size (i + 1) (spanOf bs) bs big refl, s .records)
 
   pub sound-kids : Sound x (i + 1) (kidsOf bs)
-  sound-kids = let z = sound-size in record { records = omega (arith, length-kids bs); nodes = and-right (soundNode (x i) (nodeOf i bs) (forest (i + 1) (kidsOf bs))) _ tree-part }
+  sound-kids = let z = sound-size in record {
+    records = omega (arith, length-kids bs);
+    nodes = and-right (soundNode (x i) (nodeOf i bs) (forest (i + 1) (kidsOf bs))) _ tree-part;
+  }
 
   pub sound-rest : Sound x (i + spanOf bs / 24) (restOf bs)
-  sound-rest = let z = sound-size in record { records = omega (arith, length-rest bs, s .records); nodes = and-right (soundNode (x i) (nodeOf i bs) (forest (i + 1) (kidsOf bs)) && allSound x (forest (i + 1) (kidsOf bs))) _ parts }
+  sound-rest = let z = sound-size in record {
+    records = omega (arith, length-rest bs, s .records);
+    nodes = and-right (soundNode (x i) (nodeOf i bs) (forest (i + 1) (kidsOf bs))
+        && allSound x (forest (i + 1) (kidsOf bs))) _ parts;
+  }

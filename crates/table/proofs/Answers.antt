@@ -45,14 +45,16 @@ stopped (Spanned n k b e) next = refl
 
 -- LAWS of a step x, where what follows it is accepted: a refusal is its own; and if the whole is accepted, it is passed
 module _ (x : Answer) (vs : List ℕ) where
-  pub first-refused : (why : Refusal) (next : Unit {0} → Answer) → refusal why ≡ andThen x (λ _. accepted vs) → refusal why ≡ andThen x next
+  pub first-refused : (why : Refusal) (next : Unit {0} → Answer) → refusal why ≡ andThen x (λ _. accepted vs)
+      → refusal why ≡ andThen x next
   first-refused why next e = go x e
     where
       go : (y : Answer) → refusal why ≡ andThen y (λ _. accepted vs) → refusal why ≡ andThen y next
       go (accepted ws) e = never-accepted why e
       go (refused n ws) e = e
 
-  pub first-accepted : {ws : List ℕ} (next : Unit {0} → Answer) → accepted ws ≡ andThen x (λ _. accepted vs) → andThen x next ≡ next tt
+  pub first-accepted : {ws : List ℕ} (next : Unit {0} → Answer) → accepted ws ≡ andThen x (λ _. accepted vs)
+      → andThen x next ≡ next tt
   first-accepted {ws} next e = go x e
     where
       go : (y : Answer) → accepted ws ≡ andThen y (λ _. accepted vs) → andThen y next ≡ next tt
@@ -67,6 +69,7 @@ module _ (x : Answer) (vs : List ℕ) where
       go (refused n us) e = let z : _≡_ {A = ℕ} 0 1 = cc in absurd (omega arith)
 
 -- LAW: what follows two steps follows the second
-pub after-both : (x : Answer) (y z : Unit {0} → Answer) → andThen (andThen x y) z ≡ andThen x (λ _. andThen (y tt) z)
+pub after-both : (x : Answer) (y z : Unit {0} → Answer)
+    → andThen (andThen x y) z ≡ andThen x (λ _. andThen (y tt) z)
 after-both (accepted vs) y z = refl
 after-both (refused n vs) y z = refl

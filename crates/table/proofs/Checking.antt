@@ -33,7 +33,8 @@ length-whole n e =
 -- a node that a search finds is one of the table
 unsound-inside : (t names : List ℕ) {i : ℕ} {f : Found} → f ≡ firstUnsound t names → f ≡ At i → i < length t / 24
 unfolding firstUnsound
-unsound-inside t names {i} f-is at = omega (arith, found (recordSound t names) (length t / 24) i (sym f-is ∙ at) .within)
+unsound-inside t names {i} f-is at = omega
+    (arith, found (recordSound t names) (length t / 24) i (sym f-is ∙ at) .within)
 
 -- the check, step by step
 module _ (t names : List ℕ) {l : Bool} (l-is : l ≡ lengthSound (length t)) where
@@ -85,19 +86,30 @@ pub accepted-clean : (t names : List ℕ) {vs : List ℕ} → checkOf t names �
 unfolding checkOf
 accepted-clean t names {vs} e = by-length (lengthSound (length t)) refl e
   where
-    by-deep : lengthSound (length t) ≡ true → length names ≤ 8064 → firstUnsound t names ≡ Nothing → (f : Found) → firstDeep 0 (forest 0 t) ≡ f → noneFound tooDeep f ≡ accepted vs → Clean t names
+    by-deep : lengthSound (length t) ≡ true → length names ≤ 8064 → firstUnsound t names ≡ Nothing → (f : Found)
+        → firstDeep 0 (forest 0 t) ≡ f → noneFound tooDeep f ≡ accepted vs → Clean t names
     by-deep l n u (At i) d e = never e
-    by-deep l n u Nothing d e = let w = length-whole (length t) l in record { least = w .0; most = w .1; whole = w .2; few = n; unsound = u; deep = d }
+    by-deep l n u Nothing d e = let w = length-whole (length t) l in
+        record { least = w .0; most = w .1; whole = w .2; few = n; unsound = u; deep = d }
 
-    by-unsound : lengthSound (length t) ≡ true → length names ≤ 8064 → (f : Found) → firstUnsound t names ≡ f → andThen (noneFound unsoundRecord f) (λ _. noneFound tooDeep (firstDeep 0 (forest 0 t))) ≡ accepted vs → Clean t names
+    by-unsound : lengthSound (length t) ≡ true → length names ≤ 8064 → (f : Found) → firstUnsound t names ≡ f
+        → andThen (noneFound unsoundRecord f) (λ _. noneFound tooDeep (firstDeep 0 (forest 0 t))) ≡ accepted vs
+        → Clean t names
     by-unsound l n (At i) u e = never e
     by-unsound l n Nothing u e = by-deep l n u (firstDeep 0 (forest 0 t)) refl e
 
-    by-names : lengthSound (length t) ≡ true → (b : Bool) → leb (length names) 8064 ≡ b → andThen (if' b (λ _. accepted []) (λ _. refused nameBytes [])) (λ _. andThen (noneFound unsoundRecord (firstUnsound t names)) (λ _. noneFound tooDeep (firstDeep 0 (forest 0 t)))) ≡ accepted vs → Clean t names
+    by-names : lengthSound (length t) ≡ true → (b : Bool) → leb (length names) 8064 ≡ b
+        → andThen (if' b (λ _. accepted []) (λ _. refused nameBytes []))
+        (λ _. andThen (noneFound unsoundRecord (firstUnsound t names))
+        (λ _. noneFound tooDeep (firstDeep 0 (forest 0 t)))) ≡ accepted vs → Clean t names
     by-names l true n e = by-unsound l (leb-true (length names) 8064 n) (firstUnsound t names) refl e
     by-names l false n e = never e
 
-    by-length : (b : Bool) → lengthSound (length t) ≡ b → andThen (if' b (λ _. accepted []) (λ _. refused tableLength [])) (λ _. andThen (namesCheck (length names)) (λ _. andThen (noneFound unsoundRecord (firstUnsound t names)) (λ _. noneFound tooDeep (firstDeep 0 (forest 0 t))))) ≡ accepted vs → Clean t names
+    by-length : (b : Bool) → lengthSound (length t) ≡ b
+        → andThen (if' b (λ _. accepted []) (λ _. refused tableLength []))
+        (λ _. andThen (namesCheck (length names))
+        (λ _. andThen (noneFound unsoundRecord (firstUnsound t names))
+        (λ _. noneFound tooDeep (firstDeep 0 (forest 0 t))))) ≡ accepted vs → Clean t names
     by-length true l e = by-names l (leb (length names) 8064) refl e
     by-length false l e = never e
 

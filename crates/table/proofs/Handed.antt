@@ -19,7 +19,8 @@ pub passed : (t names : List ℕ) {vs : List ℕ} → accepted vs ≡ checkOf t 
 passed t names e = accepted-clean t names (sym e)
 
 -- LAW: a node that fits has a stretch of one record or more, within the table
-pub stretch-within : (t names : List ℕ) (i : ℕ) (w : Wanted) → Clean t names → nodeFits t i w ≡ true → (24 ≤ length (stretchOf t i)) × (24 * i + length (stretchOf t i) ≤ 50400)
+pub stretch-within : (t names : List ℕ) (i : ℕ) (w : Wanted) → Clean t names → nodeFits t i w ≡ true
+    → (24 ≤ length (stretchOf t i)) × (24 * i + length (stretchOf t i) ≤ 50400)
 unfolding nodeFits
 stretch-within t names i w c fits =
     let here = ltb-true i (length t / 24) (and-left _ _ fits) in
@@ -27,7 +28,8 @@ stretch-within t names i w c fits =
     rw (stretch-is c i here) (simp (length-take, length-drop) (omega (arith, c .most)))
 
 -- the same, in the terms of code: the check f found nothing, the node's test b is passed, and s is the stretch
-module _ (t names : List ℕ) (i : ℕ) (w : Wanted) {f : Checked} (f-is : checked f ≡ checkOf t names) (f-good : f ≡ Sound) {b : Bool} (b-is : b ≡ nodeFits t i w) (b-yes : b ≡ true) where
+module _ (t names : List ℕ) (i : ℕ) (w : Wanted) {f : Checked} (f-is : checked f ≡ checkOf t names)
+    (f-good : f ≡ Sound) {b : Bool} (b-is : b ≡ nodeFits t i w) (b-yes : b ≡ true) where
   pub clean : Clean t names
   clean = passed t names (rw f-good at f-is)
 

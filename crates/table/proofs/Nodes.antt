@@ -18,7 +18,8 @@ module _ (t : List ℕ) (i : ℕ) where
   unfolding nodeFits
   node-beyond w h = rw (le-ltb i (length t / 24) h) refl
 
-  pub node-here : (w : Wanted) → i < length t / 24 → {k : ℕ} {r : Bool} → k ≡ nodeOf 0 (take (length t - 24 * i) (drop (24 * i) t)) .kind → r ≡ wants w k → r ≡ nodeFits t i w
+  pub node-here : (w : Wanted) → i < length t / 24 → {k : ℕ} {r : Bool}
+      → k ≡ nodeOf 0 (take (length t - 24 * i) (drop (24 * i) t)) .kind → r ≡ wants w k → r ≡ nodeFits t i w
   unfolding nodeFits
   node-here w h k-is r-is = r-is ∙ ap (wants w) k-is ∙ rw (tail-part (24 * i) t, lt-ltb i (length t / 24) h) refl
 
@@ -32,7 +33,8 @@ module _ (t : List ℕ) (i : ℕ) where
 
     pub stretch-rest : length t < 24 * (i + s) → take (length t - 24 * i) (drop (24 * i) t) ≡ stretchOf t i
     unfolding stretchOf
-    stretch-rest g = rw (lt-ltb i (length t / 24) h, tail-part (24 * i) t, ← size-here) (sym (take-all (24 * s) (drop (24 * i) t) (simp length-drop (omega arith))))
+    stretch-rest g = rw (lt-ltb i (length t / 24) h, tail-part (24 * i) t, ← size-here)
+        (sym (take-all (24 * s) (drop (24 * i) t) (simp length-drop (omega arith))))
 
     pub stretch-inside : take (24 * (i + s) - 24 * i) (drop (24 * i) t) ≡ stretchOf t i
     unfolding stretchOf

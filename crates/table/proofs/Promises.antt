@@ -14,7 +14,8 @@ use Rattle.table.specs.declared.Wanted.{Wanted}
 use Rattle.table.proofs.Answers.{refusal-injective, checked-injective}
 
 -- of `check`
-pub check-one : (table names : List ℕ) {r s : Checked} → checked r ≡ checkOf table names → checked s ≡ checkOf table names → r ≡ s
+pub check-one : (table names : List ℕ) {r s : Checked} → checked r ≡ checkOf table names
+    → checked s ≡ checkOf table names → r ≡ s
 check-one table names = coincide-by checked checked-injective
 
 -- of `class`
@@ -22,13 +23,16 @@ pub class-one : (t : List ℕ) {r s : ℕ} → r ≡ classOf (nodeOf 0 t .kind) 
 class-one t = coincide
 
 -- of `refused_at`
-pub refused-at-one : (number node : ℕ) (t : List ℕ) {r s : Refusal} → refusal r ≡ refusedAt number (nodeOf node t) → refusal s ≡ refusedAt number (nodeOf node t) → r ≡ s
+pub refused-at-one : (number node : ℕ) (t : List ℕ) {r s : Refusal} → refusal r ≡ refusedAt number (nodeOf node t)
+    → refusal s ≡ refusedAt number (nodeOf node t) → r ≡ s
 refused-at-one number node t = coincide-by refusal refusal-injective
 
 -- of `node_fits`
-pub node-fits-one : (table : List ℕ) (node : ℕ) (wanted : Wanted) {r s : Bool} → r ≡ nodeFits table node wanted → s ≡ nodeFits table node wanted → r ≡ s
+pub node-fits-one : (table : List ℕ) (node : ℕ) (wanted : Wanted) {r s : Bool} → r ≡ nodeFits table node wanted
+    → s ≡ nodeFits table node wanted → r ≡ s
 node-fits-one table node wanted = coincide
 
 -- of `stretch`, whose answer is a part of the lent table
-pub stretch-one : (table : List ℕ) (node : ℕ) {r s : List ℕ} → r ≡ stretchOf table node → s ≡ stretchOf table node → r ≡ s
+pub stretch-one : (table : List ℕ) (node : ℕ) {r s : List ℕ} → r ≡ stretchOf table node → s ≡ stretchOf table node
+    → r ≡ s
 stretch-one table node = coincide

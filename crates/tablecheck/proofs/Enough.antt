@@ -18,7 +18,8 @@ use Rattle.blocks.specs.Block.{demand, judge}
 use Rattle.blocks.specs.Run.{blocksFor, judgeBlocks, judgeRun}
 use Rattle.blocks.proofs.Blocks.{drop-take}
 use Rattle.blocks.proofs.Spelling.{le-or-lt}
-use Rattle.tablefile.specs.Reading.{nodesAt, namesAt, dialectAt, firstNodes, takenAt, contentAt, countsFit, frontCheck, soundCheck, readCheck}
+use Rattle.tablefile.specs.Reading.{nodesAt, namesAt, dialectAt, firstNodes, takenAt, contentAt, countsFit}
+use Rattle.tablefile.specs.Reading.{frontCheck, soundCheck, readCheck}
 use Rattle.tablefile.specs.Loading.{verdict, loadedOf}
 use Rattle.tablefile.specs.declared.Verdict.{Verdict}
 use Rattle.tablefile.specs.declared.Verdict.the-variants.{Accepted, Refused}
@@ -32,20 +33,30 @@ judge-part : (number used m : ℕ) (bs : List ℕ) → 512 ≤ m → judge numbe
 unfolding judge
 judge-part number used m bs h =
     ⊎-elim
-    (λ (p : 512 ≤ length bs). rw (le-leb 512 (length (take m bs)) (simp length-take (omega arith)), le-leb 512 (length bs) p, take-take 512 m bs h) refl)
-    (λ (p : length bs < 512). rw (lt-leb 512 (length (take m bs)) (simp length-take (omega arith)), lt-leb 512 (length bs) p) refl)
+    (λ (p : 512 ≤ length bs). rw (
+      le-leb 512 (length (take m bs)) (simp length-take (omega arith)),
+      le-leb 512 (length bs) p,
+      take-take 512 m bs h,
+    ) refl)
+    (λ (p : length bs < 512). rw (
+      lt-leb 512 (length (take m bs)) (simp length-take (omega arith)),
+      lt-leb 512 (length bs) p,
+    ) refl)
     (le-or-lt 512 (length bs))
 
 -- and a run by those of its blocks
-blocks-part : (n number total m : ℕ) (bs : List ℕ) → 512 * n ≤ m → judgeBlocks n number total (take m bs) ≡ judgeBlocks n number total bs
+blocks-part : (n number total m : ℕ) (bs : List ℕ) → 512 * n ≤ m
+    → judgeBlocks n number total (take m bs) ≡ judgeBlocks n number total bs
 unfolding judgeBlocks
 blocks-part zero number total m bs h = refl
 blocks-part (suc n) number total m bs h =
-    let rest : judgeBlocks n (number + 1) (total - 504) (drop 512 (take m bs)) ≡ judgeBlocks n (number + 1) (total - 504) (drop 512 bs) =
+    let rest : judgeBlocks n (number + 1) (total - 504) (drop 512 (take m bs))
+    ≡ judgeBlocks n (number + 1) (total - 504) (drop 512 bs) =
     rw (drop-take 512 m bs) (blocks-part n (number + 1) (total - 504) (m - 512) (drop 512 bs) (omega arith)) in
     rw (judge-part number (min 504 total) m bs (omega arith), rest) refl
 
-run-part : (number total a m : ℕ) (bs : List ℕ) → a + 512 * blocksFor total ≤ m → judgeRun number total (drop a (take m bs)) ≡ judgeRun number total (drop a bs)
+run-part : (number total a m : ℕ) (bs : List ℕ) → a + 512 * blocksFor total ≤ m
+    → judgeRun number total (drop a (take m bs)) ≡ judgeRun number total (drop a bs)
 unfolding judgeRun
 run-part number total a m bs h =
     rw (drop-take a m bs) (blocks-part (blocksFor total) number total (m - a) (drop a bs) (omega arith))
@@ -75,7 +86,8 @@ module _ (m : ℕ) (bs : List ℕ) (enough : 59904 < m) (longer : m < length bs)
   -- what comes after the counts of block 0, for some bytes of which these are the counts
   later : List ℕ → Answer
   later xs =
-      andThen (andThen (judgeRun 1 (namesAt bs) (drop 512 xs)) (λ _. judgeRun (firstNodes bs) (24 * nodesAt bs) (drop (512 * firstNodes bs) xs))) (λ _.
+      andThen (andThen (judgeRun 1 (namesAt bs) (drop 512 xs))
+      (λ _. judgeRun (firstNodes bs) (24 * nodesAt bs) (drop (512 * firstNodes bs) xs))) (λ _.
       andThen (demand (leb (length xs) (takenAt bs)) bytesLeftOver) (λ _. soundCheck (contentAt xs)))
 
   later-part : countsFit (nodesAt bs) (namesAt bs) ≡ true → later (take m bs) ≡ later bs
@@ -92,17 +104,21 @@ module _ (m : ℕ) (bs : List ℕ) (enough : 59904 < m) (longer : m < length bs)
   whole : List ℕ → Bool → Answer
   whole xs fit = andThen (judge 0 (4 + dialectAt bs) xs) (λ _. andThen (demand fit blockCounts) (λ _. later xs))
 
-  whole-is : (xs : List ℕ) → dialectAt xs ≡ dialectAt bs → namesAt xs ≡ namesAt bs → nodesAt xs ≡ nodesAt bs → firstNodes xs ≡ firstNodes bs → takenAt xs ≡ takenAt bs
+  whole-is : (xs : List ℕ) → dialectAt xs ≡ dialectAt bs → namesAt xs ≡ namesAt bs → nodesAt xs ≡ nodesAt bs
+      → firstNodes xs ≡ firstNodes bs → takenAt xs ≡ takenAt bs
       → readCheck xs ≡ whole xs (countsFit (nodesAt bs) (namesAt bs))
   unfolding readCheck frontCheck whole later
   whole-is xs dialect-is names-is nodes-is first-is taken-is =
       let head : Answer = judge 0 (4 + dialectAt bs) xs in
       let counts : Answer = demand (countsFit (nodesAt bs) (namesAt bs)) blockCounts in
-      let runs : Unit {0} → Answer = λ _. andThen (judgeRun 1 (namesAt bs) (drop 512 xs)) (λ _. judgeRun (firstNodes bs) (24 * nodesAt bs) (drop (512 * firstNodes bs) xs)) in
-      let next : Unit {0} → Answer = λ _. andThen (demand (leb (length xs) (takenAt bs)) bytesLeftOver) (λ _. soundCheck (contentAt xs)) in
+      let runs : Unit {0} → Answer = λ _. andThen (judgeRun 1 (namesAt bs) (drop 512 xs))
+      (λ _. judgeRun (firstNodes bs) (24 * nodesAt bs) (drop (512 * firstNodes bs) xs)) in
+      let next : Unit {0} → Answer = λ _. andThen (demand (leb (length xs) (takenAt bs)) bytesLeftOver)
+      (λ _. soundCheck (contentAt xs)) in
       rw
       (dialect-is, names-is, nodes-is, first-is, taken-is)
-      (after-both head (λ _. andThen counts runs) next ∙ ap (λ (x : Answer). andThen head (λ _. x)) (after-both counts runs next))
+      (after-both head (λ _. andThen counts runs) next
+      ∙ ap (λ (x : Answer). andThen head (λ _. x)) (after-both counts runs next))
 
   whole-part : (fit : Bool) → countsFit (nodesAt bs) (namesAt bs) ≡ fit → whole (take m bs) fit ≡ whole bs fit
   unfolding whole
@@ -130,6 +146,8 @@ read-enough file r p =
     (told, go h (r .verdict) told (p .1)))
     (le-or-lt (length file) 59905)
   where
-    go : 59905 < length file → (v : Verdict) → verdict v ≡ readCheck file → r ≡ loadedOf v (contentAt (take 59905 file)) (takenAt (take 59905 file)) → r ≡ loadedOf v (contentAt file) (takenAt file)
+    go : 59905 < length file → (v : Verdict) → verdict v ≡ readCheck file
+        → r ≡ loadedOf v (contentAt (take 59905 file)) (takenAt (take 59905 file))
+        → r ≡ loadedOf v (contentAt file) (takenAt file)
     go h Accepted e q = absurd (longer-refused 59905 file (omega arith) h (sym e))
     go h (Refused w) e q = q

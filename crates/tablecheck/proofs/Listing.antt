@@ -39,10 +39,13 @@ module _ (file : List ℕ) (r : Loaded) (p : Read file r) (good : r .verdict ≡
   unfolding givenCheck
   few-bytes = go (checkOf t names) refl checks
     where
-      go : (x : Answer) → checkOf t names ≡ x → andThen x (λ _. dialectCheck (fromBytes bytes)) ≡ accepted [] → length t ≤ 50400
+      go : (x : Answer) → checkOf t names ≡ x → andThen x (λ _. dialectCheck (fromBytes bytes)) ≡ accepted []
+          → length t ≤ 50400
       go (accepted vs) e h = accepted-clean t names e .most
       go (refused n vs) e h = let z : _≡_ {A = ℕ} 0 1 = cc in absurd (omega arith)
 
   -- THEOREM: the list has room for all errors
-  pub list-has-room : errorsAfter t names bytes (replicate 12600 0) ≡ allWords (errorsOf t names bytes) ++ drop (width * length (errorsOf t names bytes)) (replicate 12600 0)
-  list-has-room = list-holds-all t names bytes (replicate 12600 0) (omega (arith, few-bytes, length-replicate {A = ℕ} 12600 0))
+  pub list-has-room : errorsAfter t names bytes (replicate 12600 0) ≡ allWords (errorsOf t names bytes)
+      ++ drop (width * length (errorsOf t names bytes)) (replicate 12600 0)
+  list-has-room = list-holds-all t names bytes (replicate 12600 0)
+      (omega (arith, few-bytes, length-replicate {A = ℕ} 12600 0))

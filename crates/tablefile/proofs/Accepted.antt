@@ -55,9 +55,11 @@ module _ (bs : List ℕ) (e : readCheck bs ≡ accepted []) where
   read-is-sound = steps .2
 
   pub read-is-file : Bytes bs → bs ≡ fileOf (contentAt bs)
-  read-is-file small = sym (take-all (takenAt bs) bs (omega (arith, read-whole))) ∙ front-is-file bs small read-fronted
+  read-is-file small = sym (take-all (takenAt bs) bs (omega (arith, read-whole)))
+      ∙ front-is-file bs small read-fronted
 
-  pub read-changed : (i v : ℕ) → i < length bs → (v ≡ getD bs i 0 → ⊥) → readCheck (set bs i v) ≡ refused blockCheck []
+  pub read-changed : (i v : ℕ) → i < length bs → (v ≡ getD bs i 0 → ⊥)
+      → readCheck (set bs i v) ≡ refused blockCheck []
   unfolding readCheck
   read-changed i v h other = rw (front-changed bs read-fronted i v other (omega (arith, read-whole))) refl
 
@@ -69,7 +71,8 @@ dialect-lengths ds e = go (eqb (length ds) 0) (eqb (length ds) 9) refl refl
     go true b p q = inl (eqb-true (length ds) 0 p)
     go false true p q = inr (eqb-true (length ds) 9 q)
     go false false p q =
-        let bad : fromBytes ds ≡ Invalid = other-length ds (eqb-false (length ds) 0 p) (eqb-false (length ds) 9 q) in
+        let bad : fromBytes ds ≡ Invalid = other-length ds (eqb-false (length ds) 0 p)
+        (eqb-false (length ds) 9 q) in
         let no : dialectCheck Invalid ≡ accepted [] = rw bad at e in
         never-accepted (Bare 5) no
 
@@ -109,5 +112,6 @@ module _ (c : Content) (s : SoundContent c) where
   pub back-accepted : readCheck (fileOf c) ≡ accepted []
   unfolding readCheck
   back-accepted =
-      let passes : frontCheck (fileOf c) ≡ accepted [] = ap frontCheck (sym (append-nil (fileOf c))) ∙ file-passes c sound-fits [] in
+      let passes : frontCheck (fileOf c) ≡ accepted [] = ap frontCheck (sym (append-nil (fileOf c)))
+      ∙ file-passes c sound-fits [] in
       rw (passes, back-taken, le-leb (length (fileOf c)) (length (fileOf c)) (omega arith), back-holds) sound-so

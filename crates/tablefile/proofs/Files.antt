@@ -15,11 +15,15 @@ use Rattle.table.specs.Numbers.{blockCheck}
 use Rattle.table.specs.Answer.{accepted, refused, andThen}
 use Rattle.blocks.specs.Block.{bytesOf, blockOf, judge}
 use Rattle.blocks.specs.Run.{blocksFor, runOf, judgeRun}
-use Rattle.blocks.proofs.Spelling.{le-or-lt, Bytes, bytes-drop, bytes-append, bytes-spelled, length-bytes, field-behind, field-bytes, bytes-field}
-use Rattle.blocks.proofs.Blocks.{Passing, passing, passes, drop-take, length-block, content-there, block-passes, passed-is-block, changed-block, judge-outside}
-use Rattle.blocks.proofs.Runs.{drop-set, getD-behind, length-run, passed-is-run, run-passes, run-holds, run-outside, changed-run}
+use Rattle.blocks.proofs.Spelling.{le-or-lt, Bytes, bytes-drop, bytes-append, bytes-spelled, length-bytes}
+use Rattle.blocks.proofs.Spelling.{field-behind, field-bytes, bytes-field}
+use Rattle.blocks.proofs.Blocks.{Passing, passing, passes, drop-take, length-block, content-there, block-passes}
+use Rattle.blocks.proofs.Blocks.{passed-is-block, changed-block, judge-outside}
+use Rattle.blocks.proofs.Runs.{drop-set, getD-behind, length-run, passed-is-run, run-passes, run-holds, run-outside}
+use Rattle.blocks.proofs.Runs.{changed-run}
 use Rattle.tablefile.specs.File.{Content, headerOf, fileOf}
-use Rattle.tablefile.specs.Reading.{nodesAt, namesAt, dialectAt, firstNodes, takenAt, contentAt, countsFit, frontCheck}
+use Rattle.tablefile.specs.Reading.{nodesAt, namesAt, dialectAt, firstNodes, takenAt, contentAt, countsFit}
+use Rattle.tablefile.specs.Reading.{frontCheck}
 use Rattle.tablefile.proofs.Fronts.{Fronted, dialect-few, table-length, names-length}
 
 -- ---- a file at the front whose blocks pass is the file of what it holds
@@ -30,20 +34,33 @@ module _ (bs : List ℕ) (small : Bytes bs) (f : Fronted bs) where
       let d : ℕ = dialectAt bs in
       let nodes : length (contentAt bs .table) / 24 ≡ field 2 bs 4 = omega (arith, table-length bs f) in
       let names : length (contentAt bs .names) ≡ field 2 bs 6 = names-length bs f in
-      let spelled : bytesOf 2 (field 2 bs 4) ≡ take 2 (drop 4 bs) = bytes-field 2 bs 4 small (omega (arith, f .header .long)) in
-      let spelled′ : bytesOf 2 (field 2 bs 6) ≡ take 2 (drop 6 bs) = bytes-field 2 bs 6 small (omega (arith, f .header .long)) in
+      let spelled : bytesOf 2 (field 2 bs 4)
+      ≡ take 2 (drop 4 bs) = bytes-field 2 bs 4 small (omega (arith, f .header .long)) in
+      let spelled′ : bytesOf 2 (field 2 bs 6)
+      ≡ take 2 (drop 6 bs) = bytes-field 2 bs 6 small (omega (arith, f .header .long)) in
       let cut : 4 + d ≡ 2 + (2 + d) = omega arith in
-      rw
-      (nodes, names, spelled, spelled′, cut, take-add 2 (2 + d) (drop 4 bs), drop-drop 2 4 bs, take-add 2 d (drop 6 bs), drop-drop 2 6 bs)
+      rw (
+        nodes,
+        names,
+        spelled,
+        spelled′,
+        cut,
+        take-add 2 (2 + d) (drop 4 bs),
+        drop-drop 2 4 bs,
+        take-add 2 d (drop 6 bs),
+        drop-drop 2 6 bs,
+      )
       refl
 
   names-are : take (512 * blocksFor (namesAt bs)) (drop 512 bs) ≡ runOf 1 (contentAt bs .names)
   unfolding contentAt
   names-are = passed-is-run 1 (namesAt bs) (drop 512 bs) (bytes-drop bs 512 small) (f .names)
 
-  nodes-are : take (512 * blocksFor (24 * nodesAt bs)) (drop (512 * firstNodes bs) bs) ≡ runOf (firstNodes bs) (contentAt bs .table)
+  nodes-are : take (512 * blocksFor (24 * nodesAt bs)) (drop (512 * firstNodes bs) bs)
+      ≡ runOf (firstNodes bs) (contentAt bs .table)
   unfolding contentAt
-  nodes-are = passed-is-run (firstNodes bs) (24 * nodesAt bs) (drop (512 * firstNodes bs) bs) (bytes-drop bs (512 * firstNodes bs) small) (f .nodes)
+  nodes-are = passed-is-run (firstNodes bs) (24 * nodesAt bs) (drop (512 * firstNodes bs) bs)
+      (bytes-drop bs (512 * firstNodes bs) small) (f .nodes)
 
   -- THEOREM
   pub front-is-file : take (takenAt bs) bs ≡ fileOf (contentAt bs)
@@ -53,23 +70,35 @@ module _ (bs : List ℕ) (small : Bytes bs) (f : Fronted bs) where
       let m : ℕ = blocksFor (24 * nodesAt bs) in
       let cut : 512 * (1 + a + m) ≡ 512 + (512 * a + 512 * m) = omega arith in
       let at : 512 * (1 + a) ≡ 512 + 512 * a = omega arith in
-      let block : take 512 bs ≡ blockOf 0 (headerOf (contentAt bs)) = passed-is-block 0 (4 + dialectAt bs) bs (omega (arith, dialect-few bs f)) small (f .header) ∙ ap (blockOf 0) header-is in
+      let block : take 512 bs ≡ blockOf 0 (headerOf (contentAt bs)) = passed-is-block 0 (4 + dialectAt bs) bs
+      (omega (arith, dialect-few bs f)) small (f .header) ∙ ap (blockOf 0) header-is in
       let names : take (512 * a) (drop 512 bs) ≡ runOf 1 (contentAt bs .names) = names-are in
-      let nodes : take (512 * m) (drop (512 + 512 * a) bs) ≡ runOf (1 + a) (contentAt bs .table) = ap (λ (x : ℕ). take (512 * m) (drop x bs)) (sym at) ∙ nodes-are in
-      rw
-      (cut, take-add 512 (512 * a + 512 * m) bs, take-add (512 * a) (512 * m) (drop 512 bs), drop-drop (512 * a) 512 bs, block, names, nodes, names-length bs f)
+      let nodes : take (512 * m) (drop (512 + 512 * a) bs)
+      ≡ runOf (1 + a) (contentAt bs .table) = ap (λ (x : ℕ). take (512 * m) (drop x bs)) (sym at) ∙ nodes-are in
+      rw (
+        cut,
+        take-add 512 (512 * a + 512 * m) bs,
+        take-add (512 * a) (512 * m) (drop 512 bs),
+        drop-drop (512 * a) 512 bs,
+        block,
+        names,
+        nodes,
+        names-length bs f,
+      )
       refl
 
 -- ---- one changed byte of it gives 72
 module _ (bs : List ℕ) (f : Fronted bs) (i v : ℕ) (other : v ≡ getD bs i 0 → ⊥) where
   header-changed : i < 512 → frontCheck (set bs i v) ≡ refused blockCheck []
   unfolding frontCheck
-  header-changed h = rw (changed-block 0 (4 + dialectAt bs) bs i v (f .header) h other 0 (4 + dialectAt (set bs i v))) refl
+  header-changed h = rw (changed-block 0 (4 + dialectAt bs) bs i v (f .header) h other 0
+      (4 + dialectAt (set bs i v))) refl
 
   -- behind block 0 it is read as before
   module _ (h : 512 ≤ i) where
     same-field : (at : ℕ) → at + 2 ≤ 512 → field 2 (set bs i v) at ≡ field 2 bs at
-    same-field at k = sym (field-take 2 (set bs i v) 512 at k) ∙ ap (λ (x : List ℕ). field 2 x at) (take-set-le 512 bs i v h) ∙ field-take 2 bs 512 at k
+    same-field at k = sym (field-take 2 (set bs i v) 512 at k)
+        ∙ ap (λ (x : List ℕ). field 2 x at) (take-set-le 512 bs i v h) ∙ field-take 2 bs 512 at k
 
     same-nodes : nodesAt (set bs i v) ≡ nodesAt bs
     unfolding nodesAt
@@ -89,26 +118,42 @@ module _ (bs : List ℕ) (f : Fronted bs) (i v : ℕ) (other : v ≡ getD bs i 0
 
     fits : countsFit (nodesAt bs) (namesAt bs) ≡ true
     unfolding countsFit
-    fits = rw (le-leb 1 (nodesAt bs) (f .counts .0), le-leb (nodesAt bs) 2100 (f .counts .1), le-leb (namesAt bs) 8064 (f .counts .2)) refl
+    fits = rw (
+      le-leb 1 (nodesAt bs) (f .counts .0),
+      le-leb (nodesAt bs) 2100 (f .counts .1),
+      le-leb (namesAt bs) 8064 (f .counts .2),
+    ) refl
 
-    later : frontCheck (set bs i v) ≡ andThen (judgeRun 1 (namesAt bs) (set (drop 512 bs) (i - 512) v)) (λ _. judgeRun (firstNodes bs) (24 * nodesAt bs) (drop (512 * firstNodes bs) (set bs i v)))
+    later : frontCheck (set bs i v) ≡ andThen (judgeRun 1 (namesAt bs) (set (drop 512 bs) (i - 512) v))
+        (λ _. judgeRun (firstNodes bs) (24 * nodesAt bs) (drop (512 * firstNodes bs) (set bs i v)))
     unfolding frontCheck
     later =
-        rw
-        (same-nodes, same-names, same-dialect, same-first, judge-outside 0 (4 + dialectAt bs) bs i v h, passes 0 (4 + dialectAt bs) bs (f .header), fits, drop-set 512 bs i v h)
+        rw (
+          same-nodes,
+          same-names,
+          same-dialect,
+          same-first,
+          judge-outside 0 (4 + dialectAt bs) bs i v h,
+          passes 0 (4 + dialectAt bs) bs (f .header),
+          fits,
+          drop-set 512 bs i v h,
+        )
         refl
 
     names-changed : i - 512 < 512 * blocksFor (namesAt bs) → frontCheck (set bs i v) ≡ refused blockCheck []
     names-changed k =
-        later ∙ rw (changed-run 1 (namesAt bs) (drop 512 bs) (i - 512) v (f .names) k (λ e. other (e ∙ getD-behind 512 bs i h))) refl
+        later ∙ rw (changed-run 1 (namesAt bs) (drop 512 bs) (i - 512) v (f .names) k
+        (λ e. other (e ∙ getD-behind 512 bs i h))) refl
 
-    nodes-changed : 512 * blocksFor (namesAt bs) ≤ i - 512 → 512 * firstNodes bs ≤ i → i < takenAt bs → frontCheck (set bs i v) ≡ refused blockCheck []
+    nodes-changed : 512 * blocksFor (namesAt bs) ≤ i - 512 → 512 * firstNodes bs ≤ i → i < takenAt bs
+        → frontCheck (set bs i v) ≡ refused blockCheck []
     unfolding takenAt
     nodes-changed k l m =
         later
         ∙ rw
         (run-outside 1 (namesAt bs) (drop 512 bs) (i - 512) v k, f .names, drop-set (512 * firstNodes bs) bs i v l)
-        (changed-run (firstNodes bs) (24 * nodesAt bs) (drop (512 * firstNodes bs) bs) (i - 512 * firstNodes bs) v (f .nodes) (omega arith) (λ e. other (e ∙ getD-behind (512 * firstNodes bs) bs i l)))
+        (changed-run (firstNodes bs) (24 * nodesAt bs) (drop (512 * firstNodes bs) bs) (i - 512 * firstNodes bs) v
+        (f .nodes) (omega arith) (λ e. other (e ∙ getD-behind (512 * firstNodes bs) bs i l)))
 
   -- THEOREM
   pub front-changed : i < takenAt bs → frontCheck (set bs i v) ≡ refused blockCheck []
@@ -152,10 +197,12 @@ module _ (c : Content) (fit : Fits c) (rest : List ℕ) where
   unfolding fileOf
   parts =
       append-assoc (blockOf 0 (headerOf c)) (runOf 1 (c .names) ++ runOf first (c .table)) rest
-      ∙ ap (λ (x : List ℕ). blockOf 0 (headerOf c) ++ x) (append-assoc (runOf 1 (c .names)) (runOf first (c .table)) rest)
+      ∙ ap (λ (x : List ℕ). blockOf 0 (headerOf c) ++ x)
+      (append-assoc (runOf 1 (c .names)) (runOf first (c .table)) rest)
 
   dialect-small : length (c .dialect) ≤ 9
-  dialect-small = ⊎-elim (λ (e : length (c .dialect) ≡ 0). omega arith) (λ (e : length (c .dialect) ≡ 9). omega arith) (fit .dialect)
+  dialect-small = ⊎-elim (λ (e : length (c .dialect) ≡ 0). omega arith)
+      (λ (e : length (c .dialect) ≡ 9). omega arith) (fit .dialect)
 
   header-length : length (headerOf c) ≡ 4 + length (c .dialect)
   unfolding headerOf
@@ -166,7 +213,8 @@ module _ (c : Content) (fit : Fits c) (rest : List ℕ) where
 
   header-bytes : Bytes (headerOf c)
   unfolding headerOf
-  header-bytes = bytes-append (bytesOf 2 nodes) _ (bytes-spelled 2 nodes) (bytes-append (bytesOf 2 (length (c .names))) _ (bytes-spelled 2 (length (c .names))) (fit .dialect-bytes))
+  header-bytes = bytes-append (bytesOf 2 nodes) _ (bytes-spelled 2 nodes)
+      (bytes-append (bytesOf 2 (length (c .names))) _ (bytes-spelled 2 (length (c .names))) (fit .dialect-bytes))
 
   header-passes : judge 0 (length (headerOf c)) bs ≡ accepted []
   header-passes = rw parts (block-passes 0 (headerOf c) header-fits header-bytes (omega arith) name-part)
@@ -175,7 +223,8 @@ module _ (c : Content) (fit : Fits c) (rest : List ℕ) where
   unfolding dialectAt
   dialect-so =
       let p : Passing 0 (length (headerOf c)) bs = passing 0 (length (headerOf c)) bs header-passes in
-      let said : field 2 bs 2 ≡ 4 + length (c .dialect) = sym (field-take 2 bs 512 2 (omega arith)) ∙ p .said ∙ header-length in
+      let said : field 2 bs 2 ≡ 4 + length (c .dialect) = sym (field-take 2 bs 512 2 (omega arith)) ∙ p .said
+      ∙ header-length in
       ⊎-elim
       (λ (e : length (c .dialect) ≡ 0). rw (said, e) refl)
       (λ (e : length (c .dialect) ≡ 9). rw (said, e) refl)
@@ -192,8 +241,10 @@ module _ (c : Content) (fit : Fits c) (rest : List ℕ) where
       ∙ append-assoc (bytesOf 2 nodes) (bytesOf 2 (length (c .names)) ++ c .dialect) zeros
       ∙ ap (λ (x : List ℕ). bytesOf 2 nodes ++ x) (append-assoc (bytesOf 2 (length (c .names))) (c .dialect) zeros)
 
-  field-there : (at : ℕ) → at + 2 ≤ 504 → field 2 bs (4 + at) ≡ field 2 (bytesOf 2 nodes ++ (bytesOf 2 (length (c .names)) ++ (c .dialect ++ zeros))) at
-  field-there at h = sym (field-drop 2 bs 4 at) ∙ sym (field-take 2 (drop 4 bs) 504 at h) ∙ ap (λ (x : List ℕ). field 2 x at) header-there
+  field-there : (at : ℕ) → at + 2 ≤ 504 → field 2 bs (4 + at)
+      ≡ field 2 (bytesOf 2 nodes ++ (bytesOf 2 (length (c .names)) ++ (c .dialect ++ zeros))) at
+  field-there at h = sym (field-drop 2 bs 4 at) ∙ sym (field-take 2 (drop 4 bs) 504 at h)
+      ∙ ap (λ (x : List ℕ). field 2 x at) header-there
 
   nodes-so : nodesAt bs ≡ nodes
   unfolding nodesAt
@@ -204,20 +255,26 @@ module _ (c : Content) (fit : Fits c) (rest : List ℕ) where
   names-so =
       let tail : List ℕ = bytesOf 2 (length (c .names)) ++ (c .dialect ++ zeros) in
       let behind : field 2 (bytesOf 2 nodes ++ tail) (length (bytesOf 2 nodes) + 0) ≡ length (c .names) =
-      field-behind 2 (bytesOf 2 nodes) tail 0 ∙ field-bytes 2 (length (c .names)) (c .dialect ++ zeros) (omega (arith, fit .names)) in
+      field-behind 2 (bytesOf 2 nodes) tail 0
+      ∙ field-bytes 2 (length (c .names)) (c .dialect ++ zeros) (omega (arith, fit .names)) in
       field-there 2 (omega arith) ∙ (rw (length-bytes 2 nodes, add-zero 2) at behind)
 
   dialect-there : take (length (c .dialect)) (drop 8 bs) ≡ c .dialect
   dialect-there =
       let tail : List ℕ = bytesOf 2 (length (c .names)) ++ (c .dialect ++ zeros) in
       let behind : drop 4 (bytesOf 2 nodes ++ tail) ≡ c .dialect ++ zeros =
-      sym (drop-drop 2 2 (bytesOf 2 nodes ++ tail)) ∙ ap (drop 2) (drop-at (bytesOf 2 nodes) tail 2 (length-bytes 2 nodes)) ∙ drop-at (bytesOf 2 (length (c .names))) (c .dialect ++ zeros) 2 (length-bytes 2 (length (c .names))) in
+      sym (drop-drop 2 2 (bytesOf 2 nodes ++ tail))
+      ∙ ap (drop 2) (drop-at (bytesOf 2 nodes) tail 2 (length-bytes 2 nodes))
+      ∙ drop-at (bytesOf 2 (length (c .names))) (c .dialect ++ zeros) 2 (length-bytes 2 (length (c .names))) in
       let inside : take 500 (drop 8 bs) ≡ c .dialect ++ zeros =
-      ap (take 500) (sym (drop-drop 4 4 bs)) ∙ sym (drop-take 4 504 (drop 4 bs)) ∙ ap (drop 4) header-there ∙ behind in
-      sym (take-take (length (c .dialect)) 500 (drop 8 bs) (omega (arith, dialect-small))) ∙ ap (take (length (c .dialect))) inside ∙ take-at (c .dialect) zeros (length (c .dialect)) refl
+      ap (take 500) (sym (drop-drop 4 4 bs)) ∙ sym (drop-take 4 504 (drop 4 bs)) ∙ ap (drop 4) header-there
+      ∙ behind in
+      sym (take-take (length (c .dialect)) 500 (drop 8 bs) (omega (arith, dialect-small)))
+      ∙ ap (take (length (c .dialect))) inside ∙ take-at (c .dialect) zeros (length (c .dialect)) refl
 
   names-behind : drop 512 bs ≡ name-part
-  names-behind = ap (drop 512) parts ∙ drop-at (blockOf 0 (headerOf c)) name-part 512 (length-block 0 (headerOf c) header-fits)
+  names-behind = ap (drop 512) parts ∙ drop-at (blockOf 0 (headerOf c)) name-part 512
+      (length-block 0 (headerOf c) header-fits)
 
   first-so : firstNodes bs ≡ first
   unfolding firstNodes
@@ -227,7 +284,8 @@ module _ (c : Content) (fit : Fits c) (rest : List ℕ) where
   nodes-behind =
       let a : ℕ = 512 * blocksFor (length (c .names)) in
       let at : 512 * firstNodes bs ≡ 512 + a = omega (arith, first-so) in
-      ap (λ (x : ℕ). drop x bs) at ∙ sym (drop-drop a 512 bs) ∙ ap (drop a) names-behind ∙ drop-at (runOf 1 (c .names)) node-part a (length-run 1 (c .names))
+      ap (λ (x : ℕ). drop x bs) at ∙ sym (drop-drop a 512 bs) ∙ ap (drop a) names-behind
+      ∙ drop-at (runOf 1 (c .names)) node-part a (length-run 1 (c .names))
 
   table-so : 24 * nodesAt bs ≡ length (c .table)
   table-so = omega (arith, nodes-so, fit .whole)
@@ -245,13 +303,21 @@ module _ (c : Content) (fit : Fits c) (rest : List ℕ) where
   counts-so =
       let some : 1 ≤ nodes = omega (arith, fit .some) in
       let few : nodes ≤ 2100 = omega (arith, fit .few) in
-      rw (nodes-so, names-so, le-leb 1 nodes some, le-leb nodes 2100 few, le-leb (length (c .names)) 8064 (fit .names)) refl
+      rw (
+        nodes-so,
+        names-so,
+        le-leb 1 nodes some,
+        le-leb nodes 2100 few,
+        le-leb (length (c .names)) 8064 (fit .names),
+      ) refl
 
   names-pass : judgeRun 1 (namesAt bs) (drop 512 bs) ≡ accepted []
-  names-pass = rw (names-so, names-behind) (run-passes 1 (c .names) node-part (fit .names-bytes) (omega (arith, first-small)))
+  names-pass = rw (names-so, names-behind)
+      (run-passes 1 (c .names) node-part (fit .names-bytes) (omega (arith, first-small)))
 
   nodes-pass : judgeRun (firstNodes bs) (24 * nodesAt bs) (drop (512 * firstNodes bs) bs) ≡ accepted []
-  nodes-pass = rw (nodes-behind, first-so, table-so) (run-passes first (c .table) rest (fit .table-bytes) (omega (arith, first-small, last-small)))
+  nodes-pass = rw (nodes-behind, first-so, table-so)
+      (run-passes first (c .table) rest (fit .table-bytes) (omega (arith, first-small, last-small)))
 
   -- THEOREM, in three parts: it passes, it holds the content, and it takes the file's bytes
   pub file-passes : frontCheck (fileOf c ++ rest) ≡ accepted []
@@ -263,12 +329,25 @@ module _ (c : Content) (fit : Fits c) (rest : List ℕ) where
   pub file-holds : contentAt (fileOf c ++ rest) ≡ c
   unfolding contentAt
   file-holds =
-      rw
-      (dialect-so, dialect-there, names-so, names-behind, run-holds 1 (c .names) node-part, nodes-behind, table-so, run-holds first (c .table) rest)
+      rw (
+        dialect-so,
+        dialect-there,
+        names-so,
+        names-behind,
+        run-holds 1 (c .names) node-part,
+        nodes-behind,
+        table-so,
+        run-holds first (c .table) rest,
+      )
       refl
 
   pub file-taken : takenAt (fileOf c ++ rest) ≡ length (fileOf c)
   unfolding takenAt fileOf
   file-taken =
       rw (first-so, table-so)
-      (simp (length-append, length-block 0 (headerOf c) header-fits, length-run 1 (c .names), length-run first (c .table)) (omega arith))
+      (simp (
+        length-append,
+        length-block 0 (headerOf c) header-fits,
+        length-run 1 (c .names),
+        length-run first (c .table),
+      ) (omega arith))

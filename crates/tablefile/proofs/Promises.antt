@@ -11,7 +11,8 @@ use Rattle.tablefile.proofs.Accepted.{verdict-injective}
 use Rattle.tablefile.proofs.Theorems.{Read, Front}
 
 -- an answer and what is laid out for its verdict
-one : (x : Answer) (c : Content) (n : ℕ) (r s : Loaded) → verdict (r .verdict) ≡ x → r ≡ loadedOf (r .verdict) c n → verdict (s .verdict) ≡ x → s ≡ loadedOf (s .verdict) c n → r ≡ s
+one : (x : Answer) (c : Content) (n : ℕ) (r s : Loaded) → verdict (r .verdict) ≡ x → r ≡ loadedOf (r .verdict) c n
+    → verdict (s .verdict) ≡ x → s ≡ loadedOf (s .verdict) c n → r ≡ s
 one x c n r s p f q g =
     f ∙ ap (λ (v : Verdict). loadedOf v c n) (verdict-injective (r .verdict) (s .verdict) (p ∙ sym q)) ∙ sym g
 

@@ -18,7 +18,8 @@ use Rattle.tablefile.specs.declared.Loaded.{Loaded}
 use Rattle.tablefile.proofs.Fronts.{fronted}
 use Rattle.tablefile.proofs.Files.{Fits, front-is-file, front-changed, file-passes, file-holds, file-taken}
 use Rattle.tablefile.proofs.Loads.{held-is}
-use Rattle.tablefile.proofs.Accepted.{verdict-injective, read-is-sound, read-is-file, read-changed, SoundContent, back-holds, back-taken, back-accepted}
+use Rattle.tablefile.proofs.Accepted.{verdict-injective, read-is-sound, read-is-file, read-changed}
+use Rattle.tablefile.proofs.Accepted.{SoundContent, back-holds, back-taken, back-accepted}
 
 -- the promise of `read`, and of `front`
 abbrev pub Read : List ℕ → Loaded → Type 0
@@ -28,54 +29,66 @@ abbrev pub Front : List ℕ → Loaded → Type 0
 Front bs r = (verdict (r .verdict) ≡ frontCheck bs) × (r ≡ loadedOf (r .verdict) (contentAt bs) (takenAt bs))
 
 -- an answer that is accepted holds what stands there
-holds : (bs : List ℕ) (r : Loaded) → r ≡ loadedOf (r .verdict) (contentAt bs) (takenAt bs) → r .verdict ≡ Accepted → held r ≡ contentAt bs
-holds bs r r-is good = ap held (r-is ∙ ap (λ (w : Verdict). loadedOf w (contentAt bs) (takenAt bs)) good) ∙ held-is (contentAt bs) (takenAt bs)
+holds : (bs : List ℕ) (r : Loaded) → r ≡ loadedOf (r .verdict) (contentAt bs) (takenAt bs) → r .verdict ≡ Accepted
+    → held r ≡ contentAt bs
+holds bs r r-is good = ap held (r-is ∙ ap (λ (w : Verdict). loadedOf w (contentAt bs) (takenAt bs)) good)
+    ∙ held-is (contentAt bs) (takenAt bs)
 
 -- an accepted file is the file of its answer
-pub accepted-is-file : (file : List ℕ) (r : Loaded) → Bytes file → Read file r → r .verdict ≡ Accepted → file ≡ fileOf (held r)
+pub accepted-is-file : (file : List ℕ) (r : Loaded) → Bytes file → Read file r → r .verdict ≡ Accepted
+    → file ≡ fileOf (held r)
 accepted-is-file file r small p good =
     read-is-file file (sym (p .0) ∙ ap verdict good) small ∙ ap fileOf (sym (holds file r (p .1) good))
 
 -- and its answer is sound
-pub accepted-is-sound : (file : List ℕ) (r : Loaded) → Read file r → r .verdict ≡ Accepted → soundCheck (held r) ≡ accepted []
+pub accepted-is-sound : (file : List ℕ) (r : Loaded) → Read file r → r .verdict ≡ Accepted
+    → soundCheck (held r) ≡ accepted []
 accepted-is-sound file r p good =
     ap soundCheck (holds file r (p .1) good) ∙ read-is-sound file (sym (p .0) ∙ ap verdict good)
 
 -- the file of a sound content is accepted, and its answer is that content
-pub file-read-back : (c : Content) (r : Loaded) → SoundContent c → Read (fileOf c) r → r ≡ loadedOf Accepted c (length (fileOf c))
+pub file-read-back : (c : Content) (r : Loaded) → SoundContent c → Read (fileOf c) r
+    → r ≡ loadedOf Accepted c (length (fileOf c))
 file-read-back c r s p =
     let good : r .verdict ≡ Accepted = verdict-injective (r .verdict) Accepted (p .0 ∙ back-accepted c s) in
     p .1 ∙ rw (good, back-holds c s, back-taken c s) refl
 
 -- any one byte of an accepted file changed to any other value is refused with 72, and the answer is all zero
-pub changed-byte : (file : List ℕ) (r : Loaded) (i v : ℕ) (s : Loaded) → Read file r → r .verdict ≡ Accepted → i < length file → (v ≡ getD file i 0 → ⊥) → Read (set file i v) s
+pub changed-byte : (file : List ℕ) (r : Loaded) (i v : ℕ) (s : Loaded) → Read file r → r .verdict ≡ Accepted
+    → i < length file → (v ≡ getD file i 0 → ⊥) → Read (set file i v) s
     → s ≡ loadedOf (Refused (Bare blockCheck)) none 0
 unfolding loadedOf
 changed-byte file r i v s p good h other q =
     let told : s .verdict ≡ Refused (Bare blockCheck) =
-    verdict-injective (s .verdict) (Refused (Bare blockCheck)) (q .0 ∙ read-changed file (sym (p .0) ∙ ap verdict good) i v h other) in
+    verdict-injective (s .verdict) (Refused (Bare blockCheck))
+    (q .0 ∙ read-changed file (sym (p .0) ∙ ap verdict good) i v h other) in
     q .1 ∙ ap (λ (w : Verdict). loadedOf w (contentAt (set file i v)) (takenAt (set file i v))) told
 
 -- the same of the file at the front: what it takes is the file of its answer
-pub front-accepted-is-file : (bytes : List ℕ) (r : Loaded) → Bytes bytes → Front bytes r → r .verdict ≡ Accepted → take (r .taken) bytes ≡ fileOf (held r)
+pub front-accepted-is-file : (bytes : List ℕ) (r : Loaded) → Bytes bytes → Front bytes r → r .verdict ≡ Accepted
+    → take (r .taken) bytes ≡ fileOf (held r)
 unfolding loadedOf
 front-accepted-is-file bytes r small p good =
-    let taken : r .taken ≡ takenAt bytes = ap (λ (l : Loaded). l .taken) (p .1 ∙ ap (λ (w : Verdict). loadedOf w (contentAt bytes) (takenAt bytes)) good) in
+    let taken : r .taken ≡ takenAt bytes = ap (λ (l : Loaded). l .taken)
+    (p .1 ∙ ap (λ (w : Verdict). loadedOf w (contentAt bytes) (takenAt bytes)) good) in
     ap (λ (n : ℕ). take n bytes) taken
     ∙ front-is-file bytes small (fronted bytes (sym (p .0) ∙ ap verdict good))
     ∙ ap fileOf (sym (holds bytes r (p .1) good))
 
 -- the file of a content within the limits is read as that content, whatever stands behind it
-pub front-read-back : (c : Content) (rest : List ℕ) (r : Loaded) → Fits c → Front (fileOf c ++ rest) r → r ≡ loadedOf Accepted c (length (fileOf c))
+pub front-read-back : (c : Content) (rest : List ℕ) (r : Loaded) → Fits c → Front (fileOf c ++ rest) r
+    → r ≡ loadedOf Accepted c (length (fileOf c))
 front-read-back c rest r fit p =
     let good : r .verdict ≡ Accepted = verdict-injective (r .verdict) Accepted (p .0 ∙ file-passes c fit rest) in
     p .1 ∙ rw (good, file-holds c fit rest, file-taken c fit rest) refl
 
 -- and any one byte of it changed to any other value is refused with 72
-pub front-changed-byte : (bytes : List ℕ) (r : Loaded) (i v : ℕ) (s : Loaded) → Front bytes r → r .verdict ≡ Accepted → i < takenAt bytes → (v ≡ getD bytes i 0 → ⊥) → Front (set bytes i v) s
+pub front-changed-byte : (bytes : List ℕ) (r : Loaded) (i v : ℕ) (s : Loaded) → Front bytes r
+    → r .verdict ≡ Accepted → i < takenAt bytes → (v ≡ getD bytes i 0 → ⊥) → Front (set bytes i v) s
     → s ≡ loadedOf (Refused (Bare blockCheck)) none 0
 unfolding loadedOf
 front-changed-byte bytes r i v s p good h other q =
     let told : s .verdict ≡ Refused (Bare blockCheck) =
-    verdict-injective (s .verdict) (Refused (Bare blockCheck)) (q .0 ∙ front-changed bytes (fronted bytes (sym (p .0) ∙ ap verdict good)) i v other h) in
+    verdict-injective (s .verdict) (Refused (Bare blockCheck))
+    (q .0 ∙ front-changed bytes (fronted bytes (sym (p .0) ∙ ap verdict good)) i v other h) in
     q .1 ∙ ap (λ (w : Verdict). loadedOf w (contentAt (set bytes i v)) (takenAt (set bytes i v))) told

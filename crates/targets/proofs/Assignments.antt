@@ -12,7 +12,8 @@ use Rattle.forest.proofs.Stretch.{forest-none, forest-tree, kids-part, rest-par
 use Rattle.table.specs.Numbers.{invalidModifyLhs, typeOnAugmented, typeOnTuple}
 use Rattle.table.specs.Answer.{Answer, accepted, refused, andThen, refusedAt, refusal}
 use Rattle.table.specs.declared.Refusal.{Refusal}
-use Rattle.targets.specs.Targets.{isGroup, «check_assign», leaves, counted, modifyCheck, typeCheck, «check_assignment»}
+use Rattle.targets.specs.Targets.{isGroup, «check_assign», leaves, counted, modifyCheck, typeCheck}
+use Rattle.targets.specs.Targets.{«check_assignment»}
 use Rattle.targets.specs.Jobs.{targeted}
 use Rattle.targets.specs.declared.Targeted.{Targeted}
 use Rattle.targets.specs.declared.Targeted.the-variants.{Leaves, Refused}
@@ -33,17 +34,28 @@ module _ (t lhs ty : List ℕ) (i n : ℕ) {d : ℕ} (d-is : d ≡ nodeOf 0 t .d
     type-missing h = rw (← d-is, eq-eqb d 1 marked, forest-none i ty h) refl
 
     module _ (big : 24 ≤ length ty) {k : ℕ} (k-is : k ≡ nodeOf 0 t .kind) where
-      pub type-augmented : k ≡ 12 → {r : Answer} → r ≡ refusedAt typeOnAugmented (nodeOf i ty) → r ≡ typed t lhs (forest i ty) n
+      pub type-augmented : k ≡ 12 → {r : Answer} → r ≡ refusedAt typeOnAugmented (nodeOf i ty)
+          → r ≡ typed t lhs (forest i ty) n
       unfolding typeCheck
-      type-augmented h r-is = r-is ∙ rw (← d-is, eq-eqb d 1 marked, forest-tree i ty big, ← k-is, eq-eqb k 12 h) refl
+      type-augmented h r-is = r-is ∙ rw (← d-is, eq-eqb d 1 marked, forest-tree i ty big, ← k-is, eq-eqb k 12 h)
+          refl
 
       module _ (plain : k ≡ 12 → ⊥) {l : ℕ} {g : Bool} (l-is : l ≡ nodeOf 0 lhs .kind) (g-is : g ≡ isGroup l) where
         group : isGroup (nodeOf 0 lhs .kind) ≡ g
         group = sym (g-is ∙ ap isGroup l-is)
 
-        pub type-tuple : g ≡ true → {r : Answer} → r ≡ refusedAt typeOnTuple (nodeOf i ty) → r ≡ typed t lhs (forest i ty) n
+        pub type-tuple : g ≡ true → {r : Answer} → r ≡ refusedAt typeOnTuple (nodeOf i ty)
+            → r ≡ typed t lhs (forest i ty) n
         unfolding typeCheck
-        type-tuple h r-is = r-is ∙ rw (← d-is, eq-eqb d 1 marked, forest-tree i ty big, ← k-is, ne-eqb k 12 plain, group, h) refl
+        type-tuple h r-is = r-is ∙ rw (
+          ← d-is,
+          eq-eqb d 1 marked,
+          forest-tree i ty big,
+          ← k-is,
+          ne-eqb k 12 plain,
+          group,
+          h,
+        ) refl
 
         pub type-good : g ≡ false → accepted (n ∷ []) ≡ typed t lhs (forest i ty) n
         unfolding typeCheck
@@ -51,34 +63,49 @@ module _ (t lhs ty : List ℕ) (i n : ℕ) {d : ℕ} (d-is : d ≡ nodeOf 0 t .d
 
 -- an assignment whose children are the stretch lhs, which begins with the target
 module _ (i : ℕ) (t : List ℕ) {e : ℕ} (e-is : e ≡ spanOf t) where
-  pub assignment-none : length (take (e - 24) (drop 24 t)) < 24 → accepted (0 ∷ []) ≡ «check_assignment» (treeOf i t)
+  pub assignment-none : length (take (e - 24) (drop 24 t)) < 24
+      → accepted (0 ∷ []) ≡ «check_assignment» (treeOf i t)
   unfolding «check_assignment»
   assignment-none h = rw (← kids-part e t e-is, forest-none (i + 1) (take (e - 24) (drop 24 t)) h) refl
 
-  module _ {lhs : List ℕ} (lhs-is : lhs ≡ take (e - 24) (drop 24 t)) (big : 24 ≤ length lhs) {k l : ℕ} {g : Bool} (k-is : k ≡ nodeOf 0 t .kind) (l-is : l ≡ nodeOf 0 lhs .kind) (g-is : g ≡ isGroup l) where
-    steps : «check_assignment» (treeOf i t) ≡ andThen (modifyCheck (nodeOf i t) (nodeOf (i + 1) lhs)) (λ _. andThen («check_assign» (treeOf (i + 1) lhs)) (λ _. typed t lhs (forest (i + 1 + spanOf lhs / 24) (restOf lhs)) (leaves (treeOf (i + 1) lhs))))
+  module _ {lhs : List ℕ} (lhs-is : lhs ≡ take (e - 24) (drop 24 t)) (big : 24 ≤ length lhs) {k l : ℕ} {g : Bool}
+      (k-is : k ≡ nodeOf 0 t .kind) (l-is : l ≡ nodeOf 0 lhs .kind) (g-is : g ≡ isGroup l) where
+    steps : «check_assignment» (treeOf i t)
+        ≡ andThen (modifyCheck (nodeOf i t) (nodeOf (i + 1) lhs))
+        (λ _. andThen («check_assign» (treeOf (i + 1) lhs))
+        (λ _. typed t lhs (forest (i + 1 + spanOf lhs / 24) (restOf lhs)) (leaves (treeOf (i + 1) lhs))))
     unfolding «check_assignment» typeCheck
     steps = rw (← kids-part e t e-is, ← lhs-is, forest-tree (i + 1) lhs big) refl
 
-    pub assignment-modify : (eqb k 12 && g) ≡ true → {r : Answer} → r ≡ refusedAt invalidModifyLhs (nodeOf (i + 1) lhs) → r ≡ «check_assignment» (treeOf i t)
+    pub assignment-modify : (eqb k 12 && g) ≡ true → {r : Answer}
+        → r ≡ refusedAt invalidModifyLhs (nodeOf (i + 1) lhs) → r ≡ «check_assignment» (treeOf i t)
     assignment-modify h r-is =
-        let test : (eqb (nodeOf i t .kind) 12 && isGroup (nodeOf (i + 1) lhs .kind)) ≡ true = rw (k-is, g-is, l-is) at h in
+        let test : (eqb (nodeOf i t .kind) 12 && isGroup (nodeOf (i + 1) lhs .kind))
+        ≡ true = rw (k-is, g-is, l-is) at h in
         r-is ∙ sym (steps ∙ rw test refl)
 
-    module _ (no : (eqb k 12 && g) ≡ false) (f : Targeted) (f-is : targeted f ≡ counted 0 (treeOf (i + 1) lhs)) where
-      plain : «check_assignment» (treeOf i t) ≡ andThen («check_assign» (treeOf (i + 1) lhs)) (λ _. typed t lhs (forest (i + 1 + spanOf lhs / 24) (restOf lhs)) (leaves (treeOf (i + 1) lhs)))
-      plain =
-          let test : (eqb (nodeOf i t .kind) 12 && isGroup (nodeOf (i + 1) lhs .kind)) ≡ false = rw (k-is, g-is, l-is) at no in
-          steps ∙ rw test refl
+    module _ (no : (eqb k 12 && g) ≡ false) (f : Targeted) (f-is : targeted f ≡ counted 0 (treeOf (i + 1) lhs))
+      where
+        plain : «check_assignment» (treeOf i t)
+            ≡ andThen («check_assign» (treeOf (i + 1) lhs))
+            (λ _. typed t lhs (forest (i + 1 + spanOf lhs / 24) (restOf lhs)) (leaves (treeOf (i + 1) lhs)))
+        plain =
+            let test : (eqb (nodeOf i t .kind) 12 && isGroup (nodeOf (i + 1) lhs .kind))
+            ≡ false = rw (k-is, g-is, l-is) at no in
+            steps ∙ rw test refl
 
-      pub assignment-stop : {why : Refusal} → f ≡ Refused why → refusal why ≡ «check_assignment» (treeOf i t)
-      unfolding counted
-      assignment-stop {why} h = first-refused («check_assign» (treeOf (i + 1) lhs)) _ why _ (rw h at f-is) ∙ sym plain
+        pub assignment-stop : {why : Refusal} → f ≡ Refused why → refusal why ≡ «check_assignment» (treeOf i t)
+        unfolding counted
+        assignment-stop {why} h = first-refused («check_assign» (treeOf (i + 1) lhs)) _ why _ (rw h at f-is)
+            ∙ sym plain
 
-      pub assignment-type : {m a : ℕ} {r : Answer} → f ≡ Leaves m → a ≡ spanOf lhs → r ≡ typed t lhs (forest (i + 1 + a / 24) (take (length lhs - a) (drop a lhs))) m → r ≡ «check_assignment» (treeOf i t)
-      unfolding counted
-      assignment-type {m} {a} h a-is r-is =
-          let vs = same-values («check_assign» (treeOf (i + 1) lhs)) _ (rw h at f-is) in
-          let sum : m ≡ 0 + leaves (treeOf (i + 1) lhs) = cc in
-          let m-is : m ≡ leaves (treeOf (i + 1) lhs) = omega arith in
-          r-is ∙ rw (rest-part a lhs a-is, a-is, m-is) (sym (plain ∙ first-accepted («check_assign» (treeOf (i + 1) lhs)) _ _ (rw h at f-is)))
+        pub assignment-type : {m a : ℕ} {r : Answer} → f ≡ Leaves m → a ≡ spanOf lhs
+            → r ≡ typed t lhs (forest (i + 1 + a / 24) (take (length lhs - a) (drop a lhs))) m
+            → r ≡ «check_assignment» (treeOf i t)
+        unfolding counted
+        assignment-type {m} {a} h a-is r-is =
+            let vs = same-values («check_assign» (treeOf (i + 1) lhs)) _ (rw h at f-is) in
+            let sum : m ≡ 0 + leaves (treeOf (i + 1) lhs) = cc in
+            let m-is : m ≡ leaves (treeOf (i + 1) lhs) = omega arith in
+            r-is ∙ rw (rest-part a lhs a-is, a-is, m-is)
+            (sym (plain ∙ first-accepted («check_assign» (treeOf (i + 1) lhs)) _ _ (rw h at f-is)))

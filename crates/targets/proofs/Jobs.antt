@@ -14,7 +14,8 @@ use Rattle.table.specs.declared.Checked.the-variants.{Sound, Refused}
 use Rattle.table.specs.declared.Wanted.{Wanted}
 use Rattle.targets.specs.Jobs.{onNode}
 
-module _ (w : Wanted) (rule : Tree → Answer) (t names : List ℕ) (i : ℕ) {f : Checked} (f-is : checked f ≡ checkOf t names) where
+module _ (w : Wanted) (rule : Tree → Answer) (t names : List ℕ) (i : ℕ) {f : Checked}
+    (f-is : checked f ≡ checkOf t names) where
   pub job-refused : {why : Refusal} → f ≡ Refused why → refusal why ≡ onNode w rule t names i
   unfolding onNode
   job-refused {why} h =
@@ -29,6 +30,7 @@ module _ (w : Wanted) (rule : Tree → Answer) (t names : List ℕ) (i : ℕ) {f
     unfolding onNode
     job-node h = rw (told, ← b-is, h) refl
 
-    pub job-rule : b ≡ true → {s : List ℕ} {r : Answer} → s ≡ stretchOf t i → r ≡ rule (treeOf i s) → r ≡ onNode w rule t names i
+    pub job-rule : b ≡ true → {s : List ℕ} {r : Answer} → s ≡ stretchOf t i → r ≡ rule (treeOf i s)
+        → r ≡ onNode w rule t names i
     unfolding onNode
     job-rule h s-is r-is = r-is ∙ rw (told, ← b-is, h, s-is) refl

@@ -17,9 +17,11 @@ targeted-injective (Refused q) (Leaves m) e = never-accepted q e
 targeted-injective (Refused q) (Refused r) e = ap Refused (refusal-injective q r e)
 
 -- of `target`
-pub target-one : (table names : List ℕ) (node : ℕ) {r s : Targeted} → targeted r ≡ targetOf table names node → targeted s ≡ targetOf table names node → r ≡ s
+pub target-one : (table names : List ℕ) (node : ℕ) {r s : Targeted} → targeted r ≡ targetOf table names node
+    → targeted s ≡ targetOf table names node → r ≡ s
 target-one table names node = coincide-by targeted targeted-injective
 
 -- of `assignment`
-pub assignment-one : (table names : List ℕ) (node : ℕ) {r s : Targeted} → targeted r ≡ assignmentOf table names node → targeted s ≡ assignmentOf table names node → r ≡ s
+pub assignment-one : (table names : List ℕ) (node : ℕ) {r s : Targeted} → targeted r ≡ assignmentOf table names node
+    → targeted s ≡ assignmentOf table names node → r ≡ s
 assignment-one table names node = coincide-by targeted targeted-injective

@@ -19,7 +19,8 @@ module _ (ban : Bool) (i : ℕ) (t : List ℕ) where
   object-none h = rw (forest-none i t h) refl
 
   module _ (big : 24 ≤ length t) {k : ℕ} (k-is : k ≡ nodeOf 0 t .kind) where
-    pub object-banned : k ≡ 26 → ban ≡ true → {r : Answer} → r ≡ refusedAt dotTypeBan (nodeOf i t) → r ≡ objectPath ban (forest i t)
+    pub object-banned : k ≡ 26 → ban ≡ true → {r : Answer} → r ≡ refusedAt dotTypeBan (nodeOf i t)
+        → r ≡ objectPath ban (forest i t)
     unfolding objectPath
     object-banned h b r-is = r-is ∙ rw (forest-tree i t big, ← k-is, eq-eqb k 26 h, b) refl
 
@@ -28,13 +29,16 @@ module _ (ban : Bool) (i : ℕ) (t : List ℕ) where
     object-free h b = rw (forest-tree i t big, ← k-is, eq-eqb k 26 h, b) refl
 
     module _ (no : k ≡ 26 → ⊥) where
-      pub object-other : (k ≡ 21 → ⊥) → {r : Answer} → r ≡ refusedAt dotInType (nodeOf i t) → r ≡ objectPath ban (forest i t)
+      pub object-other : (k ≡ 21 → ⊥) → {r : Answer} → r ≡ refusedAt dotInType (nodeOf i t)
+          → r ≡ objectPath ban (forest i t)
       unfolding objectPath
       object-other h r-is = r-is ∙ rw (forest-tree i t big, ← k-is, ne-eqb k 26 no, ne-eqb k 21 h) refl
 
-      pub object-dot : k ≡ 21 → {e : ℕ} {r : Answer} → e ≡ spanOf t → r ≡ objectPath ban (forest (i + 1) (take (e - 24) (drop 24 t))) → r ≡ objectPath ban (forest i t)
+      pub object-dot : k ≡ 21 → {e : ℕ} {r : Answer} → e ≡ spanOf t
+          → r ≡ objectPath ban (forest (i + 1) (take (e - 24) (drop 24 t))) → r ≡ objectPath ban (forest i t)
       unfolding objectPath
-      object-dot h {e} e-is r-is = r-is ∙ rw (kids-part e t e-is, forest-tree i t big, ← k-is, ne-eqb k 26 no, eq-eqb k 21 h) refl
+      object-dot h {e} e-is r-is = r-is ∙ rw
+          (kids-part e t e-is, forest-tree i t big, ← k-is, ne-eqb k 26 no, eq-eqb k 21 h) refl
 
 -- a path
 module _ (names : List ℕ) (i : ℕ) (t : List ℕ) {k : ℕ} (k-is : k ≡ nodeOf 0 t .kind) where
@@ -43,10 +47,12 @@ module _ (names : List ℕ) (i : ℕ) (t : List ℕ) {k : ℕ} (k-is : k ≡ nod
   path-identifier h = rw (← k-is, eq-eqb k 26 h) refl
 
   module _ (no : k ≡ 26 → ⊥) where
-    pub path-other : (k ≡ 21 → ⊥) → {r : Answer} → r ≡ refusedAt expectingPath (nodeOf i t) → r ≡ «unpack_path» names (treeOf i t)
+    pub path-other : (k ≡ 21 → ⊥) → {r : Answer} → r ≡ refusedAt expectingPath (nodeOf i t)
+        → r ≡ «unpack_path» names (treeOf i t)
     unfolding «unpack_path»
     path-other h r-is = r-is ∙ rw (← k-is, ne-eqb k 26 no, ne-eqb k 21 h) refl
 
-    pub path-dot : k ≡ 21 → {e : ℕ} {b : Bool} {r : Answer} → e ≡ spanOf t → b ≡ banned names (nodeOf 0 t) → r ≡ objectPath b (forest (i + 1) (take (e - 24) (drop 24 t))) → r ≡ «unpack_path» names (treeOf i t)
+    pub path-dot : k ≡ 21 → {e : ℕ} {b : Bool} {r : Answer} → e ≡ spanOf t → b ≡ banned names (nodeOf 0 t)
+        → r ≡ objectPath b (forest (i + 1) (take (e - 24) (drop 24 t))) → r ≡ «unpack_path» names (treeOf i t)
     unfolding «unpack_path» nameOf
     path-dot h {e} e-is b-is r-is = r-is ∙ rw (kids-part e t e-is, b-is, ← k-is, ne-eqb k 26 no, eq-eqb k 21 h) refl

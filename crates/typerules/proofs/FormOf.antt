@@ -6,7 +6,8 @@ use lib.Dec.{eqb}
 use borrow.Author.Tests.{ne-eqb}
 use Rattle.typerules.specs.Forms.{formOf}
 use Rattle.typerules.specs.declared.Form.{Form}
-use Rattle.typerules.specs.declared.Form.the-variants.{Ellipsis, Path, Index, Index2, List, Union, Tuple, Other}
+use Rattle.typerules.specs.declared.Form.the-variants.{Ellipsis, Path, Index, Index2, List, Union, Tuple}
+use Rattle.typerules.specs.declared.Form.the-variants.{Other}
 
 module _ (k d : ℕ) where
   pub form-ellipsis : k ≡ 31 → Ellipsis ≡ formOf k d
@@ -33,7 +34,8 @@ module _ (k d : ℕ) where
   unfolding formOf
   form-tuple h = rw h refl
 
-  module _ (a : k ≡ 31 → ⊥) (p : (eqb k 26 || eqb k 21) ≡ false) (i : k ≡ 23 → ⊥) (i2 : k ≡ 24 → ⊥) (l : k ≡ 39 → ⊥) (t : k ≡ 20 → ⊥) where
+  module _ (a : k ≡ 31 → ⊥) (p : (eqb k 26 || eqb k 21) ≡ false) (i : k ≡ 23 → ⊥) (i2 : k ≡ 24 → ⊥) (l : k ≡ 39 → ⊥)
+      (t : k ≡ 20 → ⊥) where
     pub form-union : (eqb k 37 && eqb d 1) ≡ true → Union ≡ formOf k d
     unfolding formOf
     form-union h = rw (ne-eqb k 31 a, p, ne-eqb k 23 i, ne-eqb k 24 i2, ne-eqb k 39 l, ne-eqb k 20 t, h) refl

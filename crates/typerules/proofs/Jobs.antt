@@ -24,8 +24,10 @@ use Rattle.typerules.specs.Types.{«unpack», «dialect_check_type»}
 use Rattle.typerules.specs.Jobs.{typeAt, typeShapeOf}
 
 -- a type in a dialect
-module _ (names : List ℕ) (types : DialectTypes) (i : ℕ) (t : List ℕ) {p : Bool} (p-is : p ≡ permitsTypes types) {r : Answer} where
-  pub check-disabled : p ≡ false → r ≡ refusedAt typesDisabled (nodeOf i t) → r ≡ «dialect_check_type» names types (treeOf i t)
+module _ (names : List ℕ) (types : DialectTypes) (i : ℕ) (t : List ℕ) {p : Bool} (p-is : p ≡ permitsTypes types)
+    {r : Answer} where
+  pub check-disabled : p ≡ false → r ≡ refusedAt typesDisabled (nodeOf i t)
+      → r ≡ «dialect_check_type» names types (treeOf i t)
   unfolding «dialect_check_type»
   check-disabled h r-is = r-is ∙ rw (← p-is, h) refl
 
@@ -34,19 +36,21 @@ module _ (names : List ℕ) (types : DialectTypes) (i : ℕ) (t : List ℕ) {p :
   check-type h r-is = r-is ∙ rw (← p-is, h) refl
 
 -- the job on a node of a sound table
-module _ (t names : List ℕ) (types : DialectTypes) (i room : ℕ) {b : Bool} (b-is : b ≡ nodeFits t i Expression) where
-  pub at-no-node : b ≡ false → refused wrongNode [] ≡ typeAt t names types i room
-  unfolding typeAt
-  at-no-node h = rw (← b-is, h) refl
-
-  module _ (fits : b ≡ true) {u : List ℕ} (u-is : u ≡ stretchOf t i) where
-    pub at-short : room < length u / 24 → refused shortBuffer [] ≡ typeAt t names types i room
+module _ (t names : List ℕ) (types : DialectTypes) (i room : ℕ) {b : Bool} (b-is : b ≡ nodeFits t i Expression)
+  where
+    pub at-no-node : b ≡ false → refused wrongNode [] ≡ typeAt t names types i room
     unfolding typeAt
-    at-short h = rw (← b-is, fits, ← u-is, lt-leb (length u / 24) room h) refl
+    at-no-node h = rw (← b-is, h) refl
 
-    pub at-type : length u / 24 ≤ room → {r : Answer} → r ≡ «dialect_check_type» names types (treeOf i u) → r ≡ typeAt t names types i room
-    unfolding typeAt
-    at-type h r-is = r-is ∙ rw (← b-is, fits, ← u-is, le-leb (length u / 24) room h) refl
+    module _ (fits : b ≡ true) {u : List ℕ} (u-is : u ≡ stretchOf t i) where
+      pub at-short : room < length u / 24 → refused shortBuffer [] ≡ typeAt t names types i room
+      unfolding typeAt
+      at-short h = rw (← b-is, fits, ← u-is, lt-leb (length u / 24) room h) refl
+
+      pub at-type : length u / 24 ≤ room → {r : Answer} → r ≡ «dialect_check_type» names types (treeOf i u)
+          → r ≡ typeAt t names types i room
+      unfolding typeAt
+      at-type h r-is = r-is ∙ rw (← b-is, fits, ← u-is, le-leb (length u / 24) room h) refl
 
 -- the whole job
 module _ (t names bytes : List ℕ) (i room : ℕ) {f : Checks.Checked} (f-is : checked f ≡ checkOf t names) where
@@ -64,10 +68,12 @@ module _ (t names bytes : List ℕ) (i room : ℕ) {f : Checks.Checked} (f-is : 
     unfolding typeShapeOf
     job-dialect h = rw (passed, ← d-is, h) refl
 
-    pub job-type : {v : Dialect} {r : Answer} → d ≡ Valid v → r ≡ typeAt t names (v .«enable_types») i room → r ≡ typeShapeOf t names bytes i room
+    pub job-type : {v : Dialect} {r : Answer} → d ≡ Valid v → r ≡ typeAt t names (v .«enable_types») i room
+        → r ≡ typeShapeOf t names bytes i room
     unfolding typeShapeOf
     job-type h r-is = r-is ∙ rw (passed, ← d-is, h) refl
 
 -- a check that found nothing, as the inner function asks for it
-pub sound-told : (t names : List ℕ) {f : Checks.Checked} → checked f ≡ checkOf t names → f ≡ Check.Sound → accepted [] ≡ checkOf t names
+pub sound-told : (t names : List ℕ) {f : Checks.Checked} → checked f ≡ checkOf t names → f ≡ Check.Sound
+    → accepted [] ≡ checkOf t names
 sound-told t names f-is sound = rw sound at f-is

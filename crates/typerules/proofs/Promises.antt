@@ -20,11 +20,14 @@ shaped-injective (Refused q) Accepted e = never-accepted q e
 shaped-injective (Refused q) (Refused r) e = ap Refused (refusal-injective q r e)
 
 -- of `judge`
-pub judge-one : (table names dialect : L.List ℕ) (node room : ℕ) {r s : Shaped} → shaped r ≡ typeShapeOf table names dialect node room → shaped s ≡ typeShapeOf table names dialect node room → r ≡ s
+pub judge-one : (table names dialect : L.List ℕ) (node room : ℕ) {r s : Shaped}
+    → shaped r ≡ typeShapeOf table names dialect node room → shaped s ≡ typeShapeOf table names dialect node room
+    → r ≡ s
 judge-one table names dialect node room = coincide-by shaped shaped-injective
 
 -- of `forms::form`, `forms::shape_of` and `forms::reads_of`
-pub form-one : (t : L.List ℕ) {r s : Form} → r ≡ formOf (nodeOf 0 t .kind) (nodeOf 0 t .detail) → s ≡ formOf (nodeOf 0 t .kind) (nodeOf 0 t .detail) → r ≡ s
+pub form-one : (t : L.List ℕ) {r s : Form} → r ≡ formOf (nodeOf 0 t .kind) (nodeOf 0 t .detail)
+    → s ≡ formOf (nodeOf 0 t .kind) (nodeOf 0 t .detail) → r ≡ s
 form-one t = coincide
 
 pub shape-of-one : (form : Form) {r s : ℕ} → r ≡ shapeOf form → s ≡ shapeOf form → r ≡ s

@@ -11,7 +11,8 @@ use Rattle.forest.specs.Forest.{Node, nodeOf, spanOf, kidsOf, restOf, forest, t
 use Rattle.forest.proofs.Stretch.{forest-none, forest-tree, forest-induction}
 use Rattle.soundness.specs.KindNumbers.{kindList}
 use Rattle.typerules.specs.Forms.{formOf, shapeOf, listShape, readsOf, ofChildren}
-use Rattle.types.specs.Shapes.{Shape, shapeAt, shapesOf, shapesArgument, shapesEach, shapesArguments, shapesIndex, shapesIndex2}
+use Rattle.types.specs.Shapes.{Shape, shapeAt, shapesOf, shapesArgument, shapesEach, shapesArguments}
+use Rattle.types.specs.Shapes.{shapesIndex, shapesIndex2}
 use Rattle.typerules.specs.declared.Reads.{Reads}
 use Rattle.typerules.specs.declared.Reads.the-variants.{Nothing, Types, AfterBase, Arguments}
 use Rattle.types.proofs.Proper.{Proper}
@@ -47,8 +48,10 @@ pub record Same (i : ℕ) (bs : List ℕ) : Type 0 where
 
 module _ (i j : ℕ) (bs : List ℕ) (ks : Same (i + 1) (kidsOf bs)) where
   below : (reads : Reads)
-      → numbers (ofChildren reads [] (λ _. shapesEach (forest (i + 1) (kidsOf bs))) (λ _. shapesIndex (forest (i + 1) (kidsOf bs))) (λ _. shapesIndex2 (forest (i + 1) (kidsOf bs))))
-      ≡ numbers (ofChildren reads [] (λ _. shapesEach (forest (j + 1) (kidsOf bs))) (λ _. shapesIndex (forest (j + 1) (kidsOf bs))) (λ _. shapesIndex2 (forest (j + 1) (kidsOf bs))))
+      → numbers (ofChildren reads [] (λ _. shapesEach (forest (i + 1) (kidsOf bs)))
+      (λ _. shapesIndex (forest (i + 1) (kidsOf bs))) (λ _. shapesIndex2 (forest (i + 1) (kidsOf bs))))
+      ≡ numbers (ofChildren reads [] (λ _. shapesEach (forest (j + 1) (kidsOf bs)))
+      (λ _. shapesIndex (forest (j + 1) (kidsOf bs))) (λ _. shapesIndex2 (forest (j + 1) (kidsOf bs))))
   below Nothing = refl
   below Types = ks .each (j + 1)
   below AfterBase = ks .index (j + 1)
@@ -56,14 +59,18 @@ module _ (i j : ℕ) (bs : List ℕ) (ks : Same (i + 1) (kidsOf bs)) where
 
   pub type-same : numbers (shapesOf (treeOf i bs)) ≡ numbers (shapesOf (treeOf j bs))
   unfolding shapesOf numbers
-  type-same = ap (λ (l : List ℕ). shapeOf (formOf (nodeOf i bs .kind) (nodeOf i bs .detail)) ∷ l) (below (readsOf (formOf (nodeOf i bs .kind) (nodeOf i bs .detail))))
+  type-same = ap (λ (l : List ℕ). shapeOf (formOf (nodeOf i bs .kind) (nodeOf i bs .detail)) ∷ l)
+      (below (readsOf (formOf (nodeOf i bs .kind) (nodeOf i bs .detail))))
 
   argument-same : numbers (shapesArgument (treeOf i bs)) ≡ numbers (shapesArgument (treeOf j bs))
   unfolding shapesOf numbers
   argument-same = go (eqb (nodeOf i bs .kind) kindList)
     where
-      go : (b : Bool) → numbers (if' b (λ _. shapeAt (nodeOf i bs) listShape ∷ shapesArguments (forest (i + 1) (kidsOf bs))) (λ _. shapesOf (treeOf i bs)))
-          ≡ numbers (if' b (λ _. shapeAt (nodeOf j bs) listShape ∷ shapesArguments (forest (j + 1) (kidsOf bs))) (λ _. shapesOf (treeOf j bs)))
+      go : (b : Bool) → numbers
+          (if' b (λ _. shapeAt (nodeOf i bs) listShape ∷ shapesArguments (forest (i + 1) (kidsOf bs)))
+          (λ _. shapesOf (treeOf i bs)))
+          ≡ numbers (if' b (λ _. shapeAt (nodeOf j bs) listShape ∷ shapesArguments (forest (j + 1) (kidsOf bs)))
+          (λ _. shapesOf (treeOf j bs)))
       go true = ap (λ (l : List ℕ). listShape ∷ l) (ks .arguments (j + 1))
       go false = type-same
 
@@ -82,14 +89,31 @@ same =
       index2 = λ j. rw (forest-none i bs short, forest-none j bs short) refl;
     }
 
-    more : (i : ℕ) (bs : List ℕ) → 24 ≤ length bs → Same (i + 1) (kidsOf bs) → Same (i + spanOf bs / 24) (restOf bs) → Same i bs
+    more : (i : ℕ) (bs : List ℕ) → 24 ≤ length bs → Same (i + 1) (kidsOf bs) → Same (i + spanOf bs / 24) (restOf bs)
+        → Same i bs
     more i bs big ks rs = record {
-      each = λ j. rw (forest-tree i bs big, forest-tree j bs big, numbers-append (shapesOf (treeOf i bs)) (shapesEach (forest (i + spanOf bs / 24) (restOf bs))), type-same i j bs ks, rs .each (j + spanOf bs / 24)) (sym (numbers-append (shapesOf (treeOf j bs)) (shapesEach (forest (j + spanOf bs / 24) (restOf bs)))));
-      arguments = λ j. rw (forest-tree i bs big, forest-tree j bs big, numbers-append (shapesArgument (treeOf i bs)) (shapesArguments (forest (i + spanOf bs / 24) (restOf bs))), argument-same i j bs ks, rs .arguments (j + spanOf bs / 24)) (sym (numbers-append (shapesArgument (treeOf j bs)) (shapesArguments (forest (j + spanOf bs / 24) (restOf bs)))));
+      each = λ j. rw (
+        forest-tree i bs big,
+        forest-tree j bs big,
+        numbers-append (shapesOf (treeOf i bs)) (shapesEach (forest (i + spanOf bs / 24) (restOf bs))),
+        type-same i j bs ks,
+        rs .each (j + spanOf bs / 24),
+      )
+          (sym (numbers-append (shapesOf (treeOf j bs)) (shapesEach (forest (j + spanOf bs / 24) (restOf bs)))));
+      arguments = λ j. rw (
+        forest-tree i bs big,
+        forest-tree j bs big,
+        numbers-append (shapesArgument (treeOf i bs)) (shapesArguments (forest (i + spanOf bs / 24) (restOf bs))),
+        argument-same i j bs ks,
+        rs .arguments (j + spanOf bs / 24),
+      )
+          (sym (numbers-append (shapesArgument (treeOf j bs))
+          (shapesArguments (forest (j + spanOf bs / 24) (restOf bs)))));
       index = λ j. rw (forest-tree i bs big, forest-tree j bs big) (rs .each (j + spanOf bs / 24));
       index2 = λ j. rw (forest-tree i bs big, forest-tree j bs big) (rs .arguments (j + spanOf bs / 24));
     }
 
 -- LAW: a stretch whose shapes are proper from one index has proper shapes from any
 pub proper-from : (i j : ℕ) (bs : List ℕ) → Proper (shapesOf (treeOf i bs)) → Proper (shapesOf (treeOf j bs))
-proper-from i j bs p = proper-numbers (shapesOf (treeOf i bs)) (shapesOf (treeOf j bs)) (type-same i j bs (same (i + 1) (kidsOf bs))) p
+proper-from i j bs p = proper-numbers (shapesOf (treeOf i bs)) (shapesOf (treeOf j bs))
+    (type-same i j bs (same (i + 1) (kidsOf bs))) p

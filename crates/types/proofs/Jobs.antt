@@ -39,17 +39,26 @@ pub record Says (t names : List ℕ) (i room : ℕ) : Type 0 where
   pub fits : length (stretchOf t i) / 24 ≤ room
   pub passes : Passes («unpack» names (treeOf i (stretchOf t i)))
 
-pub accepted-says : (t names bytes : List ℕ) (i room : ℕ) {vs : List ℕ} → accepted vs ≡ typeShapeOf t names bytes i room → Says t names i room
+pub accepted-says : (t names bytes : List ℕ) (i room : ℕ) {vs : List ℕ}
+    → accepted vs ≡ typeShapeOf t names bytes i room → Says t names i room
 unfolding typeShapeOf typeAt «dialect_check_type»
-accepted-says t names bytes i room {vs} e = go (checkOf t names) (fromBytes bytes) (nodeFits t i Expression) (leb (length (stretchOf t i) / 24) room) refl refl refl e
+accepted-says t names bytes i room {vs} e = go (checkOf t names) (fromBytes bytes) (nodeFits t i Expression)
+    (leb (length (stretchOf t i) / 24) room) refl refl refl e
   where
-    types-pass : (types : DialectTypes) → accepted vs ≡ andThen (typesCheck types (nodeOf i (stretchOf t i))) (λ _. «unpack» names (treeOf i (stretchOf t i))) → Passes («unpack» names (treeOf i (stretchOf t i)))
+    types-pass : (types : DialectTypes) → accepted vs
+        ≡ andThen (typesCheck types (nodeOf i (stretchOf t i))) (λ _. «unpack» names (treeOf i (stretchOf t i)))
+        → Passes («unpack» names (treeOf i (stretchOf t i)))
     types-pass Disable e = let z : _≡_ {A = ℕ} 0 1 = cc in absurd (omega arith)
     types-pass ParseOnly e = rw (← e) tt
     types-pass Enable e = rw (← e) tt
 
-    go : (x : Answer) (d : Decoded) (b l : Bool) → x ≡ checkOf t names → nodeFits t i Expression ≡ b → leb (length (stretchOf t i) / 24) room ≡ l
-        → accepted vs ≡ andThen x (λ _. withDialect d (λ v. andThen (if' b (λ _. accepted []) (λ _. refused wrongNode [])) (λ _. andThen (if' l (λ _. accepted []) (λ _. refused shortBuffer [])) (λ _. andThen (typesCheck (v .«enable_types») (nodeOf i (stretchOf t i))) (λ _. «unpack» names (treeOf i (stretchOf t i)))))))
+    go : (x : Answer) (d : Decoded) (b l : Bool) → x ≡ checkOf t names → nodeFits t i Expression ≡ b
+        → leb (length (stretchOf t i) / 24) room ≡ l
+        → accepted vs ≡ andThen x (λ _. withDialect d
+        (λ v. andThen (if' b (λ _. accepted []) (λ _. refused wrongNode []))
+        (λ _. andThen (if' l (λ _. accepted []) (λ _. refused shortBuffer []))
+        (λ _. andThen (typesCheck (v .«enable_types») (nodeOf i (stretchOf t i)))
+        (λ _. «unpack» names (treeOf i (stretchOf t i)))))))
         → Says t names i room
     go (accepted ws) (Valid d) true true p q r e = record {
       long = stretch-within t names i Expression (passed t names p) q .0;
@@ -76,11 +85,13 @@ module _ (t names bytes : List ℕ) (i : ℕ) (s : List ℕ) where
   abbrev pub JobLeaves : Answer → List ℕ → Type 0
   JobLeaves x u = Leaves x u (typeShapeOf t names bytes i (length s)) (shapesOf (treeOf 0 (stretchOf t i))) s
 
-  module _ (judged : Shaped) (judged-is : shaped judged ≡ typeShapeOf t names bytes i (length s)) {q : Bool} (q-is : q ≡ isRefused judged) where
+  module _ (judged : Shaped) (judged-is : shaped judged ≡ typeShapeOf t names bytes i (length s)) {q : Bool}
+      (q-is : q ≡ isRefused judged) where
     pub job-refused : q ≡ true → JobLeaves (shaped judged) s
     job-refused h = go judged (sym q-is ∙ h) judged-is
       where
-        go : (j : Shaped) → isRefused j ≡ true → shaped j ≡ typeShapeOf t names bytes i (length s) → JobLeaves (shaped j) s
+        go : (j : Shaped) → isRefused j ≡ true → shaped j ≡ typeShapeOf t names bytes i (length s)
+            → JobLeaves (shaped j) s
         go Accepted e due = absurd (false≢true e)
         go (Refused why) e due = kept _ (shapesOf (treeOf 0 (stretchOf t i))) s why due
 
@@ -88,12 +99,15 @@ module _ (t names bytes : List ℕ) (i : ℕ) (s : List ℕ) where
       passed-all : accepted [] ≡ typeShapeOf t names bytes i (length s)
       passed-all = go judged (sym q-is ∙ no) judged-is
         where
-          go : (j : Shaped) → isRefused j ≡ false → shaped j ≡ typeShapeOf t names bytes i (length s) → accepted [] ≡ typeShapeOf t names bytes i (length s)
+          go : (j : Shaped) → isRefused j ≡ false → shaped j ≡ typeShapeOf t names bytes i (length s)
+              → accepted [] ≡ typeShapeOf t names bytes i (length s)
           go Accepted e due = due
           go (Refused why) e due = absurd (false≢true (sym e))
 
       pub job-room : {u : List ℕ} → u ≡ stretchOf t i → (24 ≤ length u) × (0 + length u / 24 ≤ length s)
-      job-room u-is = let says = accepted-says t names bytes i (length s) passed-all in rw u-is (omega (arith, says .long, says .fits))
+      job-room u-is = let says = accepted-says t names bytes i (length s) passed-all in
+          rw u-is (omega (arith, says .long, says .fits))
 
-      pub job-accepted : {u v : List ℕ} → u ≡ stretchOf t i → v ≡ written (shapesOf (treeOf 0 u)) s → JobLeaves (shaped judged) v
+      pub job-accepted : {u v : List ℕ} → u ≡ stretchOf t i → v ≡ written (shapesOf (treeOf 0 u)) s
+          → JobLeaves (shaped judged) v
       job-accepted u-is v-is = (judged-is, rw (← passed-all, ← u-is) v-is)

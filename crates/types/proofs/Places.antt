@@ -12,7 +12,8 @@ use Rattle.forest.specs.Forest.{nodeOf, spanOf, kidsOf, restOf, forest, treeOf}
 use Rattle.forest.proofs.Stretch.{forest-none, forest-tree, forest-induction, length-kids, length-rest}
 use Rattle.soundness.specs.KindNumbers.{kindList}
 use Rattle.typerules.specs.Forms.{formOf, shapeOf, listShape, readsOf, ofChildren}
-use Rattle.types.specs.Shapes.{Shape, shapeAt, shapesOf, shapesArgument, shapesEach, shapesArguments, shapesIndex, shapesIndex2, written}
+use Rattle.types.specs.Shapes.{Shape, shapeAt, shapesOf, shapesArgument, shapesEach, shapesArguments}
+use Rattle.types.specs.Shapes.{shapesIndex, shapesIndex2, written}
 use Rattle.typerules.specs.declared.Reads.{Reads}
 use Rattle.typerules.specs.declared.Reads.the-variants.{Nothing, Types, AfterBase, Arguments}
 
@@ -22,7 +23,8 @@ Within lo hi [] = Unit {0}
 Within lo hi (s ∷ ss) = (lo ≤ s .at) × ((s .at < hi) × Within lo hi ss)
 
 -- a byte outside stays
-pub stays : (lo hi : ℕ) (ss : List Shape) → Within lo hi ss → (s : List ℕ) (k : ℕ) → hi ≤ k → getD (written ss s) k 0 ≡ getD s k 0
+pub stays : (lo hi : ℕ) (ss : List Shape) → Within lo hi ss → (s : List ℕ) (k : ℕ) → hi ≤ k
+    → getD (written ss s) k 0 ≡ getD s k 0
 unfolding written Within
 stays lo hi [] w s k h = refl
 stays lo hi (x ∷ ss) w s k h =
@@ -59,26 +61,43 @@ module _ (i : ℕ) (bs : List ℕ) (big : 24 ≤ length bs) (ks : Placed (i + 1)
   fits = omega (arith, length-kids bs)
 
   -- the children that a node reads, and the node with them
-  below : (reads : Reads) → Within (i + 1) (i + spanOf bs / 24) (ofChildren reads [] (λ _. shapesEach (forest (i + 1) (kidsOf bs))) (λ _. shapesIndex (forest (i + 1) (kidsOf bs))) (λ _. shapesIndex2 (forest (i + 1) (kidsOf bs))))
+  below : (reads : Reads) → Within (i + 1) (i + spanOf bs / 24)
+      (ofChildren reads [] (λ _. shapesEach (forest (i + 1) (kidsOf bs)))
+      (λ _. shapesIndex (forest (i + 1) (kidsOf bs))) (λ _. shapesIndex2 (forest (i + 1) (kidsOf bs))))
   below Nothing = within-none (i + 1) (i + spanOf bs / 24)
-  below Types = within-wider (i + 1) (i + 1 + length (kidsOf bs) / 24) (i + 1) (i + spanOf bs / 24) (omega arith) fits _ (ks .each)
-  below AfterBase = within-wider (i + 1) (i + 1 + length (kidsOf bs) / 24) (i + 1) (i + spanOf bs / 24) (omega arith) fits _ (ks .index)
-  below Arguments = within-wider (i + 1) (i + 1 + length (kidsOf bs) / 24) (i + 1) (i + spanOf bs / 24) (omega arith) fits _ (ks .index2)
+  below Types = within-wider (i + 1) (i + 1 + length (kidsOf bs) / 24) (i + 1) (i + spanOf bs / 24) (omega arith)
+      fits _ (ks .each)
+  below AfterBase = within-wider (i + 1) (i + 1 + length (kidsOf bs) / 24) (i + 1) (i + spanOf bs / 24)
+      (omega arith) fits _ (ks .index)
+  below Arguments = within-wider (i + 1) (i + 1 + length (kidsOf bs) / 24) (i + 1) (i + spanOf bs / 24)
+      (omega arith) fits _ (ks .index2)
 
-  under : (v : ℕ) (ss : List Shape) → Within (i + 1) (i + spanOf bs / 24) ss → Within i (i + spanOf bs / 24) (shapeAt (nodeOf i bs) v ∷ ss)
+  under : (v : ℕ) (ss : List Shape) → Within (i + 1) (i + spanOf bs / 24) ss
+      → Within i (i + spanOf bs / 24) (shapeAt (nodeOf i bs) v ∷ ss)
   unfolding Within
-  under v ss w = (omega arith, (omega arith, within-wider (i + 1) (i + spanOf bs / 24) i (i + spanOf bs / 24) (omega arith) (omega arith) ss w))
+  under v ss w = (
+    omega arith,
+    (
+      omega arith,
+      within-wider (i + 1) (i + spanOf bs / 24) i (i + spanOf bs / 24) (omega arith)
+          (omega arith) ss w,
+    ),
+  )
 
   pub type-within : Within i (i + spanOf bs / 24) (shapesOf (treeOf i bs))
   unfolding shapesOf
-  type-within = under (shapeOf (formOf (nodeOf i bs .kind) (nodeOf i bs .detail))) _ (below (readsOf (formOf (nodeOf i bs .kind) (nodeOf i bs .detail))))
+  type-within = under (shapeOf (formOf (nodeOf i bs .kind) (nodeOf i bs .detail))) _
+      (below (readsOf (formOf (nodeOf i bs .kind) (nodeOf i bs .detail))))
 
   argument-within : Within i (i + spanOf bs / 24) (shapesArgument (treeOf i bs))
   unfolding shapesOf
   argument-within = go (eqb (nodeOf i bs .kind) kindList)
     where
-      go : (b : Bool) → Within i (i + spanOf bs / 24) (if' b (λ _. shapeAt (nodeOf i bs) listShape ∷ shapesArguments (forest (i + 1) (kidsOf bs))) (λ _. shapesOf (treeOf i bs)))
-      go true = under listShape _ (within-wider (i + 1) (i + 1 + length (kidsOf bs) / 24) (i + 1) (i + spanOf bs / 24) (omega arith) fits _ (ks .arguments))
+      go : (b : Bool) → Within i (i + spanOf bs / 24)
+          (if' b (λ _. shapeAt (nodeOf i bs) listShape ∷ shapesArguments (forest (i + 1) (kidsOf bs)))
+          (λ _. shapesOf (treeOf i bs)))
+      go true = under listShape _ (within-wider (i + 1) (i + 1 + length (kidsOf bs) / 24) (i + 1)
+          (i + spanOf bs / 24) (omega arith) fits _ (ks .arguments))
       go false = type-within
 
 pub placed : (i : ℕ) (bs : List ℕ) → Placed i bs
@@ -96,17 +115,28 @@ placed =
       index2 = rw (forest-none i bs short) (within-none i (i + length bs / 24));
     }
 
-    more : (i : ℕ) (bs : List ℕ) → 24 ≤ length bs → Placed (i + 1) (kidsOf bs) → Placed (i + spanOf bs / 24) (restOf bs) → Placed i bs
+    more : (i : ℕ) (bs : List ℕ) → 24 ≤ length bs → Placed (i + 1) (kidsOf bs)
+        → Placed (i + spanOf bs / 24) (restOf bs) → Placed i bs
     more i bs big ks rs =
-        let wide : (ss : List Shape) → Within i (i + spanOf bs / 24) ss → Within i (i + length bs / 24) ss = within-wider i (i + spanOf bs / 24) i (i + length bs / 24) (omega arith) (omega arith) in
-        let over : (ss : List Shape) → Within (i + spanOf bs / 24) (i + spanOf bs / 24 + length (restOf bs) / 24) ss → Within i (i + length bs / 24) ss = within-wider (i + spanOf bs / 24) (i + spanOf bs / 24 + length (restOf bs) / 24) i (i + length bs / 24) (omega arith) (omega (arith, length-rest bs)) in
+        let wide : (ss : List Shape) → Within i (i + spanOf bs / 24) ss
+        → Within i (i + length bs / 24) ss = within-wider i (i + spanOf bs / 24) i (i + length bs / 24)
+        (omega arith) (omega arith) in
+        let over : (ss : List Shape) → Within (i + spanOf bs / 24) (i + spanOf bs / 24 + length (restOf bs) / 24) ss
+        → Within i (i + length bs / 24) ss = within-wider (i + spanOf bs / 24)
+        (i + spanOf bs / 24 + length (restOf bs) / 24) i (i + length bs / 24) (omega arith)
+        (omega (arith, length-rest bs)) in
         record {
-          each = rw (forest-tree i bs big) (within-append i (i + length bs / 24) _ _ (wide _ (type-within i bs big ks)) (over _ (rs .each)));
-          arguments = rw (forest-tree i bs big) (within-append i (i + length bs / 24) _ _ (wide _ (argument-within i bs big ks)) (over _ (rs .arguments)));
+          each = rw (forest-tree i bs big)
+              (within-append i (i + length bs / 24) _ _ (wide _ (type-within i bs big ks)) (over _ (rs .each)));
+          arguments = rw (forest-tree i bs big)
+              (within-append i (i + length bs / 24) _ _ (wide _ (argument-within i bs big ks))
+              (over _ (rs .arguments)));
           index = rw (forest-tree i bs big) (over _ (rs .each));
           index2 = rw (forest-tree i bs big) (over _ (rs .arguments));
         }
 
 -- LAW: bytes past the type's subtree stay
-pub past-stays : (t s : List ℕ) (k : ℕ) → 24 ≤ length t → length t / 24 ≤ k → getD (written (shapesOf (treeOf 0 t)) s) k 0 ≡ getD s k 0
-past-stays t s k big h = stays 0 (0 + spanOf t / 24) (shapesOf (treeOf 0 t)) (type-within 0 t big (placed 1 (kidsOf t))) s k (omega arith)
+pub past-stays : (t s : List ℕ) (k : ℕ) → 24 ≤ length t → length t / 24 ≤ k
+    → getD (written (shapesOf (treeOf 0 t)) s) k 0 ≡ getD s k 0
+past-stays t s k big h = stays 0 (0 + spanOf t / 24) (shapesOf (treeOf 0 t))
+    (type-within 0 t big (placed 1 (kidsOf t))) s k (omega arith)

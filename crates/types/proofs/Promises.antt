@@ -11,7 +11,10 @@ use Rattle.types.specs.Jobs.{shapesAfter}
 
 -- of `type_shape`: r and s are answers, u and v the buffers at exit
 pub type-shape-one : (table names dialect : List ℕ) (node : ℕ) (buffer : List ℕ) {r s : Shaped} {u v : List ℕ}
-    → shaped r ≡ typeShapeOf table names dialect node (length buffer) → u ≡ shapesAfter table names dialect node buffer
-    → shaped s ≡ typeShapeOf table names dialect node (length buffer) → v ≡ shapesAfter table names dialect node buffer
+    → shaped r ≡ typeShapeOf table names dialect node (length buffer)
+    → u ≡ shapesAfter table names dialect node buffer
+    → shaped s ≡ typeShapeOf table names dialect node (length buffer)
+    → v ≡ shapesAfter table names dialect node buffer
     → (r ≡ s) × (u ≡ v)
-type-shape-one table names dialect node buffer r-is u-is s-is v-is = (coincide-by shaped shaped-injective r-is s-is, coincide u-is v-is)
+type-shape-one table names dialect node buffer r-is u-is s-is v-is =
+    (coincide-by shaped shaped-injective r-is s-is, coincide u-is v-is)

@@ -11,9 +11,11 @@ use Rattle.forest.specs.Forest.{Node, Tree, node, Forest, none, _then_}
 use Rattle.soundness.specs.KindNumbers.{kindList}
 use Rattle.table.specs.Answer.{Answer, accepted, refused, andThen}
 use Rattle.typerules.specs.Forms.{formOf, shapeOf, listShape, readsOf, ofChildren}
-use Rattle.typerules.specs.Types.{atNode, typeRule, «unpack», «unpack_argument», unpackEach, unpackArguments, unpackIndex, unpackIndex2}
+use Rattle.typerules.specs.Types.{atNode, typeRule, «unpack», «unpack_argument», unpackEach, unpackArguments}
+use Rattle.typerules.specs.Types.{unpackIndex, unpackIndex2}
 use Rattle.types.proofs.Jobs.{Passes}
-use Rattle.types.specs.Shapes.{Shape, shapeAt, nodeShapes, shapesOf, shapesArgument, shapesEach, shapesArguments, shapesIndex, shapesIndex2}
+use Rattle.types.specs.Shapes.{Shape, shapeAt, nodeShapes, shapesOf, shapesArgument, shapesEach}
+use Rattle.types.specs.Shapes.{shapesArguments, shapesIndex, shapesIndex2}
 use Rattle.typerules.specs.declared.Form.{Form}
 use Rattle.typerules.specs.declared.Form.the-variants.{Ellipsis, Path, Index, Index2, List, Union, Tuple, Other}
 
@@ -45,21 +47,29 @@ next-passes (accepted vs) next p = p
 next-passes (refused n vs) next p = absurd p
 
 -- a node, given that what its children give is proper where it passes
-node-proper : (names : L.List ℕ) (f : Form) (r : Node) (ks : Forest) (types rest args : Answer) (ss rs gs : L.List Shape) → (Passes types → Proper ss) → (Passes rest → Proper rs) → (Passes args → Proper gs)
-    → Passes (andThen (atNode names f r ks) (λ _. ofChildren (readsOf f) (accepted L.[]) (λ _. types) (λ _. rest) (λ _. args)))
+node-proper : (names : L.List ℕ) (f : Form) (r : Node) (ks : Forest) (types rest args : Answer)
+    (ss rs gs : L.List Shape) → (Passes types → Proper ss) → (Passes rest → Proper rs) → (Passes args → Proper gs)
+    → Passes (andThen (atNode names f r ks)
+    (λ _. ofChildren (readsOf f) (accepted L.[]) (λ _. types) (λ _. rest) (λ _. args)))
     → Proper (shapeAt r (shapeOf f) ∷ ofChildren (readsOf f) L.[] (λ _. ss) (λ _. rs) (λ _. gs))
 unfolding atNode
-node-proper names Ellipsis r ks types rest args ss rs gs a b c p = proper-one r 1 L.[] (omega arith) (omega arith) proper-none
-node-proper names Path r ks types rest args ss rs gs a b c p = proper-one r 2 L.[] (omega arith) (omega arith) proper-none
-node-proper names Index r ks types rest args ss rs gs a b c p = proper-one r 3 rs (omega arith) (omega arith) (b (next-passes (atNode names Index r ks) (λ _. rest) p))
-node-proper names Index2 r ks types rest args ss rs gs a b c p = proper-one r 4 gs (omega arith) (omega arith) (c (next-passes (atNode names Index2 r ks) (λ _. args) p))
-node-proper names List r ks types rest args ss rs gs a b c p = proper-one r 6 ss (omega arith) (omega arith) (a (next-passes (atNode names List r ks) (λ _. types) p))
+node-proper names Ellipsis r ks types rest args ss rs gs a b c p = proper-one r 1 L.[] (omega arith) (omega arith)
+    proper-none
+node-proper names Path r ks types rest args ss rs gs a b c p = proper-one r 2 L.[] (omega arith) (omega arith)
+    proper-none
+node-proper names Index r ks types rest args ss rs gs a b c p = proper-one r 3 rs (omega arith) (omega arith)
+    (b (next-passes (atNode names Index r ks) (λ _. rest) p))
+node-proper names Index2 r ks types rest args ss rs gs a b c p = proper-one r 4 gs (omega arith) (omega arith)
+    (c (next-passes (atNode names Index2 r ks) (λ _. args) p))
+node-proper names List r ks types rest args ss rs gs a b c p = proper-one r 6 ss (omega arith) (omega arith)
+    (a (next-passes (atNode names List r ks) (λ _. types) p))
 node-proper names Union r ks types rest args ss rs gs a b c p = proper-one r 6 ss (omega arith) (omega arith) (a p)
 node-proper names Tuple r ks types rest args ss rs gs a b c p = proper-one r 7 ss (omega arith) (omega arith) (a p)
 node-proper names Other r ks types rest args ss rs gs a b c p = absurd p
 
 -- an argument: a List, or a type
-argument-proper : (l : Bool) (r : Node) (args type : Answer) (gs ts : L.List Shape) → (Passes args → Proper gs) → (Passes type → Proper ts)
+argument-proper : (l : Bool) (r : Node) (args type : Answer) (gs ts : L.List Shape) → (Passes args → Proper gs)
+    → (Passes type → Proper ts)
     → Passes (if' l (λ _. args) (λ _. type)) → Proper (if' l (λ _. shapeAt r listShape ∷ gs) (λ _. ts))
 argument-proper true r args type gs ts a b p = proper-one r listShape gs (omega arith) (omega arith) (a p)
 argument-proper false r args type gs ts a b p = b p
@@ -70,28 +80,35 @@ mutual
 
   pub type-proper : (names : L.List ℕ) (t : Tree) → Passes («unpack» names t) → Proper (shapesOf t)
   type-proper names (node r ks) p =
-      node-proper names (formOf (r .kind) (r .detail)) r ks (unpackEach names ks) (unpackIndex names ks) (unpackIndex2 names ks) (shapesEach ks) (shapesIndex ks) (shapesIndex2 ks)
+      node-proper names (formOf (r .kind) (r .detail)) r ks (unpackEach names ks) (unpackIndex names ks)
+      (unpackIndex2 names ks) (shapesEach ks) (shapesIndex ks) (shapesIndex2 ks)
       (λ q. each-proper names ks q) (λ q. index-proper names ks q) (λ q. index2-proper names ks q) p
 
-  pub one-argument-proper : (names : L.List ℕ) (t : Tree) → Passes («unpack_argument» names t) → Proper (shapesArgument t)
+  pub one-argument-proper : (names : L.List ℕ) (t : Tree) → Passes («unpack_argument» names t)
+      → Proper (shapesArgument t)
   one-argument-proper names (node r ks) p =
-      argument-proper (eqb (r .kind) kindList) r (unpackArguments names ks) (typeRule names r ks (λ _. unpackEach names ks) (λ _. unpackIndex names ks) (λ _. unpackIndex2 names ks))
+      argument-proper (eqb (r .kind) kindList) r (unpackArguments names ks)
+      (typeRule names r ks (λ _. unpackEach names ks) (λ _. unpackIndex names ks) (λ _. unpackIndex2 names ks))
       (shapesArguments ks) (nodeShapes r (λ _. shapesEach ks) (λ _. shapesIndex ks) (λ _. shapesIndex2 ks))
       (λ q. arguments-proper names ks q)
       (λ q.
-      node-proper names (formOf (r .kind) (r .detail)) r ks (unpackEach names ks) (unpackIndex names ks) (unpackIndex2 names ks) (shapesEach ks) (shapesIndex ks) (shapesIndex2 ks)
+      node-proper names (formOf (r .kind) (r .detail)) r ks (unpackEach names ks) (unpackIndex names ks)
+      (unpackIndex2 names ks) (shapesEach ks) (shapesIndex ks) (shapesIndex2 ks)
       (λ z. each-proper names ks z) (λ z. index-proper names ks z) (λ z. index2-proper names ks z) q) p
 
   pub each-proper : (names : L.List ℕ) (ts : Forest) → Passes (unpackEach names ts) → Proper (shapesEach ts)
   each-proper names none p = proper-none
   each-proper names (t then ts) p =
-      proper-append (shapesOf t) (shapesEach ts) (type-proper names t (first-passes («unpack» names t) (λ _. unpackEach names ts) p))
+      proper-append (shapesOf t) (shapesEach ts)
+      (type-proper names t (first-passes («unpack» names t) (λ _. unpackEach names ts) p))
       (each-proper names ts (next-passes («unpack» names t) (λ _. unpackEach names ts) p))
 
-  pub arguments-proper : (names : L.List ℕ) (ts : Forest) → Passes (unpackArguments names ts) → Proper (shapesArguments ts)
+  pub arguments-proper : (names : L.List ℕ) (ts : Forest) → Passes (unpackArguments names ts)
+      → Proper (shapesArguments ts)
   arguments-proper names none p = proper-none
   arguments-proper names (t then ts) p =
-      proper-append (shapesArgument t) (shapesArguments ts) (one-argument-proper names t (first-passes («unpack_argument» names t) (λ _. unpackArguments names ts) p))
+      proper-append (shapesArgument t) (shapesArguments ts)
+      (one-argument-proper names t (first-passes («unpack_argument» names t) (λ _. unpackArguments names ts) p))
       (arguments-proper names ts (next-passes («unpack_argument» names t) (λ _. unpackArguments names ts) p))
 
   pub index-proper : (names : L.List ℕ) (ts : Forest) → Passes (unpackIndex names ts) → Proper (shapesIndex ts)

@@ -9,7 +9,8 @@ use borrow.Author.Tests.{eq-eqb, ne-eqb}
 use Rattle.forest.specs.Forest.{nodeOf, spanOf, kidsOf, restOf, Tree, node, Forest, none, _then_, forest, treeOf}
 use Rattle.forest.proofs.Stretch.{forest-none, forest-tree, kids-part, rest-part}
 use Rattle.typerules.specs.Forms.{formOf, shapeOf, listShape, readsOf}
-use Rattle.types.specs.Shapes.{Shape, shapesOf, shapesArgument, shapesEach, shapesArguments, shapesIndex, shapesIndex2, written}
+use Rattle.types.specs.Shapes.{Shape, shapesOf, shapesArgument, shapesEach, shapesArguments, shapesIndex}
+use Rattle.types.specs.Shapes.{shapesIndex2, written}
 use Rattle.typerules.specs.declared.Form.{Form}
 use Rattle.typerules.specs.declared.Reads.{Reads}
 use Rattle.typerules.specs.declared.Reads.the-variants.{Nothing, Types, AfterBase, Arguments}
@@ -28,8 +29,10 @@ written-length [] s = refl
 written-length (x ∷ ss) s = written-length ss (set s (x .at) (x .shape)) ∙ length-set s (x .at) (x .shape)
 
 -- the type that a stretch begins with: its own shape v, then the children that it reads
-module _ (i : ℕ) (t s : List ℕ) {f : Form} {v : ℕ} (f-is : f ≡ formOf (nodeOf 0 t .kind) (nodeOf 0 t .detail)) (v-is : v ≡ shapeOf f)
-    {e : ℕ} (e-is : e ≡ spanOf t) {k : List ℕ} (k-is : k ≡ take (e - 24) (drop 24 t)) {g : Form} {reads : Reads} (g-is : g ≡ formOf (nodeOf 0 t .kind) (nodeOf 0 t .detail)) (reads-is : reads ≡ readsOf g) where
+module _ (i : ℕ) (t s : List ℕ) {f : Form} {v : ℕ} (f-is : f ≡ formOf (nodeOf 0 t .kind) (nodeOf 0 t .detail))
+    (v-is : v ≡ shapeOf f)
+    {e : ℕ} (e-is : e ≡ spanOf t) {k : List ℕ} (k-is : k ≡ take (e - 24) (drop 24 t)) {g : Form} {reads : Reads}
+    (g-is : g ≡ formOf (nodeOf 0 t .kind) (nodeOf 0 t .detail)) (reads-is : reads ≡ readsOf g) where
   how : readsOf (formOf (nodeOf 0 t .kind) (nodeOf 0 t .detail)) ≡ reads
   how = sym (reads-is ∙ ap readsOf g-is)
 
@@ -44,41 +47,56 @@ module _ (i : ℕ) (t s : List ℕ) {f : Form} {v : ℕ} (f-is : f ≡ formOf (n
   write-nothing h = rw (how, own, h) refl
 
   module _ {r : List ℕ} where
-    pub write-types : reads ≡ Types → r ≡ written (shapesEach (forest (i + 1) k)) (set s i v) → r ≡ written (shapesOf (treeOf i t)) s
+    pub write-types : reads ≡ Types → r ≡ written (shapesEach (forest (i + 1) k)) (set s i v)
+        → r ≡ written (shapesOf (treeOf i t)) s
     unfolding shapesOf written
     write-types h r-is = r-is ∙ rw (how, own, h, kids) refl
 
     module _ {a : ℕ} (a-is : a ≡ spanOf k) where
-      pub write-index : reads ≡ AfterBase → r ≡ written (shapesEach (forest (i + 1 + a / 24) (take (length k - a) (drop a k)))) (set s i v) → r ≡ written (shapesOf (treeOf i t)) s
+      pub write-index : reads ≡ AfterBase
+          → r ≡ written (shapesEach (forest (i + 1 + a / 24) (take (length k - a) (drop a k)))) (set s i v)
+          → r ≡ written (shapesOf (treeOf i t)) s
       unfolding shapesOf written
-      write-index h r-is = r-is ∙ ap (λ (x : List Shape). written x (set s i v)) (after-base shapesIndex shapesEach refl (λ x y. refl) (i + 1) a k a-is) ∙ rw (how, own, h, kids) refl
+      write-index h r-is = r-is ∙ ap (λ (x : List Shape). written x (set s i v))
+          (after-base shapesIndex shapesEach refl (λ x y. refl) (i + 1) a k a-is) ∙ rw (how, own, h, kids) refl
 
-      pub write-index2 : reads ≡ Arguments → r ≡ written (shapesArguments (forest (i + 1 + a / 24) (take (length k - a) (drop a k)))) (set s i v) → r ≡ written (shapesOf (treeOf i t)) s
+      pub write-index2 : reads ≡ Arguments
+          → r ≡ written (shapesArguments (forest (i + 1 + a / 24) (take (length k - a) (drop a k)))) (set s i v)
+          → r ≡ written (shapesOf (treeOf i t)) s
       unfolding shapesOf written
-      write-index2 h r-is = r-is ∙ ap (λ (x : List Shape). written x (set s i v)) (after-base shapesIndex2 shapesArguments refl (λ x y. refl) (i + 1) a k a-is) ∙ rw (how, own, h, kids) refl
+      write-index2 h r-is = r-is ∙ ap (λ (x : List Shape). written x (set s i v))
+          (after-base shapesIndex2 shapesArguments refl (λ x y. refl) (i + 1) a k a-is)
+          ∙ rw (how, own, h, kids) refl
 
 -- the argument that a stretch begins with
 module _ (i : ℕ) (t s : List ℕ) {k : ℕ} (k-is : k ≡ nodeOf 0 t .kind) {r : List ℕ} where
-  pub write-list : k ≡ 39 → {e : ℕ} → e ≡ spanOf t → r ≡ written (shapesArguments (forest (i + 1) (take (e - 24) (drop 24 t)))) (set s i 5) → r ≡ written (shapesArgument (treeOf i t)) s
+  pub write-list : k ≡ 39 → {e : ℕ} → e ≡ spanOf t
+      → r ≡ written (shapesArguments (forest (i + 1) (take (e - 24) (drop 24 t)))) (set s i 5)
+      → r ≡ written (shapesArgument (treeOf i t)) s
   unfolding shapesOf written
   write-list h {e} e-is r-is = r-is ∙ rw (kids-part e t e-is, ← k-is, eq-eqb k 39 h) refl
 
-  pub write-other : (k ≡ 39 → ⊥) → r ≡ written (shapesOf (treeOf i t)) s → r ≡ written (shapesArgument (treeOf i t)) s
+  pub write-other : (k ≡ 39 → ⊥) → r ≡ written (shapesOf (treeOf i t)) s
+      → r ≡ written (shapesArgument (treeOf i t)) s
   unfolding shapesOf
   write-other h r-is =
       let test : eqb (nodeOf i t .kind) 39 ≡ false = ap (λ (x : ℕ). eqb x 39) (sym k-is) ∙ ne-eqb k 39 h in
       r-is ∙ rw test refl
 
 -- nodes side by side, each written by one rule
-module _ (one : Tree → List Shape) (all : Forest → List Shape) (none-is : all none ≡ []) (then-is : (t : Tree) (ts : Forest) → all (t then ts) ≡ one t ++ all ts) (i : ℕ) (t s : List ℕ) where
+module _ (one : Tree → List Shape) (all : Forest → List Shape) (none-is : all none ≡ [])
+    (then-is : (t : Tree) (ts : Forest) → all (t then ts) ≡ one t ++ all ts) (i : ℕ) (t s : List ℕ) where
   none-written : length t < 24 → s ≡ written (all (forest i t)) s
   unfolding written
   none-written h = rw (forest-none i t h, none-is) refl
 
-  go-written : 24 ≤ length t → {e : ℕ} {u r : List ℕ} → u ≡ written (one (treeOf i t)) s → e ≡ spanOf t → r ≡ written (all (forest (i + e / 24) (take (length t - e) (drop e t)))) u → r ≡ written (all (forest i t)) s
+  go-written : 24 ≤ length t → {e : ℕ} {u r : List ℕ} → u ≡ written (one (treeOf i t)) s → e ≡ spanOf t
+      → r ≡ written (all (forest (i + e / 24) (take (length t - e) (drop e t)))) u
+      → r ≡ written (all (forest i t)) s
   go-written big {e} u-is e-is r-is =
       r-is ∙ rw (rest-part e t e-is, e-is, u-is)
-      (sym (ap (λ (x : Forest). written (all x) s) (forest-tree i t big) ∙ ap (λ (x : List Shape). written x s) (then-is (treeOf i t) (forest (i + spanOf t / 24) (restOf t)))
+      (sym (ap (λ (x : Forest). written (all x) s) (forest-tree i t big)
+      ∙ ap (λ (x : List Shape). written x s) (then-is (treeOf i t) (forest (i + spanOf t / 24) (restOf t)))
       ∙ written-append (one (treeOf i t)) (all (forest (i + spanOf t / 24) (restOf t))) s))
 
 module _ (i : ℕ) (t s : List ℕ) where
@@ -91,10 +109,15 @@ module _ (i : ℕ) (t s : List ℕ) where
   arguments-none = none-written shapesArgument shapesArguments refl (λ x y. refl) i t s
 
   module _ (big : 24 ≤ length t) {e : ℕ} {u r : List ℕ} where
-    pub each-go : u ≡ written (shapesOf (treeOf i t)) s → e ≡ spanOf t → r ≡ written (shapesEach (forest (i + e / 24) (take (length t - e) (drop e t)))) u → r ≡ written (shapesEach (forest i t)) s
+    pub each-go : u ≡ written (shapesOf (treeOf i t)) s → e ≡ spanOf t
+        → r ≡ written (shapesEach (forest (i + e / 24) (take (length t - e) (drop e t)))) u
+        → r ≡ written (shapesEach (forest i t)) s
     unfolding shapesOf
     each-go u-is e-is r-is = go-written shapesOf shapesEach refl (λ x y. refl) i t s big u-is e-is r-is
 
-    pub arguments-go : u ≡ written (shapesArgument (treeOf i t)) s → e ≡ spanOf t → r ≡ written (shapesArguments (forest (i + e / 24) (take (length t - e) (drop e t)))) u → r ≡ written (shapesArguments (forest i t)) s
+    pub arguments-go : u ≡ written (shapesArgument (treeOf i t)) s → e ≡ spanOf t
+        → r ≡ written (shapesArguments (forest (i + e / 24) (take (length t - e) (drop e t)))) u
+        → r ≡ written (shapesArguments (forest i t)) s
     unfolding shapesOf
-    arguments-go u-is e-is r-is = go-written shapesArgument shapesArguments refl (λ x y. refl) i t s big u-is e-is r-is
+    arguments-go u-is e-is r-is = go-written shapesArgument shapesArguments refl (λ x y. refl) i t s big u-is e-is
+        r-is

@@ -29,7 +29,8 @@ module _ (t : List ℕ) {e : ℕ} (e-is : e ≡ spanOf t) where
 
 -- the kind of the parameter that a stretch begins with
 module _ (t : List ℕ) {k : ℕ} (k-is : k ≡ nodeOf 0 t .kind) where
-  pub kind-normal : k ≡ kindNormal → {d : ℕ} {b : Bool} → d ≡ nodeOf 0 t .detail → b ≡ hasDefault d → Normal b ≡ kindHere t
+  pub kind-normal : k ≡ kindNormal → {d : ℕ} {b : Bool} → d ≡ nodeOf 0 t .detail → b ≡ hasDefault d
+      → Normal b ≡ kindHere t
   unfolding kindHere kindAt
   kind-normal h d-is b-is = rw (← k-is, h, ← d-is, ← b-is) refl
 
@@ -45,9 +46,16 @@ module _ (t : List ℕ) {k : ℕ} (k-is : k ≡ nodeOf 0 t .kind) where
   unfolding kindHere kindAt
   kind-args h = rw (← k-is, h) refl
 
-  pub kind-kwargs : (k ≡ kindNormal → ⊥) → (k ≡ kindNoArgs → ⊥) → (k ≡ kindSlash → ⊥) → (k ≡ kindArgsParam → ⊥) → KwArgs ≡ kindHere t
+  pub kind-kwargs : (k ≡ kindNormal → ⊥) → (k ≡ kindNoArgs → ⊥) → (k ≡ kindSlash → ⊥) → (k ≡ kindArgsParam → ⊥)
+      → KwArgs ≡ kindHere t
   unfolding kindHere kindAt
-  kind-kwargs a b c d = rw (← k-is, ne-eqb k kindNormal a, ne-eqb k kindNoArgs b, ne-eqb k kindSlash c, ne-eqb k kindArgsParam d) refl
+  kind-kwargs a b c d = rw (
+    ← k-is,
+    ne-eqb k kindNormal a,
+    ne-eqb k kindNoArgs b,
+    ne-eqb k kindSlash c,
+    ne-eqb k kindArgsParam d,
+  ) refl
 
 -- a stretch begins with a parameter
 pub listed-is : (t : List ℕ) {k : ℕ} → k ≡ classOf (nodeOf 0 t .kind) → (leb 24 (length t) && eqb k 3) ≡ isListed t
@@ -71,11 +79,13 @@ module _ (ns x t : List ℕ) {k : Kind} (k-is : k ≡ kindHere t) {b : Bool} (b-
       go Args e = never refl e
       go KwArgs e = never refl e
 
-  pub name-tested : b ≡ true → {n : List ℕ} {r : Bool} → n ≡ nameOf ns (nodeOf 0 t) → r ≡ same n x → (i : ℕ) → r ≡ hasName x (paramOf ns (nodeOf i t))
+  pub name-tested : b ≡ true → {n : List ℕ} {r : Bool} → n ≡ nameOf ns (nodeOf 0 t) → r ≡ same n x → (i : ℕ)
+      → r ≡ hasName x (paramOf ns (nodeOf i t))
   unfolding hasName paramOf kindHere nameOf
   name-tested h {n} n-is r-is i = r-is ∙ rw (← k-is, n-is) (go k (sym b-is ∙ h))
     where
-      go : (k : Kind) → isNamed k ≡ true → same (nameOf ns (nodeOf i t)) x ≡ hasName x (param k (nodeOf i t) (nameOf ns (nodeOf i t)))
+      go : (k : Kind) → isNamed k ≡ true → same (nameOf ns (nodeOf i t)) x
+          ≡ hasName x (param k (nodeOf i t) (nameOf ns (nodeOf i t)))
       go (Normal d) e = refl
       go NoArgs e = never e refl
       go Slash e = never e refl

@@ -15,7 +15,8 @@ use Rattle.unpack.specs.declared.Flat.{Flat}
 use Rattle.unpack.specs.declared.Judged.{Judged}
 
 -- of `judge`; its second promise only bounds what the first determines
-pub judge-one : (names t : List ℕ) (node : ℕ) {r s : Judged} → r ≡ told (unpack (written names node t)) → s ≡ told (unpack (written names node t)) → r ≡ s
+pub judge-one : (names t : List ℕ) (node : ℕ) {r s : Judged} → r ≡ told (unpack (written names node t))
+    → s ≡ told (unpack (written names node t)) → r ≡ s
 judge-one names t node = coincide
 
 -- of `children`, `entry::listed`, `entry::kind_of`
@@ -32,5 +33,6 @@ kind-of-one t = coincide
 pub first-state-one : (only : Flat) {r s : State} → r ≡ firstState only → s ≡ firstState only → r ≡ s
 first-state-one only = coincide
 
-pub next-state-one : (state : State) (kind : Kind) {r s : State} → r ≡ nextState state kind → s ≡ nextState state kind → r ≡ s
+pub next-state-one : (state : State) (kind : Kind) {r s : State} → r ≡ nextState state kind
+    → s ≡ nextState state kind → r ≡ s
 next-state-one state kind = coincide

@@ -11,7 +11,9 @@ use Rattle.forest.specs.declared.Found.{Found}
 use Rattle.forest.specs.declared.Found.the-variants.{At, Nothing}
 use Rattle.forest.specs.Forest.{Node}
 use Rattle.unpack.specs.Written.{Param, nodeIn, kindIn}
-use Rattle.unpack.specs.Unpack.{writtenAt, flatAt, counts, seenStar, rule, firstly, repeats, check, start, nextState, nextStar, morePositional, count, advance, Internal, Step, on, stop, broken, keep, step, Outcome, accepted, refused, internal, after, run}
+use Rattle.unpack.specs.Unpack.{writtenAt, flatAt, counts, seenStar, rule, firstly, repeats, check, start}
+use Rattle.unpack.specs.Unpack.{nextState, nextStar, morePositional, count, advance, Internal, Step, on, stop}
+use Rattle.unpack.specs.Unpack.{broken, keep, step, Outcome, accepted, refused, internal, after, run}
 use Rattle.unpack.specs.Reading.{PlaceBelow, Bounded}
 use Rattle.unpack.specs.declared.Kind.{Kind}
 use Rattle.unpack.specs.declared.Kind.the-variants.{Normal, NoArgs, Slash, Args, KwArgs}
@@ -39,8 +41,10 @@ Clear SeenStar star c = c .kwargs ≡ NoFlat
 Clear SeenStarStar star c = Unit {0}
 
 -- a parameter that keeps its rule finds its place free
-free : (s : State) (o : Bool) (star : WrittenPlace) (c : Counts) (i : Written) (k : Kind) → Clear s star c → rule s o k ≡ Fine
-    → ((v : Unpacking) → v .«index_of_star» ≡ star → v .counts ≡ c → keep v i k ≡ on (advance v i k)) × Clear (nextState s k) (nextStar star i k) (count s c k)
+free : (s : State) (o : Bool) (star : WrittenPlace) (c : Counts) (i : Written) (k : Kind) → Clear s star c
+    → rule s o k ≡ Fine
+    → ((v : Unpacking) → v .«index_of_star» ≡ star → v .counts ≡ c → keep v i k ≡ on (advance v i k))
+    × Clear (nextState s k) (nextStar star i k) (count s c k)
 free BeforeSlash o star c i (Normal d) x e = (λ v a b. refl, x)
 free BeforeSlash o star c i NoArgs x e = (λ v a b. rw (a, x .0) refl, x .2)
 free BeforeSlash o star c i Slash x e = (λ v a b. refl, x)
@@ -72,7 +76,8 @@ check-rule (At i) c e = broken≢fine e
 check-rule Nothing c e = e
 
 module _ (before : List Param) (u : Unpacking) (p : Param) (ps : List Param) where
-  pub run-stop : {n : ℕ} → check before (u .state) (u .«seen_optional») p ≡ Broken n → run before u (p ∷ ps) ≡ refused n (nodeIn p)
+  pub run-stop : {n : ℕ} → check before (u .state) (u .«seen_optional») p ≡ Broken n
+      → run before u (p ∷ ps) ≡ refused n (nodeIn p)
   unfolding run step
   run-stop e = rw e refl
 
@@ -80,19 +85,26 @@ module _ (before : List Param) (u : Unpacking) (p : Param) (ps : List Param) whe
     kept : rule (u .state) (u .«seen_optional») (kindIn p) ≡ Fine
     kept = check-rule (repeats before p) _ fine
 
-    pub run-on : run before u (p ∷ ps) ≡ run (before ++ p ∷ []) (advance u (writtenAt (length before)) (kindIn p)) ps
+    pub run-on : run before u (p ∷ ps) ≡ run (before ++ p ∷ []) (advance u (writtenAt (length before)) (kindIn p))
+        ps
     unfolding run step
-    run-on = rw (fine, free (u .state) (u .«seen_optional») (u .«index_of_star») (u .counts) (writtenAt (length before)) (kindIn p) clear kept .0 u refl refl) refl
+    run-on = rw (
+      fine,
+      free (u .state) (u .«seen_optional») (u .«index_of_star») (u .counts)
+          (writtenAt (length before)) (kindIn p) clear kept .0 u refl refl,
+    ) refl
 
     pub clear-on : Cleared (advance u (writtenAt (length before)) (kindIn p))
     unfolding advance
-    clear-on = free (u .state) (u .«seen_optional») (u .«index_of_star») (u .counts) (writtenAt (length before)) (kindIn p) clear kept .1
+    clear-on = free (u .state) (u .«seen_optional») (u .«index_of_star») (u .counts) (writtenAt (length before))
+        (kindIn p) clear kept .1
 
 pub clear-start : (only : Flat) → Cleared (start only)
 unfolding start
 clear-start only = go (eqb (only .0) 0)
   where
-    go : (b : Bool) → Clear (if' b (λ _. SeenSlash) (λ _. BeforeSlash)) NoWritten (counts (flatAt 0) only NoFlat NoFlat (flatAt 0))
+    go : (b : Bool) → Clear (if' b (λ _. SeenSlash) (λ _. BeforeSlash)) NoWritten
+        (counts (flatAt 0) only NoFlat NoFlat (flatAt 0))
     go true = (refl, refl, refl)
     go false = (refl, refl, refl)
 
@@ -107,8 +119,38 @@ positional-more SeenStar m n h = omega arith
 positional-more SeenStarStar m n h = omega arith
 
 pub bounded-on : {m k : ℕ} (s : State) (c : Counts) (kd : Kind) → Bounded m k c → Bounded (m + 1) k (count s c kd)
-bounded-on {m} s c (Normal d) b = record { positional = positional-more s m (c .«num_positional») (b .positional); only = b .only; args = place-more m (c .args) (b .args); kwargs = place-more m (c .kwargs) (b .kwargs); flat = omega (arith, b .flat) }
-bounded-on {m} s c NoArgs b = record { positional = omega (arith, b .positional); only = b .only; args = place-more m (c .args) (b .args); kwargs = place-more m (c .kwargs) (b .kwargs); flat = omega (arith, b .flat) }
-bounded-on {m} s c Slash b = record { positional = omega (arith, b .positional); only = b .only; args = place-more m (c .args) (b .args); kwargs = place-more m (c .kwargs) (b .kwargs); flat = omega (arith, b .flat) }
-bounded-on {m} s c Args b = record { positional = omega (arith, b .positional); only = b .only; args = omega (arith, b .flat); kwargs = place-more m (c .kwargs) (b .kwargs); flat = omega (arith, b .flat) }
-bounded-on {m} s c KwArgs b = record { positional = omega (arith, b .positional); only = b .only; args = place-more m (c .args) (b .args); kwargs = omega (arith, b .flat); flat = omega (arith, b .flat) }
+bounded-on {m} s c (Normal d) b = record {
+  positional = positional-more s m (c .«num_positional») (b .positional);
+  only = b .only;
+  args = place-more m (c .args) (b .args);
+  kwargs = place-more m (c .kwargs) (b .kwargs);
+  flat = omega (arith, b .flat);
+}
+bounded-on {m} s c NoArgs b = record {
+  positional = omega (arith, b .positional);
+  only = b .only;
+  args = place-more m (c .args) (b .args);
+  kwargs = place-more m (c .kwargs) (b .kwargs);
+  flat = omega (arith, b .flat);
+}
+bounded-on {m} s c Slash b = record {
+  positional = omega (arith, b .positional);
+  only = b .only;
+  args = place-more m (c .args) (b .args);
+  kwargs = place-more m (c .kwargs) (b .kwargs);
+  flat = omega (arith, b .flat);
+}
+bounded-on {m} s c Args b = record {
+  positional = omega (arith, b .positional);
+  only = b .only;
+  args = omega (arith, b .flat);
+  kwargs = place-more m (c .kwargs) (b .kwargs);
+  flat = omega (arith, b .flat);
+}
+bounded-on {m} s c KwArgs b = record {
+  positional = omega (arith, b .positional);
+  only = b .only;
+  args = place-more m (c .args) (b .args);
+  kwargs = omega (arith, b .flat);
+  flat = omega (arith, b .flat);
+}

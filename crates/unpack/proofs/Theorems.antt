@@ -10,8 +10,11 @@ use borrow.Author.Tests.{lt-leb}
 use Rattle.fields.specs.Choice.{if'}
 use Rattle.forest.specs.Forest.{Node, spanOf, kidsOf, restOf, forest}
 use Rattle.forest.proofs.Stretch.{forest-induction, length-kids, length-rest, rest-part}
-use Rattle.unpack.specs.Written.{Param, normal, noArgs, slash, args, kwargs, nodeIn, kindIn, paramsIn, written}
-use Rattle.unpack.specs.Unpack.{writtenAt, flatAt, check, nextState, count, advance, modeOf, modesFrom, modes, start, isSlash, slashFrom, firstSlash, positionalOnly, normalNext, fromStar, finish, Internal, Outcome, accepted, refused, internal, run, unpack}
+use Rattle.unpack.specs.Written.{Param, normal, noArgs, slash, args, kwargs, nodeIn, kindIn, paramsIn}
+use Rattle.unpack.specs.Written.{written}
+use Rattle.unpack.specs.Unpack.{writtenAt, flatAt, check, nextState, count, advance, modeOf, modesFrom, modes}
+use Rattle.unpack.specs.Unpack.{start, isSlash, slashFrom, firstSlash, positionalOnly, normalNext, fromStar}
+use Rattle.unpack.specs.Unpack.{finish, Internal, Outcome, accepted, refused, internal, run, unpack}
 use Rattle.unpack.specs.Told.{told}
 use Rattle.unpack.specs.Reading.{isListed, Bounded}
 use Rattle.unpack.specs.declared.Kind.{Kind}
@@ -39,7 +42,8 @@ pub refused≢accepted : {P : Type 0} {n : ℕ} {r : Node} {c : Counts} → refu
 refused≢accepted h = let z : _≡_ {A = ℕ} 0 1 = cc in absurd (omega arith)
 
 -- what the last rule can give: what it was told, or a refusal
-after-star : {P : Type 0} (l : List Param) (o : Outcome) {x : Outcome} → fromStar l o ≡ x → (o ≡ x → P) → ((n : ℕ) (r : Node) → refused n r ≡ x → P) → P
+after-star : {P : Type 0} (l : List Param) (o : Outcome) {x : Outcome} → fromStar l o ≡ x → (o ≡ x → P)
+    → ((n : ℕ) (r : Node) → refused n r ≡ x → P) → P
 after-star [] o h f g = f h
 after-star (p ∷ []) o h f g = g _ _ h
 after-star (p ∷ normal r n d ∷ l) o h f g = f h
@@ -48,17 +52,22 @@ after-star (p ∷ slash r ∷ l) o h f g = g _ _ h
 after-star (p ∷ args r n ∷ l) o h f g = g _ _ h
 after-star (p ∷ kwargs r n ∷ l) o h f g = g _ _ h
 
-at-end : {P : Type 0} (w : List Param) (star : WrittenPlace) (c : Counts) {x : Outcome} → finish w star c ≡ x → (accepted c ≡ x → P) → ((n : ℕ) (r : Node) → refused n r ≡ x → P) → P
+at-end : {P : Type 0} (w : List Param) (star : WrittenPlace) (c : Counts) {x : Outcome} → finish w star c ≡ x
+    → (accepted c ≡ x → P) → ((n : ℕ) (r : Node) → refused n r ≡ x → P) → P
 unfolding finish
 at-end w NoWritten c h f g = f h
 at-end w (AtWritten i) c h f g = after-star (drop (i .0) w) (accepted c) h f g
 
-run-internal : (before : List Param) (u : Unpacking) (l : List Param) {e : Internal} {r : Node} → Cleared u → run before u l ≡ internal e r → ⊥
+run-internal : (before : List Param) (u : Unpacking) (l : List Param) {e : Internal} {r : Node} → Cleared u
+    → run before u l ≡ internal e r → ⊥
 unfolding run
-run-internal before u [] clear h = at-end before (u .«index_of_star») (u .counts) h accepted≢internal (λ n r x. refused≢internal x)
-run-internal before u (p ∷ ps) {e} {r} clear h = go (check before (u .state) (u .«seen_optional») p) refl (λ v w c q. run-internal w v ps c q)
+run-internal before u [] clear h = at-end before (u .«index_of_star») (u .counts) h accepted≢internal
+    (λ n r x. refused≢internal x)
+run-internal before u (p ∷ ps) {e} {r} clear h = go (check before (u .state) (u .«seen_optional») p) refl
+    (λ v w c q. run-internal w v ps c q)
   where
-    go : (k : Check) → check before (u .state) (u .«seen_optional») p ≡ k → ((v : Unpacking) (w : List Param) → Cleared v → run w v ps ≡ internal e r → ⊥) → ⊥
+    go : (k : Check) → check before (u .state) (u .«seen_optional») p ≡ k
+        → ((v : Unpacking) (w : List Param) → Cleared v → run w v ps ≡ internal e r → ⊥) → ⊥
     go Fine f rest = rest _ _ (clear-on before u p ps clear f) (sym (run-on before u p ps clear f) ∙ h)
     go (Broken n) f rest = refused≢internal (sym (run-stop before u p ps f) ∙ h)
 
@@ -70,15 +79,19 @@ no-internal-error (p ∷ ps) {e} {r} h = go (isSlash (kindIn p)) refl
   where
     go : (b : Bool) → isSlash (kindIn p) ≡ b → ⊥
     go true f = refused≢internal (rw f at h)
-    go false f = run-internal [] (start (positionalOnly (firstSlash (p ∷ ps)))) (p ∷ ps) (clear-start (positionalOnly (firstSlash (p ∷ ps)))) (rw f at h)
+    go false f = run-internal [] (start (positionalOnly (firstSlash (p ∷ ps)))) (p ∷ ps)
+        (clear-start (positionalOnly (firstSlash (p ∷ ps)))) (rw f at h)
 
-run-bounded : (before : List Param) (u : Unpacking) (l : List Param) (k : ℕ) {c : Counts} → Cleared u → Bounded (length before) k (u .counts) → run before u l ≡ accepted c → Bounded (length before + length l) k c
+run-bounded : (before : List Param) (u : Unpacking) (l : List Param) (k : ℕ) {c : Counts} → Cleared u
+    → Bounded (length before) k (u .counts) → run before u l ≡ accepted c → Bounded (length before + length l) k c
 unfolding run advance
 run-bounded before u [] k {c} clear b h =
     at-end before (u .«index_of_star») (u .counts) h
-    (λ e. let same : u .counts ≡ c = cc in let zero-more : length before + 0 ≡ length before = omega arith in rw (zero-more, ← same) b)
+    (λ e. let same : u .counts ≡ c = cc in let zero-more : length before + 0 ≡ length before = omega arith in
+    rw (zero-more, ← same) b)
     (λ n r e. refused≢accepted e)
-run-bounded before u (p ∷ ps) k {c} clear b h = go (check before (u .state) (u .«seen_optional») p) refl (λ v w x y z. run-bounded w v ps k x y z)
+run-bounded before u (p ∷ ps) k {c} clear b h = go (check before (u .state) (u .«seen_optional») p) refl
+    (λ v w x y z. run-bounded w v ps k x y z)
   where
     long : length (before ++ p ∷ []) ≡ length before + 1
     long = length-append before (p ∷ [])
@@ -86,7 +99,9 @@ run-bounded before u (p ∷ ps) k {c} clear b h = go (check before (u .state) (u
     more : Bounded (length (before ++ p ∷ [])) k (advance u (writtenAt (length before)) (kindIn p) .counts)
     more = rw long (bounded-on (u .state) (u .counts) (kindIn p) b)
 
-    go : (x : Check) → check before (u .state) (u .«seen_optional») p ≡ x → ((v : Unpacking) (w : List Param) → Cleared v → Bounded (length w) k (v .counts) → run w v ps ≡ accepted c → Bounded (length w + length ps) k c) → Bounded (length before + suc (length ps)) k c
+    go : (x : Check) → check before (u .state) (u .«seen_optional») p ≡ x
+        → ((v : Unpacking) (w : List Param) → Cleared v → Bounded (length w) k (v .counts) → run w v ps ≡ accepted c
+        → Bounded (length w + length ps) k c) → Bounded (length before + suc (length ps)) k c
     go Fine f rest =
         let same : length (before ++ p ∷ []) + length ps ≡ length before + suc (length ps) = omega (arith, long) in
         rw same at (rest _ _ (clear-on before u p ps clear f) more (sym (run-on before u p ps clear f) ∙ h))
@@ -98,16 +113,29 @@ unfolding slashFrom
 slash-within i [] = omega arith
 slash-within i (p ∷ ps) = go (isSlash (kindIn p)) (slash-within (i + 1) ps)
   where
-    go : (b : Bool) → positionalOnly (slashFrom (i + 1) ps) .0 ≤ i + 1 + length ps → positionalOnly (if' b (λ _. AtWritten (writtenAt i)) (λ _. slashFrom (i + 1) ps)) .0 ≤ i + suc (length ps)
+    go : (b : Bool) → positionalOnly (slashFrom (i + 1) ps) .0 ≤ i + 1 + length ps
+        → positionalOnly (if' b (λ _. AtWritten (writtenAt i)) (λ _. slashFrom (i + 1) ps)) .0 ≤ i + suc (length ps)
     go true h = omega arith
     go false h = omega arith
 
 bounded-start : (only : Flat) → Bounded 0 (only .0) (start only .counts)
 unfolding start
-bounded-start only = record { positional = omega arith; only = omega arith; args = tt; kwargs = tt; flat = omega arith }
+bounded-start only = record {
+  positional = omega arith;
+  only = omega arith;
+  args = tt;
+  kwargs = tt;
+  flat = omega arith;
+}
 
 bounded-wider : {m k : ℕ} {c : Counts} → Bounded m k c → k ≤ m → Bounded m m c
-bounded-wider b h = record { positional = b .positional; only = omega (arith, b .only); args = b .args; kwargs = b .kwargs; flat = b .flat }
+bounded-wider b h = record {
+  positional = b .positional;
+  only = omega (arith, b .only);
+  args = b .args;
+  kwargs = b .kwargs;
+  flat = b .flat;
+}
 
 -- THEOREM: every number of an accepted answer is at most the length of the written list
 pub accepted-bounded : (l : List Param) {c : Counts} → unpack l ≡ accepted c → Bounded (length l) (length l) c
@@ -120,7 +148,10 @@ accepted-bounded (p ∷ ps) {c} h = go (isSlash (kindIn p)) refl
     go false f =
         let only = positionalOnly (firstSlash (p ∷ ps)) in
         let none-before : 0 + length (p ∷ ps) ≡ length (p ∷ ps) = omega arith in
-        bounded-wider (rw none-before at (run-bounded [] (start only) (p ∷ ps) (only .0) (clear-start only) (bounded-start only) (rw f at h))) (omega (arith, slash-within 0 (p ∷ ps)))
+        bounded-wider
+        (rw none-before at (run-bounded
+        [] (start only) (p ∷ ps) (only .0) (clear-start only) (bounded-start only) (rw f at h)))
+        (omega (arith, slash-within 0 (p ∷ ps)))
 
 short-end : (t : List ℕ) → length t < 24 → isListed t ≡ false
 unfolding isListed
@@ -133,8 +164,11 @@ list-short ns =
     (λ i t s. rw (list-end ns i t (short-end t s)) (omega arith))
     (λ i t big ks rs. go i t (isListed t) refl rs)
   where
-    go : (i : ℕ) (t : List ℕ) (b : Bool) → isListed t ≡ b → 24 * length (paramsIn ns (forest (i + spanOf t / 24) (restOf t))) ≤ length (restOf t) → 24 * length (paramsIn ns (forest i t)) ≤ length t
-    go i t true e h = rw (list-on ns i t e refl, rest-part (spanOf t) t refl) (omega (arith, h, length-rest t, listed-long t e))
+    go : (i : ℕ) (t : List ℕ) (b : Bool) → isListed t ≡ b
+        → 24 * length (paramsIn ns (forest (i + spanOf t / 24) (restOf t))) ≤ length (restOf t)
+        → 24 * length (paramsIn ns (forest i t)) ≤ length t
+    go i t true e h = rw (list-on ns i t e refl, rest-part (spanOf t) t refl)
+        (omega (arith, h, length-rest t, listed-long t e))
     go i t false e h = rw (list-end ns i t e) (omega arith)
 
 pub written-short : (ns : List ℕ) (i : ℕ) (t : List ℕ) → 24 * length (written ns i t) ≤ length t - 24
@@ -155,14 +189,22 @@ only-kept s c Slash = refl
 only-kept s c Args = refl
 only-kept s c KwArgs = refl
 
-run-only : (before : List Param) (u : Unpacking) (l : List Param) {c : Counts} → Cleared u → run before u l ≡ accepted c → c .«num_positional_only» ≡ u .counts .«num_positional_only»
+run-only : (before : List Param) (u : Unpacking) (l : List Param) {c : Counts} → Cleared u
+    → run before u l ≡ accepted c → c .«num_positional_only» ≡ u .counts .«num_positional_only»
 unfolding run advance
 run-only before u [] {c} clear h =
-    at-end before (u .«index_of_star») (u .counts) h (λ e. let same : u .counts ≡ c = cc in ap (λ (x : Counts). x .«num_positional_only») (sym same)) (λ n r e. refused≢accepted e)
-run-only before u (p ∷ ps) {c} clear h = go (check before (u .state) (u .«seen_optional») p) refl (λ v w x z. run-only w v ps x z)
+    at-end before (u .«index_of_star») (u .counts) h
+    (λ e. let same : u .counts ≡ c = cc in ap (λ (x : Counts). x .«num_positional_only») (sym same))
+    (λ n r e. refused≢accepted e)
+run-only before u (p ∷ ps) {c} clear h = go (check before (u .state) (u .«seen_optional») p) refl
+    (λ v w x z. run-only w v ps x z)
   where
-    go : (x : Check) → check before (u .state) (u .«seen_optional») p ≡ x → ((v : Unpacking) (w : List Param) → Cleared v → run w v ps ≡ accepted c → c .«num_positional_only» ≡ v .counts .«num_positional_only») → c .«num_positional_only» ≡ u .counts .«num_positional_only»
-    go Fine f rest = rest _ _ (clear-on before u p ps clear f) (sym (run-on before u p ps clear f) ∙ h) ∙ only-kept (u .state) (u .counts) (kindIn p)
+    go : (x : Check) → check before (u .state) (u .«seen_optional») p ≡ x
+        → ((v : Unpacking) (w : List Param) → Cleared v → run w v ps ≡ accepted c
+        → c .«num_positional_only» ≡ v .counts .«num_positional_only»)
+        → c .«num_positional_only» ≡ u .counts .«num_positional_only»
+    go Fine f rest = rest _ _ (clear-on before u p ps clear f) (sym (run-on before u p ps clear f) ∙ h)
+        ∙ only-kept (u .state) (u .counts) (kindIn p)
     go (Broken n) f rest = refused≢accepted (sym (run-stop before u p ps f) ∙ h)
 
 only-start : (only : Flat) → start only .counts .«num_positional_only» ≡ only
@@ -174,9 +216,11 @@ unfolding slashFrom
 slash-none = refl
 
 -- LAW: an accepted list's num_positional_only is where its first `/` stands
-pub accepted-only : (l : List Param) {c : Counts} → unpack l ≡ accepted c → c .«num_positional_only» ≡ positionalOnly (firstSlash l)
+pub accepted-only : (l : List Param) {c : Counts} → unpack l ≡ accepted c
+    → c .«num_positional_only» ≡ positionalOnly (firstSlash l)
 unfolding unpack
-accepted-only [] {c} h = run-only [] (start (flatAt 0)) [] {c = c} (clear-start (flatAt 0)) h ∙ only-start (flatAt 0) ∙ ap positionalOnly (sym slash-none)
+accepted-only [] {c} h = run-only [] (start (flatAt 0)) [] {c = c} (clear-start (flatAt 0)) h
+    ∙ only-start (flatAt 0) ∙ ap positionalOnly (sym slash-none)
 accepted-only (p ∷ ps) {c} h = go (isSlash (kindIn p)) refl
   where
     go : (b : Bool) → isSlash (kindIn p) ≡ b → c .«num_positional_only» ≡ positionalOnly (firstSlash (p ∷ ps))
@@ -189,7 +233,12 @@ accepted-only (p ∷ ps) {c} h = go (isSlash (kindIn p)) refl
 modes-few : (s : State) (l : List Param) → length (modesFrom s l) ≤ length l
 unfolding modesFrom
 modes-few s [] = omega arith
-modes-few s (p ∷ ps) = omega (arith, modes-few (nextState s (kindIn p)) ps, length-append (modeOf s (kindIn p)) (modesFrom (nextState s (kindIn p)) ps), one s (kindIn p))
+modes-few s (p ∷ ps) = omega (
+  arith,
+  modes-few (nextState s (kindIn p)) ps,
+  length-append (modeOf s (kindIn p)) (modesFrom (nextState s (kindIn p)) ps),
+  one s (kindIn p),
+)
   where
     one : (s : State) (k : Kind) → length (modeOf s k) ≤ 1
     one s (Normal d) = omega arith

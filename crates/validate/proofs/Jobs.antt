@@ -27,13 +27,16 @@ use Rattle.errors.proofs.Storing.{stored-none, stores-both}
 use Rattle.validate.proofs.Bounds.{module-few}
 
 -- statements, then expressions
-pub module-all : (d : Dialect) (names t : List ℕ) {xs ys zs : List ℕ} {m n at : ℕ} → Stores («visit_stmt» d names true false false (forest 0 t)) xs m ys → at ≡ min (width * m) (length ys)
-    → Stores («visit_expr» d names (forest 0 t)) (take (length ys - at) (drop at ys)) n zs → Stores («validate_module» d names (forest 0 t)) xs (m + n) (putMid at (length ys - at) ys zs)
+pub module-all : (d : Dialect) (names t : List ℕ) {xs ys zs : List ℕ} {m n at : ℕ}
+    → Stores («visit_stmt» d names true false false (forest 0 t)) xs m ys → at ≡ min (width * m) (length ys)
+    → Stores («visit_expr» d names (forest 0 t)) (take (length ys - at) (drop at ys)) n zs
+    → Stores («validate_module» d names (forest 0 t)) xs (m + n) (putMid at (length ys - at) ys zs)
 unfolding «validate_module»
 module-all d names t s at-is q = stores-both _ _ s at-is q
 
 -- a total is little
-pub total-short : (d : Dialect) (names t : List ℕ) {xs ys : List ℕ} {n : ℕ} → Stores («validate_module» d names (forest 0 t)) xs n ys → 12 * n ≤ length t
+pub total-short : (d : Dialect) (names t : List ℕ) {xs ys : List ℕ} {n : ℕ}
+    → Stores («validate_module» d names (forest 0 t)) xs n ys → 12 * n ≤ length t
 total-short d names t s = omega (arith, s .count, module-few d names (forest 0 t), count-forest 0 t)
 
 -- what the promises say where the job refuses, and where it does not
@@ -61,6 +64,7 @@ module _ (t names bytes xs : List ℕ) {found : Checked} (f-is : checked found �
     unfolding givenCheck errorsOf
     job-dialect h = (rw (told, ← read-is, h) refl, rw (told, ← read-is, h) (sym (stored-none xs)))
 
-    pub job-total : {d : Dialect} {n : ℕ} {ys : List ℕ} → read ≡ Valid d → Stores («validate_module» d names (forest 0 t)) xs n ys → Promised t names bytes xs (accepted (n ∷ [])) ys
+    pub job-total : {d : Dialect} {n : ℕ} {ys : List ℕ} → read ≡ Valid d
+        → Stores («validate_module» d names (forest 0 t)) xs n ys → Promised t names bytes xs (accepted (n ∷ [])) ys
     unfolding givenCheck errorsOf
     job-total h s = (rw (told, ← read-is, h, s .count) refl, rw (told, ← read-is, h) (s .words))

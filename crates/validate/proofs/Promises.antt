@@ -15,8 +15,10 @@ listed-injective (Refused r) (Total n) e = never-accepted r e
 listed-injective (Refused r) (Refused s) e = ap Refused (refusal-injective r s e)
 
 -- of `module`
-pub module-one : (t names bytes : List ℕ) {r s : Listed} → listed r ≡ moduleOf t names bytes → listed s ≡ moduleOf t names bytes → r ≡ s
+pub module-one : (t names bytes : List ℕ) {r s : Listed} → listed r ≡ moduleOf t names bytes
+    → listed s ≡ moduleOf t names bytes → r ≡ s
 module-one t names bytes = coincide-by listed listed-injective
 
-pub module-words-one : (t names bytes xs : List ℕ) {ys zs : List ℕ} → ys ≡ errorsAfter t names bytes xs → zs ≡ errorsAfter t names bytes xs → ys ≡ zs
+pub module-words-one : (t names bytes xs : List ℕ) {ys zs : List ℕ} → ys ≡ errorsAfter t names bytes xs
+    → zs ≡ errorsAfter t names bytes xs → ys ≡ zs
 module-words-one t names bytes xs = coincide

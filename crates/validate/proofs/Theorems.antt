@@ -19,11 +19,13 @@ use Rattle.validate.proofs.Bounds.{module-few}
 
 module _ (t names bytes : List ℕ) where
   -- THEOREM: a refusal changes no word
-  pub refusal-keeps : {n : ℕ} {vs : List ℕ} (xs : List ℕ) → moduleOf t names bytes ≡ refused n vs → errorsAfter t names bytes xs ≡ xs
+  pub refusal-keeps : {n : ℕ} {vs : List ℕ} (xs : List ℕ) → moduleOf t names bytes ≡ refused n vs
+      → errorsAfter t names bytes xs ≡ xs
   unfolding errorsOf
   refusal-keeps {n} {vs} xs e = go (givenCheck t names bytes) (errorsIn (fromBytes bytes) names t) e
     where
-      go : (a : Answer) (es : List Err) → andThen a (λ _. accepted (length (ifAccepted a es) ∷ [])) ≡ refused n vs → stored (ifAccepted a es) xs ≡ xs
+      go : (a : Answer) (es : List Err) → andThen a (λ _. accepted (length (ifAccepted a es) ∷ [])) ≡ refused n vs
+          → stored (ifAccepted a es) xs ≡ xs
       go (accepted ws) es h = let z : _≡_ {A = ℕ} 0 1 = cc in absurd (omega arith)
       go (refused m ws) es h = stored-none xs
 
@@ -39,5 +41,6 @@ module _ (t names bytes : List ℕ) where
 
   -- THEOREM: a list of words with room for twice the node count holds all errors, one after the other, and its other words stay
   pub list-holds-all : (xs : List ℕ) → width * (2 * (length t / 24)) ≤ length xs
-      → errorsAfter t names bytes xs ≡ allWords (errorsOf t names bytes) ++ drop (width * length (errorsOf t names bytes)) xs
+      → errorsAfter t names bytes xs ≡ allWords (errorsOf t names bytes)
+      ++ drop (width * length (errorsOf t names bytes)) xs
   list-holds-all xs room = stored-all (errorsOf t names bytes) xs (omega (arith, errors-few))

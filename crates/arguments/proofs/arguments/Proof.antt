@@ -19,4 +19,9 @@ arguments-spec =
     (λ c. search needs)
     (λ c. search needs)
     (λ c κs. search needs)
-    (λ c. rw (← (arguments-are _ _ (c .before .before .before .before .before .before .before .pre .0) (c .before .before .before .before .span .ensures) (c .before .before .span2 .ensures))) (c .unpack .ensures)))
+    (λ c.  -- returns
+    let span2 = c .before .before .span2 in
+    let span = c .before .before .before .before .span in
+    let back = c .before .before .before .before .before .before in
+    let start = back .before in
+    rw (← (arguments-are _ _ start.pre.0 span.ensures span2.ensures)) (c .unpack .ensures)))

@@ -12,10 +12,14 @@ call-spec =
     (tie.spec
     (λ c κs. search needs)
     (λ c. search needs)
-    (λ c. call-refused _ _ _ (c .before .before .before .check .ensures) (c .before .checked .given .1))
+    (λ c. search call-refused)  -- returns
     (λ c. search needs)
     (λ c κs. search needs)
-    (λ c. call-wrong _ _ _ (c .before .before .before .before .check .ensures) (c .before .before .enum-told .given .1) (c .before .node-fits .ensures) (not-true _ (c .if1 .taken)))
+    (λ c. search (call-wrong, not-true))  -- returns-2
     (λ c κs. search needs)
-    (λ c κs. handed _ _ _ _ (c .before .before .before .before .before .check .ensures) (c .before .before .before .enum-told .given .1) (c .before .before .node-fits .ensures) (not-false _ (c .before .if1 .left)) (c .stretch .ensures))
-    (λ c. call-answer _ _ _ (c .before .before .before .before .before .before .check .ensures) (c .before .before .before .before .enum-told .given .1) (c .before .before .before .node-fits .ensures) (not-false _ (c .before .before .if1 .left)) (c .before .stretch .ensures) (c .arguments .ensures)))
+    (λ c κs.  -- arguments-requires
+    let node-fits = c .before .before .node-fits in
+    let enum-told = c .before .before .before .enum-told in
+    let check = c .before .before .before .before .before .check in
+    handed _ _ _ _ check.ensures enum-told.given.1 node-fits.ensures (search not-false) (c .stretch .ensures))
+    (λ c. search (call-answer, not-false)))  -- returns-3

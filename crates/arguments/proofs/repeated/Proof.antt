@@ -9,10 +9,10 @@ repeated-spec =
     tie.close
     (tie.spec
     (λ c κs. search needs)
-    (λ c. not-named _ _ _ _ (c .before .kind .ensures) (c .if1 .taken))
+    (λ c. search not-named)  -- returns
     (λ c κs. search needs)
     (λ c κs. search needs)
     (λ c. search needs)
     (λ c. search needs)
-    (λ c. named-found _ _ _ _ (c .before .before .before .before .before .before .kind .ensures) (c .before .before .before .before .before .if1 .left) (c .before .before .before .before .name .ensures) (c .before .before .before .first-named .ensures) (c .before .found .given .1))
-    (λ c. named-new _ _ _ _ (c .before .before .before .before .before .kind .ensures) (c .before .before .before .before .if1 .left) (c .before .before .before .name .ensures) (c .before .before .first-named .ensures) (c .enum-told .given .1)))
+    (λ c. search named-found)  -- returns-2
+    (λ c. search named-new))  -- returns-3

@@ -13,7 +13,7 @@ take-spec =
     (λ c κs. search needs)
     (λ c κs. search needs)
     (λ c κs. search needs)
-    (λ c. λ n. c .positional .ensures n ∙ step-positional _ _ n (c .before .match .keys1))
-    (λ c. λ n. c .named .ensures n ∙ step-named _ _ n (c .before .match .keys2))
-    (λ c. λ n. c .star .ensures n ∙ step-args _ _ n (c .before .match .keys3))
-    (λ c. λ n. c .star-star .ensures n ∙ step-kwargs _ _ n (c .before .match .rest .0 .0 .1) (c .before .match .rest .0 .1) (c .before .match .rest .1)))
+    (λ c. λ n. c .positional .ensures n ∙ (search step-positional))  -- returns
+    (λ c. λ n. c .named .ensures n ∙ (search step-named))  -- returns-2
+    (λ c. λ n. c .star .ensures n ∙ (search step-args))  -- returns-3
+    (λ c. λ n. c .star-star .ensures n ∙ (search step-kwargs)))  -- returns-4

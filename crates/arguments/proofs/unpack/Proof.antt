@@ -19,25 +19,53 @@ unpack-spec =
     (tie.spec
     Inv-loop
     μ-loop
-    (λ c. walk-start _ _ _)
-    (λ c. c .before .loop .inv .from)
+    (λ c. walk-start _ _ _)  -- loop-holds
+    (λ c. search)  -- sub-repeated
     (λ c κs. search needs)
     (λ c κs. search needs)
-    (λ c κs. (c .before .before .before .loop .inv .reached, omega (arith, c .before .before .before .loop .inv .places, c .before .before .before .loop .inv .room, c .before .before .before .before .before .before .pre)))
-    (λ c. search needs)
-    (λ c. search needs)
-    (λ c. record { fits = omega (arith, c .before .before .before .before .before .before .before .loop .inv .room, c .before .before .before .before .before .before .before .before .before .before .pre) })
     (λ c κs. search needs)
-    (λ c. c .refused-at .ensures ∙ walk-refused (c .before .before .before .before .before .before .before .before .loop .inv) (c .before .before .before .before .before .before .before .loop-test .taken) (c .before .before .before .before .before .before .repeated .ensures) (c .before .before .before .before .before .kind .ensures) (λ n. rw (c .before .before .next2 .given .1) at (c .before .before .before .before .take .ensures n)))
     (λ c. search needs)
-    (λ c. record { fits = omega (arith, c .before .before .before .before .before .before .loop .inv .room, c .before .before .before .before .before .before .before .before .before .pre) })
+    (λ c. search needs)
+    (λ c. omega arith)  -- cast-refused-at
     (λ c κs. search needs)
-    (λ c. c .refused-at-name .ensures ∙ walk-repeated (c .before .before .before .before .before .before .before .loop .inv) (c .before .before .before .before .before .before .loop-test .taken) (c .before .before .before .before .before .repeated .ensures) (c .before .before .before .before .kind .ensures) (λ n. rw (c .before .enum-told .given .1) at (c .before .before .before .take .ensures n)))
+    (λ c.  -- returns
+    let next2 = c .before .before .next2 in
+    let take = c .before .before .before .before .take in
+    let kind = c .before .before .before .before .before .kind in
+    let repeated = c .before .before .before .before .before .before .repeated in
+    let back = c .before .before .before .before .before .before in
+    let loop-test = back .before .loop-test in
+    let loop = back .before .before .loop in
+    c .refused-at .ensures ∙ walk-refused loop.inv loop-test.taken repeated.ensures kind.ensures
+    (λ n. rw next2.given.1 at (take.ensures n)))
+    (λ c. search needs)
+    (λ c. omega arith)  -- cast-refused-at-name
     (λ c κs. search needs)
-    (λ c. omega (arith, c .before .before .before .before .before .before .before .before .loop .inv .room, c .before .before .before .before .before .before .before .before .before .before .before .pre))
+    (λ c.  -- returns-2
+    let enum-told = c .before .enum-told in
+    let take = c .before .before .before .take in
+    let kind = c .before .before .before .before .kind in
+    let repeated = c .before .before .before .before .before .repeated in
+    let loop-test = c .before .before .before .before .before .before .loop-test in
+    let back = c .before .before .before .before .before .before in
+    let loop = back .before .loop in
+    c .refused-at-name .ensures ∙ walk-repeated loop.inv loop-test.taken repeated.ensures kind.ensures
+    (λ n. rw enum-told.given.1 at (take.ensures n)))
+    (λ c κs. search needs)
+    (λ c. omega arith)  -- add-at
     (λ c. search needs)
     (λ c. search needs)
     (λ c. search needs)
     (λ c. search needs)
-    (λ c. walk-on (c .before .before .before .before .before .before .before .before .before .loop .inv) (c .before .before .before .before .before .before .before .before .loop-test .taken) (c .before .before .before .before .before .before .before .repeated .ensures) (c .before .before .before .before .before .before .kind .ensures) (λ n. rw (c .before .before .before .next .given .1) at (c .before .before .before .before .before .take .ensures n)) (c .before .span .ensures))
-    (λ c. walk-end (c .before .loop .inv) (c .loop-test .left)))
+    (λ c.  -- loop-again
+    let span = c .before .span in
+    let next = c .before .before .before .next in
+    let take = c .before .before .before .before .before .take in
+    let kind = c .before .before .before .before .before .before .kind in
+    let back = c .before .before .before .before .before .before in
+    let repeated = back .before .repeated in
+    let loop-test = back .before .before .loop-test in
+    let loop = back .before .before .before .loop in
+    walk-on loop.inv loop-test.taken repeated.ensures kind.ensures (λ n. rw next.given.1 at (take.ensures n))
+    span.ensures)
+    (λ c. search walk-end))  -- returns-3

@@ -1,5 +1,4 @@
 -- `blocks::first_block` meets its contract: the zero bytes are filled from the front. Assumes nothing.
-use mathlib.Core.Path.{refl}
 use Prim.Native.Nat.{ℕ, _-_}
 use native.Mathlib.Omega.{arith}
 use borrow.Author.Needs.{needs}
@@ -20,10 +19,10 @@ first-block-spec =
     (tie.spec
     Inv-loop
     μ-loop
-    (λ c. fill-start _ _ _ (omega (arith, length-replicate {A = ℕ} 512 0)) (c .pre))
+    (λ c. fill-start _ _ _ (omega (arith, length-replicate {A = ℕ} 512 0)) (c .pre))  -- loop-holds
     (λ c. search needs)
-    (λ c. omega (arith, fill-long (c .before .before .loop .inv), length-replicate {A = ℕ} 512 0))
+    (λ c. search)  -- array-write-b
     (λ c. search needs)
     (λ c. search needs)
-    (λ c. fill-on (c .before .before .loop .inv) (c .before .loop-test .taken) refl)
-    (λ c. fill-whole (c .before .loop .inv) (c .loop-test .left) (omega (arith, length-replicate {A = ℕ} 512 0))))
+    (λ c. search fill-on)  -- loop-again
+    (λ c. search fill-whole))  -- returns

@@ -7,4 +7,9 @@ use Rattle.blocks.proofs.judge.Tie as tie
 pub judge-spec : {M : Type 1} → statement M
 judge-spec =
     tie.close
-    (tie.spec (λ c. judge-short _ _ _ (c .if1 .taken)) (λ c κs. search needs) (λ c. search needs) (λ c κs. search needs) (λ c. judge-long _ _ _ (c .before .before .before .if1 .left) (c .before .before .first-block .ensures) (c .examine .ensures)))
+    (tie.spec
+    (λ c. judge-short _ _ _ (c .if1 .taken))  -- returns
+    (λ c κs. search needs)
+    (λ c. search needs)
+    (λ c κs. search needs)
+    (λ c. search judge-long))  -- returns-2

@@ -17,10 +17,10 @@ padded-spec =
     (tie.spec
     Inv-loop
     μ-loop
-    (λ c. pad-start _ _ (c .pre))
+    (λ c. pad-start _ _ (c .pre))  -- loop-holds
     (λ c. search needs)
-    (λ c. pad-stop (c .before .before .before .loop .inv) (c .before .before .loop-test .taken) (c .if1 .taken))
+    (λ c. search pad-stop)  -- returns
     (λ c. search needs)
     (λ c. search needs)
-    (λ c. pad-on (c .before .before .before .loop .inv) (c .before .before .loop-test .taken) (c .if1 .left))
-    (λ c. pad-end (c .before .loop .inv) (c .loop-test .left)))
+    (λ c. search pad-on)  -- loop-again
+    (λ c. search pad-end))  -- returns-2

@@ -18,11 +18,11 @@ sum-spec =
     (tie.spec
     Inv-loop
     μ-loop
-    (λ c. sum-start _)
+    (λ c. sum-start _)  -- loop-holds
     (λ c. search needs)
     (λ c κs. search needs)
-    (λ c. omega (arith, c .before .before .before .loop .inv .few, c .weight .ensures .1))
+    (λ c. omega arith)  -- add-sum
     (λ c. search needs)
     (λ c. search needs)
-    (λ c. sum-on (c .before .before .before .loop .inv) (c .before .before .loop-test .taken) (c .weight .ensures .0) (c .weight .ensures .1))
-    (λ c. sum-end (c .before .loop .inv) (c .loop-test .left)))
+    (λ c. search sum-on)  -- loop-again
+    (λ c. search sum-end))  -- returns

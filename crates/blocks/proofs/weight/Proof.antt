@@ -7,4 +7,10 @@ use Rattle.blocks.proofs.weight.Statement.{statement}
 use Rattle.blocks.proofs.weight.Tie as tie
 
 pub weight-spec : {M : Type 1} → statement M
-weight-spec = tie.close (tie.spec (λ c. search needs) (λ c. search needs) (λ c. omega (arith, weight-small (c .args .p) (c .args .x) (c .pre) (omega arith))) (λ c. (refl, weight-small _ _ (c .pre) (omega arith))))
+weight-spec =
+    tie.close
+    (tie.spec
+    (λ c. search needs)
+    (λ c. search needs)
+    (λ c. omega (arith, weight-small (c .args .p) (c .args .x) (c .pre) (omega arith)))  -- mul-result
+    (λ c. (refl, weight-small _ _ (c .pre) (omega arith))))  -- returns

@@ -24,8 +24,11 @@ from-bytes-spec =
     tie.close
     (tie.spec
     (λ c κs. search needs)
-    (λ c. empty _ _ (c .before .if1 .taken) (search needs))
+    (λ c. search empty)  -- returns
     (λ c κs. search needs)
-    (λ c κs. valid-length _ (sym (c .before .valid-bytes .ensures) ∙ c .if2 .taken))
-    (λ c. ap Valid (c .record-of .ensures) ∙ sym (valid-given _ (sym (c .before .before .valid-bytes .ensures) ∙ c .before .if2 .taken)))
-    (λ c. sym (invalid-given _ (c .before .before .if1 .left) (sym (c .before .valid-bytes .ensures) ∙ c .if2 .left))))
+    (λ c κs. valid-length _ (sym (c .before .valid-bytes .ensures) ∙ c .if2 .taken))  -- record-of-requires
+    (λ c.  -- returns-2
+    ap Valid (c .record-of .ensures) ∙ sym
+    (valid-given _ (sym (c .before .before .valid-bytes .ensures) ∙ c .before .if2 .taken)))
+    (λ c.  -- returns-3
+    sym (invalid-given _ (c .before .before .if1 .left) (sym (c .before .valid-bytes .ensures) ∙ c .if2 .left))))

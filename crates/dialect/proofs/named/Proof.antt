@@ -1,7 +1,5 @@
 -- `dialect::named` meets its contract: the record of the row that `row_named` chose. Assumes nothing.
-use mathlib.Core.Path.{ap, _∙_}
 use borrow.Author.Needs.{needs}
-use Rattle.dialect.specs.Rows.{recordOf}
 use Rattle.dialect.proofs.named.Statement.{statement}
 use Rattle.dialect.proofs.named.Tie as tie
 
@@ -12,4 +10,4 @@ named-spec =
     (λ c κs. search needs)
     (λ c. search needs)
     (λ c κs. search needs)
-    (λ c. c .record-of .ensures ∙ ap recordOf (c .before .before .row-named .ensures)))
+    (λ c. cc))  -- returns

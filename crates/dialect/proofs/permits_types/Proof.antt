@@ -4,4 +4,12 @@ use Rattle.dialect.proofs.permits_types.Statement.{statement}
 use Rattle.dialect.proofs.permits_types.Tie as tie
 
 pub permits-types-spec : {M : Type 1} → statement M
-permits-types-spec = tie.close (tie.spec (λ c. search needs) (λ c. search needs) (λ c. search needs) (λ c. search needs) (λ c. search needs) (λ c. search needs))
+permits-types-spec =
+    tie.close
+    (tie.spec
+    (λ c. search needs)
+    (λ c. search needs)
+    (λ c. search needs)
+    (λ c. search needs)
+    (λ c. search needs)
+    (λ c. search needs))

@@ -6,7 +6,7 @@ use Rattle.dialect.proofs.record_of.Tie as tie
 
 returns : tie.Need-returns
 unfolding recordOf
-returns c = rw (c .before .before .before .types-of .ensures)
+returns c = cc
 
 pub record-of-spec : {M : Type 1} → statement M
 record-of-spec =

@@ -1,5 +1,4 @@
 -- `dialect::row_named` meets its contract: in each arm the row of the table is the name's row. Assumes nothing.
-use mathlib.Core.Path.{sym, ap}
 use native.Mathlib.Omega.{arith}
 use borrow.Author.Needs.{needs}
 use Rattle.dialect.specs.Rows.{rowNamed}
@@ -11,11 +10,11 @@ row-named-spec =
     tie.close
     (tie.spec
     (λ c. search needs)
-    (λ c. omega arith)
+    (λ c. omega arith)  -- array-copy-out-result
     (λ c. search needs)
-    (λ c. omega arith)
+    (λ c. omega arith)  -- array-copy-out-result-2
     (λ c. search needs)
-    (λ c. omega arith)
-    (λ c. sym (ap rowNamed (c .before .enum-told .given .1)))
-    (λ c. sym (ap rowNamed (c .before .enum-told2 .given .1)))
-    (λ c. sym (ap rowNamed (c .before .enum-told3 .given .1))))
+    (λ c. omega arith)  -- array-copy-out-result-3
+    (λ c. search)  -- returns
+    (λ c. search)  -- returns-2
+    (λ c. search))  -- returns-3

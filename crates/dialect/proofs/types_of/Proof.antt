@@ -7,6 +7,6 @@ pub types-of-spec : {M : Type 1} → statement M
 types-of-spec =
     tie.close
     (tie.spec
-    (λ c. simp (eq-eqb _ _ (c .if1 .taken)))
-    (λ c. simp (ne-eqb _ _ (c .before .if1 .left), eq-eqb _ _ (c .if2 .taken)))
-    (λ c. simp (ne-eqb _ _ (c .before .if1 .left), ne-eqb _ _ (c .if2 .left))))
+    (λ c. simp (eq-eqb _ _ (c .if1 .taken)))  -- returns
+    (λ c. search (ne-eqb, eq-eqb))  -- returns-2
+    (λ c. search ne-eqb))  -- returns-3

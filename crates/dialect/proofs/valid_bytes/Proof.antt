@@ -18,7 +18,8 @@ abbrev fits : List ℕ → ℕ → ℕ → Bool
 fits bs i m = leb (getD bs i 0) m
 
 -- nine bytes, tested as the code does
-nine : (bs : List ℕ) → length bs ≡ 9 → (fits bs 0 1 && fits bs 1 1 && fits bs 2 1 && fits bs 3 1 && fits bs 4 1 && fits bs 5 2 && fits bs 6 1 && fits bs 7 1 && fits bs 8 1) ≡ validBytes bs
+nine : (bs : List ℕ) → length bs ≡ 9 → (fits bs 0 1 && fits bs 1 1 && fits bs 2 1 && fits bs 3 1 && fits bs 4 1
+    && fits bs 5 2 && fits bs 6 1 && fits bs 7 1 && fits bs 8 1) ≡ validBytes bs
 unfolding validBytes within
 nine bs h = simp and-assoc (simp and-true at (ap validBytes (elements-drop 9 0 bs h)))
 
@@ -26,7 +27,7 @@ pub valid-bytes-spec : {M : Type 1} → statement M
 valid-bytes-spec =
     tie.close
     (tie.spec
-    (λ c. sym (invalid-length _ (search needs)))
+    (λ c. sym (invalid-length _ (search needs)))  -- returns
     (λ c. search needs)
     (λ c. search needs)
     (λ c. search needs)
@@ -36,4 +37,4 @@ valid-bytes-spec =
     (λ c. search needs)
     (λ c. search needs)
     (λ c. search needs)
-    (λ c. nine _ (search needs)))
+    (λ c. nine _ (search needs)))  -- returns-2

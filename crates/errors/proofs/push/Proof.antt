@@ -11,8 +11,8 @@ push-spec =
     tie.close
     (tie.spec
     (λ c. search needs)
-    (λ c. simp length-set (omega arith))
+    (λ c. simp length-set (omega arith))  -- slice-write-errors-2
     (λ c. search needs)
     (λ c. search needs)
-    (λ c. push-fits _ _ _ _ (c .if1 .taken))
-    (λ c. push-full _ _ _ _ (c .if1 .left)))
+    (λ c. search push-fits)  -- returns
+    (λ c. search push-full))  -- returns-2

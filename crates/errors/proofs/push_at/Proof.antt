@@ -5,4 +5,11 @@ use Rattle.errors.proofs.push_at.Statement.{statement}
 use Rattle.errors.proofs.push_at.Tie as tie
 
 pub push-at-spec : {M : Type 1} → statement M
-push-at-spec = tie.close (tie.spec (λ c κs. search needs) (λ c κs. search needs) (λ c κs. search needs) (λ c. search needs) (λ c. push-spanned _ _ (c .before .before .before .before .before .begin .ensures) (c .before .before .before .before .stop .ensures) (c .before .before .push .ensures)))
+push-at-spec =
+    tie.close
+    (tie.spec
+    (λ c κs. search needs)
+    (λ c κs. search needs)
+    (λ c κs. search needs)
+    (λ c. search needs)
+    (λ c. search push-spanned))  -- returns

@@ -5,4 +5,10 @@ use Rattle.errors.proofs.push_unless.Statement.{statement}
 use Rattle.errors.proofs.push_unless.Tie as tie
 
 pub push-unless-spec : {M : Type 1} → statement M
-push-unless-spec = tie.close (tie.spec (λ c. unless-permitted _ _ (c .if1 .taken)) (λ c κs. search needs) (λ c. search needs) (λ c. unless-not _ _ (c .before .before .before .before .if1 .left) (c .before .before .push-at .ensures)))
+push-unless-spec =
+    tie.close
+    (tie.spec
+    (λ c. unless-permitted _ _ (c .if1 .taken))  -- returns
+    (λ c κs. search needs)
+    (λ c. search needs)
+    (λ c. search unless-not))  -- returns-2

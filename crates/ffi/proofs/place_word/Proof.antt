@@ -10,5 +10,5 @@ place-word-spec =
     (tie.spec
     (λ c. search needs)
     (λ c. search needs)
-    (λ c. rw (c .before .p .given .1) refl)
-    (λ c. rw (c .enum-told .given .1) refl))
+    (λ c. cc)  -- returns
+    (λ c. rw (c .enum-told .given .1) refl))  -- returns-2

@@ -1,5 +1,4 @@
 -- `ffi::put_call` meets its contract: the words of the four values. Assumes nothing.
-use mathlib.Core.Path.{refl}
 use Rattle.ffi.proofs.Told.{call-laid}
 use borrow.Author.Needs.{needs}
 use Rattle.ffi.proofs.put_call.Statement.{statement}
@@ -15,4 +14,4 @@ put-call-spec =
     (λ c. search needs)
     (λ c κs. search needs)
     (λ c. search needs)
-    (λ c. (refl, call-laid (c .before .before .args .a) _ _ (c .before .before .args .out .now) (c .before .place-word .ensures) (c .place-word2 .ensures))))
+    (λ c. search call-laid))  -- returns

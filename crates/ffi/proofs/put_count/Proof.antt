@@ -5,4 +5,4 @@ use Rattle.ffi.proofs.put_count.Statement.{statement}
 use Rattle.ffi.proofs.put_count.Tie as tie
 
 pub put-count-spec : {M : Type 1} → statement M
-put-count-spec = tie.close (tie.spec (λ c. search needs) (λ c. (refl, refl)))
+put-count-spec = tie.close (tie.spec (λ c. search needs) (λ c. (refl, refl)))  -- returns

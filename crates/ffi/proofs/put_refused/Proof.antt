@@ -1,5 +1,4 @@
 -- `ffi::put_refused` meets its contract: each variant lays what it carries. Assumes nothing.
-use mathlib.Core.Path.{refl}
 use borrow.Author.Needs.{needs}
 use Rattle.ffi.proofs.put_refused.Statement.{statement}
 use Rattle.ffi.proofs.put_refused.Tie as tie
@@ -16,5 +15,5 @@ put-refused-spec =
     (λ c. search needs)
     (λ c. search needs)
     (λ c. search needs)
-    (λ c. rw (c .before .r2 .given .1) (refl, refl))
-    (λ c. rw (c .before .r3 .given .1) (refl, refl)))
+    (λ c. search (needs, c .before .r2 .given .1))  -- returns-2
+    (λ c. search (needs, c .before .r3 .given .1)))  -- returns-3

@@ -15,5 +15,11 @@ starlark-call-spec =
     (λ c κs. search needs)
     (λ c. search needs)
     (λ c κs. search needs)
-    (λ c. told callWords called _ _ _ _ _ _ (c .before .before .before .before .before .call .ensures) (c .before .before .before .answer .given .1) (c .put-call .ensures))
-    (λ c. told callWords called _ _ _ _ _ _ (c .before .before .before .before .before .call .ensures) (c .before .before .before .answer2 .given .1) (refused-put (c .before .before .before .answer2 .given .0 .0) (c .before .before .before .before .before .before .before .before .args .out .now) (c .put-refused .ensures))))
+    (λ c.  -- returns
+    let answer = c .before .before .before .answer in
+    let call = c .before .before .before .before .before .call in
+    told callWords called _ _ _ _ _ _ call.ensures answer.given.1 (c .put-call .ensures))
+    (λ c.  -- returns-2
+    let answer2 = c .before .before .before .answer2 in
+    let call = c .before .before .before .before .before .call in
+    told callWords called _ _ _ _ _ _ call.ensures answer2.given.1 (search refused-put)))

@@ -16,6 +16,14 @@ starlark-module-spec =
     (λ c. search needs)
     (λ c κs. search needs)
     (λ c. search needs)
-    (λ c. told-with words listed _ _ _ _ _ _ (c .before .before .before .before .before .before .before .module .ensures) (c .before .before .before .answer .given .1) (c .put-count .ensures))
+    (λ c.  -- returns
+    let answer = c .before .before .before .answer in
+    let back = c .before .before .before .before .before .before in
+    let the-module = back .before .module in
+    told-with words listed _ _ _ _ _ _ the-module.ensures answer.given.1 (c .put-count .ensures))
     (λ c. search needs)
-    (λ c. told-with words listed _ _ _ _ _ _ (c .before .before .before .before .before .before .before .module .ensures) (c .before .before .before .answer2 .given .1) (c .put-refused .ensures)))
+    (λ c.  -- returns-2
+    let answer2 = c .before .before .before .answer2 in
+    let back = c .before .before .before .before .before .before in
+    let the-module = back .before .module in
+    told-with words listed _ _ _ _ _ _ the-module.ensures answer2.given.1 (c .put-refused .ensures)))

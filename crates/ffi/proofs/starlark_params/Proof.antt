@@ -2,7 +2,6 @@
 use Rattle.ffi.proofs.Told.{told-with, params-fit}
 use Rattle.ffi.specs.Words.{words}
 use Rattle.parameters.specs.Params.{unpacked}
-use mathlib.Core.Path.{refl}
 use borrow.Author.Needs.{needs}
 use Rattle.ffi.proofs.starlark_params.Statement.{statement}
 use Rattle.ffi.proofs.starlark_params.Tie as tie
@@ -13,10 +12,18 @@ starlark-params-spec =
     (tie.spec
     (λ c κs. search needs)
     (λ c. search needs)
-    (λ c κs. params-fit unpacked _ _ _ _ _ _ _ (c .before .before .before .before .before .before .params .ensures .0) (c .before .before .answer .given .1) refl)
+    (λ c κs. search (params-fit unpacked))  -- put-ranges-requires
     (λ c. search needs)
     (λ c κs. search needs)
     (λ c. search needs)
-    (λ c. told-with words unpacked _ _ _ _ _ _ (c .before .before .before .before .before .before .before .params .ensures) (c .before .before .before .answer .given .1) (c .put-ranges .ensures))
+    (λ c.  -- returns
+    let answer = c .before .before .before .answer in
+    let back = c .before .before .before .before .before .before in
+    let params = back .before .params in
+    told-with words unpacked _ _ _ _ _ _ params.ensures answer.given.1 (c .put-ranges .ensures))
     (λ c. search needs)
-    (λ c. told-with words unpacked _ _ _ _ _ _ (c .before .before .before .before .before .before .before .params .ensures) (c .before .before .before .answer2 .given .1) (c .put-refused .ensures)))
+    (λ c.  -- returns-2
+    let answer2 = c .before .before .before .answer2 in
+    let back = c .before .before .before .before .before .before in
+    let params = back .before .params in
+    told-with words unpacked _ _ _ _ _ _ params.ensures answer2.given.1 (c .put-refused .ensures)))

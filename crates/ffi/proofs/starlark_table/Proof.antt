@@ -15,5 +15,9 @@ starlark-table-spec =
     (λ c. search needs)
     (λ c. search needs)
     (λ c κs. search needs)
-    (λ c. told words checked _ _ _ _ _ _ (c .before .before .check .ensures) (c .enum-told .given .1) (refl, refl))
-    (λ c. told words checked _ _ _ _ _ _ (c .before .before .before .before .before .check .ensures) (c .before .before .before .answer .given .1) (c .put-refused .ensures)))
+    (λ c.  -- returns
+    told words checked _ _ _ _ _ _ (c .before .before .check .ensures) (c .enum-told .given .1) (refl, refl))
+    (λ c.  -- returns-2
+    let answer = c .before .before .before .answer in
+    let check = c .before .before .before .before .before .check in
+    told words checked _ _ _ _ _ _ check.ensures answer.given.1 (c .put-refused .ensures)))

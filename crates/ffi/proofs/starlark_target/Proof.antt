@@ -15,5 +15,11 @@ starlark-target-spec =
     (λ c κs. search needs)
     (λ c. search needs)
     (λ c κs. search needs)
-    (λ c. told words targeted _ _ _ _ _ _ (c .before .before .before .before .before .target .ensures) (c .before .before .before .answer .given .1) (c .put-count .ensures))
-    (λ c. told words targeted _ _ _ _ _ _ (c .before .before .before .before .before .target .ensures) (c .before .before .before .answer2 .given .1) (c .put-refused .ensures)))
+    (λ c.  -- returns
+    let answer = c .before .before .before .answer in
+    let target = c .before .before .before .before .before .target in
+    told words targeted _ _ _ _ _ _ target.ensures answer.given.1 (c .put-count .ensures))
+    (λ c.  -- returns-2
+    let answer2 = c .before .before .before .answer2 in
+    let target = c .before .before .before .before .before .target in
+    told words targeted _ _ _ _ _ _ target.ensures answer2.given.1 (c .put-refused .ensures)))

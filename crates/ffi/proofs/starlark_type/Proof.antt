@@ -16,6 +16,12 @@ starlark-type-spec =
     (λ c. search needs)
     (λ c κs. search needs)
     (λ c. search needs)
-    (λ c. told-with words shaped _ _ _ _ _ _ (c .before .before .before .before .type-shape .ensures) (c .enum-told .given .1) (refl, refl))
+    (λ c.  -- returns
+    let type-shape = c .before .before .before .before .type-shape in
+    told-with words shaped _ _ _ _ _ _ type-shape.ensures (c .enum-told .given .1) (refl, refl))
     (λ c. search needs)
-    (λ c. told-with words shaped _ _ _ _ _ _ (c .before .before .before .before .before .before .before .type-shape .ensures) (c .before .before .before .answer .given .1) (c .put-refused .ensures)))
+    (λ c.  -- returns-2
+    let answer = c .before .before .before .answer in
+    let back = c .before .before .before .before .before .before in
+    let type-shape = back .before .type-shape in
+    told-with words shaped _ _ _ _ _ _ type-shape.ensures answer.given.1 (c .put-refused .ensures)))

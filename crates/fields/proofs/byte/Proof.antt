@@ -1,5 +1,4 @@
 -- `fields::byte` meets its contract: past the end a list reads as its default. Assumes nothing.
-use mathlib.Core.Path.{sym}
 use borrow.Author.Needs.{needs}
 use lib.ListN.{List·getD-eq-default}
 use Rattle.fields.proofs.byte.Statement.{statement}
@@ -8,4 +7,4 @@ use Rattle.fields.proofs.byte.Tie as tie
 pub byte-spec : {M : Type 1} → statement M
 byte-spec =
     tie.close
-    (tie.spec (λ c. search needs) (λ c. search needs) (λ c. sym (List·getD-eq-default (c .before .args .b .now) 0 (c .if1 .left))))
+    (tie.spec (λ c. search needs) (λ c. search needs) (λ c. search List·getD-eq-default))  -- returns-2

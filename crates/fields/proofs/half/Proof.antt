@@ -1,5 +1,4 @@
 -- `fields::half` meets its contract: two bytes, low byte first. Assumes nothing.
-use mathlib.Core.Path.{sym}
 use borrow.Author.Needs.{needs}
 use Rattle.fields.specs.Field.{field}
 use Rattle.fields.proofs.Fields.{field-past}
@@ -14,7 +13,7 @@ pub half-spec : {M : Type 1} → statement M
 half-spec =
     tie.close
     (tie.spec
-    (λ c. sym (field-past 2 (c .before .before .args .b .now) (c .before .before .args .at) (c .if1 .taken)))
+    (λ c. search field-past)
     (λ c. search needs)
     (λ c κs. search needs)
     (λ c. search needs)

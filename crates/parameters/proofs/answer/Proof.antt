@@ -9,8 +9,8 @@ answer-spec =
     tie.close
     (tie.spec
     (λ c. search needs)
-    (λ c κs. accepted-small (c .before .judged .given .1) (c .before .before .before .pre))
+    (λ c κs. search accepted-small)  -- numbered-requires
     (λ c. search needs)
-    (λ c κs. refused-small (c .before .judged2 .given .1) (c .before .before .before .pre))
-    (λ c. accepted-answer (c .before .before .judged .given .1) (c .numbered .ensures))
-    (λ c. refused-answer (c .before .before .judged2 .given .1) (c .refusal .ensures)))
+    (λ c κs. search refused-small)  -- refusal-requires
+    (λ c. search accepted-answer)  -- returns
+    (λ c. search refused-answer))  -- returns-2

@@ -6,4 +6,10 @@ use Rattle.parameters.proofs.first_of.Tie as tie
 
 pub first-of-spec : {M : Type 1} → statement M
 first-of-spec =
-    tie.close (tie.spec (λ c. search needs) (λ c κs. search needs) (λ c. search needs) (λ c. accepted-first (c .before .before .before .judged .given .1) (c .first-state .ensures)) (λ c. search needs))
+    tie.close
+    (tie.spec
+    (λ c. search needs)
+    (λ c κs. search needs)
+    (λ c. search needs)
+    (λ c. search accepted-first)  -- returns
+    (λ c. search needs))

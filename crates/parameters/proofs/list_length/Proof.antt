@@ -18,13 +18,13 @@ list-length-spec =
     (tie.spec
     Inv-loop
     μ-loop
-    (λ c. count-start _)
+    (λ c. count-start _)  -- loop-holds
     (λ c κs. search needs)
     (λ c κs. search needs)
     (λ c. search needs)
     (λ c. search needs)
     (λ c. search needs)
     (λ c. search needs)
-    (λ c. rest-less _ (c .before .before .before .listed .ensures) (c .before .before .if1 .taken) (c .before .span .ensures))
-    (λ c. count-on (c .before .before .before .before .loop .inv) (c .before .before .before .listed .ensures) (c .before .before .if1 .taken) (c .before .span .ensures))
-    (λ c. count-end (c .before .before .loop .inv) (c .before .listed .ensures) (c .if1 .left)))
+    (λ c. search rest-less)  -- loop-less
+    (λ c. search count-on)  -- loop-again
+    (λ c. search count-end))  -- returns

@@ -1,5 +1,4 @@
 -- `parameters::mode` meets its contract: it is the definition, kind by kind. Assumes nothing.
-use mathlib.Core.Path.{refl, _∙_, ap, sym}
 use borrow.Author.Needs.{needs}
 use Rattle.parameters.proofs.mode.Statement.{statement}
 use Rattle.parameters.proofs.mode.Tie as tie
@@ -14,7 +13,7 @@ mode-spec =
     (λ c. search needs)
     (λ c. search needs)
     (λ c. search needs)
-    (λ c. rw (c .before .enum-told .given .1) (c .normal-mode .ensures))
+    (λ c. cc)  -- returns
     (λ c. search needs)
     (λ c. search needs)
     (λ c. search needs)

@@ -7,4 +7,12 @@ use Rattle.parameters.proofs.normal_mode.Tie as tie
 pub normal-mode-spec : {M : Type 1} → statement M
 normal-mode-spec =
     tie.close
-    (tie.spec (λ c. search needs) (λ c. search needs) (λ c. search needs) (λ c. search needs) (λ c. search needs) (λ c. search needs) (λ c. search needs) (λ c. rw (c .enum-told4 .given .1) refl))
+    (tie.spec
+    (λ c. search needs)
+    (λ c. search needs)
+    (λ c. search needs)
+    (λ c. search needs)
+    (λ c. search needs)
+    (λ c. search needs)
+    (λ c. search needs)
+    (λ c. rw (c .enum-told4 .given .1) refl))  -- returns-4

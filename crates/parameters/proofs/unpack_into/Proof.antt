@@ -10,13 +10,33 @@ unpack-into-spec =
     (tie.spec
     (λ c κs. search needs)
     (λ c κs. search needs)
-    (λ c. into-short _ _ _ _ (c .before .before .children .ensures) (c .before .list-length .ensures) (c .if1 .taken))
+    (λ c.  -- returns
+    into-short _ _ _ _ (c .before .before .children .ensures) (c .before .list-length .ensures) (c .if1 .taken))
     (λ c κs. search needs)
     (λ c κs. search needs)
-    (λ c κs. into-small (c .before .before .before .before .before .before .before .before .before .args .names .now) (c .before .before .before .before .before .before .before .before .before .args .t .now) (c .before .before .before .before .before .before .before .before .before .args .modes .now) (c .before .before .before .before .before .before .before .before .before .args .node) (c .before .before .before .before .before .children .ensures) (c .before .before .before .before .list-length .ensures) (c .before .before .before .if1 .left) (c .before .before .judge .ensures .0) (c .before .before .before .before .before .before .before .before .before .pre .1) (c .before .before .before .before .before .before .before .before .before .pre .0) (c .before .before .judge .ensures .1))
-    (λ c. into-refused (c .before .before .before .before .before .before .before .before .before .before .args .names .now) (c .before .before .before .before .before .before .before .before .before .before .args .t .now) (c .before .before .before .before .before .before .before .before .before .before .args .modes .now) (c .before .before .before .before .before .before .before .before .before .before .args .node) (c .before .before .before .before .before .before .children .ensures) (c .before .before .before .before .before .list-length .ensures) (c .before .before .before .before .if1 .left) (c .before .before .before .judge .ensures .0) (c .before .before .is-refused .ensures) (c .answer .ensures) (c .before .if2 .taken))
+    (λ c κs. search into-small)  -- answer-requires
+    (λ c.  -- returns-2
+    let if2 = c .before .if2 in
+    let is-refused = c .before .before .is-refused in
+    let judge = c .before .before .before .judge in
+    let if1 = c .before .before .before .before .if1 in
+    let list-length = c .before .before .before .before .before .list-length in
+    let children = c .before .before .before .before .before .before .children in
+    into-refused _ _ _ _ children.ensures list-length.ensures if1.left judge.ensures.0 is-refused.ensures
+    (c .answer .ensures) if2.taken)
     (λ c κs. search needs)
-    (λ c κs. into-most (c .before .before .before .before .before .before .before .before .before .before .before .args .names .now) (c .before .before .before .before .before .before .before .before .before .before .before .args .t .now) (c .before .before .before .before .before .before .before .before .before .before .before .args .modes .now) (c .before .before .before .before .before .before .before .before .before .before .before .args .node) (c .before .before .before .before .before .before .before .children .ensures) (c .before .before .before .before .before .before .list-length .ensures) (c .before .before .before .before .before .if1 .left))
-    (λ c κs. into-small (c .before .before .before .before .before .before .before .before .before .before .before .before .before .before .args .names .now) (c .before .before .before .before .before .before .before .before .before .before .before .before .before .before .args .t .now) (c .before .before .before .before .before .before .before .before .before .before .before .before .before .before .args .modes .now) (c .before .before .before .before .before .before .before .before .before .before .before .before .before .before .args .node) (c .before .before .before .before .before .before .before .before .before .before .children .ensures) (c .before .before .before .before .before .before .before .before .before .list-length .ensures) (c .before .before .before .before .before .before .before .before .if1 .left) (c .before .before .before .before .before .before .before .judge .ensures .0) (c .before .before .before .before .before .before .before .before .before .before .before .before .before .before .pre .1) (c .before .before .before .before .before .before .before .before .before .before .before .before .before .before .pre .0) (c .before .before .before .before .before .before .before .judge .ensures .1))
+    (λ c κs. search into-most)  -- write-modes-requires
+    (λ c κs. search into-small)  -- answer-requires-2
     (λ c. search needs)
-    (λ c. into-accepted (c .before .before .before .before .before .before .before .before .before .before .before .before .before .before .before .args .names .now) (c .before .before .before .before .before .before .before .before .before .before .before .before .before .before .before .args .t .now) (c .before .before .before .before .before .before .before .before .before .before .before .before .before .before .before .args .modes .now) (c .before .before .before .before .before .before .before .before .before .before .before .before .before .before .before .args .node) (c .before .before .before .before .before .before .before .before .before .before .before .children .ensures) (c .before .before .before .before .before .before .before .before .before .before .list-length .ensures) (c .before .before .before .before .before .before .before .before .before .if1 .left) (c .before .before .before .before .before .before .before .before .judge .ensures .0) (c .before .before .before .before .before .before .before .is-refused .ensures) (c .answer2 .ensures) (c .before .before .before .before .before .before .if2 .left) (c .before .before .before .before .before .first-of .ensures) (c .before .before .before .write-modes .ensures)))
+    (λ c.  -- returns-3
+    let write-modes = c .before .before .before .write-modes in
+    let first-of = c .before .before .before .before .before .first-of in
+    let if2 = c .before .before .before .before .before .before .if2 in
+    let back = c .before .before .before .before .before .before in
+    let is-refused = back .before .is-refused in
+    let judge = back .before .before .judge in
+    let if1 = back .before .before .before .if1 in
+    let list-length = back .before .before .before .before .list-length in
+    let children = back .before .before .before .before .before .children in
+    into-accepted _ _ _ _ children.ensures list-length.ensures if1.left judge.ensures.0 is-refused.ensures
+    (c .answer2 .ensures) if2.left first-of.ensures write-modes.ensures))

@@ -7,7 +7,8 @@ use Rattle.parameters.proofs.write_modes.Statement.{statement}
 use Rattle.parameters.proofs.write_modes.Tie as tie
 
 abbrev Inv-loop : tie.InvT-loop
-Inv-loop kids modes₀ left₀ state₀ flat₀ modes left state flat = Writing kids modes₀ state₀ modes left state (flat .0)
+Inv-loop kids modes₀ left₀ state₀ flat₀ modes left state flat = Writing kids modes₀ state₀ modes left state
+    (flat .0)
 
 abbrev μ-loop : tie.MeasureT-loop
 μ-loop kids modes₀ left₀ state₀ flat₀ modes left state flat = length left
@@ -18,17 +19,17 @@ write-modes-spec =
     (tie.spec
     Inv-loop
     μ-loop
-    (λ c. write-start _ _ _ (c .before .before .pre))
+    (λ c. search write-start)  -- loop-holds
     (λ c κs. search needs)
     (λ c κs. search needs)
     (λ c κs. search needs)
-    (λ c κs. write-room (c .before .before .before .before .before .loop .inv) (c .before .before .before .before .listed .ensures) (c .before .before .before .if1 .taken))
+    (λ c κs. search write-room)  -- put-requires
     (λ c κs. search needs)
     (λ c κs. search needs)
     (λ c. search needs)
     (λ c. search needs)
     (λ c. search needs)
-    (λ c. rest-less _ (c .before .before .before .before .before .before .before .before .before .before .listed .ensures) (c .before .before .before .before .before .before .before .before .before .if1 .taken) (c .before .span .ensures))
-    (λ c. write-on (c .before .before .before .before .before .before .before .before .before .before .before .loop .inv) (c .before .before .before .before .before .before .before .before .before .before .listed .ensures) (c .before .before .before .before .before .before .before .before .before .if1 .taken) (c .before .before .before .before .before .before .before .before .kind-of .ensures) (c .before .before .before .before .before .before .mode .ensures) (c .before .before .before .before .before .put .ensures .0) (c .before .before .before .before .before .put .ensures .1) (c .before .before .next-state .ensures) (c .before .span .ensures))
-    (λ c. c .before .before .loop .inv .long)
-    (λ c. write-end (c .before .before .loop .inv) (c .before .listed .ensures) (c .if1 .left)))
+    (λ c. search rest-less)  -- loop-less
+    (λ c. search write-on)  -- loop-again
+    (λ c. search)  -- same-length
+    (λ c. search write-end))  -- returns

@@ -7,7 +7,8 @@ use Rattle.replay.proofs.all.Statement.{statement}
 use Rattle.replay.proofs.all.Tie as tie
 
 abbrev Inv-loop : tie.InvT-loop
-Inv-loop fd agree₀ differ₀ first₀ number₀ agree differ first number = (length agree ≡ length agree₀) × ((length differ ≡ length differ₀) × (length first ≡ length first₀))
+Inv-loop fd agree₀ differ₀ first₀ number₀ agree differ first number = (length agree ≡ length agree₀)
+    × ((length differ ≡ length differ₀) × (length first ≡ length first₀))
 
 abbrev μ-loop : tie.MeasureT-loop
 μ-loop fd agree₀ differ₀ first₀ number₀ agree differ first number = 65536 - number

@@ -8,11 +8,11 @@ pub node-fits-spec : {M : Type 1} → statement M
 node-fits-spec =
     tie.close
     (tie.spec
-    (λ c. node-beyond _ _ _ (c .if1 .taken))
+    (λ c. node-beyond _ _ _ (c .if1 .taken))  -- returns
     (λ c. search needs)
     (λ c. search needs)
     (λ c. search needs)
     (λ c. search needs)
     (λ c κs. search needs)
     (λ c κs. search needs)
-    (λ c. node-here _ _ _ (c .before .before .before .if1 .left) (c .before .kind .ensures) (c .wanted-kind .ensures)))
+    (λ c. search node-here))  -- returns-2

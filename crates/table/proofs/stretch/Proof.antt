@@ -11,7 +11,7 @@ stretch-spec =
     (λ c. search needs)
     (λ c. search needs)
     (λ c. search needs)
-    (λ c. stretch-beyond _ _ (c .before .if1 .taken))
+    (λ c. search stretch-beyond)  -- returns
     (λ c. search needs)
     (λ c. search needs)
     (λ c. search needs)
@@ -23,8 +23,8 @@ stretch-spec =
     (λ c. search needs)
     (λ c. search needs)
     (λ c. search needs)
-    (λ c. stretch-rest _ _ (c .before .before .before .before .if1 .left) (c .before .before .size .ensures) (c .before .if2 .taken))
+    (λ c. search stretch-rest)  -- returns-2
     (λ c. search needs)
     (λ c. search needs)
     (λ c. search needs)
-    (λ c. stretch-inside _ _ (c .before .before .before .before .if1 .left) (c .before .before .size .ensures)))
+    (λ c. search stretch-inside))  -- returns-3

@@ -15,7 +15,7 @@ wanted-kind-spec =
     (λ c. search needs)
     (λ c. search needs)
     (λ c κs. search needs)
-    (λ c. rw (c .enum-told .given .1) refl)
-    (λ c. rw (c .enum-told2 .given .1) refl)
-    (λ c. rw (c .enum-told3 .given .1) refl)
-    (λ c. rw (c .before .enum-told4 .given .1, c .class .ensures) refl))
+    (λ c. rw (c .enum-told .given .1) refl)  -- returns
+    (λ c. rw (c .enum-told2 .given .1) refl)  -- returns-2
+    (λ c. rw (c .enum-told3 .given .1) refl)  -- returns-3
+    (λ c. cc))  -- returns-4

@@ -24,10 +24,11 @@ copy-below t = and 2 copy-kinds.ps (falls 2 copy-kinds.ps _<_ μ-copy t) copy.Pr
 
 pub +copy-spec : {M : Type 1} → statement M
 unfolding blocksFor
-+copy-spec = close μ-copy λ t. copy-lts.spec (used-here-reads.Asked, used-here-reads.Learnt, put-reads.Asked, put-reads.Learnt, copy-below t, copy.Post)
++copy-spec = close μ-copy λ t. copy-lts.spec
+    (used-here-reads.Asked, used-here-reads.Learnt, put-reads.Asked, put-reads.Learnt, copy-below t, copy.Post)
     (copy-at t)
     copy.Post
-    (λ c. copy-none (c .before .before .before .args .bytes .now) (c .before .before .before .args .out .now) (c .if1 .taken))
+    (λ c. search copy-none)  -- returns
     (λ c κs. search needs)
     (λ c. search needs)
     (λ c. search needs)
@@ -42,4 +43,4 @@ unfolding blocksFor
     (λ c. search needs)
     (λ c κs. search needs)
     (λ c. search needs)
-    (λ c. copy-on (c .before .before .before .before .before .before .before .before .before .before .before .before .before .before .args .bytes .now) (c .before .before .before .before .before .before .before .before .before .before .before .before .before .before .args .len) (c .before .before .before .before .before .before .before .before .before .before .before .before .before .before .pre .1 .0) (c .before .before .before .before .before .before .before .before .before .before .before .before .before .before .args .out .now) (c .before .before .before .before .before .before .before .before .before .before .before .if1 .left) (c .before .before .before .before .before .before .before .before .before .before .used-here .ensures) (c .before .before .before .before .before .before .before .put .ensures) (c .before .before .copy .ensures))
+    (λ c. search copy-on)  -- returns-2

@@ -16,7 +16,7 @@ check-spec =
     (λ c. search needs)
     (λ c κs. search needs)
     (λ c. search needs)
-    (λ c. sound-refused (c .before .before .before .before .before .before .before .before .before .args .table .now) (c .before .before .before .before .before .before .before .before .before .args .t) (c .before .before .before .before .before .before .before .before .before .args .names .now) (c .before .before .before .before .before .before .before .before .before .args .n) (c .before .before .before .before .before .before .before .before .before .args .dialect .now) (c .before .before .before .before .before .before .before .before .before .args .d) _ (c .before .before .before .check .ensures) (c .before .checked .given .1))
+    (λ c. search sound-refused)  -- returns
     (λ c. search needs)
     (λ c. search needs)
     (λ c. search needs)
@@ -24,5 +24,5 @@ check-spec =
     (λ c κs. search needs)
     (λ c. search needs)
     (λ c. search needs)
-    (λ c. sound-valid (c .before .before .before .before .before .before .before .before .before .before .before .before .before .args .table .now) (c .before .before .before .before .before .before .before .before .before .before .before .before .before .args .t) (c .before .before .before .before .before .before .before .before .before .before .before .before .before .args .names .now) (c .before .before .before .before .before .before .before .before .before .before .before .before .before .args .n) (c .before .before .before .before .before .before .before .before .before .before .before .before .before .args .dialect .now) (c .before .before .before .before .before .before .before .before .before .before .before .before .before .args .d) _ (c .before .before .before .before .before .before .before .check .ensures) (c .before .before .before .before .before .enum-told .given .1) (c .before .before .before .from-bytes .ensures) (c .before .decoded .given .1))
-    (λ c. sound-invalid (c .before .before .before .before .before .before .before .before .before .before .before .before .args .table .now) (c .before .before .before .before .before .before .before .before .before .before .before .before .args .t) (c .before .before .before .before .before .before .before .before .before .before .before .before .args .names .now) (c .before .before .before .before .before .before .before .before .before .before .before .before .args .n) (c .before .before .before .before .before .before .before .before .before .before .before .before .args .dialect .now) (c .before .before .before .before .before .before .before .before .before .before .before .before .args .d) _ (c .before .before .before .before .before .before .check .ensures) (c .before .before .before .before .enum-told .given .1) (c .before .before .from-bytes .ensures) (c .enum-told2 .given .1)))
+    (λ c. search sound-valid)  -- returns-2
+    (λ c. search sound-invalid))  -- returns-3

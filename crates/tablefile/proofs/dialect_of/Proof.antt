@@ -13,4 +13,4 @@ dialect-of-spec =
     (λ c. search needs)
     (λ c. search needs)
     (λ c κs. search needs)
-    (λ c. dialect-laid (c .before .before .before .before .before .args .bytes .now) (c .before .before .before .before .before .args .len) (c .before .before .before .before .before .pre .0) (c .before .before .before .before .before .pre .1) (c .before .put .ensures)))
+    (λ c. search dialect-laid))  -- returns

@@ -13,7 +13,12 @@ front-spec =
     (λ c κs. search needs)
     (λ c. search needs)
     (λ c κs. search needs)
-    (λ c. meets-refused _ _ _ _ (c .refused .ensures) (sym (ap judged (c .before .before .first .given .1)) ∙ c .before .before .before .before .judge-front .ensures))
+    (λ c.  -- returns
+    let first = c .before .before .first in
+    let judge-front = c .before .before .before .before .judge-front in
+    meets-refused _ _ _ _ (c .refused .ensures) (sym (ap judged first.given.1) ∙ judge-front.ensures))
     (λ c. search needs)
-    (λ c κs. sym (c .before .before .judge-front .ensures) ∙ ap judged (c .enum-told .given .1))
-    (λ c. meets-accepted _ _ _ (c .load .ensures) (sym (ap judged (c .before .enum-told .given .1)) ∙ c .before .before .before .judge-front .ensures)))
+    (λ c κs. sym (c .before .before .judge-front .ensures) ∙ ap judged (c .enum-told .given .1))  -- load-requires
+    (λ c.  -- returns-2
+    meets-accepted _ _ _ (c .load .ensures)
+    (sym (ap judged (c .before .enum-told .given .1)) ∙ c .before .before .before .judge-front .ensures)))

@@ -6,4 +6,9 @@ use Rattle.tablefile.proofs.names_at.Tie as tie
 
 pub names-at-spec : {M : Type 1} → statement M
 unfolding namesAt
-names-at-spec = tie.close (tie.spec (λ c κs. search needs) (λ c. search needs) (λ c. search needs))
+names-at-spec =
+    tie.close
+    (tie.spec
+    (λ c κs. search needs)
+    (λ c. search needs)
+    (λ c. search needs))

@@ -5,4 +5,9 @@ use Rattle.tablefile.proofs.names_of.Statement.{statement}
 use Rattle.tablefile.proofs.names_of.Tie as tie
 
 pub names-of-spec : {M : Type 1} → statement M
-names-of-spec = tie.close (tie.spec (λ c. search needs) (λ c κs. search needs) (λ c. laid-run _ _ (c .before .before .before .before .pre .0) _ (c .before .copy .ensures)))
+names-of-spec =
+    tie.close
+    (tie.spec
+    (λ c. search needs)
+    (λ c κs. search needs)
+    (λ c. search laid-run))  -- returns

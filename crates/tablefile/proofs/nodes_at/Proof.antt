@@ -6,4 +6,9 @@ use Rattle.tablefile.proofs.nodes_at.Tie as tie
 
 pub nodes-at-spec : {M : Type 1} → statement M
 unfolding nodesAt
-nodes-at-spec = tie.close (tie.spec (λ c κs. search needs) (λ c. search needs) (λ c. search needs))
+nodes-at-spec =
+    tie.close
+    (tie.spec
+    (λ c κs. search needs)
+    (λ c. search needs)
+    (λ c. search needs))

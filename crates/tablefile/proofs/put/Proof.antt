@@ -1,7 +1,6 @@
 -- `tablefile::put` meets its contract: out is filled from the front. Assumes nothing.
 use Prim.Native.Nat.{_-_}
 use native.Mathlib.Omega.{arith}
-use mathlib.Core.Path.{refl}
 use borrow.Author.Needs.{needs}
 use Rattle.blocks.proofs.Filling.{Filled, fill-start, fill-long, fill-on, fill-end}
 use Rattle.tablefile.proofs.put.Statement.{statement}
@@ -19,11 +18,11 @@ put-spec =
     (tie.spec
     Inv-loop
     μ-loop
-    (λ c. fill-start _ _ _ (c .pre .1) (c .pre .0))
+    (λ c. fill-start _ _ _ (c .pre .1) (c .pre .0))  -- loop-holds
     (λ c. search needs)
-    (λ c. omega (arith, fill-long (c .before .before .loop .inv), c .before .before .before .pre .1))
+    (λ c. omega (arith, fill-long))  -- slice-write-out
     (λ c. search needs)
     (λ c. search needs)
-    (λ c. fill-on (c .before .before .loop .inv) (c .before .loop-test .taken) refl)
-    (λ c. fill-long (c .before .loop .inv))
-    (λ c. fill-end (c .before .loop .inv) (c .loop-test .left)))
+    (λ c. search fill-on)  -- loop-again
+    (λ c. search fill-long)  -- same-length
+    (λ c. search fill-end))  -- returns

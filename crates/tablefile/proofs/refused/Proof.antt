@@ -6,4 +6,4 @@ use Rattle.tablefile.proofs.refused.Tie as tie
 
 pub refused-spec : {M : Type 1} → statement M
 unfolding loadedOf
-refused-spec = tie.close (tie.spec (λ c. refl))
+refused-spec = tie.close (tie.spec (λ c. refl))  -- returns

@@ -5,4 +5,9 @@ use Rattle.tablefile.proofs.table_of.Statement.{statement}
 use Rattle.tablefile.proofs.table_of.Tie as tie
 
 pub table-of-spec : {M : Type 1} → statement M
-table-of-spec = tie.close (tie.spec (λ c. search needs) (λ c κs. search needs) (λ c. laid-run _ _ (c .before .before .before .before .pre .0) _ (c .before .copy .ensures)))
+table-of-spec =
+    tie.close
+    (tie.spec
+    (λ c. search needs)
+    (λ c κs. search needs)
+    (λ c. search laid-run))  -- returns

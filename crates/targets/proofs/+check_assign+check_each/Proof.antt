@@ -1,9 +1,9 @@
 -- `targets::check_assign` and `targets::check_each` meet their contracts: a leaf, a group of targets or an offender; nodes side by side in turn. Assumes nothing.
 use borrow.Author.Needs.{needs}
-use native.Mathlib.Omega.{arith}
 use lib.ListN.{length}
 use Prim.Native.Nat.{_+_, _*_}
-use Rattle.targets.proofs.Counts.{assign-leaf, assign-group, assign-other, each-empty, each-stop, each-on, few-leaves}
+use Rattle.targets.proofs.Counts.{assign-leaf, assign-group, assign-other, each-empty, each-stop, each-on}
+use Rattle.targets.proofs.Counts.{few-leaves}
 use Prim.Native.Nat.{ℕ, _<_}
 use borrow.Fn.Kinds.{In}
 use borrow.Fn.PlainCycle.{Measures, is, falls, and}
@@ -67,7 +67,7 @@ pub +check-assign+check-each-spec : {M : Type 1} → statement M
     (λ c κs. search needs)
     (λ c κs. search needs)
     (λ c. search needs)
-    (λ c. assign-leaf _ _ (c .before .before .before .before .args .t .now) (c .before .before .kind .ensures) (c .before .is-leaf .ensures) (c .if1 .taken))
+    (λ c. search assign-leaf)  -- returns
     (λ c κs. search needs)
     (λ c κs. search needs)
     (λ c. search needs)
@@ -75,10 +75,10 @@ pub +check-assign+check-each-spec : {M : Type 1} → statement M
     (λ c. search needs)
     (λ c. search needs)
     (λ c κs. search needs)
-    (λ c. assign-group _ _ (c .before .before .before .before .before .before .before .before .before .args .t .now) (c .before .before .before .before .before .before .before .kind .ensures) (c .before .before .before .before .before .before .is-leaf .ensures) (c .before .before .before .before .before .if1 .left) (c .before .before .before .before .is-group .ensures) (c .before .before .before .if2 .taken) (c .before .before .span .ensures) (c .check-each .ensures))
+    (λ c. search assign-group)  -- returns-2
     (λ c. search needs)
     (λ c κs. search needs)
-    (λ c. assign-other _ _ (c .before .before .before .before .before .before .before .args .t .now) (c .before .before .before .before .before .kind .ensures) (c .before .before .before .before .is-leaf .ensures) (c .before .before .before .if1 .left) (c .before .before .is-group .ensures) (c .before .if2 .left) (c .refused-at .ensures)))
+    (λ c. search assign-other))  -- returns-3
     λ t. check-each-lts.spec (
       check-assign-below t,
       check-assign.Post,
@@ -89,7 +89,7 @@ pub +check-assign+check-each-spec : {M : Type 1} → statement M
     )
     (check-each-at t)
     check-each.Post
-    (λ c. each-empty _ _ _ (c .if1 .taken))
+    (λ c. each-empty _ _ _ (c .if1 .taken))  -- returns
     (λ c κs. search needs)
     (λ c. search needs)
     (λ c κs. search needs)
@@ -97,7 +97,7 @@ pub +check-assign+check-each-spec : {M : Type 1} → statement M
     (λ c. search needs)
     (λ c. search needs)
     (λ c. search needs)
-    (λ c κs. let few = few-leaves _ _ _ (c .before .before .before .before .before .before .if1 .left) _ (c .before .before .before .before .before .check-assign .ensures) (c .before .before .before .first .given .1) (c .before .span .ensures) (c .before .before .before .before .before .before .before .before .pre .1 .1) in search needs)
+    (λ c κs. search (needs, few-leaves))  -- check-each-requires
     (λ c. search needs)
-    (λ c. each-on _ _ _ (c .before .before .before .before .before .before .before .if1 .left) _ (c .before .before .before .before .before .before .check-assign .ensures) (c .before .before .before .before .first .given .1) (c .before .before .span .ensures) (c .check-each .ensures))
-    (λ c. each-stop _ _ _ (c .before .before .before .before .if1 .left) _ (c .before .before .before .check-assign .ensures) (c .before .first2 .given .1))
+    (λ c. search each-on)  -- returns-2
+    (λ c. search each-stop)  -- returns-3

@@ -12,10 +12,15 @@ assignment-spec =
     (tie.spec
     (λ c κs. search needs)
     (λ c. search needs)
-    (λ c. job-refused _ _ _ _ _ (c .before .before .before .check .ensures) (c .before .found .given .1))
+    (λ c. search job-refused)  -- returns
     (λ c. search needs)
     (λ c κs. search needs)
-    (λ c. job-node _ _ _ _ _ (c .before .before .before .before .check .ensures) (c .before .before .enum-told .given .1) (c .before .node-fits .ensures) (not-true _ (c .if1 .taken)))
+    (λ c. search (job-node, not-true))  -- returns-2
     (λ c κs. search needs)
-    (λ c κs. handed _ _ _ _ (c .before .before .before .before .before .check .ensures) (c .before .before .before .enum-told .given .1) (c .before .before .node-fits .ensures) (not-false _ (c .before .if1 .left)) (c .stretch .ensures))
-    (λ c. job-rule _ _ _ _ _ (c .before .before .before .before .before .before .check .ensures) (c .before .before .before .before .enum-told .given .1) (c .before .before .before .node-fits .ensures) (not-false _ (c .before .before .if1 .left)) (c .before .stretch .ensures) (c .check-assignment .ensures)))
+    (λ c κs.  -- check-assignment-requires
+    let if1 = c .before .if1 in
+    let node-fits = c .before .before .node-fits in
+    let enum-told = c .before .before .before .enum-told in
+    let check = c .before .before .before .before .before .check in
+    handed _ _ _ _ check.ensures enum-told.given.1 node-fits.ensures (not-false _ if1.left) (c .stretch .ensures))
+    (λ c. search (job-rule, not-false)))  -- returns-3

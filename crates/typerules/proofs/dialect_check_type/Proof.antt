@@ -12,6 +12,6 @@ dialect-check-type-spec =
     (λ c κs. search needs)
     (λ c. search needs)
     (λ c κs. search needs)
-    (λ c. check-disabled _ _ _ (c .before .before .before .before .before .args .t .now) (c .before .before .permits-types .ensures) (not-true _ (c .before .if1 .taken)) (c .refused-at .ensures))
+    (λ c. search (check-disabled, not-true))  -- returns
     (λ c κs. search needs)
-    (λ c. check-type _ _ _ (c .before .before .before .before .before .args .t .now) (c .before .before .permits-types .ensures) (not-false _ (c .before .if1 .left)) (c .unpack .ensures)))
+    (λ c. search (check-type, not-false)))  -- returns-2

@@ -10,11 +10,11 @@ judge-spec =
     (tie.spec
     (λ c κs. search needs)
     (λ c. search needs)
-    (λ c. job-refused _ _ _ _ _ (c .before .before .before .check .ensures) (c .before .found .given .1))
+    (λ c. search job-refused)  -- returns
     (λ c. search needs)
     (λ c κs. search needs)
     (λ c. search needs)
-    (λ c κs. sound-told _ _ (c .before .before .before .before .before .before .check .ensures) (c .before .before .before .before .enum-told .given .1))
+    (λ c κs. search sound-told)  -- type-at-requires
     (λ c. search needs)
-    (λ c. job-type _ _ _ _ _ (c .before .before .before .before .before .before .before .check .ensures) (c .before .before .before .before .before .enum-told .given .1) (c .before .before .before .before .from-bytes .ensures) (c .before .before .read .given .1) (c .type-at .ensures))
-    (λ c. job-dialect _ _ _ _ _ (c .before .before .before .before .before .check .ensures) (c .before .before .before .enum-told .given .1) (c .before .before .from-bytes .ensures) (c .enum-told2 .given .1)))
+    (λ c. search job-type)  -- returns-2
+    (λ c. search job-dialect))  -- returns-3

@@ -12,8 +12,12 @@ type-at-spec =
     tie.close
     (tie.spec
     (λ c κs. search needs)
-    (λ c. at-no-node _ _ _ _ _ (c .before .node-fits .ensures) (not-true _ (c .if1 .taken)))
+    (λ c. search (at-no-node, not-true))  -- returns
     (λ c κs. search needs)
-    (λ c. at-short _ _ _ _ _ (c .before .before .before .node-fits .ensures) (not-false _ (c .before .before .if1 .left)) (c .before .stretch .ensures) (c .if2 .taken))
-    (λ c κs. handed _ _ _ _ (c .before .before .before .before .before .before .pre) refl (c .before .before .before .node-fits .ensures) (not-false _ (c .before .before .if1 .left)) (c .before .stretch .ensures))
-    (λ c. at-type _ _ _ _ _ (c .before .before .before .before .node-fits .ensures) (not-false _ (c .before .before .before .if1 .left)) (c .before .before .stretch .ensures) (c .before .if2 .left) (c .dialect-check-type .ensures)))
+    (λ c. search (at-short, not-false))  -- returns-2
+    (λ c κs.  -- dialect-check-type-requires
+    let stretch = c .before .stretch in
+    let node-fits = c .before .before .before .node-fits in
+    let start = c .before .before .before .before .before .before in
+    handed _ _ _ _ start.pre refl node-fits.ensures (search not-false) stretch.ensures)
+    (λ c. search (at-type, not-false)))  -- returns-3

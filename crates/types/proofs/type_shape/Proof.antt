@@ -10,8 +10,31 @@ type-shape-spec =
     (tie.spec
     (λ c κs. search needs)
     (λ c κs. search needs)
-    (λ c. job-refused (c .before .before .before .before .before .before .before .args .table .now) (c .before .before .before .before .before .before .before .args .names .now) (c .before .before .before .before .before .before .before .args .dialect .now) _ (c .before .before .before .before .before .before .before .args .shapes .now) (c .before .before .judge .result) (c .before .before .judge .ensures) (c .before .is-refused .ensures) (c .if1 .taken))
+    (λ c.  -- returns
+    let is-refused = c .before .is-refused in
+    let judge = c .before .before .judge in
+    let back = c .before .before .before .before .before .before in
+    let start = back .before in
+    job-refused start.args.table.now start.args.names.now start.args.dialect.now _ start.args.shapes.now
+    judge.result judge.ensures is-refused.ensures (c .if1 .taken))
     (λ c κs. search needs)
-    (λ c κs. job-room (c .before .before .before .before .before .before .before .before .before .args .table .now) (c .before .before .before .before .before .before .before .before .before .args .names .now) (c .before .before .before .before .before .before .before .before .before .args .dialect .now) _ (c .before .before .before .before .before .before .before .before .before .args .shapes .now) (c .before .before .before .before .judge .result) (c .before .before .before .before .judge .ensures) (c .before .before .before .is-refused .ensures) (c .before .before .if1 .left) (c .before .stretch .ensures))
+    (λ c κs.  -- write-type-requires
+    let stretch = c .before .stretch in
+    let if1 = c .before .before .if1 in
+    let is-refused = c .before .before .before .is-refused in
+    let judge = c .before .before .before .before .judge in
+    let back = c .before .before .before .before .before .before in
+    let start = back .before .before .before in
+    job-room start.args.table.now start.args.names.now start.args.dialect.now _ start.args.shapes.now judge.result
+    judge.ensures is-refused.ensures if1.left stretch.ensures)
     (λ c. search needs)
-    (λ c. job-accepted (c .before .before .before .before .before .before .before .before .before .before .before .before .args .table .now) (c .before .before .before .before .before .before .before .before .before .before .before .before .args .names .now) (c .before .before .before .before .before .before .before .before .before .before .before .before .args .dialect .now) _ (c .before .before .before .before .before .before .before .before .before .before .before .before .args .shapes .now) (c .before .before .before .before .before .before .before .judge .result) (c .before .before .before .before .before .before .before .judge .ensures) (c .before .before .before .before .before .before .is-refused .ensures) (c .before .before .before .before .before .if1 .left) (c .before .before .before .before .stretch .ensures) (c .before .before .write-type .ensures)))
+    (λ c.  -- returns-2
+    let write-type = c .before .before .write-type in
+    let stretch = c .before .before .before .before .stretch in
+    let if1 = c .before .before .before .before .before .if1 in
+    let is-refused = c .before .before .before .before .before .before .is-refused in
+    let back = c .before .before .before .before .before .before in
+    let judge = back .before .judge in
+    let start = back .before .before .before .before .before .before in
+    job-accepted start.args.table.now start.args.names.now start.args.dialect.now _ start.args.shapes.now
+    judge.result judge.ensures is-refused.ensures if1.left stretch.ensures write-type.ensures))

@@ -12,7 +12,7 @@ children-spec =
     (λ c. search needs)
     (λ c. search needs)
     (λ c. search needs)
-    (λ c. children-none _ (c .before .before .span .ensures) (c .before .if1 .taken))
+    (λ c. search children-none)  -- returns
     (λ c. search needs)
     (λ c. search needs)
-    (λ c. children-some _ (c .before .before .span .ensures)))
+    (λ c. search children-some))  -- returns-2

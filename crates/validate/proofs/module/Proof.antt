@@ -10,13 +10,34 @@ module-spec =
     (tie.spec
     (λ c κs. search needs)
     (λ c. search needs)
-    (λ c. job-refused (c .before .before .before .before .before .before .before .before .args .table .now) (c .before .before .before .before .before .before .before .before .args .names .now) (c .before .before .before .before .before .before .before .before .args .dialect .now) _ (c .before .before .before .check .ensures) (c .before .found .given .1))
+    (λ c. job-refused _ _ _ _ (c .before .before .before .check .ensures) (c .before .found .given .1))  -- returns
     (λ c. search needs)
     (λ c κs. search needs)
     (λ c. search needs)
-    (λ c κs. table-short (c .before .before .before .before .before .before .before .before .before .before .before .before .args .table .now) (c .before .before .before .before .before .before .before .before .before .before .before .before .args .names .now) (c .before .before .before .before .before .before .before .before .before .before .before .before .args .dialect .now) ((c .before .before .before .before .before .before .before .before .before .before .before .before .args .errors .now)) (c .before .before .before .before .before .before .before .check .ensures) (c .before .before .before .before .before .enum-told .given .1) (c .before .before .before .before .from-bytes .ensures))
-    (λ c. let short = table-short (c .before .before .before .before .before .before .before .before .before .before .before .before .before .before .before .args .table .now) (c .before .before .before .before .before .before .before .before .before .before .before .before .before .before .before .args .names .now) (c .before .before .before .before .before .before .before .before .before .before .before .before .before .before .before .args .dialect .now) (c .before .before .before .before .before .before .before .before .before .before .before .before .before .before .before .args .errors .now) (c .before .before .before .before .before .before .before .before .before .before .check .ensures) (c .before .before .before .before .before .before .before .before .enum-told .given .1) (c .before .before .before .before .before .before .before .from-bytes .ensures) in let few = total-short _ (c .before .before .before .before .before .before .before .before .before .before .before .before .before .before .before .args .names .now) (c .before .before .before .before .before .before .before .before .before .before .before .before .before .before .before .args .table .now) (c .before .before .validate-module .ensures) in search needs)
+    (λ c κs. search table-short)  -- validate-module-requires
+    (λ c.  -- cast-t13
+    let validate-module = c .before .before .validate-module in
+    let back = c .before .before .before .before .before .before in
+    let from-bytes = back .before .from-bytes in
+    let enum-told = back .before .before .enum-told in
+    let check = back .before .before .before .before .check in
+    let back2 = back .before .before .before .before .before .before in
+    let start = back2 .before .before .before in
+    let short = table-short start.args.table.now start.args.names.now start.args.dialect.now start.args.errors.now
+    check.ensures enum-told.given.1 from-bytes.ensures in
+    let few = total-short _ start.args.names.now start.args.table.now validate-module.ensures in search needs)
     (λ c. search needs)
     (λ c. search needs)
-    (λ c. job-total (c .before .before .before .before .before .before .before .before .before .before .before .before .before .before .before .args .table .now) (c .before .before .before .before .before .before .before .before .before .before .before .before .before .before .before .args .names .now) (c .before .before .before .before .before .before .before .before .before .before .before .before .before .before .before .args .dialect .now) _ (c .before .before .before .before .before .before .before .before .before .before .check .ensures) (c .before .before .before .before .before .before .before .before .enum-told .given .1) (c .before .before .before .before .before .before .before .from-bytes .ensures) (c .before .before .before .before .before .read .given .1) (c .before .before .validate-module .ensures))
-    (λ c. job-dialect (c .before .before .before .before .before .before .before .before .before .before .args .table .now) (c .before .before .before .before .before .before .before .before .before .before .args .names .now) (c .before .before .before .before .before .before .before .before .before .before .args .dialect .now) _ (c .before .before .before .before .before .check .ensures) (c .before .before .before .enum-told .given .1) (c .before .before .from-bytes .ensures) (c .enum-told2 .given .1)))
+    (λ c.  -- returns-2
+    let validate-module = c .before .before .validate-module in
+    let read = c .before .before .before .before .before .read in
+    let back = c .before .before .before .before .before .before in
+    let from-bytes = back .before .from-bytes in
+    let enum-told = back .before .before .enum-told in
+    let check = back .before .before .before .before .check in
+    job-total _ _ _ _ check.ensures enum-told.given.1 from-bytes.ensures read.given.1 validate-module.ensures)
+    (λ c.  -- returns-3
+    let from-bytes = c .before .before .from-bytes in
+    let enum-told = c .before .before .before .enum-told in
+    let check = c .before .before .before .before .before .check in
+    job-dialect _ _ _ _ check.ensures enum-told.given.1 from-bytes.ensures (c .enum-told2 .given .1)))

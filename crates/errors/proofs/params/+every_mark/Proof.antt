@@ -1,7 +1,7 @@
 -- `errors::params::every_mark` meets its contract: no list, a parameter that is no such mark, or one that is, and then the rest. Assumes nothing.
+use native.Mathlib.Omega.{arith}
 use borrow.Author.Needs.{needs}
 use lib.ListN.{length}
-use native.Mathlib.Omega.{arith}
 use borrow.Author.Tests.{not-true, not-false}
 use Rattle.unpack.proofs.Reading.{rest-less}
 use Rattle.errors.proofs.Lists.{every-end, every-other, every-here, every-short}
@@ -54,16 +54,21 @@ pub +every-mark-spec : {M : Type 1} → statement M
     (every-mark-at t)
     every-mark.Post
     (λ c κs. search needs)
-    (λ c. every-end _ _ _ (c .before .listed .ensures) (not-true _ (c .if1 .taken)))
+    (λ c. search (every-end, not-true))  -- returns
     (λ c κs. search needs)
     (λ c κs. search needs)
     (λ c κs. search needs)
     (λ c. search needs)
     (λ c. search needs)
     (λ c. search needs)
-    (λ c κs. let less = rest-less _ (c .before .before .before .before .before .before .before .listed .ensures) (not-false _ (c .before .before .before .before .before .before .if1 .left)) (c .before .before .before .before .before .span .ensures) in search needs)
+    (λ c κs.  -- every-mark-requires
+    let span = c .before .before .before .before .before .span in
+    let if1 = c .before .before .before .before .before .before .if1 in
+    let back = c .before .before .before .before .before .before in
+    let listed = back .before .listed in
+    let less = rest-less _ listed.ensures (not-false _ if1.left) span.ensures in search needs)
     (λ c. search needs)
-    (λ c. every-other _ _ _ (c .before .before .before .before .before .before .before .before .before .before .listed .ensures) (not-false _ (c .before .before .before .before .before .before .before .before .before .if1 .left)) (c .before .before .before .before .before .before .before .before .span .ensures) (c .before .before .before .before .before .before .before .kind-of .ensures) (c .before .before .before .before .before .before .is-mark .ensures) (not-true _ (c .before .before .before .before .before .if2 .taken)) (c .before .before .every-mark .ensures))
+    (λ c. search (every-other, not-false, not-true))  -- returns-2
     (λ c κs. search needs)
     (λ c κs. search needs)
     (λ c κs. search needs)
@@ -74,7 +79,13 @@ pub +every-mark-spec : {M : Type 1} → statement M
     (λ c. search needs)
     (λ c. search needs)
     (λ c. search needs)
-    (λ c κs. let less = rest-less _ (c .before .before .before .before .before .before .before .before .before .before .before .before .before .listed .ensures) (not-false _ (c .before .before .before .before .before .before .before .before .before .before .before .before .if1 .left)) (c .before .before .before .before .before .before .before .before .before .before .before .span .ensures) in search needs)
-    (λ c. let few = every-short (c .before .before .before .before .before .before .before .before .before .before .before .before .before .before .before .before .before .before .before .args .mark) (c .before .before .before .before .before .before .before .before .before .before .before .before .before .before .before .before .before .before .before .args .list .now) _ (c .before .before .every-mark2 .ensures) in let one = c .before .before .before .before .before .before .before .before .push-at .ensures .count in search needs)
+    (λ c κs.  -- every-mark-requires-2
+    let back = c .before .before .before .before .before .before in
+    let span = back .before .before .before .before .before .span in
+    let if1 = back .before .before .before .before .before .before .if1 in
+    let back2 = back .before .before .before .before .before .before in
+    let listed = back2 .before .listed in
+    let less = rest-less _ listed.ensures (not-false _ if1.left) span.ensures in search needs)
+    (λ c. omega (arith, every-short))  -- add-result
     (λ c. search needs)
-    (λ c. every-here _ _ _ (c .before .before .before .before .before .before .before .before .before .before .before .before .before .before .before .before .listed .ensures) (not-false _ (c .before .before .before .before .before .before .before .before .before .before .before .before .before .before .before .if1 .left)) (c .before .before .before .before .before .before .before .before .before .before .before .before .before .before .span .ensures) (c .before .before .before .before .before .before .before .before .before .before .before .before .before .kind-of .ensures) (c .before .before .before .before .before .before .before .before .before .before .before .before .is-mark .ensures) (not-false _ (c .before .before .before .before .before .before .before .before .before .before .before .if2 .left)) (c .before .before .before .before .before .before .before .before .before .before .number-of .ensures) (c .before .before .before .before .before .before .before .before .push-at .ensures) (c .before .before .before .before .before .free .ensures) (c .before .before .every-mark2 .ensures))
+    (λ c. search (every-here, not-false))  -- returns-3

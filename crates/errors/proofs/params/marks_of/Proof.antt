@@ -6,4 +6,10 @@ use Rattle.errors.proofs.params.marks_of.Tie as tie
 
 pub marks-of-spec : {M : Type 1} → statement M
 marks-of-spec =
-    tie.close (tie.spec (λ c κs. search needs) (λ c. marks-permitted (c .before .before .before .before .args .d) (c .before .before .before .before .args .mark) _ _ (c .before .permitted .ensures) (c .if1 .taken)) (λ c κs. search needs) (λ c. search needs) (λ c. marks-not (c .before .before .before .before .before .before .before .before .args .d) (c .before .before .before .before .before .before .before .before .args .mark) _ _ (c .before .before .before .before .before .permitted .ensures) (c .before .before .before .before .if1 .left) (c .before .before .every-mark .ensures)))
+    tie.close
+    (tie.spec
+    (λ c κs. search needs)
+    (λ c. search marks-permitted)  -- returns
+    (λ c κs. search needs)
+    (λ c. search needs)
+    (λ c. search marks-not))  -- returns-2

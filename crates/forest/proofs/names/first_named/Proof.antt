@@ -17,15 +17,15 @@ first-named-spec =
     (tie.spec
     Inv-loop
     μ-loop
-    (λ c. seek-start _ _ _)
+    (λ c. seek-start _ _ _)  -- loop-holds
     (λ c κs. search needs)
     (λ c κs. search needs)
-    (λ c. seek-here (c .before .before .before .before .loop .inv) (c .before .before .before .loop-test .taken) (c .before .before .name .ensures) (c .before .same-bytes .ensures) (c .if1 .taken))
+    (λ c. search seek-here)  -- returns
     (λ c κs. search needs)
     (λ c. search needs)
     (λ c. search needs)
     (λ c. search needs)
     (λ c. search needs)
     (λ c. search needs)
-    (λ c. seek-on (c .before .before .before .before .before .before .loop .inv) (c .before .before .before .before .before .loop-test .taken) (c .before .before .before .before .name .ensures) (c .before .before .before .same-bytes .ensures) (c .before .before .if1 .left) (c .before .span .ensures))
-    (λ c. seek-end (c .before .loop .inv) (c .loop-test .left)))
+    (λ c. search seek-on)  -- loop-again
+    (λ c. search seek-end))  -- returns-2

@@ -13,14 +13,14 @@ name-spec =
     (λ c. search needs)
     (λ c. search needs)
     (λ c. search needs)
-    (λ c. name-outside _ _ (c .before .before .name-start .ensures) (c .before .if1 .taken))
+    (λ c. search name-outside)  -- returns
     (λ c κs. search needs)
     (λ c. search needs)
     (λ c. search needs)
     (λ c. search needs)
     (λ c. search needs)
-    (λ c. name-short _ _ (c .before .before .before .before .name-start .ensures) (c .before .before .name-len .ensures) (c .before .before .before .if1 .left) (c .before .if2 .taken))
+    (λ c. search name-short)  -- returns-2
     (λ c. search needs)
     (λ c. search needs)
     (λ c. search needs)
-    (λ c. name-inside _ _ (c .before .before .before .before .name-start .ensures) (c .before .before .name-len .ensures)))
+    (λ c. search name-inside))  -- returns-3

@@ -17,12 +17,12 @@ same-bytes-spec =
     (tie.spec
     Inv-loop
     μ-loop
-    (λ c. same-length _ _ (λ e. c .if1 .taken e))
-    (λ c. same-start _ _ (c .if1 .left))
+    (λ c. same-length _ _ (λ e. c .if1 .taken e))  -- returns
+    (λ c. same-start _ _ (c .if1 .left))  -- loop-holds
     (λ c. search needs)
     (λ c. search needs)
-    (λ c. same-stop (c .before .before .before .before .loop .inv) (c .before .before .before .loop-test .taken) (c .if2 .taken))
+    (λ c. search same-stop)  -- returns-2
     (λ c. search needs)
     (λ c. search needs)
-    (λ c. same-go (c .before .before .before .before .loop .inv) (c .before .before .before .loop-test .taken) (c .if2 .left))
-    (λ c. same-end (c .before .loop .inv) (c .loop-test .left)))
+    (λ c. search same-go)  -- loop-again
+    (λ c. search same-end))  -- returns-3

@@ -4,4 +4,9 @@ use Rattle.parameters.proofs.DefParamIndices.args_range.Statement.{stat
 use Rattle.parameters.proofs.DefParamIndices.args_range.Tie as tie
 
 pub args-range-spec : {M : Type 1} → statement M
-args-range-spec = tie.close (tie.spec (λ c. search needs) (λ c κs. search needs) (λ c. search needs))
+args-range-spec =
+    tie.close
+    (tie.spec
+    (λ c. search needs)
+    (λ c κs. search needs)
+    (λ c. search needs))

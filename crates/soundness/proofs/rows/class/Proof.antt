@@ -9,4 +9,4 @@ class-spec =
     (tie.spec
     (λ c κs. search needs)
     (λ c. search needs)
-    (λ c. c .row-of .ensures .class))
+    (λ c. c .row-of .ensures .class))  -- returns

@@ -12,7 +12,7 @@ front-spec =
     (λ c. search needs)
     (λ c. search needs)
     (λ c. search needs)
-    (λ c. rw (c .match .keys1) refl)
-    (λ c. rw (c .match .keys2) refl)
-    (λ c. rw (c .match .keys3) refl)
-    (λ c. class-none _ _ _ _ (c .match .rest)))
+    (λ c. rw (c .match .keys1) refl)  -- returns
+    (λ c. rw (c .match .keys2) refl)  -- returns-2
+    (λ c. rw (c .match .keys3) refl)  -- returns-3
+    (λ c. search class-none))  -- returns-4

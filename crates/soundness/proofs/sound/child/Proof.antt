@@ -14,10 +14,10 @@ child-spec =
     (λ c. search needs)
     (λ c κs. search needs)
     (λ c κs. search needs)
-    (λ c. child-cut _ (c .before .before .before .before .before .pre) (c .before .before .size .ensures) (c .before .whole .ensures) _ (not-true _ (c .if1 .taken)))
+    (λ c. search (child-cut, not-true))  -- returns
     (λ c κs. search needs)
     (λ c κs. search needs)
-    (λ c. child-class _ (c .before .before .before .before .before .before .before .before .pre) (c .before .before .before .before .before .size .ensures) (c .before .before .before .before .whole .ensures) (not-false _ (c .before .before .before .if1 .left)) (c .before .before .kind .ensures) (c .before .class .ensures) _ (c .if2 .taken))
+    (λ c. search (child-class, not-false))  -- returns-2
     (λ c. search needs)
     (λ c. search needs)
-    (λ c. child-fits _ (c .before .before .before .before .before .before .before .before .pre) (c .before .before .before .before .before .size .ensures) (c .before .before .before .before .whole .ensures) (not-false _ (c .before .before .before .if1 .left)) (c .before .before .kind .ensures) (c .before .class .ensures) _ (c .if2 .left)))
+    (λ c. search (child-fits, not-false)))  -- returns-3

@@ -17,12 +17,12 @@ children-spec =
     (tie.spec
     Inv-loop
     μ-loop
-    (λ c. count-start _)
+    (λ c. count-start _)  -- loop-holds
     (λ c κs. search needs)
     (λ c. search needs)
     (λ c. search needs)
     (λ c. search needs)
     (λ c. search needs)
     (λ c. search needs)
-    (λ c. count-on (c .before .before .before .loop .inv) (c .before .before .loop-test .taken) (c .before .span .ensures))
-    (λ c. count-end (c .before .loop .inv) (c .loop-test .left)))
+    (λ c. search count-on)  -- loop-again
+    (λ c. search count-end))  -- returns

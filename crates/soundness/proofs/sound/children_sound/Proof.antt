@@ -1,5 +1,4 @@
 -- `soundness::sound::children_sound` meets its contract: the nodes that are left decide, and their number at the end. Assumes nothing.
-use mathlib.Core.Path.{_∙_}
 use borrow.Author.Needs.{needs}
 use lib.ListN.{length}
 use Rattle.soundness.specs.Packed.{childrenOf}
@@ -20,15 +19,15 @@ children-sound-spec =
     (tie.spec
     Inv-loop
     μ-loop
-    (λ c. fit-start _ _)
+    (λ c. fit-start _ _)  -- loop-holds
     (λ c κs. search needs)
     (λ c κs. search needs)
-    (λ c. fit-stop (c .before .before .before .before .loop .inv) (c .before .before .before .loop-test .taken) (λ enough. c .before .before .class-wanted .ensures ∙ class-wanted _ _ _ _ (c .before .before .before .before .before .before .pre) enough (fit-index (c .before .before .before .before .loop .inv) (c .before .before .before .loop-test .taken))) (c .before .child .ensures) (c .if1 .taken))
-    (λ c. child-within _ _ (c .before .before .before .loop-test .taken) (c .before .child .ensures))
-    (λ c. child-within _ _ (c .before .before .before .loop-test .taken) (c .before .child .ensures))
+    (λ c. search (fit-stop, class-wanted, fit-index, c .before .before .class-wanted .ensures))  -- returns
+    (λ c. search child-within)  -- sub-left
+    (λ c. search child-within)  -- part-left-start
     (λ c. search needs)
     (λ c. search needs)
     (λ c. search needs)
-    (λ c. fit-on (c .before .before .before .before .before .loop .inv) (c .before .before .before .before .loop-test .taken) (λ enough. c .before .before .before .class-wanted .ensures ∙ class-wanted _ _ _ _ (c .before .before .before .before .before .before .before .pre) enough (fit-index (c .before .before .before .before .before .loop .inv) (c .before .before .before .before .loop-test .taken))) (c .before .before .child .ensures) (c .before .if1 .left))
+    (λ c. search (fit-on, class-wanted, fit-index, c .before .before .before .class-wanted .ensures))  -- loop-again
     (λ c κs. search needs)
-    (λ c. fit-end (c .before .before .loop .inv) (c .before .loop-test .left) (c .number-sound .ensures)))
+    (λ c. search fit-end))  -- returns-2

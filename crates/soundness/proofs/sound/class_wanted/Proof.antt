@@ -10,8 +10,8 @@ class-wanted-spec =
     (tie.spec
     (λ c κs. search needs)
     (λ c κs. search needs)
-    (λ c. at-front _ _ _ (c .before .before .fronts .ensures) (c .before .if1 .taken) (c .front .ensures))
+    (λ c. search at-front)  -- returns
     (λ c κs. search needs)
-    (λ c. at-middle _ _ _ (c .before .before .before .fronts .ensures) (c .before .before .if1 .left) (c .before .if2 .taken) (c .middle .ensures))
+    (λ c. search at-middle)  -- returns-2
     (λ c κs. search needs)
-    (λ c. at-back _ _ _ (c .before .before .before .fronts .ensures) (c .before .before .if1 .left) (c .before .if2 .left) (c .back .ensures)))
+    (λ c. search at-back))  -- returns-3

@@ -23,4 +23,4 @@ fields-sound-spec =
     (λ c κs. search needs)
     (λ c κs. search needs)
     (λ c κs. search needs)
-    (λ c. cc))
+    (λ c. cc))  -- returns

@@ -23,17 +23,31 @@ first-unsound-spec =
     (tie.spec
     Inv-loop
     μ-loop
-    (λ c. look-end (look-start _ _) (omega arith))
+    (λ c. look-end (look-start _ _) (omega arith))  -- returns
     (λ c κs. search needs)
-    (λ c. root-first _ _ (c .before .root-sound .ensures) (not-true _ (c .if2 .taken)) (omega arith))
-    (λ c. look-start _ _)
+    (λ c. root-first _ _ (c .before .root-sound .ensures) (not-true _ (c .if2 .taken)) (omega arith))  -- returns-2
+    (λ c. look-start _ _)  -- loop-holds
     (λ c. search needs)
     (λ c. search needs)
     (λ c. search needs)
     (λ c. search needs)
     (λ c κs. search needs)
-    (λ c. look-here (c .before .before .before .before .loop .inv) (c .before .before .before .loop-test .taken) (record-test _ _ (c .before .before .before .before .before .before .root-sound .ensures) (not-false _ (c .before .before .before .before .before .if2 .left)) _ (c .before .record-sound .ensures) ∙ not-true _ (c .if3 .taken)))
+    (λ c.  -- returns-3
+    let record-sound = c .before .record-sound in
+    let loop-test = c .before .before .before .loop-test in
+    let loop = c .before .before .before .before .loop in
+    let if2 = c .before .before .before .before .before .if2 in
+    let root-sound = c .before .before .before .before .before .before .root-sound in
+    look-here loop.inv loop-test.taken (record-test _ _ root-sound.ensures (not-false _ if2.left) _
+    record-sound.ensures ∙ not-true _ (c .if3 .taken)))
     (λ c. search needs)
     (λ c. search needs)
-    (λ c. look-on (c .before .before .before .before .loop .inv) (c .before .before .before .loop-test .taken) (record-test _ _ (c .before .before .before .before .before .before .root-sound .ensures) (not-false _ (c .before .before .before .before .before .if2 .left)) _ (c .before .record-sound .ensures) ∙ not-false _ (c .if3 .left)))
-    (λ c. look-end (c .before .loop .inv) (c .loop-test .left)))
+    (λ c.  -- loop-again
+    let record-sound = c .before .record-sound in
+    let loop-test = c .before .before .before .loop-test in
+    let loop = c .before .before .before .before .loop in
+    let if2 = c .before .before .before .before .before .if2 in
+    let root-sound = c .before .before .before .before .before .before .root-sound in
+    look-on loop.inv loop-test.taken (record-test _ _ root-sound.ensures (not-false _ if2.left) _
+    record-sound.ensures ∙ not-false _ (c .if3 .left)))
+    (λ c. search look-end))  -- returns-4

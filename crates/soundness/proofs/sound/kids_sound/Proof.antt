@@ -10,5 +10,5 @@ kids-sound-spec =
     (λ c κs. search needs)
     (λ c κs. search needs)
     (λ c κs. search needs)
-    (λ c κs. rw (c .before .backs .ensures) at (c .last-from .ensures))
-    (λ c. rw (c .before .before .before .rule-of .ensures) at (c .children-sound .ensures)))
+    (λ c κs. search needs)
+    (λ c. cc))  -- returns

@@ -8,7 +8,7 @@ pub last-from-spec : {M : Type 1} → statement M
 last-from-spec =
     tie.close
     (tie.spec
-    (λ c. no-last _ (c .if1 .taken))
+    (λ c. no-last _ (c .if1 .taken))  -- returns
     (λ c κs. search needs)
     (λ c. search needs)
     (λ c. search needs))

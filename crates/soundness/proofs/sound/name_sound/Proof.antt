@@ -6,4 +6,9 @@ use Rattle.soundness.proofs.sound.name_sound.Tie as tie
 
 pub name-sound-spec : {M : Type 1} → statement M
 unfolding nameSound
-name-sound-spec = tie.close (tie.spec (λ c. search needs) (λ c. rw (c .if1 .taken) (search needs)) (λ c. rw (c .if1 .left) (search needs)))
+name-sound-spec =
+    tie.close
+    (tie.spec
+    (λ c. search needs)
+    (λ c. rw (c .if1 .taken) (search needs))  -- returns
+    (λ c. rw (c .if1 .left) (search needs)))  -- returns-2

@@ -11,9 +11,9 @@ number-sound-spec =
     (λ c κs. search needs)
     (λ c κs. search needs)
     (λ c. search needs)
-    (λ c. number-few _ _ (c .before .before .fronts .ensures) (c .before .backs .ensures) (c .if1 .taken))
+    (λ c. search number-few)  -- returns
     (λ c κs. search needs)
-    (λ c. number-any _ _ (c .before .before .before .before .fronts .ensures) (c .before .before .before .backs .ensures) (c .before .before .if1 .left) (c .before .times .ensures) (c .if2 .taken))
-    (λ c. number-even _ _ (c .before .before .before .before .before .fronts .ensures) (c .before .before .before .before .backs .ensures) (c .before .before .before .if1 .left) (c .before .before .times .ensures) (c .if3 .taken))
+    (λ c. search number-any)  -- returns-2
+    (λ c. search number-even)  -- returns-3
     (λ c. search needs)
-    (λ c. number-most _ _ (c .before .before .before .before .before .fronts .ensures) (c .before .before .before .before .backs .ensures) (c .before .before .before .if1 .left) (c .before .before .times .ensures) (c .before .if2 .left) (c .if3 .left)))
+    (λ c. search number-most))  -- returns-4

@@ -13,16 +13,16 @@ record-sound-spec =
     (λ c. search needs)
     (λ c. search needs)
     (λ c κs. search needs)
-    (λ c. record-fields _ _ (c .before .fields-sound .ensures) (not-true _ (c .if1 .taken)))
+    (λ c. search (record-fields, not-true))  -- returns
     (λ c κs. search needs)
     (λ c κs. search needs)
-    (λ c. record-size _ _ (c .before .before .before .before .fields-sound .ensures) (not-false _ (c .before .before .before .if1 .left)) (c .before .before .before .before .before .before .before .pre) (c .before .before .size .ensures) (c .before .whole .ensures) (not-true _ (c .if2 .taken)))
+    (λ c. search (record-size, not-false, not-true))  -- returns-2
     (λ c. search needs)
     (λ c. search needs)
-    (λ c. whole-start _ _ (c .before .whole .ensures) (not-false _ (c .if2 .left)))
-    (λ c. whole-start _ _ (c .before .whole .ensures) (not-false _ (c .if2 .left)))
-    (λ c. whole-end _ _ (c .before .whole .ensures) (not-false _ (c .if2 .left)))
+    (λ c. search (whole-start, not-false))  -- sub-kids-sound
+    (λ c. search (whole-start, not-false))  -- part-kids-sound-start
+    (λ c. search (whole-end, not-false))  -- part-kids-sound-end
     (λ c κs. search needs)
     (λ c κs. search needs)
     (λ c κs. search needs)
-    (λ c. record-kids _ _ (c .before .before .before .before .before .before .before .before .fields-sound .ensures) (not-false _ (c .before .before .before .before .before .before .before .if1 .left)) (c .before .before .before .before .before .before .before .before .before .before .before .pre) (c .before .before .before .before .before .before .size .ensures) (c .before .before .before .before .before .whole .ensures) (not-false _ (c .before .before .before .before .if2 .left)) (c .before .before .kind .ensures) (c .before .detail .ensures) (c .kids-sound .ensures)))
+    (λ c. search (record-kids, not-false)))  -- returns-3

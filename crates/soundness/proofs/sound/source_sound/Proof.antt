@@ -8,4 +8,9 @@ use Rattle.soundness.proofs.sound.source_sound.Tie as tie
 
 pub source-sound-spec : {M : Type 1} → statement M
 unfolding sourceSound
-source-sound-spec = tie.close (tie.spec (λ c. search needs) (λ c. rw (c .if1 .taken) refl) (λ c. rw (ne-eqb _ _ (c .if1 .left)) refl))
+source-sound-spec =
+    tie.close
+    (tie.spec
+    (λ c. search needs)
+    (λ c. rw (c .if1 .taken) refl)  -- returns
+    (λ c. rw (ne-eqb _ _ (c .if1 .left)) refl))  -- returns-2

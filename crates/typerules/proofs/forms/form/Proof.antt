@@ -5,4 +5,10 @@ use Rattle.typerules.proofs.forms.form.Statement.{statement}
 use Rattle.typerules.proofs.forms.form.Tie as tie
 
 pub form-spec : {M : Type 1} → statement M
-form-spec = tie.close (tie.spec (λ c κs. search needs) (λ c κs. search needs) (λ c κs. search needs) (λ c. form-same (c .before .before .kind .ensures) (c .before .detail .ensures) (c .form-of .ensures)))
+form-spec =
+    tie.close
+    (tie.spec
+    (λ c κs. search needs)
+    (λ c κs. search needs)
+    (λ c κs. search needs)
+    (λ c. search form-same))  -- returns

@@ -38,19 +38,19 @@ pub +object-path-spec : {M : Type 1} → statement M
 )
     (object-path-at t)
     object-path.Post
-    (λ c. object-none _ _ _ (c .if1 .taken))
+    (λ c. object-none _ _ _ (c .if1 .taken))  -- returns
     (λ c κs. search needs)
     (λ c. search needs)
     (λ c κs. search needs)
-    (λ c. object-banned _ _ _ (c .before .before .before .before .if1 .left) (c .before .before .before .kind .ensures) (c .before .before .if2 .taken) (c .before .if3 .taken) (c .refused-at .ensures))
-    (λ c. object-free _ _ _ (c .before .before .before .if1 .left) (c .before .before .kind .ensures) (c .before .if2 .taken) (c .if3 .left))
+    (λ c. search object-banned)  -- returns-2
+    (λ c. search object-free)  -- returns-3
     (λ c. search needs)
     (λ c κs. search needs)
-    (λ c. object-other _ _ _ (c .before .before .before .before .if1 .left) (c .before .before .before .kind .ensures) (c .before .before .if2 .left) (c .before .if4 .taken) (c .refused-at2 .ensures))
+    (λ c. search object-other)  -- returns-4
     (λ c κs. search needs)
     (λ c. search needs)
     (λ c. search needs)
     (λ c. search needs)
     (λ c. search needs)
     (λ c κs. search needs)
-    (λ c. object-dot _ _ _ (c .before .before .before .before .before .before .if1 .left) (c .before .before .before .before .before .kind .ensures) (c .before .before .before .before .if2 .left) (c .before .before .before .if4 .left) (c .before .before .span .ensures) (c .object-path .ensures))
+    (λ c. search object-dot)  -- returns-5

@@ -9,10 +9,10 @@ unpack-path-spec =
     tie.close
     (tie.spec
     (λ c κs. search needs)
-    (λ c. path-identifier _ _ (c .before .before .before .before .args .t .now) (c .before .kind .ensures) (c .if1 .taken))
+    (λ c. search path-identifier)  -- returns
     (λ c. search needs)
     (λ c κs. search needs)
-    (λ c. path-other _ _ (c .before .before .before .before .before .before .args .t .now) (c .before .before .before .kind .ensures) (c .before .before .if1 .left) (c .before .if2 .taken) (c .refused-at .ensures))
+    (λ c. search path-other)  -- returns-2
     (λ c κs. search needs)
     (λ c κs. search needs)
     (λ c. search needs)
@@ -20,4 +20,4 @@ unpack-path-spec =
     (λ c. search needs)
     (λ c. search needs)
     (λ c κs. search needs)
-    (λ c. path-dot _ _ (c .before .before .before .before .before .before .before .before .before .args .t .now) (c .before .before .before .before .before .before .kind .ensures) (c .before .before .before .before .before .if1 .left) (c .before .before .before .before .if2 .left) (c .before .before .before .span .ensures) (c .before .before .is-banned .ensures) (c .object-path .ensures)))
+    (λ c. search path-dot))  -- returns-3

@@ -1,11 +1,12 @@
 -- `typerules::unpack::unpack`, `unpack_argument`, `unpack_arguments` and `unpack_each` meet their contracts: what is refused at a node, then the children that it reads.
 -- Assumes nothing.
 use borrow.Author.Needs.{needs}
-use native.Mathlib.Omega.{arith}
 use mathlib.Core.Path.{refl}
 use lib.ListN.{length}
 use Prim.Native.Nat.{_+_, _*_}
-use Rattle.typerules.proofs.Reading.{unpack-stop, unpack-nothing, unpack-types, unpack-index, unpack-index2, argument-list, argument-type, each-none, each-stop, each-go, arguments-none, arguments-stop, arguments-go}
+use Rattle.typerules.proofs.Reading.{unpack-stop, unpack-nothing, unpack-types, unpack-index, unpack-index2}
+use Rattle.typerules.proofs.Reading.{argument-list, argument-type, each-none, each-stop, each-go}
+use Rattle.typerules.proofs.Reading.{arguments-none, arguments-stop, arguments-go}
 use Prim.Native.Nat.{ℕ, _<_}
 use borrow.Fn.Kinds.{In}
 use borrow.Fn.PlainCycle.{Measures, is, falls, and}
@@ -111,7 +112,7 @@ pub +unpack+unpack-argument+unpack-arguments+unpack-each-spec : {M : Type 1} →
     unpack.Post
     (λ c κs. search needs)
     (λ c. search needs)
-    (λ c. unpack-stop _ _ (c .before .before .before .before .before .before .args .t .now) _ (c .before .before .before .at-node .ensures) (c .before .here .given .1))
+    (λ c. search unpack-stop)  -- returns
     (λ c. search needs)
     (λ c κs. search needs)
     (λ c. search needs)
@@ -138,10 +139,18 @@ pub +unpack+unpack-argument+unpack-arguments+unpack-each-spec : {M : Type 1} →
     (λ c. search needs)
     (λ c. search needs)
     (λ c κs. search needs)
-    (λ c. unpack-nothing _ _ (c .before .before .before .before .before .before .before .before .before .before .before .before .args .t .now) _ (c .before .before .before .before .before .before .before .before .before .at-node .ensures) (c .before .before .before .before .before .before .before .enum-told .given .1) (c .before .before .before .before .before .before .span .ensures) refl (c .before .before .before .form .ensures) (c .before .before .reads-of .ensures) (c .enum-told2 .given .1))
-    (λ c. unpack-types _ _ (c .before .before .before .before .before .before .before .before .before .before .before .before .before .args .t .now) _ (c .before .before .before .before .before .before .before .before .before .before .at-node .ensures) (c .before .before .before .before .before .before .before .before .enum-told .given .1) (c .before .before .before .before .before .before .before .span .ensures) refl (c .before .before .before .before .form .ensures) (c .before .before .before .reads-of .ensures) (c .before .enum-told3 .given .1) (c .unpack-each .ensures))
-    (λ c. unpack-index _ _ (c .before .before .before .before .before .before .before .before .before .before .before .before .before .before .args .t .now) _ (c .before .before .before .before .before .before .before .before .before .before .before .at-node .ensures) (c .before .before .before .before .before .before .before .before .before .enum-told .given .1) (c .before .before .before .before .before .before .before .before .span .ensures) refl (c .before .before .before .before .before .form .ensures) (c .before .before .before .before .reads-of .ensures) (c .before .before .before .before .before .before .span2 .ensures) (c .before .before .enum-told4 .given .1) (c .unpack-each2 .ensures))
-    (λ c. unpack-index2 _ _ (c .before .before .before .before .before .before .before .before .before .before .before .before .before .before .args .t .now) _ (c .before .before .before .before .before .before .before .before .before .before .before .at-node .ensures) (c .before .before .before .before .before .before .before .before .before .enum-told .given .1) (c .before .before .before .before .before .before .before .before .span .ensures) refl (c .before .before .before .before .before .form .ensures) (c .before .before .before .before .reads-of .ensures) (c .before .before .before .before .before .before .span2 .ensures) (c .before .before .enum-told5 .given .1) (c .unpack-arguments .ensures)))
+    (λ c.  -- returns-2
+    let reads-of = c .before .before .reads-of in
+    let form = c .before .before .before .form in
+    let span = c .before .before .before .before .before .before .span in
+    let back = c .before .before .before .before .before .before in
+    let enum-told = back .before .enum-told in
+    let at-node = back .before .before .before .at-node in
+    unpack-nothing _ _ _ _ at-node.ensures enum-told.given.1 span.ensures refl form.ensures reads-of.ensures
+    (c .enum-told2 .given .1))
+    (λ c. search unpack-types)  -- returns-3
+    (λ c. search unpack-index)  -- returns-4
+    (λ c. search unpack-index2))  -- returns-5
     (λ t. unpack-argument-lts.spec (
       kind-reads.Asked,
       kind-reads.Learnt,
@@ -161,9 +170,9 @@ pub +unpack+unpack-argument+unpack-arguments+unpack-each-spec : {M : Type 1} →
     (λ c. search needs)
     (λ c. search needs)
     (λ c κs. search needs)
-    (λ c. argument-list _ _ (c .before .before .before .before .before .before .before .args .t .now) (c .before .before .before .before .kind .ensures) (c .before .before .before .if1 .taken) (c .before .before .span .ensures) (c .unpack-arguments .ensures))
+    (λ c. search argument-list)  -- returns
     (λ c κs. search needs)
-    (λ c. argument-type _ _ (c .before .before .before .before .before .args .t .now) (c .before .before .kind .ensures) (c .before .if1 .left) (c .unpack .ensures)))
+    (λ c. search argument-type))  -- returns-2
     (λ t. unpack-arguments-lts.spec (
       unpack-argument-below t,
       unpack-argument.Post,
@@ -174,10 +183,10 @@ pub +unpack+unpack-argument+unpack-arguments+unpack-each-spec : {M : Type 1} →
     )
     (unpack-arguments-at t)
     unpack-arguments.Post
-    (λ c. arguments-none _ _ _ (c .if1 .taken))
+    (λ c. arguments-none _ _ _ (c .if1 .taken))  -- returns
     (λ c κs. search needs)
     (λ c. search needs)
-    (λ c. arguments-stop _ _ _ (c .before .before .before .before .if1 .left) _ (c .before .before .before .unpack-argument .ensures) (c .before .first .given .1))
+    (λ c. search arguments-stop)  -- returns-2
     (λ c. search needs)
     (λ c κs. search needs)
     (λ c. search needs)
@@ -185,7 +194,7 @@ pub +unpack+unpack-argument+unpack-arguments+unpack-each-spec : {M : Type 1} →
     (λ c. search needs)
     (λ c. search needs)
     (λ c κs. search needs)
-    (λ c. arguments-go _ _ _ (c .before .before .before .before .before .before .if1 .left) _ (c .before .before .before .before .before .unpack-argument .ensures) (c .before .before .before .enum-told .given .1) (c .before .before .span .ensures) (c .unpack-arguments .ensures)))
+    (λ c. search arguments-go))  -- returns-3
     λ t. unpack-each-lts.spec (
       unpack-below t,
       unpack.Post,
@@ -196,10 +205,10 @@ pub +unpack+unpack-argument+unpack-arguments+unpack-each-spec : {M : Type 1} →
     )
     (unpack-each-at t)
     unpack-each.Post
-    (λ c. each-none _ _ _ (c .if1 .taken))
+    (λ c. each-none _ _ _ (c .if1 .taken))  -- returns
     (λ c κs. search needs)
     (λ c. search needs)
-    (λ c. each-stop _ _ _ (c .before .before .before .before .if1 .left) _ (c .before .before .before .unpack .ensures) (c .before .first .given .1))
+    (λ c. search each-stop)  -- returns-2
     (λ c. search needs)
     (λ c κs. search needs)
     (λ c. search needs)
@@ -207,4 +216,4 @@ pub +unpack+unpack-argument+unpack-arguments+unpack-each-spec : {M : Type 1} →
     (λ c. search needs)
     (λ c. search needs)
     (λ c κs. search needs)
-    (λ c. each-go _ _ _ (c .before .before .before .before .before .before .if1 .left) _ (c .before .before .before .before .before .unpack .ensures) (c .before .before .before .enum-told .given .1) (c .before .before .span .ensures) (c .unpack-each .ensures))
+    (λ c. search each-go)  -- returns-3

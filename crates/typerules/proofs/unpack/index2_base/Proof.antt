@@ -1,5 +1,4 @@
 -- `typerules::unpack::index2_base` meets its contract: the base is a path. Assumes nothing.
-use mathlib.Core.Path.{refl}
 use Rattle.typerules.proofs.Bases.{index2-none, index2-path}
 use borrow.Author.Needs.{needs}
 use Rattle.typerules.proofs.unpack.index2_base.Statement.{statement}
@@ -13,7 +12,7 @@ index2-base-spec =
     (λ c. search needs)
     (λ c. search needs)
     (λ c. search needs)
-    (λ c. index2-none _ (c .before .before .before .before .before .args .t .now) (c .before .before .span .ensures) refl _ (c .if1 .taken))
+    (λ c. search index2-none)  -- returns
     (λ c. search needs)
     (λ c κs. search needs)
-    (λ c. index2-path _ (c .before .before .before .before .before .before .args .t .now) (c .before .before .before .span .ensures) refl (c .before .if1 .left) _ (c .unpack-path .ensures)))
+    (λ c. search index2-path))  -- returns-2

@@ -1,5 +1,4 @@
 -- `typerules::unpack::index_base` meets its contract: an Identifier, or 40. Assumes nothing.
-use mathlib.Core.Path.{refl}
 use Rattle.typerules.proofs.Bases.{index-none, index-other, index-good}
 use borrow.Author.Needs.{needs}
 use Rattle.typerules.proofs.unpack.index_base.Statement.{statement}
@@ -15,9 +14,9 @@ index-base-spec =
     (λ c. search needs)
     (λ c. search needs)
     (λ c κs. search needs)
-    (λ c. index-none _ (c .before .before .before .before .before .args .t .now) (c .before .before .before .span .ensures) refl (c .before .if1 .taken) (c .refused-at .ensures))
+    (λ c. search index-none)  -- returns
     (λ c κs. search needs)
     (λ c. search needs)
     (λ c κs. search needs)
-    (λ c. index-other _ (c .before .before .before .before .before .before .before .args .t .now) (c .before .before .before .before .before .span .ensures) refl (c .before .before .before .if1 .left) (c .before .before .kind .ensures) (c .before .if2 .taken) (c .refused-at2 .ensures))
-    (λ c. index-good _ (c .before .before .before .before .before .before .args .t .now) (c .before .before .before .before .span .ensures) refl (c .before .before .if1 .left) (c .before .kind .ensures) (c .if2 .left)))
+    (λ c. search index-other)  -- returns-2
+    (λ c. search index-good))  -- returns-3

@@ -2,10 +2,11 @@
 -- Assumes nothing.
 use borrow.Author.Needs.{needs}
 use native.Mathlib.Omega.{arith}
-use mathlib.Core.Path.{refl, _∙_}
+use mathlib.Core.Path.{refl}
 use lib.ListN.{length, length-set}
 use Prim.Native.Nat.{_+_, _*_}
-use Rattle.types.proofs.Writing.{write-nothing, write-types, write-index, write-index2, write-list, write-other, each-none, each-go, arguments-none, arguments-go}
+use Rattle.types.proofs.Writing.{write-nothing, write-types, write-index, write-index2, write-list}
+use Rattle.types.proofs.Writing.{write-other, each-none, each-go, arguments-none, arguments-go}
 use Prim.Native.Nat.{ℕ, _<_}
 use borrow.Fn.Kinds.{In}
 use borrow.Fn.PlainCycle.{Measures, is, falls, and}
@@ -119,12 +120,15 @@ pub +write-argument+write-arguments+write-each+write-type-spec : {M : Type 1} �
     (λ c. search needs)
     (λ c. search needs)
     (λ c. search needs)
-    (λ c κs. omega (arith, length-set (c .before .before .before .before .before .before .before .args .shapes .now) (c .before .before .before .before .before .before .before .args .at) 5))
-    (λ c. c .before .shapes .given ∙ length-set (c .before .before .before .before .before .before .before .before .before .before .args .shapes .now) (c .before .before .before .before .before .before .before .before .before .before .args .at) 5)
-    (λ c. write-list _ (c .before .before .before .before .before .before .before .before .before .before .args .t .now) _ (c .before .before .before .before .before .before .before .kind .ensures) (c .before .before .before .before .before .before .if1 .taken) (c .before .before .before .before .before .span .ensures) (c .before .before .write-arguments .ensures))
+    (λ c κs.  -- write-arguments-requires
+    let back = c .before .before .before .before .before .before in
+    let start = back .before in
+    omega (arith, length-set start.args.shapes.now start.args.at 5))
+    (λ c. search (length-set, c .before .shapes .given))  -- same-length
+    (λ c. search write-list)  -- returns
     (λ c κs. search needs)
     (λ c. search needs)
-    (λ c. write-other _ (c .before .before .before .before .before .before .before .before .args .t .now) _ (c .before .before .before .before .before .kind .ensures) (c .before .before .before .before .if1 .left) (c .before .before .write-type .ensures)))
+    (λ c. search write-other))  -- returns-2
     (λ t. write-arguments-lts.spec (
       write-argument-below t,
       write-argument.Post,
@@ -135,7 +139,7 @@ pub +write-argument+write-arguments+write-each+write-type-spec : {M : Type 1} �
     )
     (write-arguments-at t)
     write-arguments.Post
-    (λ c. arguments-none _ _ _ (c .if1 .taken))
+    (λ c. arguments-none _ _ _ (c .if1 .taken))  -- returns
     (λ c κs. search needs)
     (λ c κs. search needs)
     (λ c. search needs)
@@ -144,7 +148,7 @@ pub +write-argument+write-arguments+write-each+write-type-spec : {M : Type 1} �
     (λ c. search needs)
     (λ c κs. search needs)
     (λ c. search needs)
-    (λ c. arguments-go _ _ _ (c .before .before .before .before .before .before .before .before .before .before .if1 .left) (c .before .before .before .before .before .before .before .before .write-argument .ensures) (c .before .before .before .before .before .span .ensures) (c .before .before .write-arguments .ensures)))
+    (λ c. search arguments-go))  -- returns-2
     (λ t. write-each-lts.spec (
       write-type-below t,
       write-type.Post,
@@ -155,7 +159,7 @@ pub +write-argument+write-arguments+write-each+write-type-spec : {M : Type 1} �
     )
     (write-each-at t)
     write-each.Post
-    (λ c. each-none _ _ _ (c .if1 .taken))
+    (λ c. each-none _ _ _ (c .if1 .taken))  -- returns
     (λ c κs. search needs)
     (λ c κs. search needs)
     (λ c. search needs)
@@ -164,7 +168,7 @@ pub +write-argument+write-arguments+write-each+write-type-spec : {M : Type 1} �
     (λ c. search needs)
     (λ c κs. search needs)
     (λ c. search needs)
-    (λ c. each-go _ _ _ (c .before .before .before .before .before .before .before .before .before .before .if1 .left) (c .before .before .before .before .before .before .before .before .write-type .ensures) (c .before .before .before .before .before .span .ensures) (c .before .before .write-each .ensures)))
+    (λ c. search each-go))  -- returns-2
     λ t. write-type-lts.spec (
       form-reads.Asked,
       form-reads.Learnt,
@@ -194,26 +198,48 @@ pub +write-argument+write-arguments+write-each+write-type-spec : {M : Type 1} �
     (λ c. search needs)
     (λ c. search needs)
     (λ c. search needs)
-    (λ c κs. omega (arith, length-set (c .before .before .before .before .before .before .before .before .before .before .before .before .args .shapes .now) (c .before .before .before .before .before .before .before .before .before .before .before .before .args .at) (c .before .before .before .before .before .before .before .before .shape-of .result)))
+    (λ c κs.  -- write-each-requires
+    let back = c .before .before .before .before .before .before in
+    let shape-of = back .before .before .shape-of in
+    let start = back .before .before .before .before .before .before in
+    omega (arith, length-set start.args.shapes.now start.args.at shape-of.result))
     (λ c. search needs)
     (λ c. search needs)
     (λ c. search needs)
     (λ c. search needs)
     (λ c. search needs)
     (λ c. search needs)
-    (λ c κs. omega (arith, length-set (c .before .before .before .before .before .before .before .before .before .before .before .before .before .args .shapes .now) (c .before .before .before .before .before .before .before .before .before .before .before .before .before .args .at) (c .before .before .before .before .before .before .before .before .before .shape-of .result)))
+    (λ c κs.  -- write-each-requires-2
+    let back = c .before .before .before .before .before .before in
+    let shape-of = back .before .before .before .shape-of in
+    let back2 = back .before .before .before .before .before .before in
+    let start = back2 .before in
+    omega (arith, length-set start.args.shapes.now start.args.at shape-of.result))
     (λ c. search needs)
     (λ c. search needs)
     (λ c. search needs)
     (λ c. search needs)
     (λ c. search needs)
     (λ c. search needs)
-    (λ c κs. omega (arith, length-set (c .before .before .before .before .before .before .before .before .before .before .before .before .before .args .shapes .now) (c .before .before .before .before .before .before .before .before .before .before .before .before .before .args .at) (c .before .before .before .before .before .before .before .before .before .shape-of .result)))
-    (λ c. length-set (c .before .before .before .before .before .before .before .before .before .before .before .args .shapes .now) (c .before .before .before .before .before .before .before .before .before .before .before .args .at) (c .before .before .before .before .before .before .before .shape-of .result))
-    (λ c. write-nothing _ (c .before .before .before .before .before .before .before .before .before .before .before .args .t .now) _ (c .before .before .before .before .before .before .before .before .form .ensures) (c .before .before .before .before .before .before .before .shape-of .ensures) (c .before .before .before .before .before .before .span .ensures) refl (c .before .before .before .form2 .ensures) (c .before .before .reads-of .ensures) (c .enum-told .given .1))
-    (λ c. c .before .shapes .given ∙ length-set (c .before .before .before .before .before .before .before .before .before .before .before .before .before .before .before .args .shapes .now) (c .before .before .before .before .before .before .before .before .before .before .before .before .before .before .before .args .at) (c .before .before .before .before .before .before .before .before .before .before .before .shape-of .result))
-    (λ c. write-types _ (c .before .before .before .before .before .before .before .before .before .before .before .before .before .before .before .args .t .now) _ (c .before .before .before .before .before .before .before .before .before .before .before .before .form .ensures) (c .before .before .before .before .before .before .before .before .before .before .before .shape-of .ensures) (c .before .before .before .before .before .before .before .before .before .before .span .ensures) refl (c .before .before .before .before .before .before .before .form2 .ensures) (c .before .before .before .before .before .before .reads-of .ensures) (c .before .before .before .before .enum-told2 .given .1) (c .before .before .write-each .ensures))
-    (λ c. c .before .shapes2 .given ∙ length-set (c .before .before .before .before .before .before .before .before .before .before .before .before .before .before .before .before .args .shapes .now) (c .before .before .before .before .before .before .before .before .before .before .before .before .before .before .before .before .args .at) (c .before .before .before .before .before .before .before .before .before .before .before .before .shape-of .result))
-    (λ c. write-index _ (c .before .before .before .before .before .before .before .before .before .before .before .before .before .before .before .before .args .t .now) _ (c .before .before .before .before .before .before .before .before .before .before .before .before .before .form .ensures) (c .before .before .before .before .before .before .before .before .before .before .before .before .shape-of .ensures) (c .before .before .before .before .before .before .before .before .before .before .before .span .ensures) refl (c .before .before .before .before .before .before .before .before .form2 .ensures) (c .before .before .before .before .before .before .before .reads-of .ensures) (c .before .before .before .before .before .before .before .before .before .span2 .ensures) (c .before .before .before .before .before .enum-told3 .given .1) (c .before .before .write-each2 .ensures))
-    (λ c. c .before .shapes3 .given ∙ length-set (c .before .before .before .before .before .before .before .before .before .before .before .before .before .before .before .before .args .shapes .now) (c .before .before .before .before .before .before .before .before .before .before .before .before .before .before .before .before .args .at) (c .before .before .before .before .before .before .before .before .before .before .before .before .shape-of .result))
-    (λ c. write-index2 _ (c .before .before .before .before .before .before .before .before .before .before .before .before .before .before .before .before .args .t .now) _ (c .before .before .before .before .before .before .before .before .before .before .before .before .before .form .ensures) (c .before .before .before .before .before .before .before .before .before .before .before .before .shape-of .ensures) (c .before .before .before .before .before .before .before .before .before .before .before .span .ensures) refl (c .before .before .before .before .before .before .before .before .form2 .ensures) (c .before .before .before .before .before .before .before .reads-of .ensures) (c .before .before .before .before .before .before .before .before .before .span2 .ensures) (c .before .before .before .before .before .enum-told4 .given .1) (c .before .before .write-arguments .ensures))
+    (λ c κs.  -- write-arguments-requires
+    let back = c .before .before .before .before .before .before in
+    let shape-of = back .before .before .before .shape-of in
+    let back2 = back .before .before .before .before .before .before in
+    let start = back2 .before in
+    omega (arith, length-set start.args.shapes.now start.args.at shape-of.result))
+    (λ c. search length-set)  -- same-length
+    (λ c.  -- returns
+    let reads-of = c .before .before .reads-of in
+    let form2 = c .before .before .before .form2 in
+    let span = c .before .before .before .before .before .before .span in
+    let back = c .before .before .before .before .before .before in
+    let shape-of = back .before .shape-of in
+    let form = back .before .before .form in
+    write-nothing _ _ _ form.ensures shape-of.ensures span.ensures refl form2.ensures reads-of.ensures
+    (c .enum-told .given .1))
+    (λ c. search (length-set, c .before .shapes .given))  -- same-length-2
+    (λ c. search write-types)  -- returns-2
+    (λ c. search (length-set, c .before .shapes2 .given))  -- same-length-3
+    (λ c. search write-index)  -- returns-3
+    (λ c. search (length-set, c .before .shapes3 .given))  -- same-length-4
+    (λ c. search write-index2)  -- returns-4

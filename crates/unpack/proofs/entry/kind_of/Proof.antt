@@ -11,8 +11,8 @@ kind-of-spec =
     (λ c κs. search needs)
     (λ c κs. search needs)
     (λ c κs. search needs)
-    (λ c. kind-normal _ (c .before .before .before .kind .ensures) (c .before .before .if1 .taken) (c .before .detail .ensures) (c .has-default .ensures))
-    (λ c. kind-no-args _ (c .before .before .kind .ensures) (c .if2 .taken))
-    (λ c. kind-slash _ (c .before .before .before .kind .ensures) (c .if3 .taken))
-    (λ c. kind-args _ (c .before .before .before .before .kind .ensures) (c .if4 .taken))
-    (λ c. kind-kwargs _ (c .before .before .before .before .kind .ensures) (c .before .before .before .if1 .left) (c .before .before .if2 .left) (c .before .if3 .left) (c .if4 .left)))
+    (λ c. search kind-normal)  -- returns
+    (λ c. search kind-no-args)  -- returns-2
+    (λ c. search kind-slash)  -- returns-3
+    (λ c. search kind-args)  -- returns-4
+    (λ c. search kind-kwargs))  -- returns-5

@@ -5,4 +5,4 @@ use Rattle.unpack.proofs.entry.listed.Statement.{statement}
 use Rattle.unpack.proofs.entry.listed.Tie as tie
 
 pub listed-spec : {M : Type 1} → statement M
-listed-spec = tie.close (tie.spec (λ c κs. search needs) (λ c. listed-is _ (c .class .ensures)))
+listed-spec = tie.close (tie.spec (λ c κs. search needs) (λ c. listed-is _ (c .class .ensures)))  -- returns

@@ -17,16 +17,16 @@ first-slash-spec =
     (tie.spec
     Inv-loop
     μ-loop
-    (λ c. slash-start _)
+    (λ c. slash-start _)  -- loop-holds
     (λ c κs. search needs)
     (λ c κs. search needs)
     (λ c κs. search needs)
-    (λ c. slash-here (c .before .before .before .before .before .loop .inv) (c .before .before .before .before .listed .ensures) (c .before .before .before .if1 .taken) (c .before .before .kind-of .ensures) (c .before .is-slash .ensures) (c .if2 .taken))
+    (λ c. search slash-here)  -- returns
     (λ c κs. search needs)
     (λ c. search needs)
     (λ c. search needs)
     (λ c. search needs)
     (λ c. search needs)
-    (λ c. rest-less _ (c .before .before .before .before .before .before .listed .ensures) (c .before .before .before .before .before .if1 .taken) (c .before .span .ensures))
-    (λ c. slash-on (c .before .before .before .before .before .before .before .loop .inv) (c .before .before .before .before .before .before .listed .ensures) (c .before .before .before .before .before .if1 .taken) (c .before .before .before .before .kind-of .ensures) (c .before .before .before .is-slash .ensures) (c .before .before .if2 .left) (c .before .span .ensures))
-    (λ c. slash-end (c .before .before .loop .inv) (c .before .listed .ensures) (c .if1 .left)))
+    (λ c. search rest-less)  -- loop-less
+    (λ c. search slash-on)  -- loop-again
+    (λ c. search slash-end))  -- returns-2

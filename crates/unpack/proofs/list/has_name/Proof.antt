@@ -11,7 +11,7 @@ has-name-spec =
     (tie.spec
     (λ c κs. search needs)
     (λ c κs. search needs)
-    (λ c. name-none _ _ _ (c .before .before .kind-of .ensures) (c .before .is-named .ensures) (not-true _ (c .if1 .taken)))
+    (λ c. search (name-none, not-true))  -- returns
     (λ c κs. search needs)
     (λ c κs. search needs)
-    (λ c. name-tested _ _ _ (c .before .before .before .before .kind-of .ensures) (c .before .before .before .is-named .ensures) (not-false _ (c .before .before .if1 .left)) (c .before .name .ensures) (c .same-bytes .ensures)))
+    (λ c. search (name-tested, not-false)))  -- returns-2

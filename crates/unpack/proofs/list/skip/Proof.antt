@@ -17,7 +17,7 @@ skip-spec =
     (tie.spec
     Inv-loop
     μ-loop
-    (λ c. skip-start _ _)
+    (λ c. skip-start _ _)  -- loop-holds
     (λ c. search needs)
     (λ c. search needs)
     (λ c. search needs)
@@ -25,5 +25,5 @@ skip-spec =
     (λ c. search needs)
     (λ c. search needs)
     (λ c. search needs)
-    (λ c. skip-on (c .before .before .before .before .loop .inv) (c .before .before .if1 .taken) (c .span .ensures))
-    (λ c. (c .before .before .loop .inv .inside, skip-end (c .before .before .loop .inv) (c .if1 .left))))
+    (λ c. search skip-on)  -- loop-again
+    (λ c. search skip-end))  -- returns

@@ -7,4 +7,12 @@ use Rattle.unpack.proofs.rules.kwargs_rule.Tie as tie
 pub kwargs-rule-spec : {M : Type 1} → statement M
 kwargs-rule-spec =
     tie.close
-    (tie.spec (λ c. search needs) (λ c. search needs) (λ c. search needs) (λ c. search needs) (λ c. search needs) (λ c. search needs) (λ c. search needs) (λ c. rw (c .enum-told4 .given .1) refl))
+    (tie.spec
+    (λ c. search needs)
+    (λ c. search needs)
+    (λ c. search needs)
+    (λ c. search needs)
+    (λ c. search needs)
+    (λ c. search needs)
+    (λ c. search needs)
+    (λ c. rw (c .enum-told4 .given .1) refl))  -- returns-4

@@ -1,5 +1,4 @@
 -- `unpack::rules::next_optional` meets its contract: it is the definition, kind by kind. Assumes nothing.
-use mathlib.Core.Path.{refl, _∙_, ap}
 use borrow.Author.Needs.{needs}
 use Rattle.unpack.proofs.rules.next_optional.Statement.{statement}
 use Rattle.unpack.proofs.rules.next_optional.Tie as tie
@@ -14,7 +13,7 @@ next-optional-spec =
     (λ c. search needs)
     (λ c. search needs)
     (λ c. search needs)
-    (λ c. rw (c .before .before .kind .given .1) (c .or .ensures))
+    (λ c. cc)  -- returns
     (λ c. search needs)
     (λ c. search needs)
     (λ c. search needs)

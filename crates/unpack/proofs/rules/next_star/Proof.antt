@@ -14,7 +14,7 @@ next-star-spec =
     (λ c. search needs)
     (λ c. search needs)
     (λ c. search needs)
-    (λ c. rw (c .enum-told2 .given .1) refl)
+    (λ c. rw (c .enum-told2 .given .1) refl)  -- returns-2
     (λ c. search needs)
     (λ c. search needs)
     (λ c. search needs))

@@ -1,5 +1,5 @@
 -- `unpack::rules::normal_rule` meets its contract: it is the definition, state by state. Assumes nothing.
-use mathlib.Core.Path.{refl, _∙_, ap}
+use mathlib.Core.Path.{refl}
 use borrow.Author.Needs.{needs}
 use Rattle.unpack.proofs.rules.normal_rule.Statement.{statement}
 use Rattle.unpack.proofs.rules.normal_rule.Tie as tie
@@ -14,7 +14,7 @@ normal-rule-spec =
     (λ c κs. search needs)
     (λ c. search needs)
     (λ c. search needs)
-    (λ c. rw (c .before .enum-told .given .1) (c .default-rule .ensures))
-    (λ c. rw (c .before .enum-told2 .given .1) (c .default-rule2 .ensures))
-    (λ c. rw (c .enum-told3 .given .1) refl)
-    (λ c. rw (c .enum-told4 .given .1) refl))
+    (λ c. cc)  -- returns
+    (λ c. cc)  -- returns-2
+    (λ c. rw (c .enum-told3 .given .1) refl)  -- returns-3
+    (λ c. rw (c .enum-told4 .given .1) refl))  -- returns-4

@@ -1,5 +1,4 @@
 -- `unpack::rules::rule` meets its contract: it is the definition, kind by kind. Assumes nothing.
-use mathlib.Core.Path.{refl, _∙_, ap}
 use borrow.Author.Needs.{needs}
 use Rattle.unpack.proofs.rules.rule.Statement.{statement}
 use Rattle.unpack.proofs.rules.rule.Tie as tie
@@ -18,8 +17,8 @@ rule-spec =
     (λ c κs. search needs)
     (λ c. search needs)
     (λ c κs. search needs)
-    (λ c. rw (c .before .before .kind .given .1) (c .normal-rule .ensures))
-    (λ c. rw (c .before .enum-told .given .1) (c .star-rule .ensures))
-    (λ c. rw (c .before .enum-told2 .given .1) (c .slash-rule .ensures))
-    (λ c. rw (c .before .enum-told3 .given .1) (c .star-rule2 .ensures))
-    (λ c. rw (c .before .enum-told4 .given .1) (c .kwargs-rule .ensures)))
+    (λ c. rw (c .before .before .kind .given .1) (c .normal-rule .ensures))  -- returns
+    (λ c. search)  -- returns-2
+    (λ c. search)  -- returns-3
+    (λ c. search)  -- returns-4
+    (λ c. search))  -- returns-5

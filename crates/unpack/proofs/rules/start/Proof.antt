@@ -7,4 +7,8 @@ use Rattle.unpack.proofs.rules.start.Tie as tie
 
 pub start-spec : {M : Type 1} → statement M
 unfolding start
-start-spec = tie.close (tie.spec (λ c κs. search needs) (λ c. rw (c .first-state .ensures) refl))
+start-spec =
+    tie.close
+    (tie.spec
+    (λ c κs. search needs)
+    (λ c. rw (c .first-state .ensures) refl))  -- returns

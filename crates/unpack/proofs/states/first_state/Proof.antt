@@ -5,4 +5,8 @@ use Rattle.unpack.proofs.states.first_state.Statement.{statement}
 use Rattle.unpack.proofs.states.first_state.Tie as tie
 
 pub first-state-spec : {M : Type 1} → statement M
-first-state-spec = tie.close (tie.spec (λ c. rw (eq-eqb _ _ (c .if1 .taken)) refl) (λ c. rw (ne-eqb _ _ (c .if1 .left)) refl))
+first-state-spec =
+    tie.close
+    (tie.spec
+    (λ c. rw (eq-eqb _ _ (c .if1 .taken)) refl)  -- returns
+    (λ c. rw (ne-eqb _ _ (c .if1 .left)) refl))  -- returns-2

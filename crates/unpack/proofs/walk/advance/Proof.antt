@@ -1,5 +1,4 @@
 -- `unpack::walk::advance` meets its contract: it is the definition, field by field. Assumes nothing.
-use mathlib.Core.Path.{refl, _∙_, ap}
 use Rattle.unpack.specs.Unpack.{advance}
 use borrow.Author.Needs.{needs}
 use Rattle.unpack.proofs.walk.advance.Statement.{statement}
@@ -9,4 +8,9 @@ pub advance-spec : {M : Type 1} → statement M
 unfolding advance
 advance-spec =
     tie.close
-    (tie.spec (λ c κs. search needs) (λ c κs. search needs) (λ c κs. search needs) (λ c κs. search needs) (λ c. rw (c .before .before .before .next-state .ensures, c .before .before .next-optional .ensures, c .before .next-star .ensures, c .count .ensures) refl))
+    (tie.spec
+    (λ c κs. search needs)
+    (λ c κs. search needs)
+    (λ c κs. search needs)
+    (λ c κs. search needs)
+    (λ c. cc))  -- returns

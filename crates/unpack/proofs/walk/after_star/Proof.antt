@@ -20,10 +20,32 @@ after-star-spec =
     (λ c. search needs)
     (λ c κs. search needs)
     (λ c κs. search needs)
-    (λ c. star-last _ _ _ _ (c .before .before .before .before .before .before .skip .ensures .0) (c .before .before .before .before .before .before .skip .ensures .1) (c .before .before .before .before .span .ensures) (c .before .before .listed .ensures) (not-true _ (c .before .if1 .taken)) (c .fault .ensures))
+    (λ c.  -- returns
+    let listed = c .before .before .listed in
+    let span = c .before .before .before .before .span in
+    let skip = c .before .before .before .before .before .before .skip in
+    star-last _ _ _ _ skip.ensures.0 skip.ensures.1 span.ensures listed.ensures (search not-true)
+    (c .fault .ensures))
     (λ c κs. search needs)
     (λ c κs. search needs)
-    (λ c. star-normal _ _ _ _ (c .before .before .before .before .before .before .before .before .skip .ensures .0) (c .before .before .before .before .before .before .before .before .skip .ensures .1) (c .before .before .before .before .before .before .span .ensures) (c .before .before .before .before .listed .ensures) (not-false _ (c .before .before .before .if1 .left)) (c .before .before .kind-of .ensures) (c .before .is-normal .ensures) (c .if2 .taken))
+    (λ c.  -- returns-2
+    let is-normal = c .before .is-normal in
+    let kind-of = c .before .before .kind-of in
+    let listed = c .before .before .before .before .listed in
+    let span = c .before .before .before .before .before .before .span in
+    let back = c .before .before .before .before .before .before in
+    let skip = back .before .before .skip in
+    star-normal _ _ _ _ skip.ensures.0 skip.ensures.1 span.ensures listed.ensures (search not-false) kind-of.ensures
+    is-normal.ensures (c .if2 .taken))
     (λ c. search needs)
     (λ c κs. search needs)
-    (λ c. star-other _ _ _ _ (c .before .before .before .before .before .before .before .before .before .skip .ensures .0) (c .before .before .before .before .before .before .before .before .before .skip .ensures .1) (c .before .before .before .before .before .before .before .span .ensures) (c .before .before .before .before .before .listed .ensures) (not-false _ (c .before .before .before .before .if1 .left)) (c .before .before .before .kind-of .ensures) (c .before .before .is-normal .ensures) (c .before .if2 .left) (c .fault2 .ensures)))
+    (λ c.  -- returns-3
+    let if2 = c .before .if2 in
+    let is-normal = c .before .before .is-normal in
+    let kind-of = c .before .before .before .kind-of in
+    let listed = c .before .before .before .before .before .listed in
+    let back = c .before .before .before .before .before .before in
+    let span = back .before .span in
+    let skip = back .before .before .before .skip in
+    star-other _ _ _ _ skip.ensures.0 skip.ensures.1 span.ensures listed.ensures (search not-false) kind-of.ensures
+    is-normal.ensures if2.left (c .fault2 .ensures)))

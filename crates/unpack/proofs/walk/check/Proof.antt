@@ -6,4 +6,11 @@ use Rattle.unpack.proofs.walk.check.Tie as tie
 
 pub check-spec : {M : Type 1} → statement M
 check-spec =
-    tie.close (tie.spec (λ c κs. search needs) (λ c. search needs) (λ c. search needs) (λ c κs. search needs) (λ c. check-found _ _ _ _ _ (c .before .before .before .before .before .before .pre .2) (c .before .before .repeated .ensures) (c .enum-told .given .1)) (λ c. check-rule _ _ _ _ _ (c .before .before .before .before .before .before .before .pre .2) (c .before .before .before .repeated .ensures) (c .before .enum-told2 .given .1) (c .rule .ensures)))
+    tie.close
+    (tie.spec
+    (λ c κs. search needs)
+    (λ c. search needs)
+    (λ c. search needs)
+    (λ c κs. search needs)
+    (λ c. search check-found)  -- returns
+    (λ c. search check-rule))  -- returns-2

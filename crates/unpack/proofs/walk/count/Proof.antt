@@ -1,5 +1,5 @@
 -- `unpack::walk::count` meets its contract: it is the definition, kind by kind. Assumes nothing.
-use mathlib.Core.Path.{refl, _∙_, ap}
+use mathlib.Core.Path.{refl}
 use borrow.Author.Needs.{needs}
 use Rattle.unpack.proofs.walk.count.Statement.{statement}
 use Rattle.unpack.proofs.walk.count.Tie as tie
@@ -17,8 +17,9 @@ count-spec =
     (λ c κs. search needs)
     (λ c. search needs)
     (λ c κs. search needs)
-    (λ c. rw (c .before .before .enum-told .given .1, c .before .more-positional .ensures, c .one-more .ensures) refl)
-    (λ c. rw (c .enum-told2 .given .1) refl)
-    (λ c. rw (c .enum-told3 .given .1) refl)
-    (λ c. rw (c .before .enum-told4 .given .1, c .one-more2 .ensures) refl)
-    (λ c. rw (c .before .enum-told5 .given .1, c .one-more3 .ensures) refl))
+    (λ c.  -- returns
+    search (c .before .before .enum-told .given .1, c .before .more-positional .ensures, c .one-more .ensures))
+    (λ c. rw (c .enum-told2 .given .1) refl)  -- returns-2
+    (λ c. rw (c .enum-told3 .given .1) refl)  -- returns-3
+    (λ c. search (c .before .enum-told4 .given .1, c .one-more2 .ensures))  -- returns-4
+    (λ c. search (c .before .enum-told5 .given .1, c .one-more3 .ensures)))  -- returns-5

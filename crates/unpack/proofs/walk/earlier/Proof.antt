@@ -1,7 +1,6 @@
 -- `unpack::walk::earlier` meets its contract: the parameters that are left decide. Assumes nothing.
 use borrow.Author.Needs.{needs}
 use Prim.Native.Nat.{_-_}
-use native.Mathlib.Omega.{arith}
 use Rattle.unpack.proofs.Reading.{Searching, search-start, search-here, search-on, search-end, search-long}
 use Rattle.unpack.proofs.walk.earlier.Statement.{statement}
 use Rattle.unpack.proofs.walk.earlier.Tie as tie
@@ -18,12 +17,12 @@ earlier-spec =
     (tie.spec
     Inv-loop
     μ-loop
-    (λ c. search-start _ _ _ _ _ (c .before .before .before .pre .1))
+    (λ c. search search-start)  -- loop-holds
     (λ c. search needs)
     (λ c. search needs)
-    (λ c. search-long (c .before .before .loop .inv) (c .if1 .taken))
+    (λ c. search search-long)  -- part-has-name-end
     (λ c κs. search needs)
-    (λ c. search-here (c .before .before .before .before .before .loop .inv) (c .before .before .before .if1 .taken) (c .before .has-name .ensures) (c .if2 .taken))
+    (λ c. search search-here)  -- returns
     (λ c κs. search needs)
     (λ c. search needs)
     (λ c. search needs)
@@ -31,5 +30,5 @@ earlier-spec =
     (λ c. search needs)
     (λ c. search needs)
     (λ c. search needs)
-    (λ c. search-on (c .before .before .before .before .before .before .before .loop .inv) (c .before .before .before .before .before .if1 .taken) (c .before .before .before .has-name .ensures) (c .before .before .if2 .left) (c .before .span .ensures))
-    (λ c. search-end (c .before .before .loop .inv) (c .if1 .left)))
+    (λ c. search search-on)  -- loop-again
+    (λ c. search search-end))  -- returns-2

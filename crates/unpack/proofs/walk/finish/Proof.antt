@@ -7,4 +7,11 @@ use Rattle.unpack.proofs.walk.finish.Tie as tie
 
 pub finish-spec : {M : Type 1} → statement M
 unfolding finish
-finish-spec = tie.close (tie.spec (λ c. search needs) (λ c κs. search needs) (λ c. search needs) (λ c. rw (c .before .before .star .given .1) (c .after-star .ensures)) (λ c. rw (c .enum-told .given .1) (λ names h. refl, tt)))
+finish-spec =
+    tie.close
+    (tie.spec
+    (λ c. search needs)
+    (λ c κs. search needs)
+    (λ c. search needs)
+    (λ c. rw (c .before .before .star .given .1) (c .after-star .ensures))  -- returns
+    (λ c. rw (c .enum-told .given .1) (λ names h. refl, tt)))  -- returns-2

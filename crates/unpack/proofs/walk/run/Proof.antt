@@ -1,7 +1,6 @@
 -- `unpack::walk::run` meets its contract: what is known of the parameters that are read, and those that are left, decide. Assumes nothing.
 use borrow.Author.Needs.{needs}
 use native.Mathlib.Omega.{arith}
-use mathlib.Core.Path.{refl}
 use lib.ListN.{length}
 use Rattle.unpack.proofs.Reading.{rest-less}
 use Rattle.unpack.proofs.Walking.{Judging, judge-start, judge-stop, judge-on, judge-end}
@@ -21,22 +20,46 @@ run-spec =
     Inv-loop
     μ-loop
     (λ c κs. search needs)
-    (λ c. judge-start _ _ _ _ (c .start .ensures))
+    (λ c. search judge-start)  -- loop-holds
     (λ c κs. search needs)
     (λ c κs. search needs)
-    (λ c κs. (search needs, c .before .before .before .loop .inv .reads .upto, c .kind-of .ensures))
+    (λ c κs. search)  -- check-requires
     (λ c. search needs)
     (λ c κs. search needs)
-    (λ c. judge-stop (c .before .before .before .before .before .before .before .before .loop .inv) (c .before .before .before .before .before .before .before .listed .ensures) (c .before .before .before .before .before .before .if1 .taken) (c .before .before .before .before .check .ensures) _ (c .before .before .before .before .before .before .before .before .before .start .ensures) (c .before .before .c .given .1) (c .fault .ensures))
+    (λ c.  -- returns
+    let the-c = c .before .before .c in
+    let check = c .before .before .before .before .check in
+    let if1 = c .before .before .before .before .before .before .if1 in
+    let back = c .before .before .before .before .before .before in
+    let listed = back .before .listed in
+    let loop = back .before .before .loop in
+    let start = back .before .before .before .start in
+    judge-stop loop.inv listed.ensures if1.taken check.ensures _ start.ensures the-c.given.1 (c .fault .ensures))
     (λ c. search needs)
-    (λ c κs. (omega (arith, c .before .before .before .before .before .before .loop .inv .bounded .positional, c .before .before .before .before .before .before .loop .inv .fewer), omega (arith, c .before .before .before .before .before .before .loop .inv .bounded .flat, c .before .before .before .before .before .before .loop .inv .fewer)))
+    (λ c κs. omega arith)  -- advance-requires
     (λ c. search needs)
     (λ c κs. search needs)
     (λ c. search needs)
     (λ c. search needs)
     (λ c. search needs)
     (λ c. search needs)
-    (λ c. rest-less _ (c .before .before .before .before .before .before .before .before .listed .ensures) (c .before .before .before .before .before .before .before .if1 .taken) (c .before .span .ensures))
-    (λ c. judge-on (c .before .before .before .before .before .before .before .before .before .loop .inv) (c .before .before .before .before .before .before .before .before .listed .ensures) (c .before .before .before .before .before .before .before .if1 .taken) (c .before .before .before .before .before .check .ensures) (c .before .before .before .enum-told .given .1) (c .before .before .before .before .before .before .kind-of .ensures) (c .before .before .advance .ensures) (c .before .span .ensures))
+    (λ c. search rest-less)  -- loop-less
+    (λ c.  -- loop-again
+    let span = c .before .span in
+    let advance = c .before .before .advance in
+    let enum-told = c .before .before .before .enum-told in
+    let check = c .before .before .before .before .before .check in
+    let kind-of = c .before .before .before .before .before .before .kind-of in
+    let back = c .before .before .before .before .before .before in
+    let if1 = back .before .if1 in
+    let listed = back .before .before .listed in
+    let loop = back .before .before .before .loop in
+    judge-on loop.inv listed.ensures if1.taken check.ensures enum-told.given.1 kind-of.ensures advance.ensures
+    span.ensures)
     (λ c κs. search needs)
-    (λ c. judge-end (c .before .before .before .before .loop .inv) (c .before .before .before .listed .ensures) (c .before .before .if1 .left) _ (c .before .before .before .before .before .start .ensures) (c .finish .ensures)))
+    (λ c.  -- returns-2
+    let if1 = c .before .before .if1 in
+    let listed = c .before .before .before .listed in
+    let loop = c .before .before .before .before .loop in
+    let start = c .before .before .before .before .before .start in
+    judge-end loop.inv listed.ensures if1.left _ start.ensures (c .finish .ensures)))

@@ -1,5 +1,4 @@
 -- `unpack::walk::slash_first` meets its contract: it is the definition. Assumes nothing.
-use mathlib.Core.Path.{refl, _∙_, ap}
 use Rattle.unpack.specs.Reading.{beginsWithSlash}
 use borrow.Author.Needs.{needs}
 use Rattle.unpack.proofs.walk.slash_first.Statement.{statement}
@@ -7,4 +6,10 @@ use Rattle.unpack.proofs.walk.slash_first.Tie as tie
 
 pub slash-first-spec : {M : Type 1} → statement M
 unfolding beginsWithSlash
-slash-first-spec = tie.close (tie.spec (λ c κs. search needs) (λ c κs. search needs) (λ c κs. search needs) (λ c. rw (c .before .before .listed .ensures, c .is-slash .ensures, c .before .kind-of .ensures) refl))
+slash-first-spec =
+    tie.close
+    (tie.spec
+    (λ c κs. search needs)
+    (λ c κs. search needs)
+    (λ c κs. search needs)
+    (λ c. cc))  -- returns

@@ -1,7 +1,7 @@
 -- `validate::expressions::visit_expr` meets its contract: the first record by itself, those below it, those after it. Assumes nothing.
+use native.Mathlib.Omega.{arith}
 use borrow.Author.Needs.{needs}
 use lib.ListN.{length}
-use Prim.Native.Nat.{_-_}
 use Rattle.validate.proofs.Walks.{own-count, expr-none, expr-on, expr-part-short}
 use Prim.Native.Nat.{ℕ, _<_}
 use borrow.Fn.Kinds.{In}
@@ -39,7 +39,7 @@ pub +visit-expr-spec : {M : Type 1} → statement M
 )
     (visit-expr-at t)
     visit-expr.Post
-    (λ c. expr-none _ _ _ _ (c .if1 .taken))
+    (λ c. search expr-none)  -- returns
     (λ c κs. search needs)
     (λ c κs. search needs)
     (λ c κs. search needs)
@@ -52,7 +52,7 @@ pub +visit-expr-spec : {M : Type 1} → statement M
     (λ c. search needs)
     (λ c. search needs)
     (λ c κs. search needs)
-    (λ c. let a = own-count (c .before .before .before .before .before .before .before .before .before .before .before .before .before .before .before .args .d) (c .before .before .before .before .before .before .before .before .before .before .before .before .before .before .before .args .names .now) (c .before .before .before .before .before .before .before .before .before .before .before .before .before .before .before .args .t .now) (c .before .before .before .before .before .before .before .before .before .before .before .before .before .before .before .args .at) (c .before .before .before .before .before .before .before .before .before .expression .ensures) in let b = expr-part-short (c .before .before .before .before .before .before .before .before .before .before .before .before .before .before .before .args .d) (c .before .before .before .before .before .before .before .before .before .before .before .before .before .before .before .args .names .now) (c .before .before .before .before .before .before .before .before .before .before .before .before .before .before .before .args .t .now) _ 24 ((c .before .before .before .before .before .span .result) - 24) (c .before .before .visit-expr .ensures) in search needs)
+    (λ c. omega (arith, own-count, expr-part-short))  -- add-free
     (λ c κs. search needs)
     (λ c. search needs)
     (λ c. search needs)
@@ -63,7 +63,7 @@ pub +visit-expr-spec : {M : Type 1} → statement M
     (λ c. search needs)
     (λ c. search needs)
     (λ c κs. search needs)
-    (λ c. let a = own-count (c .before .before .before .before .before .before .before .before .before .before .before .before .before .before .before .before .before .before .before .before .before .args .d) (c .before .before .before .before .before .before .before .before .before .before .before .before .before .before .before .before .before .before .before .before .before .args .names .now) (c .before .before .before .before .before .before .before .before .before .before .before .before .before .before .before .before .before .before .before .before .before .args .t .now) (c .before .before .before .before .before .before .before .before .before .before .before .before .before .before .before .before .before .before .before .before .before .args .at) (c .before .before .before .before .before .before .before .before .before .before .before .before .before .before .before .expression .ensures) in let b = expr-part-short (c .before .before .before .before .before .before .before .before .before .before .before .before .before .before .before .before .before .before .before .before .before .args .d) (c .before .before .before .before .before .before .before .before .before .before .before .before .before .before .before .before .before .before .before .before .before .args .names .now) (c .before .before .before .before .before .before .before .before .before .before .before .before .before .before .before .before .before .before .before .before .before .args .t .now) _ 24 ((c .before .before .before .before .before .before .before .before .before .before .before .span .result) - 24) (c .before .before .before .before .before .before .before .before .visit-expr .ensures) in search needs)
-    (λ c. let a = own-count (c .before .before .before .before .before .before .before .before .before .before .before .before .before .before .before .before .before .before .before .before .before .args .d) (c .before .before .before .before .before .before .before .before .before .before .before .before .before .before .before .before .before .before .before .before .before .args .names .now) (c .before .before .before .before .before .before .before .before .before .before .before .before .before .before .before .before .before .before .before .before .before .args .t .now) (c .before .before .before .before .before .before .before .before .before .before .before .before .before .before .before .before .before .before .before .before .before .args .at) (c .before .before .before .before .before .before .before .before .before .before .before .before .before .before .before .expression .ensures) in let b = expr-part-short (c .before .before .before .before .before .before .before .before .before .before .before .before .before .before .before .before .before .before .before .before .before .args .d) (c .before .before .before .before .before .before .before .before .before .before .before .before .before .before .before .before .before .before .before .before .before .args .names .now) (c .before .before .before .before .before .before .before .before .before .before .before .before .before .before .before .before .before .before .before .before .before .args .t .now) _ 24 ((c .before .before .before .before .before .before .before .before .before .before .before .span .result) - 24) (c .before .before .before .before .before .before .before .before .visit-expr .ensures) in let e = expr-part-short (c .before .before .before .before .before .before .before .before .before .before .before .before .before .before .before .before .before .before .before .before .before .args .d) (c .before .before .before .before .before .before .before .before .before .before .before .before .before .before .before .before .before .before .before .before .before .args .names .now) (c .before .before .before .before .before .before .before .before .before .before .before .before .before .before .before .before .before .before .before .before .before .args .t .now) _ (c .before .before .before .before .before .before .before .before .before .before .before .span .result) (length (c .before .before .before .before .before .before .before .before .before .before .before .before .before .before .before .before .before .before .before .before .before .args .t .now) - (c .before .before .before .before .before .before .before .before .before .before .before .span .result)) (c .before .before .visit-expr2 .ensures) in search needs)
+    (λ c. omega (arith, own-count, expr-part-short))  -- add-result
+    (λ c. omega (arith, own-count, expr-part-short))  -- add-result-2
     (λ c. search needs)
-    (λ c. expr-on _ _ _ _ (c .before .before .before .before .before .before .before .before .before .before .before .before .before .before .before .before .before .if1 .left) (c .before .before .before .before .before .before .before .before .before .before .before .span .ensures) (c .before .before .before .before .before .before .before .before .before .before .before .before .before .before .before .expression .ensures) (c .before .before .before .before .before .before .before .before .before .before .before .before .free .ensures) (c .before .before .before .before .before .before .before .before .visit-expr .ensures) (c .before .before .before .before .before .free2 .ensures) (c .before .before .visit-expr2 .ensures))
+    (λ c. search expr-on)  -- returns-2

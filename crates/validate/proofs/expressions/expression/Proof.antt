@@ -12,9 +12,9 @@ expression-spec =
     (λ c κs. search needs)
     (λ c κs. search needs)
     (λ c. search needs)
-    (λ c. own-ellipsis _ _ _ (c .before .before .before .before .before .before .before .before .before .before .args .t .now) (c .before .before .before .before .before .before .kind .ensures) (c .before .before .before .before .before .if1 .taken) (c .before .before .before .before .permits-types .ensures) (c .before .before .push-unless .ensures))
+    (λ c. search own-ellipsis)  -- returns
     (λ c. search needs)
     (λ c κs. search needs)
     (λ c. search needs)
-    (λ c. own-lambda _ _ _ (c .before .before .before .before .before .before .before .before .before .before .args .t .now) (c .before .before .before .before .before .before .kind .ensures) (c .before .before .before .before .before .if1 .left) (c .before .before .before .before .if2 .taken) (c .before .before .with-params .ensures))
-    (λ c. own-other _ _ _ (c .before .before .before .before .before .before .args .t .now) (c .before .before .kind .ensures) (c .before .if1 .left) (c .if2 .left)))
+    (λ c. search own-lambda)  -- returns-2
+    (λ c. search own-other))  -- returns-3

@@ -1,8 +1,11 @@
 -- `validate::statements::check_statement` and `validate::statements::visit_stmt` meet their contracts: the arms of f, and nodes side by side in turn. Assumes nothing.
+use native.Mathlib.Omega.{arith}
 use borrow.Author.Needs.{needs}
 use lib.ListN.{length}
-use Prim.Native.Nat.{_+_, _-_, _*_}
-use Rattle.validate.proofs.Walks.{with-count, f-short, visit-part-short, visit-none, visit-on, f-none, f-def, f-for-banned, f-for, f-if-banned, f-if, f-break, f-continue, f-return, f-load, f-other}
+use Prim.Native.Nat.{_+_, _*_}
+use Rattle.validate.proofs.Walks.{with-count, f-short, visit-part-short, visit-none, visit-on, f-none, f-def}
+use Rattle.validate.proofs.Walks.{f-for-banned, f-for, f-if-banned, f-if, f-break, f-continue, f-return}
+use Rattle.validate.proofs.Walks.{f-load, f-other}
 use Prim.Native.Nat.{ℕ, _<_}
 use borrow.Fn.Kinds.{In}
 use borrow.Fn.PlainCycle.{Measures, is, falls, and}
@@ -81,7 +84,7 @@ pub +check-statement+visit-stmt-spec : {M : Type 1} → statement M
     (check-statement-at t)
     check-statement.Post
     (λ c κs. search needs)
-    (λ c. f-none _ _ _ _ _ _ (c .before .before .before .before .before .args .t .now) (c .before .class .ensures) (c .if1 .taken))
+    (λ c. search f-none)  -- returns
     (λ c κs. search needs)
     (λ c κs. search needs)
     (λ c. search needs)
@@ -95,42 +98,42 @@ pub +check-statement+visit-stmt-spec : {M : Type 1} → statement M
     (λ c. search needs)
     (λ c. search needs)
     (λ c κs. search needs)
-    (λ c. let a = with-count (c .before .before .before .before .before .before .before .before .before .before .before .before .before .before .before .before .before .before .args .d) (c .before .before .before .before .before .before .before .before .before .before .before .before .before .before .before .before .before .before .args .names .now) (c .before .before .before .before .before .before .before .before .before .before .before .before .before .before .before .before .before .before .args .t .now) (c .before .before .before .before .before .before .before .before .before .before .before .before .before .before .before .before .before .before .args .at) (c .before .before .before .before .before .before .before .before .before .before .before .before .before .before .before .before .before .before .args .d .«enable_def») _ (c .before .before .before .before .before .before .before .def-errors .ensures) in let b = visit-part-short (c .before .before .before .before .before .before .before .before .before .before .before .before .before .before .before .before .before .before .args .d) (c .before .before .before .before .before .before .before .before .before .before .before .before .before .before .before .before .before .before .args .names .now) (c .before .before .before .before .before .before .before .before .before .before .before .before .before .before .before .before .before .before .args .t .now) _ _ _ _ 24 ((c .before .before .before .before .before .before .before .before .before .before .before .span .result) - 24) (c .before .before .visit-stmt .ensures) in search needs)
+    (λ c. omega (arith, with-count, visit-part-short))  -- add-result
     (λ c. search needs)
-    (λ c. f-def _ _ _ _ _ _ (c .before .before .before .before .before .before .before .before .before .before .before .before .before .before .before .before .before .before .args .t .now) (c .before .before .before .before .before .before .before .before .before .before .before .before .before .before .class .ensures) (c .before .before .before .before .before .before .before .before .before .before .before .before .before .if1 .left) (c .before .before .before .before .before .before .before .before .before .before .before .before .kind .ensures) (c .before .before .before .before .before .before .before .before .before .before .before .span .ensures) (c .before .before .before .before .before .before .before .before .before .if2 .taken) (c .before .before .before .before .before .before .before .def-errors .ensures) (c .before .before .before .before .free .ensures) (c .before .before .visit-stmt .ensures))
+    (λ c. search f-def)  -- returns-2
     (λ c κs. search needs)
     (λ c κs. search needs)
     (λ c. search needs)
-    (λ c. f-for-banned _ _ _ _ _ _ (c .before .before .before .before .before .before .before .before .before .before .before .before .before .before .before .before .args .t .now) (c .before .before .before .before .before .before .before .before .before .before .before .before .class .ensures) (c .before .before .before .before .before .before .before .before .before .before .before .if1 .left) (c .before .before .before .before .before .before .before .before .before .before .kind .ensures) (c .before .before .before .before .before .before .before .before .before .span .ensures) (c .before .before .before .before .before .before .before .if2 .left) (c .before .before .before .before .before .before .if3 .taken) (c .before .before .before .before .before .is-banned .ensures) (c .before .before .before .before .if4 .taken) (c .before .before .push-at .ensures))
+    (λ c. search f-for-banned)  -- returns-3
     (λ c. search needs)
     (λ c κs. search needs)
     (λ c. search needs)
-    (λ c. f-for _ _ _ _ _ _ (c .before .before .before .before .before .before .before .before .before .before .before .before .before .before .before .before .args .t .now) (c .before .before .before .before .before .before .before .before .before .before .before .before .class .ensures) (c .before .before .before .before .before .before .before .before .before .before .before .if1 .left) (c .before .before .before .before .before .before .before .before .before .before .kind .ensures) (c .before .before .before .before .before .before .before .before .before .span .ensures) (c .before .before .before .before .before .before .before .if2 .left) (c .before .before .before .before .before .before .if3 .taken) (c .before .before .before .before .before .is-banned .ensures) (c .before .before .before .before .if4 .left) (c .before .before .visit-stmt2 .ensures))
+    (λ c. search f-for)  -- returns-4
     (λ c κs. search needs)
     (λ c κs. search needs)
     (λ c κs. search needs)
     (λ c. search needs)
-    (λ c. f-if-banned _ _ _ _ _ _ (c .before .before .before .before .before .before .before .before .before .before .before .before .before .before .before .before .before .before .args .t .now) (c .before .before .before .before .before .before .before .before .before .before .before .before .before .before .class .ensures) (c .before .before .before .before .before .before .before .before .before .before .before .before .before .if1 .left) (c .before .before .before .before .before .before .before .before .before .before .before .before .kind .ensures) (c .before .before .before .before .before .before .before .before .before .before .before .span .ensures) (c .before .before .before .before .before .before .before .before .before .if2 .left) (c .before .before .before .before .before .before .before .before .if3 .left) (c .before .before .before .before .before .before .before .is-if .ensures) (c .before .before .before .before .before .before .if5 .taken) (c .before .before .before .before .before .is-banned2 .ensures) (c .before .before .before .before .if6 .taken) (c .before .before .push-at2 .ensures))
+    (λ c. search f-if-banned)  -- returns-5
     (λ c. search needs)
     (λ c κs. search needs)
     (λ c. search needs)
-    (λ c. f-if _ _ _ _ _ _ (c .before .before .before .before .before .before .before .before .before .before .before .before .before .before .before .before .before .before .args .t .now) (c .before .before .before .before .before .before .before .before .before .before .before .before .before .before .class .ensures) (c .before .before .before .before .before .before .before .before .before .before .before .before .before .if1 .left) (c .before .before .before .before .before .before .before .before .before .before .before .before .kind .ensures) (c .before .before .before .before .before .before .before .before .before .before .before .span .ensures) (c .before .before .before .before .before .before .before .before .before .if2 .left) (c .before .before .before .before .before .before .before .before .if3 .left) (c .before .before .before .before .before .before .before .is-if .ensures) (c .before .before .before .before .before .before .if5 .taken) (c .before .before .before .before .before .is-banned2 .ensures) (c .before .before .before .before .if6 .left) (c .before .before .visit-stmt3 .ensures))
+    (λ c. search f-if)  -- returns-6
     (λ c κs. search needs)
     (λ c. search needs)
-    (λ c. f-break _ _ _ _ _ _ (c .before .before .before .before .before .before .before .before .before .before .before .before .before .before .before .before .before .args .t .now) (c .before .before .before .before .before .before .before .before .before .before .before .before .before .class .ensures) (c .before .before .before .before .before .before .before .before .before .before .before .before .if1 .left) (c .before .before .before .before .before .before .before .before .before .before .before .kind .ensures) (c .before .before .before .before .before .before .before .before .before .before .span .ensures) (c .before .before .before .before .before .before .before .before .if2 .left) (c .before .before .before .before .before .before .before .if3 .left) (c .before .before .before .before .before .before .is-if .ensures) (c .before .before .before .before .before .if5 .left) (c .before .before .before .before .if7 .taken) (c .before .before .push-at3 .ensures))
+    (λ c. search f-break)  -- returns-7
     (λ c κs. search needs)
     (λ c. search needs)
-    (λ c. f-continue _ _ _ _ _ _ (c .before .before .before .before .before .before .before .before .before .before .before .before .before .before .before .before .before .before .args .t .now) (c .before .before .before .before .before .before .before .before .before .before .before .before .before .before .class .ensures) (c .before .before .before .before .before .before .before .before .before .before .before .before .before .if1 .left) (c .before .before .before .before .before .before .before .before .before .before .before .before .kind .ensures) (c .before .before .before .before .before .before .before .before .before .before .before .span .ensures) (c .before .before .before .before .before .before .before .before .before .if2 .left) (c .before .before .before .before .before .before .before .before .if3 .left) (c .before .before .before .before .before .before .before .is-if .ensures) (c .before .before .before .before .before .before .if5 .left) (c .before .before .before .before .before .if7 .left) (c .before .before .before .before .if8 .taken) (c .before .before .push-at4 .ensures))
+    (λ c. search f-continue)  -- returns-8
     (λ c κs. search needs)
     (λ c. search needs)
-    (λ c. f-return _ _ _ _ _ _ (c .before .before .before .before .before .before .before .before .before .before .before .before .before .before .before .before .before .before .before .args .t .now) (c .before .before .before .before .before .before .before .before .before .before .before .before .before .before .before .class .ensures) (c .before .before .before .before .before .before .before .before .before .before .before .before .before .before .if1 .left) (c .before .before .before .before .before .before .before .before .before .before .before .before .before .kind .ensures) (c .before .before .before .before .before .before .before .before .before .before .before .before .span .ensures) (c .before .before .before .before .before .before .before .before .before .before .if2 .left) (c .before .before .before .before .before .before .before .before .before .if3 .left) (c .before .before .before .before .before .before .before .before .is-if .ensures) (c .before .before .before .before .before .before .before .if5 .left) (c .before .before .before .before .before .before .if7 .left) (c .before .before .before .before .before .if8 .left) (c .before .before .before .before .if9 .taken) (c .before .before .push-at5 .ensures))
+    (λ c. search f-return)  -- returns-9
     (λ c κs. search needs)
     (λ c. search needs)
-    (λ c. f-load _ _ _ _ _ _ (c .before .before .before .before .before .before .before .before .before .before .before .before .before .before .before .before .before .before .before .before .args .t .now) (c .before .before .before .before .before .before .before .before .before .before .before .before .before .before .before .before .class .ensures) (c .before .before .before .before .before .before .before .before .before .before .before .before .before .before .before .if1 .left) (c .before .before .before .before .before .before .before .before .before .before .before .before .before .before .kind .ensures) (c .before .before .before .before .before .before .before .before .before .before .before .before .before .span .ensures) (c .before .before .before .before .before .before .before .before .before .before .before .if2 .left) (c .before .before .before .before .before .before .before .before .before .before .if3 .left) (c .before .before .before .before .before .before .before .before .before .is-if .ensures) (c .before .before .before .before .before .before .before .before .if5 .left) (c .before .before .before .before .before .before .before .if7 .left) (c .before .before .before .before .before .before .if8 .left) (c .before .before .before .before .before .if9 .left) (c .before .before .before .before .if10 .taken) (c .before .before .load-errors .ensures))
+    (λ c. search f-load)  -- returns-10
     (λ c. search needs)
     (λ c κs. search needs)
     (λ c. search needs)
-    (λ c. f-other _ _ _ _ _ _ (c .before .before .before .before .before .before .before .before .before .before .before .before .before .before .before .before .before .before .before .before .args .t .now) (c .before .before .before .before .before .before .before .before .before .before .before .before .before .before .before .before .class .ensures) (c .before .before .before .before .before .before .before .before .before .before .before .before .before .before .before .if1 .left) (c .before .before .before .before .before .before .before .before .before .before .before .before .before .before .kind .ensures) (c .before .before .before .before .before .before .before .before .before .before .before .before .before .span .ensures) (c .before .before .before .before .before .before .before .before .before .before .before .if2 .left) (c .before .before .before .before .before .before .before .before .before .before .if3 .left) (c .before .before .before .before .before .before .before .before .before .is-if .ensures) (c .before .before .before .before .before .before .before .before .if5 .left) (c .before .before .before .before .before .before .before .if7 .left) (c .before .before .before .before .before .before .if8 .left) (c .before .before .before .before .before .if9 .left) (c .before .before .before .before .if10 .left) (c .before .before .visit-stmt4 .ensures)))
+    (λ c. search f-other))  -- returns-11
     λ t. visit-stmt-lts.spec (
       check-statement-below t,
       check-statement.Post,
@@ -143,7 +146,7 @@ pub +check-statement+visit-stmt-spec : {M : Type 1} → statement M
     )
     (visit-stmt-at t)
     visit-stmt.Post
-    (λ c. visit-none _ _ _ _ _ _ _ (c .if1 .taken))
+    (λ c. search visit-none)  -- returns
     (λ c κs. search needs)
     (λ c κs. search needs)
     (λ c κs. search needs)
@@ -156,6 +159,6 @@ pub +check-statement+visit-stmt-spec : {M : Type 1} → statement M
     (λ c. search needs)
     (λ c. search needs)
     (λ c κs. search needs)
-    (λ c. let a = f-short (c .before .before .before .before .before .before .before .before .before .before .before .before .before .before .before .args .d) (c .before .before .before .before .before .before .before .before .before .before .before .before .before .before .before .args .names .now) (c .before .before .before .before .before .before .before .before .before .before .before .before .before .before .before .args .t .now) (c .before .before .before .before .before .before .before .before .before .before .before .before .before .before .before .args .top) (c .before .before .before .before .before .before .before .before .before .before .before .before .before .before .before .args .in-for) (c .before .before .before .before .before .before .before .before .before .before .before .before .before .before .before .args .in-def) (c .before .before .before .before .before .before .before .before .before .before .before .before .before .before .before .args .at) (c .before .before .before .before .before .before .before .before .before .before .before .if1 .left) (c .before .before .before .before .before .before .before .before .before .check-statement .ensures) in let b = visit-part-short (c .before .before .before .before .before .before .before .before .before .before .before .before .before .before .before .args .d) (c .before .before .before .before .before .before .before .before .before .before .before .before .before .before .before .args .names .now) (c .before .before .before .before .before .before .before .before .before .before .before .before .before .before .before .args .t .now) _ _ _ _ (c .before .before .before .before .before .span .result) (length (c .before .before .before .before .before .before .before .before .before .before .before .before .before .before .before .args .t .now) - (c .before .before .before .before .before .span .result)) (c .before .before .visit-stmt .ensures) in search needs)
+    (λ c. omega (arith, f-short, visit-part-short))  -- add-result
     (λ c. search needs)
-    (λ c. visit-on _ _ _ _ _ _ _ (c .before .before .before .before .before .before .before .before .before .before .before .if1 .left) (c .before .before .before .before .before .span .ensures) (c .before .before .before .before .before .before .before .before .before .check-statement .ensures) (c .before .before .before .before .before .before .free .ensures) (c .before .before .visit-stmt .ensures))
+    (λ c. search visit-on)  -- returns-2

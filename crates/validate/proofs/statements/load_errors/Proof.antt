@@ -16,6 +16,6 @@ load-errors-spec =
     (λ c. search needs)
     (λ c. search needs)
     (λ c κs. search needs)
-    (λ c. omega (arith, unless-one (c .before .before .before .before .before .before .before .before .before .before .before .args .top) _ _ (c .before .before .before .before .before .before .before .push-unless .ensures), unless-one (c .before .before .before .before .before .before .before .before .before .before .before .args .d .«enable_load») _ _ (c .before .before .push-unless2 .ensures)))
+    (λ c. omega (arith, unless-one))  -- add-result
     (λ c. search needs)
-    (λ c. stores-both _ _ (c .before .before .before .before .before .before .before .push-unless .ensures) (c .before .before .before .before .free .ensures) (c .before .before .push-unless2 .ensures)))
+    (λ c. search stores-both))  -- returns
