@@ -23,6 +23,19 @@ use Rattle.soundness.specs.Sound.{recordSound, firstUnsound}
 use Rattle.soundness.proofs.Search.{none-found}
 use Rattle.soundness.proofs.Records.{and-left, and-right, and-both, whole-size}
 
+-- THEOREM: a record is whole exactly where its size is at least 1 and its subtree does not pass the end of what is there
+module _ (i : ℕ) (bs : List ℕ) (big : 24 ≤ length bs) where
+  pub whole-size-fits : wholeTree (nodeOf i bs) (forest (i + 1) (kidsOf bs)) ≡ true
+      → (1 ≤ sizeOf bs) × (24 * sizeOf bs ≤ length bs)
+  whole-size-fits e =
+      let same-size = eqb-true (sizeOf bs) (1 + count (forest (i + 1) (kidsOf bs))) e in
+      omega (arith, same-size, count-forest (i + 1) (kidsOf bs), length-kids bs)
+
+  pub size-fits-whole : 1 ≤ sizeOf bs → 24 * sizeOf bs ≤ length bs
+      → wholeTree (nodeOf i bs) (forest (i + 1) (kidsOf bs)) ≡ true
+  size-fits-whole least most = eq-eqb (sizeOf bs) (1 + count (forest (i + 1) (kidsOf bs)))
+      (omega (arith, count-forest (i + 1) (kidsOf bs), length-kids bs))
+
 -- every node of a forest is sound, each told its own context
 unfoldable mutual
   pub allSound : (ℕ → Context) → Forest → Bool

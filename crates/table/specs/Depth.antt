@@ -1,6 +1,8 @@
 -- Depth: the weights along the way from the root to a node, summed. These are definitions.
 use mathlib.Core.Bool.{Bool, true, false}
-use Prim.Native.Nat.{ℕ, _+_}
+use mathlib.Core.List.{List, [], _∷_, _++_}
+use Prim.Native.Nat.{ℕ, _+_, _<_, _≤_}
+use lib.ListN.{length, getD}
 use lib.Dec.{ltb}
 use Rattle.fields.specs.Choice.{if'}
 use Rattle.forest.specs.Forest.{Node, Tree, node, Forest, none, _then_}
@@ -28,3 +30,18 @@ unfoldable mutual
 
   pub deepIn : ℕ → Tree → Found
   deepIn d (node r ks) = if' (ltb mostDepth (d + weight (r .kind))) (λ _. At (r .at)) (λ _. firstDeep (d + weight (r .kind)) ks)
+
+-- the depth of each node, in table order; d is the depth of what they stand in
+unfoldable mutual
+  pub depths : ℕ → Forest → List ℕ
+  depths d none = []
+  depths d (t then ts) = depthsIn d t ++ depths d ts
+
+  pub depthsIn : ℕ → Tree → List ℕ
+  depthsIn d (node r ks) = (d + weight (r .kind)) ∷ depths (d + weight (r .kind)) ks
+
+-- node k is the first that is deeper than the largest depth
+pub record FirstDeeper (f : Forest) (k : ℕ) : Type 0 where
+  pub within : k < length (depths 0 f)
+  pub deeper : mostDepth < getD (depths 0 f) k 0
+  pub before : (j : ℕ) → j < k → getD (depths 0 f) j 0 ≤ mostDepth

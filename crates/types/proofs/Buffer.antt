@@ -1,6 +1,7 @@
--- The buffer of the type job, for every input: a refusal changes no byte, no byte past the type's subtree ever changes, and what is written is a shape from 1 to 7.
+-- The buffer of the type job, for every input: a refusal changes no byte; after acceptance the byte of each node that is read is its shape,
+-- from 1 to 7, and every other byte is as it was.
 -- Assumes nothing.
-use mathlib.Core.Path.{_≡_, refl}
+use mathlib.Core.Path.{_≡_, refl, sym, ap, _∙_}
 use mathlib.Core.List.{List}
 use Prim.Native.Nat.{ℕ, _/_, _≤_}
 use lib.ListN.{length, getD}
@@ -8,10 +9,10 @@ use Rattle.forest.specs.Forest.{treeOf}
 use Rattle.table.specs.Answer.{Answer, accepted, refused}
 use Rattle.table.specs.Check.{stretchOf}
 use Rattle.typerules.specs.Jobs.{typeShapeOf}
-use Rattle.types.specs.Shapes.{shapesOf, afterAnswer}
+use Rattle.types.specs.Shapes.{shapesOf, shapeOr, Rising}
 use Rattle.types.specs.Jobs.{shapesAfter}
 use Rattle.types.proofs.Jobs.{accepted-says}
-use Rattle.types.proofs.Places.{past-stays}
+use Rattle.types.proofs.Places.{written-bytes, not-above, type-once}
 use Rattle.types.proofs.Proper.{Proper, type-proper}
 use Rattle.types.proofs.Indices.{proper-from}
 
@@ -27,13 +28,25 @@ module _ (t names bytes : List ℕ) (i : ℕ) where
   accepted-proper room e = proper-from i 0 (stretchOf t i)
       (type-proper names (treeOf i (stretchOf t i)) (accepted-says t names bytes i room e .passes))
 
+  -- LAW: each node that is read comes once, in table order, within the subtree
+  pub read-once : (room : ℕ) {vs : List ℕ} → accepted vs ≡ typeShapeOf t names bytes i room
+      → Rising 0 (length (stretchOf t i) / 24) (shapesOf (treeOf 0 (stretchOf t i)))
+  read-once room e = type-once (stretchOf t i) (accepted-says t names bytes i room e .long)
+
+  -- LAW: after acceptance the byte of each node that is read as a type or argument is its shape, and every other byte is as it was
+  pub accepted-bytes : (buffer : List ℕ) {vs : List ℕ} → accepted vs ≡ typeShapeOf t names bytes i (length buffer)
+      → (k : ℕ) → getD (shapesAfter t names bytes i buffer) k 0
+      ≡ shapeOr (shapesOf (treeOf 0 (stretchOf t i))) k (getD buffer k 0)
+  accepted-bytes buffer e k = rw (← e) (written-bytes 0 (length (stretchOf t i) / 24) _
+      (read-once (length buffer) e) buffer (accepted-says t names bytes i (length buffer) e .fits) k)
+
   -- LAW: a byte past the type's subtree stays
   pub past-subtree-stays : (buffer : List ℕ) (k : ℕ) → length (stretchOf t i) / 24 ≤ k
       → getD (shapesAfter t names bytes i buffer) k 0 ≡ getD buffer k 0
   past-subtree-stays buffer k h = go (typeShapeOf t names bytes i (length buffer)) refl
     where
       go : (a : Answer) → a ≡ typeShapeOf t names bytes i (length buffer)
-          → getD (afterAnswer a (shapesOf (treeOf 0 (stretchOf t i))) buffer) k 0 ≡ getD buffer k 0
-      go (accepted vs) e = past-stays (stretchOf t i) buffer k
-          (accepted-says t names bytes i (length buffer) e .long) h
-      go (refused n vs) e = refl
+          → getD (shapesAfter t names bytes i buffer) k 0 ≡ getD buffer k 0
+      go (accepted vs) e = accepted-bytes buffer e k
+          ∙ not-above 0 (length (stretchOf t i) / 24) _ (read-once (length buffer) e) k (getD buffer k 0) h
+      go (refused n vs) e = ap (λ (l : List ℕ). getD l k 0) (refusal-keeps buffer (sym e))

@@ -3,7 +3,7 @@
 -- Copyright 2018 The Starlark in Rust Authors. Copyright (c) Facebook, Inc. and its affiliates. Licensed under Apache-2.0; changed.
 use mathlib.Core.Bool.{Bool, true, false}
 use mathlib.Core.List.{List, [], _∷_, _++_}
-use Prim.Native.Nat.{ℕ}
+use Prim.Native.Nat.{ℕ, _+_, _≤_, _<_}
 use lib.Dec.{eqb}
 use lib.ListN.{set}
 use Rattle.fields.specs.Choice.{if'}
@@ -56,6 +56,16 @@ unfoldable mutual
 unfoldable pub written : List Shape → List ℕ → List ℕ
 written [] bytes = bytes
 written (s ∷ ss) bytes = written ss (set bytes (s .at) (s .shape))
+
+-- the byte of node k afterwards: its shape if it is read, else what it was
+unfoldable pub shapeOr : List Shape → ℕ → ℕ → ℕ
+shapeOr [] k old = old
+shapeOr (s ∷ ss) k old = if' (eqb (s .at) k) (λ _. s .shape) (λ _. shapeOr ss k old)
+
+-- nodes in table order from lo on and below hi, so that none comes twice
+unfoldable pub Rising : ℕ → ℕ → List Shape → Type 0
+Rising lo hi [] = Unit {0}
+Rising lo hi (s ∷ ss) = (lo ≤ s .at) × ((s .at < hi) × Rising (s .at + 1) hi ss)
 
 -- a buffer after an answer: accepted, the shapes are written; a refusal changes nothing
 abbrev pub afterAnswer : Answer → List Shape → List ℕ → List ℕ

@@ -14,7 +14,8 @@ use Rattle.table.specs.Check.{givenCheck}
 use Rattle.table.proofs.Handed.{passed}
 use Rattle.errors.specs.Errors.{Err, width, wordsOf, stored}
 use Rattle.errors.proofs.Storing.{allWords, stored-all, stored-none}
-use Rattle.validate.specs.Job.{errorsIn, ifAccepted, errorsOf, moduleOf, errorsAfter}
+use Rattle.validate.specs.declared.Listed.the-variants.{Total}
+use Rattle.validate.specs.Job.{listed, errorsIn, ifAccepted, errorsOf, moduleOf, errorsAfter}
 use Rattle.validate.proofs.Bounds.{module-few}
 
 module _ (t names bytes : List ℕ) where
@@ -38,6 +39,15 @@ module _ (t names bytes : List ℕ) where
       go (refused n vs) d = omega arith
       go (accepted vs) Invalid = omega arith
       go (accepted vs) (Valid d) = omega (arith, module-few d names (forest 0 t), count-forest 0 t)
+
+  -- THEOREM: the total that the job answers is at most twice the node count
+  pub total-few : (n : ℕ) → listed (Total n) ≡ moduleOf t names bytes → n ≤ 2 * (length t / 24)
+  total-few n e = go (givenCheck t names bytes) e
+    where
+      go : (a : Answer) → listed (Total n) ≡ andThen a (λ _. accepted (length (errorsOf t names bytes) ∷ []))
+          → n ≤ 2 * (length t / 24)
+      go (accepted vs) h = let total : n ≡ length (errorsOf t names bytes) = cc in omega (arith, errors-few)
+      go (refused m vs) h = let z : _≡_ {A = ℕ} 0 1 = cc in absurd (omega arith)
 
   -- THEOREM: a list of words with room for twice the node count holds all errors, one after the other, and its other words stay
   pub list-holds-all : (xs : List ℕ) → width * (2 * (length t / 24)) ≤ length xs
