@@ -21,10 +21,16 @@ use Rattle.parameters.specs.declared.Unpacked.{Unpacked}
 use Rattle.parameters.specs.declared.Unpacked.the-variants.{Accepted}
 use Rattle.demand3.specs.Cut.{Cut, join, partsOf, flatList, Ranges, cutRanges, cutFlat, holders, cutValues}
 use Rattle.demand3.specs.Cut.{ByRange, Follow, CutBy}
-use Rattle.demand3.specs.Given.{Given, CutOf, RangesAre}
+use Rattle.demand3.specs.Given.{allParameters, Given, CutOf, RangesAre}
 use Rattle.demand3.proofs.Cuts.{join-injective}
+use Rattle.demand3.proofs.AllListed.{all-listed}
 use Rattle.demand3.proofs.Ranges as ranges
 use Rattle.demand3.proofs.OverTheJob as job
+
+-- "the parameter list of a def or lambda" is ALL its parameters, in written order: none is left out, and nothing else is in it
+pub list-is-all : (t names : List ℕ) (node : ℕ) (ms : List ℕ) → Given t names node ms
+    → listOf t names node ≡ allParameters t names node
+list-is-all = all-listed
 
 -- "The cut is unique."
 pub cut-unique : (l : List Param) (c d : Cut) → CutOf l c → CutOf l d → c ≡ d

@@ -5,4 +5,5 @@ pub mod Counting
 pub mod Cuts
 pub mod Ranges
 pub mod OverTheJob
+pub mod AllListed
 pub mod Demand3

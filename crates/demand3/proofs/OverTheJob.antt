@@ -32,7 +32,7 @@ use Rattle.demand3.proofs.Cuts.{cutCounts, cut-accepted, accepted-cut, 
 use Rattle.demand3.proofs.Ranges.{cut-values, modes-length, modes-by-range}
 
 module _ (t names : List ℕ) (node : ℕ) (ms : List ℕ) (g : Given t names node ms) where
-  fits : nodeFits t node Parameters ≡ true
+  pub fits : nodeFits t node Parameters ≡ true
   unfolding nodeFits wants
   fits = rw (lt-ltb node (length t / 24) (g .within)) (go (g .defOrLambda))
     where
