@@ -19,7 +19,7 @@ use Rattle.table.specs.Check.{lengthCheck, namesCheck, noneFound, checkOf, node
 use Rattle.table.specs.declared.Checked.the-variants.{Sound}
 use Rattle.table.specs.declared.Wanted.the-variants.{Parameters}
 use Rattle.table.proofs.Checking.{accepted-clean}
-use Rattle.table.proofs.Handed.{handed}
+use Rattle.table.proofs.Handed.{handed, stretch-within}
 use Rattle.unpack.specs.Written.{Param, written}
 use Rattle.unpack.specs.Unpack as def
 use Rattle.parameters.specs.Indices.{placeRange, placeOf, valuesOf, countedOf}
@@ -27,7 +27,9 @@ use Rattle.unpack.specs.Reading.{PlaceBelow, Bounded}
 use Rattle.unpack.specs.declared.FlatPlace.{FlatPlace}
 use Rattle.unpack.specs.declared.FlatPlace.the-variants.{AtFlat, NoFlat}
 use Rattle.unpack.specs.declared.Counts.{Counts}
+use Rattle.unpack.specs.Reached.{reached, AllAtMost}
 use Rattle.unpack.proofs.Theorems.{accepted-bounded, written-short}
+use Rattle.unpack.proofs.Counted.{counted-at-most, at-most-wider}
 use Rattle.parameters.specs.Params.{answerOf, roomCheck, listAnswer, listOf, paramsOf, modesAfter}
 
 never : {P : Type 0} {n : ℕ} {vs ws : List ℕ} → refused n vs ≡ accepted ws → P
@@ -130,7 +132,21 @@ all-wider : (m n : ℕ) (vs : List ℕ) → m ≤ n → AllBelow m vs → AllBel
 all-wider m n [] h a = tt
 all-wider m n (v ∷ vs) h a = (omega (arith, a .0), all-wider m n vs h (a .1))
 
--- THEOREM: every number of an accepted answer is at most 2,100: "Too many parameters" (def.rs:171) and the unwraps (280, 305, 346) cannot fire
+-- THEOREM: "Too many parameters" (def.rs:171) and the unwraps (280, 305, 346) cannot fire: in a table that passes the check every list, accepted
+-- or refused, has at most 2,100 parameters, and so has every number that unpack counts on the way
+module _ (t ns : List ℕ) (node : ℕ) (sound : checkOf t ns ≡ accepted []) (fits : nodeFits t node Parameters ≡ true) where
+  pub list-small : length (listOf t ns node) ≤ 2100
+  unfolding listOf
+  list-small = omega (
+    arith,
+    stretch-within t ns node Parameters (accepted-clean t ns sound) fits,
+    written-short ns node (stretchOf t node),
+  )
+
+  pub counts-small : AllAtMost 2100 (reached (listOf t ns node))
+  counts-small = at-most-wider _ 2100 list-small _ (counted-at-most (listOf t ns node))
+
+-- THEOREM: every number of an accepted answer is at most 2,100
 pub accepted-small : (t ns : List ℕ) (node room : ℕ) {vs : List ℕ} → paramsOf t ns node room ≡ accepted vs
     → AllBelow 2100 vs
 unfolding listOf

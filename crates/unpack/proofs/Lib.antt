@@ -3,4 +3,5 @@ pub mod Reading
 pub mod Steps
 pub mod Walking
 pub mod Theorems
+pub mod Counted
 pub mod Promises

@@ -76,23 +76,31 @@ check-rule (At i) c e = broken≢fine e
 check-rule Nothing c e = e
 
 module _ (before : List Param) (u : Unpacking) (p : Param) (ps : List Param) where
+  pub step-stop : {n : ℕ} → check before (u .state) (u .«seen_optional») p ≡ Broken n → step before u p ≡ stop n
+  unfolding step
+  step-stop e = rw e refl
+
   pub run-stop : {n : ℕ} → check before (u .state) (u .«seen_optional») p ≡ Broken n
       → run before u (p ∷ ps) ≡ refused n (nodeIn p)
-  unfolding run step
-  run-stop e = rw e refl
+  unfolding run
+  run-stop e = rw (step-stop e) refl
 
   module _ (clear : Cleared u) (fine : check before (u .state) (u .«seen_optional») p ≡ Fine) where
     kept : rule (u .state) (u .«seen_optional») (kindIn p) ≡ Fine
     kept = check-rule (repeats before p) _ fine
 
-    pub run-on : run before u (p ∷ ps) ≡ run (before ++ p ∷ []) (advance u (writtenAt (length before)) (kindIn p))
-        ps
-    unfolding run step
-    run-on = rw (
+    pub step-on : step before u p ≡ on (advance u (writtenAt (length before)) (kindIn p))
+    unfolding step
+    step-on = rw (
       fine,
       free (u .state) (u .«seen_optional») (u .«index_of_star») (u .counts)
           (writtenAt (length before)) (kindIn p) clear kept .0 u refl refl,
     ) refl
+
+    pub run-on : run before u (p ∷ ps) ≡ run (before ++ p ∷ []) (advance u (writtenAt (length before)) (kindIn p))
+        ps
+    unfolding run
+    run-on = rw step-on refl
 
     pub clear-on : Cleared (advance u (writtenAt (length before)) (kindIn p))
     unfolding advance

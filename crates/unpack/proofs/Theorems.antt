@@ -108,7 +108,7 @@ run-bounded before u (p ∷ ps) k {c} clear b h = go (check before (u .state) (u
     go (Broken n) f rest = refused≢accepted (sym (run-stop before u p ps f) ∙ h)
 
 -- the first `/` stands within the list
-slash-within : (i : ℕ) (l : List Param) → positionalOnly (slashFrom i l) .0 ≤ i + length l
+pub slash-within : (i : ℕ) (l : List Param) → positionalOnly (slashFrom i l) .0 ≤ i + length l
 unfolding slashFrom
 slash-within i [] = omega arith
 slash-within i (p ∷ ps) = go (isSlash (kindIn p)) (slash-within (i + 1) ps)
@@ -118,7 +118,7 @@ slash-within i (p ∷ ps) = go (isSlash (kindIn p)) (slash-within (i + 1) ps)
     go true h = omega arith
     go false h = omega arith
 
-bounded-start : (only : Flat) → Bounded 0 (only .0) (start only .counts)
+pub bounded-start : (only : Flat) → Bounded 0 (only .0) (start only .counts)
 unfolding start
 bounded-start only = record {
   positional = omega arith;

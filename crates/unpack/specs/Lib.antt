@@ -2,3 +2,4 @@ pub mod Written
 pub mod Unpack
 pub mod Told
 pub mod Reading
+pub mod Reached
