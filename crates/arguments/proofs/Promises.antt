@@ -51,7 +51,7 @@ called-injective (Accepted a) (Refused (Spanned n k b f)) e = never (cc)
 called-injective (Refused r) (Accepted b) e = never-accepted r e
 called-injective (Refused r) (Refused s) e = ap Refused (refusal-injective r s e)
 
--- two answers that meet the promise of `call` on the same input coincide
-pub call-one : (t names : List ℕ) (i : ℕ) {r s : Called} → called r ≡ callOf t names i → called s ≡ callOf t names i
-    → r ≡ s
-call-one t names i = coincide-by called called-injective
+-- of `call`
+pub call-one : (table names : List ℕ) (node : ℕ) {r s : Called} → called r ≡ callOf table names node
+    → called s ≡ callOf table names node → r ≡ s
+call-one table names node = coincide-by called called-injective

@@ -29,7 +29,7 @@ pub struct Asked {
 }
 
 // The front of a buffer, as much of it as is there.
-pub fn front(s: &[u8], len: usize) -> &[u8] {
+pub(crate) fn front(s: &[u8], len: usize) -> &[u8] {
     if len <= s.len() {
         return &s[0..len];
     }
@@ -288,7 +288,7 @@ fn say_module(table: &[u8], names: &[u8], dialect: &[u8], room: usize) {
 }
 
 // 0 is a heading, 1 the table check, 2 a job's node, 3 the bytes of a dialect, 4 a call's arguments, 5 parameters, 6 a target, 7 an assignment, 8 a type, 9 a module.
-pub fn answer(a: Asked, table: &[u8], names: &[u8], dialect: &[u8]) {
+pub(crate) fn answer(a: Asked, table: &[u8], names: &[u8], dialect: &[u8]) {
     let job = a.job;
     match job {
         1 => say_check(table, names),

@@ -4,7 +4,6 @@ use mathlib.Core.List.{List}
 use Prim.Native.Nat.{ℕ}
 use lib.ListN.{length}
 use Rattle.fields.proofs.Coincide.{coincide}
-use Rattle.table.specs.Answer.{Answer}
 use Rattle.table.specs.Check.{checkOf}
 use Rattle.parameters.specs.Params.{paramsOf, modesAfter}
 use Rattle.arguments.specs.Job.{callOf}
@@ -14,47 +13,60 @@ use Rattle.types.specs.Jobs.{shapesAfter}
 use Rattle.validate.specs.Job.{moduleOf, errorsAfter}
 use Rattle.ffi.specs.Words.{number, words, callWords, laid}
 
--- a number and words that meet the promise for the answer a, whose words are ws, where the words were out
-pub record Promised (a : Answer) (ws out : List ℕ) (n : ℕ) (exit : List ℕ) : Type 0 where
-  pub number-is : n ≡ number a
-  pub words-are : exit ≡ laid ws 0 out
+-- of `starlark_table`
+pub starlark-table-one : (table names out : List ℕ) {r s : ℕ} {out-r out-s : List ℕ}
+    → r ≡ number (checkOf table names) → out-r ≡ laid (words (checkOf table names)) 0 out
+    → s ≡ number (checkOf table names) → out-s ≡ laid (words (checkOf table names)) 0 out → (r ≡ s) × (out-r ≡ out-s)
+starlark-table-one table names out r-is out-is s-is out-are = (coincide r-is s-is, coincide out-is out-are)
 
-one : {a : Answer} {ws out : List ℕ} {n m : ℕ} {xs ys : List ℕ} → Promised a ws out n xs → Promised a ws out m ys
-    → (n ≡ m) × (xs ≡ ys)
-one p q = (coincide (p .number-is) (q .number-is), coincide (p .words-are) (q .words-are))
+-- of `starlark_params`
+pub starlark-params-one : (table names : List ℕ) (node : ℕ) (modes out : List ℕ) {r s : ℕ} {modes-r modes-s : List ℕ}
+    {out-r out-s : List ℕ} → r ≡ number (paramsOf table names node (length modes))
+    → out-r ≡ laid (words (paramsOf table names node (length modes))) 0 out
+    → modes-r ≡ modesAfter table names node modes → s ≡ number (paramsOf table names node (length modes))
+    → out-s ≡ laid (words (paramsOf table names node (length modes))) 0 out
+    → modes-s ≡ modesAfter table names node modes → (r ≡ s) × (modes-r ≡ modes-s) × (out-r ≡ out-s)
+starlark-params-one table names node modes out r-is out-is modes-is s-is out-are modes-are =
+    (coincide r-is s-is, coincide modes-is modes-are, coincide out-is out-are)
 
-module _ (table names out : List ℕ) {n m : ℕ} {xs ys : List ℕ} where
-  pub starlark-table-one : let a = checkOf table names in Promised a (words a) out n xs
-      → Promised a (words a) out m ys → (n ≡ m) × (xs ≡ ys)
-  starlark-table-one = one
+-- of `starlark_call`
+pub starlark-call-one : (table names : List ℕ) (node : ℕ) (out : List ℕ) {r s : ℕ} {out-r out-s : List ℕ}
+    → r ≡ number (callOf table names node) → out-r ≡ laid (callWords (callOf table names node)) 0 out
+    → s ≡ number (callOf table names node) → out-s ≡ laid (callWords (callOf table names node)) 0 out
+    → (r ≡ s) × (out-r ≡ out-s)
+starlark-call-one table names node out r-is out-is s-is out-are = (coincide r-is s-is, coincide out-is out-are)
 
-  pub starlark-call-one : (node : ℕ) → let a = callOf table names node in Promised a (callWords a) out n xs
-      → Promised a (callWords a) out m ys → (n ≡ m) × (xs ≡ ys)
-  starlark-call-one node = one
+-- of `starlark_target`
+pub starlark-target-one : (table names : List ℕ) (node : ℕ) (out : List ℕ) {r s : ℕ} {out-r out-s : List ℕ}
+    → r ≡ number (targetOf table names node) → out-r ≡ laid (words (targetOf table names node)) 0 out
+    → s ≡ number (targetOf table names node) → out-s ≡ laid (words (targetOf table names node)) 0 out
+    → (r ≡ s) × (out-r ≡ out-s)
+starlark-target-one table names node out r-is out-is s-is out-are = (coincide r-is s-is, coincide out-is out-are)
 
-  pub starlark-target-one : (node : ℕ) → let a = targetOf table names node in Promised a (words a) out n xs
-      → Promised a (words a) out m ys → (n ≡ m) × (xs ≡ ys)
-  starlark-target-one node = one
+-- of `starlark_assignment`
+pub starlark-assignment-one : (table names : List ℕ) (node : ℕ) (out : List ℕ) {r s : ℕ} {out-r out-s : List ℕ}
+    → r ≡ number (assignmentOf table names node) → out-r ≡ laid (words (assignmentOf table names node)) 0 out
+    → s ≡ number (assignmentOf table names node) → out-s ≡ laid (words (assignmentOf table names node)) 0 out
+    → (r ≡ s) × (out-r ≡ out-s)
+starlark-assignment-one table names node out r-is out-is s-is out-are = (coincide r-is s-is, coincide out-is out-are)
 
-  pub starlark-assignment-one : (node : ℕ) → let a = assignmentOf table names node in Promised a (words a) out n xs
-      → Promised a (words a) out m ys → (n ≡ m) × (xs ≡ ys)
-  starlark-assignment-one node = one
+-- of `starlark_type`
+pub starlark-type-one : (table names dialect : List ℕ) (node : ℕ) (shapes out : List ℕ) {r s : ℕ}
+    {shapes-r shapes-s : List ℕ} {out-r out-s : List ℕ}
+    → r ≡ number (typeShapeOf table names dialect node (length shapes))
+    → out-r ≡ laid (words (typeShapeOf table names dialect node (length shapes))) 0 out
+    → shapes-r ≡ shapesAfter table names dialect node shapes
+    → s ≡ number (typeShapeOf table names dialect node (length shapes))
+    → out-s ≡ laid (words (typeShapeOf table names dialect node (length shapes))) 0 out
+    → shapes-s ≡ shapesAfter table names dialect node shapes → (r ≡ s) × (shapes-r ≡ shapes-s) × (out-r ≡ out-s)
+starlark-type-one table names dialect node shapes out r-is out-is shapes-is s-is out-are shapes-are =
+    (coincide r-is s-is, coincide shapes-is shapes-are, coincide out-is out-are)
 
-  -- and where a buffer is lent, u and v at exit
-  pub starlark-params-one : (node : ℕ) (modes : List ℕ) {u v : List ℕ} →
-      let a = paramsOf table names node (length modes) in
-      Promised a (words a) out n xs → u ≡ modesAfter table names node modes → Promised a (words a) out m ys
-      → v ≡ modesAfter table names node modes → ((n ≡ m) × (xs ≡ ys)) × (u ≡ v)
-  starlark-params-one node modes p h q k = (one p q, coincide h k)
-
-  pub starlark-type-one : (dialect : List ℕ) (node : ℕ) (shapes : List ℕ) {u v : List ℕ} →
-      let a = typeShapeOf table names dialect node (length shapes) in
-      Promised a (words a) out n xs → u ≡ shapesAfter table names dialect node shapes
-      → Promised a (words a) out m ys → v ≡ shapesAfter table names dialect node shapes
-      → ((n ≡ m) × (xs ≡ ys)) × (u ≡ v)
-  starlark-type-one dialect node shapes p h q k = (one p q, coincide h k)
-
-  pub starlark-module-one : (dialect errors : List ℕ) {u v : List ℕ} → let a = moduleOf table names dialect in
-      Promised a (words a) out n xs → u ≡ errorsAfter table names dialect errors → Promised a (words a) out m ys
-      → v ≡ errorsAfter table names dialect errors → ((n ≡ m) × (xs ≡ ys)) × (u ≡ v)
-  starlark-module-one dialect errors p h q k = (one p q, coincide h k)
+-- of `starlark_module`
+pub starlark-module-one : (table names dialect errors out : List ℕ) {r s : ℕ} {errors-r errors-s : List ℕ}
+    {out-r out-s : List ℕ} → r ≡ number (moduleOf table names dialect)
+    → out-r ≡ laid (words (moduleOf table names dialect)) 0 out → errors-r ≡ errorsAfter table names dialect errors
+    → s ≡ number (moduleOf table names dialect) → out-s ≡ laid (words (moduleOf table names dialect)) 0 out
+    → errors-s ≡ errorsAfter table names dialect errors → (r ≡ s) × (errors-r ≡ errors-s) × (out-r ≡ out-s)
+starlark-module-one table names dialect errors out r-is out-is errors-is s-is out-are errors-are =
+    (coincide r-is s-is, coincide errors-is errors-are, coincide out-is out-are)

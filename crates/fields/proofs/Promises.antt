@@ -10,6 +10,10 @@ use Rattle.fields.proofs.Coincide.{coincide}
 pub byte-one : (b : List ℕ) (at : ℕ) {r s : ℕ} → r ≡ getD b at 0 → s ≡ getD b at 0 → r ≡ s
 byte-one b at = coincide
 
--- of `half` and `word`, which are fields of two and four bytes
-pub field-one : (width : ℕ) (b : List ℕ) (at : ℕ) {r s : ℕ} → r ≡ field width b at → s ≡ field width b at → r ≡ s
-field-one width b at = coincide
+-- of `half`
+pub half-one : (b : List ℕ) (at : ℕ) {r s : ℕ} → r ≡ field 2 b at → s ≡ field 2 b at → r ≡ s
+half-one b at = coincide
+
+-- of `word`
+pub word-one : (b : List ℕ) (at : ℕ) {r s : ℕ} → r ≡ field 4 b at → s ≡ field 4 b at → r ≡ s
+word-one b at = coincide

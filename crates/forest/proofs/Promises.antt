@@ -4,13 +4,45 @@ use mathlib.Core.Bool.{Bool}
 use mathlib.Core.List.{List}
 use Prim.Native.Nat.{ℕ}
 use Rattle.fields.proofs.Coincide.{coincide}
-use Rattle.forest.specs.Forest.{Node, nodeOf, spanOf, forest}
+use Rattle.forest.specs.Forest.{nodeOf, spanOf, forest}
 use Rattle.forest.specs.Names.{nameOf, same, firstNamed}
 use Rattle.forest.specs.declared.Found.{Found}
 
--- of `kind`, `detail`, `name_len`, `name_start`, `begin`, `stop`, `size`, `pad` and `source`: each is one field of the record
-pub part-one : (part : Node → ℕ) (t : List ℕ) {r s : ℕ} → r ≡ part (nodeOf 0 t) → s ≡ part (nodeOf 0 t) → r ≡ s
-part-one part t = coincide
+-- of `kind`
+pub kind-one : (t : List ℕ) {r s : ℕ} → r ≡ nodeOf 0 t .kind → s ≡ nodeOf 0 t .kind → r ≡ s
+kind-one t = coincide
+
+-- of `detail`
+pub detail-one : (t : List ℕ) {r s : ℕ} → r ≡ nodeOf 0 t .detail → s ≡ nodeOf 0 t .detail → r ≡ s
+detail-one t = coincide
+
+-- of `name_len`
+pub name-len-one : (t : List ℕ) {r s : ℕ} → r ≡ nodeOf 0 t .nameLen → s ≡ nodeOf 0 t .nameLen → r ≡ s
+name-len-one t = coincide
+
+-- of `name_start`
+pub name-start-one : (t : List ℕ) {r s : ℕ} → r ≡ nodeOf 0 t .nameStart → s ≡ nodeOf 0 t .nameStart → r ≡ s
+name-start-one t = coincide
+
+-- of `begin`
+pub begin-one : (t : List ℕ) {r s : ℕ} → r ≡ nodeOf 0 t .begin → s ≡ nodeOf 0 t .begin → r ≡ s
+begin-one t = coincide
+
+-- of `stop`
+pub stop-one : (t : List ℕ) {r s : ℕ} → r ≡ nodeOf 0 t .stop → s ≡ nodeOf 0 t .stop → r ≡ s
+stop-one t = coincide
+
+-- of `size`
+pub size-one : (t : List ℕ) {r s : ℕ} → r ≡ nodeOf 0 t .size → s ≡ nodeOf 0 t .size → r ≡ s
+size-one t = coincide
+
+-- of `pad`
+pub pad-one : (t : List ℕ) {r s : ℕ} → r ≡ nodeOf 0 t .pad → s ≡ nodeOf 0 t .pad → r ≡ s
+pad-one t = coincide
+
+-- of `source`
+pub source-one : (t : List ℕ) {r s : ℕ} → r ≡ nodeOf 0 t .source → s ≡ nodeOf 0 t .source → r ≡ s
+source-one t = coincide
 
 -- of `span`
 pub span-one : (t : List ℕ) {r s : ℕ} → r ≡ spanOf t → s ≡ spanOf t → r ≡ s

@@ -11,55 +11,63 @@ pub enum Found {
     Nothing,
 }
 
-// The fields of the record that a stretch begins with, as document 01 lays them out.
+// Byte 0 of the record that a stretch begins with, as document 01 lays it out: the kind of the node.
 pub fn kind(t: &[u8]) -> u8
     ensures { λ r. ⌜ r ≡ nodeOf 0 (now (t .entry)) .kind ⌝ }
 {
     fields::byte(t, 0)
 }
 
+// Byte 1: the detail.
 pub fn detail(t: &[u8]) -> u8
     ensures { λ r. ⌜ r ≡ nodeOf 0 (now (t .entry)) .detail ⌝ }
 {
     fields::byte(t, 1)
 }
 
+// Bytes 2 and 3: how many bytes the name has.
 pub fn name_len(t: &[u8]) -> u16
     ensures { λ r. ⌜ r ≡ nodeOf 0 (now (t .entry)) .nameLen ⌝ }
 {
     fields::half(t, 2)
 }
 
+// Bytes 4 to 7: where the name begins among the names.
 pub fn name_start(t: &[u8]) -> u32
     ensures { λ r. ⌜ r ≡ nodeOf 0 (now (t .entry)) .nameStart ⌝ }
 {
     fields::word(t, 4)
 }
 
+// Bytes 8 to 11: where the span begins in the source.
 pub fn begin(t: &[u8]) -> u32
     ensures { λ r. ⌜ r ≡ nodeOf 0 (now (t .entry)) .begin ⌝ }
 {
     fields::word(t, 8)
 }
 
+// Bytes 12 to 15: where the span ends.
 pub fn stop(t: &[u8]) -> u32
     ensures { λ r. ⌜ r ≡ nodeOf 0 (now (t .entry)) .stop ⌝ }
 {
     fields::word(t, 12)
 }
 
+// Bytes 16 and 17: how many records the subtree has.
 pub fn size(t: &[u8]) -> u16
     ensures { λ r. ⌜ r ≡ nodeOf 0 (now (t .entry)) .size ⌝ }
 {
     fields::half(t, 16)
 }
 
+// Bytes 18 and 19, which are zero in a sound record.
 pub fn pad(t: &[u8]) -> u16
     ensures { λ r. ⌜ r ≡ nodeOf 0 (now (t .entry)) .pad ⌝ }
 {
     fields::half(t, 18)
 }
 
+// Bytes 20 to 23: where the name of a named argument begins in the source; zero in every other sound record.
 pub fn source(t: &[u8]) -> u32
     ensures { λ r. ⌜ r ≡ nodeOf 0 (now (t .entry)) .source ⌝ }
 {

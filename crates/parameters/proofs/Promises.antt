@@ -58,25 +58,27 @@ unpacked-injective (Refused r) (Accepted p) e = never-accepted r e
 unpacked-injective (Refused r) (Refused s) e = ap Refused (refusal-injective r s e)
 
 -- of `params`: the answer and the buffer at exit
-pub params-one : (t names : List ℕ) (node : ℕ) (ms : List ℕ) {r s : Unpacked} {xs ys : List ℕ}
-    → (unpacked r ≡ paramsOf t names node (length ms)) × (xs ≡ modesAfter t names node ms)
-    → (unpacked s ≡ paramsOf t names node (length ms)) × (ys ≡ modesAfter t names node ms)
-    → (r ≡ s) × (xs ≡ ys)
-params-one t names node ms p q = (coincide-by unpacked unpacked-injective (p .0) (q .0), coincide (p .1) (q .1))
+pub params-one : (table names : List ℕ) (node : ℕ) (modes : List ℕ) {r s : Unpacked} {modes-r modes-s : List ℕ}
+    → unpacked r ≡ paramsOf table names node (length modes) → modes-r ≡ modesAfter table names node modes
+    → unpacked s ≡ paramsOf table names node (length modes) → modes-s ≡ modesAfter table names node modes
+    → (r ≡ s) × (modes-r ≡ modes-s)
+params-one table names node modes r-is modes-is s-is modes-are =
+    (coincide-by unpacked unpacked-injective r-is s-is, coincide modes-is modes-are)
 
 -- of the five ranges
-pub pos-only-one : (i : DefParamIndices) {r s : Range} → r ≡ posOnly i → s ≡ posOnly i → r ≡ s
-pos-only-one i = coincide
+pub pos-only-one : (self : DefParamIndices) {r s : Range} → r ≡ posOnly self → s ≡ posOnly self → r ≡ s
+pos-only-one self = coincide
 
-pub pos-or-named-one : (i : DefParamIndices) {r s : Range} → r ≡ posOrNamed i → s ≡ posOrNamed i → r ≡ s
-pos-or-named-one i = coincide
+pub pos-or-named-one : (self : DefParamIndices) {r s : Range} → r ≡ posOrNamed self → s ≡ posOrNamed self → r ≡ s
+pos-or-named-one self = coincide
 
-pub args-range-one : (i : DefParamIndices) {r s : Range} → r ≡ argsRange i → s ≡ argsRange i → r ≡ s
-args-range-one i = coincide
+pub args-range-one : (self : DefParamIndices) {r s : Range} → r ≡ argsRange self → s ≡ argsRange self → r ≡ s
+args-range-one self = coincide
 
-pub named-only-one : (i : DefParamIndices) (n : ℕ) {r s : Range} → r ≡ namedOnly i n → s ≡ namedOnly i n → r ≡ s
-named-only-one i n = coincide
+pub named-only-one : (self : DefParamIndices) («param_count» : ℕ) {r s : Range} → r ≡ namedOnly self «param_count»
+    → s ≡ namedOnly self «param_count» → r ≡ s
+named-only-one self «param_count» = coincide
 
-pub kwargs-range-one : (i : DefParamIndices) (n : ℕ) {r s : Range} → r ≡ kwargsRange i n → s ≡ kwargsRange i n
-    → r ≡ s
-kwargs-range-one i n = coincide
+pub kwargs-range-one : (self : DefParamIndices) («param_count» : ℕ) {r s : Range} → r ≡ kwargsRange self «param_count»
+    → s ≡ kwargsRange self «param_count» → r ≡ s
+kwargs-range-one self «param_count» = coincide

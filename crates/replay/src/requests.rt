@@ -180,7 +180,7 @@ fn is_same(a: Asked, body: &[u8]) -> bool {
 }
 
 // The next request of the file.
-pub fn one(fd: i32) -> Replayed {
+pub(crate) fn one(fd: i32) -> Replayed {
     let mut head = [0u8; 20];
     if !filled(fd, &mut head, 20) {
         return Replayed::End;

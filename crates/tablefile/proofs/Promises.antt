@@ -4,11 +4,11 @@ use mathlib.Core.List.{List}
 use Prim.Native.Nat.{ℕ}
 use Rattle.table.specs.Answer.{Answer}
 use Rattle.tablefile.specs.File.{Content}
+use Rattle.tablefile.specs.Reading.{contentAt, takenAt, frontCheck, readCheck}
 use Rattle.tablefile.specs.Loading.{verdict, loadedOf}
 use Rattle.tablefile.specs.declared.Verdict.{Verdict}
 use Rattle.tablefile.specs.declared.Loaded.{Loaded}
 use Rattle.tablefile.proofs.Accepted.{verdict-injective}
-use Rattle.tablefile.proofs.Theorems.{Read, Front}
 
 -- an answer and what is laid out for its verdict
 one : (x : Answer) (c : Content) (n : ℕ) (r s : Loaded) → verdict (r .verdict) ≡ x → r ≡ loadedOf (r .verdict) c n
@@ -16,10 +16,14 @@ one : (x : Answer) (c : Content) (n : ℕ) (r s : Loaded) → verdict (r .verdic
 one x c n r s p f q g =
     f ∙ ap (λ (v : Verdict). loadedOf v c n) (verdict-injective (r .verdict) (s .verdict) (p ∙ sym q)) ∙ sym g
 
--- of `read`, the file as lent
-pub read-one : (file : List ℕ) (r s : Loaded) → Read file r → Read file s → r ≡ s
-read-one file r s p q = one _ _ _ r s (p .0) (p .1) (q .0) (q .1)
-
 -- of `front`, the bytes as lent
-pub front-one : (bytes : List ℕ) (r s : Loaded) → Front bytes r → Front bytes s → r ≡ s
-front-one bytes r s p q = one _ _ _ r s (p .0) (p .1) (q .0) (q .1)
+pub front-one : (bytes : List ℕ) {r s : Loaded} → verdict (r .verdict) ≡ frontCheck bytes
+    → r ≡ loadedOf (r .verdict) (contentAt bytes) (takenAt bytes) → verdict (s .verdict) ≡ frontCheck bytes
+    → s ≡ loadedOf (s .verdict) (contentAt bytes) (takenAt bytes) → r ≡ s
+front-one bytes {r} {s} = one _ _ _ r s
+
+-- of `read`, the file as lent
+pub read-one : (file : List ℕ) {r s : Loaded} → verdict (r .verdict) ≡ readCheck file
+    → r ≡ loadedOf (r .verdict) (contentAt file) (takenAt file) → verdict (s .verdict) ≡ readCheck file
+    → s ≡ loadedOf (s .verdict) (contentAt file) (takenAt file) → r ≡ s
+read-one file {r} {s} = one _ _ _ r s

@@ -1,6 +1,6 @@
 -- Two answers that meet the promise of a public function coincide. Assumes nothing.
 use mathlib.Core.Path.{_≡_, sym, ap}
-use mathlib.Core.List as L
+use mathlib.Core.List.{List}
 use Prim.Native.Nat.{ℕ}
 use Rattle.fields.proofs.Coincide.{coincide, coincide-by}
 use Rattle.forest.specs.Forest.{nodeOf}
@@ -20,13 +20,13 @@ shaped-injective (Refused q) Accepted e = never-accepted q e
 shaped-injective (Refused q) (Refused r) e = ap Refused (refusal-injective q r e)
 
 -- of `judge`
-pub judge-one : (table names dialect : L.List ℕ) (node room : ℕ) {r s : Shaped}
+pub judge-one : (table names dialect : List ℕ) (node room : ℕ) {r s : Shaped}
     → shaped r ≡ typeShapeOf table names dialect node room → shaped s ≡ typeShapeOf table names dialect node room
     → r ≡ s
 judge-one table names dialect node room = coincide-by shaped shaped-injective
 
 -- of `forms::form`, `forms::shape_of` and `forms::reads_of`
-pub form-one : (t : L.List ℕ) {r s : Form} → r ≡ formOf (nodeOf 0 t .kind) (nodeOf 0 t .detail)
+pub form-one : (t : List ℕ) {r s : Form} → r ≡ formOf (nodeOf 0 t .kind) (nodeOf 0 t .detail)
     → s ≡ formOf (nodeOf 0 t .kind) (nodeOf 0 t .detail) → r ≡ s
 form-one t = coincide
 

@@ -9,12 +9,11 @@ use Rattle.typerules.specs.declared.Shaped.{Shaped}
 use Rattle.typerules.proofs.Promises.{shaped-injective}
 use Rattle.types.specs.Jobs.{shapesAfter}
 
--- of `type_shape`: r and s are answers, u and v the buffers at exit
-pub type-shape-one : (table names dialect : List ℕ) (node : ℕ) (buffer : List ℕ) {r s : Shaped} {u v : List ℕ}
-    → shaped r ≡ typeShapeOf table names dialect node (length buffer)
-    → u ≡ shapesAfter table names dialect node buffer
-    → shaped s ≡ typeShapeOf table names dialect node (length buffer)
-    → v ≡ shapesAfter table names dialect node buffer
-    → (r ≡ s) × (u ≡ v)
-type-shape-one table names dialect node buffer r-is u-is s-is v-is =
-    (coincide-by shaped shaped-injective r-is s-is, coincide u-is v-is)
+-- of `type_shape`: the answer and the buffer at exit
+pub type-shape-one : (table names dialect : List ℕ) (node : ℕ) (shapes : List ℕ) {r s : Shaped}
+    {shapes-r shapes-s : List ℕ} → shaped r ≡ typeShapeOf table names dialect node (length shapes)
+    → shapes-r ≡ shapesAfter table names dialect node shapes
+    → shaped s ≡ typeShapeOf table names dialect node (length shapes)
+    → shapes-s ≡ shapesAfter table names dialect node shapes → (r ≡ s) × (shapes-r ≡ shapes-s)
+type-shape-one table names dialect node shapes r-is shapes-is s-is shapes-are =
+    (coincide-by shaped shaped-injective r-is s-is, coincide shapes-is shapes-are)

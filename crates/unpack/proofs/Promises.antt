@@ -2,13 +2,14 @@
 use mathlib.Core.Path.{_≡_}
 use mathlib.Core.Bool.{Bool}
 use mathlib.Core.List.{List}
-use Prim.Native.Nat.{ℕ}
+use Prim.Native.Nat.{ℕ, _+_, _/_}
+use lib.ListN.{length}
 use Rattle.fields.proofs.Coincide.{coincide}
 use Rattle.forest.specs.Forest.{kidsOf}
 use Rattle.unpack.specs.Written.{written}
 use Rattle.unpack.specs.Unpack.{nextState, firstState, unpack}
 use Rattle.unpack.specs.Told.{told}
-use Rattle.unpack.specs.Reading.{isListed, kindHere}
+use Rattle.unpack.specs.Reading.{isListed, kindHere, Inside}
 use Rattle.unpack.specs.declared.Kind.{Kind}
 use Rattle.unpack.specs.declared.State.{State}
 use Rattle.unpack.specs.declared.Flat.{Flat}
@@ -16,8 +17,9 @@ use Rattle.unpack.specs.declared.Judged.{Judged}
 
 -- of `judge`; its second promise only bounds what the first determines
 pub judge-one : (names t : List ℕ) (node : ℕ) {r s : Judged} → r ≡ told (unpack (written names node t))
-    → s ≡ told (unpack (written names node t)) → r ≡ s
-judge-one names t node = coincide
+    → Inside (node + 1 + length t / 24) r → s ≡ told (unpack (written names node t))
+    → Inside (node + 1 + length t / 24) s → r ≡ s
+judge-one names t node p _ q _ = coincide p q
 
 -- of `children`, `entry::listed`, `entry::kind_of`
 pub children-one : (t : List ℕ) {r s : List ℕ} → r ≡ kidsOf t → s ≡ kidsOf t → r ≡ s

@@ -15,10 +15,9 @@ listed-injective (Refused r) (Total n) e = never-accepted r e
 listed-injective (Refused r) (Refused s) e = ap Refused (refusal-injective r s e)
 
 -- of `module`
-pub module-one : (t names bytes : List ℕ) {r s : Listed} → listed r ≡ moduleOf t names bytes
-    → listed s ≡ moduleOf t names bytes → r ≡ s
-module-one t names bytes = coincide-by listed listed-injective
-
-pub module-words-one : (t names bytes xs : List ℕ) {ys zs : List ℕ} → ys ≡ errorsAfter t names bytes xs
-    → zs ≡ errorsAfter t names bytes xs → ys ≡ zs
-module-words-one t names bytes xs = coincide
+pub module-one : (table names dialect errors : List ℕ) {r s : Listed} {errors-r errors-s : List ℕ}
+    → listed r ≡ moduleOf table names dialect → errors-r ≡ errorsAfter table names dialect errors
+    → listed s ≡ moduleOf table names dialect → errors-s ≡ errorsAfter table names dialect errors
+    → (r ≡ s) × (errors-r ≡ errors-s)
+module-one table names dialect errors r-is errors-is s-is errors-are =
+    (coincide-by listed listed-injective r-is s-is, coincide errors-is errors-are)
