@@ -1,0 +1,70 @@
+#!/usr/bin/env python3
+"""Tells imported names that a file does not use, in definitions, proofs and code.
+
+imports.py            a line for each file that imports what it does not use; status 1 if there is one
+imports.py --write    takes the unused names out; a `use` that is left with none goes
+"""
+import re
+import sys
+
+import repository
+
+USE = re.compile(r"^((?:pub )?(?:ghost )?use )([^\s{;]+?)(?:\.\{([^}]*)\}|((?: as \S+)?))(;?)\n", re.M)
+COMMENT = {".antt": re.compile(r"--.*"), ".rt": re.compile(r"//.*")}
+
+
+def is_used(name, body):
+    """Whether a name stands in a text: a word by itself, an operator by its parts."""
+    parts = [part for part in name.strip("«»").split("_") if part]
+    if name.startswith("_") or name.endswith("_") and not re.match(r"\w", name):
+        return all(re.search(r"(?<!\S)[(]?" + re.escape(part), body) or part in body for part in parts)
+    word = re.escape(name.strip("«»"))
+    return re.search(rf"(?<![\w'′«-]){word}(?![\w'′»-])|«{word}»", body) is not None
+
+
+def local(entry):
+    """The name that an import brings in: the one behind `as`, if there is one."""
+    return entry.split(" as ")[-1].strip()
+
+
+def kept(text, suffix):
+    """The text without its unused imports, and the names that are gone."""
+    body = COMMENT[suffix].sub("", USE.sub("", text))
+    gone = []
+
+    def without(match):
+        head, module, names, renamed, end = match.groups()
+        if head.startswith("pub "):
+            return match[0]
+        if names is None:
+            name = local(renamed) if renamed else re.split(r"[.:]+", module)[-1]
+            if is_used(name, body):
+                return match[0]
+            gone.append(name)
+            return ""
+        entries = [entry.strip() for entry in names.split(",") if entry.strip()]
+        used = [entry for entry in entries if is_used(local(entry), body)]
+        gone.extend(local(entry) for entry in entries if entry not in used)
+        if len(used) == len(entries):
+            return match[0]
+        return f"{head}{module}.{{{', '.join(used)}}}{end}\n" if used else ""
+
+    return USE.sub(without, text), gone
+
+
+def main(words):
+    faults = 0
+    for path in sorted(p for p in repository.CRATES.rglob("*") if p.suffix in COMMENT):
+        text = path.read_text()
+        new, gone = kept(text, path.suffix)
+        if gone:
+            faults += len(gone)
+            print(f"{path.relative_to(repository.ROOT)}: {', '.join(gone)}")
+            if words == ["--write"]:
+                path.write_text(new)
+    print(f"imports.py: {faults} imported names are not used")
+    return 1 if faults and words != ["--write"] else 0
+
+
+if __name__ == "__main__":
+    sys.exit(main(sys.argv[1:]))
