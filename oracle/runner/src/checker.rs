@@ -232,8 +232,9 @@ impl Checker {
         let (table, names) = self.kept.split_at(request.table.len());
         line("table", &hex(table));
         line("names", &hex(names));
-        if !self.inputs_are_kept(request) {
-            line("changed by the archive", &format_args!("{} {}", hex(request.table), hex(request.names)));
+        if !self.inputs_are_kept(request) || effect.dialect != expected.dialect {
+            let (table, names, dialect) = (hex(request.table), hex(request.names), hex(&effect.dialect));
+            line("changed by the archive", &format_args!("{table} {names} {dialect}"));
         }
         line("archive", effect);
         line("model", expected);
