@@ -4,12 +4,11 @@
 kinds.py            write crates/cases/kinds.txt (cases in words) and, below its heading, the end of crates/cases/stdout (their answers)
 kinds.py --check    only say whether they are what the sentences give, and, where document 01 is at hand, whether it has the sentences
 
-The sentences stand in crates/cases/document01.txt. They are read here by themselves: nothing is taken from the definitions or the code, so a
-mistake that stands in both of them shows. Of each kind and detail: children as they must be, and with one dropped, changed or added; the
-largest detail and one more; a name where none may be, and none where one must be; the kind in the place of each class.
+The sentences stand in crates/cases/document01.txt. They are read here by themselves: nothing is taken from the definitions or the code,
+so a mistake that stands in both of them shows. Of each kind and detail: children as they must be, and with one dropped, changed or added;
+the largest detail and one more; a name where none may be, and none where one must be; the kind in the place of each class.
 """
 import itertools
-import pathlib
 import re
 import sys
 

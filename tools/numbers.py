@@ -4,7 +4,7 @@
 numbers.py          says whether they agree, number by number and name by name (exit status 1 if not)
 
 - docs/numbers.tsv, the constants of crates/table/src/numbers.rt and the definitions of its specs/Numbers.antt
-- the column "given by" of docs/numbers.tsv and what include/starlark.h says of each job; the file gives what its reader and the module pass do
+- the column "given by" of docs/numbers.tsv and what include/starlark.h says of each job; a file gives what reader and module pass do
 - the constants of crates/soundness/src/kinds.rt, the definitions of its specs/KindNumbers.antt, and the words of tools/tables.py
 """
 import re
@@ -62,7 +62,9 @@ def of_numbers():
     if head != HEAD or any(len(row) != len(HEAD) or not row[2].strip() for row in rows):
         return [f"docs/numbers.tsv: a row is not {', '.join(HEAD)}"], 0
     table = [(int(number), name) for number, name, _, _ in rows]
-    faults = [] if [number for number, _ in table] == GIVEN else ["docs/numbers.tsv: its numbers are not those of document 01 in their order"]
+    faults = []
+    if [number for number, _ in table] != GIVEN:
+        faults.append("docs/numbers.tsv: its numbers are not those of document 01 in their order")
     faults += differing("crates/table/src/numbers.rt", table, said_of("table/src/numbers.rt", r"^pub const (\w+): u32 = (\d+);"))
     definitions = [(number, camel(name)) for number, name in table]
     faults += differing("crates/table/specs/Numbers.antt", definitions, said_of("table/specs/Numbers.antt", r"^(\w+) = (\d+)$"))
@@ -87,7 +89,7 @@ def of_kinds():
 
 def main():
     (faults, count), (more, kinds) = of_numbers(), of_kinds()
-    told = f"docs/numbers.tsv: its {count} numbers, names and jobs, and the numbers of {kinds} kinds, are those of code, definitions and header"
+    told = f"docs/numbers.tsv: its {count} numbers, names and jobs, and the {kinds} kinds, are those of code, definitions and header"
     print("\n".join(faults + more) or told)
     return 1 if faults + more else 0
 

@@ -9,8 +9,9 @@ use crate::port::FILE;
 use crate::port::JOBS;
 use crate::port::NAMES;
 
-/// What the whole comparison must run of each job at the least, in the order of `NAMES`: nine tenths of what the quick run has.
-const LEAST: [u64; JOBS] = [1_200_000, 2_400_000, 540_000, 2_400_000, 680_000, 3_000_000, 1_160_000, 3_000];
+/// What the whole comparison must run of each job at the least, in the order of `NAMES`: about 99 of 100 of what the quick run has at
+/// any seed.
+const LEAST: [u64; JOBS] = [1_345_000, 2_675_000, 600_000, 2_730_000, 752_000, 3_330_000, 1_282_000, 3_400];
 
 pub fn print(options: &Options, tallies: &[Tally]) -> ExitCode {
     let run = families::ALL.iter().zip(tallies).filter(|(family, _)| options.asks(family));
@@ -32,7 +33,8 @@ pub fn print(options: &Options, tallies: &[Tally]) -> ExitCode {
     if !never.is_empty() {
         println!("never given, so the run says nothing of them: {}", never.join(", "));
     }
-    let few = too_few(options, &all);
+    let mut few = too_few(options, &all);
+    few.extend(empty(options, tallies));
     if !few.is_empty() {
         println!("too few jobs for the whole comparison: {}", few.join(", "));
     }
@@ -43,6 +45,12 @@ pub fn print(options: &Options, tallies: &[Tally]) -> ExitCode {
     }
     let is_lacking = !few.is_empty() || (options.is_whole() && !never.is_empty());
     ExitCode::from(u8::from(all.differences > 0 || is_lacking))
+}
+
+/// The families of which the whole comparison has run nothing.
+fn empty(options: &Options, tallies: &[Tally]) -> Vec<String> {
+    let asked = families::ALL.iter().zip(tallies).filter(|(family, _)| options.is_all() && options.asks(family));
+    asked.filter(|(_, tally)| tally.jobs == 0).map(|(family, _)| format!("{} 0", family.name)).collect()
 }
 
 fn each_job(all: &Tally) -> String {
