@@ -5,8 +5,8 @@ kinds.py            write crates/cases/kinds.txt (cases in words) and, below its
 kinds.py --check    only say whether they are what the sentences give, and, where document 01 is at hand, whether it has the sentences
 
 The sentences stand in crates/cases/document01.txt. They are read here by themselves: nothing is taken from the definitions or the code,
-so a mistake that stands in both of them shows. Of each kind and detail: children as they must be, and with one dropped, changed or added;
-the largest detail and one more; a name where none may be, and none where one must be; the kind in the place of each class.
+so a mistake that stands in both of them shows. Of each kind and detail: children as they must be, and with one dropped, changed or added,
+or two; the largest detail and one more; a name where none may be, and none where one must be; the kind in the place of each class.
 """
 import itertools
 import re
@@ -134,8 +134,9 @@ def listed(text):
 
 
 def changed(children):
-    """These children, and with one dropped, one of another class, one more at either end."""
+    """These children, and with one dropped, one of another class, one more at either end; and two less or more, for what goes in pairs."""
     yield children
+    yield children[:-2]
     for at in range(len(children)):
         yield children[:at] + children[at + 1:]
         for one in CHILD:
@@ -143,6 +144,7 @@ def changed(children):
     for one in CHILD:
         yield (one,) + children
         yield children + (one,)
+        yield children + (one, one)
 
 
 def told(children):
