@@ -1,4 +1,4 @@
-//! Runs the archive, the model and the crate on the same inputs and counts where they differ.
+//! Runs the archive, the model and the crate on the same inputs and counts where they differ. `linked` makes a program of it.
 
 mod cells;
 mod checker;
@@ -34,7 +34,7 @@ struct Item<'a> {
     plan: Plan,
 }
 
-fn main() -> ExitCode {
+pub fn main() -> ExitCode {
     let options = match Options::read() {
         Ok(options) => options,
         Err(text) => {
@@ -42,13 +42,8 @@ fn main() -> ExitCode {
             return ExitCode::from(2);
         }
     };
-    let missing = checker::missing(&options.wanted);
-    if !missing.is_empty() {
-        eprintln!("compare: the archive lacks {}; --jobs leaves jobs out", missing.join(", "));
-        return ExitCode::from(2);
-    }
-    if !options.left_out.is_empty() {
-        println!("compare: left out, since the archive or the program for it is missing: {}", options.left_out.join(", "));
+    if options.is_all() && options.program.is_none() {
+        println!("compare: no program is named, so no files are compared");
     }
     let done = run(&options);
     if let Some(path) = &options.record {
@@ -100,8 +95,9 @@ fn write_sample(path: &str, done: &[Done]) {
     let recorders = || done.iter().filter_map(|part| part.checker.recorder.as_ref());
     let bytes: Vec<u8> = recorders().flat_map(|recorder| recorder.bytes.iter().copied()).collect();
     std::fs::write(path, &bytes).unwrap_or_else(|error| panic!("{path}: {error}"));
-    let requests: u64 = recorders().map(|recorder| recorder.requests).sum();
-    println!("{requests} requests and their answers, {} bytes, are in {path}", bytes.len());
+    let by = |judge: usize| -> u64 { recorders().map(|recorder| recorder.requests[judge]).sum() };
+    let (crate_s, model_s) = (by(record::CRATE), by(record::MODEL));
+    println!("{crate_s} answers of the crate and {model_s} of the model, {} bytes, are in {path}", bytes.len());
 }
 
 /// The parts of the families that are asked for, in order.
