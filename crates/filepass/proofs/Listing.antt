@@ -49,9 +49,6 @@ module _ (t names bytes : List ℕ) (sound : givenCheck t names bytes ≡ accept
   pub held-few : length t ≤ 50400
   held-few = steps .0
 
-  pub part-few : {p : List ℕ} → p ≡ t → length p ≤ 50400
-  part-few p-is = rw p-is held-few
-
   -- LAW: their errors are those of the pass alone
   pub held-errors : {d : Dialect} → fromBytes bytes ≡ Valid d → errorsOf t names bytes ≡ passErrors d names t
   unfolding errorsOf
@@ -61,21 +58,19 @@ module _ (t names bytes : List ℕ) (sound : givenCheck t names bytes ≡ accept
   pub held-listed : heldAnswer t names bytes ≡ accepted (length t / 24 ∷ length (errorsOf t names bytes) ∷ [])
   held-listed = rw sound refl
 
-  -- the pass over them, in the terms of code: p, ns and bs are the fronts of arrays
-  module _ {bs : List ℕ} (bs-is : bs ≡ bytes) {x : Decoded} (x-is : x ≡ fromBytes bs) where
+  -- the pass over them, in the terms of code
+  module _ {x : Decoded} (x-is : x ≡ fromBytes bytes) where
     pub list-never : {P : Type 0} → x ≡ Invalid → P
     list-never e =
-        let invalid : fromBytes bytes ≡ Invalid = ap fromBytes (sym bs-is) ∙ sym x-is ∙ e in
-        let bad : dialectCheck Invalid ≡ accepted [] = rw invalid at (steps .1) in
+        let bad : dialectCheck Invalid ≡ accepted [] = rw (sym x-is ∙ e) at (steps .1) in
         never-accepted (Bare badDialect) bad
 
-    pub list-total : (xs : List ℕ) {p ns ys : List ℕ} {d : Dialect} {n : ℕ} → p ≡ t → ns ≡ names → x ≡ Valid d
-        → n ≡ length (passErrors d ns p) → ys ≡ stored (passErrors d ns p) xs
-        → (accepted (length p / 24 ∷ n ∷ []) ≡ heldAnswer t names bytes) × (ys ≡ errorsAfter t names bytes xs)
-    list-total xs {p} {ns} {d = d} p-is ns-is e n-is ys-is =
-        let all : passErrors d ns p ≡ errorsOf t names bytes =
-        rw (p-is, ns-is) (sym (held-errors (ap fromBytes (sym bs-is) ∙ sym x-is ∙ e))) in
-        (rw (held-listed, n-is, all, p-is) refl, rw (ys-is, all) refl)
+    pub list-total : (xs : List ℕ) {d : Dialect} {n : ℕ} {ys : List ℕ} → x ≡ Valid d
+        → n ≡ length (passErrors d names t) → ys ≡ stored (passErrors d names t) xs
+        → (accepted (length t / 24 ∷ n ∷ []) ≡ heldAnswer t names bytes) × (ys ≡ errorsAfter t names bytes xs)
+    list-total xs e n-is ys-is =
+        let all = held-errors (sym x-is ∙ e) in
+        (rw (held-listed, all, n-is) refl, rw (all, ys-is) refl)
 
 -- what is answered to a file, step by step: l is what the reader gave
 module _ (file : List ℕ) {l : Loaded} (p : Read file l) where
@@ -89,24 +84,24 @@ module _ (file : List ℕ) {l : Loaded} (p : Read file l) where
       go (Placed n k) told = (rw told refl, rw told refl)
       go (Spanned n k b e) told = (rw told refl, rw told refl)
 
-  module _ (good : l .verdict ≡ Accepted) where
-    pub file-sound : givenCheck (take (l .«table_len») (l .table)) (take (l .«names_len») (l .names))
-        (take (l .«dialect_len») (l .dialect)) ≡ accepted []
+  -- t, names and bytes are the fronts of its arrays
+  module _ (good : l .verdict ≡ Accepted) {t names bytes : List ℕ} (t-is : t ≡ take (l .«table_len») (l .table))
+      (names-is : names ≡ take (l .«names_len») (l .names))
+      (bytes-is : bytes ≡ take (l .«dialect_len») (l .dialect)) where
+    pub file-sound : givenCheck t names bytes ≡ accepted []
     unfolding held
-    file-sound = accepted-is-sound file l p good
+    file-sound = rw (t-is, names-is, bytes-is) (accepted-is-sound file l p good)
 
-    pub file-listed : (xs : List ℕ) {a : Answer} {ys : List ℕ}
-        → a ≡ heldAnswer (take (l .«table_len») (l .table)) (take (l .«names_len») (l .names))
-        (take (l .«dialect_len») (l .dialect))
-        → ys ≡ errorsAfter (take (l .«table_len») (l .table)) (take (l .«names_len») (l .names))
-        (take (l .«dialect_len») (l .dialect)) xs
-        → (a ≡ answerOf file) × (ys ≡ wordsAfter file xs)
+    pub file-listed : (xs : List ℕ) {a : Answer} {ys : List ℕ} → a ≡ heldAnswer t names bytes
+        → ys ≡ errorsAfter t names bytes xs → (a ≡ answerOf file) × (ys ≡ wordsAfter file xs)
     unfolding answerOf wordsAfter held
     file-listed xs a-is ys-is =
         let told : readCheck file ≡ accepted [] = sym (p .0) ∙ ap verdict good in
         let c-is = holds file l (p .1) good in (
-          a-is ∙ rw told (ap (λ (c : Content). heldAnswer (c .table) (c .names) (c .dialect)) c-is),
-          ys-is ∙ rw told (ap (λ (c : Content). errorsAfter (c .table) (c .names) (c .dialect) xs) c-is),
+          a-is ∙ rw (told, t-is, names-is, bytes-is)
+              (ap (λ (c : Content). heldAnswer (c .table) (c .names) (c .dialect)) c-is),
+          ys-is ∙ rw (told, t-is, names-is, bytes-is)
+              (ap (λ (c : Content). errorsAfter (c .table) (c .names) (c .dialect) xs) c-is),
         )
 
 -- and to so many bytes of a buffer: p is their front

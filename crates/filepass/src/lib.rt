@@ -34,13 +34,13 @@ pub fn check_file(file: &[u8], errors: &mut [u32]) -> Passed
     if let Verdict::Refused(why) = verdict {
         return Passed::Refused(why);
     }
+    let table = l.table;
+    let names = l.names;
+    let dialect = l.dialect;
     list(
-        &l.table,
-        l.table_len,
-        &l.names,
-        l.names_len,
-        &l.dialect,
-        l.dialect_len,
+        front(&table, l.table_len),
+        front(&names, l.names_len),
+        front(&dialect, l.dialect_len),
         errors,
     )
 }
@@ -58,26 +58,17 @@ pub fn check_read(
     check_file(front(buffer, len), errors)
 }
 
-// The module pass over what a file holds, each array up to its length. The reader has looked at 1 to 5.
-fn list<'a>(
-    table: &'a [u8],
-    t: usize,
-    names: &'a [u8],
-    n: usize,
-    dialect: &'a [u8],
-    d: usize,
-    errors: &mut [u32],
-) -> Passed
-    requires { ⌜ givenCheck (take t (now table)) (take n (now names)) (take d (now dialect)) ≡ accepted [] ⌝ }
-    ensures { λ r. ⌜ passed r ≡ heldAnswer (take t (now (table .entry))) (take n (now (names .entry))) (take d (now (dialect .entry))) ⌝ }
-    ensures { λ r. ⌜ now (errors .exit) ≡ errorsAfter (take t (now (table .entry))) (take n (now (names .entry))) (take d (now (dialect .entry))) (now (errors .entry)) ⌝ }
+// The module pass over what a file holds. The reader has looked at 1 to 5.
+fn list(table: &[u8], names: &[u8], dialect: &[u8], errors: &mut [u32]) -> Passed
+    requires { ⌜ givenCheck (now table) (now names) (now dialect) ≡ accepted [] ⌝ }
+    ensures { λ r. ⌜ passed r ≡ heldAnswer (now (table .entry)) (now (names .entry)) (now (dialect .entry)) ⌝ }
+    ensures { λ r. ⌜ now (errors .exit) ≡ errorsAfter (now (table .entry)) (now (names .entry)) (now (dialect .entry)) (now (errors .entry)) ⌝ }
 {
-    let part = front(table, t);
-    let decoded = dialect::from_bytes(front(dialect, d));
+    let decoded = dialect::from_bytes(dialect);
     match decoded {
         Decoded::Valid(d) => Passed::Listed {
-            nodes: (part.len() / 24) as u32,
-            total: validate::pass(part, front(names, n), d, errors),
+            nodes: (table.len() / 24) as u32,
+            total: validate::pass(table, names, d, errors),
         },
         Decoded::Invalid => Passed::Refused(Refusal::Bare(numbers::BAD_DIALECT)),
     }
