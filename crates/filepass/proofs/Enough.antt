@@ -1,5 +1,5 @@
--- The program reads at most 59,905 bytes: 117 blocks, the most that a file has, and one byte more. That is enough: the reader's answer to
--- so much of a file is its answer to the whole file, however long it is (`read-enough`). Assumes nothing.
+-- Of a file at most `enoughBytes` bytes are read: the most blocks that a file has, and one byte more. That is enough:
+-- the answer to so much of a file is the answer to the file, however long it is (`read-enough`). Assumes nothing.
 use mathlib.Core.Path.{_≡_, refl, sym, ap, _∙_}
 use mathlib.Core.Bool.{Bool, true, false}
 use mathlib.Core.Logic.{⊎-elim}
@@ -12,21 +12,23 @@ use lib.Dec.{leb}
 use borrow.Author.Tests.{le-leb, lt-leb}
 use Rattle.fields.proofs.Fields.{field-take}
 use Rattle.table.specs.Numbers.{blockCounts, bytesLeftOver}
+use Rattle.dialect.specs.Bytes.{fromBytes}
+use Rattle.dialect.specs.declared.Decoded.{Decoded}
+use Rattle.dialect.specs.declared.Decoded.the-variants.{Valid, Invalid}
 use Rattle.table.specs.Answer.{Answer, accepted, refused, andThen}
+use Rattle.table.specs.Check.{checkOf, dialectCheck, givenCheck}
 use Rattle.table.proofs.Answers.{after-both}
 use Rattle.blocks.specs.Block.{demand, judge}
 use Rattle.blocks.specs.Run.{blocksFor, judgeBlocks, judgeRun}
 use Rattle.blocks.proofs.Blocks.{drop-take}
 use Rattle.blocks.proofs.Spelling.{le-or-lt}
+use Rattle.tablefile.specs.File.{Content}
 use Rattle.tablefile.specs.Reading.{nodesAt, namesAt, dialectAt, firstNodes, takenAt, contentAt, countsFit}
 use Rattle.tablefile.specs.Reading.{frontCheck, soundCheck, readCheck}
-use Rattle.tablefile.specs.Loading.{verdict, loadedOf}
-use Rattle.tablefile.specs.declared.Verdict.{Verdict}
-use Rattle.tablefile.specs.declared.Verdict.the-variants.{Accepted, Refused}
-use Rattle.tablefile.specs.declared.Loaded.{Loaded}
 use Rattle.tablefile.proofs.Fronts.{counts-small}
 use Rattle.tablefile.proofs.Accepted.{read-whole, read-fronted}
-use Rattle.tablefile.proofs.Theorems.{Read}
+use Rattle.filepass.specs.Sizes.{mostBlocks, enoughBytes}
+use Rattle.filepass.specs.Passing.{heldAnswer, answerOf, ifRead, wordsAfter}
 
 -- a block is judged by its 512 bytes
 judge-part : (number used m : ℕ) (bs : List ℕ) → 512 ≤ m → judge number used (take m bs) ≡ judge number used bs
@@ -61,8 +63,43 @@ unfolding judgeRun
 run-part number total a m bs h =
     rw (drop-take a m bs) (blocks-part (blocksFor total) number total (m - a) (drop a bs) (omega arith))
 
+-- LAW: the most blocks are those of the most names and the most nodes
+pub most-blocks : mostBlocks ≡ 1 + blocksFor 8064 + blocksFor (24 * 2100)
+unfolding blocksFor
+most-blocks = refl
+
+-- LAW: an accepted file has no more
+pub accepted-short : (bs : List ℕ) → readCheck bs ≡ accepted [] → length bs ≤ 512 * mostBlocks
+unfolding takenAt firstNodes blocksFor
+accepted-short bs e = omega (arith, read-whole bs e, read-fronted bs e .counts)
+
+-- the reader's check gives no values
+Plain : Answer → Type 0
+Plain (accepted vs) = vs ≡ []
+Plain (refused n vs) = Unit {0}
+
+after-plain : (x : Answer) (next : Unit {0} → Answer) → Plain (next tt) → Plain (andThen x next)
+unfolding Plain
+after-plain (accepted vs) next p = p
+after-plain (refused n vs) next p = tt
+
+dialect-plain : (x : Decoded) → Plain (dialectCheck x)
+unfolding Plain
+dialect-plain (Valid d) = refl
+dialect-plain Invalid = tt
+
+read-plain : (bs : List ℕ) → Plain (readCheck bs)
+unfolding readCheck givenCheck
+read-plain bs =
+    let c : Content = contentAt bs in
+    let dialect : Unit {0} → Answer = λ _. dialectCheck (fromBytes (c .dialect)) in
+    let sound : Unit {0} → Answer = λ _. soundCheck c in
+    let left : Answer = demand (leb (length bs) (takenAt bs)) bytesLeftOver in
+    let last = after-plain (checkOf (c .table) (c .names)) dialect (dialect-plain (fromBytes (c .dialect))) in
+    after-plain (frontCheck bs) (λ _. andThen left sound) (after-plain left sound last)
+
 -- a file that is longer than what is read of it
-module _ (m : ℕ) (bs : List ℕ) (enough : 59904 < m) (longer : m < length bs) where
+module _ (m : ℕ) (bs : List ℕ) (enough : 512 * mostBlocks < m) (longer : m < length bs) where
   nodes-part : nodesAt (take m bs) ≡ nodesAt bs
   unfolding nodesAt
   nodes-part = field-take 2 bs m 4 (omega arith)
@@ -131,23 +168,33 @@ module _ (m : ℕ) (bs : List ℕ) (enough : 59904 < m) (longer : m < length bs)
       ∙ whole-part (countsFit (nodesAt bs) (namesAt bs)) refl
       ∙ sym (whole-is bs refl refl refl refl refl)
 
-  pub longer-refused : readCheck bs ≡ accepted [] → ⊥
-  unfolding takenAt firstNodes blocksFor
-  longer-refused e = absurd (omega (arith, read-whole bs e, read-fronted bs e .counts))
+  -- it is refused, and so is what is read of it
+  refused-both : {A : Type 0} (f : Answer → (Unit {0} → A) → A) → ((n : ℕ) (vs : List ℕ) (x y : Unit {0} → A)
+      → f (refused n vs) x ≡ f (refused n vs) y) → (x y : Unit {0} → A)
+      → f (readCheck (take m bs)) x ≡ f (readCheck bs) y
+  unfolding Plain
+  refused-both {A} f stops x y = rw longer-part (go (readCheck bs) refl (read-plain bs))
+    where
+      go : (a : Answer) → readCheck bs ≡ a → Plain a → f a x ≡ f a y
+      go (accepted vs) e p = absurd (omega (arith, accepted-short bs (e ∙ ap accepted p)))
+      go (refused n vs) e p = stops n vs x y
 
--- THEOREM: what the reader answers to the first 59,905 bytes of a file is what it is to answer to the file
-pub read-enough : (file : List ℕ) (r : Loaded) → Read (take 59905 file) r → Read file r
-unfolding loadedOf
-read-enough file r p =
+  pub longer-answer : answerOf (take m bs) ≡ answerOf bs
+  unfolding answerOf
+  longer-answer = refused-both andThen (λ n vs x y. refl) _ _
+
+  pub longer-words : (xs : List ℕ) → wordsAfter (take m bs) xs ≡ wordsAfter bs xs
+  unfolding wordsAfter
+  longer-words xs = refused-both (λ a next. ifRead a xs next) (λ n vs x y. refl) _ _
+
+-- THEOREM: what is answered to the first bytes of a file is what is answered to the file, and the words are the same
+pub read-enough : (file xs : List ℕ) → (answerOf (take enoughBytes file) ≡ answerOf file)
+    × (wordsAfter (take enoughBytes file) xs ≡ wordsAfter file xs)
+read-enough file xs =
     ⊎-elim
-    (λ (h : length file ≤ 59905). rw (take-all 59905 file h) at p)
-    (λ (h : 59905 < length file).
-    let told : verdict (r .verdict) ≡ readCheck file = p .0 ∙ longer-part 59905 file (omega arith) h in
-    (told, go h (r .verdict) told (p .1)))
-    (le-or-lt (length file) 59905)
-  where
-    go : 59905 < length file → (v : Verdict) → verdict v ≡ readCheck file
-        → r ≡ loadedOf v (contentAt (take 59905 file)) (takenAt (take 59905 file))
-        → r ≡ loadedOf v (contentAt file) (takenAt file)
-    go h Accepted e q = absurd (longer-refused 59905 file (omega arith) h (sym e))
-    go h (Refused w) e q = q
+    (λ (h : length file ≤ enoughBytes). rw (take-all enoughBytes file h) (refl, refl))
+    (λ (h : enoughBytes < length file). (
+      longer-answer enoughBytes file (omega arith) h,
+      longer-words enoughBytes file (omega arith) h xs,
+    ))
+    (le-or-lt (length file) enoughBytes)
