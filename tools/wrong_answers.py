@@ -244,56 +244,48 @@ def shared(edits):
     return chosen
 
 
-def settle(edit, said, refused):
-    """Whether an edit's verdict is the right one, and the verdict in words."""
+def settle(edit, before, after, said, refused):
+    """Whether an edit is refused for the right reason, and the verdict in words."""
+    edit.judge_code(before, after)
+    touched = {f for f in after if after[f] != before.get(f)}
+    others = sorted(refused - set().union(*(with_cycle(f, CRATES / edit.crate) for f in touched)))
+    if others:
+        raise BadEdit(f"{', '.join(others)} refused, which no edit touches")
     if not edit.meant <= refused:
         return False, f"NOT REFUSED in {' and '.join(sorted(edit.meant - refused))}"
     reasons = [f"{function}: {reason(said, function, CRATES / edit.crate)}" for function in sorted(edit.meant)]
     return True, f"refused, as it must be, at {'; '.join(reasons)}"
 
 
+def or_bad(judge, *words):
+    """What a judgement gives; of a bad edit that it is not refused, and why it is bad."""
+    try:
+        return judge(*words)
+    except BadEdit as bad:
+        return False, f"BAD EDIT: {bad}"
+
+
 def of_crate(name, edits, build):
-    """Tries a crate's edits: for each whether its verdict is the right one, and the verdict in words."""
-    began, checks, told, left, alone = time.time(), 0, [], [], False
-
-    def tell(edit, right, words):
-        told.append((edit, right, f"wrong {name}/{edit.label}: {words}"))
-
+    """Tries a crate's edits: for each whether it is refused for the right reason, and the verdict in words."""
+    began, checks, alone = time.time(), 0, False
     before = code_of(name, copy_of(name, "before"))
-    for edit in edits:
-        try:
-            edit.find()
-            left.append(edit)
-        except BadEdit as bad:
-            tell(edit, False, f"BAD EDIT: {bad}")
+    verdicts = {edit: or_bad(edit.find) for edit in edits}
+    left = [edit for edit in edits if not verdicts[edit]]
     while left:
-        some, bad_ones = left[:1] if alone else shared(left), set()
+        some = left[:1] if alone else shared(left)
         checks += 1
-        try:
-            after, said = trial(name, f"check-{checks}", some, build)
-        except BadEdit as bad:
-            if len(some) > 1:
-                alone = True
-                continue
-            tell(some[0], False, f"BAD EDIT: {bad}")
-            left.remove(some[0])
-            continue
-        refused = refused_themselves(said, CRATES / name)
-        touched = set().union(*(e.proofs() for e in some))
-        others = sorted(f for f in refused - touched if before.get(f) == after.get(f))
-        settled = [e for e in some if e.meant <= refused or len(some) == 1]
-        for edit in settled:
-            try:
-                edit.judge_code(before, after)
-                if others:
-                    raise BadEdit(f"{', '.join(others)} refused, which no edit touches")
-                tell(edit, *settle(edit, said, refused))
-            except BadEdit as bad:
-                tell(edit, False, f"BAD EDIT: {bad}")
+        after, said = or_bad(trial, name, f"check-{checks}", some, build)
+        if after:
+            refused = refused_themselves(said, CRATES / name)
+            settled = [e for e in some if e.meant <= refused or len(some) == 1]
+            verdicts |= {edit: or_bad(settle, edit, before, after, said, refused) for edit in settled}
+        else:
+            settled = some if len(some) == 1 else []
+            verdicts |= {edit: (False, said) for edit in settled}
         left = [e for e in left if e not in settled]
         alone = not settled
-    told.append((None, None, f"wrong {name}: {len(edits)} edits in {checks} checks, {round(time.time() - began)} s"))
-    return told
+    told = [(edit, right, f"wrong {name}/{edit.label}: {words}") for edit, (right, words) in verdicts.items()]
+    return [*told, (None, None, f"wrong {name}: {len(edits)} edits in {checks} checks, {round(time.time() - began)} s")]
 
 
 def try_all(by_crate):
