@@ -9,7 +9,7 @@ use Rattle.dialect.specs.Bytes.{fromBytes}
 use Rattle.dialect.specs.declared.Dialect.{Dialect}
 use Rattle.dialect.specs.declared.Decoded.{Decoded}
 use Rattle.dialect.specs.declared.Decoded.the-variants.{Valid, Invalid}
-use Rattle.forest.specs.Forest.{sizeOf, nodeOf, forest}
+use Rattle.forest.specs.Forest.{sizeOf, nodeOf, Tree, treeOf, forest}
 use Rattle.forest.specs.declared.Found.{Found}
 use Rattle.forest.specs.declared.Found.the-variants.{At, Nothing}
 use Rattle.table.specs.Numbers.{tableLength, nameBytes, unsoundRecord, tooDeep, badDialect, wrongNode}
@@ -17,7 +17,9 @@ use Rattle.soundness.specs.KindNumbers.{kindDef, kindLambda, kindCall, kindAssi
 use Rattle.soundness.specs.Kinds.{expression, classOf}
 use Rattle.soundness.specs.Sound.{firstUnsound}
 use Rattle.table.specs.Depth.{firstDeep}
-use Rattle.table.specs.Answer.{Answer, accepted, refused, andThen}
+use Rattle.table.specs.Answer.{Answer, accepted, refused, andThen, numberOf, carried}
+use Rattle.table.specs.declared.Given.{Given}
+use Rattle.table.specs.declared.Given.the-variants.{In, Refused}
 use Rattle.table.specs.declared.Wanted.{Wanted}
 use Rattle.table.specs.declared.Wanted.the-variants.{Parameters, Call, Assignment, Expression}
 
@@ -45,17 +47,32 @@ checkOf t names =
     andThen (noneFound unsoundRecord (firstUnsound t names)) (λ _.
     noneFound tooDeep (firstDeep 0 (forest 0 t)))))
 
--- 5: what follows with a dialect, if the bytes give one
-abbrev pub withDialect : Decoded → (Dialect → Answer) → Answer
-withDialect (Valid d) next = next d
-withDialect Invalid next = refused badDialect []
+-- what a job in a dialect is given: the dialect, or the refusal that turns it away
+pub data Handing : Type 0 where
+  inDialect : Dialect → Handing
+  turnedAway : ℕ → List ℕ → Handing
 
-abbrev pub dialectCheck : Decoded → Answer
-dialectCheck x = withDialect x (λ _. accepted [])
+abbrev pub given : Given → Handing
+given (In d) = inDialect d
+given (Refused r) = turnedAway (numberOf r) (carried r)
 
--- 1 to 5: what a job on a table in a dialect is given
-unfoldable pub givenCheck : List ℕ → List ℕ → List ℕ → Answer
-givenCheck t names bytes = andThen (checkOf t names) (λ _. dialectCheck (fromBytes bytes))
+-- after 1 to 4, 5: the bytes give no dialect
+abbrev pub handing : Answer → Decoded → Handing
+handing (refused n vs) x = turnedAway n vs
+handing (accepted vs) Invalid = turnedAway badDialect []
+handing (accepted vs) (Valid d) = inDialect d
+
+unfoldable pub givenOf : List ℕ → List ℕ → List ℕ → Handing
+givenOf t names bytes = handing (checkOf t names) (fromBytes bytes)
+
+-- a job in a dialect: 1 to 5, then what a rule says in the dialect
+abbrev pub inGiven : Handing → (Dialect → Answer) → Answer
+inGiven (inDialect d) rule = rule d
+inGiven (turnedAway n vs) rule = refused n vs
+
+-- 1 to 5 alone
+abbrev pub givenCheck : List ℕ → List ℕ → List ℕ → Answer
+givenCheck t names bytes = inGiven (givenOf t names bytes) (λ _. accepted [])
 
 -- the kinds that a job wants: parameters 2 or 27, a call 22, an assignment 11 or 12, a target or a type an expression
 unfoldable pub wants : Wanted → ℕ → Bool
@@ -74,3 +91,11 @@ nodeCheck t i w = if' (nodeFits t i w) (λ _. accepted []) (λ _. refused wrongN
 -- a node's subtree, as a stretch of the table; beyond the table it is empty
 unfoldable pub stretchOf : List ℕ → ℕ → List ℕ
 stretchOf t i = if' (ltb i (length t / 24)) (λ _. take (24 * sizeOf (drop (24 * i) t)) (drop (24 * i) t)) (λ _. [])
+
+-- 1 to 4, 6: a job on a node is let in
+unfoldable pub entryCheck : Wanted → List ℕ → List ℕ → ℕ → Answer
+entryCheck w t names i = andThen (checkOf t names) (λ _. nodeCheck t i w)
+
+-- such a job: then what a rule says of the node's tree
+unfoldable pub onNode : Wanted → (Tree → Answer) → List ℕ → List ℕ → ℕ → Answer
+onNode w rule t names i = andThen (entryCheck w t names i) (λ _. rule (treeOf i (stretchOf t i)))

@@ -1,0 +1,102 @@
+-- How a job is let in, in the terms of code: on a node (1 to 4, 6), in a dialect (1 to 5), and what it knows then. Assumes nothing.
+use mathlib.Core.Path.{_≡_, refl, sym, ap, _∙_}
+use mathlib.Core.Bool.{Bool, true, false}
+use mathlib.Core.List.{List, []}
+use Prim.Native.Nat.{ℕ, _+_, _*_, _≤_}
+use native.Mathlib.Omega.{arith}
+use lib.ListN.{length}
+use Rattle.fields.specs.Choice.{if'}
+use Rattle.dialect.specs.Bytes.{fromBytes}
+use Rattle.dialect.specs.declared.Dialect.{Dialect}
+use Rattle.dialect.specs.declared.Decoded.{Decoded}
+use Rattle.dialect.specs.declared.Decoded.the-variants.{Valid, Invalid}
+use Rattle.forest.specs.Forest.{Tree, treeOf}
+use Rattle.table.specs.Numbers.{badDialect, wrongNode}
+use Rattle.table.specs.Answer.{Answer, accepted, refused, andThen, numberOf, carried, refusal, checked}
+use Rattle.table.specs.Check.{checkOf, inDialect, turnedAway, given, handing, givenOf, nodeFits, nodeCheck}
+use Rattle.table.specs.Check.{stretchOf, entryCheck, onNode}
+use Rattle.table.specs.declared.Refusal.{Refusal}
+use Rattle.table.specs.declared.Checked.{Checked}
+use Rattle.table.specs.declared.Checked.the-variants.{Sound, Refused}
+use Rattle.table.specs.declared.Wanted.{Wanted}
+use Rattle.table.proofs.Checking.{Clean, accepted-clean}
+use Rattle.table.proofs.Handed.{stretch-within}
+
+never : {P : Type 0} → _≡_ {A = ℕ} 0 1 → P
+never z = absurd (omega arith)
+
+-- each return of `enter` and `enter_dialect`
+module _ (t names : List ℕ) {f : Checked} (f-is : checked f ≡ checkOf t names) where
+  module _ {why : Refusal} (bad : f ≡ Refused why) where
+    told : checkOf t names ≡ refusal why
+    told = sym f-is ∙ ap checked bad
+
+    pub entry-refused : (w : Wanted) (i : ℕ) → refusal why ≡ entryCheck w t names i
+    unfolding entryCheck
+    entry-refused w i = rw told refl
+
+    pub given-refused : (bytes : List ℕ) → turnedAway (numberOf why) (carried why) ≡ givenOf t names bytes
+    unfolding givenOf
+    given-refused bytes = rw told refl
+
+  module _ (good : f ≡ Sound) where
+    passed : checkOf t names ≡ accepted []
+    passed = sym f-is ∙ ap checked good
+
+    pub entry-node : (w : Wanted) (i : ℕ) {b : Bool} → b ≡ nodeFits t i w → b ≡ false
+        → refused wrongNode [] ≡ entryCheck w t names i
+    unfolding entryCheck
+    entry-node w i b-is h = rw (passed, ← b-is, h) refl
+
+    pub entry-passed : (w : Wanted) (i : ℕ) {b : Bool} → b ≡ nodeFits t i w → b ≡ true
+        → accepted [] ≡ entryCheck w t names i
+    unfolding entryCheck
+    entry-passed w i b-is h = rw (passed, ← b-is, h) refl
+
+    module _ (bytes : List ℕ) {x : Decoded} (x-is : x ≡ fromBytes bytes) where
+      pub given-in : {d : Dialect} → x ≡ Valid d → inDialect d ≡ givenOf t names bytes
+      unfolding givenOf
+      given-in h = rw (passed, ← x-is, h) refl
+
+      pub given-bad : x ≡ Invalid → turnedAway badDialect [] ≡ givenOf t names bytes
+      unfolding givenOf
+      given-bad h = rw (passed, ← x-is, h) refl
+
+-- LAW: what a job on a node knows once it is let in: the table is clean, and the node fits
+pub entry-clean : (w : Wanted) (t names : List ℕ) (i : ℕ) {vs : List ℕ} → entryCheck w t names i ≡ accepted vs
+    → Clean t names × (nodeFits t i w ≡ true)
+unfolding entryCheck
+entry-clean w t names i {vs} e = go (checkOf t names) (nodeFits t i w) refl refl e
+  where
+    go : (a : Answer) (b : Bool) → checkOf t names ≡ a → nodeFits t i w ≡ b
+        → andThen a (λ _. if' b (λ _. accepted []) (λ _. refused wrongNode [])) ≡ accepted vs
+        → Clean t names × (nodeFits t i w ≡ true)
+    go (accepted us) true sound fits h = (accepted-clean t names sound, fits)
+    go (accepted us) false sound fits h = never (cc)
+    go (refused n us) b sound fits h = never (cc)
+
+-- a job on a node, in the terms of code: e is what `enter` answered
+module _ (w : Wanted) (t names : List ℕ) (i : ℕ) {e : Checked} (e-is : checked e ≡ entryCheck w t names i) where
+  pub job-refused : (rule : Tree → Answer) {why : Refusal} → e ≡ Refused why → refusal why ≡ onNode w rule t names i
+  unfolding onNode
+  job-refused rule {why} h = let told : entryCheck w t names i ≡ refusal why = sym e-is ∙ ap checked h in
+      rw told refl
+
+  module _ (good : e ≡ Sound) where
+    let-in : entryCheck w t names i ≡ accepted []
+    let-in = sym e-is ∙ ap checked good
+
+    pub job-rule : (rule : Tree → Answer) {s : List ℕ} {r : Answer} → s ≡ stretchOf t i → r ≡ rule (treeOf i s)
+        → r ≡ onNode w rule t names i
+    unfolding onNode
+    job-rule rule s-is r-is = r-is ∙ rw (let-in, s-is) refl
+
+    -- its stretch has a record or more, and lies within the table
+    stretch-fits : (24 ≤ length (stretchOf t i)) × (24 * i + length (stretchOf t i) ≤ 50400)
+    stretch-fits = let k = entry-clean w t names i let-in in stretch-within t names i w (k .0) (k .1)
+
+    pub job-long : {s : List ℕ} → s ≡ stretchOf t i → 24 ≤ length s
+    job-long s-is = rw s-is (stretch-fits .0)
+
+    pub job-within : {s : List ℕ} → s ≡ stretchOf t i → 24 * i + length s ≤ 50400
+    job-within s-is = rw s-is (stretch-fits .1)
