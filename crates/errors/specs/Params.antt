@@ -12,7 +12,8 @@ use Rattle.unpack.specs.Unpack.{isSlash, Outcome, accepted, refused, internal, 
 use Rattle.unpack.specs.Told.{internalError}
 use Rattle.unpack.specs.declared.Kind.{Kind}
 use Rattle.unpack.specs.declared.Kind.the-variants.{Normal, NoArgs, Slash, Args, KwArgs}
-use Rattle.errors.specs.Errors.{Err, errAt, unless}
+use Rattle.errors.specs.declared.Err.{Err}
+use Rattle.errors.specs.Errors.{errAt, unless}
 use Rattle.errors.specs.declared.Mark.{Mark}
 use Rattle.errors.specs.declared.Mark.the-variants.{Star, Slash as SlashMark}
 

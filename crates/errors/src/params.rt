@@ -2,9 +2,11 @@
 //
 // Ported from src/syntax/validate.rs of starlark_syntax 0.14.2 (validate_params), and changed: the list is a stretch of the node table.
 // Copyright 2018 The Starlark in Rust Authors. Copyright (c) Facebook, Inc. and its affiliates. Licensed under Apache-2.0.
+use crate::Err;
 use crate::Mark;
 use dialect::Dialect;
 use table::numbers;
+use unpack::Fault;
 use unpack::Judged;
 use unpack::Kind;
 use unpack::entry;
@@ -13,7 +15,7 @@ ghost use Prim.Native.Nat.{_+_};
 ghost use Rattle.forest.specs.Forest.{nodeOf, kidsOf, forest};
 ghost use Rattle.unpack.specs.Written.{written};
 ghost use Rattle.unpack.specs.Unpack.{isSlash, unpack};
-ghost use Rattle.errors.specs.Errors.{Stores};
+ghost use Rattle.errors.specs.Errors.{err, Stores};
 ghost use Rattle.errors.specs.Inner.{Anywhere};
 ghost use Rattle.errors.specs.Params.{isNoArgs, isMark, permits, notPermitted, everyMark, marks, unpackError, «validate_params», withParams};
 
@@ -55,7 +57,18 @@ fn unpack_error(names: &[u8], t: &[u8], at: u32, errors: &mut [u32]) -> usize
     let judged = unpack::judge(names, t, at);
     match judged {
         Judged::Accepted(_) => 0,
-        Judged::Refused(f) => crate::push(f.number, f.begin, f.end, errors),
+        Judged::Refused(f) => crate::push(error_of(f), errors),
+    }
+}
+
+// unpack's refusal as an error.
+fn error_of(f: Fault) -> Err
+    ensures { λ r. ⌜ r ≡ err (f .number) (f .span) ⌝ }
+{
+    let span = f.span;
+    Err {
+        number: f.number,
+        span: span,
     }
 }
 

@@ -10,8 +10,8 @@ use Rattle.unpack.specs.Unpack as def
 use Rattle.unpack.specs.Told.{internalError}
 use Rattle.parameters.specs.Indices.{range, namedOnly, countedOf}
 use Rattle.parameters.specs.declared.Counted.{Counted}
-use Rattle.parameters.specs.declared.Place.{Place}
-use Rattle.parameters.specs.declared.Place.the-variants.{At, Nothing}
+use Rattle.table.specs.declared.Place.{Place}
+use Rattle.table.specs.declared.Place.the-variants.{At, Nothing}
 use Rattle.parameters.specs.declared.Range.{Range}
 use Rattle.arguments.specs.Call as call
 use Rattle.arguments.specs.Job.{outcomeAnswer}

@@ -10,8 +10,8 @@ use Rattle.table.proofs.Answers.{refusal-injective, never-accepted}
 use Rattle.parameters.specs.Indices.{posOnly, posOrNamed, argsRange, namedOnly, kwargsRange, placeRange}
 use Rattle.parameters.specs.Indices.{valuesOf}
 use Rattle.parameters.specs.declared.Range.{Range}
-use Rattle.parameters.specs.declared.Place.{Place}
-use Rattle.parameters.specs.declared.Place.the-variants.{At, Nothing}
+use Rattle.table.specs.declared.Place.{Place}
+use Rattle.table.specs.declared.Place.the-variants.{At, Nothing}
 use Rattle.parameters.specs.declared.DefParamIndices.{DefParamIndices}
 use Rattle.parameters.specs.declared.Counted.{Counted}
 use Rattle.parameters.specs.Params.{unpacked, paramsOf, modesAfter}

@@ -5,8 +5,8 @@ use Prim.Native.Nat.{ℕ, _+_}
 use Rattle.unpack.specs.declared.FlatPlace.{FlatPlace}
 use Rattle.unpack.specs.declared.FlatPlace.the-variants.{AtFlat, NoFlat}
 use Rattle.unpack.specs.declared.Counts.{Counts}
-use Rattle.parameters.specs.declared.Place.{Place}
-use Rattle.parameters.specs.declared.Place.the-variants.{At, Nothing}
+use Rattle.table.specs.declared.Place.{Place}
+use Rattle.table.specs.declared.Place.the-variants.{At, Nothing}
 use Rattle.parameters.specs.declared.DefParamIndices.{DefParamIndices}
 use Rattle.parameters.specs.declared.Counted.{Counted}
 use Rattle.parameters.specs.declared.Range.{Range}

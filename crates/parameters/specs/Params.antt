@@ -7,9 +7,9 @@ use lib.Dec.{leb}
 use Rattle.fields.specs.Choice.{if'}
 use Rattle.table.specs.Numbers.{shortBuffer}
 use Rattle.table.specs.Answer.{Answer, accepted, refused, andThen, refusedAt, refusal}
-use Rattle.table.specs.Check.{checkOf, nodeCheck, stretchOf}
+use Rattle.table.specs.Check.{stretchOf, onNode}
 use Rattle.table.specs.declared.Wanted.the-variants.{Parameters}
-use Rattle.unpack.specs.Written.{Param, written}
+use Rattle.unpack.specs.Written.{Param, writtenIn, written}
 use Rattle.unpack.specs.Unpack as def
 use Rattle.unpack.specs.Told.{internalError}
 use Rattle.parameters.specs.Indices.{valuesOf, countedOf}
@@ -41,10 +41,7 @@ listOf t names node = written names node (stretchOf t node)
 
 -- the job: 1 to 4, 6, 7, then unpack's
 unfoldable pub paramsOf : List ℕ → List ℕ → ℕ → ℕ → Answer
-paramsOf t names node room =
-    andThen (checkOf t names) (λ _.
-    andThen (nodeCheck t node Parameters) (λ _.
-    listAnswer (listOf t names node) room))
+paramsOf t names node room = onNode Parameters (λ tree. listAnswer (writtenIn names tree) room) t names node
 
 -- the buffer ms afterwards, where these are the modes: they stand at its front and the rest stays; a refusal leaves it
 abbrev pub afterwards : Answer → List ℕ → List ℕ → List ℕ

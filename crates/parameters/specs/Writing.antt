@@ -30,7 +30,7 @@ firstOf (Refused f) = SeenSlash
 -- what the job answers for it, and that its numbers fit 32 bits
 abbrev pub judgedAnswer : Judged → Answer
 judgedAnswer (Accepted c) = accepted (valuesOf (countedOf c))
-judgedAnswer (Refused f) = refused (f .number) (f .node ∷ f .begin ∷ f .end ∷ [])
+judgedAnswer (Refused f) = refused (f .number) (f .node ∷ f .span .begin ∷ f .span .end ∷ [])
 
 abbrev pub Small : Judged → Type 0
 Small (Accepted c) = Bounded 4294967295 4294967295 c

@@ -113,6 +113,23 @@ accepted-clean t names {vs} e = by-length (lengthSound (length t)) refl e
     by-length true l e = by-names l (leb (length names) 8064) refl e
     by-length false l e = never e
 
+-- LAW: a passed check has no values
+then-accepted : (x : Answer) (next : Unit {0} → Answer) {ws : List ℕ} → andThen x next ≡ accepted ws
+    → next tt ≡ accepted ws
+then-accepted (accepted vs) next e = e
+then-accepted (refused n vs) next e = never e
+
+none-values : (n : ℕ) (f : Found) {ws : List ℕ} → noneFound n f ≡ accepted ws → ws ≡ []
+none-values n (At i) e = never e
+none-values n Nothing e = cc
+
+pub check-values : (t ns : List ℕ) {ws : List ℕ} → checkOf t ns ≡ accepted ws → ws ≡ []
+unfolding checkOf
+check-values t ns e =
+    none-values tooDeep (firstDeep 0 (forest 0 t))
+    (then-accepted (noneFound unsoundRecord (firstUnsound t ns)) _
+    (then-accepted (namesCheck (length ns)) _ (then-accepted (lengthCheck (length t)) _ e)))
+
 -- LAW: in such a table the stretch of a node is sound, and as long as its record says
 module _ {t names : List ℕ} (c : Clean t names) (i : ℕ) (h : i < length t / 24) where
   pub stretch-is : stretchOf t i ≡ take (24 * sizeOf (drop (24 * i) t)) (drop (24 * i) t)

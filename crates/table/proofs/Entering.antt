@@ -2,7 +2,7 @@
 use mathlib.Core.Path.{_≡_, refl, sym, ap, _∙_}
 use mathlib.Core.Bool.{Bool, true, false}
 use mathlib.Core.List.{List, []}
-use Prim.Native.Nat.{ℕ, _+_, _*_, _≤_}
+use Prim.Native.Nat.{ℕ, _+_, _*_, _<_, _≤_}
 use native.Mathlib.Omega.{arith}
 use lib.ListN.{length}
 use Rattle.fields.specs.Choice.{if'}
@@ -19,7 +19,7 @@ use Rattle.table.specs.declared.Refusal.{Refusal}
 use Rattle.table.specs.declared.Checked.{Checked}
 use Rattle.table.specs.declared.Checked.the-variants.{Sound, Refused}
 use Rattle.table.specs.declared.Wanted.{Wanted}
-use Rattle.table.proofs.Checking.{Clean, accepted-clean}
+use Rattle.table.proofs.Checking.{accepted-clean, check-values}
 use Rattle.table.proofs.Handed.{stretch-within}
 
 never : {P : Type 0} → _≡_ {A = ℕ} 0 1 → P
@@ -62,18 +62,24 @@ module _ (t names : List ℕ) {f : Checked} (f-is : checked f ≡ checkOf t name
       unfolding givenOf
       given-bad h = rw (passed, ← x-is, h) refl
 
--- LAW: what a job on a node knows once it is let in: the table is clean, and the node fits
-pub entry-clean : (w : Wanted) (t names : List ℕ) (i : ℕ) {vs : List ℕ} → entryCheck w t names i ≡ accepted vs
-    → Clean t names × (nodeFits t i w ≡ true)
+-- LAW: what a job on a node knows once it is let in: the table passes the check, and the node fits
+pub entry-sound : (w : Wanted) (t names : List ℕ) (i : ℕ) {vs : List ℕ} → entryCheck w t names i ≡ accepted vs
+    → (checkOf t names ≡ accepted []) × (nodeFits t i w ≡ true)
 unfolding entryCheck
-entry-clean w t names i {vs} e = go (checkOf t names) (nodeFits t i w) refl refl e
+entry-sound w t names i {vs} e = go (checkOf t names) (nodeFits t i w) refl refl e
   where
     go : (a : Answer) (b : Bool) → checkOf t names ≡ a → nodeFits t i w ≡ b
         → andThen a (λ _. if' b (λ _. accepted []) (λ _. refused wrongNode [])) ≡ accepted vs
-        → Clean t names × (nodeFits t i w ≡ true)
-    go (accepted us) true sound fits h = (accepted-clean t names sound, fits)
+        → (checkOf t names ≡ accepted []) × (nodeFits t i w ≡ true)
+    go (accepted us) true sound fits h = (sound ∙ ap accepted (check-values t names sound), fits)
     go (accepted us) false sound fits h = never (cc)
     go (refused n us) b sound fits h = never (cc)
+
+-- and so is a job let in
+pub sound-entry : (w : Wanted) (t names : List ℕ) (i : ℕ) → checkOf t names ≡ accepted [] → nodeFits t i w ≡ true
+    → entryCheck w t names i ≡ accepted []
+unfolding entryCheck
+sound-entry w t names i sound fits = rw (sound, fits) refl
 
 -- a job on a node, in the terms of code: e is what `enter` answered
 module _ (w : Wanted) (t names : List ℕ) (i : ℕ) {e : Checked} (e-is : checked e ≡ entryCheck w t names i) where
@@ -86,17 +92,25 @@ module _ (w : Wanted) (t names : List ℕ) (i : ℕ) {e : Checked} (e-is : check
     let-in : entryCheck w t names i ≡ accepted []
     let-in = sym e-is ∙ ap checked good
 
+    pub job-is : (rule : Tree → Answer) → onNode w rule t names i ≡ rule (treeOf i (stretchOf t i))
+    unfolding onNode
+    job-is rule = rw let-in refl
+
     pub job-rule : (rule : Tree → Answer) {s : List ℕ} {r : Answer} → s ≡ stretchOf t i → r ≡ rule (treeOf i s)
         → r ≡ onNode w rule t names i
-    unfolding onNode
-    job-rule rule s-is r-is = r-is ∙ rw (let-in, s-is) refl
+    job-rule rule s-is r-is = r-is ∙ rw (job-is rule, s-is) refl
 
     -- its stretch has a record or more, and lies within the table
     stretch-fits : (24 ≤ length (stretchOf t i)) × (24 * i + length (stretchOf t i) ≤ 50400)
-    stretch-fits = let k = entry-clean w t names i let-in in stretch-within t names i w (k .0) (k .1)
+    stretch-fits = let k = entry-sound w t names i let-in in
+        stretch-within t names i w (accepted-clean t names (k .0)) (k .1)
 
     pub job-long : {s : List ℕ} → s ≡ stretchOf t i → 24 ≤ length s
     job-long s-is = rw s-is (stretch-fits .0)
 
     pub job-within : {s : List ℕ} → s ≡ stretchOf t i → 24 * i + length s ≤ 50400
     job-within s-is = rw s-is (stretch-fits .1)
+
+    -- and its node fits 32 bits
+    pub job-small : i < 4294967296
+    job-small = omega (arith, stretch-fits)

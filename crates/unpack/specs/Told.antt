@@ -1,6 +1,7 @@
 -- What code answers for an outcome of unpack. These are definitions.
 use Prim.Native.Nat.{ℕ}
 use Rattle.forest.specs.Forest.{Node}
+use Rattle.table.specs.Answer.{spanAt}
 use Rattle.unpack.specs.Unpack.{Outcome, accepted, refused, internal}
 use Rattle.unpack.specs.declared.Fault.{Fault}
 use Rattle.unpack.specs.declared.Judged.{Judged}
@@ -8,7 +9,7 @@ use Rattle.unpack.specs.declared.Judged.the-variants.{Accepted, Refused}
 
 -- a refusal at a record: its number, its node and its span
 abbrev pub fault : ℕ → Node → Fault
-fault n r = record { number = n; node = r .at; begin = r .begin; end = r .stop }
+fault n r = record { number = n; node = r .at; span = spanAt r }
 
 -- 0 is no number of document 01: it would tell an internal error, and none arises
 abbrev pub internalError : ℕ

@@ -6,7 +6,7 @@ use mathlib.Core.List.{List, [], _∷_}
 use Prim.Native.Nat.{ℕ, _+_}
 use lib.Dec.{eqb}
 use Rattle.fields.specs.Choice.{if'}
-use Rattle.forest.specs.Forest.{Node, nodeOf, kidsOf, Tree, node, Forest, none, _then_, forest}
+use Rattle.forest.specs.Forest.{Node, Tree, node, Forest, none, _then_, treeOf}
 use Rattle.forest.specs.Names.{nameOf}
 use Rattle.soundness.specs.KindNumbers.{kindNormal, kindNoArgs, kindSlash, kindArgsParam}
 use Rattle.soundness.specs.Kinds.{parameter, classOf}
@@ -71,6 +71,10 @@ paramsIn names none = []
 paramsIn names (node r ks then ts) =
     if' (eqb (classOf (r .kind)) parameter) (λ _. paramOf names r ∷ paramsIn names ts) (λ _. [])
 
--- the written list of the node i, whose stretch this is: the parameters that come first among its children
+-- the written list of a node: the parameters that come first among its children
+abbrev pub writtenIn : List ℕ → Tree → List Param
+writtenIn names (node r ks) = paramsIn names ks
+
+-- that of the node i, whose stretch this is
 unfoldable pub written : List ℕ → ℕ → List ℕ → List Param
-written names i t = paramsIn names (forest (i + 1) (kidsOf t))
+written names i t = writtenIn names (treeOf i t)

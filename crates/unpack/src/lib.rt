@@ -8,6 +8,7 @@ mod rules;
 pub mod states;
 mod walk;
 
+use table::Span;
 ghost use mathlib.Core.Path.{_≡_};
 ghost use Prim.Native.Nat.{_+_, _/_};
 ghost use lib.ListN.{length};
@@ -77,8 +78,7 @@ pub enum Check {
 pub struct Fault {
     pub number: u32,
     pub node: usize,
-    pub begin: u32,
-    pub end: u32,
+    pub span: Span,
 }
 
 // What unpack answers.

@@ -57,8 +57,7 @@ fn fault(number: u32, node: usize, t: &[u8]) -> Fault
     Fault {
         number,
         node,
-        begin: forest::begin(t),
-        end: forest::stop(t),
+        span: table::span_of(t),
     }
 }
 

@@ -12,7 +12,8 @@ use Rattle.forest.proofs.Stretch.{count-forest}
 use Rattle.table.specs.Answer.{Answer, accepted, refused, andThen}
 use Rattle.table.specs.Check.{givenCheck}
 use Rattle.table.proofs.Handed.{passed}
-use Rattle.errors.specs.Errors.{Err, width, wordsOf, stored}
+use Rattle.errors.specs.declared.Err.{Err}
+use Rattle.errors.specs.Errors.{width, wordsOf, stored}
 use Rattle.errors.proofs.Storing.{allWords, stored-all, stored-none}
 use Rattle.validate.specs.declared.Listed.the-variants.{Total}
 use Rattle.validate.specs.Job.{listed, errorsIn, ifAccepted, errorsOf, moduleOf, errorsAfter}

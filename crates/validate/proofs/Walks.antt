@@ -17,7 +17,8 @@ use Rattle.table.specs.Numbers.{defNotPermitted, topLevelFor, topLevelIf, break
 use Rattle.table.specs.Numbers.{returnMisplaced, loadNotAtTop, loadNotPermitted, ellipsisNotPermitted}
 use Rattle.table.specs.Numbers.{lambdaNotPermitted}
 use Rattle.unpack.proofs.Theorems.{list-short}
-use Rattle.errors.specs.Errors.{Err, errAt, unless, width, Stores}
+use Rattle.errors.specs.declared.Err.{Err}
+use Rattle.errors.specs.Errors.{errAt, unless, width, Stores}
 use Rattle.errors.specs.Params.{withParams}
 use Rattle.validate.specs.Module.{defErrors, isBanned, isIf, loadErrors, arms, f, «visit_stmt», exprErrors}
 use Rattle.validate.specs.Module.{expr, «visit_expr»}

@@ -8,7 +8,8 @@ use Rattle.dialect.specs.declared.Decoded.the-variants.{Valid, Invalid}
 use Rattle.forest.specs.Forest.{forest}
 use Rattle.table.specs.Answer.{Answer, accepted, refused, andThen, refusal}
 use Rattle.table.specs.Check.{givenCheck}
-use Rattle.errors.specs.Errors.{Err, stored}
+use Rattle.errors.specs.declared.Err.{Err}
+use Rattle.errors.specs.Errors.{stored}
 use Rattle.validate.specs.Module.{«validate_module»}
 use Rattle.validate.specs.declared.Listed.{Listed}
 use Rattle.validate.specs.declared.Listed.the-variants.{Total, Refused}
