@@ -55,17 +55,12 @@ fn say_refusal(r: Refusal) {
     match r {
         Refusal::Bare(number) => say_number(number as u64),
         Refusal::Placed { number, node } => say_placed(number, node),
-        Refusal::Spanned {
-            number,
-            node,
-            begin,
-            end,
-        } => {
+        Refusal::Spanned { number, node, span } => {
             say_placed(number, node);
             say(b" ");
-            say_number(begin as u64);
+            say_number(span.begin as u64);
             say(b"-");
-            say_number(end as u64);
+            say_number(span.end as u64);
         }
     }
 }

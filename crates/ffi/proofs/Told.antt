@@ -6,7 +6,6 @@ use native.Mathlib.Omega.{arith}
 use lib.ListN.{set}
 use Rattle.table.specs.Answer.{Answer, accepted, refused, refusal}
 use Rattle.table.specs.declared.Refusal.{Refusal}
-use Rattle.table.specs.declared.Refusal.the-variants.{Bare, Placed, Spanned}
 use Rattle.parameters.specs.declared.Range.{Range}
 use Rattle.parameters.specs.Params.{paramsOf}
 use Rattle.parameters.proofs.Accepted.{AllBelow, accepted-small}
@@ -36,9 +35,7 @@ told-with put means u v a n xs ys (e, b) q p = let k = told put means u v a n xs
 -- LAW: a refusal has the same words in every job
 pub refused-put : (r : Refusal) {n : ℕ} (xs : List ℕ) {ys : List ℕ} → Put words (refusal r) n xs ys
     → Put callWords (refusal r) n xs ys
-refused-put (Bare n) xs p = p
-refused-put (Placed n k) xs p = p
-refused-put (Spanned n k b e) xs p = p
+refused-put r xs p = p
 
 -- LAW: a range whose ends fit words
 pub range-fit : (r s : Range) → r ≡ s → s .from ≤ 4294967295 → s .upto ≤ 4294967295 → Fit (r .from ∷ r .upto ∷ [])

@@ -35,15 +35,10 @@ fn put_refused(r: Refusal, out: &mut [u32; 12]) -> u32
             out[0] = node;
             number
         }
-        Refusal::Spanned {
-            number,
-            node,
-            begin,
-            end,
-        } => {
+        Refusal::Spanned { number, node, span } => {
             out[0] = node;
-            out[1] = begin;
-            out[2] = end;
+            out[1] = span.begin;
+            out[2] = span.end;
             number
         }
     }

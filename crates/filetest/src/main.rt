@@ -26,19 +26,6 @@ fn main() {
     libc::close(fd);
 }
 
-fn number(r: Refusal) -> u32 {
-    match r {
-        Refusal::Bare(number) => number,
-        Refusal::Placed { number, node } => number,
-        Refusal::Spanned {
-            number,
-            node,
-            begin,
-            end,
-        } => number,
-    }
-}
-
 fn say(text: &[u8]) {
     io::write_all(STDOUT_FILENO, text);
 }
