@@ -1,5 +1,5 @@
 // A file with each of its bytes changed to eight other values, and cut at every length.
-use crate::number;
+use table::number;
 use crate::say;
 use crate::say_number;
 use tablefile::Verdict;
