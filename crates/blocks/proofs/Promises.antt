@@ -3,6 +3,7 @@ use mathlib.Core.Path.{_≡_, refl}
 use mathlib.Core.List.{List}
 use Prim.Native.Nat.{ℕ}
 use native.Mathlib.Omega.{arith}
+use Rattle.fields.proofs.Basics.{never}
 use Rattle.fields.proofs.Coincide.{coincide, coincide-by}
 use Rattle.blocks.specs.declared.Judged.{Judged}
 use Rattle.blocks.specs.declared.Judged.the-variants.{Passed, Refused}
@@ -12,8 +13,8 @@ use Rattle.blocks.specs.Run.{blocksFor, judgeRun}
 -- no two judgements mean the same
 pub judged-injective : (r s : Judged) → judged r ≡ judged s → r ≡ s
 judged-injective Passed Passed e = refl
-judged-injective Passed (Refused n) e = let z : _≡_ {A = ℕ} 0 1 = cc in absurd (omega arith)
-judged-injective (Refused m) Passed e = let z : _≡_ {A = ℕ} 0 1 = cc in absurd (omega arith)
+judged-injective Passed (Refused n) e = never (cc)
+judged-injective (Refused m) Passed e = never (cc)
 judged-injective (Refused m) (Refused n) e = cc
 
 -- of `judge`, the bytes as lent

@@ -8,6 +8,7 @@ use native.Mathlib.Omega.{arith}
 use lib.ListN.{length, getD, take, drop, set, replicate, length-append, length-take, length-drop, take-append-drop}
 use lib.Seq.{take-all, length-take-le, take-at, drop-at, take-append-le, take-append-add, take-take, take-add}
 use lib.Seq.{getD-drop, drop-set-add}
+use Rattle.fields.proofs.Basics.{drop-take, le-or-lt}
 use Rattle.fields.proofs.Fields.{tail-part}
 use Rattle.table.specs.Numbers.{blockCheck}
 use Rattle.table.specs.Answer.{Answer, accepted, refused, andThen}
@@ -16,9 +17,9 @@ use Rattle.blocks.specs.declared.Judged.{Judged}
 use Rattle.blocks.specs.declared.Judged.the-variants.{Passed, Refused}
 use Rattle.blocks.specs.Block.{blockOf, judge, judged}
 use Rattle.blocks.specs.Run.{blocksFor, blocksOf, runOf, judgeBlocks, judgeRun, contents, contentOf}
-use Rattle.blocks.proofs.Blocks.{passing, passing-then, passes, drop-take, take-min, length-block}
+use Rattle.blocks.proofs.Blocks.{passing, passing-then, passes, take-min, length-block}
 use Rattle.blocks.proofs.Blocks.{content-there, block-passes, passed-is-block, changed-block, judge-outside}
-use Rattle.blocks.proofs.Spelling.{le-or-lt, Bytes, bytes-take, bytes-drop}
+use Rattle.blocks.proofs.Spelling.{Bytes, bytes-take, bytes-drop}
 
 -- a byte behind the first n
 pub drop-set : (n : ℕ) (l : List ℕ) (i v : ℕ) → n ≤ i → drop n (set l i v) ≡ set (drop n l) (i - n) v

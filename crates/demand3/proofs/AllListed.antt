@@ -8,6 +8,7 @@ use native.Mathlib.Omega.{arith}
 use lib.ListN.{length, take, drop, replicate}
 use lib.Dec.{eqb}
 use borrow.Author.Tests.{eq-eqb}
+use Rattle.fields.proofs.Basics.{never}
 use Rattle.fields.specs.Choice.{if'}
 use Rattle.forest.specs.Forest.{Node, sizeOf, nodeOf, kidsOf, node, Forest, none, _then_, forest}
 use Rattle.forest.proofs.Stretch.{node-take}
@@ -23,9 +24,6 @@ use Rattle.unpack.specs.Written.{Param, paramOf, paramsIn, written}
 use Rattle.parameters.specs.Params.{listOf}
 use Rattle.demand3.specs.Given.{parametersIn, allParameters, Given}
 use Rattle.demand3.proofs.OverTheJob as job
-
-never : {P : Type 0} → _≡_ {A = ℕ} 0 1 → P
-never z = absurd (omega arith)
 
 -- classes among which no parameter is
 abbrev NoParameter : List ℕ → Type 0

@@ -8,6 +8,7 @@ use native.Mathlib.Omega.{arith}
 use lib.ListN.{length, length-append}
 use lib.Dec.{eqb}
 use borrow.Author.Tests.{ne-eqb}
+use Rattle.fields.proofs.Basics.{clash, never}
 use Rattle.forest.specs.Forest.{Node}
 use Rattle.unpack.specs.Written.{Name, Param, normal, noArgs, slash, args, kwargs, nodeIn, kindIn}
 use Rattle.unpack.specs.Unpack.{writtenAt, flatAt, isSlash, slashFrom, firstSlash, positionalOnly, firstState}
@@ -31,9 +32,6 @@ use Rattle.demand3.proofs.Shapes.{rules-pos, slash-at, slash-from, none
 use Rattle.demand3.proofs.Names.{fresh-iff, defaults-iff}
 use Rattle.demand3.proofs.Counting.{plain, withTail, counts-either, counts-pos, starPlace, star-either}
 use Rattle.demand3.proofs.Counting.{star-pos, starVerdict, finish-tail, modes-either, modes-pos}
-
-never : {P : Type 0} {b : Bool} → b ≡ true → b ≡ false → P
-never e f = let z : _≡_ {A = ℕ} 0 1 = cc in absurd (omega arith)
 
 -- a list does not begin with `/`
 abbrev Heads : List Param → Type 0
@@ -157,7 +155,7 @@ unpack-cut c = go (c .before) (c .middle) (c .star) (c .last)
 -- a `/` that is not first stands later
 slash-later : (l : List Param) {w : Written} → Heads l → firstSlash l ≡ AtWritten w → 0 < w .0
 unfolding slashFrom
-slash-later [] h e = let z : _≡_ {A = ℕ} 0 1 = cc in absurd (omega arith)
+slash-later [] h e = never (cc)
 slash-later (p ∷ ps) h e = let rest : slashFrom (0 + 1) ps ≡ AtWritten _ = rw h at e in
     omega (arith, slash-from (0 + 1) ps rest)
 
@@ -181,7 +179,7 @@ loose-cut l {c} h = go (firstSlash l) refl
       where
         by-first : (qs : List Ordinary) → l ≡ ordinary qs ++ slash (m .1) ∷ (ordinary (m .2) ++ tail (m .3) (m .4))
             → Defaults false (qs ++ m .2) → Loose l
-        by-first [] e d = never refl (subst Heads e heads)
+        by-first [] e d = clash refl (subst Heads e heads)
         by-first (q ∷ qs) e d = (
           record { before = upToSlash (q ∷ qs) (m .1); middle = m .2; star = m .3; last = m .4 },
           slash-form (q ∷ qs) (m .1) _ ∙ sym e,

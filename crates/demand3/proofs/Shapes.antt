@@ -6,6 +6,7 @@ use mathlib.Core.List.{List, [], _∷_, _++_}
 use Prim.Native.Nat.{ℕ, zero, suc, _+_, _≤_}
 use native.Mathlib.Omega.{arith}
 use lib.ListN.{length}
+use Rattle.fields.proofs.Basics.{never}
 use Rattle.forest.specs.Forest.{Node}
 use Rattle.unpack.specs.Written.{Name, Param, normal, noArgs, slash, args, kwargs, kindIn}
 use Rattle.unpack.specs.Unpack.{writtenAt, defaultRule, isSlash, slashFrom}
@@ -139,7 +140,7 @@ slash-at i (q ∷ qs) x l = let e : i + suc (length (ordinary qs)) ≡ i + 1 + l
 -- it stands no earlier than the list is counted from
 pub slash-from : (i : ℕ) (l : List Param) {w : Written} → slashFrom i l ≡ AtWritten w → i ≤ w .0
 unfolding slashFrom
-slash-from i [] e = let z : _≡_ {A = ℕ} 0 1 = cc in absurd (omega arith)
+slash-from i [] e = never (cc)
 slash-from i (p ∷ ps) {w} e = go (isSlash (kindIn p)) e (λ h. slash-from (i + 1) ps h)
   where
     go : (b : Bool) → if' b (λ _. AtWritten (writtenAt i)) (λ _. slashFrom (i + 1) ps) ≡ AtWritten w

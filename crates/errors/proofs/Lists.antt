@@ -6,6 +6,7 @@ use Prim.Native.Nat.{ℕ, _+_, _-_, _*_, _/_, _≤_, min}
 use native.Mathlib.Omega.{arith}
 use lib.ListN.{length, take, drop, length-take, length-drop}
 use borrow.Rule.Slice.PartMut.{putMid}
+use Rattle.fields.proofs.Basics.{never}
 use Rattle.dialect.specs.declared.Dialect.{Dialect}
 use Rattle.forest.specs.Forest.{nodeOf, spanOf, kidsOf, forest}
 use Rattle.forest.proofs.Stretch.{length-kids}
@@ -82,12 +83,12 @@ every-short m t e {n = n} s =
 -- what unpack says of a list
 unpack-fine : (o : Outcome) {j : Judged} {c : Counts} → j ≡ told o → j ≡ Accepted c → unpackError o ≡ []
 unpack-fine (accepted c) p q = refl
-unpack-fine (refused n r) p q = let z : _≡_ {A = ℕ} 0 1 = cc in absurd (omega arith)
-unpack-fine (internal e r) p q = let z : _≡_ {A = ℕ} 0 1 = cc in absurd (omega arith)
+unpack-fine (refused n r) p q = never (cc)
+unpack-fine (internal e r) p q = never (cc)
 
 unpack-fault : (o : Outcome) {j : Judged} {a : Fault} → j ≡ told o → j ≡ Refused a
     → unpackError o ≡ err (a .number) (a .span) ∷ []
-unpack-fault (accepted c) p q = let z : _≡_ {A = ℕ} 0 1 = cc in absurd (omega arith)
+unpack-fault (accepted c) p q = never (cc)
 unpack-fault (refused n r) {j} {a} p q = let same : fault n r ≡ a = cc in rw (← same) refl
 unpack-fault (internal e r) {j} {a} p q = let same : fault 0 r ≡ a = cc in rw (← same) refl
 

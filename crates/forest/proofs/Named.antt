@@ -10,6 +10,7 @@ use lib.ListN.{length, getD, take, drop, length-take, length-drop, drop-of-lengt
 use lib.Seq.{take-nil, drop-cons}
 use lib.Dec.{eqb}
 use borrow.Author.Tests.{eq-eqb, ne-eqb, eqb-true}
+use Rattle.fields.proofs.Basics.{clash}
 use Rattle.forest.specs.Forest.{nodeOf, spanOf, node, Forest, none, _then_, forest}
 use Rattle.forest.specs.Names.{nameOf, same, firstNamed}
 use Rattle.forest.specs.declared.Found.{Found}
@@ -93,19 +94,16 @@ unfolding same
 same-bytes-refl [] = refl
 same-bytes-refl (x ∷ a) = rw (eq-eqb x x refl) (same-bytes-refl a)
 
-never : {P : Type 0} → false ≡ true → P
-never e = let z : _≡_ {A = ℕ} 0 1 = cc in absurd (omega arith)
-
 pub same-bytes-equal : (a b : List ℕ) → same a b ≡ true → a ≡ b
 unfolding same
 same-bytes-equal [] [] e = refl
-same-bytes-equal [] (y ∷ b) e = never e
-same-bytes-equal (x ∷ a) [] e = never e
+same-bytes-equal [] (y ∷ b) e = clash e refl
+same-bytes-equal (x ∷ a) [] e = clash e refl
 same-bytes-equal (x ∷ a) (y ∷ b) e = go (eqb x y) refl (same-bytes-equal a b) e
   where
     go : (t : Bool) → eqb x y ≡ t → (same a b ≡ true → a ≡ b) → (t && same a b) ≡ true → x ∷ a ≡ y ∷ b
     go true p rest q = let h : x ≡ y = eqb-true x y p in let l : a ≡ b = rest q in cc
-    go false p rest q = never q
+    go false p rest q = clash q refl
 
 -- the search among the nodes of t: what is left decides, and its first record has the index at
 pub record Seeking (ns name t : List ℕ) (at : ℕ) (left : List ℕ) : Type 0 where

@@ -7,6 +7,7 @@ use native.Mathlib.Omega.{arith}
 use lib.ListN.{length, drop}
 use lib.Dec.{leb}
 use borrow.Author.Tests.{le-leb, leb-true}
+use Rattle.table.proofs.Answers.{never-passed}
 use Rattle.fields.specs.Choice.{if'}
 use Rattle.forest.specs.Forest.{forest}
 use Rattle.forest.specs.declared.Found.{Found}
@@ -32,9 +33,6 @@ use Rattle.unpack.specs.Reached.{reached, AllAtMost}
 use Rattle.unpack.proofs.Theorems.{accepted-bounded, written-short}
 use Rattle.unpack.proofs.Counted.{counted-at-most, at-most-wider}
 use Rattle.parameters.specs.Params.{answerOf, roomCheck, listAnswer, listOf, paramsOf, modesAfter}
-
-never : {P : Type 0} {n : ℕ} {vs ws : List ℕ} → refused n vs ≡ accepted ws → P
-never e = let z : _≡_ {A = ℕ} 0 1 = cc in absurd (omega arith)
 
 -- an accepted answer: the table is sound, the node fits, the buffer is long enough, and unpack accepts the list with these values
 pub record Passed (t ns : List ℕ) (node room : ℕ) (vs : List ℕ) : Type 0 where
@@ -69,14 +67,14 @@ accepted-passed t ns node room {vs} e = by-entry (entryCheck Parameters t ns nod
         let same : valuesOf (countedOf c) ≡ vs = cc in
         let known = entry-sound Parameters t ns node s in
         record { sound = known .0; fits = known .1; enough = m; counts = c; outcome = u; values = sym same }
-    by-list s m (def.refused n r) u e = never e
-    by-list s m (def.internal i r) u e = never e
+    by-list s m (def.refused n r) u e = never-passed e
+    by-list s m (def.internal i r) u e = never-passed e
 
     by-room : entryCheck Parameters t ns node ≡ accepted [] → (b : Bool) → leb (length (listOf t ns node)) room ≡ b
         → andThen (if' b (λ _. accepted []) (λ _. refused shortBuffer []))
         (λ _. answerOf (def.unpack (listOf t ns node))) ≡ accepted vs → Passed t ns node room vs
     by-room s true m e = by-list s (leb-true (length (listOf t ns node)) room m) (def.unpack (listOf t ns node)) refl e
-    by-room s false m e = never e
+    by-room s false m e = never-passed e
 
     by-entry : (a : Answer) → entryCheck Parameters t ns node ≡ a
         → andThen a (λ _. andThen (roomCheck room (listOf t ns node)) (λ _. answerOf (def.unpack (listOf t ns node))))
@@ -84,7 +82,7 @@ accepted-passed t ns node room {vs} e = by-entry (entryCheck Parameters t ns nod
     by-entry (accepted ws) s e =
         let known = entry-sound Parameters t ns node s in
         by-room (sound-entry Parameters t ns node (known .0) (known .1)) (leb (length (listOf t ns node)) room) refl e
-    by-entry (refused n ws) s e = never e
+    by-entry (refused n ws) s e = never-passed e
 
 -- every number is at most m
 abbrev pub AllBelow : ℕ → List ℕ → Type 0

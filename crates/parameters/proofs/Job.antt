@@ -7,6 +7,7 @@ use native.Mathlib.Omega.{arith}
 use lib.ListN.{length, drop}
 use lib.Seq.{sets, sets-eq}
 use borrow.Author.Tests.{le-leb, lt-leb}
+use Rattle.fields.proofs.Basics.{never}
 use Rattle.forest.specs.Forest.{kidsOf, forest}
 use Rattle.table.specs.Numbers.{shortBuffer}
 use Rattle.table.specs.Answer.{Answer, accepted, refused, refusal, checked}
@@ -135,7 +136,7 @@ module _ (ns t ms : List ℕ) (node : ℕ) {kids : List ℕ} (kids-are : kids �
           where
             kept : (x : Judged) → isRefused x ≡ true
                 → ms ≡ afterwards (judgedAnswer x) (def.modes (written ns node t)) ms
-            kept (Accepted c) e = let z : _≡_ {A = ℕ} 0 1 = cc in absurd (omega arith)
+            kept (Accepted c) e = never (cc)
             kept (Refused f) e = refl
 
         pub into-accepted : b ≡ false → {s : State} → s ≡ firstOf j → {ms′ : List ℕ}
@@ -149,7 +150,7 @@ module _ (ns t ms : List ℕ) (node : ℕ) {kids : List ℕ} (kids-are : kids �
             written-over (Accepted c) e g q = ms-is ns (node + 1)
                 ∙ ap (sets ms 0) (same-modes (told-accepted (def.unpack (written ns node t)) (sym e)) q)
                 ∙ sym stored
-            written-over (Refused f) e g q = let z : _≡_ {A = ℕ} 0 1 = cc in absurd (omega arith)
+            written-over (Refused f) e g q = never (cc)
 
 -- 1 to 4, 6, then the list
 module _ (t ns : List ℕ) (node : ℕ) {e : Checked} (e-is : checked e ≡ entryCheck Parameters t ns node) where

@@ -3,6 +3,7 @@ use mathlib.Core.Path.{_≡_, refl, sym, ap, _∙_}
 use mathlib.Core.List.{List, [], _∷_}
 use Prim.Native.Nat.{ℕ}
 use native.Mathlib.Omega.{arith}
+use Rattle.fields.proofs.Basics.{never}
 use Rattle.table.specs.Answer.{Answer, accepted, refused, andThen, numberOf, carried, refusal}
 use Rattle.table.specs.Answer.{checked}
 use Rattle.table.specs.Check.{given}
@@ -13,9 +14,6 @@ use Rattle.table.specs.declared.Refusal.{Refusal}
 use Rattle.table.specs.declared.Refusal.the-variants.{Bare, Placed, Spanned}
 use Rattle.table.specs.declared.Checked.{Checked}
 use Rattle.table.specs.declared.Checked.the-variants.{Sound, Refused}
-
-never : {P : Type 0} → _≡_ {A = ℕ} 0 1 → P
-never z = absurd (omega arith)
 
 pub span-injective : (s u : Span) → s .begin ≡ u .begin → s .end ≡ u .end → s ≡ u
 span-injective s u b e = λ i. record { begin = b i; end = e i }
@@ -43,6 +41,9 @@ pub refused-there : (n k : ℕ) {s u : Span} {x : Answer} → x ≡ refused n (k
 refused-there n k x-is s-is = x-is ∙ ap (λ (u : Span). refused n (k ∷ u .begin ∷ u .end ∷ [])) s-is
 
 -- a refusal is no acceptance
+pub never-passed : {P : Type 0} {n : ℕ} {vs ws : List ℕ} → refused n vs ≡ accepted ws → P
+never-passed e = never (cc)
+
 pub never-accepted : {P : Type 0} (r : Refusal) {vs : List ℕ} → refusal r ≡ accepted vs → P
 never-accepted r e = never (cc)
 
@@ -82,14 +83,14 @@ module _ (x : Answer) (vs : List ℕ) where
     where
       go : (y : Answer) → accepted ws ≡ andThen y (λ _. accepted vs) → andThen y next ≡ next tt
       go (accepted us) e = refl
-      go (refused n us) e = let z : _≡_ {A = ℕ} 0 1 = cc in absurd (omega arith)
+      go (refused n us) e = never (cc)
 
   pub same-values : {ws : List ℕ} → accepted ws ≡ andThen x (λ _. accepted vs) → ws ≡ vs
   same-values {ws} e = go x e
     where
       go : (y : Answer) → accepted ws ≡ andThen y (λ _. accepted vs) → ws ≡ vs
       go (accepted us) e = cc
-      go (refused n us) e = let z : _≡_ {A = ℕ} 0 1 = cc in absurd (omega arith)
+      go (refused n us) e = never (cc)
 
 -- LAW: what follows two steps follows the second
 pub after-both : (x : Answer) (y z : Unit {0} → Answer)

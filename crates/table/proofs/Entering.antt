@@ -5,6 +5,7 @@ use mathlib.Core.List.{List, []}
 use Prim.Native.Nat.{ℕ, _+_, _*_, _<_, _≤_}
 use native.Mathlib.Omega.{arith}
 use lib.ListN.{length}
+use Rattle.fields.proofs.Basics.{never}
 use Rattle.fields.specs.Choice.{if'}
 use Rattle.dialect.specs.Bytes.{fromBytes}
 use Rattle.dialect.specs.declared.Dialect.{Dialect}
@@ -21,9 +22,6 @@ use Rattle.table.specs.declared.Checked.the-variants.{Sound, Refused}
 use Rattle.table.specs.declared.Wanted.{Wanted}
 use Rattle.table.proofs.Checking.{accepted-clean, check-values}
 use Rattle.table.proofs.Handed.{stretch-within}
-
-never : {P : Type 0} → _≡_ {A = ℕ} 0 1 → P
-never z = absurd (omega arith)
 
 -- each return of `enter` and `enter_dialect`
 module _ (t names : List ℕ) {f : Checked} (f-is : checked f ≡ checkOf t names) where

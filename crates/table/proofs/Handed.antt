@@ -6,7 +6,7 @@ use Prim.Native.Nat.{ℕ, _+_, _*_, _/_, _<_, _≤_}
 use native.Mathlib.Omega.{arith}
 use lib.ListN.{length, length-take, length-drop}
 use borrow.Author.Tests.{ltb-true}
-use Rattle.soundness.proofs.Records.{and-left}
+use Rattle.fields.proofs.Basics.{and-left}
 use Rattle.table.specs.Answer.{accepted, checked}
 use Rattle.table.specs.Check.{checkOf, nodeFits, stretchOf}
 use Rattle.table.specs.declared.Checked.{Checked}

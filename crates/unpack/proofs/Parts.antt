@@ -7,6 +7,7 @@ use native.Mathlib.Omega.{arith}
 use lib.ListN.{length, take, drop, length-take, length-drop}
 use lib.Dec.{eqb, leb}
 use borrow.Author.Tests.{eq-eqb, ne-eqb}
+use Rattle.fields.proofs.Basics.{clash}
 use Rattle.forest.specs.Forest.{nodeOf, spanOf, kidsOf}
 use Rattle.forest.specs.Names.{nameOf, same}
 use Rattle.soundness.specs.KindNumbers.{kindNormal, kindNoArgs, kindSlash, kindArgsParam}
@@ -62,10 +63,6 @@ pub listed-is : (t : List ℕ) {k : ℕ} → k ≡ classOf (nodeOf 0 t .kind) �
 unfolding isListed
 listed-is t k-is = rw k-is refl
 
--- what is impossible
-pub never : {P : Type 0} {b : Bool} → b ≡ true → b ≡ false → P
-never e f = let z : _≡_ {A = ℕ} 0 1 = cc in absurd (omega arith)
-
 -- the name of the parameter that a stretch begins with
 module _ (ns x t : List ℕ) {k : Kind} (k-is : k ≡ kindHere t) {b : Bool} (b-is : b ≡ isNamed k) where
   pub name-none : b ≡ false → (i : ℕ) → false ≡ hasName x (paramOf ns (nodeOf i t))
@@ -73,11 +70,11 @@ module _ (ns x t : List ℕ) {k : Kind} (k-is : k ≡ kindHere t) {b : Bool} (b-
   name-none h i = rw (← k-is) (go k (sym b-is ∙ h))
     where
       go : (k : Kind) → isNamed k ≡ false → false ≡ hasName x (param k (nodeOf i t) (nameOf ns (nodeOf i t)))
-      go (Normal d) e = never refl e
+      go (Normal d) e = clash refl e
       go NoArgs e = refl
       go Slash e = refl
-      go Args e = never refl e
-      go KwArgs e = never refl e
+      go Args e = clash refl e
+      go KwArgs e = clash refl e
 
   pub name-tested : b ≡ true → {n : List ℕ} {r : Bool} → n ≡ nameOf ns (nodeOf 0 t) → r ≡ same n x → (i : ℕ)
       → r ≡ hasName x (paramOf ns (nodeOf i t))
@@ -87,7 +84,7 @@ module _ (ns x t : List ℕ) {k : Kind} (k-is : k ≡ kindHere t) {b : Bool} (b-
       go : (k : Kind) → isNamed k ≡ true → same (nameOf ns (nodeOf i t)) x
           ≡ hasName x (param k (nodeOf i t) (nameOf ns (nodeOf i t)))
       go (Normal d) e = refl
-      go NoArgs e = never e refl
-      go Slash e = never e refl
+      go NoArgs e = clash e refl
+      go Slash e = clash e refl
       go Args e = refl
       go KwArgs e = refl

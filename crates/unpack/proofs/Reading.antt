@@ -9,6 +9,7 @@ use lib.ListN.{length, take, drop, length-take, length-drop}
 use lib.Seq.{drop-drop}
 use lib.Dec.{eqb, leb}
 use borrow.Author.Tests.{le-leb, lt-leb, leb-true}
+use Rattle.fields.proofs.Basics.{and-left, and-right, clash, never}
 use Rattle.fields.proofs.Fields.{tail-part}
 use Rattle.forest.specs.Forest.{Node, sizeOf, nodeOf, spanOf, restOf, forest}
 use Rattle.forest.specs.Names.{nameOf}
@@ -16,7 +17,6 @@ use Rattle.forest.specs.declared.Found.{Found}
 use Rattle.forest.specs.declared.Found.the-variants.{At, Nothing}
 use Rattle.forest.proofs.Stretch.{node-take, forest-none, forest-tree, rest-part, record-or-none}
 use Rattle.soundness.specs.Kinds.{parameter, classOf}
-use Rattle.soundness.proofs.Records.{and-left, and-right}
 use Rattle.unpack.specs.Written.{Name, Param, nodeIn, kindIn, param, paramOf, paramsIn, kindAt}
 use Rattle.unpack.specs.Unpack.{hasName, firstSame, isSlash, slashFrom, firstSlash, writtenAt}
 use Rattle.unpack.specs.Reading.{isListed, kindHere}
@@ -24,7 +24,6 @@ use Rattle.unpack.specs.declared.Kind.{Kind}
 use Rattle.unpack.specs.declared.Kind.the-variants.{Normal, NoArgs, Slash, Args, KwArgs}
 use Rattle.unpack.specs.declared.WrittenPlace.{WrittenPlace}
 use Rattle.unpack.specs.declared.WrittenPlace.the-variants.{AtWritten, NoWritten}
-use Rattle.unpack.proofs.Parts.{never}
 
 -- the record and the kind of the parameter that a record is
 pub node-in : (ns : List ℕ) (r : Node) → nodeIn (paramOf ns r) ≡ r
@@ -82,8 +81,8 @@ pub record Next {A : Type 0} (w : List A) (n : ℕ) (p : A) (ps : List A) : Type
   pub front : take (n + 1) w ≡ take n w ++ p ∷ []
 
 pub next : {A : Type 0} (n : ℕ) (w : List A) {p : A} {ps : List A} → drop n w ≡ p ∷ ps → Next w n p ps
-next zero [] e = let z : _≡_ {A = ℕ} 0 1 = cc in absurd (omega arith)
-next (suc n) [] e = let z : _≡_ {A = ℕ} 0 1 = cc in absurd (omega arith)
+next zero [] e = never (cc)
+next (suc n) [] e = never (cc)
 next zero (x ∷ w) {p} {ps} e = let h : x ≡ p = cc in let t : w ≡ ps = cc in
     record { within = omega arith; rest = t; front = rw h refl }
 next {A} (suc n) (x ∷ w) e =

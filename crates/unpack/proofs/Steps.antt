@@ -6,6 +6,7 @@ use Prim.Native.Nat.{ℕ, zero, suc, _+_, _<_, _≤_}
 use native.Mathlib.Omega.{arith}
 use lib.ListN.{length}
 use lib.Dec.{eqb}
+use Rattle.fields.proofs.Basics.{never}
 use Rattle.fields.specs.Choice.{if'}
 use Rattle.forest.specs.declared.Found.{Found}
 use Rattle.forest.specs.declared.Found.the-variants.{At, Nothing}
@@ -31,7 +32,7 @@ use Rattle.unpack.specs.declared.Counts.{Counts}
 use Rattle.unpack.specs.declared.Unpacking.{Unpacking}
 
 pub broken≢fine : {P : Type 0} {n : ℕ} → Broken n ≡ Fine → P
-broken≢fine e = let z : _≡_ {A = ℕ} 0 1 = cc in absurd (omega arith)
+broken≢fine e = never (cc)
 
 -- what cannot be there yet in a state
 abbrev pub Clear : State → WrittenPlace → Counts → Type 0

@@ -7,6 +7,7 @@ use Prim.Native.Nat.{ℕ, zero, suc, _+_, _-_, _*_, _/_, _<_, _≤_, min, max}
 use native.Mathlib.Omega.{arith}
 use lib.ListN.{length, drop, length-append}
 use borrow.Author.Tests.{lt-leb}
+use Rattle.fields.proofs.Basics.{never}
 use Rattle.fields.specs.Choice.{if'}
 use Rattle.forest.specs.Forest.{Node, spanOf, kidsOf, restOf, forest}
 use Rattle.forest.proofs.Stretch.{forest-induction, length-kids, length-rest, rest-part}
@@ -33,13 +34,13 @@ use Rattle.unpack.proofs.Reading.{list-end, list-on, listed-long}
 use Rattle.unpack.proofs.Steps.{Cleared, run-stop, run-on, clear-on, clear-start, bounded-on}
 
 accepted≢internal : {P : Type 0} {c : Counts} {e : Internal} {r : Node} → accepted c ≡ internal e r → P
-accepted≢internal h = let z : _≡_ {A = ℕ} 0 1 = cc in absurd (omega arith)
+accepted≢internal h = never (cc)
 
 refused≢internal : {P : Type 0} {n : ℕ} {s : Node} {e : Internal} {r : Node} → refused n s ≡ internal e r → P
-refused≢internal h = let z : _≡_ {A = ℕ} 0 1 = cc in absurd (omega arith)
+refused≢internal h = never (cc)
 
 pub refused≢accepted : {P : Type 0} {n : ℕ} {r : Node} {c : Counts} → refused n r ≡ accepted c → P
-refused≢accepted h = let z : _≡_ {A = ℕ} 0 1 = cc in absurd (omega arith)
+refused≢accepted h = never (cc)
 
 -- what the last rule can give: what it was told, or a refusal
 after-star : {P : Type 0} (l : List Param) (o : Outcome) {x : Outcome} → fromStar l o ≡ x → (o ≡ x → P)
@@ -178,8 +179,8 @@ written-short ns i t = omega (arith, list-short ns (i + 1) (kidsOf t), length-ki
 -- what was told to be accepted is
 pub told-accepted : (o : Outcome) {c : Counts} → told o ≡ Accepted c → o ≡ accepted c
 told-accepted (accepted c) e = cc
-told-accepted (refused n r) e = let z : _≡_ {A = ℕ} 0 1 = cc in absurd (omega arith)
-told-accepted (internal i r) e = let z : _≡_ {A = ℕ} 0 1 = cc in absurd (omega arith)
+told-accepted (refused n r) e = never (cc)
+told-accepted (internal i r) e = never (cc)
 
 -- num_positional_only does not change on the way
 only-kept : (s : State) (c : Counts) (k : Kind) → count s c k .«num_positional_only» ≡ c .«num_positional_only»

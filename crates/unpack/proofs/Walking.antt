@@ -6,6 +6,7 @@ use Prim.Native.Nat.{ℕ, zero, suc, _+_, _-_, _*_, _/_, _<_, _≤_, min, max}
 use native.Mathlib.Omega.{arith}
 use lib.ListN.{length, take, drop, length-take, length-drop, length-append, take-append-drop}
 use lib.Seq.{length-take-le}
+use Rattle.fields.proofs.Basics.{and-left, and-right, clash}
 use Rattle.fields.proofs.Fields.{tail-part}
 use Rattle.forest.specs.Forest.{Node, nodeOf, spanOf, kidsOf, forest}
 use Rattle.forest.proofs.Stretch.{length-kids}
@@ -13,7 +14,6 @@ use Rattle.forest.specs.Names.{nameOf}
 use Rattle.forest.specs.declared.Found.{Found}
 use Rattle.forest.specs.declared.Found.the-variants.{At, Nothing}
 use Rattle.table.specs.Numbers.{slashFirst, duplicatedParameter, starLast, noNormalAfterStar}
-use Rattle.soundness.proofs.Records.{and-left, and-right}
 use Rattle.unpack.specs.Written.{Name, Param, normal, noArgs, slash, args, kwargs, nodeIn, kindIn, param}
 use Rattle.unpack.specs.Written.{paramOf, paramsIn, written, kindAt}
 use Rattle.unpack.specs.Unpack.{writtenAt, flatAt, firstSame, repeats, rule, firstly, check, advance}
@@ -36,7 +36,6 @@ use Rattle.unpack.specs.declared.Unpacking.{Unpacking}
 use Rattle.unpack.specs.declared.Fault.{Fault}
 use Rattle.unpack.specs.declared.Judged.{Judged}
 use Rattle.unpack.specs.declared.Judged.the-variants.{Accepted, Refused}
-use Rattle.unpack.proofs.Parts.{never}
 use Rattle.unpack.proofs.Reading.{node-in, kind-in, listed-long, list-end, list-on, Reading, read-start}
 use Rattle.unpack.proofs.Reading.{read-here, read-on, read-end}
 use Rattle.unpack.proofs.Steps.{Cleared, run-stop, run-on, clear-on, clear-start, bounded-on}
@@ -50,11 +49,11 @@ module _ (ns : List ℕ) (before : List Param) (left : List ℕ) {k : Kind} (k-i
     where
       go : (k : Kind) → isNamed k ≡ false
           → Nothing ≡ repeats before (param k (nodeOf i left) (nameOf ns (nodeOf i left)))
-      go (Normal d) e = never refl e
+      go (Normal d) e = clash refl e
       go NoArgs e = refl
       go Slash e = refl
-      go Args e = never refl e
-      go KwArgs e = never refl e
+      go Args e = clash refl e
+      go KwArgs e = clash refl e
 
   pub repeats-named : b ≡ true → {x : Name} {r : Found} → x ≡ nameOf ns (nodeOf 0 left) → r ≡ firstSame x before
       → (i : ℕ) → r ≡ repeats before (paramOf ns (nodeOf i left))
@@ -64,8 +63,8 @@ module _ (ns : List ℕ) (before : List Param) (left : List ℕ) {k : Kind} (k-i
       go : (k : Kind) → isNamed k ≡ true → firstSame (nameOf ns (nodeOf i left)) before
           ≡ repeats before (param k (nodeOf i left) (nameOf ns (nodeOf i left)))
       go (Normal d) e = refl
-      go NoArgs e = never e refl
-      go Slash e = never e refl
+      go NoArgs e = clash e refl
+      go Slash e = clash e refl
       go Args e = refl
       go KwArgs e = refl
 
@@ -85,14 +84,14 @@ module _ (ns : List ℕ) (before : List Param) (left : List ℕ) (s : State) (o 
 -- 17 and 18
 normal-next : (p : Param) (o : Outcome) → isNormal (kindIn p) ≡ true → normalNext p o ≡ o
 normal-next (normal r n d) o e = refl
-normal-next (noArgs r) o e = never e refl
-normal-next (slash r) o e = never e refl
-normal-next (args r n) o e = never e refl
-normal-next (kwargs r n) o e = never e refl
+normal-next (noArgs r) o e = clash e refl
+normal-next (slash r) o e = clash e refl
+normal-next (args r n) o e = clash e refl
+normal-next (kwargs r n) o e = clash e refl
 
 other-next : (p : Param) (o : Outcome) → isNormal (kindIn p) ≡ false
     → normalNext p o ≡ refused noNormalAfterStar (nodeIn p)
-other-next (normal r n d) o e = never refl e
+other-next (normal r n d) o e = clash refl e
 other-next (noArgs r) o e = refl
 other-next (slash r) o e = refl
 other-next (args r n) o e = refl
