@@ -1,44 +1,98 @@
 #!/usr/bin/env python3
-"""Holds the three lists of the numbers given back to each other: docs/numbers.tsv, the code's constants and the definitions.
+"""Holds lists of numbers to each other: the numbers given back, who gives them, and the kinds of records.
 
 numbers.py          says whether they agree, number by number and name by name (exit status 1 if not)
+
+- docs/numbers.tsv, the constants of crates/table/src/numbers.rt and the definitions of its specs/Numbers.antt
+- the column "given by" of docs/numbers.tsv and what include/starlark.h says of each job; a file gives what reader and module pass do
+- the constants of crates/soundness/src/kinds.rt, the definitions of its specs/KindNumbers.antt, and the words of tools/tables.py
 """
 import re
 import sys
 
+from repository import CRATES, ROOT
+from tables import NUMBER as WORDS
+
 # document 01, "Numbers given back" and "The file and the program"
 GIVEN = [*range(1, 8), *range(10, 19), *range(20, 25), *range(30, 34), *range(40, 46), *range(50, 62), *range(70, 76)]
+HEAD = ["number", "name", "meaning", "given by"]
+JOBS = ["table", "params", "call", "target", "assignment", "type", "module", "file"]
+
+
+def capitals(name):
+    """IF_ELSE as IfElse."""
+    return "".join(word.capitalize() for word in name.split("_"))
 
 
 def camel(name):
-    """SLASH_FIRST as the definitions write it: slashFirst."""
-    first, *rest = name.lower().split("_")
-    return first + "".join(word.capitalize() for word in rest)
+    """SLASH_FIRST as slashFirst."""
+    return name[0].lower() + capitals(name)[1:]
 
 
 def said_of(path, pattern):
     """The (number, name) pairs of a source file, in its order."""
-    text = open(path, encoding="utf-8").read()
-    return [(int(number), name) for name, number in re.findall(pattern, text, re.M)]
+    return [(int(number), name) for name, number in re.findall(pattern, (CRATES / path).read_text(), re.M)]
+
+
+def differing(path, wanted, found):
+    """A fault where a file's list is not the wanted one."""
+    return [f"{path} differs: {sorted(set(wanted) ^ set(found)) or 'in its order'}"] if wanted != found else []
+
+
+def ranges(text):
+    """The numbers of '1 to 4, 6'."""
+    return [n for first, last in re.findall(r"(\d+)(?: to (\d+))?", text) for n in range(int(first), int(last or first) + 1)]
+
+
+def given_by_jobs():
+    """The numbers that each job gives: by the header, and for the file those of document 01."""
+    given = {}
+    for words, job in re.findall(r"/\*(.*?)\*/\nuint32_t starlark_(\w+)\(", (ROOT / "include" / "starlark.h").read_text(), re.S):
+        words = words.rpartition("/*")[2]
+        listed = re.findall(r": ([\d, to]+)\.\s+(?:\* )?Accepted", words) + re.findall(r"number \(([\d, to]+)\)", words)
+        given[job] = set(ranges(", ".join(listed)))
+    # the reader refuses with 74 what 1 and 2 would refuse
+    given["file"] = given["module"] - {1, 2} | set(range(70, 76))
+    return given
+
+
+def of_numbers():
+    """The faults of the numbers given back."""
+    head, *rows = [line.split("\t") for line in (ROOT / "docs" / "numbers.tsv").read_text().splitlines()]
+    if head != HEAD or any(len(row) != len(HEAD) or not row[2].strip() for row in rows):
+        return [f"docs/numbers.tsv: a row is not {', '.join(HEAD)}"], 0
+    table = [(int(number), name) for number, name, _, _ in rows]
+    faults = []
+    if [number for number, _ in table] != GIVEN:
+        faults.append("docs/numbers.tsv: its numbers are not those of document 01 in their order")
+    faults += differing("crates/table/src/numbers.rt", table, said_of("table/src/numbers.rt", r"^pub const (\w+): u32 = (\d+);"))
+    definitions = [(number, camel(name)) for number, name in table]
+    faults += differing("crates/table/specs/Numbers.antt", definitions, said_of("table/specs/Numbers.antt", r"^(\w+) = (\d+)$"))
+    given = given_by_jobs()
+    if sorted(given) != sorted(JOBS):
+        return [*faults, f"include/starlark.h: its jobs are not those of docs/numbers.tsv: {sorted(given)}"], 0
+    for number, _, _, by in rows:
+        wanted = ", ".join(job for job in JOBS if int(number) in given[job])
+        if by != wanted:
+            faults.append(f"docs/numbers.tsv: {number} is given by '{by}', by the header and document 01 '{wanted}'")
+    return faults, len(table)
+
+
+def of_kinds():
+    """The faults of the kinds' numbers."""
+    code = said_of("soundness/src/kinds.rt", r"^pub const (\w+): u8 = (\d+);")
+    specs = said_of("soundness/specs/KindNumbers.antt", r"^kind(\w+) = (\d+)$")
+    words = [(number, word) for word, number in WORDS.items()]
+    faults = differing("crates/soundness/specs/KindNumbers.antt", words, specs)
+    return faults + differing("crates/soundness/src/kinds.rt", words, [(number, capitals(name)) for number, name in code]), len(words)
 
 
 def main():
-    head, *rows = [line.split("\t") for line in open("docs/numbers.tsv", encoding="utf-8").read().splitlines()]
-    table = [(int(row[0]), row[1]) for row in rows]
-    code = said_of("crates/table/src/numbers.rt", r"^pub const (\w+): u32 = (\d+);")
-    specs = said_of("crates/table/specs/Numbers.antt", r"^(\w+) = (\d+)$")
-    faults = []
-    if head != ["number", "name", "meaning"] or any(len(row) != 3 or not row[2].strip() for row in rows):
-        faults.append("docs/numbers.tsv: a row is not number, name and meaning")
-    if [number for number, _ in table] != GIVEN:
-        faults.append("docs/numbers.tsv: its numbers are not those of document 01 in their order")
-    if table != code:
-        faults.append(f"crates/table/src/numbers.rt differs: {sorted(set(table) ^ set(code)) or 'in its order'}")
-    if [(number, camel(name)) for number, name in table] != specs:
-        told = {(number, camel(name)) for number, name in table} ^ set(specs)
-        faults.append(f"crates/table/specs/Numbers.antt differs: {sorted(told) or 'in its order'}")
-    print("\n".join(faults) or f"docs/numbers.tsv: its {len(table)} numbers and names are those of the code and the definitions")
-    sys.exit(1 if faults else 0)
+    (faults, count), (more, kinds) = of_numbers(), of_kinds()
+    told = f"docs/numbers.tsv: its {count} numbers, names and jobs, and the {kinds} kinds, are those of code, definitions and header"
+    print("\n".join(faults + more) or told)
+    return 1 if faults + more else 0
 
 
-main()
+if __name__ == "__main__":
+    sys.exit(main())

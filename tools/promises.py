@@ -70,7 +70,8 @@ class Crate:
                 if callee.path not in reached and not callee.public:
                     reached[callee.path] = callee
                     waiting.append(callee)
-        bodies = " ".join(f.source.code[slice(*f.body)] for f in reached.values())
+        # a constant counts where a body names it, or a type in a parameter
+        bodies = " ".join(f.source.code[slice(*f.body)] + " ".join(kind for _, kind in f.parameters) for f in reached.values())
         own = self.own_edits(function)
         return [label for label, (edit, touched) in self.edits.items() if label not in own and any(
             place in reached or place and place.startswith("const ") and re.search(rf"\b{place[6:]}\b", bodies) for place in touched)]

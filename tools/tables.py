@@ -1,8 +1,8 @@
 #!/usr/bin/env python3
 """Node tables and table files from words.
 
-tables.py cases TEXT OUT            write the requests of crates/cases from its cases in words
-tables.py filecases TEXT OUT        write the table files of crates/filetest from its cases in words
+tables.py cases TEXT... OUT         write the requests of crates/cases from its cases in words
+tables.py filecases TEXT... OUT     write the table files of crates/filetest from its cases in words
 tables.py file TEXT OUT             write the table file of a tree in words
 tables.py files TEXT...             the same for several: from X.txt to X.table
 Each with --check behind it: only say whether the file is what its text gives (exit status 1 if not).
@@ -258,23 +258,29 @@ def pack(job, label, table, names, dialect, wanted, room, node):
 def main():
     what, *files = [word for word in sys.argv[1:] if word != "--check"] or [""]
     make = {"cases": lines_of(request), "filecases": lines_of(file_case)}.get(what, table_file)
-    pairs = [(text, os.path.splitext(text)[0] + ".table") for text in files] if what == "files" else [tuple(files)]
-    if what not in ("cases", "filecases", "file", "files") or any(len(pair) != 2 for pair in pairs):
+    most = {"cases": len(files), "filecases": len(files), "file": 2}.get(what, 0)
+    if what == "files":
+        pairs = [([text], os.path.splitext(text)[0] + ".table") for text in files]
+    elif 2 <= len(files) <= most:
+        pairs = [(files[:-1], files[-1])]
+    else:
         sys.exit(__doc__)
     right = True
-    for text, out in pairs:
+    for texts, out in pairs:
         try:
-            made = make(text)
+            made = b"".join(make(text) for text in texts)
         except (ValueError, OSError, struct.error) as error:
-            sys.exit(f"{text}: {error}")
+            sys.exit(f"{' '.join(texts)}: {error}")
         if "--check" not in sys.argv:
             open(out, "wb").write(made)
         elif not os.path.exists(out) or open(out, "rb").read() != made:
-            print(f"{out}: is NOT what {text} gives")
+            print(f"{out}: is NOT what comes of {' and '.join(texts)}")
             right = False
     if "--check" in sys.argv and right:
-        print(f"{', '.join(out for _, out in pairs)}: what {'their texts give' if 1 < len(pairs) else pairs[0][0] + ' gives'}")
-    sys.exit(0 if right else 1)
+        of = "their texts" if 1 < len(pairs) else " and ".join(pairs[0][0])
+        print(f"{', '.join(out for _, out in pairs)}: what comes of {of}")
+    return 0 if right else 1
 
 
-main()
+if __name__ == "__main__":
+    sys.exit(main())

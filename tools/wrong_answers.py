@@ -1,19 +1,24 @@
 #!/usr/bin/env python3
-"""Tries wrong answers: each edit of crates/NAME/wrong makes one function wrong in one point, and the prover must refuse that function.
+"""Tries wrong answers: each edit of crates/NAME/wrong makes one function wrong in one point, and the prover must refuse it at a stated fact.
 
-The format is that of rt's own must-fail edits, which rt ci tries by a whole check of the crate each. Here a trial takes seconds:
-- The modules that an edit leaves as they are come from the crate's proved library (target/rlib).
-- Edits of different functions share a check, since the proof of a function rests on the promises of those that it calls and not on their code.
-  An edit counts as refused only where the prover does not prove the edited function itself. Where it says that the function calls one that is
-  not proved, which may be another edit's work, the edit is tried again without the edits that are settled, in the end alone. An edit that stands outside
-  of functions, as in a constant, is tried alone, and a function that names it must be refused.
-- So that a refusal can only be an edit's, every other function of the crate must be proved, or be refused for a function that it calls.
+A trial takes seconds, where rt's own, of the edits of must-fail, takes a whole check of the crate:
+- The modules that an edit leaves as they are come from the crate's proved library (target/rlib), in the kit's folder of checked modules.
+- Edits of different functions share a check, since a function's proof rests on the promises of those that it calls and not on their code.
+  Where the prover says that an edited function calls one that is not proved, which may be another edit's work, the edit is tried again
+  without the edits that are settled, in the end alone. Every other function must be proved, or be refused for a function that it calls.
+
+A refusal counts only for the right reason. An edit is bad, and the run fails, where
+- it touches anything but the body of a function or a constant; for a constant 'function: ' names the function that must be refused;
+- the function's code stays the same but for the order of operands that may be exchanged, or does other steps than before: other calls, sums,
+  casts, parts, branches. Then its proof would not fit, whatever the answer is. Both are seen in the kit's intermediate code (MIR);
+- the prover does not say which fact it cannot prove (FACTS), but that the proof does not fit, or nothing.
+The edits of must-fail are judged in the same way, and not counted, since rt counts them.
 
 wrong_answers.py [NAME[/EDIT]...]    after rt check or rt ci. The last line is 'N wrong answers refused, M not'; status 0 where M is 0.
+wrong_answers.py --try FOLDER        every edit of FOLDER shows nothing ('crate: ' names its crate): each must be called bad, or not refused.
 """
 import os
 import pathlib
-import platform
 import re
 import shutil
 import subprocess
@@ -21,105 +26,150 @@ import sys
 import time
 from concurrent.futures import ThreadPoolExecutor
 
-ROOT = pathlib.Path(__file__).resolve().parent.parent
+import mir
+import repository
+from repository import CRATES, HEAD, ROOT, BadEdit, Edit, function_at
+
 TARGET = ROOT / "target"
 WORK = TARGET / "wrong"
-GUIDE = subprocess.run(["rt", "doc"], capture_output=True, text=True, check=True).stdout.strip()
-KIT = pathlib.Path(GUIDE).parent.parent
-OWN = KIT / "on" / platform.machine()
+KIT = repository.Kit()
+
+# how the prover says that a fact does not follow, and the word for it in the report; what else it says is no reason
+FACTS = {
+    r"`search`: no proof of": "search",
+    r"`search` does not close": "search",
+    r"`omega`: the goal does not follow": "omega",
+    r"list the missing equation with its arguments": "cc",
+    r"(?:as printed|computed as far as they go), the two (?:types|sides) (?:first differ where|differ only where|are `)|expected type `": "law",
+    r"`rw`: no occurrence": "rw",
+    r"`simp`: ": "simp",
+}
+
+# how a goal begins that is the function's promise
+PROMISE = re.compile(
+    r"(?:no proof of|expected type) `(?:\S*\.Post |Path \(denote\.Triple\.Entry\.Res )"
+    r"|had joined `borrow\.Fn\.Function\.resV|does not close `returns"
+)
 
 
-class BadEdit(Exception):
-    pass
+def compiler(name):
+    """The libraries that a crate stands on, as words for the kit's tools."""
+    words = []
+    for crate in ["std", *repository.crates()[name]]:
+        home = TARGET if (CRATES / crate).is_dir() else KIT.own
+        words += ["--extern", f"{crate}={home / 'rlib' / crate}.rlib"]
+    return [*words, "-L", f"dependency={TARGET / 'rlib'}", "-L", f"dependency={KIT.own / 'rlib'}"]
 
 
-class Edit:
-    """An edit: its replacements (file, old text, new text), and the functions that they stand in."""
+def code_of(name, folder):
+    """The functions of a crate in a folder, by their names."""
+    empty = folder / "empty.main"
+    empty.mkdir(exist_ok=True)
+    (empty / "main.rt").write_text("fn main() {}\n")
+    words = [str(KIT.own / "bin" / "rattle-print-mir"), str(empty / "main.rt"), "--crate-name", "rt_empty"]
+    words += ["--lib", f"{name}={folder / 'src' / 'lib.rt'}", *compiler(name)]
+    done = subprocess.run(words, capture_output=True, text=True)
+    if done.returncode != 0:
+        raise BadEdit(f"{name} with its edits is no program: {(done.stdout + done.stderr)[:400]}")
+    return {f: body for f, body in mir.functions(done.stdout).items() if f.startswith(name + "::")}
+
+
+def part_at(text, at):
+    """In what the place of a text stands: a 'body', a 'constant', or something else."""
+    before = text[: text.find("\n", at)]
+    items = list(re.finditer(rf"^( *)(?:{HEAD}|(?:pub(?:\(crate\))? )?(const|struct|enum|impl|mod|use)\b|ghost use\b|#)", before, re.M))
+    if not items:
+        return "the head of the file"
+    last = items[-1]
+    if last.group(2):
+        return "constant" if last.group(2) == "const" else f"`{last.group(2)}`"
+    if not re.match(rf" *{HEAD}", last.group(0)):
+        return "a ghost use or an attribute"
+    opened = re.search(rf"^{last.group(1)}(?:{{|[^\n]*\) (?:-> [^\n]* )?{{)$", text[last.start() :], re.M)
+    return "body" if opened and last.start() + opened.end() <= at else "the signature or contract of a function"
+
+
+class Trial(Edit):
+    """An edit that is tried: the functions in which it stands, and the one that must be refused."""
 
     def __init__(self, path):
-        self.crate, self.label = path.parent.parent.name, path.stem
-        self.pairs, file, old = [], None, None
-        for line in path.read_text().splitlines():
-            if line.startswith("file: "):
-                file = line[6:]
-            elif line.startswith("old: "):
-                old = line[5:]
-            elif line.startswith("new:"):
-                self.pairs.append((file, old, line[4:].removeprefix(" ")))
+        super().__init__(path)
+        self.counted = path.parent.name != "must-fail"
         self.functions = set()
 
     def find(self):
-        """Sees that each old text is in its file once, when the pairs before it are done, and notes the functions."""
+        """Sees that each old text is once in its file, when the pairs before it are done, in a body or a constant; notes the functions."""
         texts = {}
         for file, old, new in self.pairs:
-            text = texts.get(file) or (ROOT / "crates" / self.crate / file).read_text()
+            if not file.startswith("src/"):
+                raise BadEdit(f"it edits {file}, which is no code")
+            text = texts.get(file) or (CRATES / self.crate / file).read_text()
             if text.count(old) != 1:
-                raise BadEdit(f"an 'old:' text of {self.label} is in {file} {text.count(old)} times")
-            self.functions.add(function_at(self.crate, file, text.partition(old)[0]))
+                raise BadEdit(f"an 'old:' text is in {file} {text.count(old)} times")
+            part = part_at(text, text.find(old))
+            if part not in ("body", "constant"):
+                raise BadEdit(f"it edits {part}")
+            self.functions.add(function_at(self.crate, file, text.partition(old)[0]) if part == "body" else None)
             texts[file] = text.replace(old, new)
         if not self.pairs:
-            raise BadEdit(f"{self.label} has no pair of 'old:' and 'new:'")
+            raise BadEdit("it has no pair of 'old:' and 'new:'")
+        if None in self.functions and not self.function:
+            raise BadEdit("it edits a constant and has no 'function:'")
+
+    @property
+    def meant(self):
+        """The functions that must be refused, each at a stated fact."""
+        return {self.function} if self.function else self.functions
 
     def proofs(self):
         """The functions whose proof the edit touches: its own, and those that share one proof with them."""
-        return set().union(*(with_cycle(f, ROOT / "crates" / self.crate) for f in self.functions if f))
+        return set().union(*(with_cycle(f, CRATES / self.crate) for f in self.functions | self.meant if f))
 
     def apply(self, folder):
         """Does the replacements, each in its own function, since the edit of another function may have the same text."""
         for file, old, new in self.pairs:
             parts = re.split(rf"(?m)(?=^ *{HEAD})", (folder / file).read_text())
-            at = [i for i, part in enumerate(parts) if old in part and function_at(self.crate, file, "".join(parts[:i]) + part) in self.functions]
-            parts[at[0]] = parts[at[0]].replace(old, new)
+            found = [i for i, part in enumerate(parts) if old in part]
+            own = [i for i in found if function_at(self.crate, file, "".join(parts[: i + 1])) in self.functions]
+            at = (own or found)[0]
+            parts[at] = parts[at].replace(old, new)
             (folder / file).write_text("".join(parts))
 
-
-# how a function begins
-HEAD = r"(?:pub(?:\(crate\))? )?(?:extern \"C\" )?fn "
-
-
-def function_at(crate, file, before):
-    """The function in which the text before a place ends, as the prover names it: a method by its type. None outside of functions."""
-    named = re.findall(rf"^( *){HEAD}(\w+)", before, re.M)
-    if not file.startswith("src/") or not named:
-        return None
-    indent, name = named[-1]
-    if indent:
-        return "::".join([crate, re.findall(r"^impl (\w+)", before, re.M)[-1], name])
-    modules = [] if file == "src/lib.rt" else file.removeprefix("src/").removesuffix(".rt").split("/")
-    return "::".join([crate, *modules, name])
+    def judge_code(self, before, after):
+        """Sees that the edit changes what each function meant does, and no step that its proof is asked about."""
+        for function in sorted(self.meant):
+            old, new = before.get(function), after.get(function)
+            if not new or mir.ordered(old) == mir.ordered(new):
+                raise BadEdit(f"the code of {function} stays the same")
+            if mir.steps(old) != mir.steps(new):
+                raise BadEdit(f"{function} does other steps than before, so that its proof does not fit")
 
 
-def dependencies(name):
-    for line in (ROOT / "crates.txt").read_text().splitlines():
-        crate, colon, rest = line.split("#")[0].partition(":")
-        if colon and crate.strip() == name:
-            return rest.split()
-    raise BadEdit(f"crates.txt has no {name}")
+def with_cycle(function, folder):
+    """A function and those that it shares its one proof with, since they call one another."""
+    above, _, name = function.rpartition("::")
+    cycles = [path.name.split("+")[1:] for path in (folder / "proofs").rglob("+*") if path.is_dir()]
+    return {function} | {f"{above}::{other}" for cycle in cycles if name in cycle for other in cycle}
 
 
 def check(name, folder, kept):
-    """What rattle says of a crate in a folder, over modules that are kept from an earlier check: proved or not, and all of its words."""
-    words = [str(OWN / "bin" / "rattle"), "check", "--crate-name", name, str(folder / "src" / "lib.rt")]
-    for crate in ["std", *dependencies(name)]:
-        home = TARGET if (ROOT / "crates" / crate).is_dir() else OWN
-        words += ["--extern", f"{crate}={home / 'rlib' / crate}.rlib"]
-    words += ["-L", f"dependency={TARGET / 'rlib'}", "-L", f"dependency={OWN / 'rlib'}"]
-    words += ["--antt-project", str(KIT / "logic" / "antt-project.json"), "--logic-built", str(OWN / "logic-built")]
+    """What rattle says of a crate in a folder, over modules that are kept from an earlier check."""
+    words = [str(KIT.own / "bin" / "rattle"), "check", "--crate-name", name, str(folder / "src" / "lib.rt"), *compiler(name)]
+    words += ["--antt-project", str(KIT.home / "logic" / "antt-project.json"), "--logic-built", str(KIT.own / "logic-built")]
     done = subprocess.run([*words, "--incremental", str(kept)], stdout=subprocess.PIPE, stderr=subprocess.STDOUT, text=True)
     (folder / ".log").write_text(done.stdout)
-    if done.returncode == 0 and re.search(r"^logic=proved ", done.stdout, re.M):
-        return True, done.stdout
-    if done.returncode == 1 and re.search(r"^logic=not-proved", done.stdout, re.M):
-        return False, done.stdout
-    raise BadEdit(f"no verdict on {name}: {done.stdout[:600]}")
+    verdict = {0: r"^logic=proved ", 1: r"^logic=not-proved"}.get(done.returncode)
+    if not verdict or not re.search(verdict, done.stdout, re.M):
+        raise BadEdit(f"no verdict: {done.stdout[-300:]}")
+    return done.stdout
 
 
 def copy_of(name, label):
     folder = WORK / name / label
     shutil.rmtree(folder, ignore_errors=True)
     for part in ("src", "specs", "proofs"):
-        if (ROOT / "crates" / name / part).is_dir():
-            shutil.copytree(ROOT / "crates" / name / part, folder / part)
+        if (CRATES / name / part).is_dir():
+            shutil.copytree(CRATES / name / part, folder / part)
     return folder
 
 
@@ -132,22 +182,16 @@ def build_folder():
 
 
 def trial(name, label, edits, build):
-    """A check of the crate with these edits, over the modules of its proved library."""
+    """A check of the crate with these edits, over the modules of its proved library: its code, and what the prover says."""
     folder, kept = copy_of(name, label), WORK / name / (label + ".kept")
     for edit in edits:
         edit.apply(folder)
+    code = code_of(name, folder)
     shutil.rmtree(kept, ignore_errors=True)
     shutil.copytree(TARGET / "rlib" / f"{name}.rlib" / "toolchain" / "checked", kept / build)
-    verdict = check(name, folder, kept)
+    said = check(name, folder, kept)
     shutil.rmtree(kept)
-    return verdict
-
-
-def with_cycle(function, folder):
-    """A function and those that it shares its one proof with, since they call one another."""
-    above, _, name = function.rpartition("::")
-    cycles = [path.name.split("+")[1:] for path in (folder / "proofs").rglob("+*") if path.is_dir()]
-    return {function} | {f"{above}::{other}" for cycle in cycles if name in cycle for other in cycle}
+    return code, said
 
 
 def refused_themselves(said, folder):
@@ -155,6 +199,37 @@ def refused_themselves(said, folder):
     lines = dict(re.findall(r"^fn (\S+): (?:not proved|no proof|could not tell)(.*)", said, re.M))
     blocked = {function for function, why in lines.items() if "it calls `" in why}
     return {function for function in lines if not with_cycle(function, folder) & blocked}
+
+
+def reason(said, function, folder):
+    """The fact at which a function is refused, and what fails there: a tactic, or a law that gives another fact. The first error counts."""
+    here, names = function.split("::")[1:], sorted(f.rpartition("::")[2] for f in with_cycle(function, folder))
+    places = ["/".join(["proofs", *here[:-1], own, "Proof.antt"]) for own in (here[-1], "+" + "+".join(names))]
+    errors = re.split(r"(?m)^(?=\S+?:\d+:\d+: |fn |note: )", said)
+    own = re.compile(rf"\S+/(?:{'|'.join(map(re.escape, places))}):\d+:\d+: error: ")
+    errors = [error for error in errors if own.match(error) and "was not admitted (it has" not in error]
+    errors += re.findall(rf"^fn {re.escape(function)}: no proof: .*", said, re.M)
+    if not errors:
+        raise BadEdit(f"{function} is refused, and no fact is named")
+    head = re.sub(r"^(?:\S+: error: `[^`]*`: |fn \S+: no proof: expected `[^`]*` in [^;]*; )", "", errors[0]).partition("\n")[0]
+    tactic = next((tactic for words, tactic in FACTS.items() if re.match(words, head)), None)
+    if not tactic:
+        raise BadEdit(f"{function} is refused at no stated fact: {head[:300]}")
+    need = need_at(errors[0])
+    if PROMISE.search(errors[0]) or need.startswith("returns"):
+        return f"its promise, {tactic}"
+    return f"the invariant of its loop, {tactic}" if "`Inv-loop" in errors[0] or need.startswith("loop-") else f"a fact on the way, {tactic}"
+
+
+def need_at(error):
+    """The name of the need that an error is at, where the proof has it as a comment behind its answer; else an empty text."""
+    place = re.match(r"(\S+?):(\d+):\d+: ", error)
+    if not place:
+        return ""
+    lines = pathlib.Path(place.group(1)).read_text().splitlines()[: int(place.group(2))]
+    first = next(i for i in range(len(lines) - 1, -1, -1) if re.match(r" *\(?(?:tie\.spec )?\(λ|\S", lines[i]))
+    names = re.findall(r"-- (\S+)$|^(\S+) c = ", "\n".join(lines[first:]), re.M)
+    return "".join(names[0]) if names else ""
 
 
 def shared(edits):
@@ -169,53 +244,111 @@ def shared(edits):
     return chosen
 
 
-def of_crate(name, edits, build):
-    """Tries a crate's edits: for each its verdict in words and whether it is the right one."""
-    began, checks, told, left = time.time(), 0, [], list(edits)
+def settle(edit, before, after, said, refused):
+    """Whether an edit is refused for the right reason, and the verdict in words."""
+    edit.judge_code(before, after)
+    touched = {f for f in after if after[f] != before.get(f)}
+    others = sorted(refused - set().union(*(with_cycle(f, CRATES / edit.crate) for f in touched)))
+    if others:
+        raise BadEdit(f"{', '.join(others)} refused, which no edit touches")
+    if not edit.meant <= refused:
+        return False, f"NOT REFUSED in {' and '.join(sorted(edit.meant - refused))}"
+    reasons = [f"{function}: {reason(said, function, CRATES / edit.crate)}" for function in sorted(edit.meant)]
+    return True, f"refused, as it must be, at {'; '.join(reasons)}"
+
+
+def or_bad(judge, *words):
+    """What a judgement gives; of a bad edit that it is not refused, and why it is bad."""
     try:
-        for edit in edits:
-            edit.find()
-        alone = False
-        while left:
-            some = left[:1] if alone else shared(left)
-            checks += 1
-            _, said = trial(name, f"check-{checks}", some, build)
-            refused = refused_themselves(said, ROOT / "crates" / name)
-            others = refused - set().union(*(e.proofs() for e in some))
-            if others and not any(None in e.functions for e in some):
-                raise BadEdit(f"{', '.join(sorted(others))} refused, which no edit touches")
-            settled = [e for e in some if e.functions & refused or len(some) == 1]
-            for edit in settled:
-                where = " or ".join(f or "the crate" for f in sorted(edit.functions, key=str))
-                right = bool(refused if None in edit.functions else edit.functions & refused)
-                told.append((right, f"wrong {name}/{edit.label}: {'refused, as it must be, at' if right else 'NOT REFUSED in'} {where}"))
-            left = [e for e in left if e not in settled]
-            alone = not settled
+        return judge(*words)
     except BadEdit as bad:
-        told.append((False, f"wrong {name}: BAD EDIT: {bad}"))
-    told.append((None, f"wrong {name}: {len(edits)} edits in {checks} checks, {round(time.time() - began)} s"))
-    return told
+        return False, f"BAD EDIT: {bad}"
+
+
+def of_crate(name, edits, build):
+    """Tries a crate's edits: for each whether it is refused for the right reason, and the verdict in words."""
+    began, checks, alone = time.time(), 0, False
+    before = code_of(name, copy_of(name, "before"))
+    verdicts = {edit: or_bad(edit.find) for edit in edits}
+    left = [edit for edit in edits if not verdicts[edit]]
+    while left:
+        some = left[:1] if alone else shared(left)
+        checks += 1
+        after, said = or_bad(trial, name, f"check-{checks}", some, build)
+        if after:
+            refused = refused_themselves(said, CRATES / name)
+            settled = [e for e in some if e.meant <= refused or len(some) == 1]
+            verdicts |= {edit: or_bad(settle, edit, before, after, said, refused) for edit in settled}
+        else:
+            settled = some if len(some) == 1 else []
+            verdicts |= {edit: (False, said) for edit in settled}
+        left = [e for e in left if e not in settled]
+        alone = not settled
+    told = [(edit, right, f"wrong {name}/{edit.label}: {words}") for edit, (right, words) in verdicts.items()]
+    return [*told, (None, None, f"wrong {name}: {len(edits)} edits in {checks} checks, {round(time.time() - began)} s")]
+
+
+def try_all(by_crate):
+    """Tries the edits of some crates, prints each verdict, and gives the edits with their verdicts."""
+    build, verdicts = build_folder(), []
+    crates = [name for name in reversed(repository.crates()) if by_crate.get(name)]  # the upper crates take longest and come first
+    with ThreadPoolExecutor(max_workers=int(os.environ.get("RT_JOBS", 0)) or os.cpu_count()) as pool:
+        for told in pool.map(lambda name: of_crate(name, by_crate[name], build), crates):
+            for edit, right, line in told:
+                print(line, flush=True)
+                verdicts += [(edit, right)] if edit else []
+    return verdicts
+
+
+# what the prover says where a proof does not fit, or where it gives up: no reason
+NO_REASON = (
+    "/proofs/half/Proof.antt:20:10: error: `half-spec`: this λ has 2 binders, but its type has room for only 1: at `κs` the type is `x`",
+    "/proofs/half/Proof.antt:9:5: error: `half-spec`: record `After-byte` has no field `word`",
+    "/proofs/half/Proof.antt:8:13: error: `returns`: `tie` has no `Need-returns-3`",
+    "/proofs/half/Proof.antt:24:11: error: `half-spec`: give the call less to do: list the lemma that is meant\n  `search` broke off",
+    "/proofs/half/Proof.antt:24:5: error: `half-spec`: `close` was not admitted (it has holes or undetermined implicits, or was rejected)",
+    "/proofs/word/Proof.antt:24:5: error: `word-spec`: `search`: no proof of `x`",
+    "fn fields::half: no proof: expected `half-spec` in /proofs/half/Proof.antt",
+    "fn fields::half: could not tell",
+)
+
+
+def no_reason(said):
+    """Whether the tool finds no reason in what the prover says of fields::half."""
+    try:
+        reason(said + "\n", "fields::half", CRATES / "fields")
+    except BadEdit:
+        return True
+    print(f"taken for a reason: {said}")
+    return False
+
+
+def try_the_tool(folder):
+    """Every edit of a folder shows nothing: whether each is called bad, or not refused, and whether what is no reason is taken for none."""
+    if not all([no_reason(said) for said in NO_REASON]):
+        return 1
+    by_crate = {}
+    for path in sorted(folder.glob("*.edit")):
+        edit = Trial(path)
+        by_crate.setdefault(edit.crate, []).append(edit)
+    verdicts = try_all(by_crate)
+    believed = sum(right for _, right in verdicts)
+    print(f"{len(verdicts) - believed} edits that show nothing told as such, {believed} not")
+    return 0 if verdicts and not believed else 1
 
 
 def main(wanted):
-    crates = []
-    for line in (ROOT / "crates.txt").read_text().splitlines():
-        name = line.split("#")[0].split(":")[0].strip()
-        edits = [Edit(e) for e in sorted((ROOT / "crates" / name / "wrong").glob("*.edit"))] if name else []
-        edits = [e for e in edits if not wanted or name in wanted or f"{name}/{e.label}" in wanted]
-        if edits:
-            crates.append((name, edits))
-    build = build_folder()
-    crates.reverse()  # the upper crates take longest and come first, so that both processors end together
-    refused = failed = 0
-    with ThreadPoolExecutor(max_workers=int(os.environ.get("RT_JOBS", 0)) or os.cpu_count()) as pool:
-        for told in pool.map(lambda c: of_crate(*c, build), crates):
-            for right, line in told:
-                print(line, flush=True)
-                refused += right is True
-                failed += right is False
+    if wanted[:1] == ["--try"]:
+        return try_the_tool(pathlib.Path(wanted[1]))
+    by_crate = {}
+    for name in repository.crates():
+        edits = [Trial(edit.path) for edit in repository.edits(name)]
+        by_crate[name] = [e for e in edits if not wanted or name in wanted or e.name in wanted]
+    verdicts = try_all(by_crate)
+    refused = sum(right and edit.counted for edit, right in verdicts)
+    failed = sum(not right for _, right in verdicts)
     print(f"{refused} wrong answers refused, {failed} not")
-    return 0 if refused and not failed else 1
+    return 0 if verdicts and not failed else 1
 
 
 if __name__ == "__main__":

@@ -164,7 +164,7 @@ fn print_head(kind: Kind) {
         Kind::Job => "job | port | of it table check | crate | port / crate | crate with reading and tree | port / that",
         Kind::Table => "check | port | the oracle's check | port / that",
         Kind::File => {
-            "file to errors | port | of it module job | Rust route | port / Rust | reading and check | second check | tree | crate | port / (tree and crate alone)"
+            "file to errors | port | the module job by itself | Rust route | port / Rust | reading and check | second check | tree | crate | port / (tree and crate alone)"
         }
     };
     println!("| {columns} |");

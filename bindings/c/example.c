@@ -1,64 +1,214 @@
-/* Two functions of a script, checked from C: the parameter lists of `def f(a, /, b, *, c, **k)` and `def g(a, b=1, c)`. */
+/* Every job from C, accepted and refused, on one script:
+ *
+ *     def f(a, /, b, *, c, **k): break
+ *     def g(a, b=1, c): break
+ *     f(1, a=2, *x)
+ *     f(*x, a=2)
+ *     a, b.c = 1
+ *     a, 1 += 1
+ *     x[int]
+ *     x.type
+ */
 #include <stdio.h>
 #include <string.h>
 
 #include "starlark.h"
 
-enum { STATEMENTS = 1, DEF = 2, BREAK = 6, INT = 29, NORMAL = 50, NO_ARGS = 51, SLASH = 52, KW_ARGS = 54 };
+enum { STATEMENTS = 1, DEF = 2, BREAK = 6, SIMPLE = 10, ASSIGN = 11, MODIFY = 12, TUPLE = 20, DOT = 21, CALL = 22, INDEX = 23 };
+enum { IDENTIFIER = 26, INT = 29, NORMAL = 50, NO_ARGS = 51, SLASH = 52, KW_ARGS_PARAM = 54, POSITIONAL = 60, NAMED = 61, ARGS = 62 };
 
-static uint8_t table[16 * STARLARK_NODE_BYTES];
+static uint8_t table[64 * STARLARK_NODE_BYTES];
 static size_t nodes;
-static const char names[] = "abck";
+static const char names[] = "abckfxinttype";
+/* Extended: types are on. */
+static const uint8_t extended[9] = {1, 1, 1, 1, 0, 2, 1, 1, 0};
 
-static void put16(uint8_t *at, unsigned value) {
+/* What a job is given of the table: its bytes, and those of the names. */
+#define TABLE table, STARLARK_NODE_BYTES *nodes, (const uint8_t *)names, strlen(names)
+
+static void put16(uint8_t *at, size_t value) {
     at[0] = value & 255;
     at[1] = value >> 8 & 255;
 }
 
-/* One node, its subtree `size` nodes long, at position `begin` of the script; `name` is a letter of `names`, or 0. */
-static void node(int kind, int detail, int size, int begin, char name) {
-    uint8_t *at = table + STARLARK_NODE_BYTES * nodes++;
+/* One node, its subtree `size` nodes long; node i has the span 10 i to 10 i + 7. `name` is a part of `names`, or "". Answers the node. */
+static size_t node(int kind, int detail, size_t size, const char *name) {
+    uint8_t *at = table + STARLARK_NODE_BYTES * nodes;
     at[0] = kind;
     at[1] = detail;
-    put16(at + 2, name != 0);
-    put16(at + 4, name ? strchr(names, name) - names : 0);
-    put16(at + 8, begin);
-    put16(at + 12, begin + 1);
+    put16(at + 2, strlen(name));
+    put16(at + 4, *name ? strstr(names, name) - names : 0);
+    put16(at + 8, 10 * nodes);
+    put16(at + 12, 10 * nodes + 7);
     put16(at + 16, size);
+    if (kind == NAMED) put16(at + 20, 10 * nodes + 2);
+    return nodes++;
 }
 
-static void print(const char *list, size_t at) {
+/* The begin of a job's line; whether it is accepted. `number` is what the job answers, `out` what it has written there. */
+static int accepted(const char *job, uint32_t number, const uint32_t *out) {
+    printf("%s: ", job);
+    if (number == 3 || number == 4) {
+        printf("refused with %u at node %u", number, out[0]);
+    } else if (number != 0 && number < 10) {
+        printf("refused with %u", number);
+    } else if (number != 0) {
+        printf("refused with %u at node %u, bytes %u to %u", number, out[0], out[1], out[2]);
+    }
+    return number == 0;
+}
+
+static void bytes(const char *what, const uint8_t *buffer, size_t length) {
+    printf(", %s", what);
+    for (size_t i = 0; i < length; i++) printf(" %u", buffer[i]);
+    printf("\n");
+}
+
+static void check(const char *words, size_t length) {
+    uint32_t out[STARLARK_WORDS];
+    if (accepted(words, starlark_table(table, length, (const uint8_t *)names, strlen(names), out), out)) printf("sound");
+    printf("\n");
+}
+
+/* Modes in a buffer of `length` bytes, which hold 9. */
+static void params(const char *list, size_t at, size_t length) {
     uint32_t out[STARLARK_WORDS];
     uint8_t modes[8];
-    uint32_t number =
-        starlark_params(table, STARLARK_NODE_BYTES * nodes, (const uint8_t *)names, strlen(names), at, modes, sizeof modes, out);
-    if (number != 0) {
-        printf("%s: refused with %u at node %u, bytes %u to %u\n", list, number, out[0], out[1], out[2]);
-        return;
+    memset(modes, 9, sizeof modes);
+    if (accepted(list, starlark_params(TABLE, at, modes, length, out), out)) {
+        printf("positional only %u..%u, positional or named %u..%u, args %u..%u, named only %u..%u, kwargs %u..%u, count %u", out[0],
+               out[1], out[2], out[3], out[4], out[5], out[6], out[7], out[8], out[9], out[10]);
     }
-    printf("%s: positional only %u..%u, positional or named %u..%u, named only %u..%u, kwargs %u..%u, modes", list, out[0], out[1],
-           out[2], out[3], out[6], out[7], out[8], out[9]);
-    for (uint32_t i = 0; i < out[10]; i++) printf(" %u", modes[i]);
+    bytes("modes", modes, length);
+}
+
+static void place(const char *what, uint32_t word) {
+    if (word == STARLARK_NONE) {
+        printf(", no %s", what);
+    } else {
+        printf(", %s at %u", what, word);
+    }
+}
+
+static void call(const char *words, size_t at) {
+    uint32_t out[STARLARK_WORDS];
+    if (accepted(words, starlark_call(TABLE, at, out), out)) {
+        printf("%u positional, %u named", out[0], out[1]);
+        place("*", out[2]);
+        place("**", out[3]);
+    }
+    printf("\n");
+}
+
+static void target(const char *words, size_t at) {
+    uint32_t out[STARLARK_WORDS];
+    if (accepted(words, starlark_target(TABLE, at, out), out)) printf("%u leaves", out[0]);
+    printf("\n");
+}
+
+static void assignment(const char *words, size_t at) {
+    uint32_t out[STARLARK_WORDS];
+    if (accepted(words, starlark_assignment(TABLE, at, out), out)) printf("%u leaves", out[0]);
+    printf("\n");
+}
+
+/* Shapes in a buffer of `length` bytes, which hold 9. */
+static void type(const char *words, const uint8_t *dialect, size_t dialect_length, size_t at, size_t length) {
+    uint32_t out[STARLARK_WORDS];
+    uint8_t shapes[8];
+    memset(shapes, 9, sizeof shapes);
+    if (accepted(words, starlark_type(TABLE, dialect, dialect_length, at, shapes, length, out), out)) printf("a type");
+    bytes("shapes", shapes, length);
+}
+
+/* Errors in a list of `length` words, which hold 9. */
+static void module(const char *words, const uint8_t *dialect, size_t dialect_length, size_t length) {
+    uint32_t out[STARLARK_WORDS];
+    uint32_t errors[16];
+    for (size_t i = 0; i < length; i++) errors[i] = 9;
+    if (accepted(words, starlark_module(TABLE, dialect, dialect_length, errors, length, out), out)) printf("%u errors", out[0]);
+    printf(", list");
+    for (size_t i = 0; i < length; i++) printf(" %u", errors[i]);
     printf("\n");
 }
 
 int main(void) {
-    node(STATEMENTS, 0, 15, 0, 0);
-    node(DEF, 0, 8, 0, 0);
-    node(NORMAL, 0, 1, 6, 'a');
-    node(SLASH, 0, 1, 9, 0);
-    node(NORMAL, 0, 1, 12, 'b');
-    node(NO_ARGS, 0, 1, 15, 0);
-    node(NORMAL, 0, 1, 18, 'c');
-    node(KW_ARGS, 0, 1, 21, 'k');
-    node(BREAK, 0, 1, 26, 0);
-    node(DEF, 0, 6, 32, 0);
-    node(NORMAL, 0, 1, 38, 'a');
-    node(NORMAL, 2, 2, 41, 'b');
-    node(INT, 0, 1, 43, 0);
-    node(NORMAL, 0, 1, 46, 'c');
-    node(BREAK, 0, 1, 51, 0);
-    print("(a, /, b, *, c, **k)", 1);
-    print("(a, b=1, c)", 9);
+    node(STATEMENTS, 0, 49, "");
+    size_t f = node(DEF, 0, 8, "");
+    node(NORMAL, 0, 1, "a");
+    node(SLASH, 0, 1, "");
+    node(NORMAL, 0, 1, "b");
+    node(NO_ARGS, 0, 1, "");
+    node(NORMAL, 0, 1, "c");
+    node(KW_ARGS_PARAM, 0, 1, "k");
+    node(BREAK, 0, 1, "");
+    size_t g = node(DEF, 0, 6, "");
+    node(NORMAL, 0, 1, "a");
+    node(NORMAL, 2, 2, "b");
+    node(INT, 0, 1, "");
+    node(NORMAL, 0, 1, "c");
+    node(BREAK, 0, 1, "");
+    node(SIMPLE, 0, 9, "");
+    size_t good_call = node(CALL, 0, 8, "");
+    node(IDENTIFIER, 0, 1, "f");
+    node(POSITIONAL, 0, 2, "");
+    node(INT, 0, 1, "");
+    node(NAMED, 0, 2, "a");
+    node(INT, 0, 1, "");
+    node(ARGS, 0, 2, "");
+    node(IDENTIFIER, 0, 1, "x");
+    node(SIMPLE, 0, 7, "");
+    size_t bad_call = node(CALL, 0, 6, "");
+    node(IDENTIFIER, 0, 1, "f");
+    node(ARGS, 0, 2, "");
+    node(IDENTIFIER, 0, 1, "x");
+    node(NAMED, 0, 2, "a");
+    node(INT, 0, 1, "");
+    size_t assign = node(ASSIGN, 0, 6, "");
+    size_t good_target = node(TUPLE, 0, 4, "");
+    node(IDENTIFIER, 0, 1, "a");
+    node(DOT, 0, 2, "c");
+    node(IDENTIFIER, 0, 1, "b");
+    node(INT, 0, 1, "");
+    size_t modify = node(MODIFY, 0, 5, "");
+    size_t bad_target = node(TUPLE, 0, 3, "");
+    node(IDENTIFIER, 0, 1, "a");
+    node(INT, 0, 1, "");
+    node(INT, 0, 1, "");
+    node(SIMPLE, 0, 4, "");
+    size_t good_type = node(INDEX, 0, 3, "");
+    node(IDENTIFIER, 0, 1, "x");
+    node(IDENTIFIER, 0, 1, "int");
+    node(SIMPLE, 0, 3, "");
+    size_t bad_type = node(DOT, 0, 2, "type");
+    node(IDENTIFIER, 0, 1, "x");
+
+    check("the table", STARLARK_NODE_BYTES * nodes);
+    check("a part of a record", 25);
+    check("its first node alone", STARLARK_NODE_BYTES);
+    params("(a, /, b, *, c, **k)", f, 7);
+    params("six bytes for six parameters", f, 6);
+    params("five bytes for six parameters", f, 5);
+    params("(a, b=1, c)", g, 7);
+    params("no def", 0, 7);
+    call("f(1, a=2, *x)", good_call);
+    call("f(*x, a=2)", bad_call);
+    call("no call", 0);
+    target("a, b.c", good_target);
+    target("a, 1", bad_target);
+    target("no expression", 0);
+    assignment("a, b.c = 1", assign);
+    assignment("a, 1 += 1", modify);
+    assignment("no assignment", 0);
+    type("x[int]", extended, 9, good_type, 4);
+    type("x[int] in the Standard dialect", extended, 0, good_type, 4);
+    type("three bytes for three nodes", extended, 9, good_type, 3);
+    type("two bytes for three nodes", extended, 9, good_type, 2);
+    type("x.type", extended, 9, bad_type, 4);
+    type("eight bytes of dialect", extended, 8, good_type, 4);
+    module("the module in the Standard dialect", extended, 0, 16);
+    module("a list of four words", extended, 0, 4);
+    module("in the Extended dialect", extended, 9, 16);
+    module("eight bytes of dialect", extended, 8, 4);
     return 0;
 }

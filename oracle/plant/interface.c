@@ -34,9 +34,7 @@ uint32_t starlark_type(TABLE, const uint8_t *d, size_t dl, size_t node, uint8_t 
     return inner_type(SLICE(t, tl), SLICE(n, nl), SLICE(d, dl), node, SLICE(shapes, shapes_len), out);
 }
 
-#ifdef HAS_MODULE
 uint32_t inner_module(struct slice *, struct slice *, struct slice *, struct slice *, uint32_t *);
 uint32_t starlark_module(TABLE, const uint8_t *d, size_t dl, uint32_t *errors, size_t errors_len, uint32_t *out) {
     return inner_module(SLICE(t, tl), SLICE(n, nl), SLICE(d, dl), SLICE(errors, errors_len), out);
 }
-#endif

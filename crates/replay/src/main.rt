@@ -1,6 +1,6 @@
-// Replays recorded requests through the C interface, and prints for each job how many answers are those that the crate gave.
-// data/requests.bin was written by `oracle/compare --record`, on inputs on which the crate, the model and the port agreed; oracle/README.md
-// has its form.
+// Replays recorded requests through the C interface, and prints for each job how many answers are the recorded ones: those that the crate gave,
+// and those that the model of document 01 gave, where the crate has none. data/requests.bin was written by `oracle/compare --record`, on
+// inputs on which all that judge them agreed; oracle/README.md has its form.
 mod requests;
 
 use libc::STDOUT_FILENO;
@@ -14,40 +14,58 @@ fn say_number(n: u64) {
     io::print_decimal(STDOUT_FILENO, n);
 }
 
-// A job's count.
-fn at(counts: &[u64], job: usize) -> u64 {
-    if job < counts.len() { counts[job] } else { 0 }
+// The count of a place: a job's answers by one judge.
+fn at(counts: &[u64], place: usize) -> u64 {
+    if place < counts.len() {
+        counts[place]
+    } else {
+        0
+    }
 }
 
-// A job's line: how many of its requests agree, and the number of the first that does not, from 1.
-fn say_counts(name: &[u8], job: usize, agree: &[u64; 7], differ: &[u64; 7], first: &[u64; 7]) {
-    say(name);
-    say(b": ");
-    say_number(at(agree, job));
+// How many answers by a judge agree, and the number of the first request whose answer does not, from 1.
+fn say_judged(place: usize, agree: &[u64; 14], differ: &[u64; 14], first: &[u64; 14]) {
+    say_number(at(agree, place));
     say(b" agree, ");
-    say_number(at(differ, job));
+    say_number(at(differ, place));
     say(b" differ");
-    if 0 < at(differ, job) {
+    if 0 < at(differ, place) {
         say(b", first request ");
-        say_number(at(first, job));
+        say_number(at(first, place));
     }
+}
+
+// A job's line: the model's answers stand at an even place, the crate's behind them.
+fn say_counts(
+    name: &[u8],
+    model: usize,
+    of_crate: usize,
+    agree: &[u64; 14],
+    differ: &[u64; 14],
+    first: &[u64; 14],
+) {
+    say(name);
+    say(b": by the crate ");
+    say_judged(of_crate, agree, differ, first);
+    say(b"; by the model ");
+    say_judged(model, agree, differ, first);
     say(b"\n");
 }
 
-// One more of a job.
-fn count(counts: &mut [u64], job: usize) {
-    if job < counts.len() {
-        if counts[job] < 65536 {
-            counts[job] += 1;
+// One more at a place.
+fn count(counts: &mut [u64], place: usize) {
+    if place < counts.len() {
+        if counts[place] < 65536 {
+            counts[place] += 1;
         }
     }
 }
 
-// The first number that is given for a job stays.
-fn keep(first: &mut [u64], job: usize, number: u64) {
-    if job < first.len() {
-        if first[job] == 0 {
-            first[job] = number;
+// The first number that is given for a place stays.
+fn keep(first: &mut [u64], place: usize, number: u64) {
+    if place < first.len() {
+        if first[place] == 0 {
+            first[place] = number;
         }
     }
 }
@@ -62,13 +80,13 @@ fn note(
 ) -> bool {
     match r {
         Replayed::End => false,
-        Replayed::Same(job) => {
-            count(agree, job);
+        Replayed::Same(place) => {
+            count(agree, place);
             true
         }
-        Replayed::Different(job) => {
-            count(differ, job);
-            keep(first, job, number);
+        Replayed::Different(place) => {
+            count(differ, place);
+            keep(first, place, number);
             true
         }
     }
@@ -91,16 +109,16 @@ fn main() {
         os::fail(b"requests.bin");
         return;
     }
-    let mut agree = [0u64; 7];
-    let mut differ = [0u64; 7];
-    let mut first = [0u64; 7];
+    let mut agree = [0u64; 14];
+    let mut differ = [0u64; 14];
+    let mut first = [0u64; 14];
     all(fd, &mut agree, &mut differ, &mut first);
     libc::close(fd);
-    say_counts(b"table", 0, &agree, &differ, &first);
-    say_counts(b"params", 1, &agree, &differ, &first);
-    say_counts(b"call", 2, &agree, &differ, &first);
-    say_counts(b"target", 3, &agree, &differ, &first);
-    say_counts(b"assignment", 4, &agree, &differ, &first);
-    say_counts(b"type", 5, &agree, &differ, &first);
-    say_counts(b"module", 6, &agree, &differ, &first);
+    say_counts(b"table", 0, 1, &agree, &differ, &first);
+    say_counts(b"params", 2, 3, &agree, &differ, &first);
+    say_counts(b"call", 4, 5, &agree, &differ, &first);
+    say_counts(b"target", 6, 7, &agree, &differ, &first);
+    say_counts(b"assignment", 8, 9, &agree, &differ, &first);
+    say_counts(b"type", 10, 11, &agree, &differ, &first);
+    say_counts(b"module", 12, 13, &agree, &differ, &first);
 }

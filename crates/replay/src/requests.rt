@@ -2,14 +2,15 @@
 use forest::names;
 ghost use Prim.Native.Nat.{_<_};
 
-// What comes of a request: there is none left, or its job and whether the answer is the recorded one.
-pub enum Replayed {
+// What comes of a request: there is none left, or where it is counted and whether the answer is the recorded one.
+pub(crate) enum Replayed {
     End,
     Same(usize),
     Different(usize),
 }
 
-// The head of a request: the job, how long its parts are, the job's node, the number that it answers, and how many words.
+// The head of a request: the job, how long its parts are, the job's node, the number that it answers, how many words, and whether the crate (1)
+// or the model alone (0) has given the answer.
 struct Asked {
     job: usize,
     dialect: usize,
@@ -19,6 +20,7 @@ struct Asked {
     node: usize,
     number: u32,
     words: usize,
+    judge: usize,
 }
 
 // The job whose buffer is one of words.
@@ -39,6 +41,7 @@ fn head_of(head: &[u8]) -> Asked {
         node: fields::word(head, 8) as usize,
         number: fields::word(head, 12),
         words: fields::byte(head, 16) as usize,
+        judge: fields::byte(head, 17) as usize,
     }
 }
 
@@ -179,6 +182,11 @@ fn is_same(a: Asked, body: &[u8]) -> bool {
     agrees(a, table, names, dialect, answer)
 }
 
+// Where a request is counted: two places for each job, the model's and the crate's.
+fn place_of(job: usize, judge: usize) -> usize {
+    2 * (job % 256) + judge % 2
+}
+
 // The next request of the file.
 pub(crate) fn one(fd: i32) -> Replayed {
     let mut head = [0u8; 20];
@@ -191,8 +199,9 @@ pub(crate) fn one(fd: i32) -> Replayed {
     if !filled(fd, &mut space, size) {
         return Replayed::End;
     }
+    let place = place_of(a.job, a.judge);
     if is_same(a, front(&space, size)) {
-        return Replayed::Same(a.job);
+        return Replayed::Same(place);
     }
-    Replayed::Different(a.job)
+    Replayed::Different(place)
 }

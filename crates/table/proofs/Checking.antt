@@ -51,13 +51,13 @@ module _ (t names : List ℕ) {l : Bool} (l-is : l ≡ lengthSound (length t)) w
     unfolding checkOf
     check-names h = rw (good, lt-leb (length names) 8064 h) refl
 
+    pub unsound-small : {u : Found} → u ≡ firstUnsound t names → {i : ℕ} → u ≡ At i → i < 2100
+    unsound-small u-is at = omega (arith, unsound-inside t names u-is at, length-whole (length t) good)
+
     module _ (few : length names ≤ 8064) {u : Found} (u-is : u ≡ firstUnsound t names) where
       pub check-unsound : {i : ℕ} → u ≡ At i → refused unsoundRecord (i ∷ []) ≡ checkOf t names
       unfolding checkOf
       check-unsound at = rw (good, le-leb (length names) 8064 few, ← u-is, at) refl
-
-      pub unsound-small : {i : ℕ} → u ≡ At i → i < 2100
-      unsound-small at = omega (arith, unsound-inside t names u-is at, length-whole (length t) good)
 
       module _ (clean : u ≡ Nothing) {d : Found} (d-is : d ≡ firstDeep 0 (forest 0 t)) where
         pub check-deep : {i : ℕ} → d ≡ At i → refused tooDeep (i ∷ []) ≡ checkOf t names

@@ -1,11 +1,12 @@
 // Checks the table file that its argument names, or else standard input. It prints `nodes N`, a line `number begin end` for each
 // error and `errors N`; or, for a file that is refused, the one line `refused K`.
+// It only reads, calls and prints: what is answered to a file is the library's, filepass.
+use filepass::ENOUGH_BYTES;
+use filepass::ENOUGH_WORDS;
+use filepass::Passed;
 use libc::STDIN_FILENO;
 use libc::STDOUT_FILENO;
 use table::Refusal;
-use tablefile::Loaded;
-use tablefile::Verdict;
-use validate::Listed;
 
 // What came of reading: so many bytes, or a read that failed.
 enum Got {
@@ -33,12 +34,12 @@ fn main() {
     libc::close(fd);
 }
 
-// The whole file, or as much of it as tells 75: 117 blocks, the most that a file has, and one byte.
+// The whole file, or as much of it as tells its answer.
 fn check(fd: i32, name: &[u8]) {
-    let mut file = [0u8; 59905];
+    let mut file = [0u8; ENOUGH_BYTES];
     let got = fill(fd, &mut file);
     match got {
-        Got::Bytes(n) => report(front(&file, n)),
+        Got::Bytes(n) => report(&file, n),
         Got::Failed => os::fail(name),
     }
 }
@@ -60,49 +61,23 @@ fn fill(fd: i32, file: &mut [u8]) -> Got {
     Got::Bytes(done)
 }
 
-// The front of some bytes, as much of it as is there.
-fn front(s: &[u8], len: usize) -> &[u8] {
-    if len <= s.len() {
-        return &s[0..len];
-    }
-    s
-}
-
-// What the program prints of a file.
-fn report(file: &[u8]) {
-    let l = tablefile::read(file);
-    let verdict = l.verdict;
-    match verdict {
-        Verdict::Accepted => list(l),
-        Verdict::Refused(r) => say_refused(r),
-    }
-}
-
-// The module pass over what a file holds. No table has more errors than twice its 2,100 nodes, so the list has room for all.
-fn list(l: Loaded) {
-    let table = l.table;
-    let names = l.names;
-    let dialect = l.dialect;
-    let mut errors = [0u32; 12600];
-    let listed = validate::module(
-        front(&table, l.table_len),
-        front(&names, l.names_len),
-        front(&dialect, l.dialect_len),
-        &mut errors,
-    );
-    match listed {
-        Listed::Total(n) => {
-            say_line(b"nodes ", (l.table_len / 24) as u64);
-            say_errors(&errors, n);
-            say_line(b"errors ", n as u64);
+// What the program prints of so many bytes that it has read. The list has room for all errors.
+fn report(file: &[u8; ENOUGH_BYTES], len: usize) {
+    let mut errors = [0u32; ENOUGH_WORDS];
+    let passed = filepass::check_read(file, len, &mut errors);
+    match passed {
+        Passed::Listed { nodes, total } => {
+            say_line(b"nodes ", nodes as u64);
+            say_errors(&errors, total);
+            say_line(b"errors ", total as u64);
         }
-        Listed::Refused(r) => say_refused(r),
+        Passed::Refused(r) => say_refused(r),
     }
 }
 
 // A line for each error: its three words.
-fn say_errors(errors: &[u32], total: u32) {
-    let mut left = errors;
+fn say_errors(errors: &[u32; ENOUGH_WORDS], total: u32) {
+    let mut left: &[u32] = errors;
     let mut more = total;
     while 0 < more {
         if left.len() < 3 {

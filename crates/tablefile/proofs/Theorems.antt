@@ -29,7 +29,7 @@ abbrev pub Front : List ℕ → Loaded → Type 0
 Front bs r = (verdict (r .verdict) ≡ frontCheck bs) × (r ≡ loadedOf (r .verdict) (contentAt bs) (takenAt bs))
 
 -- an answer that is accepted holds what stands there
-holds : (bs : List ℕ) (r : Loaded) → r ≡ loadedOf (r .verdict) (contentAt bs) (takenAt bs) → r .verdict ≡ Accepted
+pub holds : (bs : List ℕ) (r : Loaded) → r ≡ loadedOf (r .verdict) (contentAt bs) (takenAt bs) → r .verdict ≡ Accepted
     → held r ≡ contentAt bs
 holds bs r r-is good = ap held (r-is ∙ ap (λ (w : Verdict). loadedOf w (contentAt bs) (takenAt bs)) good)
     ∙ held-is (contentAt bs) (takenAt bs)

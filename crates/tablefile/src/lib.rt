@@ -40,8 +40,8 @@ pub fn front(bytes: &[u8]) -> Loaded
     ensures { λ r. ⌜ r ≡ loadedOf (r .verdict) (contentAt (now (bytes .entry))) (takenAt (now (bytes .entry))) ⌝ }
 {
     let first = judge_front(bytes);
-    if let Judged::Refused(n) = first {
-        return refused(Refusal::Bare(n));
+    if let Judged::Refused(number) = first {
+        return refused(Refusal::Bare(number));
     }
     load(bytes)
 }

@@ -4,7 +4,8 @@ use mathlib.Core.Bool.{true, false}
 use mathlib.Core.List.{List, [], _∷_}
 use Prim.Native.Nat.{ℕ, _+_, _-_, _*_, _≤_, min}
 use native.Mathlib.Omega.{arith}
-use lib.ListN.{length, take, drop}
+use lib.ListN.{length, take, drop, length-take}
+use lib.Seq.{take-all}
 use borrow.Rule.Slice.PartMut.{putMid}
 use Rattle.dialect.specs.Bytes.{fromBytes}
 use Rattle.dialect.specs.declared.Dialect.{Dialect}
@@ -20,9 +21,9 @@ use Rattle.table.specs.declared.Refusal.the-variants.{Bare, Placed, Spanned}
 use Rattle.table.specs.declared.Checked.{Checked}
 use Rattle.table.specs.declared.Checked.the-variants.{Sound, Refused}
 use Rattle.table.proofs.Handed.{passed}
-use Rattle.errors.specs.Errors.{width, Stores}
+use Rattle.errors.specs.Errors.{width, stored, Stores}
 use Rattle.validate.specs.Module.{«visit_stmt», «visit_expr», «validate_module»}
-use Rattle.validate.specs.Job.{errorsOf, moduleOf, errorsAfter}
+use Rattle.validate.specs.Job.{passErrors, errorsOf, moduleOf, errorsAfter}
 use Rattle.errors.proofs.Storing.{stored-none, stores-both}
 use Rattle.validate.proofs.Bounds.{module-few}
 
@@ -38,6 +39,27 @@ module-all d names t s at-is q = stores-both _ _ s at-is q
 pub total-short : (d : Dialect) (names t : List ℕ) {xs ys : List ℕ} {n : ℕ}
     → Stores («validate_module» d names (forest 0 t)) xs n ys → 12 * n ≤ length t
 total-short d names t s = omega (arith, s .count, module-few d names (forest 0 t), count-forest 0 t)
+
+-- as much of some bytes as a table has at most
+module _ (t : List ℕ) where
+  pub all-within : length t ≤ 50400 → t ≡ take 50400 t
+  all-within h = sym (take-all 50400 t h)
+
+  pub within-short : {w : List ℕ} → w ≡ take 50400 t → length w ≤ 50400
+  within-short w-is = rw w-is (simp length-take (omega arith))
+
+-- the pass alone, over so much
+pub pass-all : (d : Dialect) (names t : List ℕ) {w xs ys : List ℕ} {n : ℕ} → w ≡ take 50400 t
+    → Stores («validate_module» d names (forest 0 w)) xs n ys
+    → (n ≡ length (passErrors d names t)) × (ys ≡ stored (passErrors d names t) xs)
+unfolding passErrors
+pass-all d names t w-is s = (rw (← w-is) (s .count), rw (← w-is) (s .words))
+
+-- LAW: of a table that is not too long the pass looks at all
+pub pass-is : (d : Dialect) (names t : List ℕ) → length t ≤ 50400
+    → passErrors d names t ≡ «validate_module» d names (forest 0 t)
+unfolding passErrors
+pass-is d names t h = rw (← all-within t h) refl
 
 -- what the promises say where the job refuses, and where it does not
 abbrev pub Promised : List ℕ → List ℕ → List ℕ → List ℕ → Answer → List ℕ → Type 0
@@ -64,7 +86,9 @@ module _ (t names bytes xs : List ℕ) {found : Checked} (f-is : checked found �
     unfolding givenCheck errorsOf
     job-dialect h = (rw (told, ← read-is, h) refl, rw (told, ← read-is, h) (sym (stored-none xs)))
 
-    pub job-total : {d : Dialect} {n : ℕ} {ys : List ℕ} → read ≡ Valid d
-        → Stores («validate_module» d names (forest 0 t)) xs n ys → Promised t names bytes xs (accepted (n ∷ [])) ys
+    pub job-total : {d : Dialect} {n : ℕ} {ys : List ℕ} → read ≡ Valid d → n ≡ length (passErrors d names t)
+        → ys ≡ stored (passErrors d names t) xs → Promised t names bytes xs (accepted (n ∷ [])) ys
     unfolding givenCheck errorsOf
-    job-total h s = (rw (told, ← read-is, h, s .count) refl, rw (told, ← read-is, h) (s .words))
+    job-total {d} h count words =
+        let all = pass-is d names t table-short in
+        (rw (told, ← read-is, h, ← all, count) refl, rw (told, ← read-is, h, ← all) words)

@@ -1,10 +1,13 @@
--- Two answers that meet the promise of `module` coincide, and so do the two lists of words. Assumes nothing.
+-- Two answers that meet the promise of a public function coincide, and so do the two lists of words. Assumes nothing.
 use mathlib.Core.Path.{_≡_, sym, ap}
 use mathlib.Core.List.{List, [], _∷_}
 use Prim.Native.Nat.{ℕ}
+use lib.ListN.{length}
+use Rattle.dialect.specs.declared.Dialect.{Dialect}
+use Rattle.errors.specs.Errors.{stored}
 use Rattle.fields.proofs.Coincide.{coincide, coincide-by}
 use Rattle.table.proofs.Answers.{refusal-injective, never-accepted}
-use Rattle.validate.specs.Job.{listed, moduleOf, errorsAfter}
+use Rattle.validate.specs.Job.{listed, passErrors, moduleOf, errorsAfter}
 use Rattle.validate.specs.declared.Listed.{Listed}
 use Rattle.validate.specs.declared.Listed.the-variants.{Total, Refused}
 
@@ -21,3 +24,10 @@ pub module-one : (table names dialect errors : List ℕ) {r s : Listed} {errors-
     → (r ≡ s) × (errors-r ≡ errors-s)
 module-one table names dialect errors r-is errors-is s-is errors-are =
     (coincide-by listed listed-injective r-is s-is, coincide errors-is errors-are)
+
+-- of `pass`
+pub pass-one : (table names : List ℕ) (d : Dialect) (errors : List ℕ) {r s : ℕ} {errors-r errors-s : List ℕ}
+    → r ≡ length (passErrors d names table) → errors-r ≡ stored (passErrors d names table) errors
+    → s ≡ length (passErrors d names table) → errors-s ≡ stored (passErrors d names table) errors
+    → (r ≡ s) × (errors-r ≡ errors-s)
+pass-one table names d errors r-is errors-is s-is errors-are = (coincide r-is s-is, coincide errors-is errors-are)

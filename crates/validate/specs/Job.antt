@@ -1,7 +1,8 @@
 -- The module job: its errors, its answer, and the list of words at exit. These are definitions.
 use mathlib.Core.List.{List, [], _∷_}
 use Prim.Native.Nat.{ℕ}
-use lib.ListN.{length}
+use lib.ListN.{length, take}
+use Rattle.dialect.specs.declared.Dialect.{Dialect}
 use Rattle.dialect.specs.Bytes.{fromBytes}
 use Rattle.dialect.specs.declared.Decoded.{Decoded}
 use Rattle.dialect.specs.declared.Decoded.the-variants.{Valid, Invalid}
@@ -18,6 +19,10 @@ use Rattle.validate.specs.declared.Listed.the-variants.{Total, Refused}
 abbrev pub listed : Listed → Answer
 listed (Total n) = accepted (n ∷ [])
 listed (Refused r) = refusal r
+
+-- the errors of any bytes in a dialect, unchecked: those of as many records as a table has at most
+unfoldable pub passErrors : Dialect → List ℕ → List ℕ → List Err
+passErrors d names t = «validate_module» d names (forest 0 (take 50400 t))
 
 -- the errors of a module in a dialect; a job that refuses has none
 abbrev pub errorsIn : Decoded → List ℕ → List ℕ → List Err

@@ -12,11 +12,11 @@ use table::Refusal;
 use table::numbers;
 ghost use mathlib.Core.Path.{_≡_};
 ghost use Prim.Native.Nat.{_≤_};
-ghost use lib.ListN.{length};
+ghost use lib.ListN.{length, take};
 ghost use Rattle.forest.specs.Forest.{forest};
-ghost use Rattle.errors.specs.Errors.{Stores};
+ghost use Rattle.errors.specs.Errors.{stored, Stores};
 ghost use Rattle.validate.specs.Module.{«validate_module»};
-ghost use Rattle.validate.specs.Job.{listed, moduleOf, errorsAfter};
+ghost use Rattle.validate.specs.Job.{listed, passErrors, moduleOf, errorsAfter};
 
 // What the module job answers: how many errors there are, or why it refuses.
 pub enum Listed {
@@ -35,12 +35,29 @@ pub fn module(table: &[u8], names: &[u8], dialect: &[u8], errors: &mut [u32]) ->
     }
     let read = dialect::from_bytes(dialect);
     match read {
-        Decoded::Valid(d) => {
-            let total = validate_module(d, names, table, errors);
-            Listed::Total(total as u32)
-        }
+        Decoded::Valid(d) => Listed::Total(pass(table, names, d, errors)),
         Decoded::Invalid => Listed::Refused(Refusal::Bare(numbers::BAD_DIALECT)),
     }
+}
+
+// The module pass alone, for who has checked 1 to 5 before: how many errors there are. It takes any bytes, and looks at no more of them
+// than a table has at most.
+pub fn pass(table: &[u8], names: &[u8], d: Dialect, errors: &mut [u32]) -> u32
+    ensures { λ r. ⌜ r ≡ length (passErrors d (now (names .entry)) (now (table .entry))) ⌝ }
+    ensures { λ r. ⌜ now (errors .exit) ≡ stored (passErrors d (now (names .entry)) (now (table .entry))) (now (errors .entry)) ⌝ }
+{
+    let total = validate_module(d, names, within(table), errors);
+    total as u32
+}
+
+// As much of some bytes as a table has at most: 2,100 records.
+fn within(t: &[u8]) -> &[u8]
+    ensures { λ r. ⌜ now r ≡ take 50400 (now (t .entry)) ⌝ }
+{
+    if t.len() <= 50400 {
+        return t;
+    }
+    &t[0..50400]
 }
 
 // The statements, then the expressions, which are lent what the statements leave free.

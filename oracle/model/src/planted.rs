@@ -1,7 +1,8 @@
-//! Faults that can be planted in the stand-in, one at a time, to see whether the comparison finds them.
+//! Faults that can be planted one at a time, to see whether the comparison finds them: in the stand-in, which the model must tell,
+//! or in the stand-in and the runner's model alike, which the crate alone can tell.
 //!
-//! Without the feature `faults` none is ever planted. With it, the environment variable ORACLE_FAULT names
-//! the one that is. oracle/faults.list says what each does.
+//! Without the feature `faults` none is ever planted. With it, the environment variable ORACLE_FAULT names the one that is, for the
+//! runner's model ORACLE_MODEL_FAULT. oracle/faults.list says what each does.
 
 macro_rules! faults {
     ($($name:ident)*) => {
@@ -72,6 +73,7 @@ faults! {
     NameEndPastLimitAllowed
     RootNeedNotCover
     NameByteChanged
+    DialectByteChanged
     SumFactorFromZero
     NumberBeforeCheck
     PaddingUnchecked
@@ -89,7 +91,8 @@ pub fn planted(fault: Fault) -> bool {
 
 #[cfg(feature = "faults")]
 fn chosen() -> Option<Fault> {
-    let name = std::env::var("ORACLE_FAULT").ok().filter(|name| !name.is_empty())?;
+    let chosen_by = if cfg!(feature = "faults-of-the-model") { "ORACLE_MODEL_FAULT" } else { "ORACLE_FAULT" };
+    let name = std::env::var(chosen_by).ok().filter(|name| !name.is_empty())?;
     let found = ALL.iter().find(|(known, _)| *known == name);
     Some(found.unwrap_or_else(|| panic!("no fault is called {name}")).1)
 }

@@ -20,7 +20,6 @@ use crate::port::Effect;
 use crate::port::Job;
 use crate::port::Request;
 use crate::port::FILE;
-use crate::port::IN_ARCHIVE;
 use crate::port::JOBS;
 use crate::port::NAMES;
 use crate::record::Recorder;
@@ -35,6 +34,8 @@ pub const NUMBERS: usize = 76;
 #[derive(Clone, Debug)]
 pub struct Tally {
     pub jobs: u64,
+    /// How many of each job.
+    pub of_job: [u64; JOBS],
     /// Jobs that the crate has judged too.
     pub by_crate: u64,
     /// Jobs refused with 1 to 7, which the crate does not have.
@@ -50,13 +51,15 @@ pub struct Tally {
 
 impl Default for Tally {
     fn default() -> Tally {
-        Tally { jobs: 0, by_crate: 0, refused: 0, others: 0, differences: 0, given: [0; NUMBERS], first: None }
+        let (of_job, given) = ([0; JOBS], [0; NUMBERS]);
+        Tally { jobs: 0, of_job, by_crate: 0, refused: 0, others: 0, differences: 0, given, first: None }
     }
 }
 
 impl Tally {
     pub fn add(&mut self, other: Tally) {
         self.jobs += other.jobs;
+        self.of_job.iter_mut().zip(other.of_job).for_each(|(jobs, more)| *jobs += more);
         self.by_crate += other.by_crate;
         self.refused += other.refused;
         self.others += other.others;
@@ -162,6 +165,11 @@ impl Checker {
         }
     }
 
+    fn count_job(&mut self, job: usize) {
+        self.tally.jobs += 1;
+        self.tally.of_job[job] += 1;
+    }
+
     fn count_numbers(&mut self, answer: &Answer) {
         self.tally.given[answer.number as usize] += 1;
         for error in &answer.errors {
@@ -170,7 +178,7 @@ impl Checker {
     }
 
     fn compare(&mut self, request: &Request, model: &Answer, judged: Built<Answer>) {
-        self.tally.jobs += 1;
+        self.count_job(request.job.index());
         self.count_numbers(model);
         self.tally.refused += u64::from(is_ours(model.number));
         let before = Effect::before(&request.job);
@@ -191,7 +199,7 @@ impl Checker {
         if differs {
             self.difference(request, &effect, &expected, judged);
         } else if let Some(recorder) = &mut self.recorder {
-            recorder.offer(request, model);
+            recorder.offer(request, model, judged.is_ok());
         }
     }
 
@@ -224,8 +232,9 @@ impl Checker {
         let (table, names) = self.kept.split_at(request.table.len());
         line("table", &hex(table));
         line("names", &hex(names));
-        if !self.inputs_are_kept(request) {
-            line("changed by the archive", &format_args!("{} {}", hex(request.table), hex(request.names)));
+        if !self.inputs_are_kept(request) || effect.dialect != expected.dialect {
+            let (table, names, dialect) = (hex(request.table), hex(request.names), hex(&effect.dialect));
+            line("changed by the archive", &format_args!("{table} {names} {dialect}"));
         }
         line("archive", effect);
         line("model", expected);
@@ -246,7 +255,7 @@ impl Checker {
 
     /// A run of the program, which refused with this number or (0) did not.
     pub fn program_run(&mut self, number: u32, equal: bool, what: impl FnOnce() -> String) {
-        self.tally.jobs += 1;
+        self.count_job(FILE);
         self.tally.given[number as usize] += 1;
         self.difference_unless(equal, what);
     }
@@ -331,10 +340,4 @@ fn with_own_spans(request: &Request) -> Built<Vec<[u32; 3]>> {
 fn listed(table: &Table, tree: &run::Module, dialect: &[u8]) -> Answer {
     let listed: Listed = tree.validate(&dialects::from_bytes(dialect));
     jobs::listed_answer(table, &listed)
-}
-
-/// The jobs that the archive lacks among those wanted.
-pub fn missing(wanted: &[bool; JOBS]) -> Vec<&'static str> {
-    let lacks = |&at: &usize| wanted[at] && !IN_ARCHIVE[at];
-    (0..FILE).filter(lacks).map(|at| NAMES[at]).collect()
 }

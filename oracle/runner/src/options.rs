@@ -2,14 +2,11 @@
 
 use crate::families::Family;
 use crate::port::FILE;
-use crate::port::IN_ARCHIVE;
 use crate::port::JOBS;
 use crate::port::NAMES;
 
 pub struct Options {
     pub wanted: [bool; JOBS],
-    /// The jobs that were not asked for by name and that the archive lacks.
-    pub left_out: Vec<&'static str>,
     pub seed: u64,
     /// 1 is the quick run.
     pub scale: u64,
@@ -24,6 +21,8 @@ pub struct Options {
     pub record: Option<String>,
     /// Only families whose names hold this.
     only: Option<String>,
+    /// Whether `--jobs` has chosen the jobs.
+    chosen: bool,
 }
 
 /// So that all families together come to 10^8 jobs.
@@ -31,10 +30,8 @@ const LONG: u64 = 12;
 
 impl Options {
     pub fn read() -> Result<Options, String> {
-        let mut named: Option<String> = None;
         let mut options = Options {
             wanted: [true; JOBS],
-            left_out: Vec::new(),
             seed: 1,
             scale: 1,
             threads: 2,
@@ -43,12 +40,16 @@ impl Options {
             rows: None,
             record: None,
             only: None,
+            chosen: false,
         };
         let mut words = std::env::args().skip(1);
         while let Some(word) = words.next() {
             let mut value = || words.next().ok_or(format!("{word} wants a value"));
             match word.as_str() {
-                "--jobs" => named = Some(value()?),
+                "--jobs" => {
+                    options.wanted = jobs(&value()?)?;
+                    options.chosen = true;
+                }
                 "--seed" => options.seed = number(&value()?)?,
                 "--threads" => options.threads = number(&value()?)?.max(1) as usize,
                 "--long" => options.scale = LONG,
@@ -61,25 +62,10 @@ impl Options {
                 _ => return Err(format!("{word} is not known")),
             }
         }
-        match named {
-            Some(list) => options.wanted = jobs(&list)?,
-            None => options.leave_out_missing(),
+        if !options.chosen {
+            options.wanted[FILE] = options.program.is_some();
         }
         Ok(options)
-    }
-
-    /// Where no jobs are named, those are run that the archive has.
-    fn leave_out_missing(&mut self) {
-        for (at, name) in NAMES.iter().enumerate().take(FILE) {
-            if !IN_ARCHIVE[at] {
-                self.wanted[at] = false;
-                self.left_out.push(name);
-            }
-        }
-        if self.program.is_none() {
-            self.wanted[FILE] = false;
-            self.left_out.push(NAMES[FILE]);
-        }
     }
 
     pub fn is_long(&self) -> bool {
@@ -89,6 +75,11 @@ impl Options {
     /// Whether all families of the jobs asked for are run to their end.
     pub fn is_whole(&self) -> bool {
         self.only.is_none() && !self.stop
+    }
+
+    /// Whether it is the whole comparison: no job was chosen by name, either.
+    pub fn is_all(&self) -> bool {
+        self.is_whole() && !self.chosen
     }
 
     /// Whether a family is to be run: its name is asked for, and one of its jobs is.

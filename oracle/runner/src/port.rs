@@ -39,18 +39,15 @@ impl Job<'_> {
             Job::Module { .. } => 6,
         }
     }
-}
 
-/// Whether the archive has a job's function. The file is the program's, not the archive's.
-pub const IN_ARCHIVE: [bool; FILE] = [
-    cfg!(has_starlark_table),
-    cfg!(has_starlark_params),
-    cfg!(has_starlark_call),
-    cfg!(has_starlark_target),
-    cfg!(has_starlark_assignment),
-    cfg!(has_starlark_type),
-    cfg!(has_starlark_module),
-];
+    /// The dialect's bytes, where the job takes them.
+    pub fn dialect(&self) -> Option<&[u8]> {
+        match self {
+            Job::Type { dialect, .. } | Job::Module { dialect, .. } => Some(dialect),
+            _ => None,
+        }
+    }
+}
 
 #[derive(Clone, Copy)]
 pub struct Request<'a> {
@@ -62,9 +59,7 @@ pub struct Request<'a> {
 type Words = [u32; 12];
 
 extern "C" {
-    #[cfg(has_starlark_table)]
     fn starlark_table(t: *const u8, tl: usize, n: *const u8, nl: usize, out: *mut Words) -> u32;
-    #[cfg(has_starlark_params)]
     fn starlark_params(
         t: *const u8,
         tl: usize,
@@ -75,14 +70,10 @@ extern "C" {
         modes_len: usize,
         out: *mut Words,
     ) -> u32;
-    #[cfg(has_starlark_call)]
     fn starlark_call(t: *const u8, tl: usize, n: *const u8, nl: usize, node: usize, out: *mut Words) -> u32;
-    #[cfg(has_starlark_target)]
     fn starlark_target(t: *const u8, tl: usize, n: *const u8, nl: usize, node: usize, out: *mut Words) -> u32;
-    #[cfg(has_starlark_assignment)]
     fn starlark_assignment(t: *const u8, tl: usize, n: *const u8, nl: usize, node: usize, out: *mut Words)
         -> u32;
-    #[cfg(has_starlark_type)]
     fn starlark_type(
         t: *const u8,
         tl: usize,
@@ -95,7 +86,6 @@ extern "C" {
         shapes_len: usize,
         out: *mut Words,
     ) -> u32;
-    #[cfg(has_starlark_module)]
     fn starlark_module(
         t: *const u8,
         tl: usize,
@@ -111,13 +101,15 @@ extern "C" {
 
 const GUARD: usize = 8;
 
-/// Everything that a job may change, guards included: the answer's number, `out`, and the lent buffer.
+/// Everything that a job may change, guards included: the answer's number, `out`, and the lent buffer. And the dialect, which no job
+/// may change.
 #[derive(Clone, Debug, PartialEq, Eq)]
 pub struct Effect {
     pub number: u32,
     pub out: [u32; 12 + 2 * GUARD],
     pub bytes: Vec<u8>,
     pub words: Vec<u32>,
+    pub dialect: Vec<u8>,
 }
 
 /// No mode, no shape and no length is like it.
@@ -127,6 +119,13 @@ fn byte_pattern(at: usize) -> u8 {
 
 fn word_pattern(at: usize) -> u32 {
     0xa500_0000 | at as u32
+}
+
+/// Bytes with guards on both sides.
+fn guarded(bytes: &[u8]) -> Vec<u8> {
+    let mut all: Vec<u8> = (0..bytes.len() + 2 * GUARD).map(byte_pattern).collect();
+    all[GUARD..GUARD + bytes.len()].copy_from_slice(bytes);
+    all
 }
 
 impl Effect {
@@ -143,6 +142,7 @@ impl Effect {
             out: std::array::from_fn(word_pattern),
             bytes: (0..bytes + 2 * GUARD).map(byte_pattern).collect(),
             words: (0..words + 2 * GUARD).map(word_pattern).collect(),
+            dialect: job.dialect().map_or(Vec::new(), guarded),
         }
     }
 
@@ -170,39 +170,29 @@ impl Effect {
         &mut self.words[GUARD..end]
     }
 
+    /// The dialect without its guards; a job that takes none has none here.
+    fn lent_dialect(&self) -> &[u8] {
+        self.dialect.get(GUARD..self.dialect.len().saturating_sub(GUARD)).unwrap_or(&[])
+    }
+
     /// The archive's function on this memory.
-    #[allow(unused_variables)]
     pub fn run(&mut self, request: &Request) {
         let (t, tl) = (request.table.as_ptr(), request.table.len());
         let (n, nl) = (request.names.as_ptr(), request.names.len());
         let out: *mut Words = self.out();
         let (bytes, bytes_len) = (self.lent_bytes().as_mut_ptr(), self.lent_bytes().len());
         let (words, words_len) = (self.lent_words().as_mut_ptr(), self.lent_words().len());
+        let (d, dl) = (self.lent_dialect().as_ptr(), self.lent_dialect().len());
         // Each pointer is to memory of the length given beside it, and no two of them overlap.
         self.number = unsafe {
             match request.job {
-                #[cfg(has_starlark_table)]
                 Job::Table => starlark_table(t, tl, n, nl, out),
-                #[cfg(has_starlark_params)]
                 Job::Params { node, .. } => starlark_params(t, tl, n, nl, node, bytes, bytes_len, out),
-                #[cfg(has_starlark_call)]
                 Job::Call { node } => starlark_call(t, tl, n, nl, node, out),
-                #[cfg(has_starlark_target)]
                 Job::Target { node } => starlark_target(t, tl, n, nl, node, out),
-                #[cfg(has_starlark_assignment)]
                 Job::Assignment { node } => starlark_assignment(t, tl, n, nl, node, out),
-                #[cfg(has_starlark_type)]
-                Job::Type { dialect, node, .. } => {
-                    let (d, dl) = (dialect.as_ptr(), dialect.len());
-                    starlark_type(t, tl, n, nl, d, dl, node, bytes, bytes_len, out)
-                }
-                #[cfg(has_starlark_module)]
-                Job::Module { dialect, .. } => {
-                    let (d, dl) = (dialect.as_ptr(), dialect.len());
-                    starlark_module(t, tl, n, nl, d, dl, words, words_len, out)
-                }
-                #[allow(unreachable_patterns)]
-                _ => panic!("the archive lacks the job {}", NAMES[request.job.index()]),
+                Job::Type { node, .. } => starlark_type(t, tl, n, nl, d, dl, node, bytes, bytes_len, out),
+                Job::Module { .. } => starlark_module(t, tl, n, nl, d, dl, words, words_len, out),
             }
         };
     }
@@ -227,6 +217,9 @@ impl fmt::Display for Effect {
         if self.words.len() > 2 * GUARD {
             let shown = self.words.iter().enumerate().take(GUARD + 60).map(word).collect();
             write!(f, ", errors [{}]", joined(shown))?;
+        }
+        if !self.dialect.is_empty() {
+            write!(f, ", dialect [{}]", joined(self.dialect.iter().enumerate().map(byte).collect()))?;
         }
         Ok(())
     }

@@ -1,7 +1,8 @@
 //! A sample of the answers, for programs that replay them without the crate at hand.
 //!
 //! Each request is a head of 20 bytes, then table, names and dialect, then what the answer made of the lent
-//! memory: the words of `out` that it wrote, and the whole buffer, which was filled with `FILL` before.
+//! memory: the words of `out` that it wrote, and the whole buffer, which was filled with `FILL` before. The head
+//! says whether the crate has given the answer, or the model alone.
 
 use std::collections::HashMap;
 
@@ -13,7 +14,11 @@ use crate::port::Request;
 const FILL: u8 = 0xee;
 const FILL_WORD: u32 = u32::from_le_bytes([FILL; 4]);
 
-/// So many of each job and number from each part of a family.
+/// Who has given an answer.
+pub const MODEL: usize = 0;
+pub const CRATE: usize = 1;
+
+/// So many of each job, number and judge from each part of a family.
 const OF_EACH: u32 = 3;
 const MOST_TABLE_BYTES: usize = 40 * 24;
 const MOST_NAME_BYTES: usize = 300;
@@ -22,13 +27,14 @@ const MOST_ROOM: usize = 150;
 #[derive(Default)]
 pub struct Recorder {
     pub bytes: Vec<u8>,
-    pub requests: u64,
-    kept: HashMap<(usize, u32), u32>,
+    /// By their judge.
+    pub requests: [u64; 2],
+    kept: HashMap<(usize, u32, usize), u32>,
 }
 
 impl Recorder {
     /// Keeps the request if it is small and enough of its like are not kept yet.
-    pub fn offer(&mut self, request: &Request, answer: &Answer) {
+    pub fn offer(&mut self, request: &Request, answer: &Answer, by_crate: bool) {
         let (dialect, node, room) = arguments(&request.job);
         let is_small = request.table.len() <= MOST_TABLE_BYTES
             && request.names.len() <= MOST_NAME_BYTES
@@ -38,15 +44,16 @@ impl Recorder {
             return;
         }
         let first_error = answer.errors.first().map_or(0, |error| error[0]);
-        let kept = self.kept.entry((request.job.index(), answer.number.max(first_error))).or_default();
+        let judge = if by_crate { CRATE } else { MODEL };
+        let kept = self.kept.entry((request.job.index(), answer.number.max(first_error), judge)).or_default();
         if *kept < OF_EACH {
             *kept += 1;
-            self.requests += 1;
-            self.write(request, answer, dialect, node as u32, room);
+            self.requests[judge] += 1;
+            self.write(request, answer, judge, dialect, node as u32, room);
         }
     }
 
-    fn write(&mut self, request: &Request, answer: &Answer, dialect: &[u8], node: u32, room: usize) {
+    fn write(&mut self, request: &Request, answer: &Answer, judge: usize, dialect: &[u8], node: u32, room: usize) {
         let bytes = &mut self.bytes;
         bytes.extend([request.job.index() as u8, dialect.len() as u8]);
         for short in [request.table.len(), request.names.len(), room] {
@@ -54,7 +61,7 @@ impl Recorder {
         }
         bytes.extend(node.to_le_bytes());
         bytes.extend(answer.number.to_le_bytes());
-        bytes.extend((answer.words.len() as u32).to_le_bytes());
+        bytes.extend([answer.words.len() as u8, judge as u8, 0, 0]);
         bytes.extend(request.table);
         bytes.extend(request.names);
         bytes.extend(dialect);

@@ -5,7 +5,13 @@ use std::process::ExitCode;
 use crate::checker::Tally;
 use crate::families;
 use crate::options::Options;
+use crate::port::FILE;
 use crate::port::JOBS;
+use crate::port::NAMES;
+
+/// What the whole comparison must run of each job at the least, in the order of `NAMES`: about 99 of 100 of what the quick run has at
+/// any seed.
+const LEAST: [u64; JOBS] = [1_345_000, 2_675_000, 600_000, 2_730_000, 752_000, 3_330_000, 1_282_000, 3_400];
 
 pub fn print(options: &Options, tallies: &[Tally]) -> ExitCode {
     let run = families::ALL.iter().zip(tallies).filter(|(family, _)| options.asks(family));
@@ -27,8 +33,36 @@ pub fn print(options: &Options, tallies: &[Tally]) -> ExitCode {
     if !never.is_empty() {
         println!("never given, so the run says nothing of them: {}", never.join(", "));
     }
-    println!("compare: {} jobs, {} differences, seed {}", all.jobs, all.differences, options.seed);
-    ExitCode::from(u8::from(all.differences > 0 || (options.is_whole() && !never.is_empty())))
+    let mut few = too_few(options, &all);
+    few.extend(empty(options, tallies));
+    if !few.is_empty() {
+        println!("too few jobs for the whole comparison: {}", few.join(", "));
+    }
+    println!("compare: {} jobs ({}), {} differences, seed {}", all.jobs, each_job(&all), all.differences, options.seed);
+    if all.jobs == 0 {
+        println!("compare: nothing was compared");
+        return ExitCode::from(2);
+    }
+    let is_lacking = !few.is_empty() || (options.is_whole() && !never.is_empty());
+    ExitCode::from(u8::from(all.differences > 0 || is_lacking))
+}
+
+/// The families of which the whole comparison has run nothing.
+fn empty(options: &Options, tallies: &[Tally]) -> Vec<String> {
+    let asked = families::ALL.iter().zip(tallies).filter(|(family, _)| options.is_all() && options.asks(family));
+    asked.filter(|(_, tally)| tally.jobs == 0).map(|(family, _)| format!("{} 0", family.name)).collect()
+}
+
+fn each_job(all: &Tally) -> String {
+    let told = NAMES.iter().zip(all.of_job).filter(|(_, jobs)| *jobs > 0);
+    told.map(|(name, jobs)| format!("{name} {jobs}")).collect::<Vec<_>>().join(", ")
+}
+
+/// The jobs of which the whole comparison has run fewer than it must. The files are in it where a program is named.
+fn too_few(options: &Options, all: &Tally) -> Vec<String> {
+    let demanded = (0..JOBS).filter(|&job| options.is_all() && (job != FILE || options.program.is_some()));
+    let few = demanded.filter(|&job| all.of_job[job] < LEAST[job]);
+    few.map(|job| format!("{} {} of {}", NAMES[job], all.of_job[job], LEAST[job])).collect()
 }
 
 /// The numbers of the jobs asked for that no input has brought about.

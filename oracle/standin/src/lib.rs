@@ -55,6 +55,13 @@ pub unsafe extern "C" fn starlark_params(
     give_bytes(answer, lent_mut(modes, modes_len), out)
 }
 
+/// Changes the first byte of memory that is lent to be read.
+unsafe fn change(start: *const u8, length: usize) {
+    if length > 0 {
+        *start.cast_mut() ^= 1;
+    }
+}
+
 /// The jobs that take a node and lend no buffer.
 macro_rules! node_jobs {
     ($($symbol:ident $job:ident)*) => {
@@ -69,8 +76,8 @@ macro_rules! node_jobs {
                 out: Out,
             ) -> u32 {
                 let answer = jobs::$job(lent(table, table_len), lent(names, names_len), node);
-                if planted(Fault::NameByteChanged) && names_len > 0 {
-                    *names.cast_mut() ^= 1;
+                if planted(Fault::NameByteChanged) {
+                    change(names, names_len);
                 }
                 give(answer, out)
             }
@@ -118,6 +125,9 @@ pub unsafe extern "C" fn starlark_module(
     let mut answer = jobs::module(table, names, lent(dialect, dialect_len));
     let list = lent_mut(errors, errors_len);
     answer.write_errors(list);
+    if planted(Fault::DialectByteChanged) {
+        change(dialect, dialect_len);
+    }
     if planted(Fault::HalfErrorStored) {
         store_half_error(&answer, list);
     }

@@ -1,4 +1,5 @@
 -- `blocks::judge` meets its contract: a block that is short, or the demands on its 512 bytes. Assumes nothing.
+use native.Mathlib.Omega.{arith}
 use borrow.Author.Needs.{needs}
 use Rattle.blocks.proofs.Judging.{judge-short, judge-long}
 use Rattle.blocks.proofs.judge.Statement.{statement}
@@ -8,7 +9,7 @@ pub judge-spec : {M : Type 1} → statement M
 judge-spec =
     tie.close
     (tie.spec
-    (λ c. judge-short _ _ _ (c .if1 .taken))  -- returns
+    (λ c. judge-short _ _ _ (omega arith))  -- returns
     (λ c κs. search needs)
     (λ c. search needs)
     (λ c κs. search needs)

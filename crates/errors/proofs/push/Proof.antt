@@ -12,7 +12,7 @@ push-spec =
     (tie.spec
     (λ c. search needs)
     (λ c. simp length-set (omega arith))  -- slice-write-errors-2
+    (λ c. simp length-set (omega arith))  -- slice-write-errors-3
     (λ c. search needs)
-    (λ c. search needs)
-    (λ c. search push-fits)  -- returns
-    (λ c. search push-full))  -- returns-2
+    (λ c. push-fits _ _ _ _ (omega arith))  -- returns
+    (λ c. push-full _ _ _ _ (omega arith)))  -- returns-2

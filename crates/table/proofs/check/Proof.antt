@@ -13,20 +13,21 @@ check-spec =
     (tie.spec
     (λ c κs. search needs)
     (λ c. search (check-length, not-true))  -- returns
-    (λ c. search (check-names, not-false))  -- returns-2
+    (λ c.  -- returns-2
+    let if1 = c .before .if1 in
+    let length-sound = c .before .before .length-sound in
+    check-names _ _ length-sound.ensures (not-false _ if1.left) (omega arith))
     (λ c κs. search needs)
     (λ c. search needs)
     (λ c.  -- cast-t12
     let unsound = c .before .unsound in
     let first-unsound = c .before .before .before .first-unsound in
-    let if2 = c .before .before .before .before .if2 in
     let if1 = c .before .before .before .before .before .if1 in
     let length-sound = c .before .before .before .before .before .before .length-sound in
     record {
       fits = omega (
         arith,
-        unsound-small _ _ length-sound.ensures (not-false _ if1.left) if2.left
-            first-unsound.ensures unsound.given.1,
+        unsound-small _ _ length-sound.ensures (not-false _ if1.left) first-unsound.ensures unsound.given.1,
       );
     })
     (λ c. search (check-unsound, not-false))  -- returns-3

@@ -1,5 +1,5 @@
 -- `validate::module` meets its contract: 1 to 4, 5, then the pass. Assumes nothing.
-use Rattle.validate.proofs.Jobs.{table-short, total-short, job-refused, job-dialect, job-total}
+use Rattle.validate.proofs.Jobs.{job-refused, job-dialect, job-total}
 use borrow.Author.Needs.{needs}
 use Rattle.validate.proofs.module.Statement.{statement}
 use Rattle.validate.proofs.module.Tie as tie
@@ -14,28 +14,17 @@ module-spec =
     (λ c. search needs)
     (λ c κs. search needs)
     (λ c. search needs)
-    (λ c κs. search table-short)  -- validate-module-requires
-    (λ c.  -- cast-t13
-    let validate-module = c .before .before .validate-module in
-    let back = c .before .before .before .before .before .before in
-    let from-bytes = back .before .from-bytes in
-    let enum-told = back .before .before .enum-told in
-    let check = back .before .before .before .before .check in
-    let back2 = back .before .before .before .before .before .before in
-    let start = back2 .before .before .before in
-    let short = table-short start.args.table.now start.args.names.now start.args.dialect.now start.args.errors.now
-    check.ensures enum-told.given.1 from-bytes.ensures in
-    let few = total-short _ start.args.names.now start.args.table.now validate-module.ensures in search needs)
+    (λ c κs. search needs)
     (λ c. search needs)
     (λ c. search needs)
     (λ c.  -- returns-2
-    let validate-module = c .before .before .validate-module in
+    let pass = c .before .before .pass in
     let read = c .before .before .before .before .before .read in
     let back = c .before .before .before .before .before .before in
     let from-bytes = back .before .from-bytes in
     let enum-told = back .before .before .enum-told in
     let check = back .before .before .before .before .check in
-    job-total _ _ _ _ check.ensures enum-told.given.1 from-bytes.ensures read.given.1 validate-module.ensures)
+    job-total _ _ _ _ check.ensures enum-told.given.1 from-bytes.ensures read.given.1 pass.ensures.0 pass.ensures.1)
     (λ c.  -- returns-3
     let from-bytes = c .before .before .from-bytes in
     let enum-told = c .before .before .before .enum-told in

@@ -1,4 +1,5 @@
 -- `table::depth::deep_from` meets its contract: a node is too deep, or one below it, or one after it. Assumes nothing.
+use native.Mathlib.Omega.{arith}
 use borrow.Author.Needs.{needs}
 use lib.ListN.{length}
 use Rattle.table.proofs.Deep.{deep-none, deep-here, deep-below, deep-after}
@@ -42,7 +43,10 @@ pub +deep-from-spec : {M : Type 1} → statement M
     (λ c κs. search needs)
     (λ c κs. search needs)
     (λ c. search needs)
-    (λ c. search deep-here)  -- returns-2
+    (λ c.  -- returns-2
+    let weight-of = c .before .weight-of in
+    let kind = c .before .before .kind in
+    deep-here _ _ _ (omega arith) (omega arith) kind.ensures weight-of.ensures.0 (omega arith))
     (λ c κs. search needs)
     (λ c. search needs)
     (λ c. search needs)

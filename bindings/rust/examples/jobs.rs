@@ -1,0 +1,194 @@
+//! Every job from Rust, accepted and refused, with what it makes of the buffer that it is lent. Each line is a small script.
+
+use starlark_checks::Table;
+
+const STATEMENTS: u8 = 1;
+const DEF: u8 = 2;
+const BREAK: u8 = 6;
+const SIMPLE: u8 = 10;
+const ASSIGN: u8 = 11;
+const MODIFY: u8 = 12;
+const TUPLE: u8 = 20;
+const DOT: u8 = 21;
+const CALL: u8 = 22;
+const INDEX: u8 = 23;
+const INDEX2: u8 = 24;
+const IDENTIFIER: u8 = 26;
+const INT: u8 = 29;
+const NOT: u8 = 33;
+const NORMAL: u8 = 50;
+const NO_ARGS: u8 = 51;
+const SLASH: u8 = 52;
+const ARGS_PARAM: u8 = 53;
+const KW_ARGS_PARAM: u8 = 54;
+const POSITIONAL: u8 = 60;
+const NAMED: u8 = 61;
+const ARGS: u8 = 62;
+const KW_ARGS: u8 = 63;
+
+/// Extended: types are on, and `*` may stand in a parameter list.
+const EXTENDED: [u8; 9] = [1, 1, 1, 1, 0, 2, 1, 1, 0];
+
+/// What each place of a buffer holds before a job.
+const BEFORE: u8 = 9;
+
+/// A tree: a kind, its detail, a name or "", and what stands below it.
+struct Tree(u8, u8, &'static str, Vec<Tree>);
+
+/// The bytes of a tree's table and names. Node i has the span 10 i to 10 i + 7, and a Named's name stands at 10 i + 2.
+#[derive(Default)]
+struct Script {
+    nodes: Vec<u8>,
+    names: Vec<u8>,
+}
+
+impl Script {
+    fn of(tree: Tree) -> Script {
+        let mut script = Script::default();
+        script.write(&tree);
+        script
+    }
+
+    fn write(&mut self, tree: &Tree) {
+        let Tree(kind, detail, name, below) = tree;
+        let at = self.nodes.len();
+        let begin = (at / 24 * 10) as u32;
+        let start = if name.is_empty() { 0 } else { self.names.len() as u32 };
+        self.nodes.extend([*kind, *detail]);
+        self.nodes.extend((name.len() as u16).to_le_bytes());
+        for word in [start, begin, begin + 7, 0, if *kind == NAMED { begin + 2 } else { 0 }] {
+            self.nodes.extend(word.to_le_bytes());
+        }
+        self.names.extend(name.as_bytes());
+        below.iter().for_each(|tree| self.write(tree));
+        let size = ((self.nodes.len() - at) / 24) as u16;
+        self.nodes[at + 16..at + 18].copy_from_slice(&size.to_le_bytes());
+    }
+
+    fn table(&self) -> Table<'_> {
+        Table { nodes: &self.nodes, names: &self.names }
+    }
+}
+
+fn leaf(kind: u8, name: &'static str) -> Tree {
+    Tree(kind, 0, name, Vec::new())
+}
+
+fn tree(kind: u8, below: Vec<Tree>) -> Tree {
+    Tree(kind, 0, "", below)
+}
+
+fn def(mut parameters: Vec<Tree>) -> Script {
+    parameters.push(leaf(BREAK, ""));
+    Script::of(tree(DEF, parameters))
+}
+
+fn simple(expression: Tree) -> Script {
+    Script::of(tree(SIMPLE, vec![expression]))
+}
+
+fn call(arguments: Vec<(u8, &'static str)>) -> Script {
+    let values = arguments.into_iter().map(|(kind, name)| Tree(kind, 0, name, vec![leaf(INT, "")]));
+    simple(tree(CALL, std::iter::once(leaf(IDENTIFIER, "f")).chain(values).collect()))
+}
+
+fn x(name: &'static str) -> Tree {
+    leaf(IDENTIFIER, name)
+}
+
+/// `a, (b.c, d[0])`: three leaves.
+fn three_leaves() -> Tree {
+    let pair = vec![Tree(DOT, 0, "c", vec![x("b")]), tree(INDEX, vec![x("d"), leaf(INT, "")])];
+    tree(TUPLE, vec![x("a"), tree(TUPLE, pair)])
+}
+
+fn checks() {
+    let good = Script::of(tree(STATEMENTS, vec![leaf(BREAK, ""), leaf(BREAK, "")]));
+    println!("a table: {:?}", good.table().check());
+    println!("a part of a record: {:?}", Table { nodes: &good.nodes[..25], names: &[] }.check());
+    println!("too many name bytes: {:?}", Table { nodes: &good.nodes, names: &[0; 8065] }.check());
+    println!("an unsound record: {:?}", Script::of(tree(STATEMENTS, vec![leaf(BREAK, ""), leaf(BREAK, "a")])).table().check());
+    let deep = (0..64).fold(leaf(INT, ""), |below, _| tree(NOT, vec![below]));
+    println!("too deep: {:?}", simple(deep).table().check());
+}
+
+fn parameter_lists() {
+    let before = vec![leaf(NORMAL, "a"), leaf(SLASH, ""), leaf(NORMAL, "b")];
+    let behind = vec![leaf(ARGS_PARAM, "args"), leaf(NORMAL, "c"), leaf(KW_ARGS_PARAM, "k")];
+    let list = def(before.into_iter().chain(behind).collect());
+    let refused = def(vec![Tree(NORMAL, 2, "a", vec![leaf(INT, "")]), leaf(NORMAL, "b")]);
+    let show = |words: &str, list: &Script, node: usize, room: usize| {
+        let mut modes = vec![BEFORE; room];
+        let answer = list.table().params(node, &mut modes);
+        println!("{words}: {answer:?}, modes {modes:?}");
+    };
+    show("(a, /, b, *args, c, **k)", &list, 0, 7);
+    show("six bytes for six parameters", &list, 0, 6);
+    show("five bytes for six parameters", &list, 0, 5);
+    show("no def", &list, 1, 7);
+    show("(a=1, b)", &refused, 0, 7);
+}
+
+fn calls() {
+    let all = call(vec![(POSITIONAL, ""), (POSITIONAL, ""), (NAMED, "a"), (ARGS, ""), (KW_ARGS, "")]);
+    println!("f(1, 2, a=3, *4, **5): {:?}", all.table().call(1));
+    println!("f(): {:?}", call(Vec::new()).table().call(1));
+    println!("f(a=1, a=2): {:?}", call(vec![(NAMED, "a"), (NAMED, "a")]).table().call(1));
+    println!("no call: {:?}", all.table().call(0));
+}
+
+fn targets() {
+    let target = simple(three_leaves());
+    println!("a, (b.c, d[0]) as a target: {:?}", target.table().target(1));
+    println!("no expression: {:?}", target.table().target(0));
+    println!("a, 1 as a target: {:?}", simple(tree(TUPLE, vec![x("a"), leaf(INT, "")])).table().target(1));
+}
+
+fn assignments() {
+    let assigned = Script::of(tree(ASSIGN, vec![three_leaves(), leaf(INT, "")]));
+    println!("a, (b.c, d[0]) = 1: {:?}", assigned.table().assignment(0));
+    println!("no assignment: {:?}", assigned.table().assignment(1));
+    println!("a, (b.c, d[0]) += 1: {:?}", Script::of(tree(MODIFY, vec![three_leaves(), leaf(INT, "")])).table().assignment(0));
+    let typed = Script::of(Tree(ASSIGN, 1, "", vec![tree(TUPLE, vec![x("a")]), x("int"), leaf(INT, "")]));
+    println!("(a,): int = 1: {:?}", typed.table().assignment(0));
+}
+
+fn types() {
+    let generic = simple(tree(INDEX2, vec![Tree(DOT, 0, "b", vec![x("a")]), x("int"), x("str")]));
+    let banned = simple(Tree(DOT, 0, "type", vec![x("x")]));
+    let show = |words: &str, script: &Script, dialect: &[u8], node: usize, room: usize| {
+        let mut shapes = vec![BEFORE; room];
+        let answer = script.table().type_shape(dialect, node, &mut shapes);
+        println!("{words}: {answer:?}, shapes {shapes:?}");
+    };
+    show("a.b[int, str] as a type", &generic, &EXTENDED, 1, 6);
+    show("in the Standard dialect", &generic, &[], 1, 6);
+    show("five bytes for five nodes", &generic, &EXTENDED, 1, 5);
+    show("four bytes for five nodes", &generic, &EXTENDED, 1, 4);
+    show("eight bytes of dialect", &generic, &EXTENDED[..8], 1, 6);
+    show("no expression", &generic, &EXTENDED, 0, 6);
+    show("x.type as a type", &banned, &EXTENDED, 1, 6);
+}
+
+fn modules() {
+    let module = def(vec![leaf(NORMAL, "a"), leaf(NO_ARGS, ""), leaf(NORMAL, "b")]);
+    let show = |words: &str, dialect: &[u8], room: usize| {
+        let mut errors = vec![u32::from(BEFORE); room];
+        let answer = module.table().module(dialect, &mut errors);
+        println!("{words}: {answer:?}, errors {errors:?}");
+    };
+    show("def f(a, *, b): break, in the Standard dialect", &[], 6);
+    show("a list one word short", &[], 5);
+    show("in the Extended dialect", &EXTENDED, 6);
+    show("eight bytes of dialect", &EXTENDED[..8], 6);
+}
+
+fn main() {
+    checks();
+    parameter_lists();
+    calls();
+    targets();
+    assignments();
+    types();
+    modules();
+}

@@ -1,0 +1,200 @@
+-- Of a file at most `enoughBytes` bytes are read: the most blocks that a file has, and one byte more. That is enough:
+-- the answer to so much of a file is the answer to the file, however long it is (`read-enough`). Assumes nothing.
+use mathlib.Core.Path.{_≡_, refl, sym, ap, _∙_}
+use mathlib.Core.Bool.{Bool, true, false}
+use mathlib.Core.Logic.{⊎-elim}
+use mathlib.Core.List.{List, []}
+use Prim.Native.Nat.{ℕ, zero, suc, _+_, _*_, _-_, _<_, _≤_, min}
+use native.Mathlib.Omega.{arith}
+use lib.ListN.{length, take, drop, length-take}
+use lib.Seq.{take-all, take-take}
+use lib.Dec.{leb}
+use borrow.Author.Tests.{le-leb, lt-leb}
+use Rattle.fields.proofs.Fields.{field-take}
+use Rattle.table.specs.Numbers.{blockCounts, bytesLeftOver}
+use Rattle.dialect.specs.Bytes.{fromBytes}
+use Rattle.dialect.specs.declared.Decoded.{Decoded}
+use Rattle.dialect.specs.declared.Decoded.the-variants.{Valid, Invalid}
+use Rattle.table.specs.Answer.{Answer, accepted, refused, andThen}
+use Rattle.table.specs.Check.{checkOf, dialectCheck, givenCheck}
+use Rattle.table.proofs.Answers.{after-both}
+use Rattle.blocks.specs.Block.{demand, judge}
+use Rattle.blocks.specs.Run.{blocksFor, judgeBlocks, judgeRun}
+use Rattle.blocks.proofs.Blocks.{drop-take}
+use Rattle.blocks.proofs.Spelling.{le-or-lt}
+use Rattle.tablefile.specs.File.{Content}
+use Rattle.tablefile.specs.Reading.{nodesAt, namesAt, dialectAt, firstNodes, takenAt, contentAt, countsFit}
+use Rattle.tablefile.specs.Reading.{frontCheck, soundCheck, readCheck}
+use Rattle.tablefile.proofs.Fronts.{counts-small}
+use Rattle.tablefile.proofs.Accepted.{read-whole, read-fronted}
+use Rattle.filepass.specs.Sizes.{mostBlocks, enoughBytes}
+use Rattle.filepass.specs.Passing.{heldAnswer, answerOf, ifRead, wordsAfter}
+
+-- a block is judged by its 512 bytes
+judge-part : (number used m : ℕ) (bs : List ℕ) → 512 ≤ m → judge number used (take m bs) ≡ judge number used bs
+unfolding judge
+judge-part number used m bs h =
+    ⊎-elim
+    (λ (p : 512 ≤ length bs). rw (
+      le-leb 512 (length (take m bs)) (simp length-take (omega arith)),
+      le-leb 512 (length bs) p,
+      take-take 512 m bs h,
+    ) refl)
+    (λ (p : length bs < 512). rw (
+      lt-leb 512 (length (take m bs)) (simp length-take (omega arith)),
+      lt-leb 512 (length bs) p,
+    ) refl)
+    (le-or-lt 512 (length bs))
+
+-- and a run by those of its blocks
+blocks-part : (n number total m : ℕ) (bs : List ℕ) → 512 * n ≤ m
+    → judgeBlocks n number total (take m bs) ≡ judgeBlocks n number total bs
+unfolding judgeBlocks
+blocks-part zero number total m bs h = refl
+blocks-part (suc n) number total m bs h =
+    let rest : judgeBlocks n (number + 1) (total - 504) (drop 512 (take m bs))
+    ≡ judgeBlocks n (number + 1) (total - 504) (drop 512 bs) =
+    rw (drop-take 512 m bs) (blocks-part n (number + 1) (total - 504) (m - 512) (drop 512 bs) (omega arith)) in
+    rw (judge-part number (min 504 total) m bs (omega arith), rest) refl
+
+run-part : (number total a m : ℕ) (bs : List ℕ) → a + 512 * blocksFor total ≤ m
+    → judgeRun number total (drop a (take m bs)) ≡ judgeRun number total (drop a bs)
+unfolding judgeRun
+run-part number total a m bs h =
+    rw (drop-take a m bs) (blocks-part (blocksFor total) number total (m - a) (drop a bs) (omega arith))
+
+-- LAW: the most blocks are those of the most names and the most nodes
+pub most-blocks : mostBlocks ≡ 1 + blocksFor 8064 + blocksFor (24 * 2100)
+unfolding blocksFor
+most-blocks = refl
+
+-- LAW: an accepted file has no more
+pub accepted-short : (bs : List ℕ) → readCheck bs ≡ accepted [] → length bs ≤ 512 * mostBlocks
+unfolding takenAt firstNodes blocksFor
+accepted-short bs e = omega (arith, read-whole bs e, read-fronted bs e .counts)
+
+-- the reader's check gives no values
+Plain : Answer → Type 0
+Plain (accepted vs) = vs ≡ []
+Plain (refused n vs) = Unit {0}
+
+after-plain : (x : Answer) (next : Unit {0} → Answer) → Plain (next tt) → Plain (andThen x next)
+unfolding Plain
+after-plain (accepted vs) next p = p
+after-plain (refused n vs) next p = tt
+
+dialect-plain : (x : Decoded) → Plain (dialectCheck x)
+unfolding Plain
+dialect-plain (Valid d) = refl
+dialect-plain Invalid = tt
+
+read-plain : (bs : List ℕ) → Plain (readCheck bs)
+unfolding readCheck givenCheck
+read-plain bs =
+    let c : Content = contentAt bs in
+    let dialect : Unit {0} → Answer = λ _. dialectCheck (fromBytes (c .dialect)) in
+    let sound : Unit {0} → Answer = λ _. soundCheck c in
+    let left : Answer = demand (leb (length bs) (takenAt bs)) bytesLeftOver in
+    let last = after-plain (checkOf (c .table) (c .names)) dialect (dialect-plain (fromBytes (c .dialect))) in
+    after-plain (frontCheck bs) (λ _. andThen left sound) (after-plain left sound last)
+
+-- a file that is longer than what is read of it
+module _ (m : ℕ) (bs : List ℕ) (enough : 512 * mostBlocks < m) (longer : m < length bs) where
+  nodes-part : nodesAt (take m bs) ≡ nodesAt bs
+  unfolding nodesAt
+  nodes-part = field-take 2 bs m 4 (omega arith)
+
+  names-part : namesAt (take m bs) ≡ namesAt bs
+  unfolding namesAt
+  names-part = field-take 2 bs m 6 (omega arith)
+
+  dialect-part : dialectAt (take m bs) ≡ dialectAt bs
+  unfolding dialectAt
+  dialect-part = rw (field-take 2 bs m 2 (omega arith)) refl
+
+  first-part : firstNodes (take m bs) ≡ firstNodes bs
+  unfolding firstNodes
+  first-part = rw names-part refl
+
+  taken-part : takenAt (take m bs) ≡ takenAt bs
+  unfolding takenAt
+  taken-part = rw (first-part, nodes-part) refl
+
+  -- what comes after the counts of block 0, for some bytes of which these are the counts
+  later : List ℕ → Answer
+  later xs =
+      andThen (andThen (judgeRun 1 (namesAt bs) (drop 512 xs))
+      (λ _. judgeRun (firstNodes bs) (24 * nodesAt bs) (drop (512 * firstNodes bs) xs))) (λ _.
+      andThen (demand (leb (length xs) (takenAt bs)) bytesLeftOver) (λ _. soundCheck (contentAt xs)))
+
+  later-part : countsFit (nodesAt bs) (namesAt bs) ≡ true → later (take m bs) ≡ later bs
+  unfolding takenAt firstNodes blocksFor later
+  later-part fit =
+      let small = counts-small (nodesAt bs) (namesAt bs) fit in
+      let names = run-part 1 (namesAt bs) 512 m bs (omega (arith, small)) in
+      let nodes = run-part (firstNodes bs) (24 * nodesAt bs) (512 * firstNodes bs) m bs (omega (arith, small)) in
+      let part-left = lt-leb (length (take m bs)) (takenAt bs) (simp length-take (omega (arith, small))) in
+      let left = lt-leb (length bs) (takenAt bs) (omega (arith, small)) in
+      rw (names, nodes, part-left, left) refl
+
+  -- the whole check of some bytes with the same block 0
+  whole : List ℕ → Bool → Answer
+  whole xs fit = andThen (judge 0 (4 + dialectAt bs) xs) (λ _. andThen (demand fit blockCounts) (λ _. later xs))
+
+  whole-is : (xs : List ℕ) → dialectAt xs ≡ dialectAt bs → namesAt xs ≡ namesAt bs → nodesAt xs ≡ nodesAt bs
+      → firstNodes xs ≡ firstNodes bs → takenAt xs ≡ takenAt bs
+      → readCheck xs ≡ whole xs (countsFit (nodesAt bs) (namesAt bs))
+  unfolding readCheck frontCheck whole later
+  whole-is xs dialect-is names-is nodes-is first-is taken-is =
+      let head : Answer = judge 0 (4 + dialectAt bs) xs in
+      let counts : Answer = demand (countsFit (nodesAt bs) (namesAt bs)) blockCounts in
+      let runs : Unit {0} → Answer = λ _. andThen (judgeRun 1 (namesAt bs) (drop 512 xs))
+      (λ _. judgeRun (firstNodes bs) (24 * nodesAt bs) (drop (512 * firstNodes bs) xs)) in
+      let next : Unit {0} → Answer = λ _. andThen (demand (leb (length xs) (takenAt bs)) bytesLeftOver)
+      (λ _. soundCheck (contentAt xs)) in
+      rw
+      (dialect-is, names-is, nodes-is, first-is, taken-is)
+      (after-both head (λ _. andThen counts runs) next
+      ∙ ap (λ (x : Answer). andThen head (λ _. x)) (after-both counts runs next))
+
+  whole-part : (fit : Bool) → countsFit (nodesAt bs) (namesAt bs) ≡ fit → whole (take m bs) fit ≡ whole bs fit
+  unfolding whole
+  whole-part false e = rw (judge-part 0 (4 + dialectAt bs) m bs (omega arith)) refl
+  whole-part true e = rw (judge-part 0 (4 + dialectAt bs) m bs (omega arith), later-part e) refl
+
+  pub longer-part : readCheck (take m bs) ≡ readCheck bs
+  longer-part =
+      whole-is (take m bs) dialect-part names-part nodes-part first-part taken-part
+      ∙ whole-part (countsFit (nodesAt bs) (namesAt bs)) refl
+      ∙ sym (whole-is bs refl refl refl refl refl)
+
+  -- it is refused, and so is what is read of it
+  refused-both : {A : Type 0} (f : Answer → (Unit {0} → A) → A) → ((n : ℕ) (vs : List ℕ) (x y : Unit {0} → A)
+      → f (refused n vs) x ≡ f (refused n vs) y) → (x y : Unit {0} → A)
+      → f (readCheck (take m bs)) x ≡ f (readCheck bs) y
+  unfolding Plain
+  refused-both {A} f stops x y = rw longer-part (go (readCheck bs) refl (read-plain bs))
+    where
+      go : (a : Answer) → readCheck bs ≡ a → Plain a → f a x ≡ f a y
+      go (accepted vs) e p = absurd (omega (arith, accepted-short bs (e ∙ ap accepted p)))
+      go (refused n vs) e p = stops n vs x y
+
+  pub longer-answer : answerOf (take m bs) ≡ answerOf bs
+  unfolding answerOf
+  longer-answer = refused-both andThen (λ n vs x y. refl) _ _
+
+  pub longer-words : (xs : List ℕ) → wordsAfter (take m bs) xs ≡ wordsAfter bs xs
+  unfolding wordsAfter
+  longer-words xs = refused-both (λ a next. ifRead a xs next) (λ n vs x y. refl) _ _
+
+-- THEOREM: what is answered to the first bytes of a file is what is answered to the file, and the words are the same
+pub read-enough : (file xs : List ℕ) → (answerOf (take enoughBytes file) ≡ answerOf file)
+    × (wordsAfter (take enoughBytes file) xs ≡ wordsAfter file xs)
+read-enough file xs =
+    ⊎-elim
+    (λ (h : length file ≤ enoughBytes). rw (take-all enoughBytes file h) (refl, refl))
+    (λ (h : enoughBytes < length file). (
+      longer-answer enoughBytes file (omega arith) h,
+      longer-words enoughBytes file (omega arith) h xs,
+    ))
+    (le-or-lt (length file) enoughBytes)

@@ -1,0 +1,4 @@
+pub mod Listing
+pub mod Enough
+pub mod Theorems
+pub mod Promises

@@ -1,0 +1,57 @@
+-- What users of a file's answer rely on: a refused file changes no word, an accepted one is listed with all errors,
+-- and the sizes of `check_read` are enough for every file. Assumes nothing.
+use mathlib.Core.Path.{_≡_, refl, sym, ap, _∙_}
+use mathlib.Core.List.{List, [], _∷_, _++_}
+use Prim.Native.Nat.{ℕ, _*_, _/_, _≤_}
+use native.Mathlib.Omega.{arith}
+use lib.ListN.{length, take, drop}
+use Rattle.table.specs.Answer.{accepted, refused}
+use Rattle.table.specs.Check.{givenCheck}
+use Rattle.tablefile.specs.File.{Content}
+use Rattle.tablefile.specs.Reading.{nodesAt, contentAt, readCheck}
+use Rattle.tablefile.proofs.Fronts.{table-length}
+use Rattle.tablefile.proofs.Accepted.{read-fronted, read-is-sound}
+use Rattle.errors.specs.Errors.{Err, width}
+use Rattle.errors.proofs.Storing.{allWords}
+use Rattle.validate.specs.Job.{errorsOf, errorsAfter}
+use Rattle.validate.proofs.Theorems.{list-holds-all}
+use Rattle.filepass.specs.Sizes.{enoughBytes, enoughWords}
+use Rattle.filepass.specs.Passing.{heldAnswer, answerOf, wordsAfter}
+use Rattle.filepass.proofs.Enough.{read-enough}
+use Rattle.filepass.proofs.Listing.{held-few, held-listed}
+
+-- THEOREM: a file that the reader refuses is answered with that refusal, and changes no word
+pub refused-keeps : (file xs : List ℕ) {n : ℕ} {vs : List ℕ} → readCheck file ≡ refused n vs
+    → (answerOf file ≡ refused n vs) × (wordsAfter file xs ≡ xs)
+unfolding answerOf wordsAfter
+refused-keeps file xs e = (rw e refl, rw e refl)
+
+module _ (file : List ℕ) (good : readCheck file ≡ accepted []) where
+  abbrev c : Content
+  c = contentAt file
+
+  abbrev errors : List Err
+  errors = errorsOf (c .table) (c .names) (c .dialect)
+
+  sound : givenCheck (c .table) (c .names) (c .dialect) ≡ accepted []
+  sound = read-is-sound file good
+
+  nodes : length (c .table) / 24 ≡ nodesAt file
+  nodes = omega (arith, table-length file (read-fronted file good))
+
+  -- THEOREM: an accepted file is answered with its nodes and errors: the module pass does not refuse it
+  pub accepted-is-listed : answerOf file ≡ accepted (nodesAt file ∷ length errors ∷ [])
+  unfolding answerOf
+  accepted-is-listed = rw good (rw (held-listed _ _ _ sound, nodes) refl)
+
+  -- THEOREM: a list of `enoughWords` words has room for all of them
+  pub list-has-room : (xs : List ℕ) → length xs ≡ enoughWords
+      → wordsAfter file xs ≡ allWords errors ++ drop (width * length errors) xs
+  unfolding wordsAfter
+  list-has-room xs long = rw good (list-holds-all (c .table) (c .names) (c .dialect) xs
+      (omega (arith, held-few _ _ _ sound)))
+
+-- THEOREM: where a buffer holds a file, or `enoughBytes` of it, `check_read` answers what is answered to the file
+pub read-is-whole : (file buffer xs : List ℕ) (len : ℕ) → take len buffer ≡ take enoughBytes file
+    → (answerOf (take len buffer) ≡ answerOf file) × (wordsAfter (take len buffer) xs ≡ wordsAfter file xs)
+read-is-whole file buffer xs len e = rw e (read-enough file xs)

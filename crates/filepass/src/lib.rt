@@ -1,0 +1,86 @@
+// A table file to its answer: the reader, then the module pass over what it holds, with the errors in a lent list.
+use dialect::Decoded;
+use table::Refusal;
+use table::numbers;
+use tablefile::Verdict;
+ghost use mathlib.Core.Path.{_≡_};
+ghost use mathlib.Core.List.{[]};
+ghost use lib.ListN.{length, take};
+ghost use Rattle.table.specs.Answer.{accepted};
+ghost use Rattle.table.specs.Check.{givenCheck};
+ghost use Rattle.validate.specs.Job.{errorsAfter};
+ghost use Rattle.filepass.specs.Sizes.{enoughBytes, enoughWords};
+ghost use Rattle.filepass.specs.Passing.{passed, heldAnswer, answerOf, wordsAfter};
+
+// How many bytes of a file tell its answer: 117 blocks, the most that a file has, and one byte.
+pub const ENOUGH_BYTES: usize = 512 * 117 + 1;
+
+// How many words hold the errors of any file: three for each, and at most two errors for each of 2,100 nodes.
+pub const ENOUGH_WORDS: usize = 3 * (2 * 2100);
+
+// What is answered to a file: how many nodes it holds and how many errors they have, or why it is refused.
+pub enum Passed {
+    Listed { nodes: u32, total: u32 },
+    Refused(Refusal),
+}
+
+// A file's answer. A list too short for all errors holds the first that fit whole; a refused file changes no word.
+pub fn check_file(file: &[u8], errors: &mut [u32]) -> Passed
+    ensures { λ r. ⌜ passed r ≡ answerOf (now (file .entry)) ⌝ }
+    ensures { λ r. ⌜ now (errors .exit) ≡ wordsAfter (now (file .entry)) (now (errors .entry)) ⌝ }
+{
+    let l = tablefile::read(file);
+    let verdict = l.verdict;
+    if let Verdict::Refused(why) = verdict {
+        return Passed::Refused(why);
+    }
+    let table = l.table;
+    let names = l.names;
+    let dialect = l.dialect;
+    list(
+        front(&table, l.table_len),
+        front(&names, l.names_len),
+        front(&dialect, l.dialect_len),
+        errors,
+    )
+}
+
+// The same of the bytes that were read of a file, in a buffer and a list that are large enough for every file.
+pub fn check_read(
+    buffer: &[u8; ENOUGH_BYTES],
+    len: usize,
+    errors: &mut [u32; ENOUGH_WORDS],
+) -> Passed
+    ensures { λ r. ⌜ passed r ≡ answerOf (take len (now (buffer .entry))) ⌝ }
+    ensures { λ r. ⌜ now (errors .exit) ≡ wordsAfter (take len (now (buffer .entry))) (now (errors .entry)) ⌝ }
+    ensures { λ r. ⌜ length (now (buffer .entry)) ≡ enoughBytes ⌝ }
+    ensures { λ r. ⌜ length (now (errors .entry)) ≡ enoughWords ⌝ }
+{
+    check_file(front(buffer, len), errors)
+}
+
+// The module pass over what a file holds. The reader has looked at 1 to 5.
+fn list(table: &[u8], names: &[u8], dialect: &[u8], errors: &mut [u32]) -> Passed
+    requires { ⌜ givenCheck (now table) (now names) (now dialect) ≡ accepted [] ⌝ }
+    ensures { λ r. ⌜ passed r ≡ heldAnswer (now (table .entry)) (now (names .entry)) (now (dialect .entry)) ⌝ }
+    ensures { λ r. ⌜ now (errors .exit) ≡ errorsAfter (now (table .entry)) (now (names .entry)) (now (dialect .entry)) (now (errors .entry)) ⌝ }
+{
+    let decoded = dialect::from_bytes(dialect);
+    match decoded {
+        Decoded::Valid(d) => Passed::Listed {
+            nodes: (table.len() / 24) as u32,
+            total: validate::pass(table, names, d, errors),
+        },
+        Decoded::Invalid => Passed::Refused(Refusal::Bare(numbers::BAD_DIALECT)),
+    }
+}
+
+// The front of some bytes, as much of it as is there.
+fn front(s: &[u8], len: usize) -> &[u8]
+    ensures { λ r. ⌜ now r ≡ take len (now (s .entry)) ⌝ }
+{
+    if s.len() <= len {
+        return s;
+    }
+    &s[0..len]
+}

@@ -1,2 +1,0 @@
-mod Enough
-mod Listing

@@ -1,0 +1,225 @@
+#!/usr/bin/env python3
+"""Cases for each kind of record, made of document 01's own sentences, with the answers that these demand.
+
+kinds.py            write crates/cases/kinds.txt (cases in words) and, below its heading, the end of crates/cases/stdout (their answers)
+kinds.py --check    only say whether they are what the sentences give, and, where document 01 is at hand, whether it has the sentences
+
+The sentences stand in crates/cases/document01.txt. They are read here by themselves: nothing is taken from the definitions or the code,
+so a mistake that stands in both of them shows. Of each kind and detail: children as they must be, and with one dropped, changed or added,
+or two; the largest detail and one more; a name where none may be, and none where one must be; the kind in the place of each class.
+"""
+import itertools
+import re
+import sys
+
+from repository import CRATES, ROOT
+from tables import NUMBER
+
+FOLDER = CRATES / "cases"
+DOCUMENT = ROOT.parent / "shared" / "docs" / "01-scope.md"
+HEADING = "# 3: each kind, by document 01's sentences (made by tools/kinds.py)"
+WORD = {number: word for word, number in NUMBER.items()}
+
+# a child of each class, and where a record of each class may stand: what is around it, and its index there
+CHILD = {"statement": "(Break)", "expression": "(Int)", "parameter": "(NoArgs)", "argument": "(ArgsArg (Int))"}
+PLACE = {"statement": ("{}", 0), "expression": ("(OtherSimple {})", 1), "parameter": ("(Def {} (Break))", 1),
+         "argument": ("(OtherSimple (Call (Int) {}))", 3)}
+# a place that takes records of one class alone, and the index of the record that is unsound where it holds another class
+HOLDER = {"statement": ("(Statements {})", 0), "expression": ("(OtherSimple {})", 0), "parameter": ("(Def {} (Break))", 0),
+          "argument": ("(OtherSimple (Call (Int) {}))", 1)}
+
+# document 01's words for one child
+ONE = {"statement": ["body statement", "statement"],
+       "expression": ["target", "over", "condition", "value", "object", "callee", "return type", "type", "default", "body expression",
+                      "one expression each"]}
+SOME = 3  # stands for any number
+
+
+def counts(words, own):
+    """A part of a rule as a class, and how many of it may stand there: as a test, and as the numbers that are tried."""
+    for one, known in ONE.items():
+        if words in known:
+            return one, lambda n: n == 1, [1]
+    if words in ("parameters", "arguments"):
+        return words[:-1], lambda n: True, [0, 1, SOME]
+    if words == "none":
+        return own, lambda n: n == 0, [0]
+    if words == "two statements":
+        return "statement", lambda n: n == 2, [2]
+    if words in ("any", f"any {own}s", "any expressions"):
+        return "expression" if words == "any expressions" else own, lambda n: True, [0, 1, SOME]
+    if words == "0 or 1 expression":
+        return "expression", lambda n: n < 2, [0, 1]
+    if words == "an even number":
+        return own, lambda n: n % 2 == 0, [0, 2, 4]
+    numbers = [int(n) for n in re.findall(r"\d+", words)]
+    if re.fullmatch(r"\d+ to \d+", words):
+        return own, lambda n: numbers[0] <= n <= numbers[1], [*range(numbers[0], numbers[1] + 1)]
+    if re.fullmatch(r"\d+ or more", words):
+        return own, lambda n: numbers[0] <= n, [numbers[0], numbers[0] + 1, numbers[0] + SOME]
+    if re.fullmatch(r"\d+( each for \d+ to \d+)?", words):
+        return own, lambda n: n == numbers[0], [numbers[0]]
+    raise ValueError(f"document 01's words are not known here: {words}")
+
+
+class Kind:
+    """A kind: its number, class, rule of children in words, largest detail, and whether a name and a position stand on it."""
+
+    def __init__(self, number, own, rule):
+        self.number, self.own, self.rule = number, own, rule
+        self.details, self.named, self.placed = int("detail 1" in rule), False, False
+
+    def parts(self, detail):
+        """The parts of the rule that count for a detail."""
+        found = []
+        for part in self.rule.partition(";")[0].split(", "):
+            words, mark, given = part.partition(" if ")
+            if not mark or str(detail) in re.findall(r"\d", given):
+                found.append(counts(words, self.own))
+        return found
+
+    def fits(self, detail, children):
+        """Whether these classes are children of the kind: whether they can be cut into the rule's parts, in order."""
+        ends = {0}
+        for one, may_be, _ in self.parts(detail):
+            ends = {to for at in ends for to in range(at, len(children) + 1)
+                    if set(children[at:to]) <= {one} and may_be(to - at)}
+        return len(children) in ends
+
+    def met(self, detail):
+        """Children that the rule allows: each part with each number that is tried."""
+        parts = self.parts(detail)
+        for numbers in itertools.product(*(tried for _, _, tried in parts)):
+            yield tuple(itertools.chain.from_iterable([one] * n for (one, _, _), n in zip(parts, numbers)))
+
+    def text(self, detail, children, words=None):
+        """The record in words, its name `a` where it has one."""
+        words = (" a" if self.named else "") if words is None else words
+        below = "".join(" " + CHILD[child] for child in children)
+        return f"({WORD[self.number]}{f':{detail}' if detail else ''}{words}{below})"
+
+
+def read(text):
+    """The kinds that the sentences give, by number."""
+    kinds = {}
+    for own, said in re.findall(r"^- (\w+)s: (.*)$", text, re.M):
+        said, _, none = said.partition(". ")
+        waiting = []
+        for number, rule, mark in re.findall(r"(\d+) [A-Za-z]\w*(?: simple)?(?: `\*`)?(?: \(([^)]*)\))?(,| and|;|\.|$)", said):
+            waiting.append(int(number))
+            if rule or mark not in (",", " and"):
+                kinds.update({n: Kind(n, own.lower(), rule or "none") for n in waiting})
+                waiting = []
+            each = re.search(r"each for (\d+) to (\d+)", rule)
+            if each:
+                kinds.update({n: Kind(n, own.lower(), rule) for n in range(int(each[1]), int(each[2]) + 1)})
+        if none:
+            without = listed(none)
+            assert without and all(kinds[n].rule == "none" for n in without), none
+    for n in listed(re.search(r"Names stand on ([\d, and]*),", text)[1]):
+        kinds[n].named = True
+    for n, most in re.findall(r"\(kind (\d+): 0 to (\d+)\)", text):
+        kinds[int(n)].details = int(most)
+    kinds[int(re.search(r"position of the name in kind (\d+)", text)[1])].placed = True
+    assert sorted(kinds) == sorted(WORD), "the sentences do not give the kinds that tables.py writes"
+    return kinds
+
+
+def listed(text):
+    """The numbers of '26 and 28 to 32'."""
+    found = []
+    for first, last in re.findall(r"(\d+)(?: to (\d+))?", text):
+        found += range(int(first), int(last or first) + 1)
+    return found
+
+
+def changed(children):
+    """These children, and with one dropped, one of another class, one more at either end; and two less or more, for what goes in pairs."""
+    yield children
+    yield children[:-2]
+    for at in range(len(children)):
+        yield children[:at] + children[at + 1:]
+        for one in CHILD:
+            yield children[:at] + (one,) + children[at + 1:]
+    for one in CHILD:
+        yield (one,) + children
+        yield children + (one,)
+        yield children + (one, one)
+
+
+def told(children):
+    return ", ".join(children) or "nothing"
+
+
+class Cases:
+    """Cases in words and their answers, each tree once."""
+
+    def __init__(self):
+        self.cases, self.answers, self.trees = [HEADING], [HEADING], set()
+
+    def add(self, label, tree, unsound_at=None, names=""):
+        if (tree, names) not in self.trees:
+            self.trees.add((tree, names))
+            self.cases.append(f"{label} | check{names} | {tree}")
+            self.answers.append(f"{label}: {'sound' if unsound_at is None else f'3 at {unsound_at}'}")
+
+
+def of_kind(kind, cases):
+    name = f"{kind.number} {WORD[kind.number]}"
+    around, at = PLACE[kind.own]
+
+    def add(label, record, sound, names=""):
+        cases.add(label, around.format(record), None if sound else at, names)
+
+    least = {detail: min(kind.met(detail), key=len) for detail in range(kind.details + 1)}
+    for detail in least:
+        for children in kind.met(detail):
+            for others in changed(children):
+                add(f"{name}{f':{detail}' if detail else ''} of {told(others)}", kind.text(detail, others), kind.fits(detail, others))
+    for children in dict.fromkeys(least.values()):
+        for detail in (kind.details + 1, 255):
+            add(f"{name}:{detail} of {told(children)}, a detail that it has not", kind.text(detail, children), False)
+    if kind.named:
+        add(f"{name} without a name", kind.text(0, least[0], ""), False)
+        add(f"{name}, a name of 255 bytes", kind.text(0, least[0], " name=0+255"), True, " names=256")
+        add(f"{name}, a name of 256 bytes", kind.text(0, least[0], " name=0+256"), False, " names=256")
+    else:
+        add(f"{name} with a name", kind.text(0, least[0], " name=0+1"), False, " names=16")
+        add(f"{name} with the start of a name", kind.text(0, least[0], " name=1+0"), False, " names=16")
+    add(f"{name}, a position in bytes 20 to 23", kind.text(0, least[0], (" a" if kind.named else "") + " pos=1"), kind.placed)
+    for own, (holder, index) in HOLDER.items():
+        cases.add(f"{name} in the place of a kind of {own}", holder.format(kind.text(0, least[0])), None if own == kind.own else index)
+
+
+def made(text):
+    """The cases and their answers."""
+    kinds, cases = read(text), Cases()
+    for number in sorted(kinds):
+        of_kind(kinds[number], cases)
+    for number in [n for n in range(max(kinds) + 2) if n not in kinds] + [255]:
+        cases.add(f"{number} is no kind", f"(Break kind={number})", 0)
+    return "\n".join(cases.cases) + "\n", "\n".join(cases.answers) + "\n", len(cases.trees)
+
+
+def main():
+    text = (FOLDER / "document01.txt").read_text()
+    cases, answers, count = made(text)
+    stdout = FOLDER / "stdout"
+    above = stdout.read_text().partition(HEADING)[0]
+    files = {FOLDER / "kinds.txt": cases, stdout: above + answers}
+    if "--check" not in sys.argv:
+        for path, wanted in files.items():
+            path.write_text(wanted)
+    faults = [f"{path.relative_to(ROOT)} is NOT what document 01's sentences give" for path, wanted in files.items()
+              if not path.exists() or path.read_text() != wanted]
+    if DOCUMENT.exists():
+        document = DOCUMENT.read_text()
+        quoted = [line for line in text.splitlines() if not line.startswith("#")]
+        faults += [f"document 01 has no such words: {line}" for line in quoted if line not in document]
+    where = "which stand in it" if DOCUMENT.exists() else "which could not be held to it here"
+    print("\n".join(faults) or f"crates/cases: {count} cases and answers are what document 01's sentences give, {where}")
+    return 1 if faults else 0
+
+
+if __name__ == "__main__":
+    sys.exit(main())
