@@ -11,7 +11,8 @@ use Rattle.tablefile.specs.File.{Content}
 use Rattle.tablefile.specs.Reading.{nodesAt, contentAt, readCheck}
 use Rattle.tablefile.proofs.Fronts.{table-length}
 use Rattle.tablefile.proofs.Accepted.{read-fronted, read-is-sound}
-use Rattle.errors.specs.Errors.{Err, width}
+use Rattle.errors.specs.declared.Err.{Err}
+use Rattle.errors.specs.Errors.{width}
 use Rattle.errors.proofs.Storing.{allWords}
 use Rattle.validate.specs.Job.{errorsOf, errorsAfter}
 use Rattle.validate.proofs.Theorems.{list-holds-all}

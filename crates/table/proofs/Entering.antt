@@ -14,13 +14,17 @@ use Rattle.dialect.specs.declared.Decoded.the-variants.{Valid, Invalid}
 use Rattle.forest.specs.Forest.{Tree, treeOf}
 use Rattle.table.specs.Numbers.{badDialect, wrongNode}
 use Rattle.table.specs.Answer.{Answer, accepted, refused, andThen, numberOf, carried, refusal, checked}
-use Rattle.table.specs.Check.{checkOf, inDialect, turnedAway, given, handing, givenOf, nodeFits, nodeCheck}
+use Rattle.table.specs.Check.{checkOf, Handing, inDialect, turnedAway, given, handing, givenOf, inGiven}
+use Rattle.table.specs.Check.{givenCheck, nodeFits, nodeCheck}
 use Rattle.table.specs.Check.{stretchOf, entryCheck, onNode}
 use Rattle.table.specs.declared.Refusal.{Refusal}
 use Rattle.table.specs.declared.Checked.{Checked}
 use Rattle.table.specs.declared.Checked.the-variants.{Sound, Refused}
+use Rattle.table.specs.declared.Given.{Given}
+use Rattle.table.specs.declared.Given.the-variants.{In, Refused as Away}
 use Rattle.table.specs.declared.Wanted.{Wanted}
-use Rattle.table.proofs.Checking.{accepted-clean, check-values}
+use Rattle.table.proofs.Answers.{never-passed}
+use Rattle.table.proofs.Checking.{Clean, accepted-clean, check-values}
 use Rattle.table.proofs.Handed.{stretch-within}
 
 -- each return of `enter` and `enter_dialect`
@@ -78,6 +82,36 @@ pub sound-entry : (w : Wanted) (t names : List ℕ) (i : ℕ) → checkOf t name
     → entryCheck w t names i ≡ accepted []
 unfolding entryCheck
 sound-entry w t names i sound fits = rw (sound, fits) refl
+
+-- LAW: what a job in a dialect knows once it is let in: the table is clean, and the bytes are the dialect's
+pub given-known : (t names bytes : List ℕ) {d : Dialect} → givenOf t names bytes ≡ inDialect d
+    → Clean t names × (fromBytes bytes ≡ Valid d)
+unfolding givenOf
+given-known t names bytes {d} e = go (checkOf t names) (fromBytes bytes) refl refl e
+  where
+    go : (a : Answer) (x : Decoded) → checkOf t names ≡ a → fromBytes bytes ≡ x → handing a x ≡ inDialect d
+        → Clean t names × (fromBytes bytes ≡ Valid d)
+    go (accepted vs) (Valid f) sound read h = let same : f ≡ d = cc in (accepted-clean t names sound, read ∙ ap Valid same)
+    go (accepted vs) Invalid sound read h = never (cc)
+    go (refused n vs) x sound read h = never (cc)
+
+-- LAW: where 1 to 5 are passed there is a dialect
+pub given-passed : (t names bytes : List ℕ) {vs : List ℕ} → givenCheck t names bytes ≡ accepted vs
+    → (d : Dialect) × (givenOf t names bytes ≡ inDialect d)
+given-passed t names bytes {vs} e = go (givenOf t names bytes) refl e
+  where
+    go : (h : Handing) → givenOf t names bytes ≡ h → inGiven h (λ _. accepted []) ≡ accepted vs
+        → (d : Dialect) × (givenOf t names bytes ≡ inDialect d)
+    go (inDialect d) k e = (d, k)
+    go (turnedAway n ws) k e = never-passed e
+
+-- a job in a dialect, in the terms of code: g is what `enter_dialect` answered
+module _ (t names bytes : List ℕ) {g : Given} (g-is : given g ≡ givenOf t names bytes) where
+  pub away-is : {why : Refusal} → g ≡ Away why → givenOf t names bytes ≡ turnedAway (numberOf why) (carried why)
+  away-is h = sym g-is ∙ ap given h
+
+  pub in-is : {d : Dialect} → g ≡ In d → givenOf t names bytes ≡ inDialect d
+  in-is h = sym g-is ∙ ap given h
 
 -- a job on a node, in the terms of code: e is what `enter` answered
 module _ (w : Wanted) (t names : List ℕ) (i : ℕ) {e : Checked} (e-is : checked e ≡ entryCheck w t names i) where

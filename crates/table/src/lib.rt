@@ -94,10 +94,10 @@ pub fn class(t: &[u8]) -> u8
 }
 
 // A refusal's number.
-pub fn number(r: Refusal) -> u32
-    ensures { λ n. ⌜ n ≡ numberOf r ⌝ }
+pub fn number(why: Refusal) -> u32
+    ensures { λ r. ⌜ r ≡ numberOf why ⌝ }
 {
-    match r {
+    match why {
         Refusal::Bare(number) => number,
         Refusal::Placed { number, node } => number,
         Refusal::Spanned { number, node, span } => number,
