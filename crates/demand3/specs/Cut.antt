@@ -8,6 +8,7 @@ use lib.Dec.{leb, ltb}
 use Rattle.fields.specs.Choice.{if'}
 use Rattle.forest.specs.Forest.{Node}
 use Rattle.unpack.specs.Written.{Name, Param, normal, noArgs, slash, args, kwargs}
+use Rattle.unpack.specs.Unpack.{modePosOnly, modePosOrName, modeNameOnly, modeArgs, modeKwargs}
 use Rattle.parameters.specs.Indices.{range}
 use Rattle.parameters.specs.declared.Range.{Range}
 
@@ -181,20 +182,24 @@ cutValues c =
     let r = cutRanges c in
     r .posOnly .from ∷ r .posOnly .upto ∷ r .posOrNamed .from ∷ r .posOrNamed .upto ∷ r .args .from ∷ r .args .upto ∷ r .namedOnly .from ∷ r .namedOnly .upto ∷ r .kwargs .from ∷ r .kwargs .upto ∷ cutFlat c ∷ []
 
--- the modes by range: 1 PosOnly, 2 PosOrName, 4 Args, 3 NameOnly, 5 Kwargs
+-- the modes by range
 abbrev pub partModes : Parts → List ℕ
-partModes p = replicate (length (p .posOnly)) 1 ++ (replicate (length (p .posOrNamed)) 2 ++ (replicate (length (p .args)) 4 ++ (replicate (length (p .namedOnly)) 3 ++ replicate (length (p .kwargs)) 5)))
+partModes p =
+    replicate (length (p .posOnly)) modePosOnly
+    ++ (replicate (length (p .posOrNamed)) modePosOrName
+    ++ (replicate (length (p .args)) modeArgs
+    ++ (replicate (length (p .namedOnly)) modeNameOnly ++ replicate (length (p .kwargs)) modeKwargs)))
 
 -- every index of a range has the mode m in a buffer
 abbrev pub InRange : Range → ℕ → List ℕ → Type 0
 InRange r m ms = (i : ℕ) → r .from ≤ i → i < r .upto → getD ms i 0 ≡ m
 
 pub record ByRange (r : Ranges) (ms : List ℕ) : Type 0 where
-  pub posOnly : InRange (r .posOnly) 1 ms
-  pub posOrNamed : InRange (r .posOrNamed) 2 ms
-  pub args : InRange (r .args) 4 ms
-  pub namedOnly : InRange (r .namedOnly) 3 ms
-  pub kwargs : InRange (r .kwargs) 5 ms
+  pub posOnly : InRange (r .posOnly) modePosOnly ms
+  pub posOrNamed : InRange (r .posOrNamed) modePosOrName ms
+  pub args : InRange (r .args) modeArgs ms
+  pub namedOnly : InRange (r .namedOnly) modeNameOnly ms
+  pub kwargs : InRange (r .kwargs) modeKwargs ms
 
 -- five ranges follow one another from 0 to n
 pub record Follow (r : Ranges) (n : ℕ) : Type 0 where

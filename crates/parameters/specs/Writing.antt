@@ -7,7 +7,7 @@ use lib.Seq.{sets}
 use Rattle.fields.specs.Choice.{if'}
 use Rattle.forest.specs.Forest.{forest}
 use Rattle.unpack.specs.Written.{paramsIn}
-use Rattle.unpack.specs.Unpack.{firstState, seenSlash, seenStar, modesFrom}
+use Rattle.unpack.specs.Unpack.{firstState, modeOf}
 use Rattle.unpack.specs.declared.Kind.{Kind}
 use Rattle.unpack.specs.declared.Kind.the-variants.{Normal, NoArgs, Slash, Args, KwArgs}
 use Rattle.unpack.specs.Reading.{Bounded}
@@ -37,12 +37,12 @@ Small (Accepted c) = Bounded 4294967295 4294967295 c
 Small (Refused f) = f .node < 2 ^ 32
 
 -- the mode of a parameter as a byte: 0 for a mark
+abbrev pub firstMode : List ℕ → ℕ
+firstMode [] = 0
+firstMode (m ∷ ms) = m
+
 abbrev pub modeByte : State → Kind → ℕ
-modeByte s (Normal default) = if' (seenSlash s) (λ _. if' (seenStar s) (λ _. 3) (λ _. 2)) (λ _. 1)
-modeByte s NoArgs = 0
-modeByte s Slash = 0
-modeByte s Args = 4
-modeByte s KwArgs = 5
+modeByte s k = firstMode (modeOf s k)
 
 -- a byte that is a mode
 abbrev pub modeIn : ℕ → List ℕ

@@ -263,13 +263,29 @@ unpack [] = run [] (start (flatAt 0)) []
 unpack (p ∷ ps) =
     if' (isSlash (kindIn p)) (λ _. refused slashFirst (nodeIn p)) (λ _. run [] (start (positionalOnly (firstSlash (p ∷ ps)))) (p ∷ ps))
 
--- the mode of each flat parameter: 1 PosOnly, 2 PosOrName, 3 NameOnly, 4 Args, 5 Kwargs; marks have none
+-- the modes of document 01
+abbrev pub modePosOnly : ℕ
+modePosOnly = 1
+
+abbrev pub modePosOrName : ℕ
+modePosOrName = 2
+
+abbrev pub modeNameOnly : ℕ
+modeNameOnly = 3
+
+abbrev pub modeArgs : ℕ
+modeArgs = 4
+
+abbrev pub modeKwargs : ℕ
+modeKwargs = 5
+
+-- the mode of each flat parameter; marks have none
 abbrev pub modeOf : State → Kind → List ℕ
-modeOf s (Normal default) = if' (seenSlash s) (λ _. if' (seenStar s) (λ _. 3) (λ _. 2)) (λ _. 1) ∷ []
+modeOf s (Normal default) = if' (seenSlash s) (λ _. if' (seenStar s) (λ _. modeNameOnly) (λ _. modePosOrName)) (λ _. modePosOnly) ∷ []
 modeOf s NoArgs = []
 modeOf s Slash = []
-modeOf s Args = 4 ∷ []
-modeOf s KwArgs = 5 ∷ []
+modeOf s Args = modeArgs ∷ []
+modeOf s KwArgs = modeKwargs ∷ []
 
 unfoldable pub modesFrom : State → List Param → List ℕ
 modesFrom s [] = []
