@@ -1,11 +1,12 @@
--- Laws of the form of a kind: one for each return of form_of and form. Assumes nothing.
+-- Laws of the form of a kind and of how a form reads its children: one for each return of form_of, form and reads_of. Assumes nothing.
 use mathlib.Core.Path.{_≡_, refl, _∙_}
 use mathlib.Core.Bool.{Bool, true, false, _&&_, _||_}
 use Prim.Native.Nat.{ℕ}
 use lib.Dec.{eqb}
 use borrow.Author.Tests.{ne-eqb}
-use Rattle.typerules.specs.Forms.{formOf}
+use Rattle.typerules.specs.Forms.{formOf, readsOf}
 use Rattle.typerules.specs.declared.Form.{Form}
+use Rattle.typerules.specs.declared.Reads.{Reads}
 use Rattle.typerules.specs.declared.Form.the-variants.{Ellipsis, Path, Index, Index2, List, Union, Tuple}
 use Rattle.typerules.specs.declared.Form.the-variants.{Other}
 
@@ -46,3 +47,7 @@ module _ (k d : ℕ) where
 
 pub form-same : {k d k′ d′ : ℕ} {f : Form} → k ≡ k′ → d ≡ d′ → f ≡ formOf k d → f ≡ formOf k′ d′
 form-same p q f-is = f-is ∙ rw (p, q) refl
+
+-- a form that is known reads its children as its line of the definition says
+pub reads-told : (f g : Form) (r : Reads) → f ≡ g → r ≡ readsOf g → r ≡ readsOf f
+reads-told f g r h r-is = rw h r-is

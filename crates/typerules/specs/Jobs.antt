@@ -6,11 +6,10 @@ use lib.Dec.{leb}
 use lib.ListN.{length}
 use Rattle.fields.specs.Choice.{if'}
 use Rattle.forest.specs.Forest.{treeOf}
-use Rattle.dialect.specs.Bytes.{fromBytes}
 use Rattle.dialect.specs.declared.DialectTypes.{DialectTypes}
 use Rattle.table.specs.Numbers.{shortBuffer}
 use Rattle.table.specs.Answer.{Answer, accepted, refused, andThen, refusal}
-use Rattle.table.specs.Check.{checkOf, withDialect, nodeCheck, stretchOf}
+use Rattle.table.specs.Check.{givenOf, inGiven, nodeCheck, stretchOf}
 use Rattle.table.specs.declared.Wanted.the-variants.{Expression}
 use Rattle.typerules.specs.Types.{«dialect_check_type»}
 use Rattle.typerules.specs.declared.Shaped.{Shaped}
@@ -32,9 +31,6 @@ typeAt t names types i room =
     andThen (roomCheck room (stretchOf t i)) (λ _.
     «dialect_check_type» names types (treeOf i (stretchOf t i))))
 
--- the whole job: 1 to 4, 5, 6, 7, 45, 40 to 44
+-- the whole job: 1 to 5, 6, 7, 45, 40 to 44
 unfoldable pub typeShapeOf : List ℕ → List ℕ → List ℕ → ℕ → ℕ → Answer
-typeShapeOf t names bytes i room =
-    andThen (checkOf t names) (λ _.
-    withDialect (fromBytes bytes) (λ d.
-    typeAt t names (d .«enable_types») i room))
+typeShapeOf t names bytes i room = inGiven (givenOf t names bytes) (λ d. typeAt t names (d .«enable_types») i room)

@@ -1,5 +1,9 @@
 // The forms of type expressions by the kind of a node.
+//
+// Ported from src/syntax/type_expr.rs of starlark_syntax 0.14.2 (the arms of TypeExprUnpackP::unpack), and changed: a form is told by the kind of a node.
+// Copyright 2018 The Starlark in Rust Authors. Copyright (c) Facebook, Inc. and its affiliates. Licensed under Apache-2.0.
 use crate::Form;
+use crate::How;
 use crate::Reads;
 use soundness::kinds;
 ghost use mathlib.Core.Path.{_≡_};
@@ -57,18 +61,42 @@ pub fn shape_of(form: Form) -> u8
     }
 }
 
-// Which children a form reads.
+// How a form reads its children.
 pub fn reads_of(form: Form) -> Reads
     ensures { λ r. ⌜ r ≡ readsOf form ⌝ }
 {
     match form {
-        Form::Ellipsis => Reads::Nothing,
-        Form::Path => Reads::Nothing,
-        Form::Index => Reads::AfterBase,
-        Form::Index2 => Reads::Arguments,
-        Form::List => Reads::Types,
-        Form::Union => Reads::Types,
-        Form::Tuple => Reads::Types,
-        Form::Other => Reads::Nothing,
+        Form::Ellipsis => Reads {
+            first: How::Unread,
+            others: How::Unread,
+        },
+        Form::Path => Reads {
+            first: How::Unread,
+            others: How::Unread,
+        },
+        Form::Index => Reads {
+            first: How::Unread,
+            others: How::AsType,
+        },
+        Form::Index2 => Reads {
+            first: How::Unread,
+            others: How::AsArgument,
+        },
+        Form::List => Reads {
+            first: How::AsType,
+            others: How::AsType,
+        },
+        Form::Union => Reads {
+            first: How::AsType,
+            others: How::AsType,
+        },
+        Form::Tuple => Reads {
+            first: How::AsType,
+            others: How::AsType,
+        },
+        Form::Other => Reads {
+            first: How::Unread,
+            others: How::Unread,
+        },
     }
 }
