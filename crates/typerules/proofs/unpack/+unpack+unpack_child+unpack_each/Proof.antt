@@ -60,7 +60,6 @@ abbrev unpack-each-below : ℕ → In 2 unpack-each-kinds.ps
 unpack-each-below t =
     and 2 unpack-each-kinds.ps (falls 2 unpack-each-kinds.ps _<_ μ-unpack-each t) unpack-each.Pre
 
-
 abbrev unpack-each-Inv-loop : unpack-each-lts.InvT-loop
 unpack-each-Inv-loop names reads t node left₀ at₀ how₀ left at how = Judging names reads t node left at how
 
