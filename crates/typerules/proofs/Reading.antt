@@ -1,14 +1,15 @@
 -- Laws of the type rule and the argument rule over a stretch, in the terms of code: one for each return. Assumes nothing.
 use mathlib.Core.Path.{_≡_, refl, sym, ap, _∙_}
-use mathlib.Core.Bool.{Bool, true, false}
 use mathlib.Core.List.{List, []}
 use Prim.Native.Nat.{ℕ, _+_, _-_, _*_, _/_, _<_, _≤_}
 use native.Mathlib.Omega.{arith}
 use lib.ListN.{length, take, drop}
 use lib.Dec.{eqb}
 use borrow.Author.Tests.{eq-eqb, ne-eqb}
-use Rattle.forest.specs.Forest.{nodeOf, spanOf, kidsOf, restOf, Tree, Forest, none, _then_, forest, treeOf}
+use Rattle.fields.specs.Choice.{if'}
+use Rattle.forest.specs.Forest.{nodeOf, spanOf, kidsOf, restOf, Tree, Forest, _then_, forest, treeOf}
 use Rattle.forest.proofs.Stretch.{forest-none, forest-tree, kids-part, rest-part, length-rest}
+use Rattle.soundness.specs.KindNumbers.{kindList}
 use Rattle.table.specs.Answer.{Answer, accepted, andThen, refusal}
 use Rattle.table.specs.declared.Refusal.{Refusal}
 use Rattle.typerules.specs.Forms.{formOf, readsAs, readsOf, argumentsOnly}
@@ -37,6 +38,11 @@ pub rest-within : (i : ℕ) {e : ℕ} (bs : List ℕ) → 24 * i + length bs ≤
     → 24 * (i + e / 24) + length (take (length bs - e) (drop e bs)) ≤ 50400
 rest-within i {e} bs h e-is = rw (rest-part e bs e-is) (omega (arith, length-rest bs))
 
+-- LAW: an argument that is no List is read as a type; the same for both walks
+pub no-list : {A : Type 0} (t : List ℕ) {k : ℕ} → k ≡ nodeOf 0 t .kind → (k ≡ kindList → ⊥) → (list type : A)
+    → type ≡ if' (eqb (nodeOf 0 t .kind) kindList) (λ _. list) (λ _. type)
+no-list t {k} k-is other list type = rw (← k-is, ne-eqb k kindList other) refl
+
 -- the type that a stretch begins with: what is refused at its node, then its children
 module _ (names : List ℕ) (i : ℕ) (t : List ℕ) (here : Shaped)
     (here-is : shaped here ≡ atNode names (formOf (nodeOf 0 t .kind) (nodeOf 0 t .detail)) (nodeOf i t)
@@ -62,23 +68,24 @@ module _ (names : List ℕ) (i : ℕ) (t : List ℕ) {how : How} where
     child-type h r-is = rw h r-is
 
     module _ (h : how ≡ AsArgument) {k : ℕ} (k-is : k ≡ nodeOf 0 t .kind) where
-      pub child-list : k ≡ 39 → {e : ℕ} → e ≡ spanOf t
+      pub child-list : k ≡ kindList → {e : ℕ} → e ≡ spanOf t
           → r ≡ unpackEach argumentsOnly names (forest (i + 1) (take (e - 24) (drop 24 t)))
           → r ≡ unpackChild how names (treeOf i t)
       unfolding «unpack»
-      child-list list {e} e-is r-is = r-is ∙ rw (kids-part e t e-is, h, ← k-is, eq-eqb k 39 list) refl
+      child-list list {e} e-is r-is = r-is ∙ rw (kids-part e t e-is, h, ← k-is, eq-eqb k kindList list) refl
 
-      pub child-argument : (k ≡ 39 → ⊥) → r ≡ «unpack» names (treeOf i t) → r ≡ unpackChild how names (treeOf i t)
+      pub child-argument : (k ≡ kindList → ⊥) → r ≡ «unpack» names (treeOf i t)
+          → r ≡ unpackChild how names (treeOf i t)
       unfolding «unpack»
-      child-argument other r-is =
-          let test : eqb (nodeOf i t .kind) 39 ≡ false = ap (λ (x : ℕ). eqb x 39) (sym k-is) ∙ ne-eqb k 39 other in
-          r-is ∙ rw (h, test) refl
+      child-argument other r-is = rw h (r-is ∙ no-list t k-is other _ _)
 
 -- children side by side: at each turn what is left gives the whole answer
-pub record Judging (names : List ℕ) (reads : Reads) (t : List ℕ) (node : ℕ) (left : List ℕ) (at : ℕ) (how : How) : Type 0 where
+pub record Judging (names : List ℕ) (reads : Reads) (t : List ℕ) (node : ℕ) (left : List ℕ) (at : ℕ) (how : How)
+    : Type 0 where
   pub within : 24 * at + length left ≤ 50400
   pub part : length left ≤ length t
-  pub same : unpackEach (readsAs how (reads .others)) names (forest at left) ≡ unpackEach reads names (forest node t)
+  pub same : unpackEach (readsAs how (reads .others)) names (forest at left)
+      ≡ unpackEach reads names (forest node t)
 
 module _ {names : List ℕ} {reads : Reads} {t : List ℕ} {node : ℕ} where
   pub each-start : 24 * node + length t ≤ 50400 → Judging names reads t node t node (reads .first)
@@ -89,24 +96,24 @@ module _ {names : List ℕ} {reads : Reads} {t : List ℕ} {node : ℕ} where
     unfolding «unpack»
     each-end short = rw (← j .same, forest-none at left short) refl
 
-    module _ (big : 24 ≤ length left) (child : Shaped) (child-is : shaped child ≡ unpackChild how names (treeOf at left))
-      where
-        step : {e : ℕ} → e ≡ spanOf left → unpackEach (readsAs how (reads .others)) names (forest at left)
-            ≡ andThen (shaped child) (λ _. unpackEach (readsAs (reads .others) (reads .others)) names
-            (forest (at + e / 24) (take (length left - e) (drop e left))))
-        unfolding «unpack»
-        step e-is = first-and-rest (λ z ts. unpackEach z names ts) (λ h x. unpackChild h names x)
-            (λ x y. andThen x (λ _. y)) (λ z x ts. refl) (readsAs how (reads .others)) at left big e-is
-            ∙ rw child-is refl
+    module _ (big : 24 ≤ length left) (child : Shaped)
+        (child-is : shaped child ≡ unpackChild how names (treeOf at left)) where
+      step : {e : ℕ} → e ≡ spanOf left → unpackEach (readsAs how (reads .others)) names (forest at left)
+          ≡ andThen (shaped child) (λ _. unpackEach (readsAs (reads .others) (reads .others)) names
+          (forest (at + e / 24) (take (length left - e) (drop e left))))
+      unfolding «unpack»
+      step e-is = first-and-rest (λ z ts. unpackEach z names ts) (λ h x. unpackChild h names x)
+          (λ x y. andThen x (λ _. y)) (λ z x ts. refl) (readsAs how (reads .others)) at left big e-is
+          ∙ rw child-is refl
 
-        pub each-stop : {why : Refusal} → child ≡ Refused why
-            → refusal why ≡ unpackEach reads names (forest node t)
-        each-stop h = sym (sym (j .same) ∙ step refl ∙ rw h refl)
+      pub each-stop : {why : Refusal} → child ≡ Refused why
+          → refusal why ≡ unpackEach reads names (forest node t)
+      each-stop h = sym (sym (j .same) ∙ step refl ∙ rw h refl)
 
-        pub each-on : child ≡ Accepted → {e : ℕ} → e ≡ spanOf left
-            → Judging names reads t node (take (length left - e) (drop e left)) (at + e / 24) (reads .others)
-        each-on h {e} e-is = record {
-          within = rest-within at left (j .within) e-is;
-          part = rw (rest-part e left e-is) (omega (arith, length-rest left, j .part));
-          same = sym (sym (j .same) ∙ step e-is ∙ rw h refl);
-        }
+      pub each-on : child ≡ Accepted → {e : ℕ} → e ≡ spanOf left
+          → Judging names reads t node (take (length left - e) (drop e left)) (at + e / 24) (reads .others)
+      each-on h {e} e-is = record {
+        within = rest-within at left (j .within) e-is;
+        part = rw (rest-part e left e-is) (omega (arith, length-rest left, j .part));
+        same = sym (sym (j .same) ∙ step e-is ∙ rw h refl);
+      }

@@ -1,10 +1,11 @@
 -- The forms of type expressions: TypeExprUnpackP of src/syntax/type_expr.rs by the kind of a node. These are definitions.
 -- Copyright 2018 The Starlark in Rust Authors. Copyright (c) Facebook, Inc. and its affiliates. Licensed under Apache-2.0; changed.
-use mathlib.Core.Bool.{Bool, true, false, _&&_, _||_}
+use mathlib.Core.Bool.{_&&_, _||_}
 use Prim.Native.Nat.{ℕ}
 use lib.Dec.{eqb}
 use Rattle.fields.specs.Choice.{if'}
-use Rattle.soundness.specs.KindNumbers.{kindTuple, kindDot, kindIndex, kindIndex2, kindIdentifier, kindEllipsis, kindOp, kindList}
+use Rattle.soundness.specs.KindNumbers.{kindTuple, kindDot, kindIndex, kindIndex2, kindIdentifier}
+use Rattle.soundness.specs.KindNumbers.{kindEllipsis, kindOp, kindList}
 use Rattle.typerules.specs.declared.Form.{Form}
 use Rattle.typerules.specs.declared.Form.the-variants.{Ellipsis, Path, Index, Index2, List, Union, Tuple, Other}
 use Rattle.typerules.specs.declared.How.{How}
@@ -37,7 +38,7 @@ shapeOf Other = 0
 abbrev pub listShape : ℕ
 listShape = 5
 
--- the first child is read in one way, and the others in one
+-- the first child is read in one way, and the others in another
 abbrev pub readsAs : How → How → Reads
 readsAs first others = record { first = first; others = others }
 

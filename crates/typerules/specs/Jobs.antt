@@ -1,6 +1,5 @@
 -- The answer of the type job, in document 01's order of numbers, and what answers mean. These are definitions.
-use mathlib.Core.Bool.{Bool, true, false}
-use mathlib.Core.List.{List, [], _∷_}
+use mathlib.Core.List.{List, []}
 use Prim.Native.Nat.{ℕ, _/_}
 use lib.Dec.{leb}
 use lib.ListN.{length}

@@ -1,6 +1,6 @@
 -- Paths in types: unpack_path of src/syntax/type_expr.rs, over trees. These are definitions.
 -- Copyright 2018 The Starlark in Rust Authors. Copyright (c) Facebook, Inc. and its affiliates. Licensed under Apache-2.0; changed.
-use mathlib.Core.Bool.{Bool, true, false}
+use mathlib.Core.Bool.{Bool}
 use mathlib.Core.List.{List, [], _∷_}
 use Prim.Native.Nat.{ℕ}
 use lib.Dec.{eqb}
@@ -9,7 +9,7 @@ use Rattle.forest.specs.Forest.{Node, Tree, node, Forest, none, _then_}
 use Rattle.forest.specs.Names.{nameOf, same}
 use Rattle.soundness.specs.KindNumbers.{kindDot, kindIdentifier}
 use Rattle.table.specs.Numbers.{dotInType, expectingPath, dotTypeBan}
-use Rattle.table.specs.Answer.{Answer, accepted, refused, refusedAt}
+use Rattle.table.specs.Answer.{Answer, accepted, refusedAt}
 
 -- the field `type`
 abbrev pub typeField : List ℕ

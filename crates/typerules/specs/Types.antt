@@ -1,6 +1,5 @@
 -- Types: unpack and unpack_argument of src/syntax/type_expr.rs and dialect_check_type of src/syntax/grammar_util.rs, over trees. These are definitions.
 -- Copyright 2018 The Starlark in Rust Authors. Copyright (c) Facebook, Inc. and its affiliates. Licensed under Apache-2.0; changed.
-use mathlib.Core.Bool.{Bool, true, false}
 use mathlib.Core.List as L
 use Prim.Native.Nat.{ℕ}
 use lib.Dec.{eqb}
@@ -10,7 +9,7 @@ use Rattle.soundness.specs.KindNumbers.{kindIdentifier, kindList}
 use Rattle.dialect.specs.declared.DialectTypes.{DialectTypes}
 use Rattle.dialect.specs.Rows.{permitsTypes}
 use Rattle.table.specs.Numbers.{invalidType, emptyListInType, typesDisabled}
-use Rattle.table.specs.Answer.{Answer, accepted, refused, andThen, refusedAt}
+use Rattle.table.specs.Answer.{Answer, accepted, andThen, refusedAt}
 use Rattle.typerules.specs.Forms.{formOf, readsAs, readsOf, argumentsOnly, ofChild}
 use Rattle.typerules.specs.Paths.{«unpack_path»}
 use Rattle.typerules.specs.declared.How.{How}

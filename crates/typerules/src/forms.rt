@@ -8,7 +8,7 @@ use crate::Reads;
 use soundness::kinds;
 ghost use mathlib.Core.Path.{_≡_};
 ghost use Rattle.forest.specs.Forest.{nodeOf};
-ghost use Rattle.typerules.specs.Forms.{formOf, shapeOf, readsOf};
+ghost use Rattle.typerules.specs.Forms.{formOf, shapeOf, readsAs, readsOf};
 
 // The form of the record that a stretch begins with.
 pub fn form(t: &[u8]) -> Form
@@ -66,37 +66,23 @@ pub fn reads_of(form: Form) -> Reads
     ensures { λ r. ⌜ r ≡ readsOf form ⌝ }
 {
     match form {
-        Form::Ellipsis => Reads {
-            first: How::Unread,
-            others: How::Unread,
-        },
-        Form::Path => Reads {
-            first: How::Unread,
-            others: How::Unread,
-        },
-        Form::Index => Reads {
-            first: How::Unread,
-            others: How::AsType,
-        },
-        Form::Index2 => Reads {
-            first: How::Unread,
-            others: How::AsArgument,
-        },
-        Form::List => Reads {
-            first: How::AsType,
-            others: How::AsType,
-        },
-        Form::Union => Reads {
-            first: How::AsType,
-            others: How::AsType,
-        },
-        Form::Tuple => Reads {
-            first: How::AsType,
-            others: How::AsType,
-        },
-        Form::Other => Reads {
-            first: How::Unread,
-            others: How::Unread,
-        },
+        Form::Ellipsis => reads(How::Unread, How::Unread),
+        Form::Path => reads(How::Unread, How::Unread),
+        Form::Index => reads(How::Unread, How::AsType),
+        Form::Index2 => reads(How::Unread, How::AsArgument),
+        Form::List => reads(How::AsType, How::AsType),
+        Form::Union => reads(How::AsType, How::AsType),
+        Form::Tuple => reads(How::AsType, How::AsType),
+        Form::Other => reads(How::Unread, How::Unread),
+    }
+}
+
+// The first child read in one way, and the others in another.
+fn reads(first: How, others: How) -> Reads
+    ensures { λ r. ⌜ r ≡ readsAs first others ⌝ }
+{
+    Reads {
+        first: first,
+        others: others,
     }
 }

@@ -9,11 +9,11 @@ use Rattle.forest.specs.Forest.{kidsOf, treeOf}
 use Rattle.table.specs.Answer.{Answer, accepted, refused}
 use Rattle.table.specs.Check.{stretchOf}
 use Rattle.typerules.specs.Jobs.{typeShapeOf}
-use Rattle.types.specs.Shapes.{shapesOf, shapeOr, Rising}
+use Rattle.types.specs.Shapes.{shapesOf, shapeOr, Rising, Proper}
 use Rattle.types.specs.Jobs.{shapesAfter}
 use Rattle.types.proofs.Jobs.{accepted-says}
 use Rattle.types.proofs.Places.{written-bytes, not-above, type-once}
-use Rattle.types.proofs.Proper.{Proper, type-proper, each-proper}
+use Rattle.types.proofs.Proper.{type-proper, each-proper}
 
 module _ (t names bytes : List ℕ) (i : ℕ) where
   -- LAW: a refusal changes no byte
@@ -32,7 +32,7 @@ module _ (t names bytes : List ℕ) (i : ℕ) where
       → Rising 0 (length (stretchOf t i) / 24) (shapesOf (treeOf 0 (stretchOf t i)))
   read-once room e = type-once (stretchOf t i) (accepted-says t names bytes i room e .long)
 
-  -- LAW: after acceptance the byte of each node that is read as a type or argument is its shape, and every other byte is as it was
+  -- LAW: after acceptance the byte of each node that is read as a type or argument is its shape; others are as they were
   pub accepted-bytes : (buffer : List ℕ) {vs : List ℕ} → accepted vs ≡ typeShapeOf t names bytes i (length buffer)
       → (k : ℕ) → getD (shapesAfter t names bytes i buffer) k 0
       ≡ shapeOr (shapesOf (treeOf 0 (stretchOf t i))) k (getD buffer k 0)

@@ -5,11 +5,9 @@ use mathlib.Core.List.{List, []}
 use Prim.Native.Nat.{ℕ, _+_, _/_, _≤_}
 use native.Mathlib.Omega.{arith}
 use lib.ListN.{length}
-use lib.Dec.{leb}
 use borrow.Author.Tests.{leb-true}
 use Rattle.fields.specs.Choice.{if'}
 use Rattle.forest.specs.Forest.{nodeOf, treeOf}
-use Rattle.dialect.specs.declared.Dialect.{Dialect}
 use Rattle.table.specs.Answer.{Answer, accepted, refused, andThen}
 use Rattle.table.specs.Check.{Handing, inDialect, turnedAway, givenOf, inGiven, nodeFits, nodeCheck, stretchOf}
 use Rattle.table.specs.declared.Wanted.the-variants.{Expression}
@@ -89,6 +87,7 @@ module _ (t names bytes : List ℕ) (i : ℕ) (s : List ℕ) {a : Answer}
     pub job-written : {v : List ℕ} → v ≡ written (shapesOf (treeOf 0 u)) s → v ≡ shapesAfter t names bytes i s
     job-written v-is = rw (← a-is) (v-is ∙ rw (← u-is) (go a (sym q-is ∙ no)))
       where
-        go : (x : Answer) → isRefused x ≡ false → written (shapesOf (treeOf 0 u)) s ≡ afterAnswer x (shapesOf (treeOf 0 u)) s
+        go : (x : Answer) → isRefused x ≡ false
+            → written (shapesOf (treeOf 0 u)) s ≡ afterAnswer x (shapesOf (treeOf 0 u)) s
         go (accepted vs) e = refl
         go (refused n vs) e = absurd (false≢true (sym e))

@@ -1,5 +1,4 @@
 -- An accepted type has a shape from 1 to 7 at each node that is read, from whatever index its places are counted: no 0 is ever written. Assumes nothing.
-use mathlib.Core.Path.{_≡_}
 use mathlib.Core.Bool.{Bool, true, false}
 use mathlib.Core.List as L
 use mathlib.Core.List.{_∷_, _++_}
@@ -18,13 +17,8 @@ use Rattle.typerules.specs.declared.Form.the-variants.{Ellipsis, Path, Index, I
 use Rattle.typerules.specs.declared.How.{How}
 use Rattle.typerules.specs.declared.How.the-variants.{Unread, AsType, AsArgument}
 use Rattle.typerules.specs.declared.Reads.{Reads}
-use Rattle.types.specs.Shapes.{Shape, shapeAt, shapesOf, shapesChild, shapesEach}
+use Rattle.types.specs.Shapes.{Shape, shapeAt, shapesOf, shapesChild, shapesEach, Proper}
 use Rattle.types.proofs.Jobs.{Passes, both-pass}
-
--- every shape is one of document 01's
-unfoldable pub Proper : L.List Shape → Type 0
-Proper L.[] = Unit {0}
-Proper (s ∷ ss) = (1 ≤ s .shape) × ((s .shape ≤ 7) × Proper ss)
 
 proper-none : Proper L.[]
 unfolding Proper
@@ -63,7 +57,8 @@ module _ (names : L.List ℕ) (i j : ℕ) (bs : L.List ℕ) (ks : ProperFrom nam
   type-proper p =
       let form : Form = formOf (nodeOf i bs .kind) (nodeOf i bs .detail) in
       let both = both-pass (atNode names form (nodeOf i bs) (forest (i + 1) (kidsOf bs))) _ p in
-      proper-one (nodeOf j bs) (shapeOf form) _ (shape-known names form _ _ (both .0)) (ks (readsOf form) (j + 1) (both .1))
+      proper-one (nodeOf j bs) (shapeOf form) _ (shape-known names form _ _ (both .0))
+      (ks (readsOf form) (j + 1) (both .1))
 
   child-proper : (how : How) → Passes (unpackChild how names (treeOf i bs)) → Proper (shapesChild how (treeOf j bs))
   unfolding «unpack» shapesOf

@@ -1,16 +1,15 @@
 -- Laws of the shapes of a stretch, in the terms of code: one for each return of the writing walk. Assumes nothing.
 use mathlib.Core.Path.{_≡_, refl, sym, ap, _∙_}
-use mathlib.Core.Bool.{Bool, true, false}
 use mathlib.Core.List.{List, [], _∷_, _++_}
 use Prim.Native.Nat.{ℕ, _+_, _-_, _/_, _<_, _≤_}
 use native.Mathlib.Omega.{arith}
 use lib.ListN.{length, take, drop, set, length-set}
-use lib.Dec.{eqb}
-use borrow.Author.Tests.{eq-eqb, ne-eqb}
-use Rattle.forest.specs.Forest.{nodeOf, spanOf, restOf, forest, treeOf}
+use borrow.Author.Tests.{eq-eqb}
+use Rattle.forest.specs.Forest.{nodeOf, spanOf, forest, treeOf}
 use Rattle.forest.proofs.Stretch.{forest-none, kids-part, rest-part, length-kids, length-rest}
-use Rattle.typerules.specs.Forms.{formOf, shapeOf, readsAs, readsOf, argumentsOnly}
-use Rattle.typerules.proofs.Reading.{first-and-rest}
+use Rattle.soundness.specs.KindNumbers.{kindList}
+use Rattle.typerules.specs.Forms.{formOf, shapeOf, listShape, readsAs, readsOf, argumentsOnly}
+use Rattle.typerules.proofs.Reading.{first-and-rest, no-list}
 use Rattle.typerules.specs.declared.Form.{Form}
 use Rattle.typerules.specs.declared.How.{How}
 use Rattle.typerules.specs.declared.How.the-variants.{Unread, AsType, AsArgument}
@@ -55,18 +54,16 @@ module _ (i : ℕ) (t s : List ℕ) {how : How} where
     child-type h r-is = rw h r-is
 
     module _ (h : how ≡ AsArgument) {k : ℕ} (k-is : k ≡ nodeOf 0 t .kind) where
-      pub child-list : k ≡ 39 → {e : ℕ} → e ≡ spanOf t
-          → r ≡ written (shapesEach argumentsOnly (forest (i + 1) (take (e - 24) (drop 24 t)))) (set s i 5)
+      pub child-list : k ≡ kindList → {e : ℕ} → e ≡ spanOf t
+          → r ≡ written (shapesEach argumentsOnly (forest (i + 1) (take (e - 24) (drop 24 t)))) (set s i listShape)
           → r ≡ written (shapesChild how (treeOf i t)) s
       unfolding shapesOf written
-      child-list list {e} e-is r-is = r-is ∙ rw (kids-part e t e-is, h, ← k-is, eq-eqb k 39 list) refl
+      child-list list {e} e-is r-is = r-is ∙ rw (kids-part e t e-is, h, ← k-is, eq-eqb k kindList list) refl
 
-      pub child-argument : (k ≡ 39 → ⊥) → r ≡ written (shapesOf (treeOf i t)) s
+      pub child-argument : (k ≡ kindList → ⊥) → r ≡ written (shapesOf (treeOf i t)) s
           → r ≡ written (shapesChild how (treeOf i t)) s
       unfolding shapesOf
-      child-argument other r-is =
-          let test : eqb (nodeOf i t .kind) 39 ≡ false = ap (λ (x : ℕ). eqb x 39) (sym k-is) ∙ ne-eqb k 39 other in
-          r-is ∙ rw (h, test) refl
+      child-argument other r-is = rw h (r-is ∙ ap (λ (ss : List Shape). written ss s) (no-list t k-is other _ _))
 
 -- children side by side: at each turn what is left makes of the buffer s what the whole makes of the first one
 pub record Writing (reads : Reads) (t : List ℕ) (at : ℕ) (s₀ left : List ℕ) (place : ℕ) (how : How) (s : List ℕ)

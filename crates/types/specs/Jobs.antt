@@ -16,4 +16,5 @@ isRefused (refused n vs) = true
 
 -- the buffer at exit: its byte k is that of node i + k, so the nodes of the stretch are counted from 0
 abbrev pub shapesAfter : List ℕ → List ℕ → List ℕ → ℕ → List ℕ → List ℕ
-shapesAfter t names bytes i buffer = afterAnswer (typeShapeOf t names bytes i (length buffer)) (shapesOf (treeOf 0 (stretchOf t i))) buffer
+shapesAfter t names bytes i buffer =
+    afterAnswer (typeShapeOf t names bytes i (length buffer)) (shapesOf (treeOf 0 (stretchOf t i))) buffer

@@ -1,7 +1,6 @@
 -- Shapes: which byte of the buffer gets which shape. These are definitions.
 -- The nodes are those that TypeExprUnpackP::unpack of src/syntax/type_expr.rs reads.
 -- Copyright 2018 The Starlark in Rust Authors. Copyright (c) Facebook, Inc. and its affiliates. Licensed under Apache-2.0; changed.
-use mathlib.Core.Bool.{Bool, true, false}
 use mathlib.Core.List.{List, [], _∷_, _++_}
 use Prim.Native.Nat.{ℕ, _+_, _≤_, _<_}
 use lib.Dec.{eqb}
@@ -61,6 +60,11 @@ shapeOr (s ∷ ss) k old = if' (eqb (s .at) k) (λ _. s .shape) (λ _. shapeOr s
 unfoldable pub Rising : ℕ → ℕ → List Shape → Type 0
 Rising lo hi [] = Unit {0}
 Rising lo hi (s ∷ ss) = (lo ≤ s .at) × ((s .at < hi) × Rising (s .at + 1) hi ss)
+
+-- every shape is one of document 01's, 1 to 7
+unfoldable pub Proper : List Shape → Type 0
+Proper [] = Unit {0}
+Proper (s ∷ ss) = (1 ≤ s .shape) × ((s .shape ≤ 7) × Proper ss)
 
 -- a buffer after an answer: accepted, the shapes are written; a refusal changes nothing
 abbrev pub afterAnswer : Answer → List Shape → List ℕ → List ℕ

@@ -84,7 +84,7 @@ pub +unpack+unpack-child+unpack-each-spec : {M : Type 1} → statement M
     unpack.Post
     (λ c κs. search needs)
     (λ c. search needs)
-    (λ c. search unpack-stop)
+    (λ c. search unpack-stop)  -- returns
     (λ c. search needs)
     (λ c κs. search needs)
     (λ c κs. search needs)
@@ -94,7 +94,7 @@ pub +unpack+unpack-child+unpack-each-spec : {M : Type 1} → statement M
     (λ c. search needs)
     (λ c. search needs)
     (λ c κs. search needs)
-    (λ c. search unpack-on))
+    (λ c. search unpack-on))  -- returns-2
     (λ t. unpack-child-lts.spec (
       unpack-below t,
       unpack.Post,
@@ -118,21 +118,21 @@ pub +unpack+unpack-child+unpack-each-spec : {M : Type 1} → statement M
     (λ c. search needs)
     (λ c. search needs)
     (λ c κs. search needs)
-    (λ c. search child-list)
+    (λ c. search child-list)  -- returns
     (λ c κs. search needs)
-    (λ c. search child-unread)
-    (λ c. search child-type)
-    (λ c. search child-argument))
+    (λ c. search child-unread)  -- returns-2
+    (λ c. search child-type)  -- returns-3
+    (λ c. search child-argument))  -- returns-4
     λ t. unpack-each-lts.spec
     (unpack-child-below t, unpack-child.Post, span-reads.Asked, span-reads.Learnt)
     (unpack-each-at t)
     unpack-each.Post
     unpack-each-Inv-loop
     unpack-each-μ-loop
-    (λ c. search each-start)
+    (λ c. search each-start)  -- loop-holds
     (λ c κs. search needs)
     (λ c. search needs)
-    (λ c. search each-stop)
+    (λ c. search each-stop)  -- returns
     (λ c. search needs)
     (λ c κs. search needs)
     (λ c. search needs)
@@ -140,5 +140,5 @@ pub +unpack+unpack-child+unpack-each-spec : {M : Type 1} → statement M
     (λ c. search needs)
     (λ c. search needs)
     (λ c. search needs)
-    (λ c. search each-on)
-    (λ c. search each-end)
+    (λ c. search each-on)  -- loop-again
+    (λ c. search each-end)  -- returns-2

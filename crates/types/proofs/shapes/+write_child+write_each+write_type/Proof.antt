@@ -60,7 +60,8 @@ write-type-below t =
     and 2 write-type-kinds.ps (falls 2 write-type-kinds.ps _<_ μ-write-type t) write-type.Pre
 
 abbrev write-each-Inv-loop : write-each-lts.InvT-loop
-write-each-Inv-loop reads t at shapes₀ left₀ place₀ how₀ shapes left place how = Writing reads t at shapes₀ left place how shapes
+write-each-Inv-loop reads t at shapes₀ left₀ place₀ how₀ shapes left place how =
+    Writing reads t at shapes₀ left place how shapes
 
 abbrev write-each-μ-loop : write-each-lts.MeasureT-loop
 write-each-μ-loop reads t at shapes₀ left₀ place₀ how₀ shapes left place how = length left
@@ -90,15 +91,15 @@ pub +write-child+write-each+write-type-spec : {M : Type 1} → statement M
     (λ c. search needs)
     (λ c. search needs)
     (λ c. search needs)
-    (λ c κs. search (kids-room, arith))
-    (λ c. search (length-set, c .before .shapes2 .given))
-    (λ c. search child-list)
+    (λ c κs. search (kids-room, arith))  -- write-each-requires
+    (λ c. search (length-set, c .before .shapes2 .given))  -- same-length
+    (λ c. search child-list)  -- returns
     (λ c κs. search needs)
-    (λ c. search child-unread)
+    (λ c. search child-unread)  -- returns-2
     (λ c. search needs)
-    (λ c. search child-type)
+    (λ c. search child-type)  -- returns-3
     (λ c. search needs)
-    (λ c. search child-argument))
+    (λ c. search child-argument))  -- returns-4
     (λ t. write-each-lts.spec (
       write-child-below t,
       write-child.Post,
@@ -109,7 +110,7 @@ pub +write-child+write-each+write-type-spec : {M : Type 1} → statement M
     write-each.Post
     write-each-Inv-loop
     write-each-μ-loop
-    (λ c. search each-start)
+    (λ c. search each-start)  -- loop-holds
     (λ c κs. search needs)
     (λ c κs. search needs)
     (λ c. search needs)
@@ -117,9 +118,9 @@ pub +write-child+write-each+write-type-spec : {M : Type 1} → statement M
     (λ c. search needs)
     (λ c. search needs)
     (λ c. search needs)
-    (λ c. search each-on)
-    (λ c. search each-long)
-    (λ c. search each-end))
+    (λ c. search each-on)  -- loop-again
+    (λ c. search each-long)  -- same-length
+    (λ c. search each-end))  -- returns
     λ t. write-type-lts.spec (
       form-reads.Asked,
       form-reads.Learnt,
@@ -143,6 +144,6 @@ pub +write-child+write-each+write-type-spec : {M : Type 1} → statement M
     (λ c. search needs)
     (λ c. search needs)
     (λ c. search needs)
-    (λ c κs. search (kids-room, arith))
-    (λ c. search (length-set, c .before .shapes .given))
-    (λ c. search write-on)
+    (λ c κs. search (kids-room, arith))  -- write-each-requires
+    (λ c. search (length-set, c .before .shapes .given))  -- same-length
+    (λ c. search write-on)  -- returns
