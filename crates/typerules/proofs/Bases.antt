@@ -1,4 +1,5 @@
--- Laws of what is refused at a node before its children are read, in the terms of code: one for each return. Assumes nothing.
+-- Laws of what is refused at a node before its children are read, in the terms of code: one for each return.
+-- Assumes nothing.
 use mathlib.Core.Path.{_≡_, refl, sym, ap, _∙_}
 use mathlib.Core.List as L
 use Prim.Native.Nat.{ℕ, _+_, _-_, _/_, _<_, _≤_}

@@ -56,4 +56,5 @@ module _ (names : List ℕ) (i : ℕ) (t : List ℕ) {k : ℕ} (k-is : k ≡ nod
     pub path-dot : k ≡ kindDot → {e : ℕ} {b : Bool} {r : Answer} → e ≡ spanOf t → b ≡ banned names (nodeOf 0 t)
         → r ≡ objectPath b (forest (i + 1) (take (e - 24) (drop 24 t))) → r ≡ «unpack_path» names (treeOf i t)
     unfolding «unpack_path» nameOf
-    path-dot h {e} e-is b-is r-is = r-is ∙ rw (kids-part e t e-is, b-is, ← k-is, ne-eqb k kindIdentifier no, eq-eqb k kindDot h) refl
+    path-dot h {e} e-is b-is r-is = r-is ∙ rw
+        (kids-part e t e-is, b-is, ← k-is, ne-eqb k kindIdentifier no, eq-eqb k kindDot h) refl

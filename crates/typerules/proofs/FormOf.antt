@@ -1,10 +1,13 @@
--- Laws of the form of a kind and of how a form reads its children: one for each return of form_of, form and reads_of. Assumes nothing.
+-- Laws of the form of a kind and of how a form reads its children: one for each return of form_of, form and reads_of.
+-- Assumes nothing.
 use mathlib.Core.Path.{_≡_, refl, _∙_}
 use mathlib.Core.Bool.{true, false, _&&_, _||_}
 use Prim.Native.Nat.{ℕ}
 use lib.Dec.{eqb}
 use borrow.Author.Tests.{ne-eqb}
-use Rattle.soundness.specs.KindNumbers.{kindDot, kindEllipsis, kindIdentifier, kindIndex, kindIndex2, kindList, kindOp, kindTuple}
+use Rattle.fields.specs.Choice.{if'}
+use Rattle.soundness.specs.KindNumbers.{kindTuple, kindDot, kindIndex, kindIndex2, kindIdentifier}
+use Rattle.soundness.specs.KindNumbers.{kindEllipsis, kindOp, kindList}
 use Rattle.typerules.specs.Forms.{formOf, readsOf}
 use Rattle.typerules.specs.declared.Form.{Form}
 use Rattle.typerules.specs.declared.Reads.{Reads}
@@ -36,15 +39,24 @@ module _ (k d : ℕ) where
   unfolding formOf
   form-tuple h = rw h refl
 
-  module _ (a : k ≡ kindEllipsis → ⊥) (p : (eqb k kindIdentifier || eqb k kindDot) ≡ false) (i : k ≡ kindIndex → ⊥) (i2 : k ≡ kindIndex2 → ⊥) (l : k ≡ kindList → ⊥)
-      (t : k ≡ kindTuple → ⊥) where
-    pub form-union : (eqb k kindOp && eqb d 1) ≡ true → Union ≡ formOf k d
+  module _ (a : k ≡ kindEllipsis → ⊥) (p : (eqb k kindIdentifier || eqb k kindDot) ≡ false) (i : k ≡ kindIndex → ⊥)
+      (i2 : k ≡ kindIndex2 → ⊥) (l : k ≡ kindList → ⊥) (t : k ≡ kindTuple → ⊥) where
+    last : formOf k d ≡ if' (eqb k kindOp && eqb d 1) (λ _. Union) (λ _. Other)
     unfolding formOf
-    form-union h = rw (ne-eqb k kindEllipsis a, p, ne-eqb k kindIndex i, ne-eqb k kindIndex2 i2, ne-eqb k kindList l, ne-eqb k kindTuple t, h) refl
+    last = rw (
+      ne-eqb k kindEllipsis a,
+      p,
+      ne-eqb k kindIndex i,
+      ne-eqb k kindIndex2 i2,
+      ne-eqb k kindList l,
+      ne-eqb k kindTuple t,
+    ) refl
+
+    pub form-union : (eqb k kindOp && eqb d 1) ≡ true → Union ≡ formOf k d
+    form-union h = rw (last, h) refl
 
     pub form-other : (eqb k kindOp && eqb d 1) ≡ false → Other ≡ formOf k d
-    unfolding formOf
-    form-other h = rw (ne-eqb k kindEllipsis a, p, ne-eqb k kindIndex i, ne-eqb k kindIndex2 i2, ne-eqb k kindList l, ne-eqb k kindTuple t, h) refl
+    form-other h = rw (last, h) refl
 
 pub form-same : {k d k′ d′ : ℕ} {f : Form} → k ≡ k′ → d ≡ d′ → f ≡ formOf k d → f ≡ formOf k′ d′
 form-same p q f-is = f-is ∙ rw (p, q) refl

@@ -1,4 +1,5 @@
--- Laws of the type rule and the argument rule over a stretch, in the terms of code: one for each return. Assumes nothing.
+-- Laws of the type rule and the argument rule over a stretch, in the terms of code: one for each return.
+-- Assumes nothing.
 use mathlib.Core.Path.{_≡_, refl, sym, ap, _∙_}
 use mathlib.Core.List.{List, []}
 use Prim.Native.Nat.{ℕ, _+_, _-_, _*_, _/_, _<_, _≤_}
@@ -22,7 +23,8 @@ use Rattle.typerules.specs.declared.Reads.{Reads}
 use Rattle.typerules.specs.declared.Shaped.{Shaped}
 use Rattle.typerules.specs.declared.Shaped.the-variants.{Accepted, Refused}
 
--- LAW: children side by side in a stretch are the first, and what follows it; the same for the walk that judges and the one that writes
+-- LAW: children side by side in a stretch are the first, and what follows it; the same for the walk that judges and the
+-- one that writes
 pub first-and-rest : {A : Type 0} (each : Reads → Forest → A) (child : How → Tree → A) (join : A → A → A)
     → ((reads : Reads) (t : Tree) (ts : Forest)
     → each reads (t then ts) ≡ join (child (reads .first) t) (each (readsAs (reads .others) (reads .others)) ts))

@@ -1,4 +1,5 @@
--- The forms of type expressions: TypeExprUnpackP of src/syntax/type_expr.rs by the kind of a node. These are definitions.
+-- The forms of type expressions: TypeExprUnpackP of src/syntax/type_expr.rs by the kind of a node.
+-- These are definitions.
 -- Copyright 2018 The Starlark in Rust Authors. Copyright (c) Facebook, Inc. and its affiliates. Licensed under Apache-2.0; changed.
 use mathlib.Core.Bool.{_&&_, _||_}
 use Prim.Native.Nat.{ℕ}
@@ -23,7 +24,8 @@ formOf kind detail =
     if' (eqb kind kindTuple) (λ _. Tuple) (λ _.
     if' (eqb kind kindOp && eqb detail 1) (λ _. Union) (λ _. Other)))))))
 
--- the shape of a form read as a type: a List is a Union. What is no type has none; 0 is never written, since such a type is refused (proofs/Proper)
+-- the shape of a form read as a type: a List is a Union. What is no type has none; 0 is never written, since such a
+-- type is refused (proofs/Proper)
 abbrev pub shapeOf : Form → ℕ
 shapeOf Ellipsis = 1
 shapeOf Path = 2

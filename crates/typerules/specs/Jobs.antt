@@ -23,7 +23,8 @@ shaped (Refused r) = refusal r
 abbrev pub roomCheck : ℕ → List ℕ → Answer
 roomCheck room t = if' (leb (length t / 24) room) (λ _. accepted []) (λ _. refused shortBuffer [])
 
--- the type job on node i of the table t, for a buffer of so many bytes, where the table is sound and the dialect known: 6, 7, then the type
+-- the type job on node i of the table t, for a buffer of so many bytes, where the table is sound and the dialect known:
+-- 6, 7, then the type
 unfoldable pub typeAt : List ℕ → List ℕ → DialectTypes → ℕ → ℕ → Answer
 typeAt t names types i room =
     andThen (nodeCheck t i Expression) (λ _.

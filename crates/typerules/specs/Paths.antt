@@ -19,7 +19,8 @@ typeField = 116 ∷ 121 ∷ 112 ∷ 101 ∷ []
 abbrev pub banned : List ℕ → Node → Bool
 banned names dot = same (nameOf names dot) typeField
 
--- the object of a Dot: Dots down to an Identifier, where a banned path is 44; else 42 at what stands there. Only an unsound Dot has no object, and nothing is refused
+-- the object of a Dot: Dots down to an Identifier, where a banned path is 44; else 42 at what stands there. Only an
+-- unsound Dot has no object, and nothing is refused
 unfoldable mutual
   pub objectPath : Bool → Forest → Answer
   objectPath ban none = accepted []

@@ -15,7 +15,8 @@ ghost use Prim.Native.Nat.{_+_, _*_, _≤_};
 ghost use lib.ListN.{length};
 ghost use Rattle.forest.specs.Forest.{nodeOf, kidsOf, treeOf, forest};
 ghost use Rattle.typerules.specs.Forms.{formOf};
-ghost use Rattle.typerules.specs.Types.{indexBase, index2Base, listLength, atNode, «unpack», unpackChild, unpackEach};
+ghost use Rattle.typerules.specs.Types.{indexBase, index2Base, listLength, atNode};
+ghost use Rattle.typerules.specs.Types.{«unpack», unpackChild, unpackEach};
 ghost use Rattle.typerules.specs.Jobs.{shaped};
 
 // The base of the Index that a stretch begins with.

@@ -1,5 +1,5 @@
--- The buffer of the type job, for every input: a refusal changes no byte; after acceptance the byte of each node that is read is its shape,
--- from 1 to 7, and every other byte is as it was.
+-- The buffer of the type job, for every input: a refusal changes no byte; after acceptance the byte of each node that
+-- is read is its shape, from 1 to 7, and every other byte is as it was.
 -- Assumes nothing.
 use mathlib.Core.Path.{_≡_, refl, sym, ap, _∙_}
 use mathlib.Core.List.{List}
@@ -32,7 +32,8 @@ module _ (t names bytes : List ℕ) (i : ℕ) where
       → Rising 0 (length (stretchOf t i) / 24) (shapesOf (treeOf 0 (stretchOf t i)))
   read-once room e = type-once (stretchOf t i) (accepted-says t names bytes i room e .long)
 
-  -- LAW: after acceptance the byte of each node that is read as a type or argument is its shape; others are as they were
+  -- LAW: after acceptance the byte of each node that is read as a type or argument is its shape, and every other byte
+  -- is as it was
   pub accepted-bytes : (buffer : List ℕ) {vs : List ℕ} → accepted vs ≡ typeShapeOf t names bytes i (length buffer)
       → (k : ℕ) → getD (shapesAfter t names bytes i buffer) k 0
       ≡ shapeOr (shapesOf (treeOf 0 (stretchOf t i))) k (getD buffer k 0)

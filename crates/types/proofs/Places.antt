@@ -1,4 +1,5 @@
--- Where shapes are written: each node of the type's subtree at most once, so that its byte is its shape and all others stay. Assumes nothing.
+-- Where shapes are written: each node of the type's subtree at most once, so that its byte is its shape and all others
+-- stay. Assumes nothing.
 use mathlib.Core.Path.{_≡_, refl, sym, ap, _∙_}
 use mathlib.Core.Bool.{Bool, true, false}
 use mathlib.Core.List.{List, [], _∷_, _++_}
@@ -72,7 +73,8 @@ written-bytes lo hi (x ∷ ss) w s h k =
         let most = w .1 .0 in
         not-below (x .at + 1) hi ss (w .1 .1) k (getD (set s (x .at) (x .shape)) k 0) (omega arith)
         ∙ rw (← here) (getD-set-same s (x .at) (x .shape) 0 (omega arith))
-    go false e = ap (λ (v : ℕ). shapeOr ss k v) (getD-set-other s (x .at) k (x .shape) 0 (λ q. eqb-false (x .at) k e (sym q)))
+    go false e = ap (λ (v : ℕ). shapeOr ss k v)
+        (getD-set-other s (x .at) k (x .shape) 0 (λ q. eqb-false (x .at) k e (sym q)))
 
 -- children side by side in a stretch have their shapes within it, however they are read
 abbrev pub Placed : ℕ → List ℕ → Type 0

@@ -1,4 +1,5 @@
--- An accepted type has a shape from 1 to 7 at each node that is read, from whatever index its places are counted: no 0 is ever written. Assumes nothing.
+-- An accepted type has a shape from 1 to 7 at each node that is read, from whatever index its places are counted: no 0
+-- is ever written. Assumes nothing.
 use mathlib.Core.Bool.{Bool, true, false}
 use mathlib.Core.List as L
 use mathlib.Core.List.{_∷_, _++_}

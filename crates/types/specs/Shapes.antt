@@ -26,7 +26,8 @@ abbrev pub nodeShapes : Node → (Reads → List Shape) → List Shape
 nodeShapes r children =
     shapeAt r (shapeOf (formOf (r .kind) (r .detail))) ∷ children (readsOf (formOf (r .kind) (r .detail)))
 
--- the nodes that are read as types and as arguments, in table order: not the base of an Index or Index2, and nothing inside a path
+-- the nodes that are read as types and as arguments, in table order: not the base of an Index or Index2, and nothing
+-- inside a path
 unfoldable mutual
   pub shapesOf : Tree → List Shape
   shapesOf (node r ks) = nodeShapes r (λ reads. shapesEach reads ks)

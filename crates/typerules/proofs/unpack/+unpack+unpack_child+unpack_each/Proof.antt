@@ -1,4 +1,5 @@
--- `typerules::unpack::unpack`, `unpack_child` and `unpack_each` meet their contracts: what is refused at a node, then its children as they are read.
+-- `typerules::unpack::unpack`, `unpack_child` and `unpack_each` meet their contracts: what is refused at a node, then
+-- its children as they are read.
 -- Assumes nothing.
 use borrow.Author.Needs.{needs}
 use lib.ListN.{length}

@@ -1,4 +1,5 @@
--- `types::shapes::write_type`, `write_child` and `write_each` meet their contracts: a node's own shape, then those of its children as they are read.
+-- `types::shapes::write_type`, `write_child` and `write_each` meet their contracts: a node's own shape, then those of
+-- its children as they are read.
 -- Assumes nothing.
 use borrow.Author.Needs.{needs}
 use native.Mathlib.Omega.{arith}
