@@ -1,4 +1,5 @@
--- Laws of what is refused at a node before its children are read, in the terms of code: one for each return. Assumes nothing.
+-- Laws of what is refused at a node before its children are read, in the terms of code: one for each return.
+-- Assumes nothing.
 use mathlib.Core.Path.{_≡_, refl, sym, ap, _∙_}
 use mathlib.Core.List as L
 use Prim.Native.Nat.{ℕ, _+_, _-_, _/_, _<_, _≤_}
@@ -7,6 +8,7 @@ use lib.ListN.{length, take, drop}
 use borrow.Author.Tests.{eq-eqb, ne-eqb}
 use Rattle.forest.specs.Forest.{Node, nodeOf, spanOf, kidsOf, restOf, Forest, forest, treeOf}
 use Rattle.forest.proofs.Stretch.{forest-none, forest-tree, kids-part, length-rest}
+use Rattle.soundness.specs.KindNumbers.{kindIdentifier}
 use Rattle.table.specs.Numbers.{invalidType, emptyListInType}
 use Rattle.table.specs.Answer.{Answer, accepted, refusedAt}
 use Rattle.typerules.specs.Forms.{formOf}
@@ -43,14 +45,14 @@ module _ (i : ℕ) (t : L.List ℕ) {e : ℕ} (e-is : e ≡ spanOf t) {k : L.Lis
       index2-path names r-is = r-is ∙ rw (kids, forest-tree (i + 1) k big) refl
 
       module _ {b : ℕ} (b-is : b ≡ nodeOf 0 k .kind) where
-        pub index-other : (b ≡ 26 → ⊥) → {r : Answer} → r ≡ refusedAt invalidType (nodeOf i t)
+        pub index-other : (b ≡ kindIdentifier → ⊥) → {r : Answer} → r ≡ refusedAt invalidType (nodeOf i t)
             → r ≡ indexBase (nodeOf i t) (forest (i + 1) (kidsOf t))
         unfolding indexBase
-        index-other h r-is = r-is ∙ rw (kids, forest-tree (i + 1) k big, ← b-is, ne-eqb b 26 h) refl
+        index-other h r-is = r-is ∙ rw (kids, forest-tree (i + 1) k big, ← b-is, ne-eqb b kindIdentifier h) refl
 
-        pub index-good : b ≡ 26 → accepted L.[] ≡ indexBase (nodeOf i t) (forest (i + 1) (kidsOf t))
+        pub index-good : b ≡ kindIdentifier → accepted L.[] ≡ indexBase (nodeOf i t) (forest (i + 1) (kidsOf t))
         unfolding indexBase
-        index-good h = rw (kids, forest-tree (i + 1) k big, ← b-is, eq-eqb b 26 h) refl
+        index-good h = rw (kids, forest-tree (i + 1) k big, ← b-is, eq-eqb b kindIdentifier h) refl
 
       module _ {a : ℕ} (a-is : a ≡ spanOf k) where
         pub list-one : length k < a + 24 → {r : Answer} → r ≡ refusedAt invalidType (nodeOf i t)

@@ -1,8 +1,9 @@
 -- Laws of the type job's answer, in the terms of code: one for each return. Assumes nothing.
 use mathlib.Core.Path.{_≡_, refl, sym, ap, _∙_}
 use mathlib.Core.Bool.{Bool, true, false}
-use mathlib.Core.List.{List, [], _∷_}
-use Prim.Native.Nat.{ℕ, _/_, _<_, _≤_}
+use mathlib.Core.List.{List, []}
+use Prim.Native.Nat.{ℕ, _+_, _*_, _/_, _<_, _≤_}
+use native.Mathlib.Omega.{arith}
 use lib.ListN.{length}
 use borrow.Author.Tests.{le-leb, lt-leb}
 use Rattle.forest.specs.Forest.{nodeOf, treeOf}
@@ -12,14 +13,15 @@ use Rattle.dialect.specs.declared.Dialect.{Dialect}
 use Rattle.dialect.specs.declared.DialectTypes.{DialectTypes}
 use Rattle.dialect.specs.declared.Decoded.{Decoded}
 use Rattle.dialect.specs.declared.Decoded.the-variants.{Valid, Invalid}
-use Rattle.table.specs.Numbers.{badDialect, wrongNode, shortBuffer, typesDisabled}
-use Rattle.table.specs.Answer.{Answer, accepted, refused, refusedAt, refusal, checked}
-use Rattle.table.specs.Check.{checkOf, nodeFits, stretchOf}
+use Rattle.table.specs.Numbers.{wrongNode, shortBuffer, typesDisabled}
+use Rattle.table.specs.Answer.{Answer, accepted, refused, refusedAt, refusal}
+use Rattle.table.specs.Check.{checkOf, inDialect, given, handing, givenOf, nodeFits, stretchOf}
 use Rattle.table.specs.declared.Refusal.{Refusal}
-use Rattle.table.specs.declared.Checked as Checks
-use Rattle.table.specs.declared.Checked.the-variants as Check
+use Rattle.table.specs.declared.Given.{Given}
+use Rattle.table.specs.declared.Given.the-variants.{In, Refused}
 use Rattle.table.specs.declared.Wanted.the-variants.{Expression}
-use Rattle.table.proofs.Answers.{stopped}
+use Rattle.table.proofs.Checking.{check-values}
+use Rattle.table.proofs.Handed.{passed, stretch-within}
 use Rattle.typerules.specs.Types.{«unpack», «dialect_check_type»}
 use Rattle.typerules.specs.Jobs.{typeAt, typeShapeOf}
 
@@ -52,28 +54,39 @@ module _ (t names : List ℕ) (types : DialectTypes) (i room : ℕ) {b : Bool} (
       unfolding typeAt
       at-type h r-is = r-is ∙ rw (← b-is, fits, ← u-is, le-leb (length u / 24) room h) refl
 
--- the whole job
-module _ (t names bytes : List ℕ) (i room : ℕ) {f : Checks.Checked} (f-is : checked f ≡ checkOf t names) where
-  pub job-refused : {why : Refusal} → f ≡ Check.Refused why → refusal why ≡ typeShapeOf t names bytes i room
+      -- its stretch has a record or more, and lies within the table
+      module _ (sound : accepted [] ≡ checkOf t names) where
+        at-fits : (24 ≤ length u) × (24 * i + length u ≤ 50400)
+        at-fits = rw u-is (stretch-within t names i Expression (passed t names sound) (sym b-is ∙ fits))
+
+        pub at-long : 24 ≤ length u
+        at-long = at-fits .0
+
+        pub at-within : 24 * i + length u ≤ 50400
+        at-within = at-fits .1
+
+-- LAW: a job in a dialect has a table that passes the check
+pub given-sound : (t names bytes : List ℕ) {d : Dialect} → inDialect d ≡ givenOf t names bytes
+    → accepted [] ≡ checkOf t names
+unfolding givenOf
+given-sound t names bytes {d} e = go (checkOf t names) (fromBytes bytes) refl e
+  where
+    go : (a : Answer) (x : Decoded) → checkOf t names ≡ a → inDialect d ≡ handing a x → accepted [] ≡ checkOf t names
+    go (accepted vs) (Valid v) a-is e = sym (a-is ∙ ap accepted (check-values t names a-is))
+    go (accepted vs) Invalid a-is e = let z : _≡_ {A = ℕ} 0 1 = cc in absurd (omega arith)
+    go (refused n vs) x a-is e = let z : _≡_ {A = ℕ} 0 1 = cc in absurd (omega arith)
+
+-- the whole job, by what it is given
+module _ (t names bytes : List ℕ) {g : Given} (g-is : given g ≡ givenOf t names bytes) where
+  pub job-refused : (i room : ℕ) {why : Refusal} → g ≡ Refused why → refusal why ≡ typeShapeOf t names bytes i room
   unfolding typeShapeOf
-  job-refused {why} h =
-      let told : checkOf t names ≡ refusal why = sym f-is ∙ ap checked h in
-      rw told (stopped why _)
+  job-refused i room h = rw (← g-is, h) refl
 
-  module _ (sound : f ≡ Check.Sound) {d : Decoded} (d-is : d ≡ fromBytes bytes) where
-    passed : checkOf t names ≡ accepted []
-    passed = sym f-is ∙ ap checked sound
-
-    pub job-dialect : d ≡ Invalid → refused badDialect [] ≡ typeShapeOf t names bytes i room
-    unfolding typeShapeOf
-    job-dialect h = rw (passed, ← d-is, h) refl
-
-    pub job-type : {v : Dialect} {r : Answer} → d ≡ Valid v → r ≡ typeAt t names (v .«enable_types») i room
+  module _ {d : Dialect} (h : g ≡ In d) where
+    pub job-type : (i room : ℕ) {r : Answer} → r ≡ typeAt t names (d .«enable_types») i room
         → r ≡ typeShapeOf t names bytes i room
     unfolding typeShapeOf
-    job-type h r-is = r-is ∙ rw (passed, ← d-is, h) refl
+    job-type i room r-is = r-is ∙ rw (← g-is, h) refl
 
--- a check that found nothing, as the inner function asks for it
-pub sound-told : (t names : List ℕ) {f : Checks.Checked} → checked f ≡ checkOf t names → f ≡ Check.Sound
-    → accepted [] ≡ checkOf t names
-sound-told t names f-is sound = rw sound at f-is
+    pub job-sound : accepted [] ≡ checkOf t names
+    job-sound = given-sound t names bytes (sym (ap given h) ∙ g-is)

@@ -1,145 +1,121 @@
--- Laws of the type rule and the argument rule over a stretch, in the terms of code: one for each return. Assumes nothing.
+-- Laws of the type rule and the argument rule over a stretch, in the terms of code: one for each return.
+-- Assumes nothing.
 use mathlib.Core.Path.{_≡_, refl, sym, ap, _∙_}
-use mathlib.Core.Bool.{Bool, true, false}
-use mathlib.Core.List as L
-use Prim.Native.Nat.{ℕ, _+_, _-_, _/_, _<_, _≤_}
+use mathlib.Core.List.{List, []}
+use Prim.Native.Nat.{ℕ, _+_, _-_, _*_, _/_, _<_, _≤_}
 use native.Mathlib.Omega.{arith}
 use lib.ListN.{length, take, drop}
 use lib.Dec.{eqb}
 use borrow.Author.Tests.{eq-eqb, ne-eqb}
-use Rattle.forest.specs.Forest.{nodeOf, spanOf, kidsOf, restOf, Tree, node, Forest, none, _then_, forest, treeOf}
-use Rattle.forest.proofs.Stretch.{forest-none, forest-tree, kids-part, rest-part, length-rest, record-or-none}
-use Rattle.table.specs.Answer.{Answer, accepted, refused, andThen, refusal}
+use Rattle.fields.specs.Choice.{if'}
+use Rattle.forest.specs.Forest.{nodeOf, spanOf, kidsOf, restOf, Tree, Forest, _then_, forest, treeOf}
+use Rattle.forest.proofs.Stretch.{forest-none, forest-tree, kids-part, rest-part, length-rest}
+use Rattle.soundness.specs.KindNumbers.{kindList}
+use Rattle.table.specs.Answer.{Answer, accepted, andThen, refusal}
 use Rattle.table.specs.declared.Refusal.{Refusal}
-use Rattle.table.proofs.Answers.{stopped}
-use Rattle.typerules.specs.Forms.{formOf, readsOf}
-use Rattle.typerules.specs.Types.{atNode, «unpack», «unpack_argument», unpackEach, unpackArguments}
-use Rattle.typerules.specs.Types.{unpackIndex, unpackIndex2}
+use Rattle.typerules.specs.Forms.{formOf, readsAs, readsOf, argumentsOnly}
+use Rattle.typerules.specs.Types.{atNode, «unpack», unpackChild, unpackEach}
 use Rattle.typerules.specs.Jobs.{shaped}
 use Rattle.typerules.specs.declared.Form.{Form}
+use Rattle.typerules.specs.declared.How.{How}
+use Rattle.typerules.specs.declared.How.the-variants.{Unread, AsType, AsArgument}
 use Rattle.typerules.specs.declared.Reads.{Reads}
-use Rattle.typerules.specs.declared.Reads.the-variants.{Nothing, Types, AfterBase, Arguments}
 use Rattle.typerules.specs.declared.Shaped.{Shaped}
 use Rattle.typerules.specs.declared.Shaped.the-variants.{Accepted, Refused}
 
--- what follows the base is what follows the first of the nodes side by side, if there is one
-pub after-base : {A : Type 0} (rest all : Forest → A) → rest none ≡ all none
-    → ((t : Tree) (ts : Forest) → rest (t then ts) ≡ all ts)
-    → (j a : ℕ) (k : L.List ℕ) → a ≡ spanOf k
-    → all (forest (j + a / 24) (take (length k - a) (drop a k))) ≡ rest (forest j k)
-after-base rest all none-is then-is j a k a-is =
-    record-or-none k
-    (λ short.
-    let over : length (restOf k) < 24 = omega (arith, length-rest k) in
-    rw (rest-part a k a-is, forest-none (j + a / 24) (restOf k) over, forest-none j k short) (sym none-is))
-    (λ big. rw (rest-part a k a-is, a-is, forest-tree j k big)
-    (sym (then-is (treeOf j k) (forest (j + spanOf k / 24) (restOf k)))))
+-- LAW: children side by side in a stretch are the first, and what follows it; the same for the walk that judges and the
+-- one that writes
+pub first-and-rest : {A : Type 0} (each : Reads → Forest → A) (child : How → Tree → A) (join : A → A → A)
+    → ((reads : Reads) (t : Tree) (ts : Forest)
+    → each reads (t then ts) ≡ join (child (reads .first) t) (each (readsAs (reads .others) (reads .others)) ts))
+    → (reads : Reads) (i : ℕ) (bs : List ℕ) → 24 ≤ length bs → {e : ℕ} → e ≡ spanOf bs
+    → each reads (forest i bs) ≡ join (child (reads .first) (treeOf i bs))
+    (each (readsAs (reads .others) (reads .others)) (forest (i + e / 24) (take (length bs - e) (drop e bs))))
+first-and-rest each child join then-is reads i bs big {e} e-is =
+    rw (rest-part e bs e-is, e-is) (ap (each reads) (forest-tree i bs big)
+    ∙ then-is reads (treeOf i bs) (forest (i + spanOf bs / 24) (restOf bs)))
 
--- the type that a stretch begins with, by what is refused at its node and by the children that it reads
-module _ (names : L.List ℕ) (i : ℕ) (t : L.List ℕ) (here : Shaped)
+-- and they stay within their bounds
+pub rest-within : (i : ℕ) {e : ℕ} (bs : List ℕ) → 24 * i + length bs ≤ 50400 → e ≡ spanOf bs
+    → 24 * (i + e / 24) + length (take (length bs - e) (drop e bs)) ≤ 50400
+rest-within i {e} bs h e-is = rw (rest-part e bs e-is) (omega (arith, length-rest bs))
+
+-- LAW: an argument that is no List is read as a type; the same for both walks
+pub no-list : {A : Type 0} (t : List ℕ) {k : ℕ} → k ≡ nodeOf 0 t .kind → (k ≡ kindList → ⊥) → (list type : A)
+    → type ≡ if' (eqb (nodeOf 0 t .kind) kindList) (λ _. list) (λ _. type)
+no-list t {k} k-is other list type = rw (← k-is, ne-eqb k kindList other) refl
+
+-- the type that a stretch begins with: what is refused at its node, then its children
+module _ (names : List ℕ) (i : ℕ) (t : List ℕ) (here : Shaped)
     (here-is : shaped here ≡ atNode names (formOf (nodeOf 0 t .kind) (nodeOf 0 t .detail)) (nodeOf i t)
     (forest (i + 1) (kidsOf t))) where
   pub unpack-stop : {why : Refusal} → here ≡ Refused why → refusal why ≡ «unpack» names (treeOf i t)
   unfolding «unpack»
-  unpack-stop {why} h = rw (← here-is, h) (stopped why _)
+  unpack-stop h = rw (← here-is, h) refl
 
-  module _ (good : here ≡ Accepted) {e : ℕ} (e-is : e ≡ spanOf t) {k : L.List ℕ}
-      (k-is : k ≡ take (e - 24) (drop 24 t)) {f : Form} (f-is : f ≡ formOf (nodeOf 0 t .kind) (nodeOf 0 t .detail))
-      {reads : Reads} (reads-is : reads ≡ readsOf f) where
-    how : readsOf (formOf (nodeOf 0 t .kind) (nodeOf 0 t .detail)) ≡ reads
-    how = sym (reads-is ∙ ap readsOf f-is)
+  pub unpack-on : here ≡ Accepted → {f : Form} → f ≡ formOf (nodeOf 0 t .kind) (nodeOf 0 t .detail)
+      → {reads : Reads} → reads ≡ readsOf f → {e : ℕ} → e ≡ spanOf t
+      → {r : Answer} → r ≡ unpackEach reads names (forest (i + 1) (take (e - 24) (drop 24 t)))
+      → r ≡ «unpack» names (treeOf i t)
+  unfolding «unpack»
+  unpack-on h f-is reads-is {e} e-is r-is = r-is ∙ rw (kids-part e t e-is, reads-is, f-is, ← here-is, h) refl
 
-    kids : kidsOf t ≡ k
-    kids = sym (k-is ∙ kids-part e t e-is)
+-- a child, by how it is read
+module _ (names : List ℕ) (i : ℕ) (t : List ℕ) {how : How} where
+  pub child-unread : how ≡ Unread → accepted [] ≡ unpackChild how names (treeOf i t)
+  child-unread h = rw h refl
 
-    pub unpack-nothing : reads ≡ Nothing → accepted L.[] ≡ «unpack» names (treeOf i t)
-    unfolding «unpack»
-    unpack-nothing h = rw (← here-is, good, how, h) refl
+  module _ {r : Answer} where
+    pub child-type : how ≡ AsType → r ≡ «unpack» names (treeOf i t) → r ≡ unpackChild how names (treeOf i t)
+    child-type h r-is = rw h r-is
 
-    pub unpack-types : reads ≡ Types → {r : Answer} → r ≡ unpackEach names (forest (i + 1) k)
-        → r ≡ «unpack» names (treeOf i t)
-    unfolding «unpack»
-    unpack-types h r-is = r-is ∙ rw (← here-is, good, how, h, kids) refl
-
-    module _ {a : ℕ} (a-is : a ≡ spanOf k) {r : Answer} where
-      pub unpack-index : reads ≡ AfterBase
-          → r ≡ unpackEach names (forest (i + 1 + a / 24) (take (length k - a) (drop a k)))
-          → r ≡ «unpack» names (treeOf i t)
+    module _ (h : how ≡ AsArgument) {k : ℕ} (k-is : k ≡ nodeOf 0 t .kind) where
+      pub child-list : k ≡ kindList → {e : ℕ} → e ≡ spanOf t
+          → r ≡ unpackEach argumentsOnly names (forest (i + 1) (take (e - 24) (drop 24 t)))
+          → r ≡ unpackChild how names (treeOf i t)
       unfolding «unpack»
-      unpack-index h r-is = r-is ∙ after-base (unpackIndex names) (unpackEach names) refl (λ x y. refl) (i + 1) a k
-          a-is ∙ rw (← here-is, good, how, h, kids) refl
+      child-list list {e} e-is r-is = r-is ∙ rw (kids-part e t e-is, h, ← k-is, eq-eqb k kindList list) refl
 
-      pub unpack-index2 : reads ≡ Arguments
-          → r ≡ unpackArguments names (forest (i + 1 + a / 24) (take (length k - a) (drop a k)))
-          → r ≡ «unpack» names (treeOf i t)
+      pub child-argument : (k ≡ kindList → ⊥) → r ≡ «unpack» names (treeOf i t)
+          → r ≡ unpackChild how names (treeOf i t)
       unfolding «unpack»
-      unpack-index2 h r-is = r-is ∙ after-base (unpackIndex2 names) (unpackArguments names) refl (λ x y. refl)
-          (i + 1) a k a-is ∙ rw (← here-is, good, how, h, kids) refl
+      child-argument other r-is = rw h (r-is ∙ no-list t k-is other _ _)
 
--- the argument that a stretch begins with
-module _ (names : L.List ℕ) (i : ℕ) (t : L.List ℕ) {k : ℕ} (k-is : k ≡ nodeOf 0 t .kind) {r : Answer} where
-  pub argument-list : k ≡ 39 → {e : ℕ} → e ≡ spanOf t
-      → r ≡ unpackArguments names (forest (i + 1) (take (e - 24) (drop 24 t)))
-      → r ≡ «unpack_argument» names (treeOf i t)
-  unfolding «unpack»
-  argument-list h {e} e-is r-is = r-is ∙ rw (kids-part e t e-is, ← k-is, eq-eqb k 39 h) refl
+-- children side by side: at each turn what is left gives the whole answer
+pub record Judging (names : List ℕ) (reads : Reads) (t : List ℕ) (node : ℕ) (left : List ℕ) (at : ℕ) (how : How)
+    : Type 0 where
+  pub within : 24 * at + length left ≤ 50400
+  pub part : length left ≤ length t
+  pub same : unpackEach (readsAs how (reads .others)) names (forest at left)
+      ≡ unpackEach reads names (forest node t)
 
-  pub argument-type : (k ≡ 39 → ⊥) → r ≡ «unpack» names (treeOf i t) → r ≡ «unpack_argument» names (treeOf i t)
-  unfolding «unpack»
-  argument-type h r-is =
-      let test : eqb (nodeOf i t .kind) 39 ≡ false = ap (λ (x : ℕ). eqb x 39) (sym k-is) ∙ ne-eqb k 39 h in
-      r-is ∙ rw test refl
+module _ {names : List ℕ} {reads : Reads} {t : List ℕ} {node : ℕ} where
+  pub each-start : 24 * node + length t ≤ 50400 → Judging names reads t node t node (reads .first)
+  each-start h = record { within = h; part = omega arith; same = refl }
 
--- nodes side by side, each read by one rule: the same for types and for arguments
-module _ (one : Tree → Answer) (all : Forest → Answer) (none-is : all none ≡ accepted L.[])
-    (then-is : (t : Tree) (ts : Forest) → all (t then ts) ≡ andThen (one t) (λ _. all ts)) (i : ℕ) (t : L.List ℕ)
-  where
-    none-read : length t < 24 → accepted L.[] ≡ all (forest i t)
-    none-read h = sym (ap all (forest-none i t h) ∙ none-is)
-
-    module _ (big : 24 ≤ length t) (f : Shaped) (f-is : shaped f ≡ one (treeOf i t)) where
-      split : all (forest i t) ≡ andThen (shaped f) (λ _. all (forest (i + spanOf t / 24) (restOf t)))
-      split = ap all (forest-tree i t big) ∙ then-is (treeOf i t) (forest (i + spanOf t / 24) (restOf t))
-          ∙ rw f-is refl
-
-      stop-read : {why : Refusal} → f ≡ Refused why → refusal why ≡ all (forest i t)
-      stop-read {why} h = sym (split ∙ rw h (sym (stopped why _)))
-
-      go-read : {e : ℕ} {r : Answer} → f ≡ Accepted → e ≡ spanOf t
-          → r ≡ all (forest (i + e / 24) (take (length t - e) (drop e t))) → r ≡ all (forest i t)
-      go-read {e} h e-is r-is = r-is ∙ rw (rest-part e t e-is, e-is) (sym (split ∙ rw h refl))
-
-module _ (names : L.List ℕ) (i : ℕ) (t : L.List ℕ) where
-  pub each-none : length t < 24 → accepted L.[] ≡ unpackEach names (forest i t)
-  unfolding «unpack»
-  each-none = none-read («unpack» names) (unpackEach names) refl (λ x y. refl) i t
-
-  pub arguments-none : length t < 24 → accepted L.[] ≡ unpackArguments names (forest i t)
-  unfolding «unpack»
-  arguments-none = none-read («unpack_argument» names) (unpackArguments names) refl (λ x y. refl) i t
-
-  module _ (big : 24 ≤ length t) (f : Shaped) where
-    pub each-stop : shaped f ≡ «unpack» names (treeOf i t) → {why : Refusal} → f ≡ Refused why
-        → refusal why ≡ unpackEach names (forest i t)
+  module _ {left : List ℕ} {at : ℕ} {how : How} (j : Judging names reads t node left at how) where
+    pub each-end : length left < 24 → accepted [] ≡ unpackEach reads names (forest node t)
     unfolding «unpack»
-    each-stop f-is h = stop-read («unpack» names) (unpackEach names) refl (λ x y. refl) i t big f f-is h
+    each-end short = rw (← j .same, forest-none at left short) refl
 
-    pub each-go : shaped f ≡ «unpack» names (treeOf i t) → {e : ℕ} {r : Answer} → f ≡ Accepted → e ≡ spanOf t
-        → r ≡ unpackEach names (forest (i + e / 24) (take (length t - e) (drop e t)))
-        → r ≡ unpackEach names (forest i t)
-    unfolding «unpack»
-    each-go f-is h e-is r-is = go-read («unpack» names) (unpackEach names) refl (λ x y. refl) i t big f f-is h e-is
-        r-is
+    module _ (big : 24 ≤ length left) (child : Shaped)
+        (child-is : shaped child ≡ unpackChild how names (treeOf at left)) where
+      step : {e : ℕ} → e ≡ spanOf left → unpackEach (readsAs how (reads .others)) names (forest at left)
+          ≡ andThen (shaped child) (λ _. unpackEach (readsAs (reads .others) (reads .others)) names
+          (forest (at + e / 24) (take (length left - e) (drop e left))))
+      unfolding «unpack»
+      step e-is = first-and-rest (λ z ts. unpackEach z names ts) (λ h x. unpackChild h names x)
+          (λ x y. andThen x (λ _. y)) (λ z x ts. refl) (readsAs how (reads .others)) at left big e-is
+          ∙ rw child-is refl
 
-    pub arguments-stop : shaped f ≡ «unpack_argument» names (treeOf i t) → {why : Refusal} → f ≡ Refused why
-        → refusal why ≡ unpackArguments names (forest i t)
-    unfolding «unpack»
-    arguments-stop f-is h = stop-read («unpack_argument» names) (unpackArguments names) refl (λ x y. refl) i t big f
-        f-is h
+      pub each-stop : {why : Refusal} → child ≡ Refused why
+          → refusal why ≡ unpackEach reads names (forest node t)
+      each-stop h = sym (sym (j .same) ∙ step refl ∙ rw h refl)
 
-    pub arguments-go : shaped f ≡ «unpack_argument» names (treeOf i t) → {e : ℕ} {r : Answer} → f ≡ Accepted
-        → e ≡ spanOf t → r ≡ unpackArguments names (forest (i + e / 24) (take (length t - e) (drop e t)))
-        → r ≡ unpackArguments names (forest i t)
-    unfolding «unpack»
-    arguments-go f-is h e-is r-is = go-read («unpack_argument» names) (unpackArguments names) refl (λ x y. refl) i t
-        big f f-is h e-is r-is
+      pub each-on : child ≡ Accepted → {e : ℕ} → e ≡ spanOf left
+          → Judging names reads t node (take (length left - e) (drop e left)) (at + e / 24) (reads .others)
+      each-on h {e} e-is = record {
+        within = rest-within at left (j .within) e-is;
+        part = rw (rest-part e left e-is) (omega (arith, length-rest left, j .part));
+        same = sym (sym (j .same) ∙ step e-is ∙ rw h refl);
+      }

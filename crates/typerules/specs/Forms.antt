@@ -1,14 +1,17 @@
--- The forms of type expressions: TypeExprUnpackP of src/syntax/type_expr.rs by the kind of a node. These are definitions.
+-- The forms of type expressions: TypeExprUnpackP of src/syntax/type_expr.rs by the kind of a node.
+-- These are definitions.
 -- Copyright 2018 The Starlark in Rust Authors. Copyright (c) Facebook, Inc. and its affiliates. Licensed under Apache-2.0; changed.
-use mathlib.Core.Bool.{Bool, true, false, _&&_, _||_}
+use mathlib.Core.Bool.{_&&_, _||_}
 use Prim.Native.Nat.{ℕ}
 use lib.Dec.{eqb}
 use Rattle.fields.specs.Choice.{if'}
-use Rattle.soundness.specs.KindNumbers.{kindTuple, kindDot, kindIndex, kindIndex2, kindIdentifier, kindEllipsis, kindOp, kindList}
+use Rattle.soundness.specs.KindNumbers.{kindTuple, kindDot, kindIndex, kindIndex2, kindIdentifier}
+use Rattle.soundness.specs.KindNumbers.{kindEllipsis, kindOp, kindList}
 use Rattle.typerules.specs.declared.Form.{Form}
 use Rattle.typerules.specs.declared.Form.the-variants.{Ellipsis, Path, Index, Index2, List, Union, Tuple, Other}
+use Rattle.typerules.specs.declared.How.{How}
+use Rattle.typerules.specs.declared.How.the-variants.{Unread, AsType, AsArgument}
 use Rattle.typerules.specs.declared.Reads.{Reads}
-use Rattle.typerules.specs.declared.Reads.the-variants.{Nothing, Types, AfterBase, Arguments}
 
 -- the form that a kind and its detail may have; an Op is a Union where its detail says `|`
 unfoldable pub formOf : ℕ → ℕ → Form
@@ -21,7 +24,8 @@ formOf kind detail =
     if' (eqb kind kindTuple) (λ _. Tuple) (λ _.
     if' (eqb kind kindOp && eqb detail 1) (λ _. Union) (λ _. Other)))))))
 
--- the shape of a form read as a type: a List is a Union. What is no type has none; 0 is never written, since such a type is refused (proofs/Proper)
+-- the shape of a form read as a type: a List is a Union. What is no type has none; 0 is never written, since such a
+-- type is refused (proofs/Proper)
 abbrev pub shapeOf : Form → ℕ
 shapeOf Ellipsis = 1
 shapeOf Path = 2
@@ -36,20 +40,27 @@ shapeOf Other = 0
 abbrev pub listShape : ℕ
 listShape = 5
 
--- which children a form reads: none, all as types, or those after its base, as types or as arguments
-abbrev pub readsOf : Form → Reads
-readsOf Ellipsis = Nothing
-readsOf Path = Nothing
-readsOf Index = AfterBase
-readsOf Index2 = Arguments
-readsOf List = Types
-readsOf Union = Types
-readsOf Tuple = Types
-readsOf Other = Nothing
+-- the first child is read in one way, and the others in another
+abbrev pub readsAs : How → How → Reads
+readsAs first others = record { first = first; others = others }
 
--- what is made of the children that are read
-abbrev pub ofChildren : {A : Type 0} → Reads → A → (Unit {0} → A) → (Unit {0} → A) → (Unit {0} → A) → A
-ofChildren Nothing nothing types afterBase arguments = nothing
-ofChildren Types nothing types afterBase arguments = types tt
-ofChildren AfterBase nothing types afterBase arguments = afterBase tt
-ofChildren Arguments nothing types afterBase arguments = arguments tt
+-- how a form reads its children: the base of an Index or Index2, and what is inside a path, is not read
+abbrev pub readsOf : Form → Reads
+readsOf Ellipsis = readsAs Unread Unread
+readsOf Path = readsAs Unread Unread
+readsOf Index = readsAs Unread AsType
+readsOf Index2 = readsAs Unread AsArgument
+readsOf List = readsAs AsType AsType
+readsOf Union = readsAs AsType AsType
+readsOf Tuple = readsAs AsType AsType
+readsOf Other = readsAs Unread Unread
+
+-- a List that is an argument: all its children are arguments
+abbrev pub argumentsOnly : Reads
+argumentsOnly = readsAs AsArgument AsArgument
+
+-- what is made of a child, by how it is read
+abbrev pub ofChild : {A : Type 0} → How → A → (Unit {0} → A) → (Unit {0} → A) → A
+ofChild Unread nothing type argument = nothing
+ofChild AsType nothing type argument = type tt
+ofChild AsArgument nothing type argument = argument tt

@@ -1,6 +1,6 @@
 -- Paths in types: unpack_path of src/syntax/type_expr.rs, over trees. These are definitions.
 -- Copyright 2018 The Starlark in Rust Authors. Copyright (c) Facebook, Inc. and its affiliates. Licensed under Apache-2.0; changed.
-use mathlib.Core.Bool.{Bool, true, false}
+use mathlib.Core.Bool.{Bool}
 use mathlib.Core.List.{List, [], _∷_}
 use Prim.Native.Nat.{ℕ}
 use lib.Dec.{eqb}
@@ -9,7 +9,7 @@ use Rattle.forest.specs.Forest.{Node, Tree, node, Forest, none, _then_}
 use Rattle.forest.specs.Names.{nameOf, same}
 use Rattle.soundness.specs.KindNumbers.{kindDot, kindIdentifier}
 use Rattle.table.specs.Numbers.{dotInType, expectingPath, dotTypeBan}
-use Rattle.table.specs.Answer.{Answer, accepted, refused, refusedAt}
+use Rattle.table.specs.Answer.{Answer, accepted, refusedAt}
 
 -- the field `type`
 abbrev pub typeField : List ℕ
@@ -19,7 +19,8 @@ typeField = 116 ∷ 121 ∷ 112 ∷ 101 ∷ []
 abbrev pub banned : List ℕ → Node → Bool
 banned names dot = same (nameOf names dot) typeField
 
--- the object of a Dot: Dots down to an Identifier, where a banned path is 44; else 42 at what stands there. Only an unsound Dot has no object, and nothing is refused
+-- the object of a Dot: Dots down to an Identifier, where a banned path is 44; else 42 at what stands there. Only an
+-- unsound Dot has no object, and nothing is refused
 unfoldable mutual
   pub objectPath : Bool → Forest → Answer
   objectPath ban none = accepted []

@@ -1,6 +1,6 @@
--- Types: unpack and unpack_argument of src/syntax/type_expr.rs and dialect_check_type of src/syntax/grammar_util.rs, over trees. These are definitions.
+-- Types: unpack and unpack_argument of src/syntax/type_expr.rs and dialect_check_type of src/syntax/grammar_util.rs,
+-- over trees. These are definitions.
 -- Copyright 2018 The Starlark in Rust Authors. Copyright (c) Facebook, Inc. and its affiliates. Licensed under Apache-2.0; changed.
-use mathlib.Core.Bool.{Bool, true, false}
 use mathlib.Core.List as L
 use Prim.Native.Nat.{ℕ}
 use lib.Dec.{eqb}
@@ -10,9 +10,11 @@ use Rattle.soundness.specs.KindNumbers.{kindIdentifier, kindList}
 use Rattle.dialect.specs.declared.DialectTypes.{DialectTypes}
 use Rattle.dialect.specs.Rows.{permitsTypes}
 use Rattle.table.specs.Numbers.{invalidType, emptyListInType, typesDisabled}
-use Rattle.table.specs.Answer.{Answer, accepted, refused, andThen, refusedAt}
-use Rattle.typerules.specs.Forms.{formOf, readsOf, ofChildren}
+use Rattle.table.specs.Answer.{Answer, accepted, andThen, refusedAt}
+use Rattle.typerules.specs.Forms.{formOf, readsAs, readsOf, argumentsOnly, ofChild}
 use Rattle.typerules.specs.Paths.{«unpack_path»}
+use Rattle.typerules.specs.declared.How.{How}
+use Rattle.typerules.specs.declared.Reads.{Reads}
 use Rattle.typerules.specs.declared.Form.{Form}
 use Rattle.typerules.specs.declared.Form.the-variants.{Ellipsis, Path, Index, Index2, List, Union, Tuple, Other}
 
@@ -43,40 +45,32 @@ atNode names Union r ks = accepted L.[]
 atNode names Tuple r ks = accepted L.[]
 atNode names Other r ks = refusedAt invalidType r
 
--- a node as a type, given what its children give as types, after its base, and as arguments after its base
-abbrev pub typeRule : L.List ℕ → Node → Forest → (Unit {0} → Answer) → (Unit {0} → Answer) → (Unit {0} → Answer) → Answer
-typeRule names r ks types afterBase arguments =
-    andThen (atNode names (formOf (r .kind) (r .detail)) r ks) (λ _.
-    ofChildren (readsOf (formOf (r .kind) (r .detail))) (accepted L.[]) types afterBase arguments)
+-- a node as a type, given what its children give by how they are read
+abbrev pub typeRule : L.List ℕ → Node → Forest → (Reads → Answer) → Answer
+typeRule names r ks children =
+    andThen (atNode names (formOf (r .kind) (r .detail)) r ks) (λ _. children (readsOf (formOf (r .kind) (r .detail))))
 
 -- the type rule and the argument rule, which refer to each other; the first refusal, left to right
 unfoldable mutual
   pub «unpack» : L.List ℕ → Tree → Answer
-  «unpack» names (node r ks) = typeRule names r ks (λ _. unpackEach names ks) (λ _. unpackIndex names ks) (λ _. unpackIndex2 names ks)
+  «unpack» names (node r ks) = typeRule names r ks (λ reads. unpackEach reads names ks)
 
   -- an argument of Index2: a List of arguments, or a type
   pub «unpack_argument» : L.List ℕ → Tree → Answer
   «unpack_argument» names (node r ks) =
-      if' (eqb (r .kind) kindList) (λ _. unpackArguments names ks) (λ _.
-      typeRule names r ks (λ _. unpackEach names ks) (λ _. unpackIndex names ks) (λ _. unpackIndex2 names ks))
+      if' (eqb (r .kind) kindList) (λ _. unpackEach argumentsOnly names ks) (λ _.
+      typeRule names r ks (λ reads. unpackEach reads names ks))
 
-  pub unpackEach : L.List ℕ → Forest → Answer
-  unpackEach names none = accepted L.[]
-  unpackEach names (t then ts) = andThen («unpack» names t) (λ _. unpackEach names ts)
+  -- the children of a node: the first, then the others
+  pub unpackEach : Reads → L.List ℕ → Forest → Answer
+  unpackEach reads names none = accepted L.[]
+  unpackEach reads names (t then ts) =
+      andThen (ofChild (reads .first) (accepted L.[]) (λ _. «unpack» names t) (λ _. «unpack_argument» names t)) (λ _.
+      unpackEach (readsAs (reads .others) (reads .others)) names ts)
 
-  pub unpackArguments : L.List ℕ → Forest → Answer
-  unpackArguments names none = accepted L.[]
-  unpackArguments names (t then ts) = andThen («unpack_argument» names t) (λ _. unpackArguments names ts)
-
-  -- the children of an Index: the base, and the index as a type
-  pub unpackIndex : L.List ℕ → Forest → Answer
-  unpackIndex names none = accepted L.[]
-  unpackIndex names (b then ts) = unpackEach names ts
-
-  -- the children of an Index2: the base, and two arguments
-  pub unpackIndex2 : L.List ℕ → Forest → Answer
-  unpackIndex2 names none = accepted L.[]
-  unpackIndex2 names (b then ts) = unpackArguments names ts
+-- a child as it is read
+abbrev pub unpackChild : How → L.List ℕ → Tree → Answer
+unpackChild how names t = ofChild how (accepted L.[]) (λ _. «unpack» names t) (λ _. «unpack_argument» names t)
 
 -- 45 at the type, where the dialect has none
 abbrev pub typesCheck : DialectTypes → Node → Answer

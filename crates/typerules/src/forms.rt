@@ -1,10 +1,14 @@
 // The forms of type expressions by the kind of a node.
+//
+// Ported from src/syntax/type_expr.rs of starlark_syntax 0.14.2 (the arms of TypeExprUnpackP::unpack), and changed: a form is told by the kind of a node.
+// Copyright 2018 The Starlark in Rust Authors. Copyright (c) Facebook, Inc. and its affiliates. Licensed under Apache-2.0.
 use crate::Form;
+use crate::How;
 use crate::Reads;
 use soundness::kinds;
 ghost use mathlib.Core.Path.{_≡_};
 ghost use Rattle.forest.specs.Forest.{nodeOf};
-ghost use Rattle.typerules.specs.Forms.{formOf, shapeOf, readsOf};
+ghost use Rattle.typerules.specs.Forms.{formOf, shapeOf, readsAs, readsOf};
 
 // The form of the record that a stretch begins with.
 pub fn form(t: &[u8]) -> Form
@@ -57,18 +61,28 @@ pub fn shape_of(form: Form) -> u8
     }
 }
 
-// Which children a form reads.
+// How a form reads its children.
 pub fn reads_of(form: Form) -> Reads
     ensures { λ r. ⌜ r ≡ readsOf form ⌝ }
 {
     match form {
-        Form::Ellipsis => Reads::Nothing,
-        Form::Path => Reads::Nothing,
-        Form::Index => Reads::AfterBase,
-        Form::Index2 => Reads::Arguments,
-        Form::List => Reads::Types,
-        Form::Union => Reads::Types,
-        Form::Tuple => Reads::Types,
-        Form::Other => Reads::Nothing,
+        Form::Ellipsis => reads(How::Unread, How::Unread),
+        Form::Path => reads(How::Unread, How::Unread),
+        Form::Index => reads(How::Unread, How::AsType),
+        Form::Index2 => reads(How::Unread, How::AsArgument),
+        Form::List => reads(How::AsType, How::AsType),
+        Form::Union => reads(How::AsType, How::AsType),
+        Form::Tuple => reads(How::AsType, How::AsType),
+        Form::Other => reads(How::Unread, How::Unread),
+    }
+}
+
+// The first child read in one way, and the others in another.
+fn reads(first: How, others: How) -> Reads
+    ensures { λ r. ⌜ r ≡ readsAs first others ⌝ }
+{
+    Reads {
+        first: first,
+        others: others,
     }
 }

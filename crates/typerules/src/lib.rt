@@ -7,9 +7,8 @@ pub mod forms;
 mod paths;
 mod unpack;
 
-use dialect::Decoded;
 use dialect::DialectTypes;
-use table::Checked;
+use table::Given;
 use table::Refusal;
 use table::Wanted;
 use table::numbers;
@@ -35,12 +34,17 @@ pub enum Form {
     Other,
 }
 
-// Which children of a type are read: none, all as types, or those after its base, as types or as arguments.
-pub enum Reads {
-    Nothing,
-    Types,
-    AfterBase,
-    Arguments,
+// How a child is read: not at all, as a type, or as an argument of an Index2.
+pub enum How {
+    Unread,
+    AsType,
+    AsArgument,
+}
+
+// How the children of a type are read: the first, and the others.
+pub struct Reads {
+    pub first: How,
+    pub others: How,
 }
 
 // What the type job answers: accepted, or why it is refused.
@@ -53,17 +57,13 @@ pub enum Shaped {
 pub fn judge(table: &[u8], names: &[u8], dialect: &[u8], node: usize, room: usize) -> Shaped
     ensures { λ r. ⌜ shaped r ≡ typeShapeOf (now (table .entry)) (now (names .entry)) (now (dialect .entry)) node room ⌝ }
 {
-    let found = table::check(table, names);
-    if let Checked::Refused(why) = found {
-        return Shaped::Refused(why);
-    }
-    let read = dialect::from_bytes(dialect);
-    match read {
-        Decoded::Valid(d) => {
+    let entered = table::enter_dialect(table, names, dialect);
+    match entered {
+        Given::In(d) => {
             let types = d.enable_types;
             type_at(table, names, types, node, room)
         }
-        Decoded::Invalid => Shaped::Refused(Refusal::Bare(numbers::BAD_DIALECT)),
+        Given::Refused(why) => Shaped::Refused(why),
     }
 }
 

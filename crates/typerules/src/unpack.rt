@@ -3,6 +3,7 @@
 // Ported from src/syntax/type_expr.rs of starlark_syntax 0.14.2 (unpack, unpack_argument), and changed: a type is a stretch of the node table.
 // Copyright 2018 The Starlark in Rust Authors. Copyright (c) Facebook, Inc. and its affiliates. Licensed under Apache-2.0.
 use crate::Form;
+use crate::How;
 use crate::Reads;
 use crate::Shaped;
 use crate::forms;
@@ -14,7 +15,8 @@ ghost use Prim.Native.Nat.{_+_, _*_, _≤_};
 ghost use lib.ListN.{length};
 ghost use Rattle.forest.specs.Forest.{nodeOf, kidsOf, treeOf, forest};
 ghost use Rattle.typerules.specs.Forms.{formOf};
-ghost use Rattle.typerules.specs.Types.{indexBase, index2Base, listLength, atNode, «unpack», «unpack_argument», unpackEach, unpackArguments};
+ghost use Rattle.typerules.specs.Types.{indexBase, index2Base, listLength, atNode};
+ghost use Rattle.typerules.specs.Types.{«unpack», unpackChild, unpackEach};
 ghost use Rattle.typerules.specs.Jobs.{shaped};
 
 // The base of the Index that a stretch begins with.
@@ -90,58 +92,50 @@ pub(crate) fn unpack(names: &[u8], t: &[u8], node: usize) -> Shaped
     if let Shaped::Refused(why) = here {
         return Shaped::Refused(why);
     }
-    let e = forest::span(t);
-    let k = &t[24..e];
-    let a = forest::span(k);
     let reads = forms::reads_of(forms::form(t));
-    match reads {
-        Reads::Nothing => Shaped::Accepted,
-        Reads::Types => unpack_each(names, k, node + 1),
-        Reads::AfterBase => unpack_each(names, &k[a..], node + 1 + a / 24),
-        Reads::Arguments => unpack_arguments(names, &k[a..], node + 1 + a / 24),
-    }
+    let e = forest::span(t);
+    unpack_each(names, reads, &t[24..e], node + 1)
 }
 
-// The argument of an Index2 that a stretch begins with: a List of arguments, or a type.
-fn unpack_argument(names: &[u8], t: &[u8], node: usize) -> Shaped
+// A child as it is read: as a type, or as an argument of an Index2, which is a List of arguments or a type.
+fn unpack_child(names: &[u8], how: How, t: &[u8], node: usize) -> Shaped
     requires { ⌜ (24 ≤ length (now t)) × (24 * node + length (now t) ≤ 50400) ⌝ }
-    ensures { λ r. ⌜ shaped r ≡ «unpack_argument» (now (names .entry)) (treeOf node (now (t .entry))) ⌝ }
+    ensures { λ r. ⌜ shaped r ≡ unpackChild how (now (names .entry)) (treeOf node (now (t .entry))) ⌝ }
 {
-    if forest::kind(t) == kinds::LIST {
-        let e = forest::span(t);
-        return unpack_arguments(names, &t[24..e], node + 1);
+    match how {
+        How::Unread => Shaped::Accepted,
+        How::AsType => unpack(names, t, node),
+        How::AsArgument => {
+            if forest::kind(t) == kinds::LIST {
+                let e = forest::span(t);
+                let reads = Reads {
+                    first: How::AsArgument,
+                    others: How::AsArgument,
+                };
+                return unpack_each(names, reads, &t[24..e], node + 1);
+            }
+            unpack(names, t, node)
+        }
     }
-    unpack(names, t, node)
 }
 
-// The types side by side in a stretch.
-fn unpack_each(names: &[u8], t: &[u8], node: usize) -> Shaped
+// The children side by side in a stretch, left to right.
+fn unpack_each(names: &[u8], reads: Reads, t: &[u8], node: usize) -> Shaped
     requires { ⌜ 24 * node + length (now t) ≤ 50400 ⌝ }
-    ensures { λ r. ⌜ shaped r ≡ unpackEach (now (names .entry)) (forest node (now (t .entry))) ⌝ }
+    ensures { λ r. ⌜ shaped r ≡ unpackEach reads (now (names .entry)) (forest node (now (t .entry))) ⌝ }
 {
-    if t.len() < 24 {
-        return Shaped::Accepted;
+    let mut left = t;
+    let mut at = node;
+    let mut how = reads.first;
+    while 24 <= left.len() {
+        let child = unpack_child(names, how, left, at);
+        if let Shaped::Refused(why) = child {
+            return Shaped::Refused(why);
+        }
+        let e = forest::span(left);
+        left = &left[e..];
+        at += e / 24;
+        how = reads.others;
     }
-    let first = unpack(names, t, node);
-    if let Shaped::Refused(why) = first {
-        return Shaped::Refused(why);
-    }
-    let e = forest::span(t);
-    unpack_each(names, &t[e..], node + e / 24)
-}
-
-// The arguments side by side in a stretch.
-fn unpack_arguments(names: &[u8], t: &[u8], node: usize) -> Shaped
-    requires { ⌜ 24 * node + length (now t) ≤ 50400 ⌝ }
-    ensures { λ r. ⌜ shaped r ≡ unpackArguments (now (names .entry)) (forest node (now (t .entry))) ⌝ }
-{
-    if t.len() < 24 {
-        return Shaped::Accepted;
-    }
-    let first = unpack_argument(names, t, node);
-    if let Shaped::Refused(why) = first {
-        return Shaped::Refused(why);
-    }
-    let e = forest::span(t);
-    unpack_arguments(names, &t[e..], node + e / 24)
+    Shaped::Accepted
 }

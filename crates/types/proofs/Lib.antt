@@ -3,5 +3,4 @@ pub mod Jobs
 pub mod Promises
 pub mod Places
 pub mod Proper
-pub mod Indices
 pub mod Buffer

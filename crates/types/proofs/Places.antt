@@ -1,4 +1,5 @@
--- Where shapes are written: each node of the type's subtree at most once, so that its byte is its shape and all others stay. Assumes nothing.
+-- Where shapes are written: each node of the type's subtree at most once, so that its byte is its shape and all others
+-- stay. Assumes nothing.
 use mathlib.Core.Path.{_≡_, refl, sym, ap, _∙_}
 use mathlib.Core.Bool.{Bool, true, false}
 use mathlib.Core.List.{List, [], _∷_, _++_}
@@ -12,11 +13,11 @@ use Rattle.fields.specs.Choice.{if'}
 use Rattle.forest.specs.Forest.{nodeOf, spanOf, kidsOf, restOf, forest, treeOf}
 use Rattle.forest.proofs.Stretch.{forest-none, forest-tree, forest-induction, length-kids, length-rest}
 use Rattle.soundness.specs.KindNumbers.{kindList}
-use Rattle.typerules.specs.Forms.{formOf, shapeOf, listShape, readsOf, ofChildren}
-use Rattle.types.specs.Shapes.{Shape, shapeAt, shapesOf, shapesArgument, shapesEach, shapesArguments}
-use Rattle.types.specs.Shapes.{shapesIndex, shapesIndex2, written, shapeOr, Rising}
+use Rattle.typerules.specs.Forms.{listShape, readsAs, argumentsOnly}
+use Rattle.typerules.specs.declared.How.{How}
+use Rattle.typerules.specs.declared.How.the-variants.{Unread, AsType, AsArgument}
 use Rattle.typerules.specs.declared.Reads.{Reads}
-use Rattle.typerules.specs.declared.Reads.the-variants.{Nothing, Types, AfterBase, Arguments}
+use Rattle.types.specs.Shapes.{Shape, shapeAt, shapesOf, shapesChild, shapesEach, written, shapeOr, Rising}
 
 -- no shapes, shapes of two parts one after the other, and a wider range
 rising-none : (lo hi : ℕ) → Rising lo hi []
@@ -72,85 +73,59 @@ written-bytes lo hi (x ∷ ss) w s h k =
         let most = w .1 .0 in
         not-below (x .at + 1) hi ss (w .1 .1) k (getD (set s (x .at) (x .shape)) k 0) (omega arith)
         ∙ rw (← here) (getD-set-same s (x .at) (x .shape) 0 (omega arith))
-    go false e = ap (λ (v : ℕ). shapeOr ss k v) (getD-set-other s (x .at) k (x .shape) 0 (λ q. eqb-false (x .at) k e (sym q)))
+    go false e = ap (λ (v : ℕ). shapeOr ss k v)
+        (getD-set-other s (x .at) k (x .shape) 0 (λ q. eqb-false (x .at) k e (sym q)))
 
--- the nodes side by side in a stretch have their shapes within it, however they are read
-pub record Placed (i : ℕ) (bs : List ℕ) : Type 0 where
-  pub each : Rising i (i + length bs / 24) (shapesEach (forest i bs))
-  pub arguments : Rising i (i + length bs / 24) (shapesArguments (forest i bs))
-  pub index : Rising i (i + length bs / 24) (shapesIndex (forest i bs))
-  pub index2 : Rising i (i + length bs / 24) (shapesIndex2 (forest i bs))
+-- children side by side in a stretch have their shapes within it, however they are read
+abbrev pub Placed : ℕ → List ℕ → Type 0
+Placed i bs = (reads : Reads) → Rising i (i + length bs / 24) (shapesEach reads (forest i bs))
 
 module _ (i : ℕ) (bs : List ℕ) (big : 24 ≤ length bs) (ks : Placed (i + 1) (kidsOf bs)) where
-  fits : i + 1 + length (kidsOf bs) / 24 ≤ i + spanOf bs / 24
-  fits = omega (arith, length-kids bs)
-
-  -- the children that a node reads, and the node with them
-  below : (reads : Reads) → Rising (i + 1) (i + spanOf bs / 24)
-      (ofChildren reads [] (λ _. shapesEach (forest (i + 1) (kidsOf bs)))
-      (λ _. shapesIndex (forest (i + 1) (kidsOf bs))) (λ _. shapesIndex2 (forest (i + 1) (kidsOf bs))))
-  below Nothing = rising-none (i + 1) (i + spanOf bs / 24)
-  below Types = rising-wider (i + 1) (i + 1 + length (kidsOf bs) / 24) (i + 1) (i + spanOf bs / 24) (omega arith)
-      fits _ (ks .each)
-  below AfterBase = rising-wider (i + 1) (i + 1 + length (kidsOf bs) / 24) (i + 1) (i + spanOf bs / 24)
-      (omega arith) fits _ (ks .index)
-  below Arguments = rising-wider (i + 1) (i + 1 + length (kidsOf bs) / 24) (i + 1) (i + spanOf bs / 24)
-      (omega arith) fits _ (ks .index2)
-
-  under : (v : ℕ) (ss : List Shape) → Rising (i + 1) (i + spanOf bs / 24) ss
-      → Rising i (i + spanOf bs / 24) (shapeAt (nodeOf i bs) v ∷ ss)
+  -- a node with its children, by its shape and how they are read
+  under : (v : ℕ) (reads : Reads) → Rising i (i + spanOf bs / 24)
+      (shapeAt (nodeOf i bs) v ∷ shapesEach reads (forest (i + 1) (kidsOf bs)))
   unfolding Rising
-  under v ss w = (omega arith, (omega arith, w))
+  under v reads = (
+    omega arith,
+    (
+      omega arith,
+      rising-wider (i + 1) (i + 1 + length (kidsOf bs) / 24) (i + 1)
+          (i + spanOf bs / 24) (omega arith) (omega (arith, length-kids bs))
+          (shapesEach reads (forest (i + 1) (kidsOf bs))) (ks reads),
+    ),
+  )
 
   pub type-rising : Rising i (i + spanOf bs / 24) (shapesOf (treeOf i bs))
   unfolding shapesOf
-  type-rising = under (shapeOf (formOf (nodeOf i bs .kind) (nodeOf i bs .detail))) _
-      (below (readsOf (formOf (nodeOf i bs .kind) (nodeOf i bs .detail))))
+  type-rising = under _ _
 
-  argument-rising : Rising i (i + spanOf bs / 24) (shapesArgument (treeOf i bs))
+  child-rising : (how : How) → Rising i (i + spanOf bs / 24) (shapesChild how (treeOf i bs))
   unfolding shapesOf
-  argument-rising = go (eqb (nodeOf i bs .kind) kindList)
+  child-rising Unread = rising-none i (i + spanOf bs / 24)
+  child-rising AsType = type-rising
+  child-rising AsArgument = go (eqb (nodeOf i bs .kind) kindList)
     where
       go : (b : Bool) → Rising i (i + spanOf bs / 24)
-          (if' b (λ _. shapeAt (nodeOf i bs) listShape ∷ shapesArguments (forest (i + 1) (kidsOf bs)))
+          (if' b (λ _. shapeAt (nodeOf i bs) listShape ∷ shapesEach argumentsOnly (forest (i + 1) (kidsOf bs)))
           (λ _. shapesOf (treeOf i bs)))
-      go true = under listShape _ (rising-wider (i + 1) (i + 1 + length (kidsOf bs) / 24) (i + 1)
-          (i + spanOf bs / 24) (omega arith) fits _ (ks .arguments))
+      go true = under listShape argumentsOnly
       go false = type-rising
 
 pub placed : (i : ℕ) (bs : List ℕ) → Placed i bs
 unfolding shapesOf
-placed =
-    forest-induction Placed
-    (λ i bs short. few i bs short)
-    (λ i bs big ks rs. more i bs big ks rs)
+placed = forest-induction Placed few more
   where
     few : (i : ℕ) (bs : List ℕ) → length bs < 24 → Placed i bs
-    few i bs short = record {
-      each = rw (forest-none i bs short) (rising-none i (i + length bs / 24));
-      arguments = rw (forest-none i bs short) (rising-none i (i + length bs / 24));
-      index = rw (forest-none i bs short) (rising-none i (i + length bs / 24));
-      index2 = rw (forest-none i bs short) (rising-none i (i + length bs / 24));
-    }
+    few i bs short reads = rw (forest-none i bs short) (rising-none i (i + length bs / 24))
 
     more : (i : ℕ) (bs : List ℕ) → 24 ≤ length bs → Placed (i + 1) (kidsOf bs)
         → Placed (i + spanOf bs / 24) (restOf bs) → Placed i bs
-    more i bs big ks rs =
+    more i bs big ks rs reads =
         let mid : ℕ = i + spanOf bs / 24 in
-        let hi : ℕ = i + length bs / 24 in
-        let over : (ss : List Shape) → Rising mid (mid + length (restOf bs) / 24) ss
-        → Rising mid hi ss = rising-wider mid (mid + length (restOf bs) / 24) mid hi (omega arith)
-        (omega (arith, length-rest bs)) in
-        let both : (ss us : List Shape) → Rising i mid ss → Rising mid (mid + length (restOf bs) / 24) us
-        → Rising i hi (ss ++ us) = λ ss us a b. rising-append i mid hi (omega arith) (omega arith) ss us a (over us b) in
-        let late : (ss : List Shape) → Rising mid (mid + length (restOf bs) / 24) ss
-        → Rising i hi ss = λ ss b. rising-wider mid hi i hi (omega arith) (omega arith) ss (over ss b) in
-        record {
-          each = rw (forest-tree i bs big) (both _ _ (type-rising i bs big ks) (rs .each));
-          arguments = rw (forest-tree i bs big) (both _ _ (argument-rising i bs big ks) (rs .arguments));
-          index = rw (forest-tree i bs big) (late _ (rs .each));
-          index2 = rw (forest-tree i bs big) (late _ (rs .arguments));
-        }
+        rw (forest-tree i bs big) (rising-append i mid (i + length bs / 24) (omega arith) (omega arith)
+        (shapesChild (reads .first) (treeOf i bs)) _ (child-rising i bs big ks (reads .first))
+        (rising-wider mid (mid + length (restOf bs) / 24) mid (i + length bs / 24) (omega arith)
+        (omega (arith, length-rest bs)) _ (rs (readsAs (reads .others) (reads .others)))))
 
 -- LAW: the nodes that a type reads come once each, in table order, within its subtree
 pub type-once : (t : List ℕ) → 24 ≤ length t → Rising 0 (length t / 24) (shapesOf (treeOf 0 t))

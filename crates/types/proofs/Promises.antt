@@ -1,4 +1,5 @@
--- Two answers that meet the promise of a public function coincide, and so do the buffers that they leave, for every table, names, dialect bytes, node and buffer. Assumes nothing.
+-- Two answers that meet the promise of a public function coincide, and so do the buffers that they leave, for every
+-- table, names, dialect bytes, node and buffer. Assumes nothing.
 use mathlib.Core.Path.{_≡_}
 use mathlib.Core.List.{List}
 use Prim.Native.Nat.{ℕ}

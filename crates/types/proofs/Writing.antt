@@ -1,20 +1,20 @@
 -- Laws of the shapes of a stretch, in the terms of code: one for each return of the writing walk. Assumes nothing.
 use mathlib.Core.Path.{_≡_, refl, sym, ap, _∙_}
-use mathlib.Core.Bool.{Bool, true, false}
 use mathlib.Core.List.{List, [], _∷_, _++_}
 use Prim.Native.Nat.{ℕ, _+_, _-_, _/_, _<_, _≤_}
+use native.Mathlib.Omega.{arith}
 use lib.ListN.{length, take, drop, set, length-set}
-use lib.Dec.{eqb}
-use borrow.Author.Tests.{eq-eqb, ne-eqb}
-use Rattle.forest.specs.Forest.{nodeOf, spanOf, kidsOf, restOf, Tree, node, Forest, none, _then_, forest, treeOf}
-use Rattle.forest.proofs.Stretch.{forest-none, forest-tree, kids-part, rest-part}
-use Rattle.typerules.specs.Forms.{formOf, shapeOf, listShape, readsOf}
-use Rattle.types.specs.Shapes.{Shape, shapesOf, shapesArgument, shapesEach, shapesArguments, shapesIndex}
-use Rattle.types.specs.Shapes.{shapesIndex2, written}
+use borrow.Author.Tests.{eq-eqb}
+use Rattle.forest.specs.Forest.{nodeOf, spanOf, forest, treeOf}
+use Rattle.forest.proofs.Stretch.{forest-none, kids-part, rest-part, length-kids, length-rest}
+use Rattle.soundness.specs.KindNumbers.{kindList}
+use Rattle.typerules.specs.Forms.{formOf, shapeOf, listShape, readsAs, readsOf, argumentsOnly}
+use Rattle.typerules.proofs.Reading.{first-and-rest, no-list}
 use Rattle.typerules.specs.declared.Form.{Form}
+use Rattle.typerules.specs.declared.How.{How}
+use Rattle.typerules.specs.declared.How.the-variants.{Unread, AsType, AsArgument}
 use Rattle.typerules.specs.declared.Reads.{Reads}
-use Rattle.typerules.specs.declared.Reads.the-variants.{Nothing, Types, AfterBase, Arguments}
-use Rattle.typerules.proofs.Reading.{after-base}
+use Rattle.types.specs.Shapes.{Shape, shapesOf, shapesChild, shapesEach, written}
 
 -- LAW: some shapes are written, then others
 pub written-append : (ss us : List Shape) (s : List ℕ) → written (ss ++ us) s ≡ written us (written ss s)
@@ -28,96 +28,74 @@ unfolding written
 written-length [] s = refl
 written-length (x ∷ ss) s = written-length ss (set s (x .at) (x .shape)) ∙ length-set s (x .at) (x .shape)
 
--- the type that a stretch begins with: its own shape v, then the children that it reads
-module _ (i : ℕ) (t s : List ℕ) {f : Form} {v : ℕ} (f-is : f ≡ formOf (nodeOf 0 t .kind) (nodeOf 0 t .detail))
-    (v-is : v ≡ shapeOf f)
-    {e : ℕ} (e-is : e ≡ spanOf t) {k : List ℕ} (k-is : k ≡ take (e - 24) (drop 24 t)) {g : Form} {reads : Reads}
-    (g-is : g ≡ formOf (nodeOf 0 t .kind) (nodeOf 0 t .detail)) (reads-is : reads ≡ readsOf g) where
-  how : readsOf (formOf (nodeOf 0 t .kind) (nodeOf 0 t .detail)) ≡ reads
-  how = sym (reads-is ∙ ap readsOf g-is)
+-- a buffer with room for a subtree has room for its children, once the node's own shape is set
+pub kids-room : (i v : ℕ) (t s : List ℕ) → 24 ≤ length t → i + length t / 24 ≤ length s → {e : ℕ} → e ≡ spanOf t
+    → i + 1 + length (take (e - 24) (drop 24 t)) / 24 ≤ length (set s i v)
+kids-room i v t s big room {e} e-is =
+    rw (kids-part e t e-is) (omega (arith, length-kids t, length-set s i v))
 
-  own : shapeOf (formOf (nodeOf 0 t .kind) (nodeOf 0 t .detail)) ≡ v
-  own = sym (v-is ∙ ap shapeOf f-is)
+-- the type that a stretch begins with: its own shape, then those of its children
+pub write-on : (i : ℕ) (t s : List ℕ) {f : Form} → f ≡ formOf (nodeOf 0 t .kind) (nodeOf 0 t .detail)
+    → {v : ℕ} → v ≡ shapeOf f → {reads : Reads} → reads ≡ readsOf f → {e : ℕ} → e ≡ spanOf t → {r : List ℕ}
+    → r ≡ written (shapesEach reads (forest (i + 1) (take (e - 24) (drop 24 t)))) (set s i v)
+    → r ≡ written (shapesOf (treeOf i t)) s
+unfolding shapesOf written
+write-on i t s f-is v-is reads-is {e} e-is r-is = r-is ∙ rw (kids-part e t e-is, v-is, reads-is, f-is) refl
 
-  kids : kidsOf t ≡ k
-  kids = sym (k-is ∙ kids-part e t e-is)
-
-  pub write-nothing : reads ≡ Nothing → set s i v ≡ written (shapesOf (treeOf i t)) s
-  unfolding shapesOf written
-  write-nothing h = rw (how, own, h) refl
+-- a child, by how it is read
+module _ (i : ℕ) (t s : List ℕ) {how : How} where
+  pub child-unread : how ≡ Unread → s ≡ written (shapesChild how (treeOf i t)) s
+  unfolding written
+  child-unread h = rw h refl
 
   module _ {r : List ℕ} where
-    pub write-types : reads ≡ Types → r ≡ written (shapesEach (forest (i + 1) k)) (set s i v)
-        → r ≡ written (shapesOf (treeOf i t)) s
+    pub child-type : how ≡ AsType → r ≡ written (shapesOf (treeOf i t)) s
+        → r ≡ written (shapesChild how (treeOf i t)) s
+    child-type h r-is = rw h r-is
+
+    module _ (h : how ≡ AsArgument) {k : ℕ} (k-is : k ≡ nodeOf 0 t .kind) where
+      pub child-list : k ≡ kindList → {e : ℕ} → e ≡ spanOf t
+          → r ≡ written (shapesEach argumentsOnly (forest (i + 1) (take (e - 24) (drop 24 t)))) (set s i listShape)
+          → r ≡ written (shapesChild how (treeOf i t)) s
+      unfolding shapesOf written
+      child-list list {e} e-is r-is = r-is ∙ rw (kids-part e t e-is, h, ← k-is, eq-eqb k kindList list) refl
+
+      pub child-argument : (k ≡ kindList → ⊥) → r ≡ written (shapesOf (treeOf i t)) s
+          → r ≡ written (shapesChild how (treeOf i t)) s
+      unfolding shapesOf
+      child-argument other r-is = rw h (r-is ∙ ap (λ (ss : List Shape). written ss s) (no-list t k-is other _ _))
+
+-- children side by side: at each turn what is left makes of the buffer s what the whole makes of the first one
+pub record Writing (reads : Reads) (t : List ℕ) (at : ℕ) (s₀ left : List ℕ) (place : ℕ) (how : How) (s : List ℕ)
+    : Type 0 where
+  pub room : place + length left / 24 ≤ length s
+  pub part : length left ≤ length t
+  pub long : length s ≡ length s₀
+  pub same : written (shapesEach (readsAs how (reads .others)) (forest place left)) s
+      ≡ written (shapesEach reads (forest at t)) s₀
+
+module _ {reads : Reads} {t : List ℕ} {at : ℕ} {s₀ : List ℕ} where
+  pub each-start : at + length t / 24 ≤ length s₀ → Writing reads t at s₀ t at (reads .first) s₀
+  each-start h = record { room = h; part = omega arith; long = refl; same = refl }
+
+  module _ {left : List ℕ} {place : ℕ} {how : How} {s : List ℕ} (w : Writing reads t at s₀ left place how s) where
+    pub each-end : length left < 24 → s ≡ written (shapesEach reads (forest at t)) s₀
     unfolding shapesOf written
-    write-types h r-is = r-is ∙ rw (how, own, h, kids) refl
+    each-end short = rw (← w .same, forest-none place left short) refl
 
-    module _ {a : ℕ} (a-is : a ≡ spanOf k) where
-      pub write-index : reads ≡ AfterBase
-          → r ≡ written (shapesEach (forest (i + 1 + a / 24) (take (length k - a) (drop a k)))) (set s i v)
-          → r ≡ written (shapesOf (treeOf i t)) s
-      unfolding shapesOf written
-      write-index h r-is = r-is ∙ ap (λ (x : List Shape). written x (set s i v))
-          (after-base shapesIndex shapesEach refl (λ x y. refl) (i + 1) a k a-is) ∙ rw (how, own, h, kids) refl
+    pub each-long : length s ≡ length s₀
+    each-long = w .long
 
-      pub write-index2 : reads ≡ Arguments
-          → r ≡ written (shapesArguments (forest (i + 1 + a / 24) (take (length k - a) (drop a k)))) (set s i v)
-          → r ≡ written (shapesOf (treeOf i t)) s
-      unfolding shapesOf written
-      write-index2 h r-is = r-is ∙ ap (λ (x : List Shape). written x (set s i v))
-          (after-base shapesIndex2 shapesArguments refl (λ x y. refl) (i + 1) a k a-is)
-          ∙ rw (how, own, h, kids) refl
-
--- the argument that a stretch begins with
-module _ (i : ℕ) (t s : List ℕ) {k : ℕ} (k-is : k ≡ nodeOf 0 t .kind) {r : List ℕ} where
-  pub write-list : k ≡ 39 → {e : ℕ} → e ≡ spanOf t
-      → r ≡ written (shapesArguments (forest (i + 1) (take (e - 24) (drop 24 t)))) (set s i 5)
-      → r ≡ written (shapesArgument (treeOf i t)) s
-  unfolding shapesOf written
-  write-list h {e} e-is r-is = r-is ∙ rw (kids-part e t e-is, ← k-is, eq-eqb k 39 h) refl
-
-  pub write-other : (k ≡ 39 → ⊥) → r ≡ written (shapesOf (treeOf i t)) s
-      → r ≡ written (shapesArgument (treeOf i t)) s
-  unfolding shapesOf
-  write-other h r-is =
-      let test : eqb (nodeOf i t .kind) 39 ≡ false = ap (λ (x : ℕ). eqb x 39) (sym k-is) ∙ ne-eqb k 39 h in
-      r-is ∙ rw test refl
-
--- nodes side by side, each written by one rule
-module _ (one : Tree → List Shape) (all : Forest → List Shape) (none-is : all none ≡ [])
-    (then-is : (t : Tree) (ts : Forest) → all (t then ts) ≡ one t ++ all ts) (i : ℕ) (t s : List ℕ) where
-  none-written : length t < 24 → s ≡ written (all (forest i t)) s
-  unfolding written
-  none-written h = rw (forest-none i t h, none-is) refl
-
-  go-written : 24 ≤ length t → {e : ℕ} {u r : List ℕ} → u ≡ written (one (treeOf i t)) s → e ≡ spanOf t
-      → r ≡ written (all (forest (i + e / 24) (take (length t - e) (drop e t)))) u
-      → r ≡ written (all (forest i t)) s
-  go-written big {e} u-is e-is r-is =
-      r-is ∙ rw (rest-part e t e-is, e-is, u-is)
-      (sym (ap (λ (x : Forest). written (all x) s) (forest-tree i t big)
-      ∙ ap (λ (x : List Shape). written x s) (then-is (treeOf i t) (forest (i + spanOf t / 24) (restOf t)))
-      ∙ written-append (one (treeOf i t)) (all (forest (i + spanOf t / 24) (restOf t))) s))
-
-module _ (i : ℕ) (t s : List ℕ) where
-  pub each-none : length t < 24 → s ≡ written (shapesEach (forest i t)) s
-  unfolding shapesOf
-  each-none = none-written shapesOf shapesEach refl (λ x y. refl) i t s
-
-  pub arguments-none : length t < 24 → s ≡ written (shapesArguments (forest i t)) s
-  unfolding shapesOf
-  arguments-none = none-written shapesArgument shapesArguments refl (λ x y. refl) i t s
-
-  module _ (big : 24 ≤ length t) {e : ℕ} {u r : List ℕ} where
-    pub each-go : u ≡ written (shapesOf (treeOf i t)) s → e ≡ spanOf t
-        → r ≡ written (shapesEach (forest (i + e / 24) (take (length t - e) (drop e t)))) u
-        → r ≡ written (shapesEach (forest i t)) s
+    pub each-on : 24 ≤ length left → {u : List ℕ} → u ≡ written (shapesChild how (treeOf place left)) s
+        → {e : ℕ} → e ≡ spanOf left
+        → Writing reads t at s₀ (take (length left - e) (drop e left)) (place + e / 24) (reads .others) u
     unfolding shapesOf
-    each-go u-is e-is r-is = go-written shapesOf shapesEach refl (λ x y. refl) i t s big u-is e-is r-is
-
-    pub arguments-go : u ≡ written (shapesArgument (treeOf i t)) s → e ≡ spanOf t
-        → r ≡ written (shapesArguments (forest (i + e / 24) (take (length t - e) (drop e t)))) u
-        → r ≡ written (shapesArguments (forest i t)) s
-    unfolding shapesOf
-    arguments-go u-is e-is r-is = go-written shapesArgument shapesArguments refl (λ x y. refl) i t s big u-is e-is
-        r-is
+    each-on big u-is {e} e-is = record {
+      room = rw (rest-part e left e-is, u-is, written-length (shapesChild how (treeOf place left)) s)
+          (omega (arith, length-rest left, w .room));
+      part = rw (rest-part e left e-is) (omega (arith, length-rest left, w .part));
+      long = rw u-is (written-length (shapesChild how (treeOf place left)) s ∙ w .long);
+      same = rw u-is (sym (written-append (shapesChild how (treeOf place left)) _ s)
+          ∙ ap (λ (ss : List Shape). written ss s) (sym (first-and-rest shapesEach shapesChild (λ x y. x ++ y)
+          (λ z x ts. refl) (readsAs how (reads .others)) place left big e-is)) ∙ w .same);
+    }

@@ -4,17 +4,17 @@ use mathlib.Core.List.{List}
 use Prim.Native.Nat.{ℕ}
 use lib.ListN.{length}
 use Rattle.forest.specs.Forest.{treeOf}
+use Rattle.table.specs.Answer.{Answer, accepted, refused}
 use Rattle.table.specs.Check.{stretchOf}
 use Rattle.typerules.specs.Jobs.{typeShapeOf}
-use Rattle.typerules.specs.declared.Shaped.{Shaped}
-use Rattle.typerules.specs.declared.Shaped.the-variants.{Accepted, Refused}
 use Rattle.types.specs.Shapes.{shapesOf, afterAnswer}
 
 -- whether an answer is a refusal
-abbrev pub isRefused : Shaped → Bool
-isRefused Accepted = false
-isRefused (Refused r) = true
+abbrev pub isRefused : Answer → Bool
+isRefused (accepted vs) = false
+isRefused (refused n vs) = true
 
 -- the buffer at exit: its byte k is that of node i + k, so the nodes of the stretch are counted from 0
 abbrev pub shapesAfter : List ℕ → List ℕ → List ℕ → ℕ → List ℕ → List ℕ
-shapesAfter t names bytes i buffer = afterAnswer (typeShapeOf t names bytes i (length buffer)) (shapesOf (treeOf 0 (stretchOf t i))) buffer
+shapesAfter t names bytes i buffer =
+    afterAnswer (typeShapeOf t names bytes i (length buffer)) (shapesOf (treeOf 0 (stretchOf t i))) buffer

@@ -1,7 +1,6 @@
 -- Shapes: which byte of the buffer gets which shape. These are definitions.
 -- The nodes are those that TypeExprUnpackP::unpack of src/syntax/type_expr.rs reads.
 -- Copyright 2018 The Starlark in Rust Authors. Copyright (c) Facebook, Inc. and its affiliates. Licensed under Apache-2.0; changed.
-use mathlib.Core.Bool.{Bool, true, false}
 use mathlib.Core.List.{List, [], _∷_, _++_}
 use Prim.Native.Nat.{ℕ, _+_, _≤_, _<_}
 use lib.Dec.{eqb}
@@ -10,7 +9,9 @@ use Rattle.fields.specs.Choice.{if'}
 use Rattle.forest.specs.Forest.{Node, Tree, node, Forest, none, _then_}
 use Rattle.soundness.specs.KindNumbers.{kindList}
 use Rattle.table.specs.Answer.{Answer, accepted, refused}
-use Rattle.typerules.specs.Forms.{formOf, shapeOf, listShape, readsOf, ofChildren}
+use Rattle.typerules.specs.Forms.{formOf, shapeOf, listShape, readsAs, readsOf, argumentsOnly, ofChild}
+use Rattle.typerules.specs.declared.How.{How}
+use Rattle.typerules.specs.declared.Reads.{Reads}
 
 -- a node that is read, by its index, and its shape
 pub record Shape : Type 0 where
@@ -20,37 +21,31 @@ pub record Shape : Type 0 where
 abbrev pub shapeAt : Node → ℕ → Shape
 shapeAt r s = record { at = r .at; shape = s }
 
--- a node read as a type, given what its children give
-abbrev pub nodeShapes : Node → (Unit {0} → List Shape) → (Unit {0} → List Shape) → (Unit {0} → List Shape) → List Shape
-nodeShapes r types afterBase arguments =
-    shapeAt r (shapeOf (formOf (r .kind) (r .detail)))
-    ∷ ofChildren (readsOf (formOf (r .kind) (r .detail))) [] types afterBase arguments
+-- a node read as a type, given what its children give by how they are read
+abbrev pub nodeShapes : Node → (Reads → List Shape) → List Shape
+nodeShapes r children =
+    shapeAt r (shapeOf (formOf (r .kind) (r .detail))) ∷ children (readsOf (formOf (r .kind) (r .detail)))
 
--- the nodes that are read as types and as arguments, in table order: not the base of an Index or Index2, and nothing inside a path
+-- the nodes that are read as types and as arguments, in table order: not the base of an Index or Index2, and nothing
+-- inside a path
 unfoldable mutual
   pub shapesOf : Tree → List Shape
-  shapesOf (node r ks) = nodeShapes r (λ _. shapesEach ks) (λ _. shapesIndex ks) (λ _. shapesIndex2 ks)
+  shapesOf (node r ks) = nodeShapes r (λ reads. shapesEach reads ks)
 
   pub shapesArgument : Tree → List Shape
   shapesArgument (node r ks) =
-      if' (eqb (r .kind) kindList) (λ _. shapeAt r listShape ∷ shapesArguments ks) (λ _.
-      nodeShapes r (λ _. shapesEach ks) (λ _. shapesIndex ks) (λ _. shapesIndex2 ks))
+      if' (eqb (r .kind) kindList) (λ _. shapeAt r listShape ∷ shapesEach argumentsOnly ks) (λ _.
+      nodeShapes r (λ reads. shapesEach reads ks))
 
-  pub shapesEach : Forest → List Shape
-  shapesEach none = []
-  shapesEach (t then ts) = shapesOf t ++ shapesEach ts
+  pub shapesEach : Reads → Forest → List Shape
+  shapesEach reads none = []
+  shapesEach reads (t then ts) =
+      ofChild (reads .first) [] (λ _. shapesOf t) (λ _. shapesArgument t)
+      ++ shapesEach (readsAs (reads .others) (reads .others)) ts
 
-  pub shapesArguments : Forest → List Shape
-  shapesArguments none = []
-  shapesArguments (t then ts) = shapesArgument t ++ shapesArguments ts
-
-  pub shapesIndex : Forest → List Shape
-  shapesIndex none = []
-  shapesIndex (b then ts) = shapesEach ts
-
-  pub shapesIndex2 : Forest → List Shape
-  shapesIndex2 none = []
-  shapesIndex2 (b then ts) = shapesArguments ts
+-- a child as it is read
+abbrev pub shapesChild : How → Tree → List Shape
+shapesChild how t = ofChild how [] (λ _. shapesOf t) (λ _. shapesArgument t)
 
 -- a buffer after shapes are written, each at its index; other bytes stay
 unfoldable pub written : List Shape → List ℕ → List ℕ
@@ -66,6 +61,11 @@ shapeOr (s ∷ ss) k old = if' (eqb (s .at) k) (λ _. s .shape) (λ _. shapeOr s
 unfoldable pub Rising : ℕ → ℕ → List Shape → Type 0
 Rising lo hi [] = Unit {0}
 Rising lo hi (s ∷ ss) = (lo ≤ s .at) × ((s .at < hi) × Rising (s .at + 1) hi ss)
+
+-- every shape is one of document 01's, 1 to 7
+unfoldable pub Proper : List Shape → Type 0
+Proper [] = Unit {0}
+Proper (s ∷ ss) = (1 ≤ s .shape) × ((s .shape ≤ 7) × Proper ss)
 
 -- a buffer after an answer: accepted, the shapes are written; a refusal changes nothing
 abbrev pub afterAnswer : Answer → List Shape → List ℕ → List ℕ

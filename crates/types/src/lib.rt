@@ -29,7 +29,7 @@ pub fn type_shape(
 
 // Whether an answer is a refusal.
 fn is_refused(answer: Shaped) -> bool
-    ensures { λ r. ⌜ r ≡ isRefused answer ⌝ }
+    ensures { λ r. ⌜ r ≡ isRefused (shaped answer) ⌝ }
 {
     match answer {
         Shaped::Accepted => false,

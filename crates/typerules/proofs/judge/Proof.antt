@@ -1,5 +1,5 @@
--- `typerules::judge` meets its contract: 1 to 4, 5, then the node. Assumes nothing.
-use Rattle.typerules.proofs.Jobs.{job-refused, job-dialect, job-type, sound-told}
+-- `typerules::judge` meets its contract: 1 to 5, then the node. Assumes nothing.
+use Rattle.typerules.proofs.Jobs.{job-refused, job-type, job-sound}
 use borrow.Author.Needs.{needs}
 use Rattle.typerules.proofs.judge.Statement.{statement}
 use Rattle.typerules.proofs.judge.Tie as tie
@@ -10,11 +10,7 @@ judge-spec =
     (tie.spec
     (λ c κs. search needs)
     (λ c. search needs)
-    (λ c. search job-refused)  -- returns
+    (λ c κs. search job-sound)  -- type-at-requires
     (λ c. search needs)
-    (λ c κs. search needs)
-    (λ c. search needs)
-    (λ c κs. search sound-told)  -- type-at-requires
-    (λ c. search needs)
-    (λ c. search job-type)  -- returns-2
-    (λ c. search job-dialect))  -- returns-3
+    (λ c. search job-type)  -- returns
+    (λ c. search job-refused))  -- returns-2

@@ -1,4 +1,5 @@
 -- `typerules::forms::reads_of` meets its contract, variant by variant. Assumes nothing.
+use Rattle.typerules.proofs.FormOf.{reads-told}
 use borrow.Author.Needs.{needs}
 use Rattle.typerules.proofs.forms.reads_of.Statement.{statement}
 use Rattle.typerules.proofs.forms.reads_of.Tie as tie
@@ -8,18 +9,26 @@ reads-of-spec =
     tie.close
     (tie.spec
     (λ c. search needs)
+    (λ c κs. search needs)
     (λ c. search needs)
+    (λ c κs. search needs)
     (λ c. search needs)
+    (λ c κs. search needs)
     (λ c. search needs)
+    (λ c κs. search needs)
     (λ c. search needs)
+    (λ c κs. search needs)
     (λ c. search needs)
+    (λ c κs. search needs)
     (λ c. search needs)
+    (λ c κs. search needs)
     (λ c. search needs)
-    (λ c. search needs)
-    (λ c. search needs)
-    (λ c. search needs)
-    (λ c. search needs)
-    (λ c. search needs)
-    (λ c. search needs)
-    (λ c. search needs)
-    (λ c. search needs))
+    (λ c κs. search needs)
+    (λ c. search reads-told)  -- returns
+    (λ c. search reads-told)  -- returns-2
+    (λ c. search reads-told)  -- returns-3
+    (λ c. search reads-told)  -- returns-4
+    (λ c. search reads-told)  -- returns-5
+    (λ c. search reads-told)  -- returns-6
+    (λ c. search reads-told)  -- returns-7
+    (λ c. search reads-told))  -- returns-8

@@ -1,4 +1,5 @@
--- `typerules::paths::object_path` meets its contract: an Identifier, a Dot whose object is read, or 42. Assumes nothing.
+-- `typerules::paths::object_path` meets its contract: an Identifier, a Dot whose object is read, or 42.
+-- Assumes nothing.
 use borrow.Author.Needs.{needs}
 use lib.ListN.{length}
 use Rattle.typerules.proofs.Dots.{object-none, object-banned, object-free, object-other, object-dot}

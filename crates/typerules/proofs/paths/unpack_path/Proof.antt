@@ -1,4 +1,5 @@
--- `typerules::paths::unpack_path` meets its contract: an Identifier, a Dot whose object is read, or 43. Assumes nothing.
+-- `typerules::paths::unpack_path` meets its contract: an Identifier, a Dot whose object is read, or 43.
+-- Assumes nothing.
 use Rattle.typerules.proofs.Dots.{path-identifier, path-other, path-dot}
 use borrow.Author.Needs.{needs}
 use Rattle.typerules.proofs.paths.unpack_path.Statement.{statement}
