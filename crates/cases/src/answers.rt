@@ -1,7 +1,6 @@
 // The answer to one case, printed behind its label.
 use arguments::CallArgs;
 use arguments::Called;
-use arguments::Place;
 use dialect::Decoded;
 use dialect::Dialect;
 use dialect::DialectTypes;
@@ -10,6 +9,7 @@ use parameters::Counted;
 use parameters::Range;
 use parameters::Unpacked;
 use table::Checked;
+use table::Place;
 use table::Refusal;
 use table::Wanted;
 use targets::Targeted;
@@ -133,8 +133,8 @@ fn say_decoded(bytes: &[u8]) {
 
 fn say_place(p: Place) {
     match p {
-        Place::Given(i) => say_number(i as u64),
-        Place::Missing => say(b"none"),
+        Place::At(i) => say_number(i as u64),
+        Place::Nothing => say(b"none"),
     }
 }
 

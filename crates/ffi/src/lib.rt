@@ -5,6 +5,7 @@ use parameters::Counted;
 use parameters::Range;
 use parameters::Unpacked;
 use table::Checked;
+use table::Place;
 use table::Refusal;
 use targets::Targeted;
 use typerules::Shaped;
@@ -81,12 +82,12 @@ fn put_ranges(c: Counted, out: &mut [u32; 12]) -> u32
 }
 
 // A place among the arguments, in one word.
-fn place_word(p: arguments::Place) -> u32
+fn place_word(p: Place) -> u32
     ensures { λ r. ⌜ r ≡ placeIn (placeValues p) ⌝ }
 {
     match p {
-        arguments::Place::Given(i) => i,
-        arguments::Place::Missing => 0xFFFF_FFFF,
+        Place::At(i) => i,
+        Place::Nothing => 0xFFFF_FFFF,
     }
 }
 
