@@ -4,6 +4,7 @@ use mathlib.Core.Path.{_≡_, refl, sym, ap, _∙_}
 use mathlib.Core.Bool.{true}
 use mathlib.Core.List.{List, []}
 use Prim.Native.Nat.{ℕ}
+use Rattle.fields.proofs.Basics.{never}
 use Rattle.forest.specs.Forest.{treeOf}
 use Rattle.table.specs.Answer.{Answer, accepted, refused, andThen}
 use Rattle.table.specs.Check.{checkOf, nodeFits, stretchOf, entryCheck, onNode}
@@ -15,7 +16,6 @@ use Rattle.arguments.specs.Call.{Outcome, unpacked, refusedWith, repeate
 use Rattle.arguments.specs.Job.{callValues, outcomeAnswer, callAnswer, callOf}
 use Rattle.arguments.specs.Accepted.{Ordered}
 use Rattle.arguments.specs.declared.CallArgs.{CallArgs}
-use Rattle.arguments.proofs.Names.{never}
 use Rattle.arguments.proofs.Order.{unpacked-ordered}
 use Rattle.arguments.proofs.Converse.{ordered-unpacked}
 use Rattle.arguments.proofs.Promises.{args-injective}

@@ -6,6 +6,7 @@ use Prim.Native.Nat.{ℕ, zero, suc, _+_}
 use native.Mathlib.Omega.{arith}
 use lib.ListN.{length, replicate, length-append}
 use lib.Seq.{append-snoc}
+use Rattle.fields.proofs.Basics.{never}
 use Rattle.table.specs.declared.Place.{Place}
 use Rattle.table.specs.declared.Place.the-variants.{At, Nothing}
 use Rattle.arguments.specs.Written.{Argument, kindIn}
@@ -20,7 +21,7 @@ use Rattle.arguments.specs.declared.ArgsStage.the-variants.{Args as AtAr
 use Rattle.arguments.specs.declared.Check.the-variants.{Fine}
 use Rattle.arguments.specs.declared.CallArgs.{CallArgs}
 use Rattle.arguments.specs.declared.Walk.{Walk}
-use Rattle.arguments.proofs.Names.{never, names-new}
+use Rattle.arguments.proofs.Names.{names-new}
 use Rattle.arguments.proofs.Order.{run-passes, run-last}
 
 abbrev at : ArgsStage → CallArgs → Walk

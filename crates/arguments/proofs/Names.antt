@@ -8,6 +8,7 @@ use native.Mathlib.Nat.{eq-or-lt-of-le}
 use native.Mathlib.Omega.{arith}
 use lib.ListN.{length, getD, length-append, List·getD-append}
 use lib.Seq.{getD-append-seam}
+use Rattle.fields.proofs.Basics.{never}
 use Rattle.fields.specs.Choice.{if'}
 use Rattle.forest.specs.Names.{same}
 use Rattle.forest.specs.declared.Found.{Found}
@@ -19,9 +20,6 @@ use Rattle.arguments.specs.Call.{pastNamed, hasName, firstSame, repeats,
 use Rattle.arguments.specs.Accepted.{namesOf, Distinct}
 use Rattle.arguments.specs.declared.ArgsStage.{ArgsStage}
 use Rattle.arguments.specs.declared.Check.the-variants.{Fine, Broken}
-
-pub never : {P : Type 0} → _≡_ {A = ℕ} 0 1 → P
-never z = absurd (omega arith)
 
 -- no name of a list is x
 abbrev Absent : Name → List Name → Type 0

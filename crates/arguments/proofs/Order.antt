@@ -8,6 +8,7 @@ use native.Mathlib.Omega.{arith}
 use lib.ListN.{length, replicate, length-append, length-replicate}
 use lib.Seq.{append-snoc}
 use borrow.Author.Tests.{eq-eqb}
+use Rattle.fields.proofs.Basics.{never}
 use Rattle.forest.specs.declared.Found.{Found}
 use Rattle.table.specs.declared.Place.{Place}
 use Rattle.table.specs.declared.Place.the-variants.{At, Nothing}
@@ -25,7 +26,7 @@ use Rattle.arguments.specs.declared.Check.{Check}
 use Rattle.arguments.specs.declared.Check.the-variants.{Fine, Broken, Repeated}
 use Rattle.arguments.specs.declared.CallArgs.{CallArgs}
 use Rattle.arguments.specs.declared.Walk.{Walk}
-use Rattle.arguments.proofs.Names.{never, names-more, fine-new}
+use Rattle.arguments.proofs.Names.{names-more, fine-new}
 
 replicate-more : (n : ℕ) (k : Kind) → replicate n k ++ (k ∷ []) ≡ replicate (n + 1) k
 replicate-more n k = simp add-one (go n)

@@ -2,6 +2,7 @@
 use mathlib.Core.Path.{_≡_, refl, ap}
 use mathlib.Core.List.{List, [], _++_}
 use Prim.Native.Nat.{ℕ}
+use Rattle.fields.proofs.Basics.{never}
 use Rattle.fields.proofs.Coincide.{coincide-by}
 use Rattle.table.specs.declared.Place.{Place}
 use Rattle.table.specs.declared.Place.the-variants.{At, Nothing}
@@ -10,7 +11,6 @@ use Rattle.arguments.specs.Job.{placeValues, callValues, called, callOf}
 use Rattle.arguments.specs.declared.CallArgs.{CallArgs}
 use Rattle.arguments.specs.declared.Called.{Called}
 use Rattle.arguments.specs.declared.Called.the-variants.{Accepted, Refused}
-use Rattle.arguments.proofs.Names.{never}
 
 -- two places side by side are told apart by their values
 place-one : (p q : Place) (l m : List ℕ) → placeValues p ++ l ≡ placeValues q ++ m → (p ≡ q) × (l ≡ m)

@@ -6,6 +6,7 @@ use Prim.Native.Nat.{ℕ, suc, _+_, _-_, _*_, _/_, _<_, _≤_}
 use native.Mathlib.Omega.{arith}
 use lib.ListN.{length, take, drop, length-take, length-drop, length-append}
 use lib.Seq.{append-snoc, take-append-seam}
+use Rattle.fields.proofs.Basics.{never}
 use Rattle.forest.specs.Forest.{Node, nodeOf, spanOf, forest}
 use Rattle.forest.specs.Names.{nameOf}
 use Rattle.forest.specs.declared.Found.the-variants.{At, Nothing}
@@ -25,7 +26,6 @@ use Rattle.arguments.specs.declared.ArgsStage.{ArgsStage}
 use Rattle.arguments.specs.declared.Check.{Check}
 use Rattle.arguments.specs.declared.Check.the-variants.{Fine, Broken, Repeated}
 use Rattle.arguments.specs.declared.Walk.{Walk}
-use Rattle.arguments.proofs.Names.{never}
 use Rattle.arguments.proofs.Order.{Walked, walked-start, order-total, kinds-long, walked-more, run-more}
 use Rattle.arguments.proofs.Order.{run-last}
 

@@ -6,6 +6,7 @@ use Prim.Native.Nat.{ℕ, _+_, _*_, _/_, _<_, _≤_}
 use native.Mathlib.Omega.{arith}
 use lib.ListN.{length}
 use borrow.Author.Tests.{le-leb, lt-leb}
+use Rattle.fields.proofs.Basics.{never}
 use Rattle.forest.specs.Forest.{nodeOf, treeOf}
 use Rattle.dialect.specs.Rows.{permitsTypes}
 use Rattle.dialect.specs.Bytes.{fromBytes}
@@ -73,8 +74,8 @@ given-sound t names bytes {d} e = go (checkOf t names) (fromBytes bytes) refl e
   where
     go : (a : Answer) (x : Decoded) → checkOf t names ≡ a → inDialect d ≡ handing a x → accepted [] ≡ checkOf t names
     go (accepted vs) (Valid v) a-is e = sym (a-is ∙ ap accepted (check-values t names a-is))
-    go (accepted vs) Invalid a-is e = let z : _≡_ {A = ℕ} 0 1 = cc in absurd (omega arith)
-    go (refused n vs) x a-is e = let z : _≡_ {A = ℕ} 0 1 = cc in absurd (omega arith)
+    go (accepted vs) Invalid a-is e = never (cc)
+    go (refused n vs) x a-is e = never (cc)
 
 -- the whole job, by what it is given
 module _ (t names bytes : List ℕ) {g : Given} (g-is : given g ≡ givenOf t names bytes) where
