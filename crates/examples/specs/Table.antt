@@ -1,5 +1,5 @@
 -- Document 01's table of proved examples: a row for each, on the definitions that the promises cite. These are definitions.
-use mathlib.Core.Bool.{Bool, true, false}
+use mathlib.Core.Bool.{true, false}
 use mathlib.Core.List.{List, [], _∷_}
 use Prim.Native.Nat.{ℕ}
 use Rattle.forest.specs.Forest.{Node, Tree, node, none, _then_}
