@@ -6,13 +6,14 @@ use Prim.Native.Nat.{ℕ, zero, suc, _+_}
 use native.Mathlib.Omega.{arith}
 use lib.ListN.{length, replicate, length-append}
 use lib.Seq.{append-snoc}
+use Rattle.forest.specs.Names.{Distinct}
 use Rattle.fields.proofs.Basics.{never}
 use Rattle.table.specs.declared.Place.{Place}
 use Rattle.table.specs.declared.Place.the-variants.{At, Nothing}
 use Rattle.arguments.specs.Written.{Argument, kindIn}
 use Rattle.arguments.specs.Call.{pastNamed, inKwargs, repeats, rule, check, nextStage, counts, count}
 use Rattle.arguments.specs.Call.{advance, given, taken, unpacked, bit, run, unpack}
-use Rattle.arguments.specs.Accepted.{kindsOf, one, Placed, namesOf, Distinct, Ordered}
+use Rattle.arguments.specs.Accepted.{kindsOf, one, Placed, namesOf, Ordered}
 use Rattle.arguments.specs.declared.Kind.{Kind}
 use Rattle.arguments.specs.declared.Kind.the-variants.{Positional, Named, Args, KwArgs}
 use Rattle.arguments.specs.declared.ArgsStage.{ArgsStage}

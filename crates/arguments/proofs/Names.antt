@@ -8,6 +8,7 @@ use native.Mathlib.Nat.{eq-or-lt-of-le}
 use native.Mathlib.Omega.{arith}
 use lib.ListN.{length, getD, length-append, List·getD-append}
 use lib.Seq.{getD-append-seam}
+use Rattle.forest.specs.Names.{Distinct}
 use Rattle.fields.proofs.Basics.{never}
 use Rattle.fields.specs.Choice.{if'}
 use Rattle.forest.specs.Names.{same}
@@ -17,7 +18,7 @@ use Rattle.forest.proofs.Named.{same-bytes-refl, same-bytes-equal}
 use Rattle.table.specs.Numbers.{namedAfterStar}
 use Rattle.arguments.specs.Written.{Name, Argument, positional, named, args, kwargs}
 use Rattle.arguments.specs.Call.{pastNamed, hasName, firstSame, repeats, newName, check}
-use Rattle.arguments.specs.Accepted.{namesOf, Distinct}
+use Rattle.arguments.specs.Accepted.{namesOf}
 use Rattle.arguments.specs.declared.ArgsStage.{ArgsStage}
 use Rattle.arguments.specs.declared.Check.the-variants.{Fine, Broken}
 

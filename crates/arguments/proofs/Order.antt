@@ -8,6 +8,7 @@ use native.Mathlib.Omega.{arith}
 use lib.ListN.{length, replicate, length-append, length-replicate}
 use lib.Seq.{append-snoc}
 use borrow.Author.Tests.{eq-eqb}
+use Rattle.forest.specs.Names.{Distinct}
 use Rattle.fields.proofs.Basics.{never}
 use Rattle.forest.specs.declared.Found.{Found}
 use Rattle.table.specs.declared.Place.{Place}
@@ -16,7 +17,7 @@ use Rattle.arguments.specs.Written.{Argument, kindIn}
 use Rattle.arguments.specs.Call.{rule, check, nextStage, count, advance, given, taken, Outcome, unpacked}
 use Rattle.arguments.specs.Call.{refusedWith, repeatedName, internalError, bit, total, run}
 use Rattle.arguments.specs.Call.{start, unpack}
-use Rattle.arguments.specs.Accepted.{kindsOf, one, inOrder, Placed, namesOf, Distinct, Ordered, Expected}
+use Rattle.arguments.specs.Accepted.{kindsOf, one, inOrder, Placed, namesOf, Ordered, Expected}
 use Rattle.arguments.specs.declared.Kind.{Kind}
 use Rattle.arguments.specs.declared.Kind.the-variants.{Positional, Named, Args, KwArgs}
 use Rattle.arguments.specs.declared.ArgsStage.{ArgsStage}

@@ -2,8 +2,9 @@
 -- These are definitions.
 use mathlib.Core.Path.{_≡_}
 use mathlib.Core.List.{List, [], _∷_, _++_}
-use Prim.Native.Nat.{ℕ, _+_, _<_}
-use lib.ListN.{length, getD, replicate}
+use Prim.Native.Nat.{ℕ, _+_}
+use lib.ListN.{replicate}
+use Rattle.forest.specs.Names.{Distinct}
 use Rattle.table.specs.declared.Place.{Place}
 use Rattle.table.specs.declared.Place.the-variants.{At, Nothing}
 use Rattle.arguments.specs.Written.{Name, Argument, positional, named, args, kwargs, kindIn}
@@ -38,10 +39,6 @@ namesOf (positional r ∷ ps) = namesOf ps
 namesOf (named r n ∷ ps) = n ∷ namesOf ps
 namesOf (args r ∷ ps) = namesOf ps
 namesOf (kwargs r ∷ ps) = namesOf ps
-
--- all names are distinct
-abbrev pub Distinct : List Name → Type 0
-Distinct ns = (i j : ℕ) → i < j → j < length ns → getD ns i [] ≡ getD ns j [] → ⊥
 
 -- a list of arguments in order, so many as c says, with the star and the `**` at the places that c says, and with distinct names
 pub record Ordered (l : List Argument) (c : CallArgs) : Type 0 where

@@ -1,20 +1,19 @@
 -- A list is accepted exactly when it has a good cut; the cut is unique; what is counted and the modes are the cut's. Assumes nothing.
 use mathlib.Core.Path.{_≡_, refl, sym, ap, ap₂, _∙_, subst}
-use mathlib.Core.Bool.{Bool, true, false, _||_}
-use mathlib.Core.Logic.{_⊎_, inl, inr, _↔_}
+use mathlib.Core.Bool.{Bool, true, false}
+use mathlib.Core.Logic.{_⊎_, inl, inr}
 use mathlib.Core.List.{List, [], _∷_, _++_, append-assoc}
-use Prim.Native.Nat.{ℕ, zero, suc, _+_, _<_, _≤_}
+use Prim.Native.Nat.{ℕ, _+_, _<_}
 use native.Mathlib.Omega.{arith}
 use lib.ListN.{length, length-append}
-use lib.Dec.{eqb}
 use borrow.Author.Tests.{ne-eqb}
 use Rattle.fields.proofs.Basics.{clash, never}
 use Rattle.forest.specs.Forest.{Node}
-use Rattle.unpack.specs.Written.{Name, Param, normal, noArgs, slash, args, kwargs, nodeIn, kindIn}
+use Rattle.unpack.specs.Written.{Param, normal, noArgs, slash, args, kwargs, kindIn}
 use Rattle.unpack.specs.Unpack.{writtenAt, flatAt, isSlash, slashFrom, firstSlash, positionalOnly, firstState}
 use Rattle.unpack.specs.Unpack.{start, finish, Outcome, accepted, refused, run, unpack, modesFrom, modes}
 use Rattle.unpack.specs.declared.State.{State}
-use Rattle.unpack.specs.declared.State.the-variants.{Normal as BeforeSlash, SeenSlash, SeenStar, SeenStarStar}
+use Rattle.unpack.specs.declared.State.the-variants.{Normal as BeforeSlash, SeenSlash}
 use Rattle.unpack.specs.declared.Written.{Written}
 use Rattle.unpack.specs.declared.WrittenPlace.{WrittenPlace}
 use Rattle.unpack.specs.declared.WrittenPlace.the-variants.{AtWritten, NoWritten}
@@ -23,9 +22,9 @@ use Rattle.unpack.specs.declared.Counts.{Counts}
 use Rattle.unpack.proofs.Steps.{clear-start}
 use Rattle.unpack.proofs.Theorems.{refused≢accepted}
 use Rattle.demand3.specs.Cut.{Ordinary, Before, noSlash, upToSlash, Star, noStar, bare, starred, Last}
-use Rattle.demand3.specs.Cut.{noKwargs, withKwargs, Cut, firsts, afterStar, ordinary, slashPart, starPart}
-use Rattle.demand3.specs.Cut.{kwargsPart, join, namesOf, Distinct, Defaulted, Some, SlashGood, StarGood, Good}
-use Rattle.demand3.specs.Cut.{argsPart, partsOf, partModes}
+use Rattle.demand3.specs.Cut.{noKwargs, withKwargs, Cut, firsts, ordinary, slashPart}
+use Rattle.demand3.specs.Cut.{kwargsPart, join, SlashGood, StarGood, Good}
+use Rattle.demand3.specs.Cut.{partsOf, partModes}
 use Rattle.demand3.proofs.Walks.{Rules, Fresh, countsFrom, starFrom, run-accepted, run-finished}
 use Rattle.demand3.proofs.Shapes.{Defaults, tail, either-rules, NoSlash, Slashed, pos-rules, rules-either}
 use Rattle.demand3.proofs.Shapes.{rules-pos, slash-at, slash-from, none-either}

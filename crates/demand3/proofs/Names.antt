@@ -1,5 +1,5 @@
 -- Names and defaults: the tests of the walk are the conditions of a good cut. Assumes nothing.
-use mathlib.Core.Path.{_≡_, refl, sym, ap, ap₂, _∙_}
+use mathlib.Core.Path.{_≡_, refl, sym, ap, _∙_}
 use mathlib.Core.Bool.{Bool, true, false, _||_}
 use mathlib.Core.Logic.{_↔_, ⊎-elim}
 use mathlib.Core.List.{List, [], _∷_, _++_, append-nil}
@@ -8,18 +8,18 @@ use native.Mathlib.Nat.{eq-or-lt-of-le}
 use native.Mathlib.Omega.{arith}
 use lib.ListN.{length, getD, length-append, List·getD-append}
 use lib.Seq.{append-snoc, getD-append-seam}
+use Rattle.forest.specs.Names.{Distinct}
 use Rattle.fields.proofs.Basics.{clash, never}
 use Rattle.fields.specs.Choice.{if'}
-use Rattle.forest.specs.Forest.{Node}
 use Rattle.forest.specs.Names.{same}
 use Rattle.forest.specs.declared.Found.{Found}
 use Rattle.forest.specs.declared.Found.the-variants.{At, Nothing}
 use Rattle.forest.proofs.Named.{same-bytes-refl, same-bytes-equal}
-use Rattle.unpack.specs.Written.{Name, Param, normal, noArgs, slash, args, kwargs, nodeIn}
+use Rattle.unpack.specs.Written.{Name, Param, normal, noArgs, slash, args, kwargs}
 use Rattle.unpack.specs.Unpack.{defaultRule, hasName, firstSame, repeats}
-use Rattle.unpack.specs.declared.Check.the-variants.{Fine, Broken}
+use Rattle.unpack.specs.declared.Check.the-variants.{Fine}
 use Rattle.unpack.proofs.Steps.{broken≢fine}
-use Rattle.demand3.specs.Cut.{Ordinary, namesOf, Distinct, defaultAt, Defaulted}
+use Rattle.demand3.specs.Cut.{Ordinary, namesOf, defaultAt, Defaulted}
 use Rattle.demand3.proofs.Walks.{Fresh}
 use Rattle.demand3.proofs.Shapes.{Defaults}
 

@@ -1,21 +1,19 @@
 -- Lists that keep the rules have the form of a cut, and lists of that form keep the rules. Assumes nothing.
-use mathlib.Core.Path.{_≡_, refl, sym, ap, _∙_}
+use mathlib.Core.Path.{_≡_, refl, ap}
 use mathlib.Core.Bool.{Bool, true, false, _||_}
 use mathlib.Core.Logic.{_⊎_, inl, inr}
 use mathlib.Core.List.{List, [], _∷_, _++_}
-use Prim.Native.Nat.{ℕ, zero, suc, _+_, _≤_}
+use Prim.Native.Nat.{ℕ, suc, _+_, _≤_}
 use native.Mathlib.Omega.{arith}
 use lib.ListN.{length}
 use Rattle.fields.proofs.Basics.{never}
 use Rattle.forest.specs.Forest.{Node}
 use Rattle.unpack.specs.Written.{Name, Param, normal, noArgs, slash, args, kwargs, kindIn}
 use Rattle.unpack.specs.Unpack.{writtenAt, defaultRule, isSlash, slashFrom}
-use Rattle.unpack.specs.declared.State.{State}
 use Rattle.unpack.specs.declared.State.the-variants.{Normal as BeforeSlash, SeenSlash, SeenStar, SeenStarStar}
-use Rattle.unpack.specs.declared.Check.the-variants.{Fine, Broken}
+use Rattle.unpack.specs.declared.Check.the-variants.{Fine}
 use Rattle.fields.specs.Choice.{if'}
 use Rattle.unpack.specs.declared.Written.{Written}
-use Rattle.unpack.specs.declared.WrittenPlace.{WrittenPlace}
 use Rattle.unpack.specs.declared.WrittenPlace.the-variants.{AtWritten, NoWritten}
 use Rattle.unpack.proofs.Steps.{broken≢fine}
 use Rattle.demand3.specs.Cut.{Ordinary, Star, noStar, bare, starred, Last, noKwargs, withKwargs, ordinary}

@@ -1,15 +1,14 @@
 -- unpack's walk, apart: the rules of the kinds, the names, and what is counted. Assumes nothing.
-use mathlib.Core.Path.{_≡_, refl, sym, ap, ap₂, _∙_}
-use mathlib.Core.Bool.{Bool, true, false}
+use mathlib.Core.Path.{_≡_, refl, sym, _∙_}
+use mathlib.Core.Bool.{Bool}
 use mathlib.Core.List.{List, [], _∷_, _++_, append-assoc, append-nil}
-use Prim.Native.Nat.{ℕ, zero, suc, _+_}
-use native.Mathlib.Omega.{arith}
+use Prim.Native.Nat.{ℕ, _+_}
 use lib.ListN.{length, length-append}
 use Rattle.forest.specs.declared.Found.{Found}
 use Rattle.forest.specs.declared.Found.the-variants.{At, Nothing}
 use Rattle.unpack.specs.Written.{Param, kindIn}
 use Rattle.unpack.specs.Unpack.{writtenAt, repeats, rule, firstly, check, nextState, nextOptional, nextStar, count}
-use Rattle.unpack.specs.Unpack.{advance, finish, Outcome, accepted, refused, run}
+use Rattle.unpack.specs.Unpack.{advance, finish, accepted, refused, run}
 use Rattle.unpack.specs.declared.State.{State}
 use Rattle.unpack.specs.declared.Check.{Check}
 use Rattle.unpack.specs.declared.Check.the-variants.{Fine, Broken}

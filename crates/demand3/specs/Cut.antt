@@ -5,6 +5,7 @@ use mathlib.Core.List.{List, [], _∷_, _++_}
 use Prim.Native.Nat.{ℕ, zero, suc, _+_, _-_, _<_, _≤_}
 use lib.ListN.{length, getD, take, drop, replicate}
 use lib.Dec.{leb, ltb}
+use Rattle.forest.specs.Names.{Distinct}
 use Rattle.fields.specs.Choice.{if'}
 use Rattle.forest.specs.Forest.{Node}
 use Rattle.unpack.specs.Written.{Name, Param, normal, noArgs, slash, args, kwargs}
@@ -81,10 +82,6 @@ namesOf (noArgs r ∷ ps) = namesOf ps
 namesOf (slash r ∷ ps) = namesOf ps
 namesOf (args r n ∷ ps) = n ∷ namesOf ps
 namesOf (kwargs r n ∷ ps) = n ∷ namesOf ps
-
--- all names are distinct
-abbrev pub Distinct : List Name → Type 0
-Distinct ns = (i j : ℕ) → i < j → j < length ns → getD ns i [] ≡ getD ns j [] → ⊥
 
 -- none without default after one with
 abbrev pub defaultAt : List Ordinary → ℕ → Bool

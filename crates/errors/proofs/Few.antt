@@ -7,7 +7,6 @@ use lib.ListN.{length, length-append}
 use Rattle.fields.specs.Choice.{if'}
 use Rattle.dialect.specs.declared.Dialect.{Dialect}
 use Rattle.forest.specs.Forest.{Node, Forest}
-use Rattle.soundness.specs.Kinds.{parameter}
 use Rattle.unpack.specs.Written.{Param, kindIn, paramsIn}
 use Rattle.unpack.specs.Unpack.{Outcome, accepted, refused, internal, unpack}
 use Rattle.unpack.specs.declared.Kind.{Kind}

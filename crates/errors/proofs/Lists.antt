@@ -9,7 +9,6 @@ use borrow.Rule.Slice.PartMut.{putMid}
 use Rattle.fields.proofs.Basics.{never}
 use Rattle.dialect.specs.declared.Dialect.{Dialect}
 use Rattle.forest.specs.Forest.{nodeOf, spanOf, kidsOf, forest}
-use Rattle.forest.proofs.Stretch.{length-kids}
 use Rattle.unpack.specs.Written.{paramsIn, written}
 use Rattle.unpack.specs.Unpack.{Outcome, accepted, refused, internal, unpack}
 use Rattle.unpack.specs.Told.{fault, told}

@@ -12,7 +12,7 @@ use typerules::Shaped;
 use validate::Listed;
 ghost use mathlib.Core.Path.{_≡_};
 ghost use mathlib.Core.List.{[], _∷_};
-ghost use Prim.Native.Nat.{_+_, _<_, _≤_};
+ghost use Prim.Native.Nat.{_+_, _<_};
 ghost use lib.ListN.{length};
 ghost use Rattle.table.specs.Answer.{accepted, refusal};
 ghost use Rattle.table.specs.Check.{checkOf};

@@ -1,8 +1,9 @@
--- Names of records: their bytes, and when two are equal. These are definitions.
+-- Names of records: their bytes, when two are equal, and when all are distinct. These are definitions.
+use mathlib.Core.Path.{_≡_}
 use mathlib.Core.Bool.{Bool, true, false, _&&_}
 use mathlib.Core.List.{List, [], _∷_}
-use Prim.Native.Nat.{ℕ}
-use lib.ListN.{take, drop}
+use Prim.Native.Nat.{ℕ, _<_}
+use lib.ListN.{length, getD, take, drop}
 use lib.Dec.{eqb}
 use Rattle.forest.specs.Forest.{Node}
 
@@ -16,3 +17,7 @@ same [] [] = true
 same [] (y ∷ ys) = false
 same (x ∷ xs) [] = false
 same (x ∷ xs) (y ∷ ys) = eqb x y && same xs ys
+
+-- all names are distinct
+abbrev pub Distinct : List (List ℕ) → Type 0
+Distinct ns = (i j : ℕ) → i < j → j < length ns → getD ns i [] ≡ getD ns j [] → ⊥

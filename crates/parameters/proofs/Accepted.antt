@@ -1,28 +1,22 @@
 -- What an accepted answer of the job says, and that its numbers are small. Assumes nothing.
-use mathlib.Core.Path.{_≡_, refl, sym, ap, _∙_}
+use mathlib.Core.Path.{_≡_, refl, sym}
 use mathlib.Core.Bool.{Bool, true, false}
-use mathlib.Core.List.{List, [], _∷_, _++_}
+use mathlib.Core.List.{List, [], _∷_}
 use Prim.Native.Nat.{ℕ, _+_, _<_, _≤_}
 use native.Mathlib.Omega.{arith}
-use lib.ListN.{length, drop}
+use lib.ListN.{length}
 use lib.Dec.{leb}
 use borrow.Author.Tests.{le-leb, leb-true}
 use Rattle.table.proofs.Answers.{never-passed}
 use Rattle.fields.specs.Choice.{if'}
-use Rattle.forest.specs.Forest.{forest}
-use Rattle.forest.specs.declared.Found.{Found}
-use Rattle.forest.specs.declared.Found.the-variants.{At, Nothing}
-use Rattle.soundness.specs.Sound.{firstUnsound}
-use Rattle.table.specs.Numbers.{unsoundRecord, tooDeep, wrongNode, shortBuffer}
-use Rattle.table.specs.Depth.{firstDeep}
+use Rattle.table.specs.Numbers.{shortBuffer}
 use Rattle.table.specs.Answer.{Answer, accepted, refused, andThen}
 use Rattle.table.specs.Check.{checkOf, nodeFits, stretchOf, entryCheck, onNode}
-use Rattle.table.specs.declared.Checked.the-variants.{Sound}
 use Rattle.table.specs.declared.Wanted.the-variants.{Parameters}
 use Rattle.table.proofs.Checking.{accepted-clean}
 use Rattle.table.proofs.Handed.{stretch-within}
 use Rattle.table.proofs.Entering.{entry-sound, sound-entry}
-use Rattle.unpack.specs.Written.{Param, written}
+use Rattle.unpack.specs.Written.{written}
 use Rattle.unpack.specs.Unpack as def
 use Rattle.parameters.specs.Indices.{placeRange, placeOf, valuesOf, countedOf}
 use Rattle.unpack.specs.Reading.{PlaceBelow, Bounded}
@@ -32,7 +26,7 @@ use Rattle.unpack.specs.declared.Counts.{Counts}
 use Rattle.unpack.specs.Reached.{reached, AllAtMost}
 use Rattle.unpack.proofs.Theorems.{accepted-bounded, written-short}
 use Rattle.unpack.proofs.Counted.{counted-at-most, at-most-wider}
-use Rattle.parameters.specs.Params.{answerOf, roomCheck, listAnswer, listOf, paramsOf, modesAfter}
+use Rattle.parameters.specs.Params.{answerOf, roomCheck, listAnswer, listOf, paramsOf}
 
 -- an accepted answer: the table is sound, the node fits, the buffer is long enough, and unpack accepts the list with these values
 pub record Passed (t ns : List ℕ) (node room : ℕ) (vs : List ℕ) : Type 0 where

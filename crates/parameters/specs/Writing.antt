@@ -3,13 +3,10 @@ use mathlib.Core.Bool.{Bool, true, false}
 use mathlib.Core.List.{List, [], _∷_}
 use Prim.Native.Nat.{ℕ, zero, suc, _≤_, _<_, _^_}
 use lib.ListN.{length}
-use lib.Seq.{sets}
-use Rattle.fields.specs.Choice.{if'}
 use Rattle.forest.specs.Forest.{forest}
 use Rattle.unpack.specs.Written.{paramsIn}
 use Rattle.unpack.specs.Unpack.{firstState, modeOf}
 use Rattle.unpack.specs.declared.Kind.{Kind}
-use Rattle.unpack.specs.declared.Kind.the-variants.{Normal, NoArgs, Slash, Args, KwArgs}
 use Rattle.unpack.specs.Reading.{Bounded}
 use Rattle.unpack.specs.declared.State.{State}
 use Rattle.unpack.specs.declared.State.the-variants.{SeenSlash}

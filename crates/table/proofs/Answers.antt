@@ -2,7 +2,6 @@
 use mathlib.Core.Path.{_≡_, refl, sym, ap, _∙_}
 use mathlib.Core.List.{List, [], _∷_}
 use Prim.Native.Nat.{ℕ}
-use native.Mathlib.Omega.{arith}
 use Rattle.fields.proofs.Basics.{never}
 use Rattle.table.specs.Answer.{Answer, accepted, refused, andThen, numberOf, carried, refusal}
 use Rattle.table.specs.Answer.{checked}

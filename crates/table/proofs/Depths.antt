@@ -1,5 +1,5 @@
 -- The first node that is too deep, as a place in the list of all depths. Assumes nothing.
-use mathlib.Core.Path.{_≡_, refl, sym, ap, _∙_}
+use mathlib.Core.Path.{_≡_, refl, sym, _∙_}
 use mathlib.Core.Bool.{Bool, true, false}
 use mathlib.Core.List.{List, [], _∷_, _++_}
 use Prim.Native.Nat.{ℕ, zero, suc, _+_, _-_, _/_, _<_, _≤_}
@@ -14,7 +14,7 @@ use Rattle.forest.specs.Forest.{nodeOf, spanOf, kidsOf, restOf, forest, Tree, n
 use Rattle.forest.specs.declared.Found.{Found}
 use Rattle.forest.specs.declared.Found.the-variants.{At, Nothing}
 use Rattle.forest.proofs.Stretch.{forest-none, forest-tree, forest-induction, count-forest, length-kids}
-use Rattle.table.specs.Depth.{mostDepth, weight, orElse, firstDeep, deepIn, depths, depthsIn, FirstDeeper}
+use Rattle.table.specs.Depth.{mostDepth, weight, orElse, firstDeep, depths, depthsIn, FirstDeeper}
 
 -- the first of some depths that is too large, counted from i on
 unfoldable pub firstOver : ℕ → List ℕ → Found

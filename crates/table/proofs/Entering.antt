@@ -15,7 +15,7 @@ use Rattle.forest.specs.Forest.{Tree, treeOf}
 use Rattle.table.specs.Numbers.{badDialect, wrongNode}
 use Rattle.table.specs.Answer.{Answer, accepted, refused, andThen, numberOf, carried, refusal, checked}
 use Rattle.table.specs.Check.{checkOf, Handing, inDialect, turnedAway, given, handing, givenOf, inGiven}
-use Rattle.table.specs.Check.{givenCheck, nodeFits, nodeCheck}
+use Rattle.table.specs.Check.{givenCheck, nodeFits}
 use Rattle.table.specs.Check.{stretchOf, entryCheck, onNode}
 use Rattle.table.specs.declared.Refusal.{Refusal}
 use Rattle.table.specs.declared.Checked.{Checked}

@@ -1,11 +1,11 @@
 -- What the table check means, over its whole definition: when it accepts, and which node 3 and 4 carry. Assumes nothing.
-use mathlib.Core.Path.{_≡_, refl, sym, ap, _∙_}
+use mathlib.Core.Path.{_≡_, refl, ap, _∙_}
 use mathlib.Core.Bool.{Bool, true, false}
 use mathlib.Core.List.{List, [], _∷_}
-use Prim.Native.Nat.{ℕ, _+_, _*_, _/_, _%_, _<_, _≤_}
+use Prim.Native.Nat.{ℕ, _/_, _%_, _<_, _≤_}
 use native.Mathlib.Omega.{arith}
 use lib.ListN.{length, getD}
-use lib.Dec.{leb, eqb}
+use lib.Dec.{leb}
 use borrow.Author.Tests.{le-leb, eq-eqb}
 use Rattle.fields.proofs.Basics.{never}
 use Rattle.fields.specs.Choice.{if'}
@@ -16,8 +16,8 @@ use Rattle.soundness.specs.Sound.{recordSound, firstUnsound}
 use Rattle.soundness.proofs.Search.{First, found, none-found}
 use Rattle.table.specs.Numbers.{tableLength, nameBytes, unsoundRecord, tooDeep}
 use Rattle.table.specs.Depth.{mostDepth, firstDeep, depths, FirstDeeper}
-use Rattle.table.specs.Answer.{Answer, accepted, refused, andThen}
-use Rattle.table.specs.Check.{lengthSound, namesCheck, noneFound, checkOf}
+use Rattle.table.specs.Answer.{accepted, refused, andThen}
+use Rattle.table.specs.Check.{lengthSound, noneFound, checkOf}
 use Rattle.table.proofs.Checking.{Clean, accepted-clean}
 use Rattle.table.proofs.Depths.{deep-first, deep-nowhere}
 

@@ -1,5 +1,5 @@
 -- The table check, 1 to 4 in this order, a job's dialect, 5, and a job's node, 6. These are definitions.
-use mathlib.Core.Bool.{Bool, true, false, _&&_, _||_, not}
+use mathlib.Core.Bool.{Bool, _&&_, _||_}
 use mathlib.Core.List.{List, [], _∷_}
 use Prim.Native.Nat.{ℕ, _*_, _/_, _%_}
 use lib.ListN.{length, take, drop}

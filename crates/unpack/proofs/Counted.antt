@@ -1,6 +1,6 @@
 -- "Too many parameters" (def.rs:171) and the unwraps (280, 305, 346) turn numbers into u32: the written position of `/`, the flat count and
 -- num_positional on the way. In no list, accepted or refused, is any of them larger than the list is long. Assumes nothing.
-use mathlib.Core.Path.{_≡_, refl, sym, ap, _∙_}
+use mathlib.Core.Path.{_≡_, refl}
 use mathlib.Core.Bool.{Bool, true, false}
 use mathlib.Core.List.{List, [], _∷_, _++_}
 use Prim.Native.Nat.{ℕ, suc, _+_, _≤_}
@@ -8,8 +8,8 @@ use native.Mathlib.Omega.{arith}
 use lib.ListN.{length, length-append}
 use Rattle.fields.specs.Choice.{if'}
 use Rattle.unpack.specs.Written.{Param, kindIn}
-use Rattle.unpack.specs.Unpack.{Step, on, stop, broken, step, keep, writtenAt, flatAt, advance, start, isSlash}
-use Rattle.unpack.specs.Unpack.{firstSlash, positionalOnly, check, run, unlessBroken}
+use Rattle.unpack.specs.Unpack.{step, writtenAt, flatAt, advance, start, isSlash}
+use Rattle.unpack.specs.Unpack.{firstSlash, positionalOnly, check}
 use Rattle.unpack.specs.Reading.{PlaceBelow, Bounded}
 use Rattle.unpack.specs.Reached.{onward, through, reached, AllAtMost}
 use Rattle.unpack.specs.declared.Check.{Check}

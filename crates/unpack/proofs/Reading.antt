@@ -1,28 +1,25 @@
 -- Reading the written list from a stretch, step by step, for any bytes. Assumes nothing.
 use mathlib.Core.Path.{_≡_, refl, sym, ap, _∙_}
-use mathlib.Core.Bool.{Bool, true, false, _&&_}
+use mathlib.Core.Bool.{Bool, true, false}
 use mathlib.Core.List.{List, [], _∷_, _++_}
 use Prim.Native.Nat.{ℕ, zero, suc, _+_, _-_, _*_, _/_, _%_, _<_, _≤_, min, max}
-use native.Mathlib.Numerals.{add-one}
 use native.Mathlib.Omega.{arith}
 use lib.ListN.{length, take, drop, length-take, length-drop}
 use lib.Seq.{drop-drop}
 use lib.Dec.{eqb, leb}
-use borrow.Author.Tests.{le-leb, lt-leb, leb-true}
-use Rattle.fields.proofs.Basics.{and-left, and-right, clash, never}
+use borrow.Author.Tests.{le-leb, leb-true}
+use Rattle.fields.proofs.Basics.{and-left, and-right, never}
 use Rattle.fields.proofs.Fields.{tail-part}
-use Rattle.forest.specs.Forest.{Node, sizeOf, nodeOf, spanOf, restOf, forest}
+use Rattle.forest.specs.Forest.{Node, sizeOf, nodeOf, spanOf, forest}
 use Rattle.forest.specs.Names.{nameOf}
-use Rattle.forest.specs.declared.Found.{Found}
 use Rattle.forest.specs.declared.Found.the-variants.{At, Nothing}
 use Rattle.forest.proofs.Stretch.{node-take, forest-none, forest-tree, rest-part, record-or-none}
 use Rattle.soundness.specs.Kinds.{parameter, classOf}
-use Rattle.unpack.specs.Written.{Name, Param, nodeIn, kindIn, param, paramOf, paramsIn, kindAt}
+use Rattle.unpack.specs.Written.{Param, nodeIn, kindIn, param, paramOf, paramsIn, kindAt}
 use Rattle.unpack.specs.Unpack.{hasName, firstSame, isSlash, slashFrom, firstSlash, writtenAt}
 use Rattle.unpack.specs.Reading.{isListed, kindHere}
 use Rattle.unpack.specs.declared.Kind.{Kind}
 use Rattle.unpack.specs.declared.Kind.the-variants.{Normal, NoArgs, Slash, Args, KwArgs}
-use Rattle.unpack.specs.declared.WrittenPlace.{WrittenPlace}
 use Rattle.unpack.specs.declared.WrittenPlace.the-variants.{AtWritten, NoWritten}
 
 -- the record and the kind of the parameter that a record is

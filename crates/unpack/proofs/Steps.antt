@@ -1,8 +1,8 @@
 -- One step of unpack, and the walk from one step to the next. Assumes nothing.
-use mathlib.Core.Path.{_≡_, refl, sym, ap, _∙_}
+use mathlib.Core.Path.{_≡_, refl}
 use mathlib.Core.Bool.{Bool, true, false}
 use mathlib.Core.List.{List, [], _∷_, _++_}
-use Prim.Native.Nat.{ℕ, zero, suc, _+_, _<_, _≤_}
+use Prim.Native.Nat.{ℕ, _+_, _≤_}
 use native.Mathlib.Omega.{arith}
 use lib.ListN.{length}
 use lib.Dec.{eqb}
@@ -10,11 +10,10 @@ use Rattle.fields.proofs.Basics.{never}
 use Rattle.fields.specs.Choice.{if'}
 use Rattle.forest.specs.declared.Found.{Found}
 use Rattle.forest.specs.declared.Found.the-variants.{At, Nothing}
-use Rattle.forest.specs.Forest.{Node}
 use Rattle.unpack.specs.Written.{Param, nodeIn, kindIn}
-use Rattle.unpack.specs.Unpack.{writtenAt, flatAt, counts, seenStar, rule, firstly, repeats, check, start}
-use Rattle.unpack.specs.Unpack.{nextState, nextStar, morePositional, count, advance, Internal, Step, on, stop}
-use Rattle.unpack.specs.Unpack.{broken, keep, step, Outcome, accepted, refused, internal, after, run}
+use Rattle.unpack.specs.Unpack.{writtenAt, flatAt, counts, rule, firstly, repeats, check, start}
+use Rattle.unpack.specs.Unpack.{nextState, nextStar, morePositional, count, advance, on, stop}
+use Rattle.unpack.specs.Unpack.{broken, keep, step, refused, run}
 use Rattle.unpack.specs.Reading.{PlaceBelow, Bounded}
 use Rattle.unpack.specs.declared.Kind.{Kind}
 use Rattle.unpack.specs.declared.Kind.the-variants.{Normal, NoArgs, Slash, Args, KwArgs}
@@ -24,7 +23,7 @@ use Rattle.unpack.specs.declared.Check.{Check}
 use Rattle.unpack.specs.declared.Check.the-variants.{Fine, Broken}
 use Rattle.unpack.specs.declared.Written.{Written}
 use Rattle.unpack.specs.declared.WrittenPlace.{WrittenPlace}
-use Rattle.unpack.specs.declared.WrittenPlace.the-variants.{AtWritten, NoWritten}
+use Rattle.unpack.specs.declared.WrittenPlace.the-variants.{NoWritten}
 use Rattle.unpack.specs.declared.Flat.{Flat}
 use Rattle.unpack.specs.declared.FlatPlace.{FlatPlace}
 use Rattle.unpack.specs.declared.FlatPlace.the-variants.{AtFlat, NoFlat}

@@ -1,9 +1,9 @@
 -- What def.rs leaves to the reader: its internal errors never arise, whatever the list; and what is counted is no more than the list is long,
 -- so that "Too many parameters" (def.rs:171) and the unwraps (280, 305, 346) cannot fire in a table of 2,100 nodes. Assumes nothing.
-use mathlib.Core.Path.{_≡_, refl, sym, ap, _∙_, subst}
+use mathlib.Core.Path.{_≡_, refl, sym, ap, _∙_}
 use mathlib.Core.Bool.{Bool, true, false}
 use mathlib.Core.List.{List, [], _∷_, _++_}
-use Prim.Native.Nat.{ℕ, zero, suc, _+_, _-_, _*_, _/_, _<_, _≤_, min, max}
+use Prim.Native.Nat.{ℕ, suc, _+_, _-_, _*_, _/_, _<_, _≤_}
 use native.Mathlib.Omega.{arith}
 use lib.ListN.{length, drop, length-append}
 use borrow.Author.Tests.{lt-leb}
@@ -11,10 +11,10 @@ use Rattle.fields.proofs.Basics.{never}
 use Rattle.fields.specs.Choice.{if'}
 use Rattle.forest.specs.Forest.{Node, spanOf, kidsOf, restOf, forest}
 use Rattle.forest.proofs.Stretch.{forest-induction, length-kids, length-rest, rest-part}
-use Rattle.unpack.specs.Written.{Param, normal, noArgs, slash, args, kwargs, nodeIn, kindIn, paramsIn}
+use Rattle.unpack.specs.Written.{Param, normal, noArgs, slash, args, kwargs, kindIn, paramsIn}
 use Rattle.unpack.specs.Written.{written}
 use Rattle.unpack.specs.Unpack.{writtenAt, flatAt, check, nextState, count, advance, modeOf, modesFrom, modes}
-use Rattle.unpack.specs.Unpack.{start, isSlash, slashFrom, firstSlash, positionalOnly, normalNext, fromStar}
+use Rattle.unpack.specs.Unpack.{start, isSlash, slashFrom, firstSlash, positionalOnly, fromStar}
 use Rattle.unpack.specs.Unpack.{finish, Internal, Outcome, accepted, refused, internal, run, unpack}
 use Rattle.unpack.specs.Told.{told}
 use Rattle.unpack.specs.Reading.{isListed, Bounded}
@@ -28,8 +28,7 @@ use Rattle.unpack.specs.declared.WrittenPlace.the-variants.{AtWritten, N
 use Rattle.unpack.specs.declared.Flat.{Flat}
 use Rattle.unpack.specs.declared.Counts.{Counts}
 use Rattle.unpack.specs.declared.Unpacking.{Unpacking}
-use Rattle.unpack.specs.declared.Judged.{Judged}
-use Rattle.unpack.specs.declared.Judged.the-variants.{Accepted, Refused}
+use Rattle.unpack.specs.declared.Judged.the-variants.{Accepted}
 use Rattle.unpack.proofs.Reading.{list-end, list-on, listed-long}
 use Rattle.unpack.proofs.Steps.{Cleared, run-stop, run-on, clear-on, clear-start, bounded-on}
 

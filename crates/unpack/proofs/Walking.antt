@@ -2,23 +2,23 @@
 use mathlib.Core.Path.{_≡_, refl, sym, ap, _∙_}
 use mathlib.Core.Bool.{Bool, true, false, _&&_}
 use mathlib.Core.List.{List, [], _∷_, _++_, append-nil}
-use Prim.Native.Nat.{ℕ, zero, suc, _+_, _-_, _*_, _/_, _<_, _≤_, min, max}
+use Prim.Native.Nat.{ℕ, _+_, _-_, _*_, _/_, _<_, _≤_}
 use native.Mathlib.Omega.{arith}
 use lib.ListN.{length, take, drop, length-take, length-drop, length-append, take-append-drop}
 use lib.Seq.{length-take-le}
 use Rattle.fields.proofs.Basics.{and-left, and-right, clash}
 use Rattle.fields.proofs.Fields.{tail-part}
-use Rattle.forest.specs.Forest.{Node, nodeOf, spanOf, kidsOf, forest}
+use Rattle.forest.specs.Forest.{nodeOf, spanOf, kidsOf, forest}
 use Rattle.forest.proofs.Stretch.{length-kids}
 use Rattle.forest.specs.Names.{nameOf}
 use Rattle.forest.specs.declared.Found.{Found}
 use Rattle.forest.specs.declared.Found.the-variants.{At, Nothing}
 use Rattle.table.specs.Numbers.{slashFirst, duplicatedParameter, starLast, noNormalAfterStar}
 use Rattle.unpack.specs.Written.{Name, Param, normal, noArgs, slash, args, kwargs, nodeIn, kindIn, param}
-use Rattle.unpack.specs.Written.{paramOf, paramsIn, written, kindAt}
-use Rattle.unpack.specs.Unpack.{writtenAt, flatAt, firstSame, repeats, rule, firstly, check, advance}
+use Rattle.unpack.specs.Written.{paramOf, paramsIn, written}
+use Rattle.unpack.specs.Unpack.{writtenAt, firstSame, repeats, rule, check, advance}
 use Rattle.unpack.specs.Unpack.{nextStar, start, slashFrom, firstSlash, positionalOnly, isSlash, normalNext}
-use Rattle.unpack.specs.Unpack.{fromStar, finish, Outcome, accepted, refused, internal, run, unpack}
+use Rattle.unpack.specs.Unpack.{fromStar, finish, Outcome, accepted, refused, run, unpack}
 use Rattle.unpack.specs.Told.{fault, told}
 use Rattle.unpack.specs.Reading.{isListed, kindHere, beginsWithSlash, isNamed, isNormal, StarIn, Inside}
 use Rattle.unpack.specs.Reading.{Bounded}

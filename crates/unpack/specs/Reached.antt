@@ -1,7 +1,6 @@
 -- The states that unpack comes through, whether the list is accepted or refused. These are definitions.
 use mathlib.Core.List.{List, [], _∷_, _++_}
 use Prim.Native.Nat.{ℕ}
-use lib.ListN.{length}
 use Rattle.fields.specs.Choice.{if'}
 use Rattle.unpack.specs.Written.{Param, kindIn}
 use Rattle.unpack.specs.Unpack.{Step, on, stop, broken, step, flatAt, start, isSlash, firstSlash, positionalOnly}

@@ -1,9 +1,9 @@
 -- The written parameter list of a def or lambda, for any bytes. These are definitions.
 -- Parameters as ParameterP of src/syntax/ast.rs has them.
 -- Copyright 2018 The Starlark in Rust Authors. Copyright (c) Facebook, Inc. and its affiliates. Licensed under Apache-2.0; changed.
-use mathlib.Core.Bool.{Bool, true, false, _||_}
+use mathlib.Core.Bool.{Bool, _||_}
 use mathlib.Core.List.{List, [], _∷_}
-use Prim.Native.Nat.{ℕ, _+_}
+use Prim.Native.Nat.{ℕ}
 use lib.Dec.{eqb}
 use Rattle.fields.specs.Choice.{if'}
 use Rattle.forest.specs.Forest.{Node, Tree, node, Forest, none, _then_, treeOf}

@@ -1,7 +1,7 @@
 -- What users of the module job rely on: a refusal changes no word, the total is at most twice the node count, and a list with room for that many errors holds all. Assumes nothing.
-use mathlib.Core.Path.{_≡_, refl, sym, ap, _∙_}
+use mathlib.Core.Path.{_≡_}
 use mathlib.Core.List.{List, [], _∷_, _++_}
-use Prim.Native.Nat.{ℕ, _+_, _*_, _/_, _<_, _≤_}
+use Prim.Native.Nat.{ℕ, _+_, _*_, _/_, _≤_}
 use native.Mathlib.Omega.{arith}
 use lib.ListN.{length, drop}
 use Rattle.forest.specs.Forest.{forest}
@@ -9,8 +9,7 @@ use Rattle.forest.proofs.Stretch.{count-forest}
 use Rattle.fields.proofs.Basics.{never}
 use Rattle.table.specs.Answer.{accepted, refused}
 use Rattle.table.specs.Check.{Handing, inDialect, turnedAway, givenOf, inGiven}
-use Rattle.errors.specs.declared.Err.{Err}
-use Rattle.errors.specs.Errors.{width, wordsOf, stored}
+use Rattle.errors.specs.Errors.{width, stored}
 use Rattle.errors.proofs.Storing.{allWords, stored-all, stored-none}
 use Rattle.validate.specs.declared.Listed.the-variants.{Total}
 use Rattle.validate.specs.Job.{listed, errorsIn, errorsOf, moduleOf, errorsAfter}

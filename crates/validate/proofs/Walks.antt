@@ -10,9 +10,9 @@ use borrow.Author.Tests.{eq-eqb, ne-eqb}
 use borrow.Rule.Slice.PartMut.{putMid}
 use Rattle.dialect.specs.declared.Dialect.{Dialect}
 use Rattle.dialect.specs.Rows.{permitsTypes}
-use Rattle.forest.specs.Forest.{nodeOf, spanOf, kidsOf, node, Forest, none, forest, treeOf}
+use Rattle.forest.specs.Forest.{nodeOf, spanOf, kidsOf, Forest, forest, treeOf}
 use Rattle.forest.proofs.Stretch.{forest-none, kids-part, length-kids, each-cut}
-use Rattle.soundness.specs.Kinds.{statement, classOf}
+use Rattle.soundness.specs.Kinds.{classOf}
 use Rattle.table.specs.Numbers.{defNotPermitted, topLevelFor, topLevelIf, breakMisplaced, continueMisplaced}
 use Rattle.table.specs.Numbers.{returnMisplaced, loadNotAtTop, loadNotPermitted, ellipsisNotPermitted}
 use Rattle.table.specs.Numbers.{lambdaNotPermitted}

@@ -1,5 +1,4 @@
 -- `table::span_of` meets its contract: begin and end are the record's. Assumes nothing.
-use mathlib.Core.Path.{_≡_}
 use borrow.Author.Needs.{needs}
 use Rattle.table.proofs.Answers.{span-injective}
 use Rattle.table.proofs.span_of.Statement.{statement}

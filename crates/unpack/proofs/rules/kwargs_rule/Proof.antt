@@ -1,5 +1,5 @@
 -- `unpack::rules::kwargs_rule` meets its contract: it is the definition, state by state. Assumes nothing.
-use mathlib.Core.Path.{refl, _∙_, ap}
+use mathlib.Core.Path.{refl}
 use borrow.Author.Needs.{needs}
 use Rattle.unpack.proofs.rules.kwargs_rule.Statement.{statement}
 use Rattle.unpack.proofs.rules.kwargs_rule.Tie as tie

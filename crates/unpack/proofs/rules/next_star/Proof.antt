@@ -1,5 +1,5 @@
 -- `unpack::rules::next_star` meets its contract: it is the definition, kind by kind. Assumes nothing.
-use mathlib.Core.Path.{refl, _∙_, ap}
+use mathlib.Core.Path.{refl}
 use borrow.Author.Needs.{needs}
 use Rattle.unpack.proofs.rules.next_star.Statement.{statement}
 use Rattle.unpack.proofs.rules.next_star.Tie as tie

@@ -1,5 +1,5 @@
 -- `unpack::rules::star_rule` meets its contract: it is the definition, state by state. Assumes nothing.
-use mathlib.Core.Path.{refl, _∙_, ap}
+use mathlib.Core.Path.{refl}
 use borrow.Author.Needs.{needs}
 use Rattle.unpack.proofs.rules.star_rule.Statement.{statement}
 use Rattle.unpack.proofs.rules.star_rule.Tie as tie

@@ -1,5 +1,5 @@
 -- `unpack::rules::start` meets its contract: it is the definition. Assumes nothing.
-use mathlib.Core.Path.{refl, _∙_, ap}
+use mathlib.Core.Path.{refl}
 use Rattle.unpack.specs.Unpack.{start}
 use borrow.Author.Needs.{needs}
 use Rattle.unpack.proofs.rules.start.Statement.{statement}

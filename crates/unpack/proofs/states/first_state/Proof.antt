@@ -1,5 +1,5 @@
 -- `unpack::states::first_state` meets its contract: the test is the definition's. Assumes nothing.
-use mathlib.Core.Path.{refl, _∙_, ap}
+use mathlib.Core.Path.{refl}
 use borrow.Author.Tests.{eq-eqb, ne-eqb}
 use Rattle.unpack.proofs.states.first_state.Statement.{statement}
 use Rattle.unpack.proofs.states.first_state.Tie as tie

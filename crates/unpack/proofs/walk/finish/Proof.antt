@@ -1,5 +1,5 @@
 -- `unpack::walk::finish` meets its contract: a bare `*` asks for what follows it. Assumes nothing.
-use mathlib.Core.Path.{refl, _∙_, ap}
+use mathlib.Core.Path.{refl}
 use Rattle.unpack.specs.Unpack.{finish}
 use borrow.Author.Needs.{needs}
 use Rattle.unpack.proofs.walk.finish.Statement.{statement}
