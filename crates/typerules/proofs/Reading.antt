@@ -36,7 +36,7 @@ first-and-rest each child join then-is reads i bs big {e} e-is =
     ∙ then-is reads (treeOf i bs) (forest (i + spanOf bs / 24) (restOf bs)))
 
 -- and they stay within their bounds
-pub rest-within : (i : ℕ) {e : ℕ} (bs : List ℕ) → 24 * i + length bs ≤ 50400 → e ≡ spanOf bs
+rest-within : (i : ℕ) {e : ℕ} (bs : List ℕ) → 24 * i + length bs ≤ 50400 → e ≡ spanOf bs
     → 24 * (i + e / 24) + length (take (length bs - e) (drop e bs)) ≤ 50400
 rest-within i {e} bs h e-is = rw (rest-part e bs e-is) (omega (arith, length-rest bs))
 

@@ -15,13 +15,17 @@ use Rattle.table.proofs.Handed.{passed, stretch-within}
 use Rattle.typerules.specs.Types.{typesCheck, «unpack», «dialect_check_type»}
 use Rattle.typerules.specs.Jobs.{roomCheck, typeAt, typeShapeOf}
 use Rattle.typerules.proofs.Jobs.{given-sound}
-use Rattle.types.specs.Shapes.{shapesOf, written, afterAnswer}
-use Rattle.types.specs.Jobs.{isRefused, shapesAfter}
+use Rattle.types.specs.Shapes.{shapesOf, written, isRefused}
+use Rattle.types.specs.Jobs.{shapesAfter}
 
 -- an answer that is no refusal
 abbrev pub Passes : Answer → Type 0
 Passes (accepted vs) = Unit {0}
 Passes (refused n vs) = ⊥
+
+not-refused : (x : Answer) → isRefused x ≡ false → Passes x
+not-refused (accepted vs) e = tt
+not-refused (refused n vs) e = absurd (false≢true (sym e))
 
 -- LAW: both steps of an answer that passes do, and a test in it is met
 pub both-pass : (x : Answer) (next : Unit {0} → Answer) → Passes (andThen x next) → Passes x × Passes (next tt)
@@ -64,19 +68,11 @@ module _ (t names bytes : List ℕ) (i room : ℕ) where
 module _ (t names bytes : List ℕ) (i : ℕ) (s : List ℕ) {a : Answer}
     (a-is : a ≡ typeShapeOf t names bytes i (length s)) {q : Bool} (q-is : q ≡ isRefused a) where
   pub job-refused : q ≡ true → s ≡ shapesAfter t names bytes i s
-  job-refused h = rw (← a-is) (go a (sym q-is ∙ h))
-    where
-      go : (x : Answer) → isRefused x ≡ true → s ≡ afterAnswer x (shapesOf (treeOf 0 (stretchOf t i))) s
-      go (accepted vs) e = absurd (false≢true e)
-      go (refused n vs) e = refl
+  job-refused h = rw (← a-is, ← q-is, h) refl
 
   module _ (no : q ≡ false) {u : List ℕ} (u-is : u ≡ stretchOf t i) where
     says : Says t names i (length s)
-    says = passing-says t names bytes i (length s) (rw (← a-is) (go a (sym q-is ∙ no)))
-      where
-        go : (x : Answer) → isRefused x ≡ false → Passes x
-        go (accepted vs) e = tt
-        go (refused n vs) e = absurd (false≢true (sym e))
+    says = passing-says t names bytes i (length s) (rw (← a-is) (not-refused a (sym q-is ∙ no)))
 
     pub job-long : 24 ≤ length u
     job-long = rw u-is (says .long)
@@ -85,9 +81,4 @@ module _ (t names bytes : List ℕ) (i : ℕ) (s : List ℕ) {a : Answer}
     job-room = rw u-is (omega (arith, says .fits))
 
     pub job-written : {v : List ℕ} → v ≡ written (shapesOf (treeOf 0 u)) s → v ≡ shapesAfter t names bytes i s
-    job-written v-is = rw (← a-is) (v-is ∙ rw (← u-is) (go a (sym q-is ∙ no)))
-      where
-        go : (x : Answer) → isRefused x ≡ false
-            → written (shapesOf (treeOf 0 u)) s ≡ afterAnswer x (shapesOf (treeOf 0 u)) s
-        go (accepted vs) e = refl
-        go (refused n vs) e = absurd (false≢true (sym e))
+    job-written v-is = rw (← a-is, ← q-is, no, ← u-is) v-is

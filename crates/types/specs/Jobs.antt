@@ -1,18 +1,11 @@
 -- The buffer of the type job at exit. These are definitions.
-use mathlib.Core.Bool.{Bool, true, false}
 use mathlib.Core.List.{List}
 use Prim.Native.Nat.{ℕ}
 use lib.ListN.{length}
 use Rattle.forest.specs.Forest.{treeOf}
-use Rattle.table.specs.Answer.{Answer, accepted, refused}
 use Rattle.table.specs.Check.{stretchOf}
 use Rattle.typerules.specs.Jobs.{typeShapeOf}
 use Rattle.types.specs.Shapes.{shapesOf, afterAnswer}
-
--- whether an answer is a refusal
-abbrev pub isRefused : Answer → Bool
-isRefused (accepted vs) = false
-isRefused (refused n vs) = true
 
 -- the buffer at exit: its byte k is that of node i + k, so the nodes of the stretch are counted from 0
 abbrev pub shapesAfter : List ℕ → List ℕ → List ℕ → ℕ → List ℕ → List ℕ

@@ -1,6 +1,7 @@
 -- Shapes: which byte of the buffer gets which shape. These are definitions.
 -- The nodes are those that TypeExprUnpackP::unpack of src/syntax/type_expr.rs reads.
 -- Copyright 2018 The Starlark in Rust Authors. Copyright (c) Facebook, Inc. and its affiliates. Licensed under Apache-2.0; changed.
+use mathlib.Core.Bool.{Bool, true, false}
 use mathlib.Core.List.{List, [], _∷_, _++_}
 use Prim.Native.Nat.{ℕ, _+_, _≤_, _<_}
 use lib.Dec.{eqb}
@@ -67,7 +68,11 @@ unfoldable pub Proper : List Shape → Type 0
 Proper [] = Unit {0}
 Proper (s ∷ ss) = (1 ≤ s .shape) × ((s .shape ≤ 7) × Proper ss)
 
--- a buffer after an answer: accepted, the shapes are written; a refusal changes nothing
+-- whether an answer is a refusal
+abbrev pub isRefused : Answer → Bool
+isRefused (accepted vs) = false
+isRefused (refused n vs) = true
+
+-- a buffer after an answer: a refusal changes nothing; accepted, the shapes are written
 abbrev pub afterAnswer : Answer → List Shape → List ℕ → List ℕ
-afterAnswer (accepted vs) ss bytes = written ss bytes
-afterAnswer (refused n vs) ss bytes = bytes
+afterAnswer answer ss bytes = if' (isRefused answer) (λ _. bytes) (λ _. written ss bytes)

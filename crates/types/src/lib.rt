@@ -5,7 +5,8 @@ use typerules::Shaped;
 ghost use mathlib.Core.Path.{_≡_};
 ghost use lib.ListN.{length};
 ghost use Rattle.typerules.specs.Jobs.{shaped, typeShapeOf};
-ghost use Rattle.types.specs.Jobs.{isRefused, shapesAfter};
+ghost use Rattle.types.specs.Jobs.{shapesAfter};
+ghost use Rattle.types.specs.Shapes.{isRefused};
 
 // The type job: whether a node is a type in a dialect. Then the buffer gets the shape of each node that is read as a type or argument; a refusal changes nothing.
 pub fn type_shape(
