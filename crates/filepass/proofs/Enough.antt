@@ -10,18 +10,14 @@ use lib.ListN.{length, take, drop, length-take}
 use lib.Seq.{take-all, take-take}
 use lib.Dec.{leb}
 use borrow.Author.Tests.{le-leb, lt-leb}
+use Rattle.fields.proofs.Basics.{drop-take, le-or-lt}
 use Rattle.fields.proofs.Fields.{field-take}
 use Rattle.table.specs.Numbers.{blockCounts, bytesLeftOver}
-use Rattle.dialect.specs.Bytes.{fromBytes}
-use Rattle.dialect.specs.declared.Decoded.{Decoded}
-use Rattle.dialect.specs.declared.Decoded.the-variants.{Valid, Invalid}
 use Rattle.table.specs.Answer.{Answer, accepted, refused, andThen}
-use Rattle.table.specs.Check.{checkOf, dialectCheck, givenCheck}
+use Rattle.table.specs.Check.{Handing, inDialect, turnedAway, givenOf, inGiven}
 use Rattle.table.proofs.Answers.{after-both}
 use Rattle.blocks.specs.Block.{demand, judge}
 use Rattle.blocks.specs.Run.{blocksFor, judgeBlocks, judgeRun}
-use Rattle.blocks.proofs.Blocks.{drop-take}
-use Rattle.blocks.proofs.Spelling.{le-or-lt}
 use Rattle.tablefile.specs.File.{Content}
 use Rattle.tablefile.specs.Reading.{nodesAt, namesAt, dialectAt, firstNodes, takenAt, contentAt, countsFit}
 use Rattle.tablefile.specs.Reading.{frontCheck, soundCheck, readCheck}
@@ -83,20 +79,19 @@ unfolding Plain
 after-plain (accepted vs) next p = p
 after-plain (refused n vs) next p = tt
 
-dialect-plain : (x : Decoded) → Plain (dialectCheck x)
+given-plain : (h : Handing) → Plain (inGiven h (λ _. accepted []))
 unfolding Plain
-dialect-plain (Valid d) = refl
-dialect-plain Invalid = tt
+given-plain (inDialect d) = refl
+given-plain (turnedAway n vs) = tt
 
 read-plain : (bs : List ℕ) → Plain (readCheck bs)
-unfolding readCheck givenCheck
+unfolding readCheck
 read-plain bs =
     let c : Content = contentAt bs in
-    let dialect : Unit {0} → Answer = λ _. dialectCheck (fromBytes (c .dialect)) in
     let sound : Unit {0} → Answer = λ _. soundCheck c in
     let left : Answer = demand (leb (length bs) (takenAt bs)) bytesLeftOver in
-    let last = after-plain (checkOf (c .table) (c .names)) dialect (dialect-plain (fromBytes (c .dialect))) in
-    after-plain (frontCheck bs) (λ _. andThen left sound) (after-plain left sound last)
+    after-plain (frontCheck bs) (λ _. andThen left sound)
+    (after-plain left sound (given-plain (givenOf (c .table) (c .names) (c .dialect))))
 
 -- a file that is longer than what is read of it
 module _ (m : ℕ) (bs : List ℕ) (enough : 512 * mostBlocks < m) (longer : m < length bs) where

@@ -10,19 +10,16 @@ use borrow.Author.Tests.{eq-eqb, ne-eqb, leb-true}
 use Rattle.fields.specs.Choice.{if'}
 use Rattle.fields.specs.Field.{field}
 use Rattle.fields.proofs.Fields.{tail-part}
-use Rattle.dialect.specs.Bytes.{fromBytes}
+use Rattle.fields.proofs.Basics.{and-left, and-right}
 use Rattle.dialect.specs.declared.Dialect.{Dialect}
-use Rattle.dialect.specs.declared.Decoded.{Decoded}
-use Rattle.dialect.specs.declared.Decoded.the-variants.{Valid, Invalid}
-use Rattle.soundness.proofs.Records.{and-left, and-right}
-use Rattle.table.specs.Numbers.{badDialect, blockCounts}
-use Rattle.table.specs.Answer.{Answer, accepted, refused, andThen, refusal, checked}
-use Rattle.table.specs.Check.{checkOf, givenCheck}
+use Rattle.table.specs.Numbers.{blockCounts}
+use Rattle.table.specs.Answer.{Answer, accepted, refused, andThen, refusal}
+use Rattle.table.specs.Check.{given, givenOf}
 use Rattle.table.specs.declared.Refusal.{Refusal}
-use Rattle.table.specs.declared.Checked.{Checked}
-use Rattle.table.specs.declared.Checked.the-variants.{Sound}
-use Rattle.table.specs.declared.Checked.the-variants as table-answers
-use Rattle.table.proofs.Answers.{stopped, after-both}
+use Rattle.table.specs.declared.Given.{Given}
+use Rattle.table.specs.declared.Given.the-variants.{In, Refused as Away}
+use Rattle.table.proofs.Answers.{after-both, never-passed}
+use Rattle.table.proofs.Entering.{away-is, in-is}
 use Rattle.blocks.specs.Block.{demand, judge, judged}
 use Rattle.blocks.specs.Run.{blocksFor, judgeRun}
 use Rattle.blocks.specs.declared.Judged.{Judged}
@@ -149,7 +146,7 @@ pub record Fronted (bs : List ℕ) : Type 0 where
 pub demand-then : (b : Bool) (n : ℕ) (next : Unit {0} → Answer) → andThen (demand b n) next ≡ accepted []
     → (b ≡ true) × (next tt ≡ accepted [])
 demand-then true n next e = (refl, e)
-demand-then false n next e = let z : _≡_ {A = ℕ} 0 1 = cc in absurd (omega arith)
+demand-then false n next e = never-passed e
 
 module _ (bs : List ℕ) where
   -- LAW: a file at the front whose blocks pass, and what follows it
@@ -217,30 +214,20 @@ module _ (bs : List ℕ) where
     unfolding contentAt
     dialect-length = dialect-long bs (dialectAt bs) (f .header .long) dialect-few
 
--- 1 to 5, step by step; the parts as code cuts them
-module _ (t : List ℕ) (a : ℕ) (ns : List ℕ) (b : ℕ) (ds : List ℕ) (d : ℕ) (k : Checked)
-    (k-is : checked k ≡ checkOf (take (a - 0) t) (take (b - 0) ns)) where
-  check-is : checkOf (take a t) (take b ns) ≡ checked k
-  check-is =
+-- 1 to 5, of the parts as code cuts them
+module _ (t : List ℕ) (a : ℕ) (ns : List ℕ) (b : ℕ) (ds : List ℕ) (d : ℕ) (g : Given)
+    (g-is : given g ≡ givenOf (take (a - 0) t) (take (b - 0) ns) (take (d - 0) ds)) where
+  cut : given g ≡ givenOf (take a t) (take b ns) (take d ds)
+  cut =
       let p : a - 0 ≡ a = omega arith in
       let q : b - 0 ≡ b = omega arith in
-      sym (rw (p, q) at k-is)
+      let r : d - 0 ≡ d = omega arith in
+      rw (p, q, r) at g-is
 
-  pub sound-refused : {r : Refusal} → k ≡ table-answers.Refused r
-      → refusal r ≡ soundCheck (record { table = take a t; names = take b ns; dialect = take d ds })
-  unfolding givenCheck
-  sound-refused {r} e = rw (check-is, e) (stopped r _)
+  pub sound-refused : {why : Refusal} → g ≡ Away why
+      → refusal why ≡ soundCheck (record { table = take a t; names = take b ns; dialect = take d ds })
+  sound-refused e = rw (away-is (take a t) (take b ns) (take d ds) cut e) refl
 
-  module _ (k-good : k ≡ Sound) {x : Decoded} (x-is : x ≡ fromBytes (take (d - 0) ds)) where
-    dialect-is : fromBytes (take d ds) ≡ x
-    dialect-is = let p : d - 0 ≡ d = omega arith in sym (rw p at x-is)
-
-    pub sound-valid : {y : Dialect} → x ≡ Valid y
-        → accepted [] ≡ soundCheck (record { table = take a t; names = take b ns; dialect = take d ds })
-    unfolding givenCheck
-    sound-valid e = rw (check-is, k-good, dialect-is, e) refl
-
-    pub sound-invalid : x ≡ Invalid → refused badDialect []
-        ≡ soundCheck (record { table = take a t; names = take b ns; dialect = take d ds })
-    unfolding givenCheck
-    sound-invalid e = rw (check-is, k-good, dialect-is, e) refl
+  pub sound-passed : {x : Dialect} → g ≡ In x
+      → accepted [] ≡ soundCheck (record { table = take a t; names = take b ns; dialect = take d ds })
+  sound-passed e = rw (in-is (take a t) (take b ns) (take d ds) cut e) refl

@@ -1,7 +1,6 @@
 // The reader of table files: the one file at the front of some bytes, or a file that is all there is.
 use blocks::Judged;
-use dialect::Decoded;
-use table::Checked;
+use table::Given;
 use table::Refusal;
 use table::numbers;
 ghost use mathlib.Core.Path.{_≡_};
@@ -126,14 +125,10 @@ fn check(table: &[u8], t: usize, names: &[u8], n: usize, dialect: &[u8], d: usiz
     requires { ⌜ (t ≤ length (now table)) × (n ≤ length (now names)) × (d ≤ length (now dialect)) ⌝ }
     ensures { λ r. ⌜ verdict r ≡ soundCheck (record { table = take t (now (table .entry)); names = take n (now (names .entry)); dialect = take d (now (dialect .entry)) }) ⌝ }
 {
-    let checked = table::check(&table[0..t], &names[0..n]);
-    if let Checked::Refused(r) = checked {
-        return Verdict::Refused(r);
-    }
-    let decoded = dialect::from_bytes(&dialect[0..d]);
-    match decoded {
-        Decoded::Valid(d) => Verdict::Accepted,
-        Decoded::Invalid => Verdict::Refused(Refusal::Bare(numbers::BAD_DIALECT)),
+    let entered = table::enter_dialect(&table[0..t], &names[0..n], &dialect[0..d]);
+    match entered {
+        Given::In(d) => Verdict::Accepted,
+        Given::Refused(why) => Verdict::Refused(why),
     }
 }
 
