@@ -18,4 +18,5 @@ module-spec =
     let entered = c .before .before .before .before .before .entered in
     let enter-dialect = c .before .before .before .before .before .before .before .enter-dialect in
     job-total _ _ _ _ enter-dialect.ensures entered.given.1 pass.ensures.0 pass.ensures.1)
-    (λ c. search job-refused))  -- returns-2
+    (λ c.  -- returns-2
+    job-refused _ _ _ _ (c .before .before .before .enter-dialect .ensures) (c .before .entered2 .given .1)))
