@@ -21,7 +21,7 @@ use Rattle.table.proofs.Entering.{given-known, given-passed}
 use Rattle.blocks.specs.Block.{demand}
 use Rattle.blocks.proofs.Spelling.{Bytes}
 use Rattle.tablefile.specs.File.{Content, fileOf}
-use Rattle.tablefile.specs.Reading.{takenAt, contentAt, frontCheck, soundCheck, readCheck}
+use Rattle.tablefile.specs.Reading.{headerAt, contentAt, frontCheck, soundCheck, readCheck}
 use Rattle.tablefile.specs.Loading.{verdict}
 use Rattle.tablefile.specs.declared.Verdict.{Verdict}
 use Rattle.tablefile.specs.declared.Verdict.the-variants.{Accepted, Refused}
@@ -37,25 +37,25 @@ verdict-injective (Refused r) (Refused s) e = ap Refused (refusal-injective r s 
 
 -- what a file that is accepted is
 module _ (bs : List ℕ) (e : readCheck bs ≡ accepted []) where
-  steps : Fronted bs × (leb (length bs) (takenAt bs) ≡ true) × (soundCheck (contentAt bs) ≡ accepted [])
+  steps : Fronted bs × (leb (length bs) (headerAt bs .taken) ≡ true) × (soundCheck (contentAt bs) ≡ accepted [])
   unfolding readCheck
   steps =
       let sound : Unit {0} → Answer = λ _. soundCheck (contentAt bs) in
-      let one = fronted-then bs (λ _. andThen (demand (leb (length bs) (takenAt bs)) bytesLeftOver) sound) e in
-      let two = demand-then (leb (length bs) (takenAt bs)) bytesLeftOver sound (one .1) in
+      let one = fronted-then bs (λ _. andThen (demand (leb (length bs) (headerAt bs .taken)) bytesLeftOver) sound) e in
+      let two = demand-then (leb (length bs) (headerAt bs .taken)) bytesLeftOver sound (one .1) in
       (one .0, two .0, two .1)
 
   pub read-fronted : Fronted bs
   read-fronted = steps .0
 
-  pub read-whole : length bs ≡ takenAt bs
-  read-whole = omega (arith, leb-true (length bs) (takenAt bs) (steps .1), taken-there bs read-fronted)
+  pub read-whole : length bs ≡ headerAt bs .taken
+  read-whole = omega (arith, leb-true (length bs) (headerAt bs .taken) (steps .1), taken-there bs read-fronted)
 
   pub read-is-sound : soundCheck (contentAt bs) ≡ accepted []
   read-is-sound = steps .2
 
   pub read-is-file : Bytes bs → bs ≡ fileOf (contentAt bs)
-  read-is-file small = sym (take-all (takenAt bs) bs (omega (arith, read-whole)))
+  read-is-file small = sym (take-all (headerAt bs .taken) bs (omega (arith, read-whole)))
       ∙ front-is-file bs small read-fronted
 
   pub read-changed : (i v : ℕ) → i < length bs → (v ≡ getD bs i 0 → ⊥)
@@ -103,8 +103,8 @@ module _ (c : Content) (s : SoundContent c) where
   pub back-holds : contentAt (fileOf c) ≡ c
   back-holds = ap contentAt (sym (append-nil (fileOf c))) ∙ file-holds c sound-fits []
 
-  pub back-taken : takenAt (fileOf c) ≡ length (fileOf c)
-  back-taken = ap takenAt (sym (append-nil (fileOf c))) ∙ file-taken c sound-fits []
+  pub back-taken : headerAt (fileOf c) .taken ≡ length (fileOf c)
+  back-taken = ap (λ (x : List ℕ). headerAt x .taken) (sym (append-nil (fileOf c))) ∙ file-taken c sound-fits []
 
   pub back-accepted : readCheck (fileOf c) ≡ accepted []
   unfolding readCheck
