@@ -1,14 +1,14 @@
 -- Two answers that meet the promise of a public function coincide. Assumes nothing.
 use mathlib.Core.Path.{_≡_, refl}
 use mathlib.Core.List.{List}
-use Prim.Native.Nat.{ℕ}
+use Prim.Native.Nat.{ℕ, min}
 use native.Mathlib.Omega.{arith}
 use Rattle.fields.proofs.Basics.{never}
 use Rattle.fields.proofs.Coincide.{coincide, coincide-by}
 use Rattle.blocks.specs.declared.Judged.{Judged}
 use Rattle.blocks.specs.declared.Judged.the-variants.{Passed, Refused}
 use Rattle.blocks.specs.Block.{judge, judged}
-use Rattle.blocks.specs.Run.{blocksFor, judgeRun}
+use Rattle.blocks.specs.Run.{blocksFor, judgeRun, contentIn}
 
 -- no two judgements mean the same
 pub judged-injective : (r s : Judged) → judged r ≡ judged s → r ≡ s
@@ -30,3 +30,12 @@ judge-run-one bytes first total = coincide-by judged judged-injective
 -- of `blocks_for`
 pub blocks-for-one : (total : ℕ) {r s : ℕ} → r ≡ blocksFor total → s ≡ blocksFor total → r ≡ s
 blocks-for-one total = coincide
+
+-- of `used_here`
+pub used-here-one : (more : ℕ) {r s : ℕ} → r ≡ min 504 more → s ≡ min 504 more → r ≡ s
+used-here-one more = coincide
+
+-- of `content`, the bytes as lent
+pub content-one : (bytes : List ℕ) (number : ℕ) {r s : List ℕ} → r ≡ contentIn number bytes
+    → s ≡ contentIn number bytes → r ≡ s
+content-one bytes number = coincide

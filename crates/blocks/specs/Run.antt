@@ -1,6 +1,6 @@
 -- Runs of blocks: a content of any length, 504 bytes a block; only the last may be partly used, and the numbers run on. These are definitions.
 use mathlib.Core.List.{List, [], _++_}
-use Prim.Native.Nat.{ℕ, zero, suc, _+_, _-_, _/_, min}
+use Prim.Native.Nat.{ℕ, zero, suc, _+_, _*_, _-_, _/_, min}
 use lib.ListN.{length, take, drop}
 use Rattle.table.specs.Answer.{Answer, accepted, andThen}
 use Rattle.blocks.specs.Block.{blockOf, judge}
@@ -31,6 +31,10 @@ judgeRun number total bs = judgeBlocks (blocksFor total) number total bs
 unfoldable pub contents : ℕ → List ℕ → List ℕ
 contents zero bs = []
 contents (suc n) bs = take 504 (drop 4 bs) ++ contents n (drop 512 bs)
+
+-- the content of the block with this number in a file
+unfoldable pub contentIn : ℕ → List ℕ → List ℕ
+contentIn number file = take 504 (drop 4 (drop (512 * number) file))
 
 -- the content of so many bytes that the run at the front of some bytes holds
 unfoldable pub contentOf : ℕ → List ℕ → List ℕ

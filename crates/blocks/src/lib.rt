@@ -4,7 +4,7 @@ ghost use mathlib.Core.Path.{_≡_};
 ghost use Prim.Native.Nat.{_+_, _*_, _≤_, _<_, min};
 ghost use lib.ListN.{length, take, drop};
 ghost use Rattle.blocks.specs.Block.{sumOf, zeros, examine, judge, judged};
-ghost use Rattle.blocks.specs.Run.{blocksFor, judgeRun};
+ghost use Rattle.blocks.specs.Run.{blocksFor, judgeRun, contentIn};
 
 // The judgement of blocks: they pass, or are refused by a number.
 pub enum Judged {
@@ -51,6 +51,30 @@ pub fn blocks_for(total: usize) -> usize
         return total / 504;
     }
     total / 504 + 1
+}
+
+// How many of so many bytes the first block of a run uses.
+pub fn used_here(more: usize) -> usize
+    ensures { λ r. ⌜ r ≡ min 504 more ⌝ }
+{
+    if more < 504 { more } else { 504 }
+}
+
+// The content of the block with this number in a file: its 504 bytes, or as many as are there.
+pub fn content(bytes: &[u8], number: usize) -> &[u8]
+    ensures { λ r. ⌜ now r ≡ contentIn number (now (bytes .entry)) ⌝ }
+{
+    if bytes.len() / 512 < number {
+        return &bytes[0..0];
+    }
+    let block = &bytes[512 * number..];
+    if block.len() < 4 {
+        return &block[0..0];
+    }
+    if block.len() < 508 {
+        return &block[4..];
+    }
+    &block[4..508]
 }
 
 // The 512 bytes at the front, from 512 zero bytes.
@@ -125,11 +149,4 @@ fn padded(b: &[u8], from: usize) -> bool
         p += 1;
     }
     true
-}
-
-// How many bytes the first block of a run uses.
-fn used_here(more: usize) -> usize
-    ensures { λ r. ⌜ r ≡ min 504 more ⌝ }
-{
-    if more < 504 { more } else { 504 }
 }

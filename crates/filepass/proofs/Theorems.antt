@@ -8,7 +8,7 @@ use lib.ListN.{length, take, drop}
 use Rattle.table.specs.Answer.{accepted, refused}
 use Rattle.table.specs.Check.{givenCheck}
 use Rattle.tablefile.specs.File.{Content}
-use Rattle.tablefile.specs.Reading.{nodesAt, contentAt, readCheck}
+use Rattle.tablefile.specs.Reading.{headerAt, contentAt, readCheck}
 use Rattle.tablefile.proofs.Fronts.{table-length}
 use Rattle.tablefile.proofs.Accepted.{read-fronted, read-is-sound}
 use Rattle.errors.specs.declared.Err.{Err}
@@ -37,11 +37,11 @@ module _ (file : List ℕ) (good : readCheck file ≡ accepted []) where
   sound : givenCheck (c .table) (c .names) (c .dialect) ≡ accepted []
   sound = read-is-sound file good
 
-  nodes : length (c .table) / 24 ≡ nodesAt file
+  nodes : length (c .table) / 24 ≡ headerAt file .nodes
   nodes = omega (arith, table-length file (read-fronted file good))
 
   -- THEOREM: an accepted file is answered with its nodes and errors: the module pass does not refuse it
-  pub accepted-is-listed : answerOf file ≡ accepted (nodesAt file ∷ length errors ∷ [])
+  pub accepted-is-listed : answerOf file ≡ accepted (headerAt file .nodes ∷ length errors ∷ [])
   unfolding answerOf
   accepted-is-listed = rw good (rw (held-listed _ _ _ sound, nodes) refl)
 
