@@ -12,7 +12,7 @@ use Rattle.forest.specs.declared.Found.the-variants.{At, Nothing}
 use Rattle.soundness.specs.KindNumbers.{kindNamed}
 use Rattle.soundness.specs.Kinds.{statement, Times, anyNumber, evenNumber, atMost, Children, kindOf, classOf}
 
--- what a record's rule is told besides the record: the number of lent name bytes
+-- what a record's rule is told besides the record: the number of lent name bytes (a request to come adds the file of its statement)
 pub record Context : Type 0 where
   pub names : ℕ
 

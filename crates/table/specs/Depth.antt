@@ -12,7 +12,7 @@ use Rattle.forest.specs.declared.Found.the-variants.{At, Nothing}
 abbrev pub mostDepth : ℕ
 mostDepth = 64
 
--- what a record of a kind adds to its parent's depth
+-- what a record of a kind adds to its parent's depth (a request to come makes it 0 for parameters and arguments)
 unfoldable pub weight : ℕ → ℕ
 weight kind = 1
 

@@ -5,6 +5,7 @@ pub mod numbers;
 use dialect::Decoded;
 use dialect::Dialect;
 use forest::Found;
+use soundness::classes;
 use soundness::kinds;
 ghost use mathlib.Core.Path.{_≡_};
 ghost use Rattle.forest.specs.Forest.{nodeOf};
@@ -86,7 +87,7 @@ pub fn check(table: &[u8], names: &[u8]) -> Checked
     Checked::Sound
 }
 
-// The class of the record that a stretch begins with: 1 statement, 2 expression, 3 parameter, 4 argument, 0 none.
+// The class of the record that a stretch begins with, by the numbers of `soundness::classes`; 0 for no kind.
 pub fn class(t: &[u8]) -> u8
     ensures { λ r. ⌜ r ≡ classOf (nodeOf 0 (now (t .entry)) .kind) ⌝ }
 {
@@ -140,7 +141,7 @@ fn wanted_kind(wanted: Wanted, kind: u8) -> bool
         Wanted::Parameters => (kind == kinds::DEF) | (kind == kinds::LAMBDA),
         Wanted::Call => kind == kinds::CALL,
         Wanted::Assignment => (kind == kinds::ASSIGN) | (kind == kinds::ASSIGN_MODIFY),
-        Wanted::Expression => soundness::class(kind) == 2,
+        Wanted::Expression => soundness::class(kind) == classes::EXPRESSION,
     }
 }
 
