@@ -2,7 +2,6 @@
 use mathlib.Core.Path.{_≡_, refl}
 use mathlib.Core.List.{List}
 use Prim.Native.Nat.{ℕ, min}
-use native.Mathlib.Omega.{arith}
 use Rattle.fields.proofs.Basics.{never}
 use Rattle.fields.proofs.Coincide.{coincide, coincide-by}
 use Rattle.blocks.specs.declared.Judged.{Judged}

@@ -23,7 +23,7 @@ use Rattle.tablefile.specs.Reading.{headerAt, contentAt, countsFit, blocksCheck
 use Rattle.tablefile.proofs.Fronts.{first-is, taken-is, counts-small}
 use Rattle.tablefile.proofs.Accepted.{read-whole, read-fronted}
 use Rattle.filepass.specs.Sizes.{mostBlocks, enoughBytes}
-use Rattle.filepass.specs.Passing.{heldAnswer, answerOf, ifRead, wordsAfter}
+use Rattle.filepass.specs.Passing.{answerOf, ifRead, wordsAfter}
 
 -- a block is judged by its 512 bytes
 judge-part : (number used m : ℕ) (bs : List ℕ) → 512 ≤ m → judge number used (take m bs) ≡ judge number used bs

@@ -1,6 +1,6 @@
 -- Reading: the one file at the front of some bytes, and a file that is all there is. These are definitions.
 use mathlib.Core.Bool.{Bool, _&&_}
-use mathlib.Core.List.{List, []}
+use mathlib.Core.List.{List}
 use Prim.Native.Nat.{ℕ, _+_, _*_}
 use lib.ListN.{length, take, drop}
 use lib.Dec.{eqb, leb}
