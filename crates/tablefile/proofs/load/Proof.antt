@@ -10,5 +10,7 @@ load-spec =
     (λ c. search load-fits)  -- mul-len
     (λ c κs. let start = c .before .before in load-table _ start.pre.0 start.pre.1)  -- table-of-requires
     (λ c κs. let start = c .before .before .before in load-names _ start.pre.0 start.pre.1)  -- names-of-requires
-    (λ c κs. let start = c .before .before .before .before in load-dialect _ start.pre.0 start.pre.1)  -- dialect-of-requires
+    (λ c κs.  -- dialect-of-requires
+    let start = c .before .before .before .before in
+    load-dialect _ start.pre.0 start.pre.1)
     (λ c. search load-is))  -- returns
