@@ -2,12 +2,11 @@
 use mathlib.Core.Path.{_≡_, refl}
 use mathlib.Core.List.{List}
 use Prim.Native.Nat.{ℕ, min}
-use native.Mathlib.Omega.{arith}
 use Rattle.fields.proofs.Basics.{never}
 use Rattle.fields.proofs.Coincide.{coincide, coincide-by}
 use Rattle.blocks.specs.declared.Judged.{Judged}
 use Rattle.blocks.specs.declared.Judged.the-variants.{Passed, Refused}
-use Rattle.blocks.specs.Block.{judge, judged}
+use Rattle.blocks.specs.Block.{contentBytes, judge, judged}
 use Rattle.blocks.specs.Run.{blocksFor, judgeRun, contentIn}
 
 -- no two judgements mean the same
@@ -32,7 +31,7 @@ pub blocks-for-one : (total : ℕ) {r s : ℕ} → r ≡ blocksFor total → s �
 blocks-for-one total = coincide
 
 -- of `used_here`
-pub used-here-one : (more : ℕ) {r s : ℕ} → r ≡ min 504 more → s ≡ min 504 more → r ≡ s
+pub used-here-one : (more : ℕ) {r s : ℕ} → r ≡ min contentBytes more → s ≡ min contentBytes more → r ≡ s
 used-here-one more = coincide
 
 -- of `content`, the bytes as lent

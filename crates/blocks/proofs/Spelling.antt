@@ -1,15 +1,12 @@
 -- Laws of numbers as bytes, over the width: reading gives back what is spelled, and spelling what is read. Assumes nothing.
 use mathlib.Core.Path.{_≡_, refl, sym, ap, _∙_}
-use mathlib.Core.Bool.{Bool, true, false}
-use mathlib.Core.Logic.{_⊎_, inl, inr, ⊎-elim}
+use mathlib.Core.Logic.{_⊎_, ⊎-elim}
 use mathlib.Core.List.{List, [], _∷_, _++_}
 use Prim.Native.Nat.{ℕ, zero, suc, _+_, _*_, _-_, _/_, _%_, _<_, _≤_, _^_}
 use native.Mathlib.Nat.{pow-succ'}
 use native.Mathlib.Numerals.{add-one}
 use native.Mathlib.Omega.{arith}
 use lib.ListN.{length, getD, take, drop, set, replicate, length-take, List·getD-append, List·getD-eq-default}
-use lib.Dec.{leb}
-use borrow.Author.Tests.{leb-true, leb-false}
 use lib.Seq.{getD-take, getD-drop, getD-set-same, getD-set-other, drop-cons, drop-append-seam}
 use Rattle.fields.proofs.Basics.{le-or-lt}
 use Rattle.fields.specs.Field.{field}

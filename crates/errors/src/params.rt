@@ -14,7 +14,7 @@ ghost use mathlib.Core.Path.{_≡_};
 ghost use Prim.Native.Nat.{_+_};
 ghost use Rattle.forest.specs.Forest.{nodeOf, kidsOf, forest};
 ghost use Rattle.unpack.specs.Written.{written};
-ghost use Rattle.unpack.specs.Unpack.{isSlash, unpack};
+ghost use Rattle.unpack.specs.Unpack.{unpack};
 ghost use Rattle.errors.specs.Errors.{err, Stores};
 ghost use Rattle.errors.specs.Inner.{Anywhere};
 ghost use Rattle.errors.specs.Params.{isNoArgs, isMark, permits, notPermitted, everyMark, marks, unpackError, «validate_params», withParams};
@@ -105,7 +105,7 @@ fn is_mark(mark: Mark, kind: Kind) -> bool
 {
     match mark {
         Mark::Star => is_star(kind),
-        Mark::Slash => is_slash(kind),
+        Mark::Slash => entry::is_slash(kind),
     }
 }
 
@@ -116,18 +116,6 @@ fn is_star(kind: Kind) -> bool
         Kind::Normal(_) => false,
         Kind::NoArgs => true,
         Kind::Slash => false,
-        Kind::Args => false,
-        Kind::KwArgs => false,
-    }
-}
-
-fn is_slash(kind: Kind) -> bool
-    ensures { λ r. ⌜ r ≡ isSlash kind ⌝ }
-{
-    match kind {
-        Kind::Normal(_) => false,
-        Kind::NoArgs => false,
-        Kind::Slash => true,
         Kind::Args => false,
         Kind::KwArgs => false,
     }

@@ -14,16 +14,16 @@ use Rattle.fields.proofs.Basics.{drop-take, le-or-lt}
 use Rattle.fields.proofs.Fields.{field-take}
 use Rattle.table.specs.Numbers.{blockCounts, bytesLeftOver}
 use Rattle.table.specs.Answer.{Answer, accepted, refused, andThen}
-use Rattle.table.specs.Check.{Handing, inDialect, turnedAway, givenOf, inGiven}
+use Rattle.table.specs.Check.{mostNodes, mostNames, Handing, inDialect, turnedAway, givenOf, inGiven}
 use Rattle.table.proofs.Answers.{after-both}
 use Rattle.blocks.specs.Block.{demand, judge}
 use Rattle.blocks.specs.Run.{blocksFor, judgeBlocks, judgeRun}
-use Rattle.tablefile.specs.File.{Content}
+use Rattle.tablefile.specs.File.{Content, mostBlocks}
 use Rattle.tablefile.specs.Reading.{headerAt, contentAt, countsFit, blocksCheck, frontCheck, soundCheck, readCheck}
 use Rattle.tablefile.proofs.Fronts.{first-is, taken-is, counts-small}
 use Rattle.tablefile.proofs.Accepted.{read-whole, read-fronted}
-use Rattle.filepass.specs.Sizes.{mostBlocks, enoughBytes}
-use Rattle.filepass.specs.Passing.{heldAnswer, answerOf, ifRead, wordsAfter}
+use Rattle.filepass.specs.Sizes.{enoughBytes}
+use Rattle.filepass.specs.Passing.{answerOf, ifRead, wordsAfter}
 
 -- a block is judged by its 512 bytes
 judge-part : (number used m : ℕ) (bs : List ℕ) → 512 ≤ m → judge number used (take m bs) ≡ judge number used bs
@@ -59,7 +59,7 @@ run-part number total a m bs h =
     rw (drop-take a m bs) (blocks-part (blocksFor total) number total (m - a) (drop a bs) (omega arith))
 
 -- LAW: the most blocks are those of the most names and the most nodes
-pub most-blocks : mostBlocks ≡ 1 + blocksFor 8064 + blocksFor (24 * 2100)
+pub most-blocks : mostBlocks ≡ 1 + blocksFor mostNames + blocksFor (24 * mostNodes)
 unfolding blocksFor
 most-blocks = refl
 

@@ -15,7 +15,7 @@ use Rattle.table.specs.Check.{inDialect, givenOf, givenCheck}
 use Rattle.table.specs.declared.Refusal.{Refusal}
 use Rattle.table.proofs.Entering.{given-known, given-passed}
 use Rattle.tablefile.specs.File.{Content}
-use Rattle.tablefile.specs.Reading.{contentAt, readCheck}
+use Rattle.tablefile.specs.Reading.{readCheck}
 use Rattle.tablefile.specs.Loading.{verdict, held}
 use Rattle.tablefile.specs.declared.Verdict.the-variants.{Accepted, Refused}
 use Rattle.tablefile.specs.declared.Loaded.{Loaded}

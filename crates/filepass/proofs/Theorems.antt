@@ -1,8 +1,8 @@
 -- What users of a file's answer rely on: a refused file changes no word, an accepted one is listed with all errors,
 -- and the sizes of `check_read` are enough for every file. Assumes nothing.
-use mathlib.Core.Path.{_≡_, refl, sym, ap, _∙_}
+use mathlib.Core.Path.{_≡_, refl}
 use mathlib.Core.List.{List, [], _∷_, _++_}
-use Prim.Native.Nat.{ℕ, _*_, _/_, _≤_}
+use Prim.Native.Nat.{ℕ, _*_, _/_}
 use native.Mathlib.Omega.{arith}
 use lib.ListN.{length, take, drop}
 use Rattle.table.specs.Answer.{accepted, refused}
@@ -14,10 +14,10 @@ use Rattle.tablefile.proofs.Accepted.{read-fronted, read-is-sound}
 use Rattle.errors.specs.declared.Err.{Err}
 use Rattle.errors.specs.Errors.{width}
 use Rattle.errors.proofs.Storing.{allWords}
-use Rattle.validate.specs.Job.{errorsOf, errorsAfter}
+use Rattle.validate.specs.Job.{errorsOf}
 use Rattle.validate.proofs.Theorems.{list-holds-all}
 use Rattle.filepass.specs.Sizes.{enoughBytes, enoughWords}
-use Rattle.filepass.specs.Passing.{heldAnswer, answerOf, wordsAfter}
+use Rattle.filepass.specs.Passing.{answerOf, wordsAfter}
 use Rattle.filepass.proofs.Enough.{read-enough}
 use Rattle.filepass.proofs.Listing.{held-few, held-listed}
 

@@ -5,7 +5,6 @@ mod changes;
 mod files;
 
 use libc::STDOUT_FILENO;
-use table::Refusal;
 
 fn main() {
     let fd = os::open_read(b"parameters.table");

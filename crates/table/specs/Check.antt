@@ -23,16 +23,26 @@ use Rattle.table.specs.declared.Given.the-variants.{In, Refused}
 use Rattle.table.specs.declared.Wanted.{Wanted}
 use Rattle.table.specs.declared.Wanted.the-variants.{Parameters, Call, Assignment, Expression}
 
+-- the most nodes of a table, its most bytes, 24 a node, and the most name bytes
+abbrev pub mostNodes : ℕ
+mostNodes = 2100
+
+abbrev pub mostBytes : ℕ
+mostBytes = 50400
+
+abbrev pub mostNames : ℕ
+mostNames = 8064
+
 -- 1: the table has 1 to 2,100 records of 24 bytes
 unfoldable pub lengthSound : ℕ → Bool
-lengthSound n = leb 24 n && (leb n 50400 && eqb (n % 24) 0)
+lengthSound n = leb 24 n && (leb n mostBytes && eqb (n % 24) 0)
 
 abbrev pub lengthCheck : ℕ → Answer
 lengthCheck n = if' (lengthSound n) (λ _. accepted []) (λ _. refused tableLength [])
 
 -- 2: there are at most 8,064 name bytes
 abbrev pub namesCheck : ℕ → Answer
-namesCheck n = if' (leb n 8064) (λ _. accepted []) (λ _. refused nameBytes [])
+namesCheck n = if' (leb n mostNames) (λ _. accepted []) (λ _. refused nameBytes [])
 
 -- a node that breaks a rule, by the rule's number
 abbrev pub noneFound : ℕ → Found → Answer

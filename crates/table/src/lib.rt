@@ -20,6 +20,13 @@ pub struct Span {
     pub end: u32,
 }
 
+// The most nodes of a table, its most bytes, 24 a node, and the most name bytes.
+pub const MOST_NODES: usize = 2100;
+
+pub const MOST_BYTES: usize = 24 * MOST_NODES;
+
+pub const MOST_NAMES: usize = 8064;
+
 // A place in a list, counted from 0, or none.
 pub enum Place {
     At(u32),
@@ -57,7 +64,7 @@ pub enum Wanted {
 fn length_sound(n: usize) -> bool
     ensures { λ r. ⌜ r ≡ lengthSound n ⌝ }
 {
-    (24 <= n) & ((n <= 50400) & (n % 24 == 0))
+    (24 <= n) & ((n <= MOST_BYTES) & (n % 24 == 0))
 }
 
 // The check of a table: 1, 2, 3 and 4 in this order.
@@ -67,7 +74,7 @@ pub fn check(table: &[u8], names: &[u8]) -> Checked
     if !length_sound(table.len()) {
         return Checked::Refused(Refusal::Bare(numbers::TABLE_LENGTH));
     }
-    if 8064 < names.len() {
+    if MOST_NAMES < names.len() {
         return Checked::Refused(Refusal::Bare(numbers::NAME_BYTES));
     }
     let unsound = soundness::first_unsound(table, names);

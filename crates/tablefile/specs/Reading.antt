@@ -1,6 +1,6 @@
 -- Reading: the one file at the front of some bytes, and a file that is all there is. These are definitions.
 use mathlib.Core.Bool.{Bool, _&&_}
-use mathlib.Core.List.{List, []}
+use mathlib.Core.List.{List}
 use Prim.Native.Nat.{ℕ, _+_, _*_}
 use lib.ListN.{length, take, drop}
 use lib.Dec.{eqb, leb}
@@ -8,8 +8,8 @@ use Rattle.fields.specs.Choice.{if'}
 use Rattle.fields.specs.Field.{field}
 use Rattle.table.specs.Numbers.{blockCounts, bytesLeftOver}
 use Rattle.table.specs.Answer.{Answer, andThen}
-use Rattle.table.specs.Check.{givenCheck}
-use Rattle.blocks.specs.Block.{demand, judge}
+use Rattle.table.specs.Check.{mostNodes, mostNames, givenCheck}
+use Rattle.blocks.specs.Block.{blockBytes, demand, judge}
 use Rattle.blocks.specs.Run.{blocksFor, judgeRun, contentOf}
 use Rattle.tablefile.specs.File.{Content}
 use Rattle.tablefile.specs.declared.Heading.{Heading}
@@ -28,7 +28,7 @@ headerAt bs =
       names = names;
       dialect = dialectIn (field 2 bs 2);
       first = 1 + blocksFor names;
-      taken = 512 * (1 + blocksFor names + blocksFor (24 * nodes));
+      taken = blockBytes * (1 + blocksFor names + blocksFor (24 * nodes));
     }
 
 -- what it holds
@@ -36,22 +36,22 @@ unfoldable pub contentAt : List ℕ → Content
 contentAt bs =
     let h = headerAt bs in
     record {
-      table = contentOf (24 * h .nodes) (drop (512 * h .first) bs);
-      names = contentOf (h .names) (drop 512 bs);
+      table = contentOf (24 * h .nodes) (drop (blockBytes * h .first) bs);
+      names = contentOf (h .names) (drop blockBytes bs);
       dialect = take (h .dialect) (drop 8 bs);
     }
 
 -- 1 to 2,100 nodes and at most 8,064 name bytes
 unfoldable pub countsFit : ℕ → ℕ → Bool
-countsFit nodes names = leb 1 nodes && (leb nodes 2100 && leb names 8064)
+countsFit nodes names = leb 1 nodes && (leb nodes mostNodes && leb names mostNames)
 
 -- the file at the front: block 0, then 74 for its counts, then the blocks of the names, then those of the nodes
 unfoldable pub blocksCheck : Heading → List ℕ → Answer
 blocksCheck h bs =
     andThen (judge 0 (4 + h .dialect) bs) (λ _.
     andThen (demand (countsFit (h .nodes) (h .names)) blockCounts) (λ _.
-    andThen (judgeRun 1 (h .names) (drop 512 bs)) (λ _.
-    judgeRun (h .first) (24 * h .nodes) (drop (512 * h .first) bs))))
+    andThen (judgeRun 1 (h .names) (drop blockBytes bs)) (λ _.
+    judgeRun (h .first) (24 * h .nodes) (drop (blockBytes * h .first) bs))))
 
 abbrev pub frontCheck : List ℕ → Answer
 frontCheck bs = blocksCheck (headerAt bs) bs

@@ -1,6 +1,10 @@
 // The reader of table files: the one file at the front of some bytes, or a file that is all there is.
+use blocks::BLOCK_BYTES;
 use blocks::Judged;
 use table::Given;
+use table::MOST_BYTES;
+use table::MOST_NAMES;
+use table::MOST_NODES;
 use table::Refusal;
 use table::numbers;
 ghost use mathlib.Core.Path.{_≡_};
@@ -8,11 +12,15 @@ ghost use mathlib.Core.List.{[], _++_};
 ghost use Prim.Native.Nat.{_+_, _*_, _≤_};
 ghost use lib.ListN.{length, take, drop};
 ghost use Rattle.table.specs.Answer.{accepted};
-ghost use Rattle.blocks.specs.Block.{judged};
+ghost use Rattle.table.specs.Check.{mostBytes, mostNames};
+ghost use Rattle.blocks.specs.Block.{blockBytes, judged};
 ghost use Rattle.blocks.specs.Run.{blocksFor, contentOf};
 ghost use Rattle.tablefile.specs.Reading.{dialectIn, headerAt, contentAt, countsFit, blocksCheck, frontCheck, soundCheck, readCheck};
 ghost use Rattle.tablefile.specs.Loading.{verdict, laid, loadedOf, none};
 ghost use Rattle.tablefile.specs.declared.Verdict.the-variants.{Accepted, Refused};
+
+// The most blocks that a file has: block 0, 16 with 8,064 name bytes, 100 with 2,100 nodes.
+pub const MOST_BLOCKS: usize = 117;
 
 // Whether a file is accepted, or why it is refused.
 pub enum Verdict {
@@ -25,9 +33,9 @@ pub enum Verdict {
 pub struct Loaded {
     pub verdict: Verdict,
     pub taken: usize,
-    pub table: [u8; 50400],
+    pub table: [u8; MOST_BYTES],
     pub table_len: usize,
-    pub names: [u8; 8064],
+    pub names: [u8; MOST_NAMES],
     pub names_len: usize,
     pub dialect: [u8; 9],
     pub dialect_len: usize,
@@ -56,7 +64,7 @@ pub fn header(bytes: &[u8]) -> Heading
         names: names,
         dialect: dialect_in(fields::half(bytes, 2)),
         first: first,
-        taken: 512 * (first + last),
+        taken: BLOCK_BYTES * (first + last),
     }
 }
 
@@ -116,11 +124,11 @@ fn judge_front(bytes: &[u8], h: Heading) -> Judged
     if !counts_fit(h.nodes, h.names) {
         return Judged::Refused(numbers::BLOCK_COUNTS);
     }
-    let run = blocks::judge_run(&bytes[512..], 1, h.names);
+    let run = blocks::judge_run(&bytes[BLOCK_BYTES..], 1, h.names);
     if let Judged::Refused(n) = run {
         return Judged::Refused(n);
     }
-    let at = 512 * h.first;
+    let at = BLOCK_BYTES * h.first;
     blocks::judge_run(&bytes[at..], h.first as u16, 24 * h.nodes)
 }
 
@@ -161,9 +169,9 @@ fn refused(why: Refusal) -> Loaded
     Loaded {
         verdict: Verdict::Refused(why),
         taken: 0,
-        table: [0u8; 50400],
+        table: [0u8; MOST_BYTES],
         table_len: 0,
-        names: [0u8; 8064],
+        names: [0u8; MOST_NAMES],
         names_len: 0,
         dialect: [0u8; 9],
         dialect_len: 0,
@@ -181,7 +189,7 @@ fn dialect_in(used: u16) -> usize
 fn counts_fit(nodes: usize, names: usize) -> bool
     ensures { λ r. ⌜ r ≡ countsFit nodes names ⌝ }
 {
-    (1 <= nodes) & ((nodes <= 2100) & (names <= 8064))
+    (1 <= nodes) & ((nodes <= MOST_NODES) & (names <= MOST_NAMES))
 }
 
 // Puts the first len of some bytes at the front of out.
@@ -198,8 +206,8 @@ fn put(from: &[u8], len: usize, out: &mut [u8])
 
 // Puts len content bytes of the blocks from a number on at the front of out, block by block.
 fn copy(bytes: &[u8], first: usize, len: usize, out: &mut [u8])
-    requires { ⌜ (512 * (first + blocksFor len) ≤ length (now bytes)) × (len ≤ length (now out)) ⌝ }
-    ensures { λ r. ⌜ now (out .exit) ≡ contentOf len (drop (512 * first) (now (bytes .entry))) ++ drop len (now (out .entry)) ⌝ }
+    requires { ⌜ (blockBytes * (first + blocksFor len) ≤ length (now bytes)) × (len ≤ length (now out)) ⌝ }
+    ensures { λ r. ⌜ now (out .exit) ≡ contentOf len (drop (blockBytes * first) (now (bytes .entry))) ++ drop len (now (out .entry)) ⌝ }
 {
     let mut number = first;
     let mut done = 0;
@@ -212,28 +220,28 @@ fn copy(bytes: &[u8], first: usize, len: usize, out: &mut [u8])
 }
 
 // The table that the blocks from a number on hold.
-fn table_of(bytes: &[u8], first: usize, len: usize) -> [u8; 50400]
-    requires { ⌜ (512 * (first + blocksFor len) ≤ length (now bytes)) × (len ≤ 50400) ⌝ }
-    ensures { λ r. ⌜ r ≡ laid 50400 (contentOf len (drop (512 * first) (now (bytes .entry)))) ⌝ }
+fn table_of(bytes: &[u8], first: usize, len: usize) -> [u8; MOST_BYTES]
+    requires { ⌜ (blockBytes * (first + blocksFor len) ≤ length (now bytes)) × (len ≤ mostBytes) ⌝ }
+    ensures { λ r. ⌜ r ≡ laid mostBytes (contentOf len (drop (blockBytes * first) (now (bytes .entry)))) ⌝ }
 {
-    let mut t = [0u8; 50400];
+    let mut t = [0u8; MOST_BYTES];
     copy(bytes, first, len, &mut t);
     t
 }
 
 // The names that the blocks from block 1 on hold.
-fn names_of(bytes: &[u8], len: usize) -> [u8; 8064]
-    requires { ⌜ (512 * (1 + blocksFor len) ≤ length (now bytes)) × (len ≤ 8064) ⌝ }
-    ensures { λ r. ⌜ r ≡ laid 8064 (contentOf len (drop 512 (now (bytes .entry)))) ⌝ }
+fn names_of(bytes: &[u8], len: usize) -> [u8; MOST_NAMES]
+    requires { ⌜ (blockBytes * (1 + blocksFor len) ≤ length (now bytes)) × (len ≤ mostNames) ⌝ }
+    ensures { λ r. ⌜ r ≡ laid mostNames (contentOf len (drop blockBytes (now (bytes .entry)))) ⌝ }
 {
-    let mut t = [0u8; 8064];
+    let mut t = [0u8; MOST_NAMES];
     copy(bytes, 1, len, &mut t);
     t
 }
 
 // The dialect bytes that block 0 holds.
 fn dialect_of(bytes: &[u8], len: usize) -> [u8; 9]
-    requires { ⌜ (512 ≤ length (now bytes)) × (len ≤ 9) ⌝ }
+    requires { ⌜ (blockBytes ≤ length (now bytes)) × (len ≤ 9) ⌝ }
     ensures { λ r. ⌜ r ≡ laid 9 (take len (drop 8 (now (bytes .entry)))) ⌝ }
 {
     let mut d = [0u8; 9];

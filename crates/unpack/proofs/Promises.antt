@@ -7,7 +7,7 @@ use lib.ListN.{length}
 use Rattle.fields.proofs.Coincide.{coincide}
 use Rattle.forest.specs.Forest.{kidsOf}
 use Rattle.unpack.specs.Written.{written}
-use Rattle.unpack.specs.Unpack.{nextState, firstState, unpack}
+use Rattle.unpack.specs.Unpack.{nextState, isSlash, firstState, unpack}
 use Rattle.unpack.specs.Told.{told}
 use Rattle.unpack.specs.Reading.{isListed, kindHere, Inside}
 use Rattle.unpack.specs.declared.Kind.{Kind}
@@ -38,3 +38,7 @@ first-state-one only = coincide
 pub next-state-one : (state : State) (kind : Kind) {r s : State} → r ≡ nextState state kind
     → s ≡ nextState state kind → r ≡ s
 next-state-one state kind = coincide
+
+-- of `is_slash`
+pub is-slash-one : (kind : Kind) {r s : Bool} → r ≡ isSlash kind → s ≡ isSlash kind → r ≡ s
+is-slash-one kind = coincide

@@ -4,6 +4,7 @@ use soundness::classes;
 use soundness::kinds;
 ghost use mathlib.Core.Path.{_≡_};
 ghost use Rattle.unpack.specs.Written.{hasDefault};
+ghost use Rattle.unpack.specs.Unpack.{isSlash};
 ghost use Rattle.unpack.specs.Reading.{isListed, kindHere};
 
 // Whether a stretch begins with a parameter.
@@ -37,4 +38,17 @@ pub fn kind_of(t: &[u8]) -> Kind
         return Kind::Args;
     }
     Kind::KwArgs
+}
+
+// Whether a parameter is `/`.
+pub fn is_slash(kind: Kind) -> bool
+    ensures { λ r. ⌜ r ≡ isSlash kind ⌝ }
+{
+    match kind {
+        Kind::Normal(_) => false,
+        Kind::NoArgs => false,
+        Kind::Slash => true,
+        Kind::Args => false,
+        Kind::KwArgs => false,
+    }
 }

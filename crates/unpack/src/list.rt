@@ -28,7 +28,7 @@ pub(crate) fn first_slash(kids: &[u8]) -> WrittenPlace
     let mut left = kids;
     let mut i = 0;
     while entry::listed(left) {
-        if rules::is_slash(entry::kind_of(left)) {
+        if entry::is_slash(entry::kind_of(left)) {
             return WrittenPlace::AtWritten(Written(i));
         }
         let e = forest::span(left);

@@ -15,7 +15,7 @@ use crate::states;
 use table::numbers;
 ghost use mathlib.Core.Path.{_≡_};
 ghost use mathlib.Core.Bool.{_||_};
-ghost use Rattle.unpack.specs.Unpack.{defaultRule, normalRule, starRule, slashRule, kwargsRule, rule as ruleOf, nextOptional, nextStar, start as startOf, isSlash, positionalOnly};
+ghost use Rattle.unpack.specs.Unpack.{defaultRule, normalRule, starRule, slashRule, kwargsRule, rule as ruleOf, nextOptional, nextStar, start as startOf, positionalOnly};
 ghost use Rattle.unpack.specs.Reading.{isNamed, isNormal};
 
 // Whether a parameter of a kind has a name.
@@ -38,18 +38,6 @@ pub(crate) fn is_normal(kind: Kind) -> bool
         Kind::Normal(_) => true,
         Kind::NoArgs => false,
         Kind::Slash => false,
-        Kind::Args => false,
-        Kind::KwArgs => false,
-    }
-}
-
-pub(crate) fn is_slash(kind: Kind) -> bool
-    ensures { λ r. ⌜ r ≡ isSlash kind ⌝ }
-{
-    match kind {
-        Kind::Normal(_) => false,
-        Kind::NoArgs => false,
-        Kind::Slash => true,
         Kind::Args => false,
         Kind::KwArgs => false,
     }

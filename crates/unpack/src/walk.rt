@@ -240,7 +240,7 @@ fn run(names: &[u8], kids: &[u8], first: usize, only: Flat) -> Judged
 fn slash_first(kids: &[u8]) -> bool
     ensures { λ r. ⌜ r ≡ beginsWithSlash (now (kids .entry)) ⌝ }
 {
-    entry::listed(kids) & rules::is_slash(entry::kind_of(kids))
+    entry::listed(kids) & entry::is_slash(entry::kind_of(kids))
 }
 
 // 10 first, then the parameters in turn; first is the node of the first record.

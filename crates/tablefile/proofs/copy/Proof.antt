@@ -1,6 +1,5 @@
 -- `tablefile::copy` meets its contract: what is copied and what is left make the content. Assumes nothing.
 use Prim.Native.Nat.{_-_}
-use native.Mathlib.Omega.{arith}
 use borrow.Author.Needs.{needs}
 use Rattle.tablefile.proofs.Copies.{Copying, copy-start, copy-fits, copy-on, copy-end}
 use Rattle.tablefile.proofs.copy.Statement.{statement}
