@@ -13,7 +13,7 @@ use table::Place;
 use table::Refusal;
 use table::Wanted;
 use targets::Targeted;
-use typerules::Shaped;
+use types::Shaped;
 use validate::Listed;
 
 // What a request asks: its job, how long its parts are, and the job's node.
@@ -219,7 +219,7 @@ fn say_targeted(t: Targeted) {
 
 // The type job, and the shape buffer afterwards.
 fn say_type(table: &[u8], names: &[u8], dialect: &[u8], node: usize, shapes: &mut [u8]) {
-    let s = types::type_shape(table, names, dialect, node, shapes);
+    let s = shapes::type_shape(table, names, dialect, node, shapes);
     match s {
         Shaped::Accepted => say(b"accepted"),
         Shaped::Refused(r) => say_refusal(r),

@@ -20,7 +20,7 @@ use Rattle.table.specs.Check.{stretchOf}
 use Rattle.table.specs.declared.Wanted.the-variants.{Parameters}
 use Rattle.table.proofs.Checking.{Clean, accepted-clean, stretch-is, stretch-sound, stretch-size}
 use Rattle.table.proofs.Handed.{stretch-within}
-use Rattle.unpack.specs.Written.{Param, paramOf, paramsIn, written}
+use Rattle.deflist.specs.Written.{Param, paramOf, paramsIn, written}
 use Rattle.parameters.specs.Params.{listOf}
 use Rattle.demand3.specs.Given.{parametersIn, allParameters, Given}
 use Rattle.demand3.proofs.OverTheJob as job

@@ -9,18 +9,18 @@ use lib.ListN.{length, length-append}
 use borrow.Author.Tests.{ne-eqb}
 use Rattle.fields.proofs.Basics.{clash, never}
 use Rattle.forest.specs.Forest.{Node}
-use Rattle.unpack.specs.Written.{Param, normal, noArgs, slash, args, kwargs, kindIn}
-use Rattle.unpack.specs.Unpack.{writtenAt, flatAt, isSlash, slashFrom, firstSlash, positionalOnly, firstState}
-use Rattle.unpack.specs.Unpack.{start, finish, Outcome, accepted, refused, run, unpack, modesFrom, modes}
-use Rattle.unpack.specs.declared.State.{State}
-use Rattle.unpack.specs.declared.State.the-variants.{Normal as BeforeSlash, SeenSlash}
-use Rattle.unpack.specs.declared.Written.{Written}
-use Rattle.unpack.specs.declared.WrittenPlace.{WrittenPlace}
-use Rattle.unpack.specs.declared.WrittenPlace.the-variants.{AtWritten, NoWritten}
-use Rattle.unpack.specs.declared.Flat.{Flat}
-use Rattle.unpack.specs.declared.Counts.{Counts}
-use Rattle.unpack.proofs.Steps.{clear-start}
-use Rattle.unpack.proofs.Theorems.{refused≢accepted}
+use Rattle.deflist.specs.Written.{Param, normal, noArgs, slash, args, kwargs, kindIn}
+use Rattle.deflist.specs.Unpack.{writtenAt, flatAt, isSlash, slashFrom, firstSlash, positionalOnly, firstState}
+use Rattle.deflist.specs.Unpack.{start, finish, Outcome, accepted, refused, run, unpack, modesFrom, modes}
+use Rattle.deflist.specs.declared.State.{State}
+use Rattle.deflist.specs.declared.State.the-variants.{Normal as BeforeSlash, SeenSlash}
+use Rattle.deflist.specs.declared.Written.{Written}
+use Rattle.deflist.specs.declared.WrittenPlace.{WrittenPlace}
+use Rattle.deflist.specs.declared.WrittenPlace.the-variants.{AtWritten, NoWritten}
+use Rattle.deflist.specs.declared.Flat.{Flat}
+use Rattle.deflist.specs.declared.Counts.{Counts}
+use Rattle.deflist.proofs.Steps.{clear-start}
+use Rattle.deflist.proofs.Theorems.{refused≢accepted}
 use Rattle.demand3.specs.Cut.{Ordinary, Before, noSlash, upToSlash, Star, noStar, bare, starred, Last}
 use Rattle.demand3.specs.Cut.{noKwargs, withKwargs, Cut, firsts, ordinary, slashPart}
 use Rattle.demand3.specs.Cut.{kwargsPart, join, SlashGood, StarGood, Good}

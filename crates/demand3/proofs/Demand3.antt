@@ -14,7 +14,7 @@ use mathlib.Core.List.{List}
 use Prim.Native.Nat.{ℕ, _<_, _≤_}
 use lib.ListN.{length, getD}
 use Rattle.table.specs.Answer.{accepted}
-use Rattle.unpack.specs.Written.{Param}
+use Rattle.deflist.specs.Written.{Param}
 use Rattle.parameters.specs.declared.Counted.{Counted}
 use Rattle.parameters.specs.Params.{unpacked, listOf, paramsOf, modesAfter}
 use Rattle.parameters.specs.declared.Unpacked.{Unpacked}

@@ -15,10 +15,10 @@ use Rattle.forest.specs.Names.{same}
 use Rattle.forest.specs.declared.Found.{Found}
 use Rattle.forest.specs.declared.Found.the-variants.{At, Nothing}
 use Rattle.forest.proofs.Named.{same-bytes-refl, same-bytes-equal}
-use Rattle.unpack.specs.Written.{Name, Param, normal, noArgs, slash, args, kwargs}
-use Rattle.unpack.specs.Unpack.{defaultRule, hasName, firstSame, repeats}
-use Rattle.unpack.specs.declared.Check.the-variants.{Fine}
-use Rattle.unpack.proofs.Steps.{broken≢fine}
+use Rattle.deflist.specs.Written.{Name, Param, normal, noArgs, slash, args, kwargs}
+use Rattle.deflist.specs.Unpack.{defaultRule, hasName, firstSame, repeats}
+use Rattle.deflist.specs.declared.Check.the-variants.{Fine}
+use Rattle.deflist.proofs.Steps.{broken≢fine}
 use Rattle.demand3.specs.Cut.{Ordinary, namesOf, defaultAt, Defaulted}
 use Rattle.demand3.proofs.Walks.{Fresh}
 use Rattle.demand3.proofs.Shapes.{Defaults}

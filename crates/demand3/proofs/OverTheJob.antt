@@ -14,11 +14,11 @@ use Rattle.table.specs.Answer.{accepted}
 use Rattle.table.specs.Check.{nodeFits, wants}
 use Rattle.table.specs.declared.Wanted.the-variants.{Parameters}
 use Rattle.table.proofs.Answers.{never-accepted}
-use Rattle.unpack.specs.Unpack.{unpack, modes}
+use Rattle.deflist.specs.Unpack.{unpack, modes}
 use Rattle.parameters.specs.Indices.{valuesOf}
 use Rattle.parameters.specs.declared.Range.{Range}
 use Rattle.parameters.specs.declared.Counted.{Counted}
-use Rattle.unpack.proofs.Theorems.{modes-short}
+use Rattle.deflist.proofs.Theorems.{modes-short}
 use Rattle.parameters.specs.Params.{unpacked, listOf, paramsOf, modesAfter}
 use Rattle.parameters.specs.declared.Unpacked.{Unpacked}
 use Rattle.parameters.specs.declared.Unpacked.the-variants.{Accepted, Refused}

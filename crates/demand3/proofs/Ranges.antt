@@ -10,7 +10,7 @@ use lib.Seq.{getD-append-add, drop-append-seam, take-append-seam}
 use lib.Dec.{leb, ltb}
 use borrow.Author.Tests.{leb-true, leb-false, ltb-true, ltb-false, lt-ltb, le-ltb}
 use Rattle.fields.specs.Choice.{if'}
-use Rattle.unpack.specs.Written.{Param, normal, noArgs, slash, args, kwargs}
+use Rattle.deflist.specs.Written.{Param, normal, noArgs, slash, args, kwargs}
 use Rattle.parameters.specs.Indices.{range, placeRange, placeOf, valuesOf, countedOf}
 use Rattle.demand3.specs.Cut.{Ordinary, Before, noSlash, upToSlash, Star, noStar, bare, starred, Last}
 use Rattle.demand3.specs.Cut.{noKwargs, withKwargs, Cut, firsts, afterStar, ordinary, slashPart, starPart}

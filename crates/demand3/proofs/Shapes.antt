@@ -8,14 +8,14 @@ use native.Mathlib.Omega.{arith}
 use lib.ListN.{length}
 use Rattle.fields.proofs.Basics.{never}
 use Rattle.forest.specs.Forest.{Node}
-use Rattle.unpack.specs.Written.{Name, Param, normal, noArgs, slash, args, kwargs, kindIn}
-use Rattle.unpack.specs.Unpack.{writtenAt, defaultRule, isSlash, slashFrom}
-use Rattle.unpack.specs.declared.State.the-variants.{Normal as BeforeSlash, SeenSlash, SeenStar, SeenStarStar}
-use Rattle.unpack.specs.declared.Check.the-variants.{Fine}
+use Rattle.deflist.specs.Written.{Name, Param, normal, noArgs, slash, args, kwargs, kindIn}
+use Rattle.deflist.specs.Unpack.{writtenAt, defaultRule, isSlash, slashFrom}
+use Rattle.deflist.specs.declared.State.the-variants.{Normal as BeforeSlash, SeenSlash, SeenStar, SeenStarStar}
+use Rattle.deflist.specs.declared.Check.the-variants.{Fine}
 use Rattle.fields.specs.Choice.{if'}
-use Rattle.unpack.specs.declared.Written.{Written}
-use Rattle.unpack.specs.declared.WrittenPlace.the-variants.{AtWritten, NoWritten}
-use Rattle.unpack.proofs.Steps.{broken≢fine}
+use Rattle.deflist.specs.declared.Written.{Written}
+use Rattle.deflist.specs.declared.WrittenPlace.the-variants.{AtWritten, NoWritten}
+use Rattle.deflist.proofs.Steps.{broken≢fine}
 use Rattle.demand3.specs.Cut.{Ordinary, Star, noStar, bare, starred, Last, noKwargs, withKwargs, ordinary}
 use Rattle.demand3.specs.Cut.{starPart, kwargsPart}
 use Rattle.demand3.proofs.Walks.{Rules}

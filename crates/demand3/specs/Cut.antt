@@ -8,8 +8,8 @@ use lib.Dec.{leb, ltb}
 use Rattle.forest.specs.Names.{Distinct}
 use Rattle.fields.specs.Choice.{if'}
 use Rattle.forest.specs.Forest.{Node}
-use Rattle.unpack.specs.Written.{Name, Param, normal, noArgs, slash, args, kwargs}
-use Rattle.unpack.specs.Unpack.{modePosOnly, modePosOrName, modeNameOnly, modeArgs, modeKwargs}
+use Rattle.deflist.specs.Written.{Name, Param, normal, noArgs, slash, args, kwargs}
+use Rattle.deflist.specs.Unpack.{modePosOnly, modePosOrName, modeNameOnly, modeArgs, modeKwargs}
 use Rattle.parameters.specs.Indices.{range}
 use Rattle.parameters.specs.declared.Range.{Range}
 

@@ -9,17 +9,17 @@ use borrow.Rule.Slice.PartMut.{putMid}
 use Rattle.fields.proofs.Basics.{never}
 use Rattle.dialect.specs.declared.Dialect.{Dialect}
 use Rattle.forest.specs.Forest.{nodeOf, spanOf, kidsOf, forest}
-use Rattle.unpack.specs.Written.{paramsIn, written}
-use Rattle.unpack.specs.Unpack.{Outcome, accepted, refused, internal, unpack}
-use Rattle.unpack.specs.Told.{fault, told}
-use Rattle.unpack.specs.Reading.{isListed, kindHere}
-use Rattle.unpack.specs.declared.Counts.{Counts}
-use Rattle.unpack.specs.declared.Kind.{Kind}
-use Rattle.unpack.specs.declared.Fault.{Fault}
-use Rattle.unpack.specs.declared.Judged.{Judged}
-use Rattle.unpack.specs.declared.Judged.the-variants.{Accepted, Refused}
-use Rattle.unpack.proofs.Reading.{node-in, kind-in, list-end, list-on}
-use Rattle.unpack.proofs.Theorems.{list-short, written-short}
+use Rattle.deflist.specs.Written.{paramsIn, written}
+use Rattle.deflist.specs.Unpack.{Outcome, accepted, refused, internal, unpack}
+use Rattle.deflist.specs.Told.{fault, told}
+use Rattle.deflist.specs.Reading.{isListed, kindHere}
+use Rattle.deflist.specs.declared.Counts.{Counts}
+use Rattle.deflist.specs.declared.Kind.{Kind}
+use Rattle.deflist.specs.declared.Fault.{Fault}
+use Rattle.deflist.specs.declared.Judged.{Judged}
+use Rattle.deflist.specs.declared.Judged.the-variants.{Accepted, Refused}
+use Rattle.deflist.proofs.Reading.{node-in, kind-in, list-end, list-on}
+use Rattle.deflist.proofs.Theorems.{list-short, written-short}
 use Rattle.errors.specs.declared.Err.{Err}
 use Rattle.errors.specs.Errors.{err, errAt, unless, width, Stores}
 use Rattle.errors.specs.Params.{withParams, isMark, permits, notPermitted, everyMark, marks, unpackError}

@@ -2,7 +2,7 @@
 use mathlib.Core.List.{List}
 use Prim.Native.Nat.{ℕ}
 use Rattle.forest.specs.Forest.{forest}
-use Rattle.unpack.specs.Written.{Param, paramsIn}
+use Rattle.deflist.specs.Written.{Param, paramsIn}
 use Rattle.errors.specs.declared.Err.{Err}
 use Rattle.errors.specs.Errors.{Stores}
 

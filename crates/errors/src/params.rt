@@ -4,17 +4,17 @@
 // Copyright 2018 The Starlark in Rust Authors. Copyright (c) Facebook, Inc. and its affiliates. Licensed under Apache-2.0.
 use crate::Err;
 use crate::Mark;
+use deflist::Fault;
+use deflist::Judged;
+use deflist::Kind;
+use deflist::entry;
 use dialect::Dialect;
 use table::numbers;
-use unpack::Fault;
-use unpack::Judged;
-use unpack::Kind;
-use unpack::entry;
 ghost use mathlib.Core.Path.{_≡_};
 ghost use Prim.Native.Nat.{_+_};
 ghost use Rattle.forest.specs.Forest.{nodeOf, kidsOf, forest};
-ghost use Rattle.unpack.specs.Written.{written};
-ghost use Rattle.unpack.specs.Unpack.{unpack};
+ghost use Rattle.deflist.specs.Written.{written};
+ghost use Rattle.deflist.specs.Unpack.{unpack};
 ghost use Rattle.errors.specs.Errors.{err, Stores};
 ghost use Rattle.errors.specs.Inner.{Anywhere};
 ghost use Rattle.errors.specs.Params.{isNoArgs, isMark, permits, notPermitted, everyMark, marks, unpackError, «validate_params», withParams};
@@ -41,7 +41,7 @@ pub fn with_params(
 fn validate_params(d: Dialect, names: &[u8], t: &[u8], at: u32, errors: &mut [u32]) -> usize
     ensures { λ r. ⌜ Stores («validate_params» d (written (now (names .entry)) at (now (t .entry)))) (now (errors .entry)) r (now (errors .exit)) ⌝ }
 {
-    let list = unpack::children(t);
+    let list = deflist::children(t);
     let stars = marks_of(d, Mark::Star, list, errors);
     let after_stars = crate::free(errors.len(), stars);
     let slashes = marks_of(d, Mark::Slash, list, &mut errors[after_stars..]);
@@ -54,7 +54,7 @@ fn validate_params(d: Dialect, names: &[u8], t: &[u8], at: u32, errors: &mut [u3
 fn unpack_error(names: &[u8], t: &[u8], at: u32, errors: &mut [u32]) -> usize
     ensures { λ r. ⌜ Stores (unpackError (unpack (written (now (names .entry)) at (now (t .entry))))) (now (errors .entry)) r (now (errors .exit)) ⌝ }
 {
-    let judged = unpack::judge(names, t, at);
+    let judged = deflist::judge(names, t, at);
     match judged {
         Judged::Accepted(_) => 0,
         Judged::Refused(f) => crate::push(error_of(f), errors),

@@ -5,9 +5,9 @@ use Prim.Native.Nat.{ℕ}
 use Rattle.forest.specs.Forest.{Node, Tree, node, none, _then_}
 use Rattle.soundness.specs.KindNumbers.{kindIdentifier, kindDot, kindIndex, kindIndex2, kindNormal, kindNoArgs, kindSlash, kindArgsParam, kindKwArgsParam, kindNamed, kindArgsArg}
 use Rattle.table.specs.Answer.{Answer, accepted, refused}
-use Rattle.unpack.specs.Written.{Param, normal, noArgs, slash, args, kwargs}
-use Rattle.unpack.specs.Unpack as def
-use Rattle.unpack.specs.Told.{internalError}
+use Rattle.deflist.specs.Written.{Param, normal, noArgs, slash, args, kwargs}
+use Rattle.deflist.specs.Unpack as def
+use Rattle.deflist.specs.Told.{internalError}
 use Rattle.parameters.specs.Indices.{range, namedOnly, countedOf}
 use Rattle.parameters.specs.declared.Counted.{Counted}
 use Rattle.table.specs.declared.Place.{Place}
@@ -16,7 +16,7 @@ use Rattle.parameters.specs.declared.Range.{Range}
 use Rattle.arguments.specs.Written as written
 use Rattle.arguments.specs.Call as call
 use Rattle.arguments.specs.Job.{outcomeAnswer}
-use Rattle.typerules.specs.Types.{«unpack»}
+use Rattle.types.specs.Types.{«unpack»}
 
 -- the names that trees speak of: type, a, b, f, x, y, int, str, one after the other
 abbrev pub names : List ℕ

@@ -8,7 +8,7 @@ use table::Checked;
 use table::Place;
 use table::Refusal;
 use targets::Targeted;
-use typerules::Shaped;
+use types::Shaped;
 use validate::Listed;
 ghost use mathlib.Core.Path.{_≡_};
 ghost use mathlib.Core.List.{[], _∷_};
@@ -20,8 +20,8 @@ ghost use Rattle.parameters.specs.Indices.{valuesOf};
 ghost use Rattle.parameters.specs.Params.{paramsOf, modesAfter};
 ghost use Rattle.arguments.specs.Job.{placeValues, callValues, callOf};
 ghost use Rattle.targets.specs.Jobs.{targetOf, assignmentOf};
-ghost use Rattle.typerules.specs.Jobs.{typeShapeOf};
-ghost use Rattle.types.specs.Jobs.{shapesAfter};
+ghost use Rattle.types.specs.Jobs.{typeShapeOf};
+ghost use Rattle.shapes.specs.Jobs.{shapesAfter};
 ghost use Rattle.validate.specs.Job.{moduleOf, errorsAfter};
 ghost use Rattle.ffi.specs.Words.{number, words, callWords, laid, Fit, placeIn};
 
@@ -201,7 +201,7 @@ pub extern "C" fn starlark_type(
     ensures { λ r. ⌜ now (out .exit) ≡ laid (words (typeShapeOf (now (table .entry)) (now (names .entry)) (now (dialect .entry)) node (length (now (shapes .entry))))) 0 (now (out .entry)) ⌝ }
     ensures { λ r. ⌜ now (shapes .exit) ≡ shapesAfter (now (table .entry)) (now (names .entry)) (now (dialect .entry)) node (now (shapes .entry)) ⌝ }
 {
-    let answer = types::type_shape(table, names, dialect, node, shapes);
+    let answer = shapes::type_shape(table, names, dialect, node, shapes);
     match answer {
         Shaped::Accepted => 0,
         Shaped::Refused(r) => put_refused(r, out),

@@ -16,16 +16,16 @@ use Rattle.table.specs.declared.Wanted.the-variants.{Parameters}
 use Rattle.table.proofs.Checking.{accepted-clean}
 use Rattle.table.proofs.Handed.{stretch-within}
 use Rattle.table.proofs.Entering.{entry-sound, sound-entry}
-use Rattle.unpack.specs.Written.{written}
-use Rattle.unpack.specs.Unpack as def
+use Rattle.deflist.specs.Written.{written}
+use Rattle.deflist.specs.Unpack as def
 use Rattle.parameters.specs.Indices.{placeRange, placeOf, valuesOf, countedOf}
-use Rattle.unpack.specs.Reading.{PlaceBelow, Bounded}
-use Rattle.unpack.specs.declared.FlatPlace.{FlatPlace}
-use Rattle.unpack.specs.declared.FlatPlace.the-variants.{AtFlat, NoFlat}
-use Rattle.unpack.specs.declared.Counts.{Counts}
-use Rattle.unpack.specs.Reached.{reached, AllAtMost}
-use Rattle.unpack.proofs.Theorems.{accepted-bounded, written-short}
-use Rattle.unpack.proofs.Counted.{counted-at-most, at-most-wider}
+use Rattle.deflist.specs.Reading.{PlaceBelow, Bounded}
+use Rattle.deflist.specs.declared.FlatPlace.{FlatPlace}
+use Rattle.deflist.specs.declared.FlatPlace.the-variants.{AtFlat, NoFlat}
+use Rattle.deflist.specs.declared.Counts.{Counts}
+use Rattle.deflist.specs.Reached.{reached, AllAtMost}
+use Rattle.deflist.proofs.Theorems.{accepted-bounded, written-short}
+use Rattle.deflist.proofs.Counted.{counted-at-most, at-most-wider}
 use Rattle.parameters.specs.Params.{answerOf, roomCheck, listAnswer, listOf, paramsOf}
 
 -- an accepted answer: the table is sound, the node fits, the buffer is long enough, and unpack accepts the list with these values

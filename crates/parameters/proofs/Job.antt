@@ -17,20 +17,20 @@ use Rattle.table.specs.declared.Checked.{Checked}
 use Rattle.table.specs.declared.Checked.the-variants.{Sound, Refused as Unsound}
 use Rattle.table.specs.declared.Wanted.the-variants.{Parameters}
 use Rattle.table.proofs.Entering.{job-refused, job-is}
-use Rattle.unpack.specs.Written.{paramsIn, writtenIn, written}
-use Rattle.unpack.specs.Unpack as def
-use Rattle.unpack.specs.Unpack.{modes}
-use Rattle.unpack.specs.Told.{told}
-use Rattle.unpack.specs.Reading.{Inside, PlaceBelow, Bounded}
-use Rattle.unpack.specs.declared.State.{State}
-use Rattle.unpack.specs.declared.FlatPlace.{FlatPlace}
-use Rattle.unpack.specs.declared.FlatPlace.the-variants.{AtFlat, NoFlat}
-use Rattle.unpack.specs.declared.Counts.{Counts}
-use Rattle.unpack.specs.declared.Judged.{Judged}
-use Rattle.unpack.specs.declared.Judged.the-variants.{Accepted, Refused}
-use Rattle.unpack.proofs.Theorems.{accepted-bounded, accepted-only, written-short, modes-short, told-accepted}
+use Rattle.deflist.specs.Written.{paramsIn, writtenIn, written}
+use Rattle.deflist.specs.Unpack as def
+use Rattle.deflist.specs.Unpack.{modes}
+use Rattle.deflist.specs.Told.{told}
+use Rattle.deflist.specs.Reading.{Inside, PlaceBelow, Bounded}
+use Rattle.deflist.specs.declared.State.{State}
+use Rattle.deflist.specs.declared.FlatPlace.{FlatPlace}
+use Rattle.deflist.specs.declared.FlatPlace.the-variants.{AtFlat, NoFlat}
+use Rattle.deflist.specs.declared.Counts.{Counts}
+use Rattle.deflist.specs.declared.Judged.{Judged}
+use Rattle.deflist.specs.declared.Judged.the-variants.{Accepted, Refused}
+use Rattle.deflist.proofs.Theorems.{accepted-bounded, accepted-only, written-short, modes-short, told-accepted}
 use Rattle.parameters.specs.declared.Counted.{Counted}
-use Rattle.unpack.specs.declared.Fault.{Fault}
+use Rattle.deflist.specs.declared.Fault.{Fault}
 use Rattle.parameters.specs.Indices.{valuesOf, countedOf}
 use Rattle.parameters.specs.Params.{answerOf, listAnswer, listOf, paramsOf, afterwards, modesAfter}
 use Rattle.parameters.specs.Writing.{isRefused, firstOf, judgedAnswer, Small, AtMost}

@@ -8,9 +8,9 @@ use Rattle.table.specs.Numbers.{shortBuffer}
 use Rattle.table.specs.Answer.{Answer, accepted, refused, andThen, refusedAt, refusal}
 use Rattle.table.specs.Check.{stretchOf, onNode}
 use Rattle.table.specs.declared.Wanted.the-variants.{Parameters}
-use Rattle.unpack.specs.Written.{Param, writtenIn, written}
-use Rattle.unpack.specs.Unpack as def
-use Rattle.unpack.specs.Told.{internalError}
+use Rattle.deflist.specs.Written.{Param, writtenIn, written}
+use Rattle.deflist.specs.Unpack as def
+use Rattle.deflist.specs.Told.{internalError}
 use Rattle.parameters.specs.Indices.{valuesOf, countedOf}
 use Rattle.parameters.specs.declared.Unpacked.{Unpacked}
 use Rattle.parameters.specs.declared.Unpacked.the-variants.{Accepted, Refused}

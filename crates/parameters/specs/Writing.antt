@@ -4,14 +4,14 @@ use mathlib.Core.List.{List, [], _∷_}
 use Prim.Native.Nat.{ℕ, zero, suc, _≤_, _<_, _^_}
 use lib.ListN.{length}
 use Rattle.forest.specs.Forest.{forest}
-use Rattle.unpack.specs.Written.{paramsIn}
-use Rattle.unpack.specs.Unpack.{firstState, modeOf}
-use Rattle.unpack.specs.declared.Kind.{Kind}
-use Rattle.unpack.specs.Reading.{Bounded}
-use Rattle.unpack.specs.declared.State.{State}
-use Rattle.unpack.specs.declared.State.the-variants.{SeenSlash}
-use Rattle.unpack.specs.declared.Judged.{Judged}
-use Rattle.unpack.specs.declared.Judged.the-variants.{Accepted, Refused}
+use Rattle.deflist.specs.Written.{paramsIn}
+use Rattle.deflist.specs.Unpack.{firstState, modeOf}
+use Rattle.deflist.specs.declared.Kind.{Kind}
+use Rattle.deflist.specs.Reading.{Bounded}
+use Rattle.deflist.specs.declared.State.{State}
+use Rattle.deflist.specs.declared.State.the-variants.{SeenSlash}
+use Rattle.deflist.specs.declared.Judged.{Judged}
+use Rattle.deflist.specs.declared.Judged.the-variants.{Accepted, Refused}
 use Rattle.table.specs.Answer.{Answer, accepted, refused}
 use Rattle.parameters.specs.Indices.{valuesOf, countedOf}
 

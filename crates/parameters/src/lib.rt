@@ -4,20 +4,20 @@
 // Copyright 2018 The Starlark in Rust Authors. Copyright (c) Facebook, Inc. and its affiliates. Licensed under Apache-2.0.
 pub mod indices;
 
+use deflist::Counts;
+use deflist::Fault;
+use deflist::Flat;
+use deflist::FlatPlace;
+use deflist::Judged;
+use deflist::Kind;
+use deflist::State;
+use deflist::entry;
+use deflist::states;
 use table::Checked;
 use table::Place;
 use table::Refusal;
 use table::Wanted;
 use table::numbers;
-use unpack::Counts;
-use unpack::Fault;
-use unpack::Flat;
-use unpack::FlatPlace;
-use unpack::Judged;
-use unpack::Kind;
-use unpack::State;
-use unpack::entry;
-use unpack::states;
 ghost use mathlib.Core.Path.{_≡_};
 ghost use mathlib.Core.Bool.{true};
 ghost use mathlib.Core.List.{List, [], _∷_};
@@ -26,10 +26,10 @@ ghost use lib.ListN.{length};
 ghost use lib.Seq.{sets};
 ghost use Rattle.forest.specs.Forest.{forest};
 ghost use Rattle.table.specs.Answer.{refused, refusal as refusalOf};
-ghost use Rattle.unpack.specs.Written.{paramsIn, written};
-ghost use Rattle.unpack.specs.Unpack.{modesFrom, modes as modesOf};
-ghost use Rattle.unpack.specs.Reading.{PlaceBelow, Bounded};
-ghost use Rattle.unpack.specs.declared.Kind.the-variants.{Normal};
+ghost use Rattle.deflist.specs.Written.{paramsIn, written};
+ghost use Rattle.deflist.specs.Unpack.{modesFrom, modes as modesOf};
+ghost use Rattle.deflist.specs.Reading.{PlaceBelow, Bounded};
+ghost use Rattle.deflist.specs.declared.Kind.the-variants.{Normal};
 ghost use Rattle.parameters.specs.Indices.{placeOf, countedOf};
 ghost use Rattle.parameters.specs.Params.{unpacked, listAnswer, paramsOf, afterwards, modesAfter};
 ghost use Rattle.parameters.specs.Writing.{isRefused, firstOf, judgedAnswer, Small, modeByte, modeIn, AtMost};
@@ -78,11 +78,11 @@ fn unpack_into(names: &[u8], t: &[u8], node: u32, modes: &mut [u8]) -> Unpacked
     ensures { λ r. ⌜ unpacked r ≡ listAnswer (written (now (names .entry)) node (now (t .entry))) (length (now (modes .entry))) ⌝ }
     ensures { λ r. ⌜ now (modes .exit) ≡ afterwards (listAnswer (written (now (names .entry)) node (now (t .entry))) (length (now (modes .entry)))) (modesOf (written (now (names .entry)) node (now (t .entry)))) (now (modes .entry)) ⌝ }
 {
-    let kids = unpack::children(t);
+    let kids = deflist::children(t);
     if modes.len() < list_length(kids) {
         return Unpacked::Refused(Refusal::Bare(numbers::SHORT_BUFFER));
     }
-    let judged = unpack::judge(names, t, node);
+    let judged = deflist::judge(names, t, node);
     if is_refused(judged) {
         return answer(judged);
     }

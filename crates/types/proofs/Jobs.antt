@@ -1,84 +1,92 @@
--- Laws of the type job and its buffer, in the terms of code: one for each return. Assumes nothing.
-use mathlib.Core.Path.{_≡_, refl, sym, _∙_}
-use mathlib.Core.Bool.{Bool, true, false, false≢true}
+-- Laws of the type job's answer, in the terms of code: one for each return. Assumes nothing.
+use mathlib.Core.Path.{_≡_, refl, sym, ap, _∙_}
+use mathlib.Core.Bool.{Bool, true, false}
 use mathlib.Core.List.{List, []}
-use Prim.Native.Nat.{ℕ, _+_, _/_, _≤_}
-use native.Mathlib.Omega.{arith}
+use Prim.Native.Nat.{ℕ, _+_, _*_, _/_, _<_, _≤_}
 use lib.ListN.{length}
-use borrow.Author.Tests.{leb-true}
-use Rattle.fields.specs.Choice.{if'}
+use borrow.Author.Tests.{le-leb, lt-leb}
+use Rattle.fields.proofs.Basics.{never}
 use Rattle.forest.specs.Forest.{nodeOf, treeOf}
-use Rattle.table.specs.Answer.{Answer, accepted, refused, andThen}
-use Rattle.table.specs.Check.{Handing, inDialect, turnedAway, givenOf, inGiven, nodeFits, nodeCheck, stretchOf}
+use Rattle.dialect.specs.Rows.{permitsTypes}
+use Rattle.dialect.specs.Bytes.{fromBytes}
+use Rattle.dialect.specs.declared.Dialect.{Dialect}
+use Rattle.dialect.specs.declared.DialectTypes.{DialectTypes}
+use Rattle.dialect.specs.declared.Decoded.{Decoded}
+use Rattle.dialect.specs.declared.Decoded.the-variants.{Valid, Invalid}
+use Rattle.table.specs.Numbers.{wrongNode, shortBuffer, typesDisabled}
+use Rattle.table.specs.Answer.{Answer, accepted, refused, refusedAt, refusal}
+use Rattle.table.specs.Check.{checkOf, inDialect, given, handing, givenOf, nodeFits, stretchOf}
+use Rattle.table.specs.declared.Refusal.{Refusal}
+use Rattle.table.specs.declared.Given.{Given}
+use Rattle.table.specs.declared.Given.the-variants.{In, Refused}
 use Rattle.table.specs.declared.Wanted.the-variants.{Expression}
+use Rattle.table.proofs.Checking.{check-values}
 use Rattle.table.proofs.Handed.{passed, stretch-within}
-use Rattle.typerules.specs.Types.{typesCheck, «unpack», «dialect_check_type»}
-use Rattle.typerules.specs.Jobs.{roomCheck, typeAt, typeShapeOf}
-use Rattle.typerules.proofs.Jobs.{given-sound}
-use Rattle.types.specs.Shapes.{shapesOf, written, isRefused}
-use Rattle.types.specs.Jobs.{shapesAfter}
+use Rattle.types.specs.Types.{«unpack», «dialect_check_type»}
+use Rattle.types.specs.Jobs.{typeAt, typeShapeOf}
 
--- an answer that is no refusal
-abbrev pub Passes : Answer → Type 0
-Passes (accepted vs) = Unit {0}
-Passes (refused n vs) = ⊥
+-- a type in a dialect
+module _ (names : List ℕ) (types : DialectTypes) (i : ℕ) (t : List ℕ) {p : Bool} (p-is : p ≡ permitsTypes types)
+    {r : Answer} where
+  pub check-disabled : p ≡ false → r ≡ refusedAt typesDisabled (nodeOf i t)
+      → r ≡ «dialect_check_type» names types (treeOf i t)
+  unfolding «dialect_check_type»
+  check-disabled h r-is = r-is ∙ rw (← p-is, h) refl
 
-not-refused : (x : Answer) → isRefused x ≡ false → Passes x
-not-refused (accepted vs) e = tt
-not-refused (refused n vs) e = absurd (false≢true (sym e))
+  pub check-type : p ≡ true → r ≡ «unpack» names (treeOf i t) → r ≡ «dialect_check_type» names types (treeOf i t)
+  unfolding «dialect_check_type»
+  check-type h r-is = r-is ∙ rw (← p-is, h) refl
 
--- LAW: both steps of an answer that passes do, and a test in it is met
-pub both-pass : (x : Answer) (next : Unit {0} → Answer) → Passes (andThen x next) → Passes x × Passes (next tt)
-both-pass (accepted vs) next p = (tt, p)
-both-pass (refused n vs) next p = absurd p
+-- the job on a node of a sound table
+module _ (t names : List ℕ) (types : DialectTypes) (i room : ℕ) {b : Bool} (b-is : b ≡ nodeFits t i Expression)
+  where
+    pub at-no-node : b ≡ false → refused wrongNode [] ≡ typeAt t names types i room
+    unfolding typeAt
+    at-no-node h = rw (← b-is, h) refl
 
-test-passes : (b : Bool) (n : ℕ) → Passes (if' b (λ _. accepted []) (λ _. refused n [])) → b ≡ true
-test-passes true n p = refl
-test-passes false n p = absurd p
+    module _ (fits : b ≡ true) {u : List ℕ} (u-is : u ≡ stretchOf t i) where
+      pub at-short : room < length u / 24 → refused shortBuffer [] ≡ typeAt t names types i room
+      unfolding typeAt
+      at-short h = rw (← b-is, fits, ← u-is, lt-leb (length u / 24) room h) refl
 
--- LAW: what acceptance says: the node has a stretch, the buffer has room, and the node's tree passes the type rule
-pub record Says (t names : List ℕ) (i room : ℕ) : Type 0 where
-  pub long : 24 ≤ length (stretchOf t i)
-  pub fits : length (stretchOf t i) / 24 ≤ room
-  pub passes : Passes («unpack» names (treeOf i (stretchOf t i)))
+      pub at-type : length u / 24 ≤ room → {r : Answer} → r ≡ «dialect_check_type» names types (treeOf i u)
+          → r ≡ typeAt t names types i room
+      unfolding typeAt
+      at-type h r-is = r-is ∙ rw (← b-is, fits, ← u-is, le-leb (length u / 24) room h) refl
 
-module _ (t names bytes : List ℕ) (i room : ℕ) where
-  passing-says : Passes (typeShapeOf t names bytes i room) → Says t names i room
-  unfolding typeShapeOf typeAt «dialect_check_type»
-  passing-says p = go (givenOf t names bytes) refl p
-    where
-      go : (h : Handing) → h ≡ givenOf t names bytes
-          → Passes (inGiven h (λ d. typeAt t names (d .«enable_types») i room)) → Says t names i room
-      go (turnedAway n vs) h-is p = absurd p
-      go (inDialect d) h-is p =
-          let node = both-pass (nodeCheck t i Expression) _ p in
-          let buffer = both-pass (roomCheck room (stretchOf t i)) _ (node .1) in
-          let types = both-pass (typesCheck (d .«enable_types») (nodeOf i (stretchOf t i))) _ (buffer .1) in
-          let clean = passed t names (given-sound t names bytes h-is) in
-          record {
-            long = stretch-within t names i Expression clean (test-passes (nodeFits t i Expression) _ (node .0)) .0;
-            fits = leb-true (length (stretchOf t i) / 24) room (test-passes _ _ (buffer .0));
-            passes = types .1;
-          }
+      -- its stretch has a record or more, and lies within the table
+      module _ (sound : accepted [] ≡ checkOf t names) where
+        at-fits : (24 ≤ length u) × (24 * i + length u ≤ 50400)
+        at-fits = rw u-is (stretch-within t names i Expression (passed t names sound) (sym b-is ∙ fits))
 
-  pub accepted-says : {vs : List ℕ} → accepted vs ≡ typeShapeOf t names bytes i room → Says t names i room
-  accepted-says e = passing-says (rw (← e) tt)
+        pub at-long : 24 ≤ length u
+        at-long = at-fits .0
 
--- the job, by its judgement a and whether that is a refusal
-module _ (t names bytes : List ℕ) (i : ℕ) (s : List ℕ) {a : Answer}
-    (a-is : a ≡ typeShapeOf t names bytes i (length s)) {q : Bool} (q-is : q ≡ isRefused a) where
-  pub job-refused : q ≡ true → s ≡ shapesAfter t names bytes i s
-  job-refused h = rw (← a-is, ← q-is, h) refl
+        pub at-within : 24 * i + length u ≤ 50400
+        at-within = at-fits .1
 
-  module _ (no : q ≡ false) {u : List ℕ} (u-is : u ≡ stretchOf t i) where
-    says : Says t names i (length s)
-    says = passing-says t names bytes i (length s) (rw (← a-is) (not-refused a (sym q-is ∙ no)))
+-- LAW: a job in a dialect has a table that passes the check
+pub given-sound : (t names bytes : List ℕ) {d : Dialect} → inDialect d ≡ givenOf t names bytes
+    → accepted [] ≡ checkOf t names
+unfolding givenOf
+given-sound t names bytes {d} e = go (checkOf t names) (fromBytes bytes) refl e
+  where
+    go : (a : Answer) (x : Decoded) → checkOf t names ≡ a → inDialect d ≡ handing a x → accepted [] ≡ checkOf t names
+    go (accepted vs) (Valid v) a-is e = sym (a-is ∙ ap accepted (check-values t names a-is))
+    go (accepted vs) Invalid a-is e = never (cc)
+    go (refused n vs) x a-is e = never (cc)
 
-    pub job-long : 24 ≤ length u
-    job-long = rw u-is (says .long)
+-- the whole job, by what it is given
+module _ (t names bytes : List ℕ) {g : Given} (g-is : given g ≡ givenOf t names bytes) where
+  pub job-refused : (i room : ℕ) {why : Refusal} → g ≡ Refused why → refusal why ≡ typeShapeOf t names bytes i room
+  unfolding typeShapeOf
+  job-refused i room h = rw (← g-is, h) refl
 
-    pub job-room : 0 + length u / 24 ≤ length s
-    job-room = rw u-is (omega (arith, says .fits))
+  module _ {d : Dialect} (h : g ≡ In d) where
+    pub job-type : (i room : ℕ) {r : Answer} → r ≡ typeAt t names (d .«enable_types») i room
+        → r ≡ typeShapeOf t names bytes i room
+    unfolding typeShapeOf
+    job-type i room r-is = r-is ∙ rw (← g-is, h) refl
 
-    pub job-written : {v : List ℕ} → v ≡ written (shapesOf (treeOf 0 u)) s → v ≡ shapesAfter t names bytes i s
-    job-written v-is = rw (← a-is, ← q-is, no, ← u-is) v-is
+    pub job-sound : accepted [] ≡ checkOf t names
+    job-sound = given-sound t names bytes (sym (ap given h) ∙ g-is)

@@ -16,7 +16,7 @@ use Rattle.soundness.specs.Kinds.{classOf}
 use Rattle.table.specs.Numbers.{defNotPermitted, topLevelFor, topLevelIf, breakMisplaced, continueMisplaced}
 use Rattle.table.specs.Numbers.{returnMisplaced, loadNotAtTop, loadNotPermitted, ellipsisNotPermitted}
 use Rattle.table.specs.Numbers.{lambdaNotPermitted}
-use Rattle.unpack.proofs.Theorems.{list-short}
+use Rattle.deflist.proofs.Theorems.{list-short}
 use Rattle.errors.specs.declared.Err.{Err}
 use Rattle.errors.specs.Errors.{errAt, unless, width, Stores}
 use Rattle.errors.specs.Params.{withParams}
