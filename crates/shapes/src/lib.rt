@@ -1,5 +1,5 @@
 // The type job: a type is judged, and the shapes of what is read go into a buffer.
-mod writing;
+mod walk;
 
 use types::Shaped;
 ghost use mathlib.Core.Path.{_≡_};
@@ -24,7 +24,7 @@ pub fn type_shape(
         return judged;
     }
     let t = table::stretch(table, node);
-    writing::write_type(t, 0, shapes);
+    walk::write_type(t, 0, shapes);
     judged
 }
 

@@ -4,8 +4,8 @@
 // a type is a stretch of the node table, and its first refusal is the answer.
 // Copyright 2018 The Starlark in Rust Authors. Copyright (c) Facebook, Inc. and its affiliates. Licensed under Apache-2.0.
 pub mod forms;
-mod paths;
 mod judging;
+mod paths;
 
 use dialect::DialectTypes;
 use table::Given;

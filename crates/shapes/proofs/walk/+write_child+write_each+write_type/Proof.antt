@@ -10,22 +10,22 @@ use Rattle.shapes.proofs.Writing.{child-argument, Writing, each-start, 
 use Prim.Native.Nat.{ℕ, _<_}
 use borrow.Fn.Kinds.{In}
 use borrow.Fn.PlainCycle.{Measures, is, falls, and}
-use Rattle.shapes.proofs.writing.write_child.Reads as write-child
-use Rattle.shapes.proofs.writing.write_child.Kinds as write-child-kinds
-use Rattle.shapes.proofs.writing.+write_child+write_each+write_type.Lts-write_child as write-child-lts
-use Rattle.shapes.proofs.writing.write_each.Reads as write-each
-use Rattle.shapes.proofs.writing.write_each.Kinds as write-each-kinds
-use Rattle.shapes.proofs.writing.+write_child+write_each+write_type.Lts-write_each as write-each-lts
-use Rattle.shapes.proofs.writing.write_type.Reads as write-type
-use Rattle.shapes.proofs.writing.write_type.Kinds as write-type-kinds
-use Rattle.shapes.proofs.writing.+write_child+write_each+write_type.Lts-write_type as write-type-lts
+use Rattle.shapes.proofs.walk.write_child.Reads as write-child
+use Rattle.shapes.proofs.walk.write_child.Kinds as write-child-kinds
+use Rattle.shapes.proofs.walk.+write_child+write_each+write_type.Lts-write_child as write-child-lts
+use Rattle.shapes.proofs.walk.write_each.Reads as write-each
+use Rattle.shapes.proofs.walk.write_each.Kinds as write-each-kinds
+use Rattle.shapes.proofs.walk.+write_child+write_each+write_type.Lts-write_each as write-each-lts
+use Rattle.shapes.proofs.walk.write_type.Reads as write-type
+use Rattle.shapes.proofs.walk.write_type.Kinds as write-type-kinds
+use Rattle.shapes.proofs.walk.+write_child+write_each+write_type.Lts-write_type as write-type-lts
 use Rattle.forest.proofs.kind.Reads as kind-reads
 use Rattle.forest.proofs.span.Reads as span-reads
 use Rattle.types.proofs.forms.form.Reads as form-reads
 use Rattle.types.proofs.forms.reads_of.Reads as reads-of-reads
 use Rattle.types.proofs.forms.shape_of.Reads as shape-of-reads
-use Rattle.shapes.proofs.writing.+write_child+write_each+write_type.{statement}
-use Rattle.shapes.proofs.writing.+write_child+write_each+write_type.Tie.{close}
+use Rattle.shapes.proofs.walk.+write_child+write_each+write_type.{statement}
+use Rattle.shapes.proofs.walk.+write_child+write_each+write_type.Tie.{close}
 
 abbrev μ-write-child : Measures 2 write-child-kinds.ps ℕ
 μ-write-child κs a = 3 * length (a .1 .0 .now) + 1
