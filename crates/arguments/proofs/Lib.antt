@@ -1,9 +1,7 @@
-pub mod Steps
-pub mod Calls
-pub mod Never
-pub mod Order
 pub mod Names
+pub mod Order
 pub mod Converse
-pub mod Sound
+pub mod Steps
+pub mod Walking
 pub mod Promises
 pub mod AcceptedCalls

@@ -1,160 +1,112 @@
--- The names of an accepted list of arguments are distinct. Assumes nothing.
+-- Names: the search among earlier arguments finds none exactly where the names stay distinct. Assumes nothing.
 use mathlib.Core.Path.{_≡_, refl, sym, ap, _∙_}
 use mathlib.Core.Bool.{Bool, true, false}
-use mathlib.Core.List.{List}
-use mathlib.Core.Logic.{_⊎_, inl, inr, ⊎-elim}
-use Prim.Native.Nat.{ℕ, _+_, _/_, _<_, _≤_}
+use mathlib.Core.Logic.{⊎-elim}
+use mathlib.Core.List.{List, [], _∷_, _++_, append-nil}
+use Prim.Native.Nat.{ℕ, zero, suc, _+_, _<_}
+use native.Mathlib.Nat.{eq-or-lt-of-le}
 use native.Mathlib.Omega.{arith}
-use lib.ListN.{length}
-use lib.Dec.{eqb, ltb}
-use borrow.Author.Tests.{eqb-true, eq-eqb, lt-ltb}
+use lib.ListN.{length, getD, length-append, List·getD-append}
+use lib.Seq.{getD-append-seam}
+use Rattle.forest.specs.Names.{Distinct}
+use Rattle.fields.proofs.Basics.{never}
 use Rattle.fields.specs.Choice.{if'}
-use Rattle.forest.specs.Forest.{Node, nodeOf, spanOf, kidsOf, restOf, node, Forest, none, _then_, forest}
-use Rattle.forest.specs.Names.{nameOf, same, firstNamed}
+use Rattle.forest.specs.Names.{same}
 use Rattle.forest.specs.declared.Found.{Found}
 use Rattle.forest.specs.declared.Found.the-variants.{At, Nothing}
-use Rattle.forest.proofs.Stretch.{forest-none, forest-tree, forest-induction}
-use Rattle.forest.proofs.Named.{same-bytes-refl}
-use Rattle.soundness.specs.KindNumbers.{kindPositional, kindNamed, kindArgsArg, kindKwArgsArg}
+use Rattle.forest.proofs.Named.{same-bytes-refl, same-bytes-equal}
 use Rattle.table.specs.Numbers.{namedAfterStar}
-use Rattle.arguments.specs.Call.{Named, start, withNamed, Outcome, on, refusedWith, repeatedName}
-use Rattle.arguments.specs.Call.{internalError, before, repeated, positionalRule, namedRule, argsRule}
-use Rattle.arguments.specs.Call.{kwargsRule, stepBy, step, after, run, unpack}
-use Rattle.arguments.specs.Accepted.{readAs, NotNamed, Distinct}
-use Rattle.arguments.specs.declared.Walk.{Walk}
-use Rattle.arguments.proofs.Order.{accepted-run}
+use Rattle.arguments.specs.Written.{Name, Argument, positional, named, args, kwargs}
+use Rattle.arguments.specs.Call.{pastNamed, hasName, firstSame, repeats, newName, check}
+use Rattle.arguments.specs.Accepted.{namesOf}
+use Rattle.arguments.specs.declared.ArgsStage.{ArgsStage}
+use Rattle.arguments.specs.declared.Check.the-variants.{Fine, Broken}
 
-never : {P : Type 0} → _≡_ {A = ℕ} 0 1 → P
-never z = absurd (omega arith)
+-- no name of a list is x
+abbrev Absent : Name → List Name → Type 0
+Absent x ns = (i : ℕ) → i < length ns → getD ns i [] ≡ x → ⊥
 
--- a named argument that the walk passes is the first of its name
-unfoldable pub Fresh : List ℕ → Forest → Forest → Type 0
-Fresh names w none = Unit {0}
-Fresh names w (node r ks then f) = (readAs (r .kind) ≡ kindNamed → repeated names w r ≡ false) × Fresh names w f
-
-named-fresh : (s : Walk) (n : Node) (b : Bool) (t : Walk) → namedRule s b n ≡ on t → b ≡ false
-unfolding namedRule
-named-fresh s n b t h = go (ltb Named (s .stage)) b h
+-- the search finds none exactly when the name is none of theirs
+none-absent : (x : Name) (l : List Argument) → firstSame x l ≡ Nothing → Absent x (namesOf l)
+unfolding firstSame hasName
+none-absent x [] e = λ i h q. absurd (omega arith)
+none-absent x (positional r ∷ l) e = none-absent x l e
+none-absent x (args r ∷ l) e = none-absent x l e
+none-absent x (kwargs r ∷ l) e = none-absent x l e
+none-absent x (named r n ∷ l) e = go (same n x) refl e (none-absent x l)
   where
-    go : (l b : Bool) → if' l (λ _. refusedWith namedAfterStar n)
-        (λ _. if' b (λ _. repeatedName n) (λ _. on (withNamed s))) ≡ on t → b ≡ false
-    go true b h = never (cc)
-    go false true h = never (cc)
-    go false false h = refl
+    go : (b : Bool) → same n x ≡ b → if' b (λ _. At (r .at)) (λ _. firstSame x l) ≡ Nothing
+        → (firstSame x l ≡ Nothing → Absent x (namesOf l)) → Absent x (n ∷ namesOf l)
+    go true s e rest i h q = never (cc)
+    go false s e rest zero h q = let hit : true ≡ false = sym (same-bytes-refl x) ∙ rw q at s in never (cc)
+    go false s e rest (suc i) h q = rest e i (omega arith) q
 
-step-fresh : (s : Walk) (n : Node) (kind : ℕ) (b : Bool) (t : Walk) → stepBy s kind b n ≡ on t
-    → readAs kind ≡ kindNamed → b ≡ false
-unfolding stepBy readAs
-step-fresh s n kind b t h k = go (eqb kind kindPositional) (eqb kind kindNamed) (eqb kind kindArgsArg) h k
+absent-none : (x : Name) (l : List Argument) → Absent x (namesOf l) → firstSame x l ≡ Nothing
+unfolding firstSame hasName
+absent-none x [] a = refl
+absent-none x (positional r ∷ l) a = absent-none x l a
+absent-none x (args r ∷ l) a = absent-none x l a
+absent-none x (kwargs r ∷ l) a = absent-none x l a
+absent-none x (named r n ∷ l) a = go (same n x) refl
+    (absent-none x l (λ (i : ℕ) (h : i < length (namesOf l)) (q : getD (namesOf l) i [] ≡ x).
+    a (suc i) (omega arith) q))
   where
-    go : (p q r : Bool) → if' p (λ _. positionalRule s n)
-        (λ _. if' q (λ _. namedRule s b n) (λ _. if' r (λ _. argsRule s n) (λ _. kwargsRule s n))) ≡ on t
-        → if' p (λ _. kindPositional) (λ _. if' q (λ _. kindNamed)
-        (λ _. if' r (λ _. kindArgsArg) (λ _. kindKwArgsArg))) ≡ kindNamed → b ≡ false
-    go true q r h k = absurd (omega arith)
-    go false true r h k = named-fresh s n b t h
-    go false false true h k = absurd (omega arith)
-    go false false false h k = absurd (omega arith)
+    go : (b : Bool) → same n x ≡ b → firstSame x l ≡ Nothing → if' b (λ _. At (r .at)) (λ _. firstSame x l) ≡ Nothing
+    go true s rest = absurd (a 0 (omega arith) (same-bytes-equal n x s))
+    go false s rest = rest
 
-run-fresh : (names : List ℕ) (w f : Forest) (s t : Walk) → run names w s f ≡ on t → Fresh names w f
-unfolding run Fresh
-run-fresh names w none s t h = tt
-run-fresh names w (node r ks then f) s t h = go (step names w s r) refl h
-    (λ (u : Walk) (g : run names w u f ≡ on t). run-fresh names w f u t g)
-  where
-    go : (o : Outcome) → step names w s r ≡ o → after o (λ (u : Walk). run names w u f) ≡ on t
-        → ((u : Walk) → run names w u f ≡ on t → Fresh names w f)
-        → (readAs (r .kind) ≡ kindNamed → repeated names w r ≡ false) × Fresh names w f
-    go (on u) o-is h rest = (step-fresh s r (r .kind) (repeated names w r) u o-is, rest u h)
-    go (refusedWith n q) o-is h rest = never (cc)
-    go (repeatedName q) o-is h rest = never (cc)
-    go internalError o-is h rest = never (cc)
-
--- the nodes side by side in a stretch have growing indices
-unfoldable pub Ascending : ℕ → Forest → Type 0
-Ascending i none = Unit {0}
-Ascending i (node r ks then f) = (i ≤ r .at) × Ascending (r .at + 1) f
-
-ascending-lower : (i j : ℕ) (f : Forest) → i ≤ j → Ascending j f → Ascending i f
-unfolding Ascending
-ascending-lower i j none h a = tt
-ascending-lower i j (node r ks then f) h (b, a) = (omega arith, a)
-
-pub ascending-forest : (i : ℕ) (bs : List ℕ) → Ascending i (forest i bs)
-unfolding Ascending
-ascending-forest =
-    forest-induction (λ i bs. Ascending i (forest i bs))
-    (λ i bs s. rw (forest-none i bs s) tt)
-    (λ i bs big ks rs. rw (forest-tree i bs big) (
-      omega arith,
-      ascending-lower (i + 1) (i + spanOf bs / 24) (forest (i + spanOf bs / 24) (restOf bs))
-          (omega arith) rs,
-    ))
-
--- a node that stands among those side by side
-unfoldable pub In : Node → Forest → Type 0
-In r none = ⊥
-In r (node q ks then f) = (q ≡ r) ⊎ In r f
-
--- a search for the name of a node among them ends no later than there
-abbrev Upto : ℕ → Found → Type 0
-Upto i (At a) = a ≤ i
-Upto i Nothing = ⊥
-
-found-upto : (names name : List ℕ) (i : ℕ) (f : Forest) (r : Node) → Ascending i f → In r f → nameOf names r ≡ name
-    → (i ≤ r .at) × Upto (r .at) (firstNamed names name f)
-unfolding In Ascending firstNamed
-found-upto names name i none r a m e = absurd m
-found-upto names name i (node q ks then f) r (b, a) m e =
+-- a name more, and the names before one
+distinct-more : (ns : List Name) (x : Name) → Distinct ns → Absent x ns → Distinct (ns ++ x ∷ [])
+distinct-more ns x d a i j h g e =
+    let long = length-append ns (x ∷ []) in
+    let i-in : i < length ns = omega arith in
+    let left : getD (ns ++ x ∷ []) i [] ≡ getD ns i [] = List·getD-append ns (x ∷ []) [] i i-in in
     ⊎-elim
-    (λ (same-node : q ≡ r).
-    let hit : same (nameOf names q) name ≡ true = rw (same-node, e) (same-bytes-refl name) in
-    let at : q .at ≡ r .at = ap (λ (n : Node). n .at) same-node in
-    rw hit (omega arith, omega arith))
-    (λ (later : In r f).
-    let rest = found-upto names name (q .at + 1) f r a later e in
-    (omega arith, go (same (nameOf names q) name) (rest .0) (rest .1)))
-    m
+    (λ (q : j ≡ length ns). a i i-in (sym left ∙ e ∙ ap (λ (m : ℕ). getD (ns ++ x ∷ []) m []) q
+    ∙ getD-append-seam ns x [] []))
+    (λ (q : j < length ns). d i j h q (sym left ∙ e ∙ List·getD-append ns (x ∷ []) [] j q))
+    (eq-or-lt-of-le {n = j} {m = length ns} (omega arith))
+
+absent-before : (ns : List Name) (x : Name) (ms : List Name) → Distinct (ns ++ x ∷ ms) → Absent x ns
+absent-before ns x ms d i h q = d i (length ns) h (simp length-append (omega arith))
+    (List·getD-append ns (x ∷ ms) [] i h ∙ q ∙ sym (getD-append-seam ns x ms []))
+
+names-append : (a b : List Argument) → namesOf (a ++ b) ≡ namesOf a ++ namesOf b
+names-append [] b = refl
+names-append (positional r ∷ a) b = names-append a b
+names-append (named r n ∷ a) b = ap (λ (l : List Name). n ∷ l) (names-append a b)
+names-append (args r ∷ a) b = names-append a b
+names-append (kwargs r ∷ a) b = names-append a b
+
+-- LAW: an argument that repeats no name keeps the names distinct
+pub names-more : (before : List Argument) (p : Argument) → Distinct (namesOf before) → repeats before p ≡ Nothing
+    → Distinct (namesOf (before ++ p ∷ []))
+unfolding repeats
+names-more before (positional r) d e = rw (names-append, append-nil) d
+names-more before (named r n) d e = rw names-append (distinct-more (namesOf before) n d (none-absent n before e))
+names-more before (args r) d e = rw (names-append, append-nil) d
+names-more before (kwargs r) d e = rw (names-append, append-nil) d
+
+-- LAW: where the names are distinct, none repeats one before it
+pub names-new : (before : List Argument) (p : Argument) (ps : List Argument) → Distinct (namesOf (before ++ p ∷ ps))
+    → repeats before p ≡ Nothing
+unfolding repeats
+names-new before (positional r) ps d = refl
+names-new before (named r n) ps d = absent-none n before
+    (absent-before (namesOf before) n (namesOf ps) (rw names-append at d))
+names-new before (args r) ps d = refl
+names-new before (kwargs r) ps d = refl
+
+-- LAW: an argument that passes the check repeats no name
+pub fine-new : (before : List Argument) (s : ArgsStage) (p : Argument) → check before s p ≡ Fine
+    → repeats before p ≡ Nothing
+unfolding repeats check
+fine-new before s (positional r) e = refl
+fine-new before s (named r n) e = go (pastNamed s) (firstSame n before) e
   where
-    go : (b : Bool) → q .at + 1 ≤ r .at → Upto (r .at) (firstNamed names name f)
-        → Upto (r .at) (if' b (λ _. At (q .at)) (λ _. firstNamed names name f))
-    go true h u = omega arith
-    go false h u = u
-
--- so a later argument of an earlier one's name would be repeated
-later-repeated : (names : List ℕ) (i : ℕ) (w : Forest) (r q : Node) → Ascending i w → In r w
-    → nameOf names q ≡ nameOf names r → r .at < q .at → repeated names w q ≡ false → ⊥
-unfolding repeated
-later-repeated names i w r q a m e h f =
-    go (firstNamed names (nameOf names q) w) (found-upto names (nameOf names q) i w r a m (sym e) .1) f
-  where
-    go : (x : Found) → Upto (r .at) x → before x (q .at) ≡ false → ⊥
-    go (At j) u f = let z : _≡_ {A = ℕ} 0 1 = cc (lt-ltb j (q .at) (omega arith)) in omega arith
-    go Nothing u f = u
-
-module _ (names : List ℕ) (i : ℕ) (w : Forest) (a : Ascending i w) where
-  none-named : (f : Forest) (j : ℕ) (r : Node) → In r w → r .at < j → Ascending j f → Fresh names w f
-      → NotNamed names (nameOf names r) f
-  unfolding NotNamed Ascending Fresh
-  none-named none j r m h b x = tt
-  none-named (node q ks then f) j r m h (b, c) (x, y) = (
-    λ (k : readAs (q .kind) ≡ kindNamed) (e : nameOf names q ≡ nameOf names r). later-repeated names i w r q a m
-        e (omega arith) (x k),
-    none-named f (q .at + 1) r m (omega arith) c y,
-  )
-
-  all-distinct : (f : Forest) (j : ℕ) → Ascending j f → ((r : Node) → In r f → In r w) → Fresh names w f
-      → Distinct names f
-  unfolding Distinct Ascending Fresh In
-  all-distinct none j b inside x = tt
-  all-distinct (node r ks then f) j (b, c) inside (x, y) = (
-    λ (k : readAs (r .kind) ≡ kindNamed). none-named f (r .at + 1) r (inside r (inl refl)) (omega arith) c y,
-    all-distinct f (r .at + 1) c (λ q m. inside q (inr m)) y,
-  )
-
--- THEOREM: the names of an accepted list are distinct
-pub accepted-distinct : (names : List ℕ) (i : ℕ) (bs : List ℕ) (s : Walk) → unpack names (forest i bs) ≡ on s
-    → Distinct names (forest i bs)
-accepted-distinct names i bs s h =
-    all-distinct names i (forest i bs) (ascending-forest i bs) (forest i bs) i (ascending-forest i bs) (λ r m. m)
-    (run-fresh names (forest i bs) (forest i bs) start s (accepted-run names (forest i bs) s h))
+    go : (b : Bool) (f : Found) → if' b (λ _. Broken namedAfterStar) (λ _. newName f) ≡ Fine → f ≡ Nothing
+    go true f e = never (cc)
+    go false (At i) e = never (cc)
+    go false Nothing e = refl
+fine-new before s (args r) e = refl
+fine-new before s (kwargs r) e = refl

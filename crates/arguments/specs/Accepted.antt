@@ -1,43 +1,55 @@
 -- What an accepted list of arguments is, defined by itself: positional, then named, then at most one star, then at most one `**`, names distinct.
 -- These are definitions.
 use mathlib.Core.Path.{_≡_}
-use mathlib.Core.Bool.{Bool, true, false}
 use mathlib.Core.List.{List, [], _∷_, _++_}
-use Prim.Native.Nat.{ℕ}
+use Prim.Native.Nat.{ℕ, _+_}
 use lib.ListN.{replicate}
-use lib.Dec.{eqb}
-use Rattle.fields.specs.Choice.{if'}
-use Rattle.forest.specs.Forest.{Node, node, Forest, none, _then_}
-use Rattle.forest.specs.Names.{nameOf}
-use Rattle.soundness.specs.KindNumbers.{kindPositional, kindNamed, kindArgsArg, kindKwArgsArg}
-use Rattle.arguments.specs.declared.Place.{Place}
-use Rattle.arguments.specs.declared.Place.the-variants.{Given, Missing}
+use Rattle.forest.specs.Names.{Distinct}
+use Rattle.table.specs.declared.Place.{Place}
+use Rattle.table.specs.declared.Place.the-variants.{At, Nothing}
+use Rattle.arguments.specs.Written.{Name, Argument, positional, named, args, kwargs, kindIn}
+use Rattle.arguments.specs.Call.{Outcome, unpacked, refusedWith, repeatedName, internalError, given, bit}
+use Rattle.arguments.specs.declared.Kind.{Kind}
+use Rattle.arguments.specs.declared.Kind.the-variants.{Positional, Named, Args, KwArgs}
 use Rattle.arguments.specs.declared.CallArgs.{CallArgs}
 
--- the kind of an argument: 60, 61, 62, and else 63
-unfoldable pub readAs : ℕ → ℕ
-readAs k = if' (eqb k kindPositional) (λ _. kindPositional) (λ _. if' (eqb k kindNamed) (λ _. kindNamed) (λ _. if' (eqb k kindArgsArg) (λ _. kindArgsArg) (λ _. kindKwArgsArg)))
-
 -- the kinds of a list of arguments, in order
-unfoldable pub kindsOf : Forest → List ℕ
-kindsOf none = []
-kindsOf (node r ks then f) = readAs (r .kind) ∷ kindsOf f
+abbrev pub kindsOf : List Argument → List Kind
+kindsOf [] = []
+kindsOf (p ∷ ps) = kindIn p ∷ kindsOf ps
 
--- one of a kind where its place is given
-abbrev pub one : Place → ℕ → List ℕ
-one (Given i) k = k ∷ []
-one Missing k = []
+-- one of a kind where there is a place
+abbrev pub one : Place → Kind → List Kind
+one (At i) k = k ∷ []
+one Nothing k = []
 
 -- so many positional, then so many named, then the star, then the `**`
-unfoldable pub inOrder : CallArgs → List ℕ
-inOrder a = replicate (a .«num_pos») kindPositional ++ (replicate (a .«num_named») kindNamed ++ (one (a .star) kindArgsArg ++ one (a .«star_star») kindKwArgsArg))
+abbrev pub inOrder : CallArgs → List Kind
+inOrder a = replicate (a .«num_pos») Positional ++ (replicate (a .«num_named») Named ++ (one (a .star) Args ++ one (a .«star_star») KwArgs))
 
--- no named argument of a list has this name
-unfoldable pub NotNamed : List ℕ → List ℕ → Forest → Type 0
-NotNamed names name none = Unit {0}
-NotNamed names name (node r ks then f) = (readAs (r .kind) ≡ kindNamed → nameOf names r ≡ name → ⊥) × NotNamed names name f
+-- a place, if there is one, is the n-th
+abbrev pub Placed : Place → ℕ → Type 0
+Placed (At i) n = i ≡ n
+Placed Nothing n = Unit {0}
 
--- the names of a list's named arguments are distinct: none comes again
-unfoldable pub Distinct : List ℕ → Forest → Type 0
-Distinct names none = Unit {0}
-Distinct names (node r ks then f) = (readAs (r .kind) ≡ kindNamed → NotNamed names (nameOf names r) f) × Distinct names f
+-- the names of a list's named arguments
+abbrev pub namesOf : List Argument → List Name
+namesOf [] = []
+namesOf (positional r ∷ ps) = namesOf ps
+namesOf (named r n ∷ ps) = n ∷ namesOf ps
+namesOf (args r ∷ ps) = namesOf ps
+namesOf (kwargs r ∷ ps) = namesOf ps
+
+-- a list of arguments in order, so many as c says, with the star and the `**` at the places that c says, and with distinct names
+pub record Ordered (l : List Argument) (c : CallArgs) : Type 0 where
+  pub kinds : kindsOf l ≡ inOrder c
+  pub star-at : Placed (c .star) (c .«num_pos» + c .«num_named»)
+  pub kwargs-at : Placed (c .«star_star») (c .«num_pos» + c .«num_named» + bit (given (c .star)))
+  pub distinct : Distinct (namesOf l)
+
+-- an outcome that is no internal error
+abbrev pub Expected : Outcome → Type 0
+Expected (unpacked a) = Unit {0}
+Expected (refusedWith n r) = Unit {0}
+Expected (repeatedName r) = Unit {0}
+Expected internalError = ⊥

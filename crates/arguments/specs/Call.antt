@@ -1,112 +1,153 @@
 -- CallArgsUnpack::unpack of src/syntax/call.rs, with all its outcomes. These are definitions.
 -- Copyright 2018 The Starlark in Rust Authors. Copyright (c) Facebook, Inc. and its affiliates. Licensed under Apache-2.0; changed.
-use mathlib.Core.Bool.{Bool, true, false, not}
-use mathlib.Core.List.{List}
+use mathlib.Core.Bool.{Bool, true, false}
+use mathlib.Core.List.{List, [], _∷_, _++_}
 use Prim.Native.Nat.{ℕ, _+_}
 use lib.ListN.{length}
-use lib.Dec.{eqb, ltb}
+use lib.Dec.{eqb}
 use Rattle.fields.specs.Choice.{if'}
-use Rattle.forest.specs.Forest.{Node, node, Forest, none, _then_, roots}
-use Rattle.forest.specs.Names.{nameOf, firstNamed}
+use Rattle.forest.specs.Forest.{Node}
+use Rattle.forest.specs.Names.{same}
 use Rattle.forest.specs.declared.Found.{Found}
 use Rattle.forest.specs.declared.Found.the-variants.{At, Nothing}
-use Rattle.soundness.specs.KindNumbers.{kindPositional, kindNamed, kindArgsArg}
 use Rattle.table.specs.Numbers.{positionalAfterNonPositional, namedAfterStar, secondStar, secondKwargs}
-use Rattle.arguments.specs.declared.Place.{Place}
-use Rattle.arguments.specs.declared.Place.the-variants.{Given, Missing}
+use Rattle.table.specs.declared.Place.{Place}
+use Rattle.table.specs.declared.Place.the-variants.{At as AtPlace, Nothing as NoPlace}
+use Rattle.arguments.specs.Written.{Name, Argument, positional, named, args, kwargs, nodeIn, kindIn}
+use Rattle.arguments.specs.declared.Kind.{Kind}
+use Rattle.arguments.specs.declared.Kind.the-variants.{Positional, Named, Args, KwArgs}
+use Rattle.arguments.specs.declared.ArgsStage.{ArgsStage}
+use Rattle.arguments.specs.declared.ArgsStage.the-variants.{Positional as AtPositional, Named as AtNamed, Args as AtArgs, Kwargs as AtKwargs}
+use Rattle.arguments.specs.declared.Check.{Check}
+use Rattle.arguments.specs.declared.Check.the-variants.{Fine, Broken, Repeated}
+use Rattle.arguments.specs.declared.CallArgs.{CallArgs}
 use Rattle.arguments.specs.declared.Walk.{Walk}
 
--- ArgsStage, a growing row
-abbrev pub Positional : ℕ
-Positional = 0
+-- stage != Positional, stage > Named, stage == Kwargs
+abbrev pub pastPositional : ArgsStage → Bool
+pastPositional AtPositional = false
+pastPositional AtNamed = true
+pastPositional AtArgs = true
+pastPositional AtKwargs = true
 
-abbrev pub Named : ℕ
-Named = 1
+abbrev pub pastNamed : ArgsStage → Bool
+pastNamed AtPositional = false
+pastNamed AtNamed = false
+pastNamed AtArgs = true
+pastNamed AtKwargs = true
 
-abbrev pub Args : ℕ
-Args = 2
+abbrev pub inKwargs : ArgsStage → Bool
+inKwargs AtPositional = false
+inKwargs AtNamed = false
+inKwargs AtArgs = false
+inKwargs AtKwargs = true
 
-abbrev pub Kwargs : ℕ
-Kwargs = 3
+-- named_args: the first of the earlier named arguments that has this name
+unfoldable pub hasName : Name → Argument → Bool
+hasName x (positional r) = false
+hasName x (named r n) = same n x
+hasName x (args r) = false
+hasName x (kwargs r) = false
 
--- the walk so far: the stage, how many arguments were read, how many of them were positional and named, and the places of star and `**`
-abbrev pub start : Walk
-start = record { stage = Positional; place = 0; «num_pos» = 0; «num_named» = 0; star = Missing; «star_star» = Missing }
+unfoldable pub firstSame : Name → List Argument → Found
+firstSame x [] = Nothing
+firstSame x (p ∷ ps) = if' (hasName x p) (λ _. At (nodeIn p .at)) (λ _. firstSame x ps)
 
-abbrev pub withPositional : Walk → Walk
-withPositional s = record { stage = s .stage; place = s .place + 1; «num_pos» = s .«num_pos» + 1; «num_named» = s .«num_named»; star = s .star; «star_star» = s .«star_star» }
+-- the first earlier named argument whose name this one repeats; those of other kinds have none
+unfoldable pub repeats : List Argument → Argument → Found
+repeats before (positional r) = Nothing
+repeats before (named r n) = firstSame n before
+repeats before (args r) = Nothing
+repeats before (kwargs r) = Nothing
 
-abbrev pub withNamed : Walk → Walk
-withNamed s = record { stage = Named; place = s .place + 1; «num_pos» = s .«num_pos»; «num_named» = s .«num_named» + 1; star = s .star; «star_star» = s .«star_star» }
+-- the rules of the kinds: 20; 21, then 22; 23; 24
+abbrev pub positionalRule : ArgsStage → Check
+positionalRule stage = if' (pastPositional stage) (λ _. Broken positionalAfterNonPositional) (λ _. Fine)
 
-abbrev pub withArgs : Walk → Walk
-withArgs s = record { stage = Args; place = s .place + 1; «num_pos» = s .«num_pos»; «num_named» = s .«num_named»; star = Given (s .place); «star_star» = s .«star_star» }
+abbrev pub newName : Found → Check
+newName (At i) = Repeated
+newName Nothing = Fine
 
-abbrev pub withKwargs : Walk → Walk
-withKwargs s = record { stage = Kwargs; place = s .place + 1; «num_pos» = s .«num_pos»; «num_named» = s .«num_named»; star = s .star; «star_star» = Given (s .place) }
+abbrev pub namedRule : ArgsStage → Found → Check
+namedRule stage found = if' (pastNamed stage) (λ _. Broken namedAfterStar) (λ _. newName found)
 
--- what comes of an argument, and of the whole list: the walk goes on; a refusal at the argument; 22 at its name; an internal error
+abbrev pub argsRule : ArgsStage → Check
+argsRule stage = if' (pastNamed stage) (λ _. Broken secondStar) (λ _. Fine)
+
+abbrev pub kwargsRule : ArgsStage → Check
+kwargsRule stage = if' (inKwargs stage) (λ _. Broken secondKwargs) (λ _. Fine)
+
+abbrev pub rule : ArgsStage → Found → Kind → Check
+rule stage found Positional = positionalRule stage
+rule stage found Named = namedRule stage found
+rule stage found Args = argsRule stage
+rule stage found KwArgs = kwargsRule stage
+
+unfoldable pub check : List Argument → ArgsStage → Argument → Check
+check before stage p = rule stage (repeats before p) (kindIn p)
+
+-- what an argument of a kind changes: the stage, and what is counted, where i is its place among the arguments
+abbrev pub nextStage : ArgsStage → Kind → ArgsStage
+nextStage stage Positional = stage
+nextStage stage Named = AtNamed
+nextStage stage Args = AtArgs
+nextStage stage KwArgs = AtKwargs
+
+abbrev pub counts : ℕ → ℕ → Place → Place → CallArgs
+counts p n a k = record { «num_pos» = p; «num_named» = n; star = a; «star_star» = k }
+
+abbrev pub count : CallArgs → ℕ → Kind → CallArgs
+count c i Positional = counts (c .«num_pos» + 1) (c .«num_named») (c .star) (c .«star_star»)
+count c i Named = counts (c .«num_pos») (c .«num_named» + 1) (c .star) (c .«star_star»)
+count c i Args = counts (c .«num_pos») (c .«num_named») (AtPlace i) (c .«star_star»)
+count c i KwArgs = counts (c .«num_pos») (c .«num_named») (c .star) (AtPlace i)
+
+unfoldable pub advance : Walk → ℕ → Kind → Walk
+advance w i k = record { stage = nextStage (w .stage) k; counts = count (w .counts) i k }
+
+-- is_some()
+abbrev pub given : Place → Bool
+given (AtPlace i) = true
+given NoPlace = false
+
+-- star.is_some() at a star, star_star.is_some() at a `**`
+abbrev pub taken : CallArgs → Kind → Bool
+taken c Positional = false
+taken c Named = false
+taken c Args = given (c .star)
+taken c KwArgs = given (c .«star_star»)
+
+-- the outcomes of unpack: what is counted; a refusal at an argument; 22, at an argument's name; an internal error
 pub data Outcome : Type 0 where
-  on : Walk → Outcome
+  unpacked : CallArgs → Outcome
   refusedWith : ℕ → Node → Outcome
   repeatedName : Node → Outcome
   internalError : Outcome
 
-abbrev pub given : Place → Bool
-given (Given i) = true
-given Missing = false
-
--- the first argument of this name stands before it
-abbrev pub before : Found → ℕ → Bool
-before (At j) i = ltb j i
-before Nothing i = false
-
-unfoldable pub repeated : List ℕ → Forest → Node → Bool
-repeated names w r = before (firstNamed names (nameOf names r) w) (r .at)
-
--- an argument by its kind; again says whether its name is repeated
-unfoldable pub positionalRule : Walk → Node → Outcome
-positionalRule s r = if' (eqb (s .stage) Positional) (λ _. on (withPositional s)) (λ _. refusedWith positionalAfterNonPositional r)
-
-unfoldable pub namedRule : Walk → Bool → Node → Outcome
-namedRule s again r = if' (ltb Named (s .stage)) (λ _. refusedWith namedAfterStar r) (λ _. if' again (λ _. repeatedName r) (λ _. on (withNamed s)))
-
-unfoldable pub argsRule : Walk → Node → Outcome
-argsRule s r = if' (ltb Named (s .stage)) (λ _. refusedWith secondStar r) (λ _. if' (given (s .star)) (λ _. internalError) (λ _. on (withArgs s)))
-
-unfoldable pub kwargsRule : Walk → Node → Outcome
-kwargsRule s r = if' (eqb (s .stage) Kwargs) (λ _. refusedWith secondKwargs r) (λ _. if' (given (s .«star_star»)) (λ _. internalError) (λ _. on (withKwargs s)))
-
-unfoldable pub stepBy : Walk → ℕ → Bool → Node → Outcome
-stepBy s kind again r =
-    if' (eqb kind kindPositional) (λ _. positionalRule s r) (λ _.
-    if' (eqb kind kindNamed) (λ _. namedRule s again r) (λ _.
-    if' (eqb kind kindArgsArg) (λ _. argsRule s r) (λ _.
-    kwargsRule s r)))
-
--- one argument of the whole list w
-abbrev pub step : List ℕ → Forest → Walk → Node → Outcome
-step names w s r = stepBy s (r .kind) (repeated names w r) r
-
--- the walk goes on, or ends
-abbrev pub after : Outcome → (Walk → Outcome) → Outcome
-after (on s) next = next s
-after (refusedWith n r) next = refusedWith n r
-after (repeatedName r) next = repeatedName r
-after internalError next = internalError
-
--- the arguments in turn
-unfoldable pub run : List ℕ → Forest → Walk → Forest → Outcome
-run names w s none = on s
-run names w s (node r ks then rs) = after (step names w s r) (λ (t : Walk). run names w t rs)
+abbrev pub unlessBroken : Check → Node → (Unit {0} → Outcome) → Outcome
+unlessBroken Fine r next = next tt
+unlessBroken (Broken n) r next = refusedWith n r
+unlessBroken Repeated r next = repeatedName r
 
 abbrev pub bit : Bool → ℕ
 bit true = 1
 bit false = 0
 
--- after the last: the counts are those of the list
-abbrev pub counted : Forest → Walk → Outcome
-counted w s = if' (eqb (s .«num_pos» + s .«num_named» + bit (given (s .star)) + bit (given (s .«star_star»))) (length (roots w))) (λ _. on s) (λ _. internalError)
+-- how many arguments are counted
+abbrev pub total : CallArgs → ℕ
+total c = c .«num_pos» + c .«num_named» + bit (given (c .star)) + bit (given (c .«star_star»))
 
-unfoldable pub unpack : List ℕ → Forest → Outcome
-unpack names w = after (run names w start w) (counted w)
+-- the arguments in turn, after those before them; after the last, they are as many as are counted
+unfoldable pub run : List Argument → Walk → List Argument → Outcome
+run before w [] = if' (eqb (total (w .counts)) (length before)) (λ _. unpacked (w .counts)) (λ _. internalError)
+run before w (p ∷ ps) =
+    unlessBroken (check before (w .stage) p) (nodeIn p) (λ _.
+    if' (taken (w .counts) (kindIn p)) (λ _. internalError) (λ _.
+    run (before ++ p ∷ []) (advance w (length before) (kindIn p)) ps))
+
+-- CallArgsUnpack::unpack
+abbrev pub start : Walk
+start = record { stage = AtPositional; counts = counts 0 0 NoPlace NoPlace }
+
+unfoldable pub unpack : List Argument → Outcome
+unpack l = run [] start l

@@ -1,4 +1,4 @@
+pub mod Written
 pub mod Call
 pub mod Job
-pub mod Reached
 pub mod Accepted

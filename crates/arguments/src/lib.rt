@@ -5,23 +5,35 @@
 use forest::Found;
 use soundness::kinds;
 use table::Checked;
+use table::Place;
 use table::Refusal;
+use table::Span;
 use table::Wanted;
 use table::numbers;
 ghost use mathlib.Core.Path.{_≡_};
 ghost use Prim.Native.Nat.{_+_, _*_, _<_, _≤_};
-ghost use lib.ListN.{length};
-ghost use Rattle.forest.specs.Forest.{Node, nodeOf, forest};
-ghost use Rattle.table.specs.Numbers.{repeatedNamed};
-ghost use Rattle.table.specs.Answer.{refusal};
-ghost use Rattle.arguments.specs.Call.{positionalRule, namedRule, argsRule, kwargsRule, stepBy, unpack};
-ghost use Rattle.arguments.specs.Job.{argumentsOf, nameStop, refusedAtName, outcomeAnswer, called, callOf};
-ghost use Rattle.arguments.specs.Reached.{Reached, stepped, againAt};
+ghost use lib.ListN.{length, take};
+ghost use Rattle.forest.specs.Forest.{nodeOf, forest, treeOf};
+ghost use Rattle.forest.specs.Names.{nameOf};
+ghost use Rattle.table.specs.Answer.{checked};
+ghost use Rattle.arguments.specs.Written.{kindAt, argumentOf, argumentsIn};
+ghost use Rattle.arguments.specs.Call.{pastPositional, pastNamed, inKwargs, hasName, firstSame, newName, positionalRule, argsRule, kwargsRule, namedRule, check as checkOf, nextStage, count as countOf, advance as advanceOf, unpack as unpackOf};
+ghost use Rattle.arguments.specs.Job.{nameStop, nameSpan, checkAnswer, outcomeAnswer, callAnswer, called, callOf};
 
-// The place of an argument among the arguments, from 0, or none.
-pub enum Place {
-    Given(u32),
-    Missing,
+// Where unpack stands among the arguments, in this order.
+pub enum ArgsStage {
+    Positional,
+    Named,
+    Args,
+    Kwargs,
+}
+
+// An argument's kind.
+pub enum Kind {
+    Positional,
+    Named,
+    Args,
+    KwArgs,
 }
 
 // What a list of arguments is: how many are positional and named, and the places of star and `**`.
@@ -32,14 +44,17 @@ pub struct CallArgs {
     pub star_star: Place,
 }
 
-// The walk over a list of arguments, so far. The stage is 0 Positional, 1 Named, 2 Args, 3 Kwargs.
+// All that unpack keeps from one argument to the next.
 pub struct Walk {
-    pub stage: u8,
-    pub place: u32,
-    pub num_pos: u32,
-    pub num_named: u32,
-    pub star: Place,
-    pub star_star: Place,
+    pub stage: ArgsStage,
+    pub counts: CallArgs,
+}
+
+// What the check of one argument gives: nothing, the number of a refusal at it, or 22, at its name.
+pub enum Check {
+    Fine,
+    Broken(u32),
+    Repeated,
 }
 
 // The answer of the call job.
@@ -52,27 +67,17 @@ pub enum Called {
 pub fn call(table: &[u8], names: &[u8], node: usize) -> Called
     ensures { λ r. ⌜ called r ≡ callOf (now (table .entry)) (now (names .entry)) node ⌝ }
 {
-    let checked = table::check(table, names);
-    if let Checked::Refused(r) = checked {
-        return Called::Refused(r);
-    }
-    if !table::node_fits(table, node, Wanted::Call) {
-        return Called::Refused(Refusal::Bare(numbers::WRONG_NODE));
+    let entered = table::enter(table, names, node, Wanted::Call);
+    if let Checked::Refused(why) = entered {
+        return Called::Refused(why);
     }
     arguments(table::stretch(table, node), names, node)
 }
 
-// What comes of one argument: the walk goes on, or ends with a number at the argument, or with 22 at its name.
-enum Step {
-    On(Walk),
-    Refused(u32),
-    Repeated,
-}
-
-// The arguments of the call that a stretch begins with.
+// The arguments of the call that a stretch begins with: what stands behind its callee.
 fn arguments(t: &[u8], names: &[u8], node: usize) -> Called
     requires { ⌜ (24 ≤ length (now t)) × (24 * node + length (now t) ≤ 50400) ⌝ }
-    ensures { λ r. ⌜ called r ≡ outcomeAnswer (unpack (now (names .entry)) (argumentsOf (forest node (now (t .entry))))) ⌝ }
+    ensures { λ r. ⌜ called r ≡ callAnswer (now (names .entry)) (treeOf node (now (t .entry))) ⌝ }
 {
     let e = forest::span(t);
     let kids = &t[24..e];
@@ -80,59 +85,52 @@ fn arguments(t: &[u8], names: &[u8], node: usize) -> Called
     unpack(&kids[c..], names, node + 1 + c / 24)
 }
 
-// A list of arguments, the first of which has the index first.
+// CallArgsUnpack::unpack of a list of arguments, the first of which is the node first.
 fn unpack(args: &[u8], names: &[u8], first: usize) -> Called
     requires { ⌜ 24 * first + length (now args) ≤ 50424 ⌝ }
-    ensures { λ r. ⌜ called r ≡ outcomeAnswer (unpack (now (names .entry)) (forest first (now (args .entry)))) ⌝ }
+    ensures { λ r. ⌜ called r ≡ outcomeAnswer (unpackOf (argumentsIn (now (names .entry)) (forest first (now (args .entry))))) ⌝ }
 {
+    let mut w = Walk {
+        stage: ArgsStage::Positional,
+        counts: CallArgs {
+            num_pos: 0,
+            num_named: 0,
+            star: Place::Nothing,
+            star_star: Place::Nothing,
+        },
+    };
     let mut left = args;
     let mut at = first;
-    let mut s = Walk {
-        stage: 0,
-        place: 0,
-        num_pos: 0,
-        num_named: 0,
-        star: Place::Missing,
-        star_star: Place::Missing,
-    };
+    let mut n = 0;
     while 24 <= left.len() {
-        let again = repeated(args, names, left, at - first);
-        let next = take(s, forest::kind(left), again);
-        match next {
-            Step::On(n) => s = n,
-            Step::Refused(number) => return Called::Refused(table::refused_at(
-                number,
-                at as u32,
-                left,
-            )),
-            Step::Repeated => return Called::Refused(refused_at_name(at as u32, left)),
+        let stage = w.stage;
+        let c = check_argument(names, args, first, n, left, stage);
+        let judged = refused(c, at as u32, left);
+        if let Checked::Refused(why) = judged {
+            return Called::Refused(why);
         }
+        w = advance(w, n as u32, kind_of(left));
+        n += 1;
         let e = forest::span(left);
         at += e / 24;
         left = &left[e..];
     }
-    let star = s.star;
-    let star_star = s.star_star;
-    Called::Accepted(CallArgs {
-        num_pos: s.num_pos,
-        num_named: s.num_named,
-        star: star,
-        star_star: star_star,
-    })
+    let counts = w.counts;
+    Called::Accepted(counts)
 }
 
-// Whether an argument is named and the first argument of its name stands before it; place is how many records it is behind the first.
-fn repeated(args: &[u8], names: &[u8], left: &[u8], place: usize) -> bool
-    ensures { λ r. ⌜ r ≡ againAt (now (args .entry)) (now (names .entry)) (now (left .entry)) place ⌝ }
+// A broken argument is refused, with its span; a repeated name with the name's.
+fn refused(c: Check, at: u32, t: &[u8]) -> Checked
+    ensures { λ r. ⌜ checked r ≡ checkAnswer c (nodeOf at (now (t .entry))) ⌝ }
 {
-    if forest::kind(left) != kinds::NAMED {
-        return false;
-    }
-    let name = forest::names::name(names, left);
-    let found = forest::names::first_named(names, name, args);
-    match found {
-        Found::At(j) => j < place,
-        Found::Nothing => false,
+    match c {
+        Check::Fine => Checked::Sound,
+        Check::Broken(number) => Checked::Refused(table::refused_at(number, at, t)),
+        Check::Repeated => Checked::Refused(table::refused_in(
+            numbers::REPEATED_NAMED,
+            at,
+            name_span(t),
+        )),
     }
 }
 
@@ -148,104 +146,230 @@ fn name_stop(t: &[u8]) -> u32
     begin + len
 }
 
-// 22, with the span of the name.
-fn refused_at_name(node: u32, t: &[u8]) -> Refusal
-    ensures { λ r. ⌜ refusal r ≡ refusedAtName repeatedNamed (nodeOf node (now (t .entry))) ⌝ }
+// The span of the name of the argument that a stretch begins with.
+fn name_span(t: &[u8]) -> Span
+    ensures { λ r. ⌜ r ≡ nameSpan (nodeOf 0 (now (t .entry))) ⌝ }
 {
-    Refusal::Spanned {
-        number: numbers::REPEATED_NAMED,
-        node: node,
+    Span {
         begin: forest::source(t),
         end: name_stop(t),
     }
 }
 
-// An argument by its kind.
-fn take(s: Walk, kind: u8, again: bool) -> Step
-    requires { ⌜ Reached s × (s .place < 4294967295) ⌝ }
-    ensures { λ r. ⌜ ((n : Node) → stepped r n ≡ stepBy s kind again n) ⌝ }
+// The kind of the argument that a stretch begins with.
+fn kind_of(t: &[u8]) -> Kind
+    ensures { λ r. ⌜ r ≡ kindAt (nodeOf 0 (now (t .entry)) .kind) ⌝ }
+{
+    match forest::kind(t) {
+        kinds::POSITIONAL => Kind::Positional,
+        kinds::NAMED => Kind::Named,
+        kinds::ARGS_ARG => Kind::Args,
+        _ => Kind::KwArgs,
+    }
+}
+
+// stage != Positional
+fn past_positional(stage: ArgsStage) -> bool
+    ensures { λ r. ⌜ r ≡ pastPositional stage ⌝ }
+{
+    match stage {
+        ArgsStage::Positional => false,
+        ArgsStage::Named => true,
+        ArgsStage::Args => true,
+        ArgsStage::Kwargs => true,
+    }
+}
+
+// stage > Named
+fn past_named(stage: ArgsStage) -> bool
+    ensures { λ r. ⌜ r ≡ pastNamed stage ⌝ }
+{
+    match stage {
+        ArgsStage::Positional => false,
+        ArgsStage::Named => false,
+        ArgsStage::Args => true,
+        ArgsStage::Kwargs => true,
+    }
+}
+
+// stage == Kwargs
+fn in_kwargs(stage: ArgsStage) -> bool
+    ensures { λ r. ⌜ r ≡ inKwargs stage ⌝ }
+{
+    match stage {
+        ArgsStage::Positional => false,
+        ArgsStage::Named => false,
+        ArgsStage::Args => false,
+        ArgsStage::Kwargs => true,
+    }
+}
+
+// Whether the argument that a stretch begins with is named, and has this name.
+fn has_name(names: &[u8], name: &[u8], t: &[u8]) -> bool
+    ensures { λ r. ⌜ r ≡ hasName (now (name .entry)) (argumentOf (now (names .entry)) (nodeOf 0 (now (t .entry)))) ⌝ }
+{
+    if forest::kind(t) != kinds::NAMED {
+        return false;
+    }
+    forest::names::same_bytes(forest::names::name(names, t), name)
+}
+
+// The node of the first of n arguments that is named and has this name; first is the node of the first of them.
+fn earlier(names: &[u8], name: &[u8], args: &[u8], first: usize, n: usize) -> Found
+    requires { ⌜ (24 * first + length (now args) ≤ 50424) × (n ≤ length (argumentsIn (now names) (forest first (now args)))) ⌝ }
+    ensures { λ r. ⌜ r ≡ firstSame (now (name .entry)) (take n (argumentsIn (now (names .entry)) (forest first (now (args .entry))))) ⌝ }
+{
+    let mut left = args;
+    let mut at = first;
+    let mut i = 0;
+    while i < n {
+        if has_name(names, name, left) {
+            return Found::At(at);
+        }
+        let e = forest::span(left);
+        at += e / 24;
+        left = &left[e..];
+        i += 1;
+    }
+    Found::Nothing
+}
+
+// 20.
+fn positional_rule(stage: ArgsStage) -> Check
+    ensures { λ r. ⌜ r ≡ positionalRule stage ⌝ }
+{
+    if past_positional(stage) {
+        return Check::Broken(numbers::POSITIONAL_AFTER_NON_POSITIONAL);
+    }
+    Check::Fine
+}
+
+// 22, for what the search among the earlier names found.
+fn new_name(found: Found) -> Check
+    ensures { λ r. ⌜ r ≡ newName found ⌝ }
+{
+    match found {
+        Found::At(_) => Check::Repeated,
+        Found::Nothing => Check::Fine,
+    }
+}
+
+// 21, then 22, for the argument that left begins with, after n arguments.
+fn named_rule(
+    names: &[u8],
+    args: &[u8],
+    first: usize,
+    n: usize,
+    left: &[u8],
+    stage: ArgsStage,
+) -> Check
+    requires { ⌜ (24 * first + length (now args) ≤ 50424) × (n ≤ length (argumentsIn (now names) (forest first (now args)))) ⌝ }
+    ensures { λ r. ⌜ r ≡ namedRule stage (firstSame (nameOf (now (names .entry)) (nodeOf 0 (now (left .entry)))) (take n (argumentsIn (now (names .entry)) (forest first (now (args .entry)))))) ⌝ }
+{
+    if past_named(stage) {
+        return Check::Broken(numbers::NAMED_AFTER_STAR);
+    }
+    new_name(earlier(names, forest::names::name(names, left), args, first, n))
+}
+
+// 23.
+fn args_rule(stage: ArgsStage) -> Check
+    ensures { λ r. ⌜ r ≡ argsRule stage ⌝ }
+{
+    if past_named(stage) {
+        return Check::Broken(numbers::SECOND_STAR);
+    }
+    Check::Fine
+}
+
+// 24.
+fn kwargs_rule(stage: ArgsStage) -> Check
+    ensures { λ r. ⌜ r ≡ kwargsRule stage ⌝ }
+{
+    if in_kwargs(stage) {
+        return Check::Broken(numbers::SECOND_KWARGS);
+    }
+    Check::Fine
+}
+
+// The rule of the kind of the argument that left begins with, after n arguments.
+fn check_argument(
+    names: &[u8],
+    args: &[u8],
+    first: usize,
+    n: usize,
+    left: &[u8],
+    stage: ArgsStage,
+) -> Check
+    requires { ⌜ (24 * first + length (now args) ≤ 50424) × (n ≤ length (argumentsIn (now names) (forest first (now args)))) ⌝ }
+    ensures { λ r. ⌜ r ≡ checkOf (take n (argumentsIn (now (names .entry)) (forest first (now (args .entry))))) stage (argumentOf (now (names .entry)) (nodeOf 0 (now (left .entry)))) ⌝ }
+{
+    let kind = kind_of(left);
+    match kind {
+        Kind::Positional => positional_rule(stage),
+        Kind::Named => named_rule(names, args, first, n, left, stage),
+        Kind::Args => args_rule(stage),
+        Kind::KwArgs => kwargs_rule(stage),
+    }
+}
+
+fn next_stage(stage: ArgsStage, kind: Kind) -> ArgsStage
+    ensures { λ r. ⌜ r ≡ nextStage stage kind ⌝ }
 {
     match kind {
-        kinds::POSITIONAL => positional(s),
-        kinds::NAMED => named(s, again),
-        kinds::ARGS_ARG => star(s),
-        _ => star_star(s),
+        Kind::Positional => stage,
+        Kind::Named => ArgsStage::Named,
+        Kind::Args => ArgsStage::Args,
+        Kind::KwArgs => ArgsStage::Kwargs,
     }
 }
 
-fn positional(s: Walk) -> Step
-    requires { ⌜ Reached s × (s .place < 4294967295) ⌝ }
-    ensures { λ r. ⌜ ((n : Node) → stepped r n ≡ positionalRule s n) ⌝ }
+// What is counted at an argument of a kind, which stands at this place among the arguments.
+fn count(c: CallArgs, place: u32, kind: Kind) -> CallArgs
+    requires { ⌜ (c .«num_pos» < 4294967295) × (c .«num_named» < 4294967295) ⌝ }
+    ensures { λ r. ⌜ r ≡ countOf c place kind ⌝ }
 {
-    if s.stage != 0 {
-        return Step::Refused(numbers::POSITIONAL_AFTER_NON_POSITIONAL);
+    let num_pos = c.num_pos;
+    let num_named = c.num_named;
+    let star = c.star;
+    let star_star = c.star_star;
+    match kind {
+        Kind::Positional => CallArgs {
+            num_pos: num_pos + 1,
+            num_named,
+            star,
+            star_star,
+        },
+        Kind::Named => CallArgs {
+            num_pos,
+            num_named: num_named + 1,
+            star,
+            star_star,
+        },
+        Kind::Args => CallArgs {
+            num_pos,
+            num_named,
+            star: Place::At(place),
+            star_star,
+        },
+        Kind::KwArgs => CallArgs {
+            num_pos,
+            num_named,
+            star,
+            star_star: Place::At(place),
+        },
     }
-    let star = s.star;
-    let star_star = s.star_star;
-    Step::On(Walk {
-        stage: s.stage,
-        place: s.place + 1,
-        num_pos: s.num_pos + 1,
-        num_named: s.num_named,
-        star: star,
-        star_star: star_star,
-    })
 }
 
-fn named(s: Walk, again: bool) -> Step
-    requires { ⌜ Reached s × (s .place < 4294967295) ⌝ }
-    ensures { λ r. ⌜ ((n : Node) → stepped r n ≡ namedRule s again n) ⌝ }
+// All that is kept after an argument of a kind, which stands at this place among the arguments.
+fn advance(w: Walk, place: u32, kind: Kind) -> Walk
+    requires { ⌜ (w .counts .«num_pos» < 4294967295) × (w .counts .«num_named» < 4294967295) ⌝ }
+    ensures { λ r. ⌜ r ≡ advanceOf w place kind ⌝ }
 {
-    if 1 < s.stage {
-        return Step::Refused(numbers::NAMED_AFTER_STAR);
+    let stage = w.stage;
+    let counts = w.counts;
+    Walk {
+        stage: next_stage(stage, kind),
+        counts: count(counts, place, kind),
     }
-    if again {
-        return Step::Repeated;
-    }
-    let star = s.star;
-    let star_star = s.star_star;
-    Step::On(Walk {
-        stage: 1,
-        place: s.place + 1,
-        num_pos: s.num_pos,
-        num_named: s.num_named + 1,
-        star: star,
-        star_star: star_star,
-    })
-}
-
-fn star(s: Walk) -> Step
-    requires { ⌜ Reached s × (s .place < 4294967295) ⌝ }
-    ensures { λ r. ⌜ ((n : Node) → stepped r n ≡ argsRule s n) ⌝ }
-{
-    if 1 < s.stage {
-        return Step::Refused(numbers::SECOND_STAR);
-    }
-    let star_star = s.star_star;
-    Step::On(Walk {
-        stage: 2,
-        place: s.place + 1,
-        num_pos: s.num_pos,
-        num_named: s.num_named,
-        star: Place::Given(s.place),
-        star_star: star_star,
-    })
-}
-
-fn star_star(s: Walk) -> Step
-    requires { ⌜ Reached s × (s .place < 4294967295) ⌝ }
-    ensures { λ r. ⌜ ((n : Node) → stepped r n ≡ kwargsRule s n) ⌝ }
-{
-    if s.stage == 3 {
-        return Step::Refused(numbers::SECOND_KWARGS);
-    }
-    let star = s.star;
-    Step::On(Walk {
-        stage: 3,
-        place: s.place + 1,
-        num_pos: s.num_pos,
-        num_named: s.num_named,
-        star: star,
-        star_star: Place::Given(s.place),
-    })
 }

@@ -13,12 +13,14 @@ use lib.Seq.{take-all, length-take-le, take-at, drop-at, take-take, take-nil, dr
 use lib.Seq.{take-set-le}
 use lib.Dec.{eqb, leb}
 use borrow.Author.Tests.{eq-eqb, ne-eqb, eqb-true, le-leb, leb-true}
+use Rattle.fields.proofs.Basics.{drop-take, le-or-lt, never}
+use Rattle.table.proofs.Answers.{never-passed}
 use Rattle.fields.specs.Field.{field}
 use Rattle.fields.proofs.Fields.{field-take}
 use Rattle.table.specs.Numbers.{blockShort, blockNumber, blockCheck, blockUsed}
 use Rattle.table.specs.Answer.{Answer, accepted, refused, andThen}
 use Rattle.blocks.specs.Block.{bytesOf, sumOf, weighed, beforeSum, blockOf, zeros, demand, examine, judge}
-use Rattle.blocks.proofs.Spelling.{le-or-lt, Bytes, bytes-take, bytes-append, bytes-zeros, bytes-spelled}
+use Rattle.blocks.proofs.Spelling.{Bytes, bytes-take, bytes-append, bytes-zeros, bytes-spelled}
 use Rattle.blocks.proofs.Spelling.{length-bytes, field-behind, field-before, field-bytes, bytes-field}
 use Rattle.blocks.proofs.Spelling.{field-outside, field-changed}
 use Rattle.blocks.proofs.Sums.{weighed-front, weighed-outside, weighed-changed, sum-small}
@@ -31,9 +33,6 @@ pub record Passing (number used : ℕ) (bs : List ℕ) : Type 0 where
   pub said : field 2 (take 512 bs) 2 ≡ used
   pub padding : zeros (drop (4 + used) (take 508 (take 512 bs))) ≡ true
 
-never : {P : Type 0} {n : ℕ} {vs ws : List ℕ} → refused n vs ≡ accepted ws → P
-never e = let z : _≡_ {A = ℕ} 0 1 = cc in absurd (omega arith)
-
 -- five demands and what follows them
 met : (a b c d f : Bool) (next : Unit {0} → Answer)
     → andThen (andThen (demand a blockShort)
@@ -41,11 +40,11 @@ met : (a b c d f : Bool) (next : Unit {0} → Answer)
     next ≡ accepted []
     → (a ≡ true) × (b ≡ true) × (c ≡ true) × (d ≡ true) × (f ≡ true) × (next tt ≡ accepted [])
 met true true true true true next e = (refl, refl, refl, refl, refl, e)
-met true true true true false next e = never e
-met true true true false f next e = never e
-met true true false d f next e = never e
-met true false c d f next e = never e
-met false b c d f next e = never e
+met true true true true false next e = never-passed e
+met true true true false f next e = never-passed e
+met true true false d f next e = never-passed e
+met true false c d f next e = never-passed e
+met false b c d f next e = never-passed e
 
 module _ (number used : ℕ) (bs : List ℕ) where
   -- LAW: a block that passes, and what follows it
@@ -82,13 +81,6 @@ module _ (number used : ℕ) (bs : List ℕ) where
       )
       refl
 
--- parts of parts
-pub drop-take : (m n : ℕ) (l : List ℕ) → drop m (take n l) ≡ take (n - m) (drop m l)
-drop-take zero n l = let e : n - 0 ≡ n = omega arith in rw e refl
-drop-take (suc m) zero l = let e : 0 - suc m ≡ 0 = omega arith in rw e refl
-drop-take (suc m) (suc n) [] = sym (take-nil (suc n - suc m))
-drop-take (suc m) (suc n) (x ∷ l) = let e : suc n - suc m ≡ n - m = omega arith in rw e (drop-take m n l)
-
 pub take-min : (m n : ℕ) (l : List ℕ) → take m (take n l) ≡ take (min m n) l
 take-min zero n l = let e : min 0 n ≡ 0 = omega arith in rw e refl
 take-min (suc m) zero l = let e : min (suc m) 0 ≡ 0 = omega arith in rw e refl
@@ -109,7 +101,7 @@ zeros-are (x ∷ l) e = go (eqb x 0) refl (zeros-are l) e
     go : (t : Bool) → eqb x 0 ≡ t → (zeros l ≡ true → l ≡ replicate (length l) 0) → (t && zeros l) ≡ true
         → x ∷ l ≡ 0 ∷ replicate (length l) 0
     go true p rest q = let h : x ≡ 0 = eqb-true x 0 p in let r : l ≡ replicate (length l) 0 = rest q in cc
-    go false p rest q = let z : _≡_ {A = ℕ} 0 1 = cc in absurd (omega arith)
+    go false p rest q = never (cc)
 
 are-zeros : (n : ℕ) → zeros (replicate n 0) ≡ true
 unfolding zeros

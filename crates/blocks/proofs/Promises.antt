@@ -1,19 +1,19 @@
 -- Two answers that meet the promise of a public function coincide. Assumes nothing.
 use mathlib.Core.Path.{_≡_, refl}
 use mathlib.Core.List.{List}
-use Prim.Native.Nat.{ℕ}
-use native.Mathlib.Omega.{arith}
+use Prim.Native.Nat.{ℕ, min}
+use Rattle.fields.proofs.Basics.{never}
 use Rattle.fields.proofs.Coincide.{coincide, coincide-by}
 use Rattle.blocks.specs.declared.Judged.{Judged}
 use Rattle.blocks.specs.declared.Judged.the-variants.{Passed, Refused}
-use Rattle.blocks.specs.Block.{judge, judged}
-use Rattle.blocks.specs.Run.{blocksFor, judgeRun}
+use Rattle.blocks.specs.Block.{contentBytes, judge, judged}
+use Rattle.blocks.specs.Run.{blocksFor, judgeRun, contentIn}
 
 -- no two judgements mean the same
 pub judged-injective : (r s : Judged) → judged r ≡ judged s → r ≡ s
 judged-injective Passed Passed e = refl
-judged-injective Passed (Refused n) e = let z : _≡_ {A = ℕ} 0 1 = cc in absurd (omega arith)
-judged-injective (Refused m) Passed e = let z : _≡_ {A = ℕ} 0 1 = cc in absurd (omega arith)
+judged-injective Passed (Refused n) e = never (cc)
+judged-injective (Refused m) Passed e = never (cc)
 judged-injective (Refused m) (Refused n) e = cc
 
 -- of `judge`, the bytes as lent
@@ -29,3 +29,12 @@ judge-run-one bytes first total = coincide-by judged judged-injective
 -- of `blocks_for`
 pub blocks-for-one : (total : ℕ) {r s : ℕ} → r ≡ blocksFor total → s ≡ blocksFor total → r ≡ s
 blocks-for-one total = coincide
+
+-- of `used_here`
+pub used-here-one : (more : ℕ) {r s : ℕ} → r ≡ min contentBytes more → s ≡ min contentBytes more → r ≡ s
+used-here-one more = coincide
+
+-- of `content`, the bytes as lent
+pub content-one : (bytes : List ℕ) (number : ℕ) {r s : List ℕ} → r ≡ contentIn number bytes
+    → s ≡ contentIn number bytes → r ≡ s
+content-one bytes number = coincide

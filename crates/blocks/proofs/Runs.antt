@@ -6,8 +6,10 @@ use mathlib.Core.List.{List, [], _∷_, _++_, append-assoc, append-nil}
 use Prim.Native.Nat.{ℕ, zero, suc, _+_, _*_, _-_, _/_, _<_, _≤_, min}
 use native.Mathlib.Omega.{arith}
 use lib.ListN.{length, getD, take, drop, set, replicate, length-append, length-take, length-drop, take-append-drop}
+use lib.ListN.{drop-of-length-le}
 use lib.Seq.{take-all, length-take-le, take-at, drop-at, take-append-le, take-append-add, take-take, take-add}
-use lib.Seq.{getD-drop, drop-set-add}
+use lib.Seq.{getD-drop, drop-set-add, drop-drop}
+use Rattle.fields.proofs.Basics.{drop-take, le-or-lt}
 use Rattle.fields.proofs.Fields.{tail-part}
 use Rattle.table.specs.Numbers.{blockCheck}
 use Rattle.table.specs.Answer.{Answer, accepted, refused, andThen}
@@ -15,10 +17,11 @@ use Rattle.table.proofs.Answers.{after-both}
 use Rattle.blocks.specs.declared.Judged.{Judged}
 use Rattle.blocks.specs.declared.Judged.the-variants.{Passed, Refused}
 use Rattle.blocks.specs.Block.{blockOf, judge, judged}
-use Rattle.blocks.specs.Run.{blocksFor, blocksOf, runOf, judgeBlocks, judgeRun, contents, contentOf}
-use Rattle.blocks.proofs.Blocks.{passing, passing-then, passes, drop-take, take-min, length-block}
+use Rattle.blocks.specs.Run.{blocksFor, blocksOf, runOf, judgeBlocks, judgeRun, contents, contentIn}
+use Rattle.blocks.specs.Run.{contentOf}
+use Rattle.blocks.proofs.Blocks.{passing, passing-then, passes, take-min, length-block}
 use Rattle.blocks.proofs.Blocks.{content-there, block-passes, passed-is-block, changed-block, judge-outside}
-use Rattle.blocks.proofs.Spelling.{le-or-lt, Bytes, bytes-take, bytes-drop}
+use Rattle.blocks.proofs.Spelling.{Bytes, bytes-take, bytes-drop}
 
 -- a byte behind the first n
 pub drop-set : (n : ℕ) (l : List ℕ) (i v : ℕ) → n ≤ i → drop n (set l i v) ≡ set (drop n l) (i - n) v
@@ -109,6 +112,10 @@ unfolding contentOf blocksFor
 content-long total bs h = length-take-le total (contents (blocksFor total) bs)
     (omega (arith, contents-long (blocksFor total) bs h))
 
+pub content-nothing : (bs : List ℕ) → contentOf 0 bs ≡ []
+unfolding contentOf
+content-nothing bs = refl
+
 -- what stands in the first block, and in the others
 module _ (n total : ℕ) (bs : List ℕ) (h : 512 ≤ length bs) where
   full : length (take 504 (drop 4 bs)) ≡ 504
@@ -130,13 +137,63 @@ module _ (n total : ℕ) (bs : List ℕ) (h : 512 ≤ length bs) where
       ∙ ap (take (total - 504)) (drop-at (take 504 (drop 4 bs)) others 504 full)
 
 -- LAW: the content of one block and of the others
-pub content-more : (total : ℕ) (bs : List ℕ) → 0 < total → 512 ≤ length bs
+content-more : (total : ℕ) (bs : List ℕ) → 0 < total → 512 ≤ length bs
     → contentOf total bs ≡ take (min 504 total) (drop 4 bs) ++ contentOf (total - 504) (drop 512 bs)
 unfolding contentOf
 content-more total bs more h =
     let n : ℕ = blocksFor (total - 504) in
     rw (blocks-more total more) (sym (take-append-drop 504 (take total (contents (suc n) bs)))
     ∙ rw (first-part n total bs h, other-part n total bs h) refl)
+
+-- LAW: the same by number: the content of the block with a number, and of those behind it
+pub content-next : (total number : ℕ) (file : List ℕ) → 0 < total → 512 * (number + 1) ≤ length file
+    → contentOf total (drop (512 * number) file)
+    ≡ take (min 504 total) (contentIn number file) ++ contentOf (total - 504) (drop (512 * (number + 1)) file)
+unfolding contentIn
+content-next total number file more h =
+    let at : 512 * number + 512 ≡ 512 * (number + 1) = omega arith in
+    content-more total (drop (512 * number) file) more (simp length-drop (omega arith))
+    ∙ rw (
+      take-take (min 504 total) 504 (drop 4 (drop (512 * number) file)) (omega arith),
+      drop-drop 512 (512 * number) file,
+      at,
+    ) refl
+
+-- a block that is there has 504 bytes of content
+pub content-full : (number : ℕ) (file : List ℕ) → 512 * (number + 1) ≤ length file
+    → length (contentIn number file) ≡ 504
+unfolding contentIn
+content-full number file h =
+    length-take-le 504 (drop 4 (drop (512 * number) file)) (simp (length-drop, length-drop) (omega arith))
+
+-- the block with a number, in the terms of code
+module _ (file : List ℕ) (number : ℕ) where
+  pub content-none : length file / 512 < number → take (0 - 0) file ≡ contentIn number file
+  unfolding contentIn
+  content-none h =
+      let none : drop (512 * number) file ≡ [] = drop-of-length-le file {i = 512 * number} (omega arith) in
+      rw none refl
+
+  module _ (h : number ≤ length file / 512) where
+    abbrev block : List ℕ
+    block = take (length file - 512 * number) (drop (512 * number) file)
+
+    cut : drop 4 block ≡ drop 4 (drop (512 * number) file)
+    cut = ap (drop 4) (tail-part (512 * number) file)
+
+    pub content-short : length block < 4 → take (0 - 0) block ≡ contentIn number file
+    unfolding contentIn
+    content-short k =
+        let none : drop 4 block ≡ [] = drop-of-length-le block {i = 4} (omega arith) in
+        rw (← cut, none) refl
+
+    pub content-cut : length block < 508 → take (length block - 4) (drop 4 block) ≡ contentIn number file
+    unfolding contentIn
+    content-cut k = rw (tail-part 4 block, ← cut) (sym (take-all 504 (drop 4 block) (simp length-drop (omega arith))))
+
+    pub content-whole : take (508 - 4) (drop 4 block) ≡ contentIn number file
+    unfolding contentIn
+    content-whole = rw cut refl
 
 -- LAW: a run that passes is there
 blocks-long : (n number total : ℕ) (bs : List ℕ) → judgeBlocks n number total bs ≡ accepted [] → 512 * n ≤ length bs

@@ -1,27 +1,17 @@
 -- Laws of numbers as bytes, over the width: reading gives back what is spelled, and spelling what is read. Assumes nothing.
 use mathlib.Core.Path.{_≡_, refl, sym, ap, _∙_}
-use mathlib.Core.Bool.{Bool, true, false}
-use mathlib.Core.Logic.{_⊎_, inl, inr, ⊎-elim}
+use mathlib.Core.Logic.{_⊎_, ⊎-elim}
 use mathlib.Core.List.{List, [], _∷_, _++_}
 use Prim.Native.Nat.{ℕ, zero, suc, _+_, _*_, _-_, _/_, _%_, _<_, _≤_, _^_}
 use native.Mathlib.Nat.{pow-succ'}
 use native.Mathlib.Numerals.{add-one}
 use native.Mathlib.Omega.{arith}
 use lib.ListN.{length, getD, take, drop, set, replicate, length-take, List·getD-append, List·getD-eq-default}
-use lib.Dec.{leb}
-use borrow.Author.Tests.{leb-true, leb-false}
 use lib.Seq.{getD-take, getD-drop, getD-set-same, getD-set-other, drop-cons, drop-append-seam}
+use Rattle.fields.proofs.Basics.{le-or-lt}
 use Rattle.fields.specs.Field.{field}
 use Rattle.fields.proofs.Fields.{field-drop}
 use Rattle.blocks.specs.Block.{bytesOf}
-
--- one of two numbers is not above the other
-pub le-or-lt : (a b : ℕ) → (a ≤ b) ⊎ (b < a)
-le-or-lt a b = go (leb a b) refl
-  where
-    go : (t : Bool) → leb a b ≡ t → (a ≤ b) ⊎ (b < a)
-    go true e = inl (leb-true a b e)
-    go false e = inr (leb-false a b e)
 
 -- every byte is below 256
 abbrev pub Bytes : List ℕ → Type 0

@@ -8,8 +8,9 @@ use native.Mathlib.Numerals.{add-one}
 use native.Mathlib.Omega.{arith}
 use lib.ListN.{length, getD, set, List·getD-append}
 use lib.Seq.{getD-set-same, getD-set-other}
+use Rattle.fields.proofs.Basics.{le-or-lt}
 use Rattle.blocks.specs.Block.{weighed, sumOf}
-use Rattle.blocks.proofs.Spelling.{le-or-lt, Bytes}
+use Rattle.blocks.proofs.Spelling.{Bytes}
 
 -- what a byte adds
 pub weight-small : (p x : ℕ) → p < 508 → x < 256 → (p + 1) * x ≤ 129540

@@ -11,6 +11,13 @@ use Rattle.table.specs.Answer.{Answer, accepted, refused, andThen}
 use Rattle.blocks.specs.declared.Judged.{Judged}
 use Rattle.blocks.specs.declared.Judged.the-variants.{Passed, Refused}
 
+-- a block's bytes, and how many of them are content
+abbrev pub blockBytes : ℕ
+blockBytes = 512
+
+abbrev pub contentBytes : ℕ
+contentBytes = 504
+
 -- a number as w bytes, low byte first
 unfoldable pub bytesOf : ℕ → ℕ → List ℕ
 bytesOf zero n = []
@@ -27,7 +34,7 @@ sumOf b = weighed 508 b
 
 -- what stands before the sum: the number, the used bytes, the content, and zeros past the used part
 unfoldable pub beforeSum : ℕ → List ℕ → List ℕ
-beforeSum number content = bytesOf 2 number ++ (bytesOf 2 (length content) ++ (content ++ replicate (504 - length content) 0))
+beforeSum number content = bytesOf 2 number ++ (bytesOf 2 (length content) ++ (content ++ replicate (contentBytes - length content) 0))
 
 -- the block that has this number and this content
 unfoldable pub blockOf : ℕ → List ℕ → List ℕ
@@ -51,7 +58,7 @@ examine number used b =
 
 -- the block at the front of some bytes, which is to have this number and so many used bytes: 70 short, then the demands on its 512 bytes
 unfoldable pub judge : ℕ → ℕ → List ℕ → Answer
-judge number used bs = andThen (demand (leb 512 (length bs)) blockShort) (λ _. examine number used (take 512 bs))
+judge number used bs = andThen (demand (leb blockBytes (length bs)) blockShort) (λ _. examine number used (take blockBytes bs))
 
 -- what the answers of code mean
 abbrev pub judged : Judged → Answer

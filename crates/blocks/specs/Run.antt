@@ -1,18 +1,18 @@
 -- Runs of blocks: a content of any length, 504 bytes a block; only the last may be partly used, and the numbers run on. These are definitions.
 use mathlib.Core.List.{List, [], _++_}
-use Prim.Native.Nat.{ℕ, zero, suc, _+_, _-_, _/_, min}
+use Prim.Native.Nat.{ℕ, zero, suc, _+_, _*_, _-_, _/_, min}
 use lib.ListN.{length, take, drop}
 use Rattle.table.specs.Answer.{Answer, accepted, andThen}
-use Rattle.blocks.specs.Block.{blockOf, judge}
+use Rattle.blocks.specs.Block.{blockBytes, contentBytes, blockOf, judge}
 
 -- how many blocks a content of so many bytes fills: none if there are none
 unfoldable pub blocksFor : ℕ → ℕ
-blocksFor total = (total + 503) / 504
+blocksFor total = (total + 503) / contentBytes
 
 -- the first n blocks of a content, numbered from this number on
 unfoldable pub blocksOf : ℕ → ℕ → List ℕ → List ℕ
 blocksOf zero number content = []
-blocksOf (suc n) number content = blockOf number (take 504 content) ++ blocksOf n (number + 1) (drop 504 content)
+blocksOf (suc n) number content = blockOf number (take contentBytes content) ++ blocksOf n (number + 1) (drop contentBytes content)
 
 -- all blocks of a content
 unfoldable pub runOf : ℕ → List ℕ → List ℕ
@@ -21,7 +21,7 @@ runOf number content = blocksOf (blocksFor (length content)) number content
 -- n blocks, judged one after the other, that are numbered from this number on and are to hold so many bytes: each uses 504, or what is left
 unfoldable pub judgeBlocks : ℕ → ℕ → ℕ → List ℕ → Answer
 judgeBlocks zero number total bs = accepted []
-judgeBlocks (suc n) number total bs = andThen (judge number (min 504 total) bs) (λ _. judgeBlocks n (number + 1) (total - 504) (drop 512 bs))
+judgeBlocks (suc n) number total bs = andThen (judge number (min contentBytes total) bs) (λ _. judgeBlocks n (number + 1) (total - contentBytes) (drop blockBytes bs))
 
 -- the run at the front of some bytes: as many blocks as so many bytes fill
 unfoldable pub judgeRun : ℕ → ℕ → List ℕ → Answer
@@ -30,7 +30,11 @@ judgeRun number total bs = judgeBlocks (blocksFor total) number total bs
 -- the contents of n blocks, one after the other: bytes 4 to 507 of each
 unfoldable pub contents : ℕ → List ℕ → List ℕ
 contents zero bs = []
-contents (suc n) bs = take 504 (drop 4 bs) ++ contents n (drop 512 bs)
+contents (suc n) bs = take contentBytes (drop 4 bs) ++ contents n (drop blockBytes bs)
+
+-- the content of the block with this number in a file
+unfoldable pub contentIn : ℕ → List ℕ → List ℕ
+contentIn number file = take contentBytes (drop 4 (drop (blockBytes * number) file))
 
 -- the content of so many bytes that the run at the front of some bytes holds
 unfoldable pub contentOf : ℕ → List ℕ → List ℕ

@@ -3,8 +3,13 @@ use table::numbers;
 ghost use mathlib.Core.Path.{_≡_};
 ghost use Prim.Native.Nat.{_+_, _*_, _≤_, _<_, min};
 ghost use lib.ListN.{length, take, drop};
-ghost use Rattle.blocks.specs.Block.{sumOf, zeros, examine, judge, judged};
-ghost use Rattle.blocks.specs.Run.{blocksFor, judgeRun};
+ghost use Rattle.blocks.specs.Block.{blockBytes, contentBytes, sumOf, zeros, examine, judge, judged};
+ghost use Rattle.blocks.specs.Run.{blocksFor, judgeRun, contentIn};
+
+// A block's bytes, and how many of them are content.
+pub const BLOCK_BYTES: usize = 512;
+
+pub const CONTENT_BYTES: usize = 504;
 
 // The judgement of blocks: they pass, or are refused by a number.
 pub enum Judged {
@@ -16,7 +21,7 @@ pub enum Judged {
 pub fn judge(bytes: &[u8], number: usize, used: usize) -> Judged
     ensures { λ r. ⌜ judged r ≡ judge number used (now (bytes .entry)) ⌝ }
 {
-    if bytes.len() < 512 {
+    if bytes.len() < BLOCK_BYTES {
         return Judged::Refused(numbers::BLOCK_SHORT);
     }
     let b = first_block(bytes);
@@ -36,7 +41,7 @@ pub fn judge_run(bytes: &[u8], first: u16, total: usize) -> Judged
         if let Judged::Refused(n) = here {
             return Judged::Refused(n);
         }
-        left = &left[512..];
+        left = &left[BLOCK_BYTES..];
         number += 1;
         more -= used;
     }
@@ -47,20 +52,47 @@ pub fn judge_run(bytes: &[u8], first: u16, total: usize) -> Judged
 pub fn blocks_for(total: usize) -> usize
     ensures { λ r. ⌜ r ≡ blocksFor total ⌝ }
 {
-    if total % 504 == 0 {
-        return total / 504;
+    if total % CONTENT_BYTES == 0 {
+        return total / CONTENT_BYTES;
     }
-    total / 504 + 1
+    total / CONTENT_BYTES + 1
+}
+
+// How many of so many bytes the first block of a run uses.
+pub fn used_here(more: usize) -> usize
+    ensures { λ r. ⌜ r ≡ min contentBytes more ⌝ }
+{
+    if more < CONTENT_BYTES {
+        return more;
+    }
+    CONTENT_BYTES
+}
+
+// The content of the block with this number in a file: its 504 bytes, or as many as are there.
+pub fn content(bytes: &[u8], number: usize) -> &[u8]
+    ensures { λ r. ⌜ now r ≡ contentIn number (now (bytes .entry)) ⌝ }
+{
+    if bytes.len() / BLOCK_BYTES < number {
+        return &bytes[0..0];
+    }
+    let block = &bytes[BLOCK_BYTES * number..];
+    if block.len() < 4 {
+        return &block[0..0];
+    }
+    if block.len() < 508 {
+        return &block[4..];
+    }
+    &block[4..508]
 }
 
 // The 512 bytes at the front, from 512 zero bytes.
-fn first_block(bytes: &[u8]) -> [u8; 512]
-    requires { ⌜ 512 ≤ length (now bytes) ⌝ }
-    ensures { λ r. ⌜ r ≡ take 512 (now (bytes .entry)) ⌝ }
+fn first_block(bytes: &[u8]) -> [u8; BLOCK_BYTES]
+    requires { ⌜ blockBytes ≤ length (now bytes) ⌝ }
+    ensures { λ r. ⌜ r ≡ take blockBytes (now (bytes .entry)) ⌝ }
 {
-    let mut b = [0u8; 512];
+    let mut b = [0u8; BLOCK_BYTES];
     let mut i = 0;
-    while i < 512 {
+    while i < BLOCK_BYTES {
         b[i] = bytes[i];
         i += 1;
     }
@@ -69,7 +101,7 @@ fn first_block(bytes: &[u8]) -> [u8; 512]
 
 // The demands on the 512 bytes of a block: 72, 71, 73.
 fn examine(b: &[u8], number: usize, used: usize) -> Judged
-    requires { ⌜ length (now b) ≡ 512 ⌝ }
+    requires { ⌜ length (now b) ≡ blockBytes ⌝ }
     ensures { λ r. ⌜ judged r ≡ examine number used (now (b .entry)) ⌝ }
 {
     let right = sum(b) == fields::word(b, 508);
@@ -100,7 +132,7 @@ fn weight(p: usize, x: u8) -> u32
 
 // The sum of (p + 1) times byte p over p = 0 to 507, in 32 bits: it is below 33 million.
 fn sum(b: &[u8]) -> u32
-    requires { ⌜ length (now b) ≡ 512 ⌝ }
+    requires { ⌜ length (now b) ≡ blockBytes ⌝ }
     ensures { λ r. ⌜ r ≡ sumOf (now (b .entry)) ⌝ }
 {
     let mut sum = 0u32;
@@ -114,7 +146,7 @@ fn sum(b: &[u8]) -> u32
 
 // Whether the content is zero from a place on.
 fn padded(b: &[u8], from: usize) -> bool
-    requires { ⌜ length (now b) ≡ 512 ⌝ }
+    requires { ⌜ length (now b) ≡ blockBytes ⌝ }
     ensures { λ r. ⌜ r ≡ zeros (drop from (take 508 (now (b .entry)))) ⌝ }
 {
     let mut p = from;
@@ -125,11 +157,4 @@ fn padded(b: &[u8], from: usize) -> bool
         p += 1;
     }
     true
-}
-
-// How many bytes the first block of a run uses.
-fn used_here(more: usize) -> usize
-    ensures { λ r. ⌜ r ≡ min 504 more ⌝ }
-{
-    if more < 504 { more } else { 504 }
 }

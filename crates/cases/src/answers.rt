@@ -1,7 +1,6 @@
 // The answer to one case, printed behind its label.
 use arguments::CallArgs;
 use arguments::Called;
-use arguments::Place;
 use dialect::Decoded;
 use dialect::Dialect;
 use dialect::DialectTypes;
@@ -10,10 +9,11 @@ use parameters::Counted;
 use parameters::Range;
 use parameters::Unpacked;
 use table::Checked;
+use table::Place;
 use table::Refusal;
 use table::Wanted;
 use targets::Targeted;
-use typerules::Shaped;
+use types::Shaped;
 use validate::Listed;
 
 // What a request asks: its job, how long its parts are, and the job's node.
@@ -55,17 +55,12 @@ fn say_refusal(r: Refusal) {
     match r {
         Refusal::Bare(number) => say_number(number as u64),
         Refusal::Placed { number, node } => say_placed(number, node),
-        Refusal::Spanned {
-            number,
-            node,
-            begin,
-            end,
-        } => {
+        Refusal::Spanned { number, node, span } => {
             say_placed(number, node);
             say(b" ");
-            say_number(begin as u64);
+            say_number(span.begin as u64);
             say(b"-");
-            say_number(end as u64);
+            say_number(span.end as u64);
         }
     }
 }
@@ -138,8 +133,8 @@ fn say_decoded(bytes: &[u8]) {
 
 fn say_place(p: Place) {
     match p {
-        Place::Given(i) => say_number(i as u64),
-        Place::Missing => say(b"none"),
+        Place::At(i) => say_number(i as u64),
+        Place::Nothing => say(b"none"),
     }
 }
 
@@ -224,7 +219,7 @@ fn say_targeted(t: Targeted) {
 
 // The type job, and the shape buffer afterwards.
 fn say_type(table: &[u8], names: &[u8], dialect: &[u8], node: usize, shapes: &mut [u8]) {
-    let s = types::type_shape(table, names, dialect, node, shapes);
+    let s = shapes::type_shape(table, names, dialect, node, shapes);
     match s {
         Shaped::Accepted => say(b"accepted"),
         Shaped::Refused(r) => say_refusal(r),

@@ -3,11 +3,12 @@ use mathlib.Core.Path.{_≡_, refl, sym, ap, _∙_}
 use mathlib.Core.Bool.{Bool, true, false}
 use mathlib.Core.Logic.{_⊎_, inl, inr}
 use mathlib.Core.List.{List, [], _∷_, _++_, map}
-use Prim.Native.Nat.{ℕ, zero, suc, _+_, _-_, _*_, _/_, _<_, _≤_}
+use Prim.Native.Nat.{ℕ, zero, suc, _+_, _-_, _*_}
 use native.Mathlib.Omega.{arith}
-use lib.ListN.{length, take, drop, replicate}
+use lib.ListN.{length, drop, replicate}
 use lib.Dec.{eqb}
 use borrow.Author.Tests.{eq-eqb}
+use Rattle.fields.proofs.Basics.{never}
 use Rattle.fields.specs.Choice.{if'}
 use Rattle.forest.specs.Forest.{Node, sizeOf, nodeOf, kidsOf, node, Forest, none, _then_, forest}
 use Rattle.forest.proofs.Stretch.{node-take}
@@ -19,13 +20,10 @@ use Rattle.table.specs.Check.{stretchOf}
 use Rattle.table.specs.declared.Wanted.the-variants.{Parameters}
 use Rattle.table.proofs.Checking.{Clean, accepted-clean, stretch-is, stretch-sound, stretch-size}
 use Rattle.table.proofs.Handed.{stretch-within}
-use Rattle.unpack.specs.Written.{Param, paramOf, paramsIn, written}
+use Rattle.deflist.specs.Written.{Param, paramOf, paramsIn, written}
 use Rattle.parameters.specs.Params.{listOf}
 use Rattle.demand3.specs.Given.{parametersIn, allParameters, Given}
 use Rattle.demand3.proofs.OverTheJob as job
-
-never : {P : Type 0} → _≡_ {A = ℕ} 0 1 → P
-never z = absurd (omega arith)
 
 -- classes among which no parameter is
 abbrev NoParameter : List ℕ → Type 0

@@ -1,25 +1,24 @@
 -- What unpack counts along the parts of a cut, where the `*` stands, and the modes. Assumes nothing.
-use mathlib.Core.Path.{_≡_, refl, sym, ap, ap₂, _∙_}
-use mathlib.Core.Bool.{Bool, true, false}
-use mathlib.Core.List.{List, [], _∷_, _++_, append-nil}
-use Prim.Native.Nat.{ℕ, zero, suc, _+_, _<_, _≤_}
+use mathlib.Core.Path.{_≡_, refl, ap, _∙_}
+use mathlib.Core.List.{List, [], _∷_, _++_}
+use Prim.Native.Nat.{ℕ, suc, _+_}
 use native.Mathlib.Omega.{arith}
-use lib.ListN.{length, drop, replicate}
+use lib.ListN.{length, replicate}
 use lib.Seq.{drop-append-seam}
 use Rattle.fields.specs.Choice.{if'}
 use Rattle.forest.specs.Forest.{Node}
 use Rattle.table.specs.Numbers.{starLast, noNormalAfterStar}
-use Rattle.unpack.specs.Written.{Name, Param, normal, noArgs, slash, args, kwargs, kindIn}
-use Rattle.unpack.specs.Unpack.{writtenAt, flatAt, seenSlash, seenStar, count, counts, modesFrom, Outcome, accepted}
-use Rattle.unpack.specs.Unpack.{refused, fromStar, finish}
-use Rattle.unpack.specs.declared.State.{State}
-use Rattle.unpack.specs.declared.State.the-variants.{Normal as BeforeSlash, SeenSlash, SeenStar, SeenStarStar}
-use Rattle.unpack.specs.declared.WrittenPlace.{WrittenPlace}
-use Rattle.unpack.specs.declared.WrittenPlace.the-variants.{AtWritten, NoWritten}
-use Rattle.unpack.specs.declared.Flat.{Flat}
-use Rattle.unpack.specs.declared.FlatPlace.{FlatPlace}
-use Rattle.unpack.specs.declared.FlatPlace.the-variants.{AtFlat, NoFlat}
-use Rattle.unpack.specs.declared.Counts.{Counts}
+use Rattle.deflist.specs.Written.{Param, noArgs, slash, args, kwargs}
+use Rattle.deflist.specs.Unpack.{writtenAt, flatAt, seenSlash, seenStar, counts, modesFrom, Outcome, accepted}
+use Rattle.deflist.specs.Unpack.{refused, fromStar, finish}
+use Rattle.deflist.specs.declared.State.{State}
+use Rattle.deflist.specs.declared.State.the-variants.{Normal as BeforeSlash, SeenSlash, SeenStar, SeenStarStar}
+use Rattle.deflist.specs.declared.WrittenPlace.{WrittenPlace}
+use Rattle.deflist.specs.declared.WrittenPlace.the-variants.{AtWritten, NoWritten}
+use Rattle.deflist.specs.declared.Flat.{Flat}
+use Rattle.deflist.specs.declared.FlatPlace.{FlatPlace}
+use Rattle.deflist.specs.declared.FlatPlace.the-variants.{AtFlat, NoFlat}
+use Rattle.deflist.specs.declared.Counts.{Counts}
 use Rattle.demand3.specs.Cut.{Ordinary, Star, noStar, bare, starred, Last, noKwargs, withKwargs, afterStar}
 use Rattle.demand3.specs.Cut.{ordinary, kwargsPart, argsPart}
 use Rattle.demand3.proofs.Walks.{countsFrom, starFrom}

@@ -1,39 +1,36 @@
 -- A list is accepted exactly when it has a good cut; the cut is unique; what is counted and the modes are the cut's. Assumes nothing.
 use mathlib.Core.Path.{_≡_, refl, sym, ap, ap₂, _∙_, subst}
-use mathlib.Core.Bool.{Bool, true, false, _||_}
-use mathlib.Core.Logic.{_⊎_, inl, inr, _↔_}
+use mathlib.Core.Bool.{Bool, true, false}
+use mathlib.Core.Logic.{_⊎_, inl, inr}
 use mathlib.Core.List.{List, [], _∷_, _++_, append-assoc}
-use Prim.Native.Nat.{ℕ, zero, suc, _+_, _<_, _≤_}
+use Prim.Native.Nat.{ℕ, _+_, _<_}
 use native.Mathlib.Omega.{arith}
 use lib.ListN.{length, length-append}
-use lib.Dec.{eqb}
 use borrow.Author.Tests.{ne-eqb}
+use Rattle.fields.proofs.Basics.{clash, never}
 use Rattle.forest.specs.Forest.{Node}
-use Rattle.unpack.specs.Written.{Name, Param, normal, noArgs, slash, args, kwargs, nodeIn, kindIn}
-use Rattle.unpack.specs.Unpack.{writtenAt, flatAt, isSlash, slashFrom, firstSlash, positionalOnly, firstState}
-use Rattle.unpack.specs.Unpack.{start, finish, Outcome, accepted, refused, run, unpack, modesFrom, modes}
-use Rattle.unpack.specs.declared.State.{State}
-use Rattle.unpack.specs.declared.State.the-variants.{Normal as BeforeSlash, SeenSlash, SeenStar, SeenStarStar}
-use Rattle.unpack.specs.declared.Written.{Written}
-use Rattle.unpack.specs.declared.WrittenPlace.{WrittenPlace}
-use Rattle.unpack.specs.declared.WrittenPlace.the-variants.{AtWritten, NoWritten}
-use Rattle.unpack.specs.declared.Flat.{Flat}
-use Rattle.unpack.specs.declared.Counts.{Counts}
-use Rattle.unpack.proofs.Steps.{clear-start}
-use Rattle.unpack.proofs.Theorems.{refused≢accepted}
+use Rattle.deflist.specs.Written.{Param, normal, noArgs, slash, args, kwargs, kindIn}
+use Rattle.deflist.specs.Unpack.{writtenAt, flatAt, isSlash, slashFrom, firstSlash, positionalOnly, firstState}
+use Rattle.deflist.specs.Unpack.{start, finish, Outcome, accepted, refused, run, unpack, modesFrom, modes}
+use Rattle.deflist.specs.declared.State.{State}
+use Rattle.deflist.specs.declared.State.the-variants.{Normal as BeforeSlash, SeenSlash}
+use Rattle.deflist.specs.declared.Written.{Written}
+use Rattle.deflist.specs.declared.WrittenPlace.{WrittenPlace}
+use Rattle.deflist.specs.declared.WrittenPlace.the-variants.{AtWritten, NoWritten}
+use Rattle.deflist.specs.declared.Flat.{Flat}
+use Rattle.deflist.specs.declared.Counts.{Counts}
+use Rattle.deflist.proofs.Steps.{clear-start}
+use Rattle.deflist.proofs.Theorems.{refused≢accepted}
 use Rattle.demand3.specs.Cut.{Ordinary, Before, noSlash, upToSlash, Star, noStar, bare, starred, Last}
-use Rattle.demand3.specs.Cut.{noKwargs, withKwargs, Cut, firsts, afterStar, ordinary, slashPart, starPart}
-use Rattle.demand3.specs.Cut.{kwargsPart, join, namesOf, Distinct, Defaulted, Some, SlashGood, StarGood, Good}
-use Rattle.demand3.specs.Cut.{argsPart, partsOf, partModes}
+use Rattle.demand3.specs.Cut.{noKwargs, withKwargs, Cut, firsts, ordinary, slashPart}
+use Rattle.demand3.specs.Cut.{kwargsPart, join, SlashGood, StarGood, Good}
+use Rattle.demand3.specs.Cut.{partsOf, partModes}
 use Rattle.demand3.proofs.Walks.{Rules, Fresh, countsFrom, starFrom, run-accepted, run-finished}
 use Rattle.demand3.proofs.Shapes.{Defaults, tail, either-rules, NoSlash, Slashed, pos-rules, rules-either}
 use Rattle.demand3.proofs.Shapes.{rules-pos, slash-at, slash-from, none-either}
 use Rattle.demand3.proofs.Names.{fresh-iff, defaults-iff}
 use Rattle.demand3.proofs.Counting.{plain, withTail, counts-either, counts-pos, starPlace, star-either}
 use Rattle.demand3.proofs.Counting.{star-pos, starVerdict, finish-tail, modes-either, modes-pos}
-
-never : {P : Type 0} {b : Bool} → b ≡ true → b ≡ false → P
-never e f = let z : _≡_ {A = ℕ} 0 1 = cc in absurd (omega arith)
 
 -- a list does not begin with `/`
 abbrev Heads : List Param → Type 0
@@ -157,7 +154,7 @@ unpack-cut c = go (c .before) (c .middle) (c .star) (c .last)
 -- a `/` that is not first stands later
 slash-later : (l : List Param) {w : Written} → Heads l → firstSlash l ≡ AtWritten w → 0 < w .0
 unfolding slashFrom
-slash-later [] h e = let z : _≡_ {A = ℕ} 0 1 = cc in absurd (omega arith)
+slash-later [] h e = never (cc)
 slash-later (p ∷ ps) h e = let rest : slashFrom (0 + 1) ps ≡ AtWritten _ = rw h at e in
     omega (arith, slash-from (0 + 1) ps rest)
 
@@ -181,7 +178,7 @@ loose-cut l {c} h = go (firstSlash l) refl
       where
         by-first : (qs : List Ordinary) → l ≡ ordinary qs ++ slash (m .1) ∷ (ordinary (m .2) ++ tail (m .3) (m .4))
             → Defaults false (qs ++ m .2) → Loose l
-        by-first [] e d = never refl (subst Heads e heads)
+        by-first [] e d = clash refl (subst Heads e heads)
         by-first (q ∷ qs) e d = (
           record { before = upToSlash (q ∷ qs) (m .1); middle = m .2; star = m .3; last = m .4 },
           slash-form (q ∷ qs) (m .1) _ ∙ sym e,

@@ -8,18 +8,18 @@
 --
 -- specs/Given.antt says what is given, specs/Cut.antt what a cut is and what is asked of it; neither speaks of unpack. The job `parameters::params` promises to
 -- answer `paramsOf` and to leave `modesAfter` in the lent buffer, so each theorem is about its answer and the buffer at exit. Assumes nothing.
-use mathlib.Core.Path.{_≡_, refl, sym, _∙_}
+use mathlib.Core.Path.{_≡_, sym, _∙_}
 use mathlib.Core.Logic.{_↔_}
 use mathlib.Core.List.{List}
 use Prim.Native.Nat.{ℕ, _<_, _≤_}
 use lib.ListN.{length, getD}
 use Rattle.table.specs.Answer.{accepted}
-use Rattle.unpack.specs.Written.{Param}
+use Rattle.deflist.specs.Written.{Param}
 use Rattle.parameters.specs.declared.Counted.{Counted}
 use Rattle.parameters.specs.Params.{unpacked, listOf, paramsOf, modesAfter}
 use Rattle.parameters.specs.declared.Unpacked.{Unpacked}
 use Rattle.parameters.specs.declared.Unpacked.the-variants.{Accepted}
-use Rattle.demand3.specs.Cut.{Cut, join, partsOf, flatList, Ranges, cutRanges, cutFlat, holders, cutValues}
+use Rattle.demand3.specs.Cut.{Cut, partsOf, flatList, cutRanges, cutFlat, holders, cutValues}
 use Rattle.demand3.specs.Cut.{ByRange, Follow, CutBy}
 use Rattle.demand3.specs.Given.{allParameters, Given, CutOf, RangesAre}
 use Rattle.demand3.proofs.Cuts.{join-injective}

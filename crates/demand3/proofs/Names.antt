@@ -1,5 +1,5 @@
 -- Names and defaults: the tests of the walk are the conditions of a good cut. Assumes nothing.
-use mathlib.Core.Path.{_≡_, refl, sym, ap, ap₂, _∙_}
+use mathlib.Core.Path.{_≡_, refl, sym, ap, _∙_}
 use mathlib.Core.Bool.{Bool, true, false, _||_}
 use mathlib.Core.Logic.{_↔_, ⊎-elim}
 use mathlib.Core.List.{List, [], _∷_, _++_, append-nil}
@@ -8,25 +8,23 @@ use native.Mathlib.Nat.{eq-or-lt-of-le}
 use native.Mathlib.Omega.{arith}
 use lib.ListN.{length, getD, length-append, List·getD-append}
 use lib.Seq.{append-snoc, getD-append-seam}
+use Rattle.forest.specs.Names.{Distinct}
+use Rattle.fields.proofs.Basics.{clash, never}
 use Rattle.fields.specs.Choice.{if'}
-use Rattle.forest.specs.Forest.{Node}
 use Rattle.forest.specs.Names.{same}
 use Rattle.forest.specs.declared.Found.{Found}
 use Rattle.forest.specs.declared.Found.the-variants.{At, Nothing}
 use Rattle.forest.proofs.Named.{same-bytes-refl, same-bytes-equal}
-use Rattle.unpack.specs.Written.{Name, Param, normal, noArgs, slash, args, kwargs, nodeIn}
-use Rattle.unpack.specs.Unpack.{defaultRule, hasName, firstSame, repeats}
-use Rattle.unpack.specs.declared.Check.the-variants.{Fine, Broken}
-use Rattle.unpack.proofs.Steps.{broken≢fine}
-use Rattle.demand3.specs.Cut.{Ordinary, namesOf, Distinct, defaultAt, Defaulted}
+use Rattle.deflist.specs.Written.{Name, Param, normal, noArgs, slash, args, kwargs}
+use Rattle.deflist.specs.Unpack.{defaultRule, hasName, firstSame, repeats}
+use Rattle.deflist.specs.declared.Check.the-variants.{Fine}
+use Rattle.deflist.proofs.Steps.{broken≢fine}
+use Rattle.demand3.specs.Cut.{Ordinary, namesOf, defaultAt, Defaulted}
 use Rattle.demand3.proofs.Walks.{Fresh}
 use Rattle.demand3.proofs.Shapes.{Defaults}
 
-never : {P : Type 0} → true ≡ false → P
-never e = let z : _≡_ {A = ℕ} 0 1 = cc in absurd (omega arith)
-
 found : {P : Type 0} {i : ℕ} → At i ≡ Nothing → P
-found e = let z : _≡_ {A = ℕ} 0 1 = cc in absurd (omega arith)
+found e = never (cc)
 
 -- no name of a list is x
 abbrev Absent : Name → List Name → Type 0
@@ -49,7 +47,7 @@ step-none n x at rest e = go (same n x) refl e
   where
     go : (b : Bool) → same n x ≡ b → if' b (λ _. At at) (λ _. rest) ≡ Nothing → (n ≡ x → ⊥) × (rest ≡ Nothing)
     go true h e = found e
-    go false h e = (λ q. never (sym (same-bytes-refl x) ∙ rw q at h), e)
+    go false h e = (λ q. clash refl (sym (same-bytes-refl x) ∙ rw q at h), e)
 
 none-step : (n x : Name) (at : ℕ) (rest : Found) → (n ≡ x → ⊥) → rest ≡ Nothing
     → if' (same n x) (λ _. At at) (λ _. rest) ≡ Nothing
@@ -181,16 +179,16 @@ fresh-iff l = (
 fine-default : (o d : Bool) → defaultRule o d ≡ Fine → o ≡ true → d ≡ true
 fine-default true true e q = refl
 fine-default true false e q = broken≢fine e
-fine-default false d e q = never (sym q)
+fine-default false d e q = clash refl (sym q)
 
 default-fine : (o d : Bool) → (o ≡ true → d ≡ true) → defaultRule o d ≡ Fine
 default-fine true true h = refl
-default-fine true false h = never (sym (h refl))
+default-fine true false h = clash refl (sym (h refl))
 default-fine false d h = refl
 
 or-left : (o d : Bool) → o ≡ true → (o || d) ≡ true
 or-left true d e = refl
-or-left false d e = never (sym e)
+or-left false d e = clash refl (sym e)
 
 or-right : (o d : Bool) → d ≡ true → (o || d) ≡ true
 or-right true d e = refl
@@ -227,4 +225,4 @@ defaulted-defaults o (q ∷ qs) a d = (
     rest false b x a′ e j h = d 0 (suc j) (omega arith) (omega arith) (sym x ∙ e)
 
 pub defaults-iff : (qs : List Ordinary) → Defaults false qs ↔ Defaulted qs
-defaults-iff qs = (defaults-defaulted false qs, defaulted-defaults false qs (λ e. never (sym e)))
+defaults-iff qs = (defaults-defaulted false qs, defaulted-defaults false qs (λ e. clash refl (sym e)))

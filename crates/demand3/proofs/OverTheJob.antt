@@ -1,34 +1,31 @@
 -- The laws of cuts, carried over to the job's answer and to the buffer at exit. Assumes nothing.
 use mathlib.Core.Path.{_≡_, refl, sym, ap, _∙_}
-use mathlib.Core.Bool.{Bool, true, false}
+use mathlib.Core.Bool.{true}
 use mathlib.Core.Logic.{_⊎_, inl, inr}
-use mathlib.Core.List.{List, [], _∷_, _++_}
-use Prim.Native.Nat.{ℕ, _+_, _-_, _*_, _/_, _<_, _≤_}
+use mathlib.Core.List.{List, _++_}
+use Prim.Native.Nat.{ℕ, _+_, _-_, _*_, _/_, _≤_}
 use native.Mathlib.Omega.{arith}
 use lib.ListN.{length, getD, drop, length-append, length-drop}
 use lib.Seq.{getD-append-add, getD-drop}
-use lib.Dec.{eqb}
-use borrow.Author.Tests.{lt-ltb, eq-eqb}
+use borrow.Author.Tests.{lt-ltb}
 use Rattle.forest.specs.Forest.{nodeOf}
 use Rattle.soundness.specs.KindNumbers.{kindDef, kindLambda}
-use Rattle.table.specs.Answer.{accepted, refusal}
+use Rattle.table.specs.Answer.{accepted}
 use Rattle.table.specs.Check.{nodeFits, wants}
 use Rattle.table.specs.declared.Wanted.the-variants.{Parameters}
 use Rattle.table.proofs.Answers.{never-accepted}
-use Rattle.unpack.specs.Written.{Param}
-use Rattle.unpack.specs.Unpack.{unpack, modes}
-use Rattle.parameters.specs.Indices.{range, valuesOf, countedOf, posOnly, posOrNamed, argsRange, namedOnly}
-use Rattle.parameters.specs.Indices.{kwargsRange}
+use Rattle.deflist.specs.Unpack.{unpack, modes}
+use Rattle.parameters.specs.Indices.{valuesOf}
 use Rattle.parameters.specs.declared.Range.{Range}
 use Rattle.parameters.specs.declared.Counted.{Counted}
-use Rattle.unpack.proofs.Theorems.{modes-short}
+use Rattle.deflist.proofs.Theorems.{modes-short}
 use Rattle.parameters.specs.Params.{unpacked, listOf, paramsOf, modesAfter}
 use Rattle.parameters.specs.declared.Unpacked.{Unpacked}
 use Rattle.parameters.specs.declared.Unpacked.the-variants.{Accepted, Refused}
 use Rattle.parameters.proofs.Accepted.{passed-accepted, accepted-passed}
-use Rattle.demand3.specs.Cut.{Cut, join, partsOf, cutRanges, cutFlat, cutValues, partModes, ByRange}
+use Rattle.demand3.specs.Cut.{Cut, partsOf, cutRanges, cutFlat, cutValues, partModes, ByRange}
 use Rattle.demand3.specs.Given.{Given, CutOf, RangesAre}
-use Rattle.demand3.proofs.Cuts.{cutCounts, cut-accepted, accepted-cut, cut-modes}
+use Rattle.demand3.proofs.Cuts.{cut-accepted, accepted-cut, cut-modes}
 use Rattle.demand3.proofs.Ranges.{cut-values, modes-length, modes-by-range}
 
 module _ (t names : List ℕ) (node : ℕ) (ms : List ℕ) (g : Given t names node ms) where

@@ -1,22 +1,21 @@
 -- The ranges of a cut: they are what unpack answers, cut the flat list into its parts, follow and cover, and each has its mode. Assumes nothing.
-use mathlib.Core.Path.{_≡_, refl, sym, ap, ap₂, _∙_}
+use mathlib.Core.Path.{_≡_, refl, ap, ap₂, _∙_}
 use mathlib.Core.Bool.{Bool, true, false, _&&_}
 use mathlib.Core.List.{List, [], _∷_, _++_, append-assoc, append-nil}
-use Prim.Native.Nat.{ℕ, zero, suc, _+_, _-_, _<_, _≤_}
+use Prim.Native.Nat.{ℕ, _+_, _-_, _<_, _≤_}
 use native.Mathlib.Omega.{arith}
-use lib.ListN.{length, getD, take, drop, replicate, length-append, length-replicate, List·getD-append}
+use lib.ListN.{length, getD, replicate, length-append, length-replicate, List·getD-append}
 use lib.ListN.{getD-replicate}
 use lib.Seq.{getD-append-add, drop-append-seam, take-append-seam}
 use lib.Dec.{leb, ltb}
 use borrow.Author.Tests.{leb-true, leb-false, ltb-true, ltb-false, lt-ltb, le-ltb}
 use Rattle.fields.specs.Choice.{if'}
-use Rattle.unpack.specs.Written.{Param, normal, noArgs, slash, args, kwargs}
+use Rattle.deflist.specs.Written.{Param, normal, noArgs, slash, args, kwargs}
 use Rattle.parameters.specs.Indices.{range, placeRange, placeOf, valuesOf, countedOf}
-use Rattle.parameters.specs.declared.Range.{Range}
 use Rattle.demand3.specs.Cut.{Ordinary, Before, noSlash, upToSlash, Star, noStar, bare, starred, Last}
 use Rattle.demand3.specs.Cut.{noKwargs, withKwargs, Cut, firsts, afterStar, ordinary, slashPart, starPart}
-use Rattle.demand3.specs.Cut.{kwargsPart, join, argsPart, Parts, partsOf, flatList, Ranges, rangesOf}
-use Rattle.demand3.specs.Cut.{cutRanges, cutFlat, slice, holds, holders, cutValues, partModes, InRange}
+use Rattle.demand3.specs.Cut.{kwargsPart, join, argsPart, Parts, partsOf, flatList, rangesOf}
+use Rattle.demand3.specs.Cut.{cutRanges, slice, holds, holders, cutValues, partModes, InRange}
 use Rattle.demand3.specs.Cut.{ByRange, Follow, CutBy}
 use Rattle.demand3.proofs.Counting.{argsPlace, kwargsPlace}
 use Rattle.demand3.proofs.Cuts.{cutCounts}

@@ -1,22 +1,21 @@
 -- Lists that keep the rules have the form of a cut, and lists of that form keep the rules. Assumes nothing.
-use mathlib.Core.Path.{_≡_, refl, sym, ap, _∙_}
+use mathlib.Core.Path.{_≡_, refl, ap}
 use mathlib.Core.Bool.{Bool, true, false, _||_}
 use mathlib.Core.Logic.{_⊎_, inl, inr}
 use mathlib.Core.List.{List, [], _∷_, _++_}
-use Prim.Native.Nat.{ℕ, zero, suc, _+_, _≤_}
+use Prim.Native.Nat.{ℕ, suc, _+_, _≤_}
 use native.Mathlib.Omega.{arith}
 use lib.ListN.{length}
+use Rattle.fields.proofs.Basics.{never}
 use Rattle.forest.specs.Forest.{Node}
-use Rattle.unpack.specs.Written.{Name, Param, normal, noArgs, slash, args, kwargs, kindIn}
-use Rattle.unpack.specs.Unpack.{writtenAt, defaultRule, isSlash, slashFrom}
-use Rattle.unpack.specs.declared.State.{State}
-use Rattle.unpack.specs.declared.State.the-variants.{Normal as BeforeSlash, SeenSlash, SeenStar, SeenStarStar}
-use Rattle.unpack.specs.declared.Check.the-variants.{Fine, Broken}
+use Rattle.deflist.specs.Written.{Name, Param, normal, noArgs, slash, args, kwargs, kindIn}
+use Rattle.deflist.specs.Unpack.{writtenAt, defaultRule, isSlash, slashFrom}
+use Rattle.deflist.specs.declared.State.the-variants.{Normal as BeforeSlash, SeenSlash, SeenStar, SeenStarStar}
+use Rattle.deflist.specs.declared.Check.the-variants.{Fine}
 use Rattle.fields.specs.Choice.{if'}
-use Rattle.unpack.specs.declared.Written.{Written}
-use Rattle.unpack.specs.declared.WrittenPlace.{WrittenPlace}
-use Rattle.unpack.specs.declared.WrittenPlace.the-variants.{AtWritten, NoWritten}
-use Rattle.unpack.proofs.Steps.{broken≢fine}
+use Rattle.deflist.specs.declared.Written.{Written}
+use Rattle.deflist.specs.declared.WrittenPlace.the-variants.{AtWritten, NoWritten}
+use Rattle.deflist.proofs.Steps.{broken≢fine}
 use Rattle.demand3.specs.Cut.{Ordinary, Star, noStar, bare, starred, Last, noKwargs, withKwargs, ordinary}
 use Rattle.demand3.specs.Cut.{starPart, kwargsPart}
 use Rattle.demand3.proofs.Walks.{Rules}
@@ -139,7 +138,7 @@ slash-at i (q ∷ qs) x l = let e : i + suc (length (ordinary qs)) ≡ i + 1 + l
 -- it stands no earlier than the list is counted from
 pub slash-from : (i : ℕ) (l : List Param) {w : Written} → slashFrom i l ≡ AtWritten w → i ≤ w .0
 unfolding slashFrom
-slash-from i [] e = let z : _≡_ {A = ℕ} 0 1 = cc in absurd (omega arith)
+slash-from i [] e = never (cc)
 slash-from i (p ∷ ps) {w} e = go (isSlash (kindIn p)) e (λ h. slash-from (i + 1) ps h)
   where
     go : (b : Bool) → if' b (λ _. AtWritten (writtenAt i)) (λ _. slashFrom (i + 1) ps) ≡ AtWritten w

@@ -1,23 +1,22 @@
 -- unpack's walk, apart: the rules of the kinds, the names, and what is counted. Assumes nothing.
-use mathlib.Core.Path.{_≡_, refl, sym, ap, ap₂, _∙_}
-use mathlib.Core.Bool.{Bool, true, false}
+use mathlib.Core.Path.{_≡_, refl, sym, _∙_}
+use mathlib.Core.Bool.{Bool}
 use mathlib.Core.List.{List, [], _∷_, _++_, append-assoc, append-nil}
-use Prim.Native.Nat.{ℕ, zero, suc, _+_}
-use native.Mathlib.Omega.{arith}
+use Prim.Native.Nat.{ℕ, _+_}
 use lib.ListN.{length, length-append}
 use Rattle.forest.specs.declared.Found.{Found}
 use Rattle.forest.specs.declared.Found.the-variants.{At, Nothing}
-use Rattle.unpack.specs.Written.{Param, kindIn}
-use Rattle.unpack.specs.Unpack.{writtenAt, repeats, rule, firstly, check, nextState, nextOptional, nextStar, count}
-use Rattle.unpack.specs.Unpack.{advance, finish, Outcome, accepted, refused, run}
-use Rattle.unpack.specs.declared.State.{State}
-use Rattle.unpack.specs.declared.Check.{Check}
-use Rattle.unpack.specs.declared.Check.the-variants.{Fine, Broken}
-use Rattle.unpack.specs.declared.WrittenPlace.{WrittenPlace}
-use Rattle.unpack.specs.declared.Counts.{Counts}
-use Rattle.unpack.specs.declared.Unpacking.{Unpacking}
-use Rattle.unpack.proofs.Steps.{broken≢fine, Cleared, run-stop, run-on, clear-on}
-use Rattle.unpack.proofs.Theorems.{refused≢accepted}
+use Rattle.deflist.specs.Written.{Param, kindIn}
+use Rattle.deflist.specs.Unpack.{writtenAt, repeats, rule, firstly, check, nextState, nextOptional, nextStar, count}
+use Rattle.deflist.specs.Unpack.{advance, finish, accepted, refused, run}
+use Rattle.deflist.specs.declared.State.{State}
+use Rattle.deflist.specs.declared.Check.{Check}
+use Rattle.deflist.specs.declared.Check.the-variants.{Fine, Broken}
+use Rattle.deflist.specs.declared.WrittenPlace.{WrittenPlace}
+use Rattle.deflist.specs.declared.Counts.{Counts}
+use Rattle.deflist.specs.declared.Unpacking.{Unpacking}
+use Rattle.deflist.proofs.Steps.{broken≢fine, Cleared, run-stop, run-on, clear-on}
+use Rattle.deflist.proofs.Theorems.{refused≢accepted}
 
 -- every parameter keeps the rule of its kind
 abbrev pub Rules : State → Bool → List Param → Type 0

@@ -5,9 +5,11 @@ use mathlib.Core.List.{List, [], _∷_, _++_}
 use Prim.Native.Nat.{ℕ, zero, suc, _+_, _-_, _<_, _≤_}
 use lib.ListN.{length, getD, take, drop, replicate}
 use lib.Dec.{leb, ltb}
+use Rattle.forest.specs.Names.{Distinct}
 use Rattle.fields.specs.Choice.{if'}
 use Rattle.forest.specs.Forest.{Node}
-use Rattle.unpack.specs.Written.{Name, Param, normal, noArgs, slash, args, kwargs}
+use Rattle.deflist.specs.Written.{Name, Param, normal, noArgs, slash, args, kwargs}
+use Rattle.deflist.specs.Unpack.{modePosOnly, modePosOrName, modeNameOnly, modeArgs, modeKwargs}
 use Rattle.parameters.specs.Indices.{range}
 use Rattle.parameters.specs.declared.Range.{Range}
 
@@ -80,10 +82,6 @@ namesOf (noArgs r ∷ ps) = namesOf ps
 namesOf (slash r ∷ ps) = namesOf ps
 namesOf (args r n ∷ ps) = n ∷ namesOf ps
 namesOf (kwargs r n ∷ ps) = n ∷ namesOf ps
-
--- all names are distinct
-abbrev pub Distinct : List Name → Type 0
-Distinct ns = (i j : ℕ) → i < j → j < length ns → getD ns i [] ≡ getD ns j [] → ⊥
 
 -- none without default after one with
 abbrev pub defaultAt : List Ordinary → ℕ → Bool
@@ -181,20 +179,24 @@ cutValues c =
     let r = cutRanges c in
     r .posOnly .from ∷ r .posOnly .upto ∷ r .posOrNamed .from ∷ r .posOrNamed .upto ∷ r .args .from ∷ r .args .upto ∷ r .namedOnly .from ∷ r .namedOnly .upto ∷ r .kwargs .from ∷ r .kwargs .upto ∷ cutFlat c ∷ []
 
--- the modes by range: 1 PosOnly, 2 PosOrName, 4 Args, 3 NameOnly, 5 Kwargs
+-- the modes by range
 abbrev pub partModes : Parts → List ℕ
-partModes p = replicate (length (p .posOnly)) 1 ++ (replicate (length (p .posOrNamed)) 2 ++ (replicate (length (p .args)) 4 ++ (replicate (length (p .namedOnly)) 3 ++ replicate (length (p .kwargs)) 5)))
+partModes p =
+    replicate (length (p .posOnly)) modePosOnly
+    ++ (replicate (length (p .posOrNamed)) modePosOrName
+    ++ (replicate (length (p .args)) modeArgs
+    ++ (replicate (length (p .namedOnly)) modeNameOnly ++ replicate (length (p .kwargs)) modeKwargs)))
 
 -- every index of a range has the mode m in a buffer
 abbrev pub InRange : Range → ℕ → List ℕ → Type 0
 InRange r m ms = (i : ℕ) → r .from ≤ i → i < r .upto → getD ms i 0 ≡ m
 
 pub record ByRange (r : Ranges) (ms : List ℕ) : Type 0 where
-  pub posOnly : InRange (r .posOnly) 1 ms
-  pub posOrNamed : InRange (r .posOrNamed) 2 ms
-  pub args : InRange (r .args) 4 ms
-  pub namedOnly : InRange (r .namedOnly) 3 ms
-  pub kwargs : InRange (r .kwargs) 5 ms
+  pub posOnly : InRange (r .posOnly) modePosOnly ms
+  pub posOrNamed : InRange (r .posOrNamed) modePosOrName ms
+  pub args : InRange (r .args) modeArgs ms
+  pub namedOnly : InRange (r .namedOnly) modeNameOnly ms
+  pub kwargs : InRange (r .kwargs) modeKwargs ms
 
 -- five ranges follow one another from 0 to n
 pub record Follow (r : Ranges) (n : ℕ) : Type 0 where

@@ -11,7 +11,7 @@ use Rattle.soundness.specs.KindNumbers.{kindDef, kindLambda}
 use Rattle.soundness.specs.Kinds.{parameter, classOf}
 use Rattle.table.specs.Answer.{accepted}
 use Rattle.table.specs.Check.{checkOf, stretchOf}
-use Rattle.unpack.specs.Written.{Param, paramOf}
+use Rattle.deflist.specs.Written.{Param, paramOf}
 use Rattle.parameters.specs.Indices.{posOnly, posOrNamed, argsRange, namedOnly, kwargsRange}
 use Rattle.parameters.specs.declared.Counted.{Counted}
 use Rattle.parameters.specs.Params.{listOf}

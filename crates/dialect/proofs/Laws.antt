@@ -6,8 +6,11 @@ use Prim.Native.Nat.{ℕ, zero, suc, _≤_}
 use native.Mathlib.Omega.{arith}
 use lib.Dec.{eqb}
 use lib.ListN.{length, getD}
+use Rattle.dialect.specs.declared.Dialect.{Dialect}
+use Rattle.dialect.specs.declared.DialectTypes.{DialectTypes}
+use Rattle.dialect.specs.declared.DialectTypes.the-variants.{Disable, ParseOnly, Enable}
 use Rattle.dialect.specs.declared.Decoded.the-variants.{Valid, Invalid}
-use Rattle.dialect.specs.Rows.{typesOf, recordOf, dialectNamed, noneGiven, bitOf, typesNumber, rowOf}
+use Rattle.dialect.specs.Rows.{typesOf, recordOf, dialectNamed, noneGiven}
 use Rattle.dialect.specs.Bytes.{limits, within, validBytes, fromBytes}
 use Rattle.dialect.proofs.Within.{within-length, within-at, elements-drop}
 
@@ -44,6 +47,31 @@ invalid-length bs other = go (validBytes bs) refl
 -- a length other than 0 and 9 gives no dialect
 pub other-length : (bs : List ℕ) → (length bs ≡ 0 → ⊥) → (length bs ≡ 9 → ⊥) → fromBytes bs ≡ Invalid
 other-length bs some other = invalid-given bs some (invalid-length bs other)
+
+-- the number of a bool: 1 for true, 0 for false
+abbrev pub bitOf : Bool → ℕ
+bitOf true = 1
+bitOf false = 0
+
+-- the number of enable_types
+abbrev pub typesNumber : DialectTypes → ℕ
+typesNumber Disable = 0
+typesNumber ParseOnly = 1
+typesNumber Enable = 2
+
+-- the nine numbers of a dialect, in the order of its fields
+unfoldable pub rowOf : Dialect → List ℕ
+rowOf d =
+    bitOf (d .«enable_def»)
+    ∷ bitOf (d .«enable_lambda»)
+    ∷ bitOf (d .«enable_load»)
+    ∷ bitOf (d .«enable_keyword_only_arguments»)
+    ∷ bitOf (d .«enable_positional_only_arguments»)
+    ∷ typesNumber (d .«enable_types»)
+    ∷ bitOf (d .«enable_load_reexport»)
+    ∷ bitOf (d .«enable_top_level_stmt»)
+    ∷ bitOf (d .«enable_f_strings»)
+    ∷ []
 
 -- 0 and 1 come back from a bool
 bit-back : (n : ℕ) → n ≤ 1 → bitOf (eqb n 1) ≡ n

@@ -49,28 +49,3 @@ dialectNamed name = recordOf (rowNamed name)
 -- the dialect that is meant where none is given: the crate's Default
 abbrev pub noneGiven : Name
 noneGiven = Standard
-
--- the number of a bool: 1 for true, 0 for false
-abbrev pub bitOf : Bool → ℕ
-bitOf true = 1
-bitOf false = 0
-
--- the number of enable_types
-abbrev pub typesNumber : DialectTypes → ℕ
-typesNumber Disable = 0
-typesNumber ParseOnly = 1
-typesNumber Enable = 2
-
--- the nine numbers of a dialect, in the order of its fields
-unfoldable pub rowOf : Dialect → List ℕ
-rowOf d =
-    bitOf (d .«enable_def»)
-    ∷ bitOf (d .«enable_lambda»)
-    ∷ bitOf (d .«enable_load»)
-    ∷ bitOf (d .«enable_keyword_only_arguments»)
-    ∷ bitOf (d .«enable_positional_only_arguments»)
-    ∷ typesNumber (d .«enable_types»)
-    ∷ bitOf (d .«enable_load_reexport»)
-    ∷ bitOf (d .«enable_top_level_stmt»)
-    ∷ bitOf (d .«enable_f_strings»)
-    ∷ []

@@ -7,12 +7,12 @@ use lib.ListN.{length, length-append}
 use Rattle.fields.specs.Choice.{if'}
 use Rattle.dialect.specs.declared.Dialect.{Dialect}
 use Rattle.forest.specs.Forest.{Node, Forest}
-use Rattle.soundness.specs.Kinds.{parameter}
-use Rattle.unpack.specs.Written.{Param, kindIn, paramsIn}
-use Rattle.unpack.specs.Unpack.{Outcome, accepted, refused, internal, unpack}
-use Rattle.unpack.specs.declared.Kind.{Kind}
-use Rattle.unpack.specs.declared.Kind.the-variants.{Normal, NoArgs, Slash, Args, KwArgs}
-use Rattle.errors.specs.Errors.{Err, unless}
+use Rattle.deflist.specs.Written.{Param, kindIn, paramsIn}
+use Rattle.deflist.specs.Unpack.{Outcome, accepted, refused, internal, unpack}
+use Rattle.deflist.specs.declared.Kind.{Kind}
+use Rattle.deflist.specs.declared.Kind.the-variants.{Normal, NoArgs, Slash, Args, KwArgs}
+use Rattle.errors.specs.declared.Err.{Err}
+use Rattle.errors.specs.Errors.{unless}
 use Rattle.errors.specs.Params.{everyMark, marks, permits, isMark, unpackError, «validate_params», withParams}
 use Rattle.errors.specs.declared.Mark.{Mark}
 use Rattle.errors.specs.declared.Mark.the-variants.{Star, Slash as SlashMark}

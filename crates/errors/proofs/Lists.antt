@@ -6,21 +6,22 @@ use Prim.Native.Nat.{ℕ, _+_, _-_, _*_, _/_, _≤_, min}
 use native.Mathlib.Omega.{arith}
 use lib.ListN.{length, take, drop, length-take, length-drop}
 use borrow.Rule.Slice.PartMut.{putMid}
+use Rattle.fields.proofs.Basics.{never}
 use Rattle.dialect.specs.declared.Dialect.{Dialect}
 use Rattle.forest.specs.Forest.{nodeOf, spanOf, kidsOf, forest}
-use Rattle.forest.proofs.Stretch.{length-kids}
-use Rattle.unpack.specs.Written.{paramsIn, written}
-use Rattle.unpack.specs.Unpack.{Outcome, accepted, refused, internal, unpack}
-use Rattle.unpack.specs.Told.{told}
-use Rattle.unpack.specs.Reading.{isListed, kindHere}
-use Rattle.unpack.specs.declared.Counts.{Counts}
-use Rattle.unpack.specs.declared.Kind.{Kind}
-use Rattle.unpack.specs.declared.Fault.{Fault}
-use Rattle.unpack.specs.declared.Judged.{Judged}
-use Rattle.unpack.specs.declared.Judged.the-variants.{Accepted, Refused}
-use Rattle.unpack.proofs.Reading.{node-in, kind-in, list-end, list-on}
-use Rattle.unpack.proofs.Theorems.{list-short, written-short}
-use Rattle.errors.specs.Errors.{Err, err, errAt, unless, width, Stores}
+use Rattle.deflist.specs.Written.{paramsIn, written}
+use Rattle.deflist.specs.Unpack.{Outcome, accepted, refused, internal, unpack}
+use Rattle.deflist.specs.Told.{fault, told}
+use Rattle.deflist.specs.Reading.{isListed, kindHere}
+use Rattle.deflist.specs.declared.Counts.{Counts}
+use Rattle.deflist.specs.declared.Kind.{Kind}
+use Rattle.deflist.specs.declared.Fault.{Fault}
+use Rattle.deflist.specs.declared.Judged.{Judged}
+use Rattle.deflist.specs.declared.Judged.the-variants.{Accepted, Refused}
+use Rattle.deflist.proofs.Reading.{node-in, kind-in, list-end, list-on}
+use Rattle.deflist.proofs.Theorems.{list-short, written-short}
+use Rattle.errors.specs.declared.Err.{Err}
+use Rattle.errors.specs.Errors.{err, errAt, unless, width, Stores}
 use Rattle.errors.specs.Params.{withParams, isMark, permits, notPermitted, everyMark, marks, unpackError}
 use Rattle.errors.specs.Params.{«validate_params»}
 use Rattle.errors.specs.Inner.{Anywhere}
@@ -81,24 +82,22 @@ every-short m t e {n = n} s =
 -- what unpack says of a list
 unpack-fine : (o : Outcome) {j : Judged} {c : Counts} → j ≡ told o → j ≡ Accepted c → unpackError o ≡ []
 unpack-fine (accepted c) p q = refl
-unpack-fine (refused n r) p q = let z : _≡_ {A = ℕ} 0 1 = cc in absurd (omega arith)
-unpack-fine (internal e r) p q = let z : _≡_ {A = ℕ} 0 1 = cc in absurd (omega arith)
+unpack-fine (refused n r) p q = never (cc)
+unpack-fine (internal e r) p q = never (cc)
 
 unpack-fault : (o : Outcome) {j : Judged} {a : Fault} → j ≡ told o → j ≡ Refused a
-    → unpackError o ≡ err (a .number) (a .begin) (a .end) ∷ []
-unpack-fault (accepted c) p q = let z : _≡_ {A = ℕ} 0 1 = cc in absurd (omega arith)
-unpack-fault (refused n r) {j} {a} p q = let same : record
-    { number = n; node = r .at; begin = r .begin; end = r .stop } ≡ a = cc in rw (← same) refl
-unpack-fault (internal e r) {j} {a} p q =
-    let same : record { number = 0; node = r .at; begin = r .begin; end = r .stop } ≡ a = cc in rw (← same) refl
+    → unpackError o ≡ err (a .number) (a .span) ∷ []
+unpack-fault (accepted c) p q = never (cc)
+unpack-fault (refused n r) {j} {a} p q = let same : fault n r ≡ a = cc in rw (← same) refl
+unpack-fault (internal e r) {j} {a} p q = let same : fault 0 r ≡ a = cc in rw (← same) refl
 
 module _ (o : Outcome) {j : Judged} (j-is : j ≡ told o) (xs : List ℕ) where
   pub error-none : {c : Counts} → j ≡ Accepted c → Stores (unpackError o) xs 0 xs
   error-none h = rw (unpack-fine o j-is h) (stores-none xs)
 
-  pub error-one : {a : Fault} → j ≡ Refused a → {n : ℕ} {ys : List ℕ}
-      → Stores (err (a .number) (a .begin) (a .end) ∷ []) xs n ys → Stores (unpackError o) xs n ys
-  error-one h s = rw (unpack-fault o j-is h) s
+  pub error-one : {a : Fault} → j ≡ Refused a → {e : Err} → e ≡ err (a .number) (a .span) → {n : ℕ} {ys : List ℕ}
+      → Stores (e ∷ []) xs n ys → Stores (unpackError o) xs n ys
+  error-one h e-is s = rw (unpack-fault o j-is h, ← e-is) s
 
 -- every mark of a sort, unless the dialect permits it
 module _ (d : Dialect) (m : Mark) (t xs : List ℕ) {b : Bool} (b-is : b ≡ permits d m) where

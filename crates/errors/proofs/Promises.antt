@@ -6,7 +6,8 @@ use Prim.Native.Nat.{ℕ, _+_, _*_, min}
 use Rattle.fields.proofs.Coincide.{coincide}
 use Rattle.dialect.specs.declared.Dialect.{Dialect}
 use Rattle.forest.specs.Forest.{nodeOf, forest, kidsOf}
-use Rattle.errors.specs.Errors.{Err, errAt, unless, width, Stores}
+use Rattle.errors.specs.declared.Err.{Err}
+use Rattle.errors.specs.Errors.{errAt, unless, width, Stores}
 use Rattle.errors.specs.Params.{withParams}
 
 -- what stores the same errors in the same words counts and leaves the same

@@ -11,7 +11,8 @@ use borrow.Author.Tests.{le-leb, lt-leb, leb-true, leb-false}
 use borrow.Rule.Slice.PartMut.{putMid}
 use Rattle.fields.proofs.Fields.{tail-part}
 use Rattle.forest.specs.Forest.{Node, nodeOf}
-use Rattle.errors.specs.Errors.{Err, err, errAt, unless, width, wordsOf, stored, Stores}
+use Rattle.errors.specs.Errors.{errAt, unless, width, wordsOf, stored, Stores}
+use Rattle.errors.specs.declared.Err.{Err}
 
 -- there is room for an error, or none
 room : {P : Type 0} (xs : List ℕ) → (3 ≤ length xs → P) → (length xs < 3 → P) → P
@@ -104,22 +105,21 @@ three (x ∷ y ∷ []) a b c h = absurd (omega arith)
 three (x ∷ y ∷ z ∷ xs) a b c h = refl
 
 -- LAW: one error is three words where they fit, and none else
-module _ (xs : List ℕ) (a b c : ℕ) where
-  pub push-fits : 3 ≤ length xs → Stores (err a b c ∷ []) xs 1 (set (set (set xs 0 a) 1 b) 2 c)
+module _ (xs : List ℕ) (e : Err) where
+  pub push-fits : 3 ≤ length xs
+      → Stores (e ∷ []) xs 1 (set (set (set xs 0 (e .number)) 1 (e .span .begin)) 2 (e .span .end))
   push-fits h = record {
     count = refl;
-    words = three xs a b c h
-        ∙ sym (stored-fits (err a b c) [] xs h
-        ∙ ap (λ (l : List ℕ). wordsOf (err a b c) ++ l) (stored-none (drop 3 xs)));
+    words = three xs (e .number) (e .span .begin) (e .span .end) h
+        ∙ sym (stored-fits e [] xs h ∙ ap (λ (l : List ℕ). wordsOf e ++ l) (stored-none (drop 3 xs)));
   }
 
-  pub push-full : length xs < 3 → Stores (err a b c ∷ []) xs 1 xs
-  push-full h = record { count = refl; words = sym (stored-full (err a b c) [] xs h) }
+  pub push-full : length xs < 3 → Stores (e ∷ []) xs 1 xs
+  push-full h = record { count = refl; words = sym (stored-full e [] xs h) }
 
--- LAW: an error at a record has the record's span
-pub push-spanned : (n : ℕ) (t : List ℕ) {b e m : ℕ} {xs ys : List ℕ} → b ≡ nodeOf 0 t .begin → e ≡ nodeOf 0 t .stop
-    → Stores (err n b e ∷ []) xs m ys → Stores (errAt n (nodeOf 0 t) ∷ []) xs m ys
-push-spanned n t b-is e-is s = rw (← b-is, ← e-is) s
+-- LAW: an error that is known is stored as such
+pub push-known : {e f : Err} {m : ℕ} {xs ys : List ℕ} → e ≡ f → Stores (e ∷ []) xs m ys → Stores (f ∷ []) xs m ys
+push-known known s = rw (← known) s
 
 -- LAW: an error unless something is permitted
 module _ (r : Node) (n : ℕ) {b : Bool} {xs : List ℕ} where

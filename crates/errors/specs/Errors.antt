@@ -7,19 +7,17 @@ use lib.Dec.{leb}
 use lib.ListN.{length, drop}
 use Rattle.fields.specs.Choice.{if'}
 use Rattle.forest.specs.Forest.{Node}
+use Rattle.table.specs.Answer.{spanAt}
+use Rattle.table.specs.declared.Span.{Span}
+use Rattle.errors.specs.declared.Err.{Err}
 
 -- an error: document 01's number and a span
-pub record Err : Type 0 where
-  pub number : ℕ
-  pub begin : ℕ
-  pub end : ℕ
-
-abbrev pub err : ℕ → ℕ → ℕ → Err
-err n b e = record { number = n; begin = b; end = e }
+abbrev pub err : ℕ → Span → Err
+err n s = record { number = n; span = s }
 
 -- an error at a record
 abbrev pub errAt : ℕ → Node → Err
-errAt n r = err n (r .begin) (r .stop)
+errAt n r = err n (spanAt r)
 
 -- an error at a record unless something is permitted
 abbrev pub unless : Bool → ℕ → Node → List Err
@@ -31,7 +29,7 @@ abbrev pub width : ℕ
 width = 3
 
 abbrev pub wordsOf : Err → List ℕ
-wordsOf e = e .number ∷ e .begin ∷ e .end ∷ []
+wordsOf e = e .number ∷ e .span .begin ∷ e .span .end ∷ []
 
 -- a list of words after errors were stored in it: the first that fit whole, and every other word as it was
 unfoldable pub stored : List Err → List ℕ → List ℕ

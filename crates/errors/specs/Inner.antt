@@ -2,8 +2,9 @@
 use mathlib.Core.List.{List}
 use Prim.Native.Nat.{ℕ}
 use Rattle.forest.specs.Forest.{forest}
-use Rattle.unpack.specs.Written.{Param, paramsIn}
-use Rattle.errors.specs.Errors.{Err, Stores}
+use Rattle.deflist.specs.Written.{Param, paramsIn}
+use Rattle.errors.specs.declared.Err.{Err}
+use Rattle.errors.specs.Errors.{Stores}
 
 -- a check of a list that begins a stretch finds what a rule says, whatever the names and wherever the list stands
 pub record Anywhere (rule : List Param → List Err) (t xs : List ℕ) (total : ℕ) (ys : List ℕ) : Type 0 where

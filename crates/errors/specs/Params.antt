@@ -7,12 +7,13 @@ use Rattle.fields.specs.Choice.{if'}
 use Rattle.dialect.specs.declared.Dialect.{Dialect}
 use Rattle.forest.specs.Forest.{Node, Forest}
 use Rattle.table.specs.Numbers.{starNotPermitted, slashNotPermitted}
-use Rattle.unpack.specs.Written.{Param, nodeIn, kindIn, paramsIn}
-use Rattle.unpack.specs.Unpack.{isSlash, Outcome, accepted, refused, internal, unpack}
-use Rattle.unpack.specs.Told.{internalError}
-use Rattle.unpack.specs.declared.Kind.{Kind}
-use Rattle.unpack.specs.declared.Kind.the-variants.{Normal, NoArgs, Slash, Args, KwArgs}
-use Rattle.errors.specs.Errors.{Err, errAt, unless}
+use Rattle.deflist.specs.Written.{Param, nodeIn, kindIn, paramsIn}
+use Rattle.deflist.specs.Unpack.{isSlash, Outcome, accepted, refused, internal, unpack}
+use Rattle.deflist.specs.Told.{internalError}
+use Rattle.deflist.specs.declared.Kind.{Kind}
+use Rattle.deflist.specs.declared.Kind.the-variants.{Normal, NoArgs, Slash, Args, KwArgs}
+use Rattle.errors.specs.declared.Err.{Err}
+use Rattle.errors.specs.Errors.{errAt, unless}
 use Rattle.errors.specs.declared.Mark.{Mark}
 use Rattle.errors.specs.declared.Mark.the-variants.{Star, Slash as SlashMark}
 

@@ -2,11 +2,21 @@
 // A check is lent only the words that are still free, counts all its errors, and stores the first that fit.
 pub mod params;
 
+use table::Span;
 ghost use mathlib.Core.Path.{_≡_};
 ghost use mathlib.Core.List.{[], _∷_};
 ghost use Prim.Native.Nat.{_*_, min};
 ghost use Rattle.forest.specs.Forest.{nodeOf};
-ghost use Rattle.errors.specs.Errors.{err, errAt, unless, width, Stores};
+ghost use Rattle.errors.specs.Errors.{errAt, unless, width, Stores};
+
+// How many words an error has.
+pub const WIDTH: usize = 3;
+
+// An error: its number, and where it stands in the script.
+pub struct Err {
+    pub number: u32,
+    pub span: Span,
+}
 
 // A mark in a parameter list that a dialect may not permit.
 pub enum Mark {
@@ -15,22 +25,33 @@ pub enum Mark {
 }
 
 // One error: stored where there is room for it, and counted in any case. Here alone an error becomes words.
-pub(crate) fn push(number: u32, begin: u32, end: u32, errors: &mut [u32]) -> usize
-    ensures { λ r. ⌜ Stores (err number begin end ∷ []) (now (errors .entry)) r (now (errors .exit)) ⌝ }
+pub(crate) fn push(e: Err, errors: &mut [u32]) -> usize
+    ensures { λ r. ⌜ Stores (e ∷ []) (now (errors .entry)) r (now (errors .exit)) ⌝ }
 {
-    if 3 <= errors.len() {
-        errors[0] = number;
-        errors[1] = begin;
-        errors[2] = end;
+    let span = e.span;
+    if WIDTH <= errors.len() {
+        errors[0] = e.number;
+        errors[1] = span.begin;
+        errors[2] = span.end;
     }
     1
+}
+
+// The error of a number at the record that a stretch begins with.
+fn error_at(number: u32, t: &[u8]) -> Err
+    ensures { λ r. ⌜ r ≡ errAt number (nodeOf 0 (now (t .entry))) ⌝ }
+{
+    Err {
+        number: number,
+        span: table::span_of(t),
+    }
 }
 
 // An error at the record that a stretch begins with.
 pub fn push_at(number: u32, t: &[u8], errors: &mut [u32]) -> usize
     ensures { λ r. ⌜ Stores (errAt number (nodeOf 0 (now (t .entry))) ∷ []) (now (errors .entry)) r (now (errors .exit)) ⌝ }
 {
-    push(number, forest::begin(t), forest::stop(t), errors)
+    push(error_at(number, t), errors)
 }
 
 // The same, unless something is permitted.
@@ -47,8 +68,8 @@ pub fn push_unless(permitted: bool, number: u32, t: &[u8], errors: &mut [u32]) -
 pub fn free(len: usize, count: usize) -> usize
     ensures { λ r. ⌜ r ≡ min (width * count) len ⌝ }
 {
-    if count <= len / 3 {
-        return 3 * count;
+    if count <= len / WIDTH {
+        return WIDTH * count;
     }
     len
 }

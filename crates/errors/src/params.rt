@@ -2,18 +2,20 @@
 //
 // Ported from src/syntax/validate.rs of starlark_syntax 0.14.2 (validate_params), and changed: the list is a stretch of the node table.
 // Copyright 2018 The Starlark in Rust Authors. Copyright (c) Facebook, Inc. and its affiliates. Licensed under Apache-2.0.
+use crate::Err;
 use crate::Mark;
+use deflist::Fault;
+use deflist::Judged;
+use deflist::Kind;
+use deflist::entry;
 use dialect::Dialect;
 use table::numbers;
-use unpack::Judged;
-use unpack::Kind;
-use unpack::entry;
 ghost use mathlib.Core.Path.{_≡_};
 ghost use Prim.Native.Nat.{_+_};
 ghost use Rattle.forest.specs.Forest.{nodeOf, kidsOf, forest};
-ghost use Rattle.unpack.specs.Written.{written};
-ghost use Rattle.unpack.specs.Unpack.{isSlash, unpack};
-ghost use Rattle.errors.specs.Errors.{Stores};
+ghost use Rattle.deflist.specs.Written.{written};
+ghost use Rattle.deflist.specs.Unpack.{unpack};
+ghost use Rattle.errors.specs.Errors.{err, Stores};
 ghost use Rattle.errors.specs.Inner.{Anywhere};
 ghost use Rattle.errors.specs.Params.{isNoArgs, isMark, permits, notPermitted, everyMark, marks, unpackError, «validate_params», withParams};
 
@@ -39,7 +41,7 @@ pub fn with_params(
 fn validate_params(d: Dialect, names: &[u8], t: &[u8], at: u32, errors: &mut [u32]) -> usize
     ensures { λ r. ⌜ Stores («validate_params» d (written (now (names .entry)) at (now (t .entry)))) (now (errors .entry)) r (now (errors .exit)) ⌝ }
 {
-    let list = unpack::children(t);
+    let list = deflist::children(t);
     let stars = marks_of(d, Mark::Star, list, errors);
     let after_stars = crate::free(errors.len(), stars);
     let slashes = marks_of(d, Mark::Slash, list, &mut errors[after_stars..]);
@@ -52,10 +54,21 @@ fn validate_params(d: Dialect, names: &[u8], t: &[u8], at: u32, errors: &mut [u3
 fn unpack_error(names: &[u8], t: &[u8], at: u32, errors: &mut [u32]) -> usize
     ensures { λ r. ⌜ Stores (unpackError (unpack (written (now (names .entry)) at (now (t .entry))))) (now (errors .entry)) r (now (errors .exit)) ⌝ }
 {
-    let judged = unpack::judge(names, t, at);
+    let judged = deflist::judge(names, t, at);
     match judged {
         Judged::Accepted(_) => 0,
-        Judged::Refused(f) => crate::push(f.number, f.begin, f.end, errors),
+        Judged::Refused(f) => crate::push(error_of(f), errors),
+    }
+}
+
+// unpack's refusal as an error.
+fn error_of(f: Fault) -> Err
+    ensures { λ r. ⌜ r ≡ err (f .number) (f .span) ⌝ }
+{
+    let span = f.span;
+    Err {
+        number: f.number,
+        span: span,
     }
 }
 
@@ -92,7 +105,7 @@ fn is_mark(mark: Mark, kind: Kind) -> bool
 {
     match mark {
         Mark::Star => is_star(kind),
-        Mark::Slash => is_slash(kind),
+        Mark::Slash => entry::is_slash(kind),
     }
 }
 
@@ -103,18 +116,6 @@ fn is_star(kind: Kind) -> bool
         Kind::Normal(_) => false,
         Kind::NoArgs => true,
         Kind::Slash => false,
-        Kind::Args => false,
-        Kind::KwArgs => false,
-    }
-}
-
-fn is_slash(kind: Kind) -> bool
-    ensures { λ r. ⌜ r ≡ isSlash kind ⌝ }
-{
-    match kind {
-        Kind::Normal(_) => false,
-        Kind::NoArgs => false,
-        Kind::Slash => true,
         Kind::Args => false,
         Kind::KwArgs => false,
     }

@@ -1,20 +1,19 @@
 -- Document 01's table of proved examples, all its rows in one statement. Assumes nothing.
 use mathlib.Core.Path.{_≡_, refl}
 use mathlib.Core.List.{map}
-use Rattle.forest.specs.Forest.{roots}
-use Rattle.forest.specs.Names.{nameOf, same, firstNamed}
-use Rattle.unpack.specs.Unpack.{hasName, firstSame, repeats, advance, step, finish, run, slashFrom, start, unpack}
+use Rattle.forest.specs.Names.{nameOf, same}
+use Rattle.deflist.specs.Unpack.{hasName, firstSame, repeats, advance, step, finish, run, slashFrom, start, unpack}
 use Rattle.parameters.specs.Indices.{countedOf}
-use Rattle.arguments.specs.Call.{repeated, positionalRule, namedRule, argsRule, kwargsRule, stepBy, run as callRun}
+use Rattle.arguments.specs.Call.{repeats as callRepeats, check, advance as callAdvance, run as callRun}
 use Rattle.arguments.specs.Call.{unpack as callUnpack}
-use Rattle.typerules.specs.Forms.{formOf}
-use Rattle.typerules.specs.Paths.{objectPath, «unpack_path»}
-use Rattle.typerules.specs.Types.{indexBase, index2Base, listLength, atNode, «unpack» as typeUnpack}
+use Rattle.types.specs.Forms.{formOf}
+use Rattle.types.specs.Paths.{objectPath, «unpack_path»}
+use Rattle.types.specs.Types.{indexBase, index2Base, listLength, atNode, «unpack» as typeUnpack}
 use Rattle.examples.specs.Table.{Row, answer, table}
 
 -- THEOREM: every row of the table is what the definitions answer
 pub examples : map (λ (r : Row). answer (r .asked)) table ≡ map (λ (r : Row). r .shown) table
-unfolding roots nameOf same firstNamed hasName firstSame repeats advance step finish run slashFrom start unpack
-    countedOf repeated positionalRule namedRule argsRule kwargsRule stepBy callRun callUnpack formOf objectPath
-    «unpack_path» indexBase index2Base listLength atNode typeUnpack
+unfolding nameOf same hasName firstSame repeats advance step finish run slashFrom start unpack countedOf callRepeats
+    check callAdvance callRun callUnpack formOf objectPath «unpack_path» indexBase index2Base listLength atNode
+    typeUnpack
 examples = refl

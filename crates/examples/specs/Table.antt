@@ -1,21 +1,22 @@
 -- Document 01's table of proved examples: a row for each, on the definitions that the promises cite. These are definitions.
-use mathlib.Core.Bool.{Bool, true, false}
+use mathlib.Core.Bool.{true, false}
 use mathlib.Core.List.{List, [], _∷_}
 use Prim.Native.Nat.{ℕ}
-use Rattle.forest.specs.Forest.{Node, Tree, node, Forest, none, _then_}
+use Rattle.forest.specs.Forest.{Node, Tree, node, none, _then_}
 use Rattle.soundness.specs.KindNumbers.{kindIdentifier, kindDot, kindIndex, kindIndex2, kindNormal, kindNoArgs, kindSlash, kindArgsParam, kindKwArgsParam, kindNamed, kindArgsArg}
 use Rattle.table.specs.Answer.{Answer, accepted, refused}
-use Rattle.unpack.specs.Written.{Param, normal, noArgs, slash, args, kwargs}
-use Rattle.unpack.specs.Unpack as def
-use Rattle.unpack.specs.Told.{internalError}
+use Rattle.deflist.specs.Written.{Param, normal, noArgs, slash, args, kwargs}
+use Rattle.deflist.specs.Unpack as def
+use Rattle.deflist.specs.Told.{internalError}
 use Rattle.parameters.specs.Indices.{range, namedOnly, countedOf}
 use Rattle.parameters.specs.declared.Counted.{Counted}
-use Rattle.parameters.specs.declared.Place.{Place}
-use Rattle.parameters.specs.declared.Place.the-variants.{At, Nothing}
+use Rattle.table.specs.declared.Place.{Place}
+use Rattle.table.specs.declared.Place.the-variants.{At, Nothing}
 use Rattle.parameters.specs.declared.Range.{Range}
+use Rattle.arguments.specs.Written as written
 use Rattle.arguments.specs.Call as call
 use Rattle.arguments.specs.Job.{outcomeAnswer}
-use Rattle.typerules.specs.Types.{«unpack»}
+use Rattle.types.specs.Types.{«unpack»}
 
 -- the names that trees speak of: type, a, b, f, x, y, int, str, one after the other
 abbrev pub names : List ℕ
@@ -46,6 +47,13 @@ starArgs = args (plain kindArgsParam) (97 ∷ 114 ∷ 103 ∷ 115 ∷ [])
 
 abbrev pub starStar : ℕ → Param
 starStar name = kwargs (plain kindKwArgsParam) (name ∷ [])
+
+-- arguments: a = 1, `*x`
+abbrev pub namedArgument : ℕ → written.Argument
+namedArgument name = written.named (plain kindNamed) (name ∷ [])
+
+abbrev pub starArgument : written.Argument
+starArgument = written.args (plain kindArgsArg)
 
 abbrev pub a : ℕ
 a = 97
@@ -87,7 +95,7 @@ xDotType = dot (identifier 7 1) 0 4
 -- what is asked: a parameter list, the arguments of a call, a type
 pub data Asked : Type 0 where
   parameters : List Param → Asked
-  arguments : Forest → Asked
+  arguments : List written.Argument → Asked
   aType : Tree → Asked
 
 -- what is shown of an answer: the numbers of a list with its named-only range; a refusal's number; nothing else
@@ -111,7 +119,7 @@ ofAnswer (refused n vs) = number n
 -- what the definitions answer
 abbrev pub answer : Asked → Shown
 answer (parameters l) = ofOutcome (def.unpack l)
-answer (arguments w) = ofAnswer (outcomeAnswer (call.unpack names w))
+answer (arguments l) = ofAnswer (outcomeAnswer (call.unpack l))
 answer (aType t) = ofAnswer («unpack» names t)
 
 pub record Row : Type 0 where
@@ -133,7 +141,7 @@ table =
     row (parameters (star ∷ [])) (number 17) ∷  -- (*)
     row (parameters (star ∷ starStar k ∷ [])) (number 18) ∷  -- (*, **k)
     row (parameters (starStar k ∷ parameter k ∷ [])) (number 11) ∷  -- (**k, k)
-    row (arguments (node (plain kindArgsArg) none then node (named kindNamed 4 1) none then none)) (number 21) ∷  -- f(*x, a=1)
+    row (arguments (starArgument ∷ namedArgument a ∷ [])) (number 21) ∷  -- f(*x, a=1)
     row (aType (index aDotB int)) (number 40) ∷  -- a.b[int]
     row (aType (index2 aDotB int str)) fine ∷  -- a.b[int, str]
     row (aType xDotType) (number 44) ∷  -- x.type

@@ -8,8 +8,8 @@ use Rattle.table.specs.Check.{checkOf}
 use Rattle.parameters.specs.Params.{paramsOf, modesAfter}
 use Rattle.arguments.specs.Job.{callOf}
 use Rattle.targets.specs.Jobs.{targetOf, assignmentOf}
-use Rattle.typerules.specs.Jobs.{typeShapeOf}
-use Rattle.types.specs.Jobs.{shapesAfter}
+use Rattle.types.specs.Jobs.{typeShapeOf}
+use Rattle.shapes.specs.Jobs.{shapesAfter}
 use Rattle.validate.specs.Job.{moduleOf, errorsAfter}
 use Rattle.ffi.specs.Words.{number, words, callWords, laid}
 

@@ -4,15 +4,14 @@ use mathlib.Core.List.{List, [], _∷_, _++_}
 use Prim.Native.Nat.{ℕ, _≤_}
 use native.Mathlib.Omega.{arith}
 use lib.ListN.{set}
-use Rattle.table.specs.Answer.{Answer, accepted, refused, refusal}
+use Rattle.table.specs.Answer.{Answer, accepted, refusal}
 use Rattle.table.specs.declared.Refusal.{Refusal}
-use Rattle.table.specs.declared.Refusal.the-variants.{Bare, Placed, Spanned}
+use Rattle.table.specs.declared.Place.{Place}
+use Rattle.table.specs.declared.Place.the-variants.{At, Nothing}
 use Rattle.parameters.specs.declared.Range.{Range}
 use Rattle.parameters.specs.Params.{paramsOf}
 use Rattle.parameters.proofs.Accepted.{AllBelow, accepted-small}
 use Rattle.arguments.specs.Job.{placeValues, callValues}
-use Rattle.arguments.specs.declared.Place.{Place}
-use Rattle.arguments.specs.declared.Place.the-variants.{Given, Missing}
 use Rattle.arguments.specs.declared.CallArgs.{CallArgs}
 use Rattle.ffi.specs.Words.{number, words, placeIn, callWords, laid, Fit}
 
@@ -36,9 +35,7 @@ told-with put means u v a n xs ys (e, b) q p = let k = told put means u v a n xs
 -- LAW: a refusal has the same words in every job
 pub refused-put : (r : Refusal) {n : ℕ} (xs : List ℕ) {ys : List ℕ} → Put words (refusal r) n xs ys
     → Put callWords (refusal r) n xs ys
-refused-put (Bare n) xs p = p
-refused-put (Placed n k) xs p = p
-refused-put (Spanned n k b e) xs p = p
+refused-put r xs p = p
 
 -- LAW: a range whose ends fit words
 pub range-fit : (r s : Range) → r ≡ s → s .from ≤ 4294967295 → s .upto ≤ 4294967295 → Fit (r .from ∷ r .upto ∷ [])
@@ -63,10 +60,10 @@ call-words a = go (a .star) (a .«star_star»)
   where
     go : (p q : Place) → callWords (accepted (a .«num_pos» ∷ a .«num_named» ∷ placeValues p ++ placeValues q))
         ≡ a .«num_pos» ∷ a .«num_named» ∷ placeIn (placeValues p) ∷ placeIn (placeValues q) ∷ []
-    go (Given i) (Given j) = refl
-    go (Given i) Missing = refl
-    go Missing (Given j) = refl
-    go Missing Missing = refl
+    go (At i) (At j) = refl
+    go (At i) Nothing = refl
+    go Nothing (At j) = refl
+    go Nothing Nothing = refl
 
 -- LAW: four words, laid one after the other
 pub call-laid : (a : CallArgs) (s k : ℕ) (xs : List ℕ) → s ≡ placeIn (placeValues (a .star))

@@ -1,5 +1,4 @@
 -- What a caller in C gets: the number that is returned, and the twelve words afterwards, from a job's answer. These are definitions.
-use mathlib.Core.Bool.{Bool, true, false}
 use mathlib.Core.List.{List, [], _∷_, _++_}
 use Prim.Native.Nat.{ℕ, _+_, _≤_}
 use lib.Dec.{eqb}

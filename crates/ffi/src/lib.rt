@@ -5,13 +5,14 @@ use parameters::Counted;
 use parameters::Range;
 use parameters::Unpacked;
 use table::Checked;
+use table::Place;
 use table::Refusal;
 use targets::Targeted;
-use typerules::Shaped;
+use types::Shaped;
 use validate::Listed;
 ghost use mathlib.Core.Path.{_≡_};
 ghost use mathlib.Core.List.{[], _∷_};
-ghost use Prim.Native.Nat.{_+_, _<_, _≤_};
+ghost use Prim.Native.Nat.{_+_, _<_};
 ghost use lib.ListN.{length};
 ghost use Rattle.table.specs.Answer.{accepted, refusal};
 ghost use Rattle.table.specs.Check.{checkOf};
@@ -19,8 +20,8 @@ ghost use Rattle.parameters.specs.Indices.{valuesOf};
 ghost use Rattle.parameters.specs.Params.{paramsOf, modesAfter};
 ghost use Rattle.arguments.specs.Job.{placeValues, callValues, callOf};
 ghost use Rattle.targets.specs.Jobs.{targetOf, assignmentOf};
-ghost use Rattle.typerules.specs.Jobs.{typeShapeOf};
-ghost use Rattle.types.specs.Jobs.{shapesAfter};
+ghost use Rattle.types.specs.Jobs.{typeShapeOf};
+ghost use Rattle.shapes.specs.Jobs.{shapesAfter};
 ghost use Rattle.validate.specs.Job.{moduleOf, errorsAfter};
 ghost use Rattle.ffi.specs.Words.{number, words, callWords, laid, Fit, placeIn};
 
@@ -35,15 +36,10 @@ fn put_refused(r: Refusal, out: &mut [u32; 12]) -> u32
             out[0] = node;
             number
         }
-        Refusal::Spanned {
-            number,
-            node,
-            begin,
-            end,
-        } => {
+        Refusal::Spanned { number, node, span } => {
             out[0] = node;
-            out[1] = begin;
-            out[2] = end;
+            out[1] = span.begin;
+            out[2] = span.end;
             number
         }
     }
@@ -86,12 +82,12 @@ fn put_ranges(c: Counted, out: &mut [u32; 12]) -> u32
 }
 
 // A place among the arguments, in one word.
-fn place_word(p: arguments::Place) -> u32
+fn place_word(p: Place) -> u32
     ensures { λ r. ⌜ r ≡ placeIn (placeValues p) ⌝ }
 {
     match p {
-        arguments::Place::Given(i) => i,
-        arguments::Place::Missing => 0xFFFF_FFFF,
+        Place::At(i) => i,
+        Place::Nothing => 0xFFFF_FFFF,
     }
 }
 
@@ -205,7 +201,7 @@ pub extern "C" fn starlark_type(
     ensures { λ r. ⌜ now (out .exit) ≡ laid (words (typeShapeOf (now (table .entry)) (now (names .entry)) (now (dialect .entry)) node (length (now (shapes .entry))))) 0 (now (out .entry)) ⌝ }
     ensures { λ r. ⌜ now (shapes .exit) ≡ shapesAfter (now (table .entry)) (now (names .entry)) (now (dialect .entry)) node (now (shapes .entry)) ⌝ }
 {
-    let answer = types::type_shape(table, names, dialect, node, shapes);
+    let answer = shapes::type_shape(table, names, dialect, node, shapes);
     match answer {
         Shaped::Accepted => 0,
         Shaped::Refused(r) => put_refused(r, out),

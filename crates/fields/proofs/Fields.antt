@@ -1,5 +1,5 @@
 -- Laws of little-endian fields, each stated once, over the width. Assumes nothing.
-use mathlib.Core.Path.{_≡_, refl, sym, ap}
+use mathlib.Core.Path.{_≡_, refl, sym}
 use mathlib.Core.List.{List}
 use Prim.Native.Nat.{ℕ, zero, suc, _+_, _*_, _≤_, _-_, _^_}
 use native.Mathlib.Numerals.{one-add}

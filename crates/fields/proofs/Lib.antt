@@ -1,3 +1,4 @@
+pub mod Basics
 pub mod Fields
 pub mod Coincide
 pub mod Promises

@@ -10,25 +10,20 @@ use lib.ListN.{length, take, drop, length-take}
 use lib.Seq.{take-all, take-take}
 use lib.Dec.{leb}
 use borrow.Author.Tests.{le-leb, lt-leb}
+use Rattle.fields.proofs.Basics.{drop-take, le-or-lt}
 use Rattle.fields.proofs.Fields.{field-take}
 use Rattle.table.specs.Numbers.{blockCounts, bytesLeftOver}
-use Rattle.dialect.specs.Bytes.{fromBytes}
-use Rattle.dialect.specs.declared.Decoded.{Decoded}
-use Rattle.dialect.specs.declared.Decoded.the-variants.{Valid, Invalid}
 use Rattle.table.specs.Answer.{Answer, accepted, refused, andThen}
-use Rattle.table.specs.Check.{checkOf, dialectCheck, givenCheck}
+use Rattle.table.specs.Check.{mostNodes, mostNames, Handing, inDialect, turnedAway, givenOf, inGiven}
 use Rattle.table.proofs.Answers.{after-both}
 use Rattle.blocks.specs.Block.{demand, judge}
 use Rattle.blocks.specs.Run.{blocksFor, judgeBlocks, judgeRun}
-use Rattle.blocks.proofs.Blocks.{drop-take}
-use Rattle.blocks.proofs.Spelling.{le-or-lt}
-use Rattle.tablefile.specs.File.{Content}
-use Rattle.tablefile.specs.Reading.{nodesAt, namesAt, dialectAt, firstNodes, takenAt, contentAt, countsFit}
-use Rattle.tablefile.specs.Reading.{frontCheck, soundCheck, readCheck}
-use Rattle.tablefile.proofs.Fronts.{counts-small}
+use Rattle.tablefile.specs.File.{Content, mostBlocks}
+use Rattle.tablefile.specs.Reading.{headerAt, contentAt, countsFit, blocksCheck, frontCheck, soundCheck, readCheck}
+use Rattle.tablefile.proofs.Fronts.{first-is, taken-is, counts-small}
 use Rattle.tablefile.proofs.Accepted.{read-whole, read-fronted}
-use Rattle.filepass.specs.Sizes.{mostBlocks, enoughBytes}
-use Rattle.filepass.specs.Passing.{heldAnswer, answerOf, ifRead, wordsAfter}
+use Rattle.filepass.specs.Sizes.{enoughBytes}
+use Rattle.filepass.specs.Passing.{answerOf, ifRead, wordsAfter}
 
 -- a block is judged by its 512 bytes
 judge-part : (number used m : ℕ) (bs : List ℕ) → 512 ≤ m → judge number used (take m bs) ≡ judge number used bs
@@ -64,14 +59,14 @@ run-part number total a m bs h =
     rw (drop-take a m bs) (blocks-part (blocksFor total) number total (m - a) (drop a bs) (omega arith))
 
 -- LAW: the most blocks are those of the most names and the most nodes
-pub most-blocks : mostBlocks ≡ 1 + blocksFor 8064 + blocksFor (24 * 2100)
+pub most-blocks : mostBlocks ≡ 1 + blocksFor mostNames + blocksFor (24 * mostNodes)
 unfolding blocksFor
 most-blocks = refl
 
 -- LAW: an accepted file has no more
 pub accepted-short : (bs : List ℕ) → readCheck bs ≡ accepted [] → length bs ≤ 512 * mostBlocks
-unfolding takenAt firstNodes blocksFor
-accepted-short bs e = omega (arith, read-whole bs e, read-fronted bs e .counts)
+unfolding blocksFor
+accepted-short bs e = omega (arith, taken-is bs, first-is bs, read-whole bs e, read-fronted bs e .counts)
 
 -- the reader's check gives no values
 Plain : Answer → Type 0
@@ -83,90 +78,78 @@ unfolding Plain
 after-plain (accepted vs) next p = p
 after-plain (refused n vs) next p = tt
 
-dialect-plain : (x : Decoded) → Plain (dialectCheck x)
+given-plain : (h : Handing) → Plain (inGiven h (λ _. accepted []))
 unfolding Plain
-dialect-plain (Valid d) = refl
-dialect-plain Invalid = tt
+given-plain (inDialect d) = refl
+given-plain (turnedAway n vs) = tt
 
 read-plain : (bs : List ℕ) → Plain (readCheck bs)
-unfolding readCheck givenCheck
+unfolding readCheck
 read-plain bs =
     let c : Content = contentAt bs in
-    let dialect : Unit {0} → Answer = λ _. dialectCheck (fromBytes (c .dialect)) in
     let sound : Unit {0} → Answer = λ _. soundCheck c in
-    let left : Answer = demand (leb (length bs) (takenAt bs)) bytesLeftOver in
-    let last = after-plain (checkOf (c .table) (c .names)) dialect (dialect-plain (fromBytes (c .dialect))) in
-    after-plain (frontCheck bs) (λ _. andThen left sound) (after-plain left sound last)
+    let left : Answer = demand (leb (length bs) (headerAt bs .taken)) bytesLeftOver in
+    after-plain (frontCheck bs) (λ _. andThen left sound)
+    (after-plain left sound (given-plain (givenOf (c .table) (c .names) (c .dialect))))
 
 -- a file that is longer than what is read of it
 module _ (m : ℕ) (bs : List ℕ) (enough : 512 * mostBlocks < m) (longer : m < length bs) where
-  nodes-part : nodesAt (take m bs) ≡ nodesAt bs
-  unfolding nodesAt
-  nodes-part = field-take 2 bs m 4 (omega arith)
-
-  names-part : namesAt (take m bs) ≡ namesAt bs
-  unfolding namesAt
-  names-part = field-take 2 bs m 6 (omega arith)
-
-  dialect-part : dialectAt (take m bs) ≡ dialectAt bs
-  unfolding dialectAt
-  dialect-part = rw (field-take 2 bs m 2 (omega arith)) refl
-
-  first-part : firstNodes (take m bs) ≡ firstNodes bs
-  unfolding firstNodes
-  first-part = rw names-part refl
-
-  taken-part : takenAt (take m bs) ≡ takenAt bs
-  unfolding takenAt
-  taken-part = rw (first-part, nodes-part) refl
+  header-part : headerAt (take m bs) ≡ headerAt bs
+  unfolding headerAt
+  header-part = rw (
+    field-take 2 bs m 4 (omega arith),
+    field-take 2 bs m 6 (omega arith),
+    field-take 2 bs m 2 (omega arith),
+  ) refl
 
   -- what comes after the counts of block 0, for some bytes of which these are the counts
   later : List ℕ → Answer
   later xs =
-      andThen (andThen (judgeRun 1 (namesAt bs) (drop 512 xs))
-      (λ _. judgeRun (firstNodes bs) (24 * nodesAt bs) (drop (512 * firstNodes bs) xs))) (λ _.
-      andThen (demand (leb (length xs) (takenAt bs)) bytesLeftOver) (λ _. soundCheck (contentAt xs)))
+      andThen (andThen (judgeRun 1 (headerAt bs .names) (drop 512 xs))
+      (λ _. judgeRun (headerAt bs .first) (24 * headerAt bs .nodes) (drop (512 * headerAt bs .first) xs))) (λ _.
+      andThen (demand (leb (length xs) (headerAt bs .taken)) bytesLeftOver) (λ _. soundCheck (contentAt xs)))
 
-  later-part : countsFit (nodesAt bs) (namesAt bs) ≡ true → later (take m bs) ≡ later bs
-  unfolding takenAt firstNodes blocksFor later
+  later-part : countsFit (headerAt bs .nodes) (headerAt bs .names) ≡ true → later (take m bs) ≡ later bs
+  unfolding blocksFor later
   later-part fit =
-      let small = counts-small (nodesAt bs) (namesAt bs) fit in
-      let names = run-part 1 (namesAt bs) 512 m bs (omega (arith, small)) in
-      let nodes = run-part (firstNodes bs) (24 * nodesAt bs) (512 * firstNodes bs) m bs (omega (arith, small)) in
-      let part-left = lt-leb (length (take m bs)) (takenAt bs) (simp length-take (omega (arith, small))) in
-      let left = lt-leb (length bs) (takenAt bs) (omega (arith, small)) in
+      let small = counts-small (headerAt bs .nodes) (headerAt bs .names) fit in
+      let short : headerAt bs .taken ≤ 512 * mostBlocks = omega (arith, small, taken-is bs, first-is bs) in
+      let names = run-part 1 (headerAt bs .names) 512 m bs (omega (arith, small)) in
+      let nodes = run-part (headerAt bs .first) (24 * headerAt bs .nodes) (512 * headerAt bs .first) m bs
+      (omega (arith, taken-is bs, short)) in
+      let part-left = lt-leb (length (take m bs)) (headerAt bs .taken) (simp length-take (omega (arith, short))) in
+      let left = lt-leb (length bs) (headerAt bs .taken) (omega (arith, short)) in
       rw (names, nodes, part-left, left) refl
 
   -- the whole check of some bytes with the same block 0
   whole : List ℕ → Bool → Answer
-  whole xs fit = andThen (judge 0 (4 + dialectAt bs) xs) (λ _. andThen (demand fit blockCounts) (λ _. later xs))
+  whole xs fit = andThen (judge 0 (4 + headerAt bs .dialect) xs) (λ _. andThen (demand fit blockCounts) (λ _. later xs))
 
-  whole-is : (xs : List ℕ) → dialectAt xs ≡ dialectAt bs → namesAt xs ≡ namesAt bs → nodesAt xs ≡ nodesAt bs
-      → firstNodes xs ≡ firstNodes bs → takenAt xs ≡ takenAt bs
-      → readCheck xs ≡ whole xs (countsFit (nodesAt bs) (namesAt bs))
-  unfolding readCheck frontCheck whole later
-  whole-is xs dialect-is names-is nodes-is first-is taken-is =
-      let head : Answer = judge 0 (4 + dialectAt bs) xs in
-      let counts : Answer = demand (countsFit (nodesAt bs) (namesAt bs)) blockCounts in
-      let runs : Unit {0} → Answer = λ _. andThen (judgeRun 1 (namesAt bs) (drop 512 xs))
-      (λ _. judgeRun (firstNodes bs) (24 * nodesAt bs) (drop (512 * firstNodes bs) xs)) in
-      let next : Unit {0} → Answer = λ _. andThen (demand (leb (length xs) (takenAt bs)) bytesLeftOver)
+  whole-is : (xs : List ℕ) → headerAt xs ≡ headerAt bs
+      → readCheck xs ≡ whole xs (countsFit (headerAt bs .nodes) (headerAt bs .names))
+  unfolding readCheck blocksCheck whole later
+  whole-is xs header-is =
+      let head : Answer = judge 0 (4 + headerAt bs .dialect) xs in
+      let counts : Answer = demand (countsFit (headerAt bs .nodes) (headerAt bs .names)) blockCounts in
+      let runs : Unit {0} → Answer = λ _. andThen (judgeRun 1 (headerAt bs .names) (drop 512 xs))
+      (λ _. judgeRun (headerAt bs .first) (24 * headerAt bs .nodes) (drop (512 * headerAt bs .first) xs)) in
+      let next : Unit {0} → Answer = λ _. andThen (demand (leb (length xs) (headerAt bs .taken)) bytesLeftOver)
       (λ _. soundCheck (contentAt xs)) in
       rw
-      (dialect-is, names-is, nodes-is, first-is, taken-is)
+      header-is
       (after-both head (λ _. andThen counts runs) next
       ∙ ap (λ (x : Answer). andThen head (λ _. x)) (after-both counts runs next))
 
-  whole-part : (fit : Bool) → countsFit (nodesAt bs) (namesAt bs) ≡ fit → whole (take m bs) fit ≡ whole bs fit
+  whole-part : (fit : Bool) → countsFit (headerAt bs .nodes) (headerAt bs .names) ≡ fit → whole (take m bs) fit ≡ whole bs fit
   unfolding whole
-  whole-part false e = rw (judge-part 0 (4 + dialectAt bs) m bs (omega arith)) refl
-  whole-part true e = rw (judge-part 0 (4 + dialectAt bs) m bs (omega arith), later-part e) refl
+  whole-part false e = rw (judge-part 0 (4 + headerAt bs .dialect) m bs (omega arith)) refl
+  whole-part true e = rw (judge-part 0 (4 + headerAt bs .dialect) m bs (omega arith), later-part e) refl
 
   pub longer-part : readCheck (take m bs) ≡ readCheck bs
   longer-part =
-      whole-is (take m bs) dialect-part names-part nodes-part first-part taken-part
-      ∙ whole-part (countsFit (nodesAt bs) (namesAt bs)) refl
-      ∙ sym (whole-is bs refl refl refl refl refl)
+      whole-is (take m bs) header-part
+      ∙ whole-part (countsFit (headerAt bs .nodes) (headerAt bs .names)) refl
+      ∙ sym (whole-is bs refl)
 
   -- it is refused, and so is what is read of it
   refused-both : {A : Type 0} (f : Answer → (Unit {0} → A) → A) → ((n : ℕ) (vs : List ℕ) (x y : Unit {0} → A)

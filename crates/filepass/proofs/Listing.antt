@@ -9,15 +9,13 @@ use Rattle.dialect.specs.Bytes.{fromBytes}
 use Rattle.dialect.specs.declared.Dialect.{Dialect}
 use Rattle.dialect.specs.declared.Decoded.{Decoded}
 use Rattle.dialect.specs.declared.Decoded.the-variants.{Valid, Invalid}
-use Rattle.table.specs.Answer.{Answer, accepted, refused, andThen, refusal}
-use Rattle.table.specs.Check.{checkOf, dialectCheck, givenCheck}
+use Rattle.fields.proofs.Basics.{never}
+use Rattle.table.specs.Answer.{Answer, accepted, refusal}
+use Rattle.table.specs.Check.{inDialect, givenOf, givenCheck}
 use Rattle.table.specs.declared.Refusal.{Refusal}
-use Rattle.table.specs.declared.Refusal.the-variants.{Bare, Placed, Spanned}
-use Rattle.table.specs.Numbers.{badDialect}
-use Rattle.table.proofs.Answers.{never-accepted}
-use Rattle.table.proofs.Checking.{accepted-clean}
+use Rattle.table.proofs.Entering.{given-known, given-passed}
 use Rattle.tablefile.specs.File.{Content}
-use Rattle.tablefile.specs.Reading.{contentAt, readCheck}
+use Rattle.tablefile.specs.Reading.{readCheck}
 use Rattle.tablefile.specs.Loading.{verdict, held}
 use Rattle.tablefile.specs.declared.Verdict.the-variants.{Accepted, Refused}
 use Rattle.tablefile.specs.declared.Loaded.{Loaded}
@@ -37,33 +35,28 @@ module _ (s : List ℕ) (len : ℕ) where
 
 -- a table, names and dialect bytes that pass 1 to 5
 module _ (t names bytes : List ℕ) (sound : givenCheck t names bytes ≡ accepted []) where
-  steps : (length t ≤ 50400) × (dialectCheck (fromBytes bytes) ≡ accepted [])
-  unfolding givenCheck
-  steps = go (checkOf t names) refl sound
-    where
-      go : (x : Answer) → checkOf t names ≡ x → andThen x (λ _. dialectCheck (fromBytes bytes)) ≡ accepted []
-          → (length t ≤ 50400) × (dialectCheck (fromBytes bytes) ≡ accepted [])
-      go (accepted vs) e h = (accepted-clean t names e .most, h)
-      go (refused n vs) e h = let z : _≡_ {A = ℕ} 0 1 = cc in absurd (omega arith)
+  known : (d : Dialect) × (givenOf t names bytes ≡ inDialect d)
+  known = given-passed t names bytes sound
 
   pub held-few : length t ≤ 50400
-  held-few = steps .0
+  held-few = given-known t names bytes (known .1) .0 .most
 
   -- LAW: their errors are those of the pass alone
   pub held-errors : {d : Dialect} → fromBytes bytes ≡ Valid d → errorsOf t names bytes ≡ passErrors d names t
   unfolding errorsOf
-  held-errors {d} e = rw (sound, e) (sym (pass-is d names t held-few))
+  held-errors {d} e =
+      let same : Valid (known .0) ≡ Valid d = sym (given-known t names bytes (known .1) .1) ∙ e in
+      let its : known .0 ≡ d = cc in
+      rw (known .1, its) (sym (pass-is d names t held-few))
 
   -- LAW: the module job does not refuse them
   pub held-listed : heldAnswer t names bytes ≡ accepted (length t / 24 ∷ length (errorsOf t names bytes) ∷ [])
-  held-listed = rw sound refl
+  held-listed = rw (known .1) refl
 
   -- the pass over them, in the terms of code
   module _ {x : Decoded} (x-is : x ≡ fromBytes bytes) where
     pub list-never : {P : Type 0} → x ≡ Invalid → P
-    list-never e =
-        let bad : dialectCheck Invalid ≡ accepted [] = rw (sym x-is ∙ e) at (steps .1) in
-        never-accepted (Bare badDialect) bad
+    list-never e = let bad = sym (given-known t names bytes (known .1) .1) ∙ sym x-is ∙ e in never (cc)
 
     pub list-total : (xs : List ℕ) {d : Dialect} {n : ℕ} {ys : List ℕ} → x ≡ Valid d
         → n ≡ length (passErrors d names t) → ys ≡ stored (passErrors d names t) xs
@@ -77,12 +70,8 @@ module _ (file : List ℕ) {l : Loaded} (p : Read file l) where
   pub file-refused : (xs : List ℕ) {why : Refusal} → l .verdict ≡ Refused why
       → (refusal why ≡ answerOf file) × (xs ≡ wordsAfter file xs)
   unfolding answerOf wordsAfter
-  file-refused xs {why} e = go why (sym (p .0) ∙ ap verdict e)
-    where
-      go : (why : Refusal) → readCheck file ≡ refusal why → (refusal why ≡ answerOf file) × (xs ≡ wordsAfter file xs)
-      go (Bare n) told = (rw told refl, rw told refl)
-      go (Placed n k) told = (rw told refl, rw told refl)
-      go (Spanned n k b e) told = (rw told refl, rw told refl)
+  file-refused xs {why} e = let told : readCheck file ≡ refusal why = sym (p .0) ∙ ap verdict e in
+      (rw told refl, rw told refl)
 
   -- t, names and bytes are the fronts of its arrays
   module _ (good : l .verdict ≡ Accepted) {t names bytes : List ℕ} (t-is : t ≡ take (l .«table_len») (l .table))

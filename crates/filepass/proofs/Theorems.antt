@@ -1,22 +1,23 @@
 -- What users of a file's answer rely on: a refused file changes no word, an accepted one is listed with all errors,
 -- and the sizes of `check_read` are enough for every file. Assumes nothing.
-use mathlib.Core.Path.{_≡_, refl, sym, ap, _∙_}
+use mathlib.Core.Path.{_≡_, refl}
 use mathlib.Core.List.{List, [], _∷_, _++_}
-use Prim.Native.Nat.{ℕ, _*_, _/_, _≤_}
+use Prim.Native.Nat.{ℕ, _*_, _/_}
 use native.Mathlib.Omega.{arith}
 use lib.ListN.{length, take, drop}
 use Rattle.table.specs.Answer.{accepted, refused}
 use Rattle.table.specs.Check.{givenCheck}
 use Rattle.tablefile.specs.File.{Content}
-use Rattle.tablefile.specs.Reading.{nodesAt, contentAt, readCheck}
+use Rattle.tablefile.specs.Reading.{headerAt, contentAt, readCheck}
 use Rattle.tablefile.proofs.Fronts.{table-length}
 use Rattle.tablefile.proofs.Accepted.{read-fronted, read-is-sound}
-use Rattle.errors.specs.Errors.{Err, width}
+use Rattle.errors.specs.declared.Err.{Err}
+use Rattle.errors.specs.Errors.{width}
 use Rattle.errors.proofs.Storing.{allWords}
-use Rattle.validate.specs.Job.{errorsOf, errorsAfter}
+use Rattle.validate.specs.Job.{errorsOf}
 use Rattle.validate.proofs.Theorems.{list-holds-all}
 use Rattle.filepass.specs.Sizes.{enoughBytes, enoughWords}
-use Rattle.filepass.specs.Passing.{heldAnswer, answerOf, wordsAfter}
+use Rattle.filepass.specs.Passing.{answerOf, wordsAfter}
 use Rattle.filepass.proofs.Enough.{read-enough}
 use Rattle.filepass.proofs.Listing.{held-few, held-listed}
 
@@ -36,11 +37,11 @@ module _ (file : List ℕ) (good : readCheck file ≡ accepted []) where
   sound : givenCheck (c .table) (c .names) (c .dialect) ≡ accepted []
   sound = read-is-sound file good
 
-  nodes : length (c .table) / 24 ≡ nodesAt file
+  nodes : length (c .table) / 24 ≡ headerAt file .nodes
   nodes = omega (arith, table-length file (read-fronted file good))
 
   -- THEOREM: an accepted file is answered with its nodes and errors: the module pass does not refuse it
-  pub accepted-is-listed : answerOf file ≡ accepted (nodesAt file ∷ length errors ∷ [])
+  pub accepted-is-listed : answerOf file ≡ accepted (headerAt file .nodes ∷ length errors ∷ [])
   unfolding answerOf
   accepted-is-listed = rw good (rw (held-listed _ _ _ sound, nodes) refl)
 

@@ -3,7 +3,6 @@ use mathlib.Core.List.{List, [], _∷_}
 use Prim.Native.Nat.{ℕ, _/_}
 use lib.ListN.{length}
 use Rattle.table.specs.Answer.{Answer, accepted, refused, andThen, refusal}
-use Rattle.tablefile.specs.File.{Content}
 use Rattle.tablefile.specs.Reading.{contentAt, readCheck}
 use Rattle.validate.specs.Job.{moduleOf, errorsAfter}
 use Rattle.filepass.specs.declared.Passed.{Passed}

@@ -1,7 +1,11 @@
 // A table file to its answer: the reader, then the module pass over what it holds, with the errors in a lent list.
+use blocks::BLOCK_BYTES;
 use dialect::Decoded;
+use errors::WIDTH;
+use table::MOST_NODES;
 use table::Refusal;
 use table::numbers;
+use tablefile::MOST_BLOCKS;
 use tablefile::Verdict;
 ghost use mathlib.Core.Path.{_≡_};
 ghost use mathlib.Core.List.{[]};
@@ -13,10 +17,10 @@ ghost use Rattle.filepass.specs.Sizes.{enoughBytes, enoughWords};
 ghost use Rattle.filepass.specs.Passing.{passed, heldAnswer, answerOf, wordsAfter};
 
 // How many bytes of a file tell its answer: 117 blocks, the most that a file has, and one byte.
-pub const ENOUGH_BYTES: usize = 512 * 117 + 1;
+pub const ENOUGH_BYTES: usize = BLOCK_BYTES * MOST_BLOCKS + 1;
 
-// How many words hold the errors of any file: three for each, and at most two errors for each of 2,100 nodes.
-pub const ENOUGH_WORDS: usize = 3 * (2 * 2100);
+// How many words hold the errors of any file: WIDTH for each, and at most two errors for each of 2,100 nodes.
+pub const ENOUGH_WORDS: usize = WIDTH * (2 * MOST_NODES);
 
 // What is answered to a file: how many nodes it holds and how many errors they have, or why it is refused.
 pub enum Passed {

@@ -1,7 +1,7 @@
 // A file with each of its bytes changed to eight other values, and cut at every length.
-use crate::number;
 use crate::say;
 use crate::say_number;
+use table::number;
 use tablefile::Verdict;
 
 // The file at the front of a buffer, in all these ways.

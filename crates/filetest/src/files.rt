@@ -87,12 +87,7 @@ fn say_refused(r: Refusal) {
     match r {
         Refusal::Bare(number) => say_number(number as u64),
         Refusal::Placed { number, node } => say_placed(number, node),
-        Refusal::Spanned {
-            number,
-            node,
-            begin,
-            end,
-        } => say_placed(number, node),
+        Refusal::Spanned { number, node, span } => say_placed(number, node),
     }
 }
 

@@ -5,7 +5,6 @@ mod changes;
 mod files;
 
 use libc::STDOUT_FILENO;
-use table::Refusal;
 
 fn main() {
     let fd = os::open_read(b"parameters.table");
@@ -24,19 +23,6 @@ fn main() {
     }
     files::all(fd);
     libc::close(fd);
-}
-
-fn number(r: Refusal) -> u32 {
-    match r {
-        Refusal::Bare(number) => number,
-        Refusal::Placed { number, node } => number,
-        Refusal::Spanned {
-            number,
-            node,
-            begin,
-            end,
-        } => number,
-    }
 }
 
 fn say(text: &[u8]) {

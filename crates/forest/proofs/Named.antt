@@ -1,20 +1,17 @@
--- Laws of names: parts of the lent names, equal bytes, and the search among nodes side by side. Assumes nothing.
+-- Laws of names: parts of the lent names, and equal bytes. Assumes nothing.
 use mathlib.Core.Path.{_≡_, refl, sym, ap, _∙_}
 use mathlib.Core.Bool.{Bool, true, false, _&&_}
 use mathlib.Core.List.{List, [], _∷_}
-use Prim.Native.Nat.{ℕ, zero, suc, _+_, _-_, _*_, _/_, _<_, _≤_, min}
+use Prim.Native.Nat.{ℕ, zero, suc, _+_, _-_, _<_, _≤_, min}
 use native.Mathlib.Numerals.{add-one}
-use native.Mathlib.Nat.{suc-inj}
 use native.Mathlib.Omega.{arith}
-use lib.ListN.{length, getD, take, drop, length-take, length-drop, drop-of-length-le}
+use lib.ListN.{length, getD, take, drop, length-drop, drop-of-length-le}
 use lib.Seq.{take-nil, drop-cons}
 use lib.Dec.{eqb}
 use borrow.Author.Tests.{eq-eqb, ne-eqb, eqb-true}
-use Rattle.forest.specs.Forest.{nodeOf, spanOf, node, Forest, none, _then_, forest}
-use Rattle.forest.specs.Names.{nameOf, same, firstNamed}
-use Rattle.forest.specs.declared.Found.{Found}
-use Rattle.forest.specs.declared.Found.the-variants.{At, Nothing}
-use Rattle.forest.proofs.Stretch.{forest-none, forest-tree, rest-part}
+use Rattle.fields.proofs.Basics.{clash}
+use Rattle.forest.specs.Forest.{nodeOf}
+use Rattle.forest.specs.Names.{nameOf, same}
 
 -- two counts that the list clips to the same take the same
 take-clip : (k m : ℕ) (l : List ℕ) → min k (length l) ≡ min m (length l) → take k l ≡ take m l
@@ -93,47 +90,13 @@ unfolding same
 same-bytes-refl [] = refl
 same-bytes-refl (x ∷ a) = rw (eq-eqb x x refl) (same-bytes-refl a)
 
-never : {P : Type 0} → false ≡ true → P
-never e = let z : _≡_ {A = ℕ} 0 1 = cc in absurd (omega arith)
-
 pub same-bytes-equal : (a b : List ℕ) → same a b ≡ true → a ≡ b
 unfolding same
 same-bytes-equal [] [] e = refl
-same-bytes-equal [] (y ∷ b) e = never e
-same-bytes-equal (x ∷ a) [] e = never e
+same-bytes-equal [] (y ∷ b) e = clash e refl
+same-bytes-equal (x ∷ a) [] e = clash e refl
 same-bytes-equal (x ∷ a) (y ∷ b) e = go (eqb x y) refl (same-bytes-equal a b) e
   where
     go : (t : Bool) → eqb x y ≡ t → (same a b ≡ true → a ≡ b) → (t && same a b) ≡ true → x ∷ a ≡ y ∷ b
     go true p rest q = let h : x ≡ y = eqb-true x y p in let l : a ≡ b = rest q in cc
-    go false p rest q = never q
-
--- the search among the nodes of t: what is left decides, and its first record has the index at
-pub record Seeking (ns name t : List ℕ) (at : ℕ) (left : List ℕ) : Type 0 where
-  pub room : 24 * at + length left ≤ length t
-  pub same : firstNamed ns name (forest at left) ≡ firstNamed ns name (forest 0 t)
-
-pub seek-start : (ns name t : List ℕ) → Seeking ns name t 0 t
-seek-start ns name t = record { room = omega arith; same = refl }
-
-module _ {ns name t : List ℕ} {at : ℕ} {left : List ℕ} (s : Seeking ns name t at left) where
-  pub seek-end : length left < 24 → Nothing ≡ firstNamed ns name (forest 0 t)
-  unfolding firstNamed
-  seek-end h = rw (forest-none at left h) at (s .same)
-
-  pub seek-here : {m : List ℕ} {b : Bool} → 24 ≤ length left → m ≡ nameOf ns (nodeOf 0 left) → b ≡ same m name
-      → b ≡ true → At at ≡ firstNamed ns name (forest 0 t)
-  unfolding firstNamed nameOf
-  seek-here big m-is b-is e =
-      let hit : same (nameOf ns (nodeOf 0 left)) name ≡ true = cc in
-      rw (forest-tree at left big, hit) at (s .same)
-
-  pub seek-on : {m : List ℕ} {b : Bool} {e : ℕ} → 24 ≤ length left → m ≡ nameOf ns (nodeOf 0 left) → b ≡ same m name
-      → b ≡ false → e ≡ spanOf left
-      → Seeking ns name t (at + e / 24) (take (length left - e) (drop e left))
-  unfolding firstNamed nameOf
-  seek-on {m} {b} {e} big m-is b-is miss e-is =
-      let hit : same (nameOf ns (nodeOf 0 left)) name ≡ false = cc in
-      record {
-        room = simp (length-take, length-drop) (omega arith);
-        same = rw (rest-part e left e-is, e-is) (rw (forest-tree at left big, hit) at (s .same));
-      }
+    go false p rest q = clash q refl

@@ -4,9 +4,8 @@ use mathlib.Core.Bool.{Bool}
 use mathlib.Core.List.{List}
 use Prim.Native.Nat.{ℕ}
 use Rattle.fields.proofs.Coincide.{coincide}
-use Rattle.forest.specs.Forest.{nodeOf, spanOf, forest}
-use Rattle.forest.specs.Names.{nameOf, same, firstNamed}
-use Rattle.forest.specs.declared.Found.{Found}
+use Rattle.forest.specs.Forest.{nodeOf, spanOf}
+use Rattle.forest.specs.Names.{nameOf, same}
 
 -- of `kind`
 pub kind-one : (t : List ℕ) {r s : ℕ} → r ≡ nodeOf 0 t .kind → s ≡ nodeOf 0 t .kind → r ≡ s
@@ -56,8 +55,3 @@ name-one names t = coincide
 -- of `names::same_bytes`
 pub same-bytes-one : (a b : List ℕ) {r s : Bool} → r ≡ same a b → s ≡ same a b → r ≡ s
 same-bytes-one a b = coincide
-
--- of `names::first_named`
-pub first-named-one : (names name t : List ℕ) {r s : Found} → r ≡ firstNamed names name (forest 0 t)
-    → s ≡ firstNamed names name (forest 0 t) → r ≡ s
-first-named-one names name t = coincide

@@ -2,14 +2,15 @@
 use mathlib.Core.Path.{_≡_, refl, sym, ap, _∙_}
 use mathlib.Core.Bool.{Bool, true, false}
 use mathlib.Core.List.{List, [], _∷_, _++_}
-use Prim.Native.Nat.{ℕ, zero, suc, _+_, _-_, _*_, _/_, _<_, _≤_, min, max}
+use Prim.Native.Nat.{ℕ, zero, suc, _+_, _-_, _*_, _/_, _<_, _≤_}
 use native.Mathlib.Omega.{arith}
 use native.Mathlib.Numerals.{one-add}
-use native.Mathlib.Nat.{zero-add, add-zero, suc-add, add-assoc, suc-sub-suc, sub-zero}
-use lib.ListN.{length, getD, take, drop, length-take, length-drop}
-use lib.Seq.{getD-take, drop-drop, take-nil}
+use native.Mathlib.Nat.{zero-add, add-zero, suc-add, add-assoc}
+use lib.ListN.{length, take, drop, length-take, length-drop}
+use lib.Seq.{getD-take, drop-drop}
 use lib.Dec.{leb}
 use borrow.Author.Tests.{le-leb, lt-leb, leb-true, leb-false}
+use Rattle.fields.proofs.Basics.{drop-take}
 use Rattle.fields.proofs.Fields.{tail-part, field-take}
 use Rattle.forest.specs.Forest.{Node, sizeOf, nodeOf, spanOf, kidsOf, restOf, Tree, node, Forest, none}
 use Rattle.forest.specs.Forest.{_then_, forestIn, forest, treeOf, count, nodes}
@@ -17,13 +18,6 @@ use Rattle.forest.specs.Forest.{_then_, forestIn, forest, treeOf, count,
 -- a node with its children and what follows
 abbrev pub tree : Node → Forest → Forest → Forest
 tree r ks rs = node r ks then rs
-
--- a part of a part
-pub drop-take : (k n : ℕ) (l : List ℕ) → drop k (take n l) ≡ take (n - k) (drop k l)
-drop-take zero n l = rw sub-zero refl
-drop-take (suc k) zero l = sym (ap (λ (m : ℕ). take m (drop (suc k) l)) {x = 0 - suc k} {y = 0} (omega arith))
-drop-take (suc k) (suc n) [] = sym (take-nil (suc n - suc k))
-drop-take (suc k) (suc n) (x ∷ l) = rw suc-sub-suc (drop-take k n l)
 
 -- the lengths of the two parts of a stretch
 module _ (bs : List ℕ) where

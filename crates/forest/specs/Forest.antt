@@ -1,5 +1,4 @@
 -- The node table as a forest: what a stretch of 24-byte records in preorder says, for any bytes. These are definitions.
-use mathlib.Core.Bool.{Bool, true, false}
 use mathlib.Core.List.{List, [], _∷_, _++_}
 use Prim.Native.Nat.{ℕ, zero, suc, _+_, _-_, _*_, _/_, min, max}
 use lib.ListN.{length, getD, take, drop}

@@ -1,13 +1,11 @@
--- Names of records: their bytes, when two are equal, and the first of those side by side that has a given name. These are definitions.
+-- Names of records: their bytes, when two are equal, and when all are distinct. These are definitions.
+use mathlib.Core.Path.{_≡_}
 use mathlib.Core.Bool.{Bool, true, false, _&&_}
 use mathlib.Core.List.{List, [], _∷_}
-use Prim.Native.Nat.{ℕ}
-use lib.ListN.{take, drop}
+use Prim.Native.Nat.{ℕ, _<_}
+use lib.ListN.{length, getD, take, drop}
 use lib.Dec.{eqb}
-use Rattle.fields.specs.Choice.{if'}
-use Rattle.forest.specs.Forest.{Node, Tree, node, Forest, none, _then_}
-use Rattle.forest.specs.declared.Found.{Found}
-use Rattle.forest.specs.declared.Found.the-variants.{At, Nothing}
+use Rattle.forest.specs.Forest.{Node}
 
 -- the name's bytes: as much of them as stands within the lent names
 unfoldable pub nameOf : List ℕ → Node → List ℕ
@@ -20,7 +18,6 @@ same [] (y ∷ ys) = false
 same (x ∷ xs) [] = false
 same (x ∷ xs) (y ∷ ys) = eqb x y && same xs ys
 
--- the first of the nodes side by side whose name has these bytes
-unfoldable pub firstNamed : List ℕ → List ℕ → Forest → Found
-firstNamed names name none = Nothing
-firstNamed names name (node r ks then ts) = if' (same (nameOf names r) name) (λ _. At (r .at)) (λ _. firstNamed names name ts)
+-- all names are distinct
+abbrev pub Distinct : List (List ℕ) → Type 0
+Distinct ns = (i j : ℕ) → i < j → j < length ns → getD ns i [] ≡ getD ns j [] → ⊥

@@ -1,8 +1,7 @@
-// Names of records: equal when their bytes are, and looked for among the nodes that stand side by side.
-use crate::Found;
+// Names of records: equal when their bytes are.
 ghost use mathlib.Core.Path.{_≡_};
-ghost use Rattle.forest.specs.Forest.{nodeOf, forest};
-ghost use Rattle.forest.specs.Names.{nameOf, same, firstNamed};
+ghost use Rattle.forest.specs.Forest.{nodeOf};
+ghost use Rattle.forest.specs.Names.{nameOf, same};
 
 // The name of the record that a stretch begins with: as much of it as stands within the lent names.
 pub fn name<'a>(names: &'a [u8], t: &[u8]) -> &'a [u8]
@@ -36,21 +35,4 @@ pub fn same_bytes(a: &[u8], b: &[u8]) -> bool
         i += 1;
     }
     true
-}
-
-// The first of the nodes side by side in a stretch whose name has these bytes, counted from the stretch's first record.
-pub fn first_named(names: &[u8], name: &[u8], t: &[u8]) -> Found
-    ensures { λ r. ⌜ r ≡ firstNamed (now (names .entry)) (now (name .entry)) (forest 0 (now (t .entry))) ⌝ }
-{
-    let mut at = 0;
-    let mut left = t;
-    while 24 <= left.len() {
-        if same_bytes(crate::names::name(names, left), name) {
-            return Found::At(at);
-        }
-        let e = crate::span(left);
-        at += e / 24;
-        left = &left[e..];
-    }
-    Found::Nothing
 }

@@ -1,56 +1,32 @@
 -- What an accepted answer of the job says, and that its numbers are small. Assumes nothing.
-use mathlib.Core.Path.{_≡_, refl, sym, ap, _∙_}
+use mathlib.Core.Path.{_≡_, refl, sym}
 use mathlib.Core.Bool.{Bool, true, false}
-use mathlib.Core.List.{List, [], _∷_, _++_}
-use Prim.Native.Nat.{ℕ, _+_, _-_, _*_, _/_, _≤_}
+use mathlib.Core.List.{List, [], _∷_}
+use Prim.Native.Nat.{ℕ, _+_, _<_, _≤_}
 use native.Mathlib.Omega.{arith}
-use lib.ListN.{length, drop}
+use lib.ListN.{length}
 use lib.Dec.{leb}
 use borrow.Author.Tests.{le-leb, leb-true}
+use Rattle.table.proofs.Answers.{never-passed}
 use Rattle.fields.specs.Choice.{if'}
-use Rattle.forest.specs.Forest.{forest}
-use Rattle.forest.specs.declared.Found.{Found}
-use Rattle.forest.specs.declared.Found.the-variants.{At, Nothing}
-use Rattle.soundness.specs.Sound.{firstUnsound}
-use Rattle.table.specs.Numbers.{unsoundRecord, tooDeep, wrongNode, shortBuffer}
-use Rattle.table.specs.Depth.{firstDeep}
+use Rattle.table.specs.Numbers.{shortBuffer}
 use Rattle.table.specs.Answer.{Answer, accepted, refused, andThen}
-use Rattle.table.specs.Check.{lengthCheck, namesCheck, noneFound, checkOf, nodeFits, nodeCheck, stretchOf}
-use Rattle.table.specs.declared.Checked.the-variants.{Sound}
+use Rattle.table.specs.Check.{checkOf, nodeFits, stretchOf, entryCheck, onNode}
 use Rattle.table.specs.declared.Wanted.the-variants.{Parameters}
 use Rattle.table.proofs.Checking.{accepted-clean}
-use Rattle.table.proofs.Handed.{handed, stretch-within}
-use Rattle.unpack.specs.Written.{Param, written}
-use Rattle.unpack.specs.Unpack as def
+use Rattle.table.proofs.Handed.{stretch-within}
+use Rattle.table.proofs.Entering.{entry-sound, sound-entry}
+use Rattle.deflist.specs.Written.{written}
+use Rattle.deflist.specs.Unpack as def
 use Rattle.parameters.specs.Indices.{placeRange, placeOf, valuesOf, countedOf}
-use Rattle.unpack.specs.Reading.{PlaceBelow, Bounded}
-use Rattle.unpack.specs.declared.FlatPlace.{FlatPlace}
-use Rattle.unpack.specs.declared.FlatPlace.the-variants.{AtFlat, NoFlat}
-use Rattle.unpack.specs.declared.Counts.{Counts}
-use Rattle.unpack.specs.Reached.{reached, AllAtMost}
-use Rattle.unpack.proofs.Theorems.{accepted-bounded, written-short}
-use Rattle.unpack.proofs.Counted.{counted-at-most, at-most-wider}
-use Rattle.parameters.specs.Params.{answerOf, roomCheck, listAnswer, listOf, paramsOf, modesAfter}
-
-never : {P : Type 0} {n : ℕ} {vs ws : List ℕ} → refused n vs ≡ accepted ws → P
-never e = let z : _≡_ {A = ℕ} 0 1 = cc in absurd (omega arith)
-
--- a passed check has no values
-then-accepted : (x : Answer) (next : Unit {0} → Answer) {ws : List ℕ} → andThen x next ≡ accepted ws
-    → next tt ≡ accepted ws
-then-accepted (accepted vs) next e = e
-then-accepted (refused n vs) next e = never e
-
-none-values : (n : ℕ) (f : Found) {ws : List ℕ} → noneFound n f ≡ accepted ws → ws ≡ []
-none-values n (At i) e = never e
-none-values n Nothing e = cc
-
-check-values : (t ns : List ℕ) {ws : List ℕ} → checkOf t ns ≡ accepted ws → ws ≡ []
-unfolding checkOf
-check-values t ns e =
-    none-values tooDeep (firstDeep 0 (forest 0 t))
-    (then-accepted (noneFound unsoundRecord (firstUnsound t ns)) _
-    (then-accepted (namesCheck (length ns)) _ (then-accepted (lengthCheck (length t)) _ e)))
+use Rattle.deflist.specs.Reading.{PlaceBelow, Bounded}
+use Rattle.deflist.specs.declared.FlatPlace.{FlatPlace}
+use Rattle.deflist.specs.declared.FlatPlace.the-variants.{AtFlat, NoFlat}
+use Rattle.deflist.specs.declared.Counts.{Counts}
+use Rattle.deflist.specs.Reached.{reached, AllAtMost}
+use Rattle.deflist.proofs.Theorems.{accepted-bounded, written-short}
+use Rattle.deflist.proofs.Counted.{counted-at-most, at-most-wider}
+use Rattle.parameters.specs.Params.{answerOf, roomCheck, listAnswer, listOf, paramsOf}
 
 -- an accepted answer: the table is sound, the node fits, the buffer is long enough, and unpack accepts the list with these values
 pub record Passed (t ns : List ℕ) (node room : ℕ) (vs : List ℕ) : Type 0 where
@@ -66,45 +42,41 @@ pub passed-accepted : (t ns : List ℕ) (node room : ℕ) {c : Counts} → check
     → nodeFits t node Parameters ≡ true → length (listOf t ns node) ≤ room
     → def.unpack (listOf t ns node) ≡ def.accepted c
     → paramsOf t ns node room ≡ accepted (valuesOf (countedOf c))
-unfolding paramsOf listAnswer
-passed-accepted t ns node room sound fits enough outcome = rw
-    (sound, fits, le-leb (length (listOf t ns node)) room enough, outcome) refl
+unfolding paramsOf onNode listAnswer listOf written
+passed-accepted t ns node room sound fits enough outcome = rw (
+  sound-entry Parameters t ns node sound fits,
+  le-leb (length (listOf t ns node)) room enough,
+  outcome,
+) refl
 
 -- LAW: an accepted answer has passed every check
 pub accepted-passed : (t ns : List ℕ) (node room : ℕ) {vs : List ℕ} → paramsOf t ns node room ≡ accepted vs
     → Passed t ns node room vs
-unfolding paramsOf listAnswer
-accepted-passed t ns node room {vs} e = by-check (checkOf t ns) refl e
+unfolding paramsOf onNode listAnswer listOf written
+accepted-passed t ns node room {vs} e = by-entry (entryCheck Parameters t ns node) refl e
   where
-    by-list : checkOf t ns ≡ accepted [] → nodeFits t node Parameters ≡ true → length (listOf t ns node) ≤ room
-        → (o : def.Outcome) → def.unpack (listOf t ns node) ≡ o → answerOf o ≡ accepted vs
-        → Passed t ns node room vs
-    by-list s f m (def.accepted c) u e = let same : valuesOf (countedOf c) ≡ vs = cc in
-        record { sound = s; fits = f; enough = m; counts = c; outcome = u; values = sym same }
-    by-list s f m (def.refused n r) u e = never e
-    by-list s f m (def.internal i r) u e = never e
+    by-list : entryCheck Parameters t ns node ≡ accepted [] → length (listOf t ns node) ≤ room → (o : def.Outcome)
+        → def.unpack (listOf t ns node) ≡ o → answerOf o ≡ accepted vs → Passed t ns node room vs
+    by-list s m (def.accepted c) u e =
+        let same : valuesOf (countedOf c) ≡ vs = cc in
+        let known = entry-sound Parameters t ns node s in
+        record { sound = known .0; fits = known .1; enough = m; counts = c; outcome = u; values = sym same }
+    by-list s m (def.refused n r) u e = never-passed e
+    by-list s m (def.internal i r) u e = never-passed e
 
-    by-room : checkOf t ns ≡ accepted [] → nodeFits t node Parameters ≡ true → (b : Bool)
-        → leb (length (listOf t ns node)) room ≡ b
+    by-room : entryCheck Parameters t ns node ≡ accepted [] → (b : Bool) → leb (length (listOf t ns node)) room ≡ b
         → andThen (if' b (λ _. accepted []) (λ _. refused shortBuffer []))
         (λ _. answerOf (def.unpack (listOf t ns node))) ≡ accepted vs → Passed t ns node room vs
-    by-room s f true m e = by-list s f (leb-true (length (listOf t ns node)) room m) (def.unpack (listOf t ns node))
-        refl e
-    by-room s f false m e = never e
+    by-room s true m e = by-list s (leb-true (length (listOf t ns node)) room m) (def.unpack (listOf t ns node)) refl e
+    by-room s false m e = never-passed e
 
-    by-node : checkOf t ns ≡ accepted [] → (b : Bool) → nodeFits t node Parameters ≡ b
-        → andThen (if' b (λ _. accepted []) (λ _. refused wrongNode []))
-        (λ _. andThen (roomCheck room (listOf t ns node)) (λ _. answerOf (def.unpack (listOf t ns node))))
+    by-entry : (a : Answer) → entryCheck Parameters t ns node ≡ a
+        → andThen a (λ _. andThen (roomCheck room (listOf t ns node)) (λ _. answerOf (def.unpack (listOf t ns node))))
         ≡ accepted vs → Passed t ns node room vs
-    by-node s true f e = by-room s f (leb (length (listOf t ns node)) room) refl e
-    by-node s false f e = never e
-
-    by-check : (a : Answer) → checkOf t ns ≡ a
-        → andThen a (λ _. andThen (nodeCheck t node Parameters)
-        (λ _. andThen (roomCheck room (listOf t ns node)) (λ _. answerOf (def.unpack (listOf t ns node)))))
-        ≡ accepted vs → Passed t ns node room vs
-    by-check (accepted ws) s e = by-node (s ∙ ap accepted (check-values t ns s)) (nodeFits t node Parameters) refl e
-    by-check (refused n ws) s e = never e
+    by-entry (accepted ws) s e =
+        let known = entry-sound Parameters t ns node s in
+        by-room (sound-entry Parameters t ns node (known .0) (known .1)) (leb (length (listOf t ns node)) room) refl e
+    by-entry (refused n ws) s e = never-passed e
 
 -- every number is at most m
 abbrev pub AllBelow : ℕ → List ℕ → Type 0
@@ -133,28 +105,25 @@ all-wider m n [] h a = tt
 all-wider m n (v ∷ vs) h a = (omega (arith, a .0), all-wider m n vs h (a .1))
 
 -- THEOREM: "Too many parameters" (def.rs:171) and the unwraps (280, 305, 346) cannot fire: in a table that passes the check every list, accepted
--- or refused, has at most 2,100 parameters, and so has every number that unpack counts on the way
+-- or refused, has fewer than 2,100 parameters, and so has every number that unpack counts on the way
 module _ (t ns : List ℕ) (node : ℕ) (sound : checkOf t ns ≡ accepted []) (fits : nodeFits t node Parameters ≡ true) where
-  pub list-small : length (listOf t ns node) ≤ 2100
+  pub list-short : length (listOf t ns node) < 2100
   unfolding listOf
-  list-small = omega (
+  list-short = omega (
     arith,
     stretch-within t ns node Parameters (accepted-clean t ns sound) fits,
     written-short ns node (stretchOf t node),
   )
 
   pub counts-small : AllAtMost 2100 (reached (listOf t ns node))
-  counts-small = at-most-wider _ 2100 list-small _ (counted-at-most (listOf t ns node))
+  counts-small = at-most-wider _ 2100 (omega (arith, list-short)) _ (counted-at-most (listOf t ns node))
 
 -- THEOREM: every number of an accepted answer is at most 2,100
 pub accepted-small : (t ns : List ℕ) (node room : ℕ) {vs : List ℕ} → paramsOf t ns node room ≡ accepted vs
     → AllBelow 2100 vs
-unfolding listOf
 accepted-small t ns node room e =
     let p = accepted-passed t ns node room e in
     let l = listOf t ns node in
-    let size = handed t ns node Parameters {f = Sound} (sym (p .sound)) refl refl (p .fits) {s = stretchOf t node}
-    refl in
-    let short = written-short ns node (stretchOf t node) in
-    rw (p .values) (all-wider (length l + 1) 2100 (valuesOf (countedOf (p .counts))) (omega (arith, short, size))
+    rw (p .values) (all-wider (length l + 1) 2100 (valuesOf (countedOf (p .counts)))
+    (omega (arith, list-short t ns node (p .sound) (p .fits)))
     (values-below (length l) (p .counts) (accepted-bounded l (p .outcome))))

@@ -2,36 +2,35 @@
 use mathlib.Core.Path.{_≡_, refl, sym, ap, _∙_}
 use mathlib.Core.Bool.{Bool, true, false}
 use mathlib.Core.List.{List, [], _∷_, _++_}
-use Prim.Native.Nat.{ℕ, _+_, _-_, _/_, _<_, _≤_, _^_}
+use Prim.Native.Nat.{ℕ, _+_, _*_, _-_, _/_, _<_, _≤_, _^_}
 use native.Mathlib.Omega.{arith}
 use lib.ListN.{length, drop}
 use lib.Seq.{sets, sets-eq}
 use borrow.Author.Tests.{le-leb, lt-leb}
+use Rattle.fields.proofs.Basics.{never}
 use Rattle.forest.specs.Forest.{kidsOf, forest}
-use Rattle.table.specs.Numbers.{wrongNode, shortBuffer}
-use Rattle.table.specs.Answer.{Answer, accepted, refused, andThen, refusal, checked}
-use Rattle.table.specs.Check.{checkOf, nodeFits, nodeCheck, stretchOf}
+use Rattle.table.specs.Numbers.{shortBuffer}
+use Rattle.table.specs.Answer.{Answer, accepted, refused, refusal, checked}
+use Rattle.table.specs.Check.{stretchOf, entryCheck}
 use Rattle.table.specs.declared.Refusal.{Refusal}
-use Rattle.table.specs.declared.Refusal.the-variants.{Bare, Placed, Spanned}
 use Rattle.table.specs.declared.Checked.{Checked}
 use Rattle.table.specs.declared.Checked.the-variants.{Sound, Refused as Unsound}
 use Rattle.table.specs.declared.Wanted.the-variants.{Parameters}
-use Rattle.table.proofs.Answers.{stopped}
-use Rattle.table.proofs.Handed.{clean, fitting, handed}
-use Rattle.unpack.specs.Written.{paramsIn, written}
-use Rattle.unpack.specs.Unpack as def
-use Rattle.unpack.specs.Unpack.{modes}
-use Rattle.unpack.specs.Told.{told}
-use Rattle.unpack.specs.Reading.{Inside, PlaceBelow, Bounded}
-use Rattle.unpack.specs.declared.State.{State}
-use Rattle.unpack.specs.declared.FlatPlace.{FlatPlace}
-use Rattle.unpack.specs.declared.FlatPlace.the-variants.{AtFlat, NoFlat}
-use Rattle.unpack.specs.declared.Counts.{Counts}
-use Rattle.unpack.specs.declared.Judged.{Judged}
-use Rattle.unpack.specs.declared.Judged.the-variants.{Accepted, Refused}
-use Rattle.unpack.proofs.Theorems.{accepted-bounded, accepted-only, written-short, modes-short, told-accepted}
+use Rattle.table.proofs.Entering.{job-refused, job-is}
+use Rattle.deflist.specs.Written.{paramsIn, writtenIn, written}
+use Rattle.deflist.specs.Unpack as def
+use Rattle.deflist.specs.Unpack.{modes}
+use Rattle.deflist.specs.Told.{told}
+use Rattle.deflist.specs.Reading.{Inside, PlaceBelow, Bounded}
+use Rattle.deflist.specs.declared.State.{State}
+use Rattle.deflist.specs.declared.FlatPlace.{FlatPlace}
+use Rattle.deflist.specs.declared.FlatPlace.the-variants.{AtFlat, NoFlat}
+use Rattle.deflist.specs.declared.Counts.{Counts}
+use Rattle.deflist.specs.declared.Judged.{Judged}
+use Rattle.deflist.specs.declared.Judged.the-variants.{Accepted, Refused}
+use Rattle.deflist.proofs.Theorems.{accepted-bounded, accepted-only, written-short, modes-short, told-accepted}
 use Rattle.parameters.specs.declared.Counted.{Counted}
-use Rattle.unpack.specs.declared.Fault.{Fault}
+use Rattle.deflist.specs.declared.Fault.{Fault}
 use Rattle.parameters.specs.Indices.{valuesOf, countedOf}
 use Rattle.parameters.specs.Params.{answerOf, listAnswer, listOf, paramsOf, afterwards, modesAfter}
 use Rattle.parameters.specs.Writing.{isRefused, firstOf, judgedAnswer, Small, AtMost}
@@ -71,7 +70,7 @@ module _ {j : Judged} {f : Fault} (j-is : j ≡ Refused f) where
   pub refused-small : Small j → f .node < 2 ^ 32
   refused-small h = rw j-is at h
 
-  pub refused-answer : {u : Answer} → u ≡ refused (f .number) (f .node ∷ f .begin ∷ f .end ∷ [])
+  pub refused-answer : {u : Answer} → u ≡ refused (f .number) (f .node ∷ f .span .begin ∷ f .span .end ∷ [])
       → u ≡ judgedAnswer j
   refused-answer u-is = u-is ∙ sym (ap judgedAnswer j-is)
 
@@ -120,8 +119,8 @@ module _ (ns t ms : List ℕ) (node : ℕ) {kids : List ℕ} (kids-are : kids �
       answer-is = ap judgedAnswer j-is ∙ judged-answer (def.unpack (written ns node t)) ∙ sym roomy
 
       -- every number of the answer is small
-      pub into-small : node ≤ 2100 → length t ≤ 50400 → Inside (node + 1 + length t / 24) j → Small j
-      into-small few short inside = go j j-is inside
+      pub into-small : 24 * node + length t ≤ 50400 → Inside (node + 1 + length t / 24) j → Small j
+      into-small short inside = go j j-is inside
         where
           go : (x : Judged) → x ≡ told (def.unpack (written ns node t)) → Inside (node + 1 + length t / 24) x
               → Small x
@@ -137,7 +136,7 @@ module _ (ns t ms : List ℕ) (node : ℕ) {kids : List ℕ} (kids-are : kids �
           where
             kept : (x : Judged) → isRefused x ≡ true
                 → ms ≡ afterwards (judgedAnswer x) (def.modes (written ns node t)) ms
-            kept (Accepted c) e = let z : _≡_ {A = ℕ} 0 1 = cc in absurd (omega arith)
+            kept (Accepted c) e = never (cc)
             kept (Refused f) e = refl
 
         pub into-accepted : b ≡ false → {s : State} → s ≡ firstOf j → {ms′ : List ℕ}
@@ -151,53 +150,21 @@ module _ (ns t ms : List ℕ) (node : ℕ) {kids : List ℕ} (kids-are : kids �
             written-over (Accepted c) e g q = ms-is ns (node + 1)
                 ∙ ap (sets ms 0) (same-modes (told-accepted (def.unpack (written ns node t)) (sym e)) q)
                 ∙ sym stored
-            written-over (Refused f) e g q = let z : _≡_ {A = ℕ} 0 1 = cc in absurd (omega arith)
-
--- a refusal leaves the buffer
-unchanged : (r : Refusal) (modes ms : List ℕ) → afterwards (refusal r) modes ms ≡ ms
-unchanged (Bare n) modes ms = refl
-unchanged (Placed n k) modes ms = refl
-unchanged (Spanned n k b e) modes ms = refl
+            written-over (Refused f) e g q = never (cc)
 
 -- 1 to 4, 6, then the list
-module _ (t ns : List ℕ) (node : ℕ) {k : Checked} (k-is : checked k ≡ checkOf t ns) where
-  pub params-unsound : (ms : List ℕ) {r : Refusal} → k ≡ Unsound r
-      → (refusal r ≡ paramsOf t ns node (length ms)) × (ms ≡ modesAfter t ns node ms)
+module _ (t ns : List ℕ) (node : ℕ) {e : Checked} (e-is : checked e ≡ entryCheck Parameters t ns node) where
+  pub params-refused : (ms : List ℕ) {why : Refusal} → e ≡ Unsound why
+      → (refusal why ≡ paramsOf t ns node (length ms)) × (ms ≡ modesAfter t ns node ms)
   unfolding paramsOf modesAfter
-  params-unsound ms {r} e =
-      let check : checkOf t ns ≡ refusal r = sym k-is ∙ ap checked e in
-      let answer = stopped r (λ _. andThen (nodeCheck t node Parameters)
-      (λ _. listAnswer (listOf t ns node) (length ms))) in
-      rw (check, ← answer) (refl, sym (unchanged r (def.modes (listOf t ns node)) ms))
+  params-refused ms h =
+      let told = job-refused Parameters t ns node e-is (λ tree. listAnswer (writtenIn ns tree) (length ms)) h in
+      (told, rw (← told) refl)
 
-  module _ (sound : k ≡ Sound) {b : Bool} (b-is : b ≡ nodeFits t node Parameters) where
-    check : checkOf t ns ≡ accepted []
-    check = sym k-is ∙ ap checked sound
-
-    pub params-node : (ms : List ℕ) → b ≡ false
-        → (refused wrongNode [] ≡ paramsOf t ns node (length ms)) × (ms ≡ modesAfter t ns node ms)
-    unfolding paramsOf modesAfter
-    params-node ms b-no = let wrong : nodeFits t node Parameters ≡ false = sym b-is ∙ b-no in
-        rw (check, wrong) (refl, refl)
-
-    module _ (b-yes : b ≡ true) where
-      fits : nodeFits t node Parameters ≡ true
-      fits = sym b-is ∙ b-yes
-
-      pub params-few : node < 2100
-      params-few = omega (
-        arith,
-        fitting t ns node Parameters k-is sound b-is b-yes,
-        clean t ns node Parameters k-is sound b-is b-yes .most,
-      )
-
-      module _ {s : List ℕ} (s-is : s ≡ stretchOf t node) where
-        pub params-short : length s ≤ 50400
-        params-short = omega (arith, handed t ns node Parameters k-is sound b-is b-yes s-is)
-
-        pub params-list : (ms : List ℕ) {u : Answer} {ms′ : List ℕ}
-            → (u ≡ listAnswer (written ns node s) (length ms))
-            × (ms′ ≡ afterwards (listAnswer (written ns node s) (length ms)) (def.modes (written ns node s)) ms)
-            → (u ≡ paramsOf t ns node (length ms)) × (ms′ ≡ modesAfter t ns node ms)
-        unfolding paramsOf modesAfter listOf
-        params-list ms h = rw (check, fits, ← s-is) h
+  pub params-list : e ≡ Sound → {s : List ℕ} → s ≡ stretchOf t node → (ms : List ℕ) {u : Answer} {ms′ : List ℕ}
+      → (u ≡ listAnswer (written ns node s) (length ms))
+      × (ms′ ≡ afterwards (listAnswer (written ns node s) (length ms)) (def.modes (written ns node s)) ms)
+      → (u ≡ paramsOf t ns node (length ms)) × (ms′ ≡ modesAfter t ns node ms)
+  unfolding paramsOf modesAfter listOf written
+  params-list good s-is ms h =
+      rw (job-is Parameters t ns node e-is good (λ tree. listAnswer (writtenIn ns tree) (length ms)), ← s-is) h

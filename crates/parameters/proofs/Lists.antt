@@ -2,20 +2,19 @@
 use mathlib.Core.Path.{_≡_, refl, sym, ap, _∙_}
 use mathlib.Core.Bool.{Bool, true, false}
 use mathlib.Core.List.{List, [], _∷_, _++_}
-use Prim.Native.Nat.{ℕ, zero, suc, _+_, _-_, _*_, _/_, _<_, _≤_, min, max}
-use native.Mathlib.Numerals.{add-one}
+use Prim.Native.Nat.{ℕ, zero, suc, _+_, _-_, _*_, _/_, _<_, _≤_}
 use native.Mathlib.Omega.{arith}
 use lib.ListN.{length, set, take, drop, length-take, length-drop}
 use lib.Seq.{sets, length-sets}
 use Rattle.forest.specs.Forest.{nodeOf, spanOf, forest}
-use Rattle.unpack.specs.Written.{Param, kindIn, paramOf, paramsIn}
-use Rattle.unpack.specs.Unpack.{nextState, modeOf, modesFrom}
-use Rattle.unpack.specs.Reading.{isListed, kindHere}
-use Rattle.unpack.specs.declared.Kind.{Kind}
-use Rattle.unpack.specs.declared.Kind.the-variants.{Normal, NoArgs, Slash, Args, KwArgs}
-use Rattle.unpack.specs.declared.State.{State}
-use Rattle.unpack.specs.declared.State.the-variants.{Normal as BeforeSlash, SeenSlash, SeenStar, SeenStarStar}
-use Rattle.unpack.proofs.Reading.{kind-in, listed-long, Reading, read-start, read-here, read-on, read-end, list-on}
+use Rattle.deflist.specs.Written.{Param, kindIn, paramOf, paramsIn}
+use Rattle.deflist.specs.Unpack.{nextState, modeOf, modesFrom}
+use Rattle.deflist.specs.Reading.{isListed, kindHere}
+use Rattle.deflist.specs.declared.Kind.{Kind}
+use Rattle.deflist.specs.declared.Kind.the-variants.{Normal, NoArgs, Slash, Args, KwArgs}
+use Rattle.deflist.specs.declared.State.{State}
+use Rattle.deflist.specs.declared.State.the-variants.{Normal as BeforeSlash, SeenSlash, SeenStar, SeenStarStar}
+use Rattle.deflist.proofs.Reading.{kind-in, listed-long, Reading, read-start, read-here, read-on, read-end, list-on}
 use Rattle.parameters.specs.Writing.{modeByte, modeIn, AtMost}
 
 -- a list is read to its end

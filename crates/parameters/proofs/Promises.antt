@@ -1,17 +1,16 @@
 -- Two answers of the job, with the buffers they leave, that meet its promise coincide. Assumes nothing.
-use mathlib.Core.Path.{_≡_, refl, sym, ap, _∙_}
-use mathlib.Core.List.{List, [], _∷_}
-use Prim.Native.Nat.{ℕ, _+_}
+use mathlib.Core.Path.{_≡_, refl, sym, ap}
+use mathlib.Core.List.{List}
+use Prim.Native.Nat.{ℕ}
 use native.Mathlib.Omega.{arith}
 use lib.ListN.{length, getD}
 use Rattle.fields.proofs.Coincide.{coincide, coincide-by}
-use Rattle.table.specs.Answer.{Answer, accepted, refused, refusal}
 use Rattle.table.proofs.Answers.{refusal-injective, never-accepted}
 use Rattle.parameters.specs.Indices.{posOnly, posOrNamed, argsRange, namedOnly, kwargsRange, placeRange}
 use Rattle.parameters.specs.Indices.{valuesOf}
 use Rattle.parameters.specs.declared.Range.{Range}
-use Rattle.parameters.specs.declared.Place.{Place}
-use Rattle.parameters.specs.declared.Place.the-variants.{At, Nothing}
+use Rattle.table.specs.declared.Place.{Place}
+use Rattle.table.specs.declared.Place.the-variants.{At, Nothing}
 use Rattle.parameters.specs.declared.DefParamIndices.{DefParamIndices}
 use Rattle.parameters.specs.declared.Counted.{Counted}
 use Rattle.parameters.specs.Params.{unpacked, paramsOf, modesAfter}

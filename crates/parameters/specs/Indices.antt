@@ -2,11 +2,11 @@
 -- Copyright 2018 The Starlark in Rust Authors. Copyright (c) Facebook, Inc. and its affiliates. Licensed under Apache-2.0; changed.
 use mathlib.Core.List.{List, [], _∷_}
 use Prim.Native.Nat.{ℕ, _+_}
-use Rattle.unpack.specs.declared.FlatPlace.{FlatPlace}
-use Rattle.unpack.specs.declared.FlatPlace.the-variants.{AtFlat, NoFlat}
-use Rattle.unpack.specs.declared.Counts.{Counts}
-use Rattle.parameters.specs.declared.Place.{Place}
-use Rattle.parameters.specs.declared.Place.the-variants.{At, Nothing}
+use Rattle.deflist.specs.declared.FlatPlace.{FlatPlace}
+use Rattle.deflist.specs.declared.FlatPlace.the-variants.{AtFlat, NoFlat}
+use Rattle.deflist.specs.declared.Counts.{Counts}
+use Rattle.table.specs.declared.Place.{Place}
+use Rattle.table.specs.declared.Place.the-variants.{At, Nothing}
 use Rattle.parameters.specs.declared.DefParamIndices.{DefParamIndices}
 use Rattle.parameters.specs.declared.Counted.{Counted}
 use Rattle.parameters.specs.declared.Range.{Range}

@@ -3,18 +3,15 @@ use mathlib.Core.Bool.{Bool, true, false}
 use mathlib.Core.List.{List, [], _∷_}
 use Prim.Native.Nat.{ℕ, zero, suc, _≤_, _<_, _^_}
 use lib.ListN.{length}
-use lib.Seq.{sets}
-use Rattle.fields.specs.Choice.{if'}
 use Rattle.forest.specs.Forest.{forest}
-use Rattle.unpack.specs.Written.{paramsIn}
-use Rattle.unpack.specs.Unpack.{firstState, seenSlash, seenStar, modesFrom}
-use Rattle.unpack.specs.declared.Kind.{Kind}
-use Rattle.unpack.specs.declared.Kind.the-variants.{Normal, NoArgs, Slash, Args, KwArgs}
-use Rattle.unpack.specs.Reading.{Bounded}
-use Rattle.unpack.specs.declared.State.{State}
-use Rattle.unpack.specs.declared.State.the-variants.{SeenSlash}
-use Rattle.unpack.specs.declared.Judged.{Judged}
-use Rattle.unpack.specs.declared.Judged.the-variants.{Accepted, Refused}
+use Rattle.deflist.specs.Written.{paramsIn}
+use Rattle.deflist.specs.Unpack.{firstState, modeOf}
+use Rattle.deflist.specs.declared.Kind.{Kind}
+use Rattle.deflist.specs.Reading.{Bounded}
+use Rattle.deflist.specs.declared.State.{State}
+use Rattle.deflist.specs.declared.State.the-variants.{SeenSlash}
+use Rattle.deflist.specs.declared.Judged.{Judged}
+use Rattle.deflist.specs.declared.Judged.the-variants.{Accepted, Refused}
 use Rattle.table.specs.Answer.{Answer, accepted, refused}
 use Rattle.parameters.specs.Indices.{valuesOf, countedOf}
 
@@ -30,19 +27,19 @@ firstOf (Refused f) = SeenSlash
 -- what the job answers for it, and that its numbers fit 32 bits
 abbrev pub judgedAnswer : Judged → Answer
 judgedAnswer (Accepted c) = accepted (valuesOf (countedOf c))
-judgedAnswer (Refused f) = refused (f .number) (f .node ∷ f .begin ∷ f .end ∷ [])
+judgedAnswer (Refused f) = refused (f .number) (f .node ∷ f .span .begin ∷ f .span .end ∷ [])
 
 abbrev pub Small : Judged → Type 0
 Small (Accepted c) = Bounded 4294967295 4294967295 c
 Small (Refused f) = f .node < 2 ^ 32
 
 -- the mode of a parameter as a byte: 0 for a mark
+abbrev pub firstMode : List ℕ → ℕ
+firstMode [] = 0
+firstMode (m ∷ ms) = m
+
 abbrev pub modeByte : State → Kind → ℕ
-modeByte s (Normal default) = if' (seenSlash s) (λ _. if' (seenStar s) (λ _. 3) (λ _. 2)) (λ _. 1)
-modeByte s NoArgs = 0
-modeByte s Slash = 0
-modeByte s Args = 4
-modeByte s KwArgs = 5
+modeByte s k = firstMode (modeOf s k)
 
 -- a byte that is a mode
 abbrev pub modeIn : ℕ → List ℕ

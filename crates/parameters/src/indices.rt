@@ -3,8 +3,8 @@
 // Ported from src/syntax/def.rs of starlark_syntax 0.14.2, and changed: a range is a struct of two numbers.
 // Copyright 2018 The Starlark in Rust Authors. Copyright (c) Facebook, Inc. and its affiliates. Licensed under Apache-2.0.
 use crate::DefParamIndices;
-use crate::Place;
 use crate::Range;
+use table::Place;
 ghost use mathlib.Core.Path.{_≡_};
 ghost use Rattle.parameters.specs.Indices.{posOnly, posOrNamed, argsRange, namedOnly, kwargsRange, placeRange};
 

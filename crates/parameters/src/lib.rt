@@ -4,40 +4,35 @@
 // Copyright 2018 The Starlark in Rust Authors. Copyright (c) Facebook, Inc. and its affiliates. Licensed under Apache-2.0.
 pub mod indices;
 
+use deflist::Counts;
+use deflist::Fault;
+use deflist::Flat;
+use deflist::FlatPlace;
+use deflist::Judged;
+use deflist::Kind;
+use deflist::State;
+use deflist::entry;
+use deflist::states;
 use table::Checked;
+use table::Place;
 use table::Refusal;
 use table::Wanted;
 use table::numbers;
-use unpack::Counts;
-use unpack::Fault;
-use unpack::Flat;
-use unpack::FlatPlace;
-use unpack::Judged;
-use unpack::Kind;
-use unpack::State;
-use unpack::entry;
-use unpack::states;
 ghost use mathlib.Core.Path.{_≡_};
 ghost use mathlib.Core.Bool.{true};
 ghost use mathlib.Core.List.{List, [], _∷_};
-ghost use Prim.Native.Nat.{ℕ, _+_, _≤_, _<_, _^_};
+ghost use Prim.Native.Nat.{ℕ, _+_, _*_, _≤_, _<_, _^_};
 ghost use lib.ListN.{length};
 ghost use lib.Seq.{sets};
 ghost use Rattle.forest.specs.Forest.{forest};
 ghost use Rattle.table.specs.Answer.{refused, refusal as refusalOf};
-ghost use Rattle.unpack.specs.Written.{paramsIn, written};
-ghost use Rattle.unpack.specs.Unpack.{modesFrom, modes as modesOf};
-ghost use Rattle.unpack.specs.Reading.{PlaceBelow, Bounded};
-ghost use Rattle.unpack.specs.declared.Kind.the-variants.{Normal};
+ghost use Rattle.deflist.specs.Written.{paramsIn, written};
+ghost use Rattle.deflist.specs.Unpack.{modesFrom, modes as modesOf};
+ghost use Rattle.deflist.specs.Reading.{PlaceBelow, Bounded};
+ghost use Rattle.deflist.specs.declared.Kind.the-variants.{Normal};
 ghost use Rattle.parameters.specs.Indices.{placeOf, countedOf};
 ghost use Rattle.parameters.specs.Params.{unpacked, listAnswer, paramsOf, afterwards, modesAfter};
 ghost use Rattle.parameters.specs.Writing.{isRefused, firstOf, judgedAnswer, Small, modeByte, modeIn, AtMost};
-
-// An index in the flat list, or none.
-pub enum Place {
-    At(u32),
-    Nothing,
-}
 
 // The sizes and indices that split the flat list into its parts, as the crate has them.
 pub struct DefParamIndices {
@@ -70,27 +65,24 @@ pub fn params(table: &[u8], names: &[u8], node: usize, modes: &mut [u8]) -> Unpa
     ensures { λ r. ⌜ unpacked r ≡ paramsOf (now (table .entry)) (now (names .entry)) node (length (now (modes .entry))) ⌝ }
     ensures { λ r. ⌜ now (modes .exit) ≡ modesAfter (now (table .entry)) (now (names .entry)) node (now (modes .entry)) ⌝ }
 {
-    let checked = table::check(table, names);
-    if let Checked::Refused(r) = checked {
-        return Unpacked::Refused(r);
-    }
-    if !table::node_fits(table, node, Wanted::Parameters) {
-        return Unpacked::Refused(Refusal::Bare(numbers::WRONG_NODE));
+    let entered = table::enter(table, names, node, Wanted::Parameters);
+    if let Checked::Refused(why) = entered {
+        return Unpacked::Refused(why);
     }
     unpack_into(names, table::stretch(table, node), node as u32, modes)
 }
 
 // 7, then unpack's answer for the list of a node, whose stretch is lent; the modes are written once the list is accepted.
 fn unpack_into(names: &[u8], t: &[u8], node: u32, modes: &mut [u8]) -> Unpacked
-    requires { ⌜ (length (now t) ≤ 50400) × (node ≤ 2100) ⌝ }
+    requires { ⌜ (24 ≤ length (now t)) × (24 * node + length (now t) ≤ 50400) ⌝ }
     ensures { λ r. ⌜ unpacked r ≡ listAnswer (written (now (names .entry)) node (now (t .entry))) (length (now (modes .entry))) ⌝ }
     ensures { λ r. ⌜ now (modes .exit) ≡ afterwards (listAnswer (written (now (names .entry)) node (now (t .entry))) (length (now (modes .entry)))) (modesOf (written (now (names .entry)) node (now (t .entry)))) (now (modes .entry)) ⌝ }
 {
-    let kids = unpack::children(t);
+    let kids = deflist::children(t);
     if modes.len() < list_length(kids) {
         return Unpacked::Refused(Refusal::Bare(numbers::SHORT_BUFFER));
     }
-    let judged = unpack::judge(names, t, node);
+    let judged = deflist::judge(names, t, node);
     if is_refused(judged) {
         return answer(judged);
     }
@@ -244,12 +236,8 @@ fn numbered(c: Counts) -> Counted
 // A refusal at a parameter.
 fn refusal(f: Fault) -> Refusal
     requires { ⌜ f .node < 2 ^ 32 ⌝ }
-    ensures { λ r. ⌜ refusalOf r ≡ refused (f .number) (f .node ∷ f .begin ∷ f .end ∷ []) ⌝ }
+    ensures { λ r. ⌜ refusalOf r ≡ refused (f .number) (f .node ∷ f .span .begin ∷ f .span .end ∷ []) ⌝ }
 {
-    Refusal::Spanned {
-        number: f.number,
-        node: f.node as u32,
-        begin: f.begin,
-        end: f.end,
-    }
+    let span = f.span;
+    table::refused_in(f.number, f.node as u32, span)
 }

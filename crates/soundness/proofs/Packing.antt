@@ -10,6 +10,7 @@ use lib.ListN.{List·getD-eq-default}
 use lib.Seq.{length-take-le, getD-take, getD-append-add}
 use lib.Dec.{eqb, ltb, leb}
 use borrow.Author.Tests.{eqb-true, ne-eqb, le-leb, lt-leb, ltb-true, ltb-false, lt-ltb, le-ltb}
+use Rattle.fields.proofs.Basics.{never}
 use Rattle.fields.specs.Choice.{if'}
 use Rattle.soundness.specs.Kinds.{Children, Kind, kind, kinds, noName, exactly, kindIn, kindOf, classOf}
 use Rattle.soundness.specs.Sound.{permitted, fixed, between, wanted}
@@ -37,7 +38,7 @@ memberOf n [] = false
 memberOf n (m ∷ ms) = eqb n m || memberOf n ms
 
 not-member : (ns : List ℕ) (k n : ℕ) → Apart ns k → memberOf n ns ≡ true → n ≡ k → ⊥
-not-member [] k n a e same = let z : _≡_ {A = ℕ} 0 1 = cc in absurd (omega arith)
+not-member [] k n a e same = never (cc)
 not-member (m ∷ ms) k n a e same = go (eqb n m) refl e (λ t. not-member ms k n (a .0) t same)
   where
     go : (b : Bool) → eqb n m ≡ b → (b || memberOf n ms) ≡ true → (memberOf n ms ≡ true → ⊥) → ⊥
@@ -56,7 +57,7 @@ kind-apart-in (k ∷ ks) ns n e a = go (memberOf (k .number) ns) refl e (λ t. k
     go : (b : Bool) → memberOf (k .number) ns ≡ b → (b && allIn ks ns) ≡ true
         → (allIn ks ns ≡ true → kindIn ks n ≡ none n) → kindIn (k ∷ ks) n ≡ none n
     go true t e rest = rw (ne-eqb (k .number) n (not-member ns n (k .number) a t), kindIn) (rest e)
-    go false t e rest = let z : _≡_ {A = ℕ} 0 1 = cc in absurd (omega arith)
+    go false t e rest = never (cc)
 
 -- an arm of code: the kind k is the number n, at which the row is computed
 pub row-arm : (row n k : ℕ) → k ≡ n → row / 0x100_0000_0000 % 16 ≡ classOf n

@@ -9,6 +9,7 @@ use lib.ListN.{length, getD, take, drop, length-take, length-drop, drop-of-lengt
 use lib.Seq.{drop-cons}
 use lib.Dec.{eqb, leb}
 use borrow.Author.Tests.{eq-eqb, ne-eqb, leb-true, leb-false}
+use Rattle.fields.proofs.Basics.{and-left, and-right, never}
 use Rattle.fields.specs.Choice.{if'}
 use Rattle.forest.specs.Forest.{Node, sizeOf, nodeOf, spanOf, kidsOf, restOf, forest, count}
 use Rattle.forest.specs.Names.{same}
@@ -90,17 +91,6 @@ module _ {t left : List ℕ} {n : ℕ} (s : Counting t left n) where
       omega (arith, s .all)
 
 -- both of two tests
-pub and-left : (a b : Bool) → (a && b) ≡ true → a ≡ true
-and-left true b e = refl
-and-left false b e = e
-
-pub and-right : (a b : Bool) → (a && b) ≡ true → b ≡ true
-and-right true b e = e
-and-right false b e = let z : _≡_ {A = ℕ} 0 1 = cc in absurd (omega arith)
-
-pub and-both : (a b : Bool) → a ≡ true → b ≡ true → (a && b) ≡ true
-and-both a b p q = rw (p, q) refl
-
 and-false : (a : Bool) → (a && false) ≡ false
 and-false true = refl
 and-false false = refl
@@ -273,7 +263,7 @@ module _ (t : List ℕ) (big : 24 ≤ length t) {size : ℕ} (size-is : size ≡
     where
       go : (a : Bool) → leb 1 size ≡ a → (b : Bool) → leb (24 * size) (length t) ≡ b → (a && b) ≡ false
           → sizeOf t ≡ spanOf t / 24 → ⊥
-      go true p true q e f = let z : _≡_ {A = ℕ} 0 1 = cc in absurd (omega arith)
+      go true p true q e f = never (cc)
       go true p false q e f = let l : length t < 24 * size = leb-false (24 * size) (length t) q in
           omega (arith, same-size)
       go false p b q e f = let l : size < 1 = leb-false 1 size p in omega (arith, same-size)

@@ -1,13 +1,12 @@
 -- The first number at which a test fails: laws for loops, and what it means. Assumes nothing.
-use mathlib.Core.Path.{_≡_, refl, sym, ap, _∙_}
+use mathlib.Core.Path.{_≡_, refl, sym, _∙_}
 use mathlib.Core.Bool.{Bool, true, false}
 use Prim.Native.Nat.{ℕ, zero, suc, _+_, _-_, _<_, _≤_}
 use native.Mathlib.Nat.{sub-zero}
 use native.Mathlib.Omega.{arith}
 use lib.Dec.{eqb}
 use borrow.Author.Tests.{eqb-true, eqb-false}
-use Rattle.fields.specs.Choice.{if'}
-use Rattle.forest.specs.declared.Found.{Found}
+use Rattle.fields.proofs.Basics.{never}
 use Rattle.forest.specs.declared.Found.the-variants.{At, Nothing}
 use Rattle.soundness.specs.Sound.{firstFalse}
 
@@ -54,7 +53,7 @@ none-from p (suc n) i e j h g = split (p i) refl (λ t. none-from p n (i + 1) t 
     split : (b : Bool) → p i ≡ b → (firstFalse p (i + 1) n ≡ Nothing → i + 1 ≤ j → j < i + 1 + n → p j ≡ true)
         → p j ≡ true
     split true t rest = later rest t (eqb i j) refl
-    split false t rest = let z : _≡_ {A = ℕ} 0 1 = cc (first-here p i n t) in absurd (omega arith)
+    split false t rest = never (cc (first-here p i n t))
 
 pub none-found : (p : ℕ → Bool) (n : ℕ) → firstFalse p 0 n ≡ Nothing → (j : ℕ) → j < n → p j ≡ true
 none-found p n e j h = none-from p n 0 e j (omega arith) (omega arith)
@@ -67,7 +66,7 @@ pub record First (p : ℕ → Bool) (i n k : ℕ) : Type 0 where
 
 found-from : (p : ℕ → Bool) (n i k : ℕ) → firstFalse p i n ≡ At k → First p i n k
 unfolding firstFalse
-found-from p zero i k e = let z : _≡_ {A = ℕ} 0 1 = cc in absurd (omega arith)
+found-from p zero i k e = never (cc)
 found-from p (suc n) i k e = split (p i) refl (λ t. found-from p n (i + 1) k t)
   where
     passed : p i ≡ true → First p (i + 1) n k → First p i (suc n) k

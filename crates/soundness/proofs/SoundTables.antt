@@ -1,19 +1,20 @@
 -- A table with no unsound record is a forest whose every node is sound, and so is the stretch of each of its nodes. Assumes nothing.
 use mathlib.Core.Path.{_≡_, refl, sym, ap, _∙_}
-use mathlib.Core.Bool.{Bool, true, false, _&&_}
-use mathlib.Core.List.{List, [], _∷_}
-use Prim.Native.Nat.{ℕ, zero, suc, _+_, _-_, _*_, _/_, _<_, _≤_, min, max}
+use mathlib.Core.Bool.{Bool, true, _&&_}
+use mathlib.Core.List.{List}
+use Prim.Native.Nat.{ℕ, zero, suc, _+_, _-_, _*_, _/_, _<_, _≤_}
 use native.Mathlib.Omega.{arith}
-use lib.ListN.{length, take, drop, length-take, length-drop}
+use lib.ListN.{length, take, drop, length-drop}
 use lib.Seq.{take-all, take-take, drop-drop, length-take-le}
 use lib.Dec.{eqb}
 use borrow.Author.Tests.{eqb-true, eq-eqb}
+use Rattle.fields.proofs.Basics.{and-both, and-left, and-right, drop-take}
 use Rattle.fields.specs.Choice.{if'}
 use Rattle.forest.specs.Forest.{Node, sizeOf, spanOf, nodeOf, kidsOf, restOf, Tree, node, Forest, none, _then_}
 use Rattle.forest.specs.Forest.{forest, count}
 use Rattle.forest.specs.Names.{same}
 use Rattle.forest.specs.declared.Found.the-variants.{Nothing}
-use Rattle.forest.proofs.Stretch.{tree, drop-take, node-take, size-take, length-kids, length-rest, forest-none}
+use Rattle.forest.proofs.Stretch.{node-take, size-take, length-kids, length-rest, forest-none}
 use Rattle.forest.proofs.Stretch.{forest-tree, count-forest, record-or-none}
 use Rattle.forest.proofs.Named.{same-bytes-equal}
 use Rattle.soundness.specs.Kinds.{statement, Children, kindOf, classOf}
@@ -21,7 +22,7 @@ use Rattle.soundness.specs.Sound.{Context, fieldsSound, wholeTree, whole
 use Rattle.soundness.specs.Sound.{wanted, permits, kidsSound, soundNode, soundAt, rootSound, contextOf}
 use Rattle.soundness.specs.Sound.{recordSound, firstUnsound}
 use Rattle.soundness.proofs.Search.{none-found}
-use Rattle.soundness.proofs.Records.{and-left, and-right, and-both, whole-size}
+use Rattle.soundness.proofs.Records.{whole-size}
 
 -- THEOREM: a record is whole exactly where its size is at least 1 and its subtree does not pass the end of what is there
 module _ (i : ℕ) (bs : List ℕ) (big : 24 ≤ length bs) where

@@ -1,8 +1,8 @@
 -- The kinds of records, in the order and the words of document 01: a row for each. These are definitions.
 use mathlib.Core.Bool.{Bool, true, false}
 use mathlib.Core.List.{List, [], _∷_, _++_}
-use Prim.Native.Nat.{ℕ, _%_}
-use lib.Dec.{eqb, leb}
+use Prim.Native.Nat.{ℕ}
+use lib.Dec.{eqb}
 use Rattle.fields.specs.Choice.{if'}
 use Rattle.soundness.specs.KindNumbers.{kindStatements, kindDef, kindFor, kindIf, kindIfElse, kindBreak, kindContinue, kindReturn, kindLoad, kindOtherSimple, kindAssign, kindAssignModify, kindTuple, kindDot, kindCall, kindIndex, kindIndex2, kindSlice, kindIdentifier, kindLambda, kindString, kindInt, kindFloat, kindEllipsis, kindBytes, kindNot, kindMinus, kindPlus, kindBitNot, kindOp, kindIfExpr, kindList, kindDict, kindListComprehension, kindDictComprehension, kindFString, kindNormal, kindNoArgs, kindSlash, kindArgsParam, kindKwArgsParam, kindPositional, kindNamed, kindArgsArg, kindKwArgsArg}
 

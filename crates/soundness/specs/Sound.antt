@@ -1,5 +1,5 @@
 -- When a record is sound, and the first that is not, as document 01 says it. These are definitions.
-use mathlib.Core.Bool.{Bool, true, false, _&&_, _||_, not}
+use mathlib.Core.Bool.{Bool, true, _&&_}
 use mathlib.Core.List.{List, [], _∷_, _++_}
 use Prim.Native.Nat.{ℕ, zero, suc, _+_, _-_, _*_, _/_, _%_}
 use lib.ListN.{length, drop, replicate}
@@ -12,7 +12,7 @@ use Rattle.forest.specs.declared.Found.the-variants.{At, Nothing}
 use Rattle.soundness.specs.KindNumbers.{kindNamed}
 use Rattle.soundness.specs.Kinds.{statement, Times, anyNumber, evenNumber, atMost, Children, kindOf, classOf}
 
--- what a record's rule is told besides the record: the number of lent name bytes
+-- what a record's rule is told besides the record: the number of lent name bytes (a request to come adds the file of its statement)
 pub record Context : Type 0 where
   pub names : ℕ
 

@@ -1,4 +1,5 @@
 // Soundness of a node table: the kinds of records, the rule of a record with its children, and the first record that breaks it.
+pub mod classes;
 pub mod kinds;
 mod rows;
 mod sound;
@@ -8,7 +9,7 @@ ghost use mathlib.Core.Path.{_≡_};
 ghost use Rattle.soundness.specs.Kinds.{classOf};
 ghost use Rattle.soundness.specs.Sound.{firstUnsound};
 
-// The class of a kind: 1 statement, 2 expression, 3 parameter, 4 argument, 0 no kind.
+// The class of a kind, by the numbers of `classes`; 0 for no kind.
 pub fn class(kind: u8) -> u8
     ensures { λ r. ⌜ r ≡ classOf kind ⌝ }
 {

@@ -1,4 +1,5 @@
 // Soundness: the rule of a record with its children, and the first record in index order that breaks it.
+use crate::classes;
 use crate::kinds;
 use crate::rows;
 use forest::Found;
@@ -186,7 +187,8 @@ fn record_sound(t: &[u8], names: usize) -> bool
 fn root_sound(table: &[u8]) -> bool
     ensures { λ r. ⌜ r ≡ rootSound (now (table .entry)) ⌝ }
 {
-    (rows::class(forest::kind(table)) == 1) & (24 * (forest::size(table) as usize) == table.len())
+    (rows::class(forest::kind(table)) == classes::STATEMENT)
+        & (24 * (forest::size(table) as usize) == table.len())
 }
 
 // The first unsound record in index order.

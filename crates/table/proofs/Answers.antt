@@ -1,47 +1,70 @@
 -- No two answers mean the same, so that a promise about what an answer means fixes the answer; and steps in order. Assumes nothing.
-use mathlib.Core.Path.{_≡_, refl, ap}
+use mathlib.Core.Path.{_≡_, refl, sym, ap, _∙_}
 use mathlib.Core.List.{List, [], _∷_}
 use Prim.Native.Nat.{ℕ}
-use native.Mathlib.Omega.{arith}
-use Rattle.table.specs.Answer.{Answer, accepted, refused, andThen, refusal, checked}
+use Rattle.fields.proofs.Basics.{never}
+use Rattle.table.specs.Answer.{Answer, accepted, refused, andThen, numberOf, carried, refusal}
+use Rattle.table.specs.Answer.{checked}
+use Rattle.table.specs.Check.{given}
+use Rattle.table.specs.declared.Span.{Span}
+use Rattle.table.specs.declared.Given.{Given}
+use Rattle.table.specs.declared.Given.the-variants.{In, Refused as Away}
 use Rattle.table.specs.declared.Refusal.{Refusal}
 use Rattle.table.specs.declared.Refusal.the-variants.{Bare, Placed, Spanned}
 use Rattle.table.specs.declared.Checked.{Checked}
 use Rattle.table.specs.declared.Checked.the-variants.{Sound, Refused}
 
-never : {P : Type 0} → _≡_ {A = ℕ} 0 1 → P
-never z = absurd (omega arith)
+pub span-injective : (s u : Span) → s .begin ≡ u .begin → s .end ≡ u .end → s ≡ u
+span-injective s u b e = λ i. record { begin = b i; end = e i }
 
 pub refusal-injective : (r s : Refusal) → refusal r ≡ refusal s → r ≡ s
 refusal-injective (Bare n) (Bare m) e = cc
 refusal-injective (Bare n) (Placed m l) e = never (cc)
-refusal-injective (Bare n) (Spanned m l c g) e = never (cc)
+refusal-injective (Bare n) (Spanned m l u) e = never (cc)
 refusal-injective (Placed n k) (Bare m) e = never (cc)
 refusal-injective (Placed n k) (Placed m l) e = cc
-refusal-injective (Placed n k) (Spanned m l c g) e = never (cc)
-refusal-injective (Spanned n k b f) (Bare m) e = never (cc)
-refusal-injective (Spanned n k b f) (Placed m l) e = never (cc)
-refusal-injective (Spanned n k b f) (Spanned m l c g) e = cc
+refusal-injective (Placed n k) (Spanned m l u) e = never (cc)
+refusal-injective (Spanned n k s) (Bare m) e = never (cc)
+refusal-injective (Spanned n k s) (Placed m l) e = never (cc)
+refusal-injective (Spanned n k s) (Spanned m l u) e =
+    let begins : s .begin ≡ u .begin = cc in
+    let ends : s .end ≡ u .end = cc in
+    let spans : s ≡ u = span-injective s u begins ends in
+    let numbers : n ≡ m = cc in
+    let nodes : k ≡ l = cc in
+    λ i. Spanned (numbers i) (nodes i) (spans i)
+
+-- a refusal with a span that is known
+pub refused-there : (n k : ℕ) {s u : Span} {x : Answer} → x ≡ refused n (k ∷ s .begin ∷ s .end ∷ []) → s ≡ u
+    → x ≡ refused n (k ∷ u .begin ∷ u .end ∷ [])
+refused-there n k x-is s-is = x-is ∙ ap (λ (u : Span). refused n (k ∷ u .begin ∷ u .end ∷ [])) s-is
 
 -- a refusal is no acceptance
+pub never-passed : {P : Type 0} {n : ℕ} {vs ws : List ℕ} → refused n vs ≡ accepted ws → P
+never-passed e = never (cc)
+
 pub never-accepted : {P : Type 0} (r : Refusal) {vs : List ℕ} → refusal r ≡ accepted vs → P
-never-accepted (Bare n) e = never (cc)
-never-accepted (Placed n k) e = never (cc)
-never-accepted (Spanned n k b f) e = never (cc)
+never-accepted r e = never (cc)
 
 pub checked-injective : (r s : Checked) → checked r ≡ checked s → r ≡ s
 checked-injective Sound Sound e = refl
-checked-injective Sound (Refused (Bare n)) e = never (cc)
-checked-injective Sound (Refused (Placed n k)) e = never (cc)
-checked-injective Sound (Refused (Spanned n k b f)) e = never (cc)
+checked-injective Sound (Refused s) e = never-accepted s (sym e)
 checked-injective (Refused r) Sound e = never-accepted r e
 checked-injective (Refused r) (Refused s) e = ap Refused (refusal-injective r s e)
 
+-- no two things that a job in a dialect is given mean the same
+pub given-injective : (r s : Given) → given r ≡ given s → r ≡ s
+given-injective (In d) (In f) e = let same : d ≡ f = cc in ap In same
+given-injective (In d) (Away s) e = never (cc)
+given-injective (Away r) (In f) e = never (cc)
+given-injective (Away r) (Away s) e =
+    let numbers : numberOf r ≡ numberOf s = cc in
+    let values : carried r ≡ carried s = cc in
+    ap Away (refusal-injective r s (λ i. refused (numbers i) (values i)))
+
 -- a refusal stops: nothing follows it
 pub stopped : (why : Refusal) (next : Unit {0} → Answer) → refusal why ≡ andThen (refusal why) next
-stopped (Bare n) next = refl
-stopped (Placed n k) next = refl
-stopped (Spanned n k b e) next = refl
+stopped why next = refl
 
 -- LAWS of a step x, where what follows it is accepted: a refusal is its own; and if the whole is accepted, it is passed
 module _ (x : Answer) (vs : List ℕ) where
@@ -59,14 +82,14 @@ module _ (x : Answer) (vs : List ℕ) where
     where
       go : (y : Answer) → accepted ws ≡ andThen y (λ _. accepted vs) → andThen y next ≡ next tt
       go (accepted us) e = refl
-      go (refused n us) e = let z : _≡_ {A = ℕ} 0 1 = cc in absurd (omega arith)
+      go (refused n us) e = never (cc)
 
   pub same-values : {ws : List ℕ} → accepted ws ≡ andThen x (λ _. accepted vs) → ws ≡ vs
   same-values {ws} e = go x e
     where
       go : (y : Answer) → accepted ws ≡ andThen y (λ _. accepted vs) → ws ≡ vs
       go (accepted us) e = cc
-      go (refused n us) e = let z : _≡_ {A = ℕ} 0 1 = cc in absurd (omega arith)
+      go (refused n us) e = never (cc)
 
 -- LAW: what follows two steps follows the second
 pub after-both : (x : Answer) (y z : Unit {0} → Answer)

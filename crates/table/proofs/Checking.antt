@@ -1,12 +1,14 @@
 -- Laws of the check, in the terms of code, and what a sound table is. Assumes nothing.
-use mathlib.Core.Path.{_≡_, refl, sym, ap, _∙_}
+use mathlib.Core.Path.{_≡_, refl, sym, _∙_}
 use mathlib.Core.Bool.{Bool, true, false}
 use mathlib.Core.List.{List, [], _∷_}
 use Prim.Native.Nat.{ℕ, _+_, _*_, _/_, _%_, _<_, _≤_}
 use native.Mathlib.Omega.{arith}
 use lib.ListN.{length, take, drop}
-use lib.Dec.{leb, eqb}
+use lib.Dec.{leb}
 use borrow.Author.Tests.{le-leb, lt-leb, leb-true, eqb-true, lt-ltb}
+use Rattle.fields.proofs.Basics.{and-left, and-right}
+use Rattle.table.proofs.Answers.{never-passed}
 use Rattle.fields.specs.Choice.{if'}
 use Rattle.forest.specs.Forest.{sizeOf, forest}
 use Rattle.forest.specs.declared.Found.{Found}
@@ -16,7 +18,6 @@ use Rattle.soundness.specs.Sound.{contextOf, recordSound, firstUnsound}
 use Rattle.table.specs.Depth.{firstDeep}
 use Rattle.table.specs.Answer.{Answer, accepted, refused, andThen}
 use Rattle.table.specs.Check.{lengthSound, lengthCheck, namesCheck, noneFound, checkOf, stretchOf}
-use Rattle.soundness.proofs.Records.{and-left, and-right}
 use Rattle.soundness.proofs.Search.{found}
 use Rattle.soundness.proofs.SoundTables.{Sound, sound-subtree, here-size}
 use Rattle.table.proofs.Deep.{deep-inside}
@@ -79,23 +80,20 @@ pub record Clean (t names : List ℕ) : Type 0 where
   pub unsound : firstUnsound t names ≡ Nothing
   pub deep : firstDeep 0 (forest 0 t) ≡ Nothing
 
-never : {P : Type 0} {n : ℕ} {vs ws : List ℕ} → refused n vs ≡ accepted ws → P
-never e = let z : _≡_ {A = ℕ} 0 1 = cc in absurd (omega arith)
-
 pub accepted-clean : (t names : List ℕ) {vs : List ℕ} → checkOf t names ≡ accepted vs → Clean t names
 unfolding checkOf
 accepted-clean t names {vs} e = by-length (lengthSound (length t)) refl e
   where
     by-deep : lengthSound (length t) ≡ true → length names ≤ 8064 → firstUnsound t names ≡ Nothing → (f : Found)
         → firstDeep 0 (forest 0 t) ≡ f → noneFound tooDeep f ≡ accepted vs → Clean t names
-    by-deep l n u (At i) d e = never e
+    by-deep l n u (At i) d e = never-passed e
     by-deep l n u Nothing d e = let w = length-whole (length t) l in
         record { least = w .0; most = w .1; whole = w .2; few = n; unsound = u; deep = d }
 
     by-unsound : lengthSound (length t) ≡ true → length names ≤ 8064 → (f : Found) → firstUnsound t names ≡ f
         → andThen (noneFound unsoundRecord f) (λ _. noneFound tooDeep (firstDeep 0 (forest 0 t))) ≡ accepted vs
         → Clean t names
-    by-unsound l n (At i) u e = never e
+    by-unsound l n (At i) u e = never-passed e
     by-unsound l n Nothing u e = by-deep l n u (firstDeep 0 (forest 0 t)) refl e
 
     by-names : lengthSound (length t) ≡ true → (b : Bool) → leb (length names) 8064 ≡ b
@@ -103,7 +101,7 @@ accepted-clean t names {vs} e = by-length (lengthSound (length t)) refl e
         (λ _. andThen (noneFound unsoundRecord (firstUnsound t names))
         (λ _. noneFound tooDeep (firstDeep 0 (forest 0 t)))) ≡ accepted vs → Clean t names
     by-names l true n e = by-unsound l (leb-true (length names) 8064 n) (firstUnsound t names) refl e
-    by-names l false n e = never e
+    by-names l false n e = never-passed e
 
     by-length : (b : Bool) → lengthSound (length t) ≡ b
         → andThen (if' b (λ _. accepted []) (λ _. refused tableLength []))
@@ -111,7 +109,24 @@ accepted-clean t names {vs} e = by-length (lengthSound (length t)) refl e
         (λ _. andThen (noneFound unsoundRecord (firstUnsound t names))
         (λ _. noneFound tooDeep (firstDeep 0 (forest 0 t))))) ≡ accepted vs → Clean t names
     by-length true l e = by-names l (leb (length names) 8064) refl e
-    by-length false l e = never e
+    by-length false l e = never-passed e
+
+-- LAW: a passed check has no values
+then-accepted : (x : Answer) (next : Unit {0} → Answer) {ws : List ℕ} → andThen x next ≡ accepted ws
+    → next tt ≡ accepted ws
+then-accepted (accepted vs) next e = e
+then-accepted (refused n vs) next e = never-passed e
+
+none-values : (n : ℕ) (f : Found) {ws : List ℕ} → noneFound n f ≡ accepted ws → ws ≡ []
+none-values n (At i) e = never-passed e
+none-values n Nothing e = cc
+
+pub check-values : (t ns : List ℕ) {ws : List ℕ} → checkOf t ns ≡ accepted ws → ws ≡ []
+unfolding checkOf
+check-values t ns e =
+    none-values tooDeep (firstDeep 0 (forest 0 t))
+    (then-accepted (noneFound unsoundRecord (firstUnsound t ns)) _
+    (then-accepted (namesCheck (length ns)) _ (then-accepted (lengthCheck (length t)) _ e)))
 
 -- LAW: in such a table the stretch of a node is sound, and as long as its record says
 module _ {t names : List ℕ} (c : Clean t names) (i : ℕ) (h : i < length t / 24) where

@@ -7,6 +7,7 @@ use native.Mathlib.Omega.{arith}
 use lib.ListN.{length, take, drop}
 use lib.Dec.{ltb}
 use borrow.Author.Tests.{lt-ltb, le-ltb}
+use Rattle.fields.proofs.Basics.{never}
 use Rattle.fields.specs.Choice.{if'}
 use Rattle.forest.specs.Forest.{nodeOf, spanOf, kidsOf, restOf, forest, count, countTree, Tree, node, Forest, none}
 use Rattle.forest.specs.Forest.{_then_}
@@ -71,7 +72,7 @@ pub deep-inside : (i : ℕ) (bs : List ℕ) (d k : ℕ) → firstDeep d (forest 
 unfolding firstDeep
 deep-inside =
     forest-induction (λ i bs. (d k : ℕ) → firstDeep d (forest i bs) ≡ At k → k < i + length bs / 24)
-    (λ i bs s d k f. let z : _≡_ {A = ℕ} 0 1 = cc (ap (firstDeep d) (forest-none i bs s)) in absurd (omega arith))
+    (λ i bs s d k f. never (cc (ap (firstDeep d) (forest-none i bs s))))
     (λ i bs big ks rs d k f. go i bs big d k (ks (d + weight (nodeOf i bs .kind))) (rs d)
     (ltb mostDepth (d + weight (nodeOf i bs .kind)))
     (firstDeep (d + weight (nodeOf i bs .kind)) (forest (i + 1) (kidsOf bs))) refl

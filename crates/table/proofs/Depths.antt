@@ -1,5 +1,5 @@
 -- The first node that is too deep, as a place in the list of all depths. Assumes nothing.
-use mathlib.Core.Path.{_≡_, refl, sym, ap, _∙_}
+use mathlib.Core.Path.{_≡_, refl, sym, _∙_}
 use mathlib.Core.Bool.{Bool, true, false}
 use mathlib.Core.List.{List, [], _∷_, _++_}
 use Prim.Native.Nat.{ℕ, zero, suc, _+_, _-_, _/_, _<_, _≤_}
@@ -8,12 +8,13 @@ use native.Mathlib.Omega.{arith}
 use lib.ListN.{length, getD, length-append}
 use lib.Dec.{ltb, eqb}
 use borrow.Author.Tests.{ltb-true, ltb-false, eqb-true, eqb-false}
+use Rattle.fields.proofs.Basics.{never}
 use Rattle.fields.specs.Choice.{if'}
 use Rattle.forest.specs.Forest.{nodeOf, spanOf, kidsOf, restOf, forest, Tree, node, Forest, none, _then_, count, countTree}
 use Rattle.forest.specs.declared.Found.{Found}
 use Rattle.forest.specs.declared.Found.the-variants.{At, Nothing}
 use Rattle.forest.proofs.Stretch.{forest-none, forest-tree, forest-induction, count-forest, length-kids}
-use Rattle.table.specs.Depth.{mostDepth, weight, orElse, firstDeep, deepIn, depths, depthsIn, FirstDeeper}
+use Rattle.table.specs.Depth.{mostDepth, weight, orElse, firstDeep, depths, depthsIn, FirstDeeper}
 
 -- the first of some depths that is too large, counted from i on
 unfoldable pub firstOver : ℕ → List ℕ → Found
@@ -73,7 +74,7 @@ record Over (i : ℕ) (ds : List ℕ) (k : ℕ) : Type 0 where
 
 over-found : (i : ℕ) (ds : List ℕ) (k : ℕ) → firstOver i ds ≡ At k → Over i ds k
 unfolding firstOver
-over-found i [] k e = let z : _≡_ {A = ℕ} 0 1 = cc in absurd (omega arith)
+over-found i [] k e = never (cc)
 over-found i (d ∷ ds) k e = go (ltb mostDepth d) refl e (over-found (i + 1) ds k)
   where
     later : d ≤ mostDepth → Over (i + 1) ds k → (j : ℕ) → i ≤ j → j < k → (b : Bool) → eqb i j ≡ b
@@ -112,7 +113,7 @@ over-none i (d ∷ ds) e j = go (ltb mostDepth d) refl e j (over-none (i + 1) ds
   where
     go : (b : Bool) → ltb mostDepth d ≡ b → if' b (λ _. At i) (λ _. firstOver (i + 1) ds) ≡ Nothing → (j : ℕ)
         → (firstOver (i + 1) ds ≡ Nothing → (j : ℕ) → getD ds j 0 ≤ mostDepth) → getD (d ∷ ds) j 0 ≤ mostDepth
-    go true t e j rest = let z : _≡_ {A = ℕ} 0 1 = cc in absurd (omega arith)
+    go true t e j rest = never (cc)
     go false t e zero rest = ltb-false mostDepth d t
     go false t e (suc j) rest = rest e j
 

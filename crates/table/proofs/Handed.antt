@@ -1,12 +1,12 @@
 -- What a job knows once the table check and its node's check are passed, in the terms of code. Assumes nothing.
 use mathlib.Core.Path.{_≡_, sym, _∙_}
-use mathlib.Core.Bool.{Bool, true, false}
-use mathlib.Core.List.{List, []}
+use mathlib.Core.Bool.{Bool, true}
+use mathlib.Core.List.{List}
 use Prim.Native.Nat.{ℕ, _+_, _*_, _/_, _<_, _≤_}
 use native.Mathlib.Omega.{arith}
 use lib.ListN.{length, length-take, length-drop}
 use borrow.Author.Tests.{ltb-true}
-use Rattle.soundness.proofs.Records.{and-left}
+use Rattle.fields.proofs.Basics.{and-left}
 use Rattle.table.specs.Answer.{accepted, checked}
 use Rattle.table.specs.Check.{checkOf, nodeFits, stretchOf}
 use Rattle.table.specs.declared.Checked.{Checked}

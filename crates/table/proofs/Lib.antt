@@ -5,4 +5,5 @@ pub mod Nodes
 pub mod Checking
 pub mod Theorems
 pub mod Handed
+pub mod Entering
 pub mod Promises

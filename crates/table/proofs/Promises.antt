@@ -1,17 +1,19 @@
 -- Two answers that meet the promise of a public function coincide. Assumes nothing.
 use mathlib.Core.Path.{_≡_}
 use mathlib.Core.Bool.{Bool}
-use mathlib.Core.List.{List}
+use mathlib.Core.List.{List, [], _∷_}
 use Prim.Native.Nat.{ℕ}
 use Rattle.fields.proofs.Coincide.{coincide, coincide-by}
 use Rattle.forest.specs.Forest.{nodeOf}
 use Rattle.soundness.specs.Kinds.{classOf}
-use Rattle.table.specs.Answer.{refusedAt, refusal, checked}
-use Rattle.table.specs.Check.{checkOf, nodeFits, stretchOf}
+use Rattle.table.specs.Answer.{refused, refusedAt, numberOf, refusal, checked, spanAt}
+use Rattle.table.specs.Check.{checkOf, given, givenOf, nodeFits, stretchOf, entryCheck}
+use Rattle.table.specs.declared.Span.{Span}
+use Rattle.table.specs.declared.Given.{Given}
 use Rattle.table.specs.declared.Refusal.{Refusal}
 use Rattle.table.specs.declared.Checked.{Checked}
 use Rattle.table.specs.declared.Wanted.{Wanted}
-use Rattle.table.proofs.Answers.{refusal-injective, checked-injective}
+use Rattle.table.proofs.Answers.{refusal-injective, checked-injective, given-injective}
 
 -- of `check`
 pub check-one : (table names : List ℕ) {r s : Checked} → checked r ≡ checkOf table names
@@ -36,3 +38,27 @@ node-fits-one table node wanted = coincide
 pub stretch-one : (table : List ℕ) (node : ℕ) {r s : List ℕ} → r ≡ stretchOf table node → s ≡ stretchOf table node
     → r ≡ s
 stretch-one table node = coincide
+
+-- of `number`
+pub number-one : (why : Refusal) {r s : ℕ} → r ≡ numberOf why → s ≡ numberOf why → r ≡ s
+number-one why = coincide
+
+-- of `span_of`
+pub span-of-one : (t : List ℕ) {r s : Span} → r ≡ spanAt (nodeOf 0 t) → s ≡ spanAt (nodeOf 0 t) → r ≡ s
+span-of-one t = coincide
+
+-- of `refused_in`
+pub refused-in-one : (number node : ℕ) (span : Span) {r s : Refusal}
+    → refusal r ≡ refused number (node ∷ span .begin ∷ span .end ∷ [])
+    → refusal s ≡ refused number (node ∷ span .begin ∷ span .end ∷ []) → r ≡ s
+refused-in-one number node span = coincide-by refusal refusal-injective
+
+-- of `enter`
+pub enter-one : (table names : List ℕ) (node : ℕ) (wanted : Wanted) {r s : Checked}
+    → checked r ≡ entryCheck wanted table names node → checked s ≡ entryCheck wanted table names node → r ≡ s
+enter-one table names node wanted = coincide-by checked checked-injective
+
+-- of `enter_dialect`
+pub enter-dialect-one : (table names bytes : List ℕ) {r s : Given} → given r ≡ givenOf table names bytes
+    → given s ≡ givenOf table names bytes → r ≡ s
+enter-dialect-one table names bytes = coincide-by given given-injective

@@ -1,12 +1,13 @@
 -- What the table check means, over its whole definition: when it accepts, and which node 3 and 4 carry. Assumes nothing.
-use mathlib.Core.Path.{_≡_, refl, sym, ap, _∙_}
+use mathlib.Core.Path.{_≡_, refl, ap, _∙_}
 use mathlib.Core.Bool.{Bool, true, false}
 use mathlib.Core.List.{List, [], _∷_}
-use Prim.Native.Nat.{ℕ, _+_, _*_, _/_, _%_, _<_, _≤_}
+use Prim.Native.Nat.{ℕ, _/_, _%_, _<_, _≤_}
 use native.Mathlib.Omega.{arith}
 use lib.ListN.{length, getD}
-use lib.Dec.{leb, eqb}
+use lib.Dec.{leb}
 use borrow.Author.Tests.{le-leb, eq-eqb}
+use Rattle.fields.proofs.Basics.{never}
 use Rattle.fields.specs.Choice.{if'}
 use Rattle.forest.specs.Forest.{forest}
 use Rattle.forest.specs.declared.Found.{Found}
@@ -15,8 +16,8 @@ use Rattle.soundness.specs.Sound.{recordSound, firstUnsound}
 use Rattle.soundness.proofs.Search.{First, found, none-found}
 use Rattle.table.specs.Numbers.{tableLength, nameBytes, unsoundRecord, tooDeep}
 use Rattle.table.specs.Depth.{mostDepth, firstDeep, depths, FirstDeeper}
-use Rattle.table.specs.Answer.{Answer, accepted, refused, andThen}
-use Rattle.table.specs.Check.{lengthSound, namesCheck, noneFound, checkOf}
+use Rattle.table.specs.Answer.{accepted, refused, andThen}
+use Rattle.table.specs.Check.{lengthSound, noneFound, checkOf}
 use Rattle.table.proofs.Checking.{Clean, accepted-clean}
 use Rattle.table.proofs.Depths.{deep-first, deep-nowhere}
 
@@ -59,7 +60,7 @@ module _ (t names : List ℕ) where
       by-length true true (At i) d u-is e = let same : i ≡ k = cc in
           found (recordSound t names) (length t / 24) k (u-is ∙ ap At same)
       by-length true true Nothing (At i) u-is e = let z : _≡_ {A = ℕ} 4 3 = cc in absurd (omega arith)
-      by-length true true Nothing Nothing u-is e = let z : _≡_ {A = ℕ} 0 1 = cc in absurd (omega arith)
+      by-length true true Nothing Nothing u-is e = never (cc)
       by-length true false u d u-is e = let z : _≡_ {A = ℕ} 2 3 = cc in absurd (omega arith)
       by-length false n u d u-is e = let z : _≡_ {A = ℕ} 1 3 = cc in absurd (omega arith)
 
@@ -78,6 +79,6 @@ module _ (t names : List ℕ) where
       by-length true true (At i) d u-is d-is e = let z : _≡_ {A = ℕ} 3 4 = cc in absurd (omega arith)
       by-length true true Nothing (At i) u-is d-is e = let same : i ≡ k = cc in
           (u-is, deep-first t k (d-is ∙ ap At same))
-      by-length true true Nothing Nothing u-is d-is e = let z : _≡_ {A = ℕ} 0 1 = cc in absurd (omega arith)
+      by-length true true Nothing Nothing u-is d-is e = never (cc)
       by-length true false u d u-is d-is e = let z : _≡_ {A = ℕ} 2 4 = cc in absurd (omega arith)
       by-length false n u d u-is d-is e = let z : _≡_ {A = ℕ} 1 4 = cc in absurd (omega arith)

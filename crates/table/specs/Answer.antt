@@ -4,6 +4,7 @@ use Prim.Native.Nat.{ℕ}
 use Rattle.forest.specs.Forest.{Node}
 use Rattle.table.specs.declared.Refusal.{Refusal}
 use Rattle.table.specs.declared.Refusal.the-variants.{Bare, Placed, Spanned}
+use Rattle.table.specs.declared.Span.{Span}
 use Rattle.table.specs.declared.Checked.{Checked}
 use Rattle.table.specs.declared.Checked.the-variants.{Sound, Refused}
 
@@ -21,12 +22,25 @@ andThen (refused n vs) next = refused n vs
 abbrev pub refusedAt : ℕ → Node → Answer
 refusedAt n r = refused n (r .at ∷ r .begin ∷ r .stop ∷ [])
 
+-- a refusal of code: its number, and what it carries
+abbrev pub numberOf : Refusal → ℕ
+numberOf (Bare n) = n
+numberOf (Placed n k) = n
+numberOf (Spanned n k s) = n
+
+abbrev pub carried : Refusal → List ℕ
+carried (Bare n) = []
+carried (Placed n k) = k ∷ []
+carried (Spanned n k s) = k ∷ s .begin ∷ s .end ∷ []
+
 -- what the answers of code mean
 abbrev pub refusal : Refusal → Answer
-refusal (Bare n) = refused n []
-refusal (Placed n k) = refused n (k ∷ [])
-refusal (Spanned n k b e) = refused n (k ∷ b ∷ e ∷ [])
+refusal r = refused (numberOf r) (carried r)
 
 abbrev pub checked : Checked → Answer
 checked Sound = accepted []
 checked (Refused r) = refusal r
+
+-- a node's span
+abbrev pub spanAt : Node → Span
+spanAt r = record { begin = r .begin; end = r .stop }

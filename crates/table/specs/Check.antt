@@ -1,5 +1,5 @@
 -- The table check, 1 to 4 in this order, a job's dialect, 5, and a job's node, 6. These are definitions.
-use mathlib.Core.Bool.{Bool, true, false, _&&_, _||_, not}
+use mathlib.Core.Bool.{Bool, _&&_, _||_}
 use mathlib.Core.List.{List, [], _∷_}
 use Prim.Native.Nat.{ℕ, _*_, _/_, _%_}
 use lib.ListN.{length, take, drop}
@@ -9,7 +9,7 @@ use Rattle.dialect.specs.Bytes.{fromBytes}
 use Rattle.dialect.specs.declared.Dialect.{Dialect}
 use Rattle.dialect.specs.declared.Decoded.{Decoded}
 use Rattle.dialect.specs.declared.Decoded.the-variants.{Valid, Invalid}
-use Rattle.forest.specs.Forest.{sizeOf, nodeOf, forest}
+use Rattle.forest.specs.Forest.{sizeOf, nodeOf, Tree, treeOf, forest}
 use Rattle.forest.specs.declared.Found.{Found}
 use Rattle.forest.specs.declared.Found.the-variants.{At, Nothing}
 use Rattle.table.specs.Numbers.{tableLength, nameBytes, unsoundRecord, tooDeep, badDialect, wrongNode}
@@ -17,20 +17,32 @@ use Rattle.soundness.specs.KindNumbers.{kindDef, kindLambda, kindCall, kindAssi
 use Rattle.soundness.specs.Kinds.{expression, classOf}
 use Rattle.soundness.specs.Sound.{firstUnsound}
 use Rattle.table.specs.Depth.{firstDeep}
-use Rattle.table.specs.Answer.{Answer, accepted, refused, andThen}
+use Rattle.table.specs.Answer.{Answer, accepted, refused, andThen, numberOf, carried}
+use Rattle.table.specs.declared.Given.{Given}
+use Rattle.table.specs.declared.Given.the-variants.{In, Refused}
 use Rattle.table.specs.declared.Wanted.{Wanted}
 use Rattle.table.specs.declared.Wanted.the-variants.{Parameters, Call, Assignment, Expression}
 
+-- the most nodes of a table, its most bytes, 24 a node, and the most name bytes
+abbrev pub mostNodes : ℕ
+mostNodes = 2100
+
+abbrev pub mostBytes : ℕ
+mostBytes = 50400
+
+abbrev pub mostNames : ℕ
+mostNames = 8064
+
 -- 1: the table has 1 to 2,100 records of 24 bytes
 unfoldable pub lengthSound : ℕ → Bool
-lengthSound n = leb 24 n && (leb n 50400 && eqb (n % 24) 0)
+lengthSound n = leb 24 n && (leb n mostBytes && eqb (n % 24) 0)
 
 abbrev pub lengthCheck : ℕ → Answer
 lengthCheck n = if' (lengthSound n) (λ _. accepted []) (λ _. refused tableLength [])
 
 -- 2: there are at most 8,064 name bytes
 abbrev pub namesCheck : ℕ → Answer
-namesCheck n = if' (leb n 8064) (λ _. accepted []) (λ _. refused nameBytes [])
+namesCheck n = if' (leb n mostNames) (λ _. accepted []) (λ _. refused nameBytes [])
 
 -- a node that breaks a rule, by the rule's number
 abbrev pub noneFound : ℕ → Found → Answer
@@ -45,17 +57,32 @@ checkOf t names =
     andThen (noneFound unsoundRecord (firstUnsound t names)) (λ _.
     noneFound tooDeep (firstDeep 0 (forest 0 t)))))
 
--- 5: what follows with a dialect, if the bytes give one
-abbrev pub withDialect : Decoded → (Dialect → Answer) → Answer
-withDialect (Valid d) next = next d
-withDialect Invalid next = refused badDialect []
+-- what a job in a dialect is given: the dialect, or the refusal that turns it away
+pub data Handing : Type 0 where
+  inDialect : Dialect → Handing
+  turnedAway : ℕ → List ℕ → Handing
 
-abbrev pub dialectCheck : Decoded → Answer
-dialectCheck x = withDialect x (λ _. accepted [])
+abbrev pub given : Given → Handing
+given (In d) = inDialect d
+given (Refused r) = turnedAway (numberOf r) (carried r)
 
--- 1 to 5: what a job on a table in a dialect is given
-unfoldable pub givenCheck : List ℕ → List ℕ → List ℕ → Answer
-givenCheck t names bytes = andThen (checkOf t names) (λ _. dialectCheck (fromBytes bytes))
+-- after 1 to 4, 5: the bytes give no dialect
+abbrev pub handing : Answer → Decoded → Handing
+handing (refused n vs) x = turnedAway n vs
+handing (accepted vs) Invalid = turnedAway badDialect []
+handing (accepted vs) (Valid d) = inDialect d
+
+unfoldable pub givenOf : List ℕ → List ℕ → List ℕ → Handing
+givenOf t names bytes = handing (checkOf t names) (fromBytes bytes)
+
+-- a job in a dialect: 1 to 5, then what a rule says in the dialect
+abbrev pub inGiven : Handing → (Dialect → Answer) → Answer
+inGiven (inDialect d) rule = rule d
+inGiven (turnedAway n vs) rule = refused n vs
+
+-- 1 to 5 alone
+abbrev pub givenCheck : List ℕ → List ℕ → List ℕ → Answer
+givenCheck t names bytes = inGiven (givenOf t names bytes) (λ _. accepted [])
 
 -- the kinds that a job wants: parameters 2 or 27, a call 22, an assignment 11 or 12, a target or a type an expression
 unfoldable pub wants : Wanted → ℕ → Bool
@@ -74,3 +101,11 @@ nodeCheck t i w = if' (nodeFits t i w) (λ _. accepted []) (λ _. refused wrongN
 -- a node's subtree, as a stretch of the table; beyond the table it is empty
 unfoldable pub stretchOf : List ℕ → ℕ → List ℕ
 stretchOf t i = if' (ltb i (length t / 24)) (λ _. take (24 * sizeOf (drop (24 * i) t)) (drop (24 * i) t)) (λ _. [])
+
+-- 1 to 4, 6: a job on a node is let in
+unfoldable pub entryCheck : Wanted → List ℕ → List ℕ → ℕ → Answer
+entryCheck w t names i = andThen (checkOf t names) (λ _. nodeCheck t i w)
+
+-- such a job: then what a rule says of the node's tree
+unfoldable pub onNode : Wanted → (Tree → Answer) → List ℕ → List ℕ → ℕ → Answer
+onNode w rule t names i = andThen (entryCheck w t names i) (λ _. rule (treeOf i (stretchOf t i)))

@@ -1,11 +1,10 @@
 -- Depth: the weights along the way from the root to a node, summed. These are definitions.
-use mathlib.Core.Bool.{Bool, true, false}
 use mathlib.Core.List.{List, [], _∷_, _++_}
 use Prim.Native.Nat.{ℕ, _+_, _<_, _≤_}
 use lib.ListN.{length, getD}
 use lib.Dec.{ltb}
 use Rattle.fields.specs.Choice.{if'}
-use Rattle.forest.specs.Forest.{Node, Tree, node, Forest, none, _then_}
+use Rattle.forest.specs.Forest.{Tree, node, Forest, none, _then_}
 use Rattle.forest.specs.declared.Found.{Found}
 use Rattle.forest.specs.declared.Found.the-variants.{At, Nothing}
 
@@ -13,7 +12,7 @@ use Rattle.forest.specs.declared.Found.the-variants.{At, Nothing}
 abbrev pub mostDepth : ℕ
 mostDepth = 64
 
--- what a record of a kind adds to its parent's depth
+-- what a record of a kind adds to its parent's depth (a request to come makes it 0 for parameters and arguments)
 unfoldable pub weight : ℕ → ℕ
 weight kind = 1
 

@@ -6,7 +6,10 @@ ghost use lib.ListN.{length};
 ghost use Rattle.forest.specs.Forest.{forest};
 ghost use Rattle.table.specs.Depth.{weight, firstDeep};
 
-// What a record of a kind adds to its parent's depth.
+// The largest depth.
+const MOST_DEPTH: usize = 64;
+
+// What a record of a kind adds to its parent's depth. A function of its own for the request that gives parameters and arguments the weight 0.
 fn weight_of(kind: u8) -> usize
     ensures { λ r. ⌜ (r ≡ weight kind) × (r ≤ 1) ⌝ }
 {
@@ -19,11 +22,11 @@ fn deep_from(t: &[u8], at: usize, depth: usize) -> Found
     ensures { λ r. ⌜ r ≡ firstDeep depth (forest at (now (t .entry))) ⌝ }
 {
     // so few nodes cannot reach that deep, which spares most subtrees the walk
-    if depth + t.len() / 24 <= 64 {
+    if depth + t.len() / 24 <= MOST_DEPTH {
         return Found::Nothing;
     }
     let here = depth + weight_of(forest::kind(t));
-    if 64 < here {
+    if MOST_DEPTH < here {
         return Found::At(at);
     }
     let e = forest::span(t);

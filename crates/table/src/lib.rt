@@ -1,33 +1,54 @@
-// The check of a node table (1 to 4), a job's node (6) and its stretch, and the one type of refusals.
+// The check of a node table (1 to 4), how a job on a node (6) or in a dialect (5) is let in, its stretch, and the one type of refusals.
 mod depth;
 pub mod numbers;
 
+use dialect::Decoded;
+use dialect::Dialect;
 use forest::Found;
+use soundness::classes;
 use soundness::kinds;
 ghost use mathlib.Core.Path.{_≡_};
 ghost use Rattle.forest.specs.Forest.{nodeOf};
 ghost use Rattle.soundness.specs.Kinds.{classOf};
-ghost use Rattle.table.specs.Answer.{refusedAt, refusal, checked};
-ghost use Rattle.table.specs.Check.{lengthSound, checkOf, wants, nodeFits, stretchOf};
+ghost use mathlib.Core.List.{[], _∷_};
+ghost use Rattle.table.specs.Answer.{refused, refusedAt, numberOf, refusal, checked, spanAt};
+ghost use Rattle.table.specs.Check.{lengthSound, checkOf, given, givenOf, wants, nodeFits, stretchOf, entryCheck};
+
+// Where something stands in the script: from begin up to, but not with, end.
+pub struct Span {
+    pub begin: u32,
+    pub end: u32,
+}
+
+// The most nodes of a table, its most bytes, 24 a node, and the most name bytes.
+pub const MOST_NODES: usize = 2100;
+
+pub const MOST_BYTES: usize = 24 * MOST_NODES;
+
+pub const MOST_NAMES: usize = 8064;
+
+// A place in a list, counted from 0, or none.
+pub enum Place {
+    At(u32),
+    Nothing,
+}
 
 // Why a job refuses, with what document 01 lets the number carry: nothing, the node, or the node and its span.
 pub enum Refusal {
     Bare(u32),
-    Placed {
-        number: u32,
-        node: u32,
-    },
-    Spanned {
-        number: u32,
-        node: u32,
-        begin: u32,
-        end: u32,
-    },
+    Placed { number: u32, node: u32 },
+    Spanned { number: u32, node: u32, span: Span },
 }
 
 // The answer of the table check.
 pub enum Checked {
     Sound,
+    Refused(Refusal),
+}
+
+// What a job in a dialect is given: the dialect, or why it is refused.
+pub enum Given {
+    In(Dialect),
     Refused(Refusal),
 }
 
@@ -43,7 +64,7 @@ pub enum Wanted {
 fn length_sound(n: usize) -> bool
     ensures { λ r. ⌜ r ≡ lengthSound n ⌝ }
 {
-    (24 <= n) & ((n <= 50400) & (n % 24 == 0))
+    (24 <= n) & ((n <= MOST_BYTES) & (n % 24 == 0))
 }
 
 // The check of a table: 1, 2, 3 and 4 in this order.
@@ -53,7 +74,7 @@ pub fn check(table: &[u8], names: &[u8]) -> Checked
     if !length_sound(table.len()) {
         return Checked::Refused(Refusal::Bare(numbers::TABLE_LENGTH));
     }
-    if 8064 < names.len() {
+    if MOST_NAMES < names.len() {
         return Checked::Refused(Refusal::Bare(numbers::NAME_BYTES));
     }
     let unsound = soundness::first_unsound(table, names);
@@ -73,23 +94,50 @@ pub fn check(table: &[u8], names: &[u8]) -> Checked
     Checked::Sound
 }
 
-// The class of the record that a stretch begins with: 1 statement, 2 expression, 3 parameter, 4 argument, 0 none.
+// The class of the record that a stretch begins with, by the numbers of `soundness::classes`; 0 for no kind.
 pub fn class(t: &[u8]) -> u8
     ensures { λ r. ⌜ r ≡ classOf (nodeOf 0 (now (t .entry)) .kind) ⌝ }
 {
     soundness::class(forest::kind(t))
 }
 
-// A refusal at the record that a stretch begins with, with its span.
-pub fn refused_at(number: u32, node: u32, t: &[u8]) -> Refusal
-    ensures { λ r. ⌜ refusal r ≡ refusedAt number (nodeOf node (now (t .entry))) ⌝ }
+// A refusal's number.
+pub fn number(why: Refusal) -> u32
+    ensures { λ r. ⌜ r ≡ numberOf why ⌝ }
+{
+    match why {
+        Refusal::Bare(number) => number,
+        Refusal::Placed { number, node } => number,
+        Refusal::Spanned { number, node, span } => number,
+    }
+}
+
+// The span of the record that a stretch begins with.
+pub fn span_of(t: &[u8]) -> Span
+    ensures { λ r. ⌜ r ≡ spanAt (nodeOf 0 (now (t .entry))) ⌝ }
+{
+    Span {
+        begin: forest::begin(t),
+        end: forest::stop(t),
+    }
+}
+
+// A refusal at a node, with a span.
+pub fn refused_in(number: u32, node: u32, span: Span) -> Refusal
+    ensures { λ r. ⌜ refusal r ≡ refused number (node ∷ span .begin ∷ span .end ∷ []) ⌝ }
 {
     Refusal::Spanned {
         number: number,
         node: node,
-        begin: forest::begin(t),
-        end: forest::stop(t),
+        span: span,
     }
+}
+
+// A refusal at the record that a stretch begins with, with its span.
+pub fn refused_at(number: u32, node: u32, t: &[u8]) -> Refusal
+    ensures { λ r. ⌜ refusal r ≡ refusedAt number (nodeOf node (now (t .entry))) ⌝ }
+{
+    refused_in(number, node, span_of(t))
 }
 
 // Whether a record of a kind is what a job wants.
@@ -100,7 +148,7 @@ fn wanted_kind(wanted: Wanted, kind: u8) -> bool
         Wanted::Parameters => (kind == kinds::DEF) | (kind == kinds::LAMBDA),
         Wanted::Call => kind == kinds::CALL,
         Wanted::Assignment => (kind == kinds::ASSIGN) | (kind == kinds::ASSIGN_MODIFY),
-        Wanted::Expression => soundness::class(kind) == 2,
+        Wanted::Expression => soundness::class(kind) == classes::EXPRESSION,
     }
 }
 
@@ -129,4 +177,33 @@ pub fn stretch(table: &[u8], node: usize) -> &[u8]
         return &table[a..];
     }
     &table[a..e]
+}
+
+// Lets a job on a node in: 1 to 4, then 6. Its stretch is then `stretch`.
+pub fn enter(table: &[u8], names: &[u8], node: usize, wanted: Wanted) -> Checked
+    ensures { λ r. ⌜ checked r ≡ entryCheck wanted (now (table .entry)) (now (names .entry)) node ⌝ }
+{
+    let found = check(table, names);
+    if let Checked::Refused(why) = found {
+        return Checked::Refused(why);
+    }
+    if !node_fits(table, node, wanted) {
+        return Checked::Refused(Refusal::Bare(numbers::WRONG_NODE));
+    }
+    Checked::Sound
+}
+
+// Lets a job in a dialect in: 1 to 4, then 5.
+pub fn enter_dialect(table: &[u8], names: &[u8], bytes: &[u8]) -> Given
+    ensures { λ r. ⌜ given r ≡ givenOf (now (table .entry)) (now (names .entry)) (now (bytes .entry)) ⌝ }
+{
+    let found = check(table, names);
+    if let Checked::Refused(why) = found {
+        return Given::Refused(why);
+    }
+    let read = dialect::from_bytes(bytes);
+    match read {
+        Decoded::Valid(d) => Given::In(d),
+        Decoded::Invalid => Given::Refused(Refusal::Bare(numbers::BAD_DIALECT)),
+    }
 }

@@ -6,7 +6,6 @@ use filepass::ENOUGH_WORDS;
 use filepass::Passed;
 use libc::STDIN_FILENO;
 use libc::STDOUT_FILENO;
-use table::Refusal;
 
 // What came of reading: so many bytes, or a read that failed.
 enum Got {
@@ -61,7 +60,8 @@ fn fill(fd: i32, file: &mut [u8]) -> Got {
     Got::Bytes(done)
 }
 
-// What the program prints of so many bytes that it has read. The list has room for all errors.
+// What the program prints of so many bytes that it has read. The list has room for all errors. A refusal's line has its number alone, also
+// where it carries a node.
 fn report(file: &[u8; ENOUGH_BYTES], len: usize) {
     let mut errors = [0u32; ENOUGH_WORDS];
     let passed = filepass::check_read(file, len, &mut errors);
@@ -71,7 +71,7 @@ fn report(file: &[u8; ENOUGH_BYTES], len: usize) {
             say_errors(&errors, total);
             say_line(b"errors ", total as u64);
         }
-        Passed::Refused(r) => say_refused(r),
+        Passed::Refused(why) => say_line(b"refused ", table::number(why) as u64),
     }
 }
 
@@ -91,20 +91,6 @@ fn say_errors(errors: &[u32; ENOUGH_WORDS], total: u32) {
         say(b"\n");
         left = &left[3..];
         more -= 1;
-    }
-}
-
-// A refusal's line has its number alone, also where it carries a node.
-fn say_refused(r: Refusal) {
-    match r {
-        Refusal::Bare(number) => say_line(b"refused ", number as u64),
-        Refusal::Placed { number, node } => say_line(b"refused ", number as u64),
-        Refusal::Spanned {
-            number,
-            node,
-            begin,
-            end,
-        } => say_line(b"refused ", number as u64),
     }
 }
 

@@ -9,19 +9,19 @@ use lib.ListN.{length, getD, set}
 use lib.Seq.{take-all}
 use lib.Dec.{eqb, leb}
 use borrow.Author.Tests.{leb-true, le-leb, eqb-true, eqb-false}
+use Rattle.fields.proofs.Basics.{never}
 use Rattle.dialect.specs.Bytes.{fromBytes}
-use Rattle.dialect.specs.declared.Decoded.the-variants.{Invalid}
+use Rattle.dialect.specs.declared.Dialect.{Dialect}
+use Rattle.dialect.specs.declared.Decoded.the-variants.{Valid, Invalid}
 use Rattle.dialect.proofs.Laws.{other-length}
 use Rattle.table.specs.Numbers.{blockCheck, bytesLeftOver}
 use Rattle.table.specs.Answer.{Answer, accepted, refused, andThen}
-use Rattle.table.specs.Check.{checkOf, dialectCheck, givenCheck}
-use Rattle.table.specs.declared.Refusal.the-variants.{Bare}
 use Rattle.table.proofs.Answers.{refusal-injective, never-accepted}
-use Rattle.table.proofs.Checking.{accepted-clean}
+use Rattle.table.proofs.Entering.{given-known, given-passed}
 use Rattle.blocks.specs.Block.{demand}
 use Rattle.blocks.proofs.Spelling.{Bytes}
 use Rattle.tablefile.specs.File.{Content, fileOf}
-use Rattle.tablefile.specs.Reading.{takenAt, contentAt, frontCheck, soundCheck, readCheck}
+use Rattle.tablefile.specs.Reading.{headerAt, contentAt, frontCheck, soundCheck, readCheck}
 use Rattle.tablefile.specs.Loading.{verdict}
 use Rattle.tablefile.specs.declared.Verdict.{Verdict}
 use Rattle.tablefile.specs.declared.Verdict.the-variants.{Accepted, Refused}
@@ -37,25 +37,25 @@ verdict-injective (Refused r) (Refused s) e = ap Refused (refusal-injective r s 
 
 -- what a file that is accepted is
 module _ (bs : List ℕ) (e : readCheck bs ≡ accepted []) where
-  steps : Fronted bs × (leb (length bs) (takenAt bs) ≡ true) × (soundCheck (contentAt bs) ≡ accepted [])
+  steps : Fronted bs × (leb (length bs) (headerAt bs .taken) ≡ true) × (soundCheck (contentAt bs) ≡ accepted [])
   unfolding readCheck
   steps =
       let sound : Unit {0} → Answer = λ _. soundCheck (contentAt bs) in
-      let one = fronted-then bs (λ _. andThen (demand (leb (length bs) (takenAt bs)) bytesLeftOver) sound) e in
-      let two = demand-then (leb (length bs) (takenAt bs)) bytesLeftOver sound (one .1) in
+      let one = fronted-then bs (λ _. andThen (demand (leb (length bs) (headerAt bs .taken)) bytesLeftOver) sound) e in
+      let two = demand-then (leb (length bs) (headerAt bs .taken)) bytesLeftOver sound (one .1) in
       (one .0, two .0, two .1)
 
   pub read-fronted : Fronted bs
   read-fronted = steps .0
 
-  pub read-whole : length bs ≡ takenAt bs
-  read-whole = omega (arith, leb-true (length bs) (takenAt bs) (steps .1), taken-there bs read-fronted)
+  pub read-whole : length bs ≡ headerAt bs .taken
+  read-whole = omega (arith, leb-true (length bs) (headerAt bs .taken) (steps .1), taken-there bs read-fronted)
 
   pub read-is-sound : soundCheck (contentAt bs) ≡ accepted []
   read-is-sound = steps .2
 
   pub read-is-file : Bytes bs → bs ≡ fileOf (contentAt bs)
-  read-is-file small = sym (take-all (takenAt bs) bs (omega (arith, read-whole)))
+  read-is-file small = sym (take-all (headerAt bs .taken) bs (omega (arith, read-whole)))
       ∙ front-is-file bs small read-fronted
 
   pub read-changed : (i v : ℕ) → i < length bs → (v ≡ getD bs i 0 → ⊥)
@@ -64,8 +64,8 @@ module _ (bs : List ℕ) (e : readCheck bs ≡ accepted []) where
   read-changed i v h other = rw (front-changed bs read-fronted i v other (omega (arith, read-whole))) refl
 
 -- a dialect that is valid has no bytes or nine
-dialect-lengths : (ds : List ℕ) → dialectCheck (fromBytes ds) ≡ accepted [] → (length ds ≡ 0) ⊎ (length ds ≡ 9)
-dialect-lengths ds e = go (eqb (length ds) 0) (eqb (length ds) 9) refl refl
+dialect-lengths : (ds : List ℕ) {d : Dialect} → fromBytes ds ≡ Valid d → (length ds ≡ 0) ⊎ (length ds ≡ 9)
+dialect-lengths ds {d} e = go (eqb (length ds) 0) (eqb (length ds) 9) refl refl
   where
     go : (a b : Bool) → eqb (length ds) 0 ≡ a → eqb (length ds) 9 ≡ b → (length ds ≡ 0) ⊎ (length ds ≡ 9)
     go true b p q = inl (eqb-true (length ds) 0 p)
@@ -73,13 +73,12 @@ dialect-lengths ds e = go (eqb (length ds) 0) (eqb (length ds) 9) refl refl
     go false false p q =
         let bad : fromBytes ds ≡ Invalid = other-length ds (eqb-false (length ds) 0 p)
         (eqb-false (length ds) 9 q) in
-        let no : dialectCheck Invalid ≡ accepted [] = rw bad at e in
-        never-accepted (Bare 5) no
+        let no : Invalid ≡ Valid d = sym bad ∙ e in
+        never (cc)
 
--- a content that is sound: its table passes 1 to 4 with its names, its dialect bytes are valid, and all are bytes
+-- a content that is sound: it passes 1 to 5, and all are bytes
 pub record SoundContent (c : Content) : Type 0 where
-  pub checks : checkOf (c .table) (c .names) ≡ accepted []
-  pub valid : dialectCheck (fromBytes (c .dialect)) ≡ accepted []
+  pub sound : soundCheck c ≡ accepted []
   pub table-bytes : Bytes (c .table)
   pub names-bytes : Bytes (c .names)
   pub dialect-bytes : Bytes (c .dialect)
@@ -87,31 +86,29 @@ pub record SoundContent (c : Content) : Type 0 where
 module _ (c : Content) (s : SoundContent c) where
   pub sound-fits : Fits c
   sound-fits =
-      let clean = accepted-clean (c .table) (c .names) (s .checks) in
+      let known = given-known (c .table) (c .names) (c .dialect)
+      (given-passed (c .table) (c .names) (c .dialect) (s .sound) .1) in
+      let clean = known .0 in
       record {
         whole = clean .whole;
         some = clean .least;
         few = clean .most;
         names = clean .few;
-        dialect = dialect-lengths (c .dialect) (s .valid);
+        dialect = dialect-lengths (c .dialect) (known .1);
         table-bytes = s .table-bytes;
         names-bytes = s .names-bytes;
         dialect-bytes = s .dialect-bytes;
       }
 
-  sound-so : soundCheck c ≡ accepted []
-  unfolding givenCheck
-  sound-so = rw (s .checks) (s .valid)
-
   pub back-holds : contentAt (fileOf c) ≡ c
   back-holds = ap contentAt (sym (append-nil (fileOf c))) ∙ file-holds c sound-fits []
 
-  pub back-taken : takenAt (fileOf c) ≡ length (fileOf c)
-  back-taken = ap takenAt (sym (append-nil (fileOf c))) ∙ file-taken c sound-fits []
+  pub back-taken : headerAt (fileOf c) .taken ≡ length (fileOf c)
+  back-taken = ap (λ (x : List ℕ). headerAt x .taken) (sym (append-nil (fileOf c))) ∙ file-taken c sound-fits []
 
   pub back-accepted : readCheck (fileOf c) ≡ accepted []
   unfolding readCheck
   back-accepted =
       let passes : frontCheck (fileOf c) ≡ accepted [] = ap frontCheck (sym (append-nil (fileOf c)))
       ∙ file-passes c sound-fits [] in
-      rw (passes, back-taken, le-leb (length (fileOf c)) (length (fileOf c)) (omega arith), back-holds) sound-so
+      rw (passes, back-taken, le-leb (length (fileOf c)) (length (fileOf c)) (omega arith), back-holds) (s .sound)

@@ -1,14 +1,14 @@
 -- Laws of the bytes that the reader copies, in the terms of code. Assumes nothing.
 use mathlib.Core.Path.{_≡_, refl, sym, ap, _∙_}
-use mathlib.Core.List.{List, [], _++_, append-assoc, append-nil}
-use Prim.Native.Nat.{ℕ, zero, suc, _+_, _*_, _-_, _≤_, min}
+use mathlib.Core.List.{List, _++_, append-assoc, append-nil}
+use Prim.Native.Nat.{ℕ, zero, suc, _+_, _*_, _-_, _<_, _≤_, min}
 use native.Mathlib.Omega.{arith}
-use lib.ListN.{length, take, drop, replicate, length-drop, drop-of-length-le}
+use lib.ListN.{length, take, drop, replicate, length-append, length-drop, drop-of-length-le, take-append-drop}
 use lib.Seq.{length-take-le, take-at, drop-at, drop-drop}
 use borrow.Rule.Slice.PartMut.{putMid}
 use Rattle.fields.proofs.Fields.{tail-part}
-use Rattle.blocks.specs.Run.{blocksFor, contentOf}
-use Rattle.blocks.proofs.Runs.{content-long, content-more}
+use Rattle.blocks.specs.Run.{blocksFor, contentIn, contentOf}
+use Rattle.blocks.proofs.Runs.{blocks-more, content-nothing, content-long, content-full, content-next}
 use Rattle.tablefile.specs.Loading.{laid}
 
 -- zeros from a place on are zeros
@@ -22,37 +22,95 @@ pub laid-over : (n : ℕ) (l : List ℕ) {m : ℕ} → length l ≡ m → l ++ d
 unfolding laid
 laid-over n l h = rw (← h, drop-zeros n (length l)) refl
 
--- the content of a run, block by block
-pub copy-none : (bs out : List ℕ) {len : ℕ} → len ≡ 0 → out ≡ contentOf len bs ++ drop len out
-unfolding contentOf
-copy-none bs out e = rw e refl
+pub laid-run : (bs : List ℕ) (first len n : ℕ) {out : List ℕ} → 512 * (first + blocksFor len) ≤ length bs
+    → out ≡ contentOf len (drop (512 * first) bs) ++ drop len (replicate n 0)
+    → out ≡ laid n (contentOf len (drop (512 * first) bs))
+laid-run bs first len n h e = e ∙ laid-over n (contentOf len (drop (512 * first) bs))
+    (content-long len (drop (512 * first) bs) (simp length-drop (omega arith)))
 
-module _ (bs : List ℕ) (len : ℕ) (h : 512 * blocksFor len ≤ length bs) where
-  pub laid-run : (n : ℕ) {out : List ℕ} → out ≡ contentOf len bs ++ drop len (replicate n 0)
-      → out ≡ laid n (contentOf len bs)
-  laid-run n e = e ∙ laid-over n (contentOf len bs) (content-long len bs h)
+pub laid-names : (bs : List ℕ) (len n : ℕ) {out : List ℕ} → 512 * (1 + blocksFor len) ≤ length bs
+    → out ≡ contentOf len (drop 512 bs) ++ drop len (replicate n 0) → out ≡ laid n (contentOf len (drop 512 bs))
+laid-names bs = laid-run bs 1
 
-  pub copy-on : (old : List ℕ) {used : ℕ} {first rest : List ℕ} → (len ≡ 0 → ⊥) → used ≡ min 504 len
-      → first ≡ take used (take (length bs - 4) (drop 4 bs)) ++ drop used old
-      → rest ≡ contentOf (len - used) (take (length bs - 512) (drop 512 bs))
-      ++ drop (len - used) (take (length first - used) (drop used first))
-      → putMid used (length first - used) first rest ≡ contentOf len bs ++ drop len old
-  unfolding blocksFor
-  copy-on old {used} {first} {rest} more used-is first-is rest-is =
-      let here : List ℕ = take used (drop 4 bs) in
-      let long : length here ≡ used = length-take-le used (drop 4 bs) (simp length-drop (omega arith)) in
-      let f : first ≡ here ++ drop used old = rw (tail-part 4 bs) at first-is in
-      let behind : drop used first ≡ drop used old = ap (drop used) f ∙ drop-at here (drop used old) used long in
-      let none : drop (length first - used) (drop used first) ≡
-      [] = drop-of-length-le (drop used first) {i = length first - used} (simp length-drop (omega arith)) in
-      let left : len - used ≡ len - 504 = omega arith in
-      let all : used + (len - used) ≡ len = omega arith in
-      let r : rest ≡ contentOf (len - 504) (drop 512 bs) ++ drop len old =
-      rw (tail-part 512 bs, tail-part used first, behind, drop-drop (len - used) used old, all, left) at rest-is in
-      let c : contentOf len bs ≡ here ++ contentOf (len - 504) (drop 512 bs) = rw used-is
-      (content-more len bs (omega arith) (omega arith)) in
-      rw (none, append-nil rest, ap (take used) f ∙ take-at here (drop used old) used long, r, c)
-      (sym (append-assoc here (contentOf (len - 504) (drop 512 bs)) (drop len old)))
+-- the loop over blocks: what is copied and what is left make the whole content, and behind it out is as it was
+pub record Copying (bs d : List ℕ) (first len : ℕ) (out : List ℕ) (number done : ℕ) : Type 0 where
+  pub upto : done ≤ len
+  pub room : len ≤ length d
+  pub long : length out ≡ length d
+  pub there : 512 * (number + blocksFor (len - done)) ≤ length bs
+  pub behind : drop done out ≡ drop done d
+  pub same : take done out ++ contentOf (len - done) (drop (512 * number) bs) ≡ contentOf len (drop (512 * first) bs)
+
+pub copy-start : (bs d : List ℕ) (first len : ℕ) → 512 * (first + blocksFor len) ≤ length bs → len ≤ length d
+    → Copying bs d first len d first 0
+copy-start bs d first len h k =
+    let all : len - 0 ≡ len = omega arith in
+    record { upto = omega arith; room = k; long = refl; there = rw all h; behind = refl; same = rw all refl }
+
+put-tail : (a : ℕ) (s ys : List ℕ) → putMid a (length s - a) s ys ≡ take a s ++ ys
+put-tail a s ys = simp (
+  drop-of-length-le (drop a s) {i = length s - a} (simp length-drop (omega arith)),
+  append-nil,
+) refl
+
+module _ {bs d : List ℕ} {first len : ℕ} {out : List ℕ} {number done : ℕ}
+    (s : Copying bs d first len out number done) where
+  pub copy-end : len ≤ done → out ≡ contentOf len (drop (512 * first) bs) ++ drop len d
+  copy-end h =
+      let e : done ≡ len = omega (arith, s .upto) in
+      let none : len - done ≡ 0 = omega arith in
+      let all : take done out ++ contentOf 0 (drop (512 * number) bs) ≡ contentOf len (drop (512 * first) bs) =
+      rw none at (s .same) in
+      let copied : take done out ≡ contentOf len (drop (512 * first) bs) =
+      sym (append-nil (take done out)) ∙ ap (λ (x : List ℕ). take done out ++ x)
+      (sym (content-nothing (drop (512 * number) bs))) ∙ all in
+      sym (take-append-drop done out) ∙ rw (copied, s .behind, e) refl
+
+  module _ (more : done < len) {used : ℕ} (used-is : used ≡ min 504 (len - done)) {here : List ℕ}
+      (here-is : here ≡ contentIn number bs) where
+    left : len - (done + used) ≡ len - done - 504
+    left = omega arith
+
+    one : 512 * (number + 1) ≤ length bs
+    one = omega (arith, s .there, blocks-more (len - done) (omega arith))
+
+    pub copy-fits : (used ≤ length here) × (used ≤ length (take (length out - done) (drop done out)))
+    copy-fits = (
+      rw here-is (omega (arith, content-full number bs one)),
+      rw (tail-part done out) (simp length-drop (omega (arith, s .room, s .long))),
+    )
+
+    pub copy-on : {ys : List ℕ} → ys ≡ take used here ++ drop used (take (length out - done) (drop done out))
+        → Copying bs d first len (putMid done (length out - done) out ys) (number + 1) (done + used)
+    copy-on {ys} ys-is =
+        let a : List ℕ = take done out in
+        let b : List ℕ = take used here in
+        let z : List ℕ = drop (done + used) out in
+        let long-a : length a ≡ done = length-take-le done out (omega (arith, s .room, s .long)) in
+        let long-b : length b ≡ used = length-take-le used here (copy-fits .0) in
+        let long-ab : length (a ++ b) ≡ done + used = simp length-append (omega arith) in
+        let long-z : length z ≡ length out - (done + used) = length-drop (done + used) out in
+        let tail : ys ≡ b ++ z = rw (tail-part done out, drop-drop used done out) at ys-is in
+        let new : putMid done (length out - done) out ys ≡ (a ++ b) ++ z =
+        put-tail done out ys ∙ rw tail (sym (append-assoc a b z)) in
+        record {
+          upto = omega arith;
+          room = s .room;
+          long = rw new (simp length-append (omega (arith, s .room, s .long)));
+          there = rw left (omega (arith, s .there, blocks-more (len - done) (omega arith)));
+          behind = rw (new, drop-at (a ++ b) z (done + used) long-ab)
+              (sym (drop-drop used done out) ∙ ap (drop used) (s .behind) ∙ drop-drop used done d);
+          same = rw (
+            new,
+            take-at (a ++ b) z (done + used) long-ab,
+            left,
+            append-assoc a b (contentOf (len - done - 504) (drop (512 * (number + 1)) bs)),
+            here-is,
+            used-is,
+            ← content-next (len - done) number bs (omega arith) one,
+          )
+              (s .same);
+        }
 
 -- the dialect
 module _ (bs : List ℕ) (len : ℕ) (h : 512 ≤ length bs) (few : len ≤ 9) where

@@ -9,29 +9,29 @@ use native.Mathlib.Omega.{arith}
 use lib.ListN.{length, getD, take, drop, set, replicate, length-append}
 use lib.Seq.{take-at, drop-at, take-take, take-add, drop-drop, take-set-le}
 use borrow.Author.Tests.{le-leb}
+use Rattle.fields.proofs.Basics.{drop-take, le-or-lt}
 use Rattle.fields.specs.Field.{field}
 use Rattle.fields.proofs.Fields.{field-drop, field-take}
 use Rattle.table.specs.Numbers.{blockCheck}
 use Rattle.table.specs.Answer.{accepted, refused, andThen}
 use Rattle.blocks.specs.Block.{bytesOf, blockOf, judge}
 use Rattle.blocks.specs.Run.{blocksFor, runOf, judgeRun}
-use Rattle.blocks.proofs.Spelling.{le-or-lt, Bytes, bytes-drop, bytes-append, bytes-spelled, length-bytes}
+use Rattle.blocks.proofs.Spelling.{Bytes, bytes-drop, bytes-append, bytes-spelled, length-bytes}
 use Rattle.blocks.proofs.Spelling.{field-behind, field-bytes, bytes-field}
-use Rattle.blocks.proofs.Blocks.{Passing, passing, passes, drop-take, length-block, content-there, block-passes}
+use Rattle.blocks.proofs.Blocks.{Passing, passing, passes, length-block, content-there, block-passes}
 use Rattle.blocks.proofs.Blocks.{passed-is-block, changed-block, judge-outside}
 use Rattle.blocks.proofs.Runs.{drop-set, getD-behind, length-run, passed-is-run, run-passes, run-holds, run-outside}
 use Rattle.blocks.proofs.Runs.{changed-run}
 use Rattle.tablefile.specs.File.{Content, headerOf, fileOf}
-use Rattle.tablefile.specs.Reading.{nodesAt, namesAt, dialectAt, firstNodes, takenAt, contentAt, countsFit}
-use Rattle.tablefile.specs.Reading.{frontCheck}
-use Rattle.tablefile.proofs.Fronts.{Fronted, dialect-few, table-length, names-length}
+use Rattle.tablefile.specs.Reading.{dialectIn, headerAt, contentAt, countsFit, blocksCheck, frontCheck}
+use Rattle.tablefile.proofs.Fronts.{first-is, taken-is, dialect-few, Fronted, table-length, names-length}
 
 -- ---- a file at the front whose blocks pass is the file of what it holds
 module _ (bs : List ℕ) (small : Bytes bs) (f : Fronted bs) where
-  header-is : take (4 + dialectAt bs) (drop 4 bs) ≡ headerOf (contentAt bs)
-  unfolding headerOf contentAt nodesAt namesAt
+  header-is : take (4 + headerAt bs .dialect) (drop 4 bs) ≡ headerOf (contentAt bs)
+  unfolding headerOf contentAt headerAt
   header-is =
-      let d : ℕ = dialectAt bs in
+      let d : ℕ = headerAt bs .dialect in
       let nodes : length (contentAt bs .table) / 24 ≡ field 2 bs 4 = omega (arith, table-length bs f) in
       let names : length (contentAt bs .names) ≡ field 2 bs 6 = names-length bs f in
       let spelled : bytesOf 2 (field 2 bs 4)
@@ -52,29 +52,30 @@ module _ (bs : List ℕ) (small : Bytes bs) (f : Fronted bs) where
       )
       refl
 
-  names-are : take (512 * blocksFor (namesAt bs)) (drop 512 bs) ≡ runOf 1 (contentAt bs .names)
+  names-are : take (512 * blocksFor (headerAt bs .names)) (drop 512 bs) ≡ runOf 1 (contentAt bs .names)
   unfolding contentAt
-  names-are = passed-is-run 1 (namesAt bs) (drop 512 bs) (bytes-drop bs 512 small) (f .names)
+  names-are = passed-is-run 1 (headerAt bs .names) (drop 512 bs) (bytes-drop bs 512 small) (f .names)
 
-  nodes-are : take (512 * blocksFor (24 * nodesAt bs)) (drop (512 * firstNodes bs) bs)
-      ≡ runOf (firstNodes bs) (contentAt bs .table)
+  nodes-are : take (512 * blocksFor (24 * headerAt bs .nodes)) (drop (512 * headerAt bs .first) bs)
+      ≡ runOf (headerAt bs .first) (contentAt bs .table)
   unfolding contentAt
-  nodes-are = passed-is-run (firstNodes bs) (24 * nodesAt bs) (drop (512 * firstNodes bs) bs)
-      (bytes-drop bs (512 * firstNodes bs) small) (f .nodes)
+  nodes-are = passed-is-run (headerAt bs .first) (24 * headerAt bs .nodes) (drop (512 * headerAt bs .first) bs)
+      (bytes-drop bs (512 * headerAt bs .first) small) (f .nodes)
 
   -- THEOREM
-  pub front-is-file : take (takenAt bs) bs ≡ fileOf (contentAt bs)
-  unfolding takenAt fileOf firstNodes
+  pub front-is-file : take (headerAt bs .taken) bs ≡ fileOf (contentAt bs)
+  unfolding fileOf
   front-is-file =
-      let a : ℕ = blocksFor (namesAt bs) in
-      let m : ℕ = blocksFor (24 * nodesAt bs) in
-      let cut : 512 * (1 + a + m) ≡ 512 + (512 * a + 512 * m) = omega arith in
-      let at : 512 * (1 + a) ≡ 512 + 512 * a = omega arith in
-      let block : take 512 bs ≡ blockOf 0 (headerOf (contentAt bs)) = passed-is-block 0 (4 + dialectAt bs) bs
-      (omega (arith, dialect-few bs f)) small (f .header) ∙ ap (blockOf 0) header-is in
+      let a : ℕ = blocksFor (headerAt bs .names) in
+      let m : ℕ = blocksFor (24 * headerAt bs .nodes) in
+      let cut : headerAt bs .taken ≡ 512 + (512 * a + 512 * m) = omega (arith, taken-is bs, first-is bs) in
+      let at : 512 * headerAt bs .first ≡ 512 + 512 * a = omega (arith, first-is bs) in
+      let block : take 512 bs ≡ blockOf 0 (headerOf (contentAt bs)) = passed-is-block 0 (4 + headerAt bs .dialect) bs
+      (omega (arith, dialect-few bs)) small (f .header) ∙ ap (blockOf 0) header-is in
       let names : take (512 * a) (drop 512 bs) ≡ runOf 1 (contentAt bs .names) = names-are in
       let nodes : take (512 * m) (drop (512 + 512 * a) bs)
-      ≡ runOf (1 + a) (contentAt bs .table) = ap (λ (x : ℕ). take (512 * m) (drop x bs)) (sym at) ∙ nodes-are in
+      ≡ runOf (1 + a) (contentAt bs .table) = ap (λ (x : ℕ). take (512 * m) (drop x bs)) (sym at) ∙ nodes-are
+      ∙ ap (λ (x : ℕ). runOf x (contentAt bs .table)) (first-is bs) in
       rw (
         cut,
         take-add 512 (512 * a + 512 * m) bs,
@@ -90,9 +91,9 @@ module _ (bs : List ℕ) (small : Bytes bs) (f : Fronted bs) where
 -- ---- one changed byte of it gives 72
 module _ (bs : List ℕ) (f : Fronted bs) (i v : ℕ) (other : v ≡ getD bs i 0 → ⊥) where
   header-changed : i < 512 → frontCheck (set bs i v) ≡ refused blockCheck []
-  unfolding frontCheck
-  header-changed h = rw (changed-block 0 (4 + dialectAt bs) bs i v (f .header) h other 0
-      (4 + dialectAt (set bs i v))) refl
+  unfolding blocksCheck
+  header-changed h = rw (changed-block 0 (4 + headerAt bs .dialect) bs i v (f .header) h other 0
+      (4 + headerAt (set bs i v) .dialect)) refl
 
   -- behind block 0 it is read as before
   module _ (h : 512 ≤ i) where
@@ -100,69 +101,52 @@ module _ (bs : List ℕ) (f : Fronted bs) (i v : ℕ) (other : v ≡ getD bs i 0
     same-field at k = sym (field-take 2 (set bs i v) 512 at k)
         ∙ ap (λ (x : List ℕ). field 2 x at) (take-set-le 512 bs i v h) ∙ field-take 2 bs 512 at k
 
-    same-nodes : nodesAt (set bs i v) ≡ nodesAt bs
-    unfolding nodesAt
-    same-nodes = same-field 4 (omega arith)
+    same-header : headerAt (set bs i v) ≡ headerAt bs
+    unfolding headerAt
+    same-header = rw (same-field 4 (omega arith), same-field 6 (omega arith), same-field 2 (omega arith)) refl
 
-    same-names : namesAt (set bs i v) ≡ namesAt bs
-    unfolding namesAt
-    same-names = same-field 6 (omega arith)
-
-    same-dialect : dialectAt (set bs i v) ≡ dialectAt bs
-    unfolding dialectAt
-    same-dialect = rw (same-field 2 (omega arith)) refl
-
-    same-first : firstNodes (set bs i v) ≡ firstNodes bs
-    unfolding firstNodes
-    same-first = rw same-names refl
-
-    fits : countsFit (nodesAt bs) (namesAt bs) ≡ true
+    fits : countsFit (headerAt bs .nodes) (headerAt bs .names) ≡ true
     unfolding countsFit
     fits = rw (
-      le-leb 1 (nodesAt bs) (f .counts .0),
-      le-leb (nodesAt bs) 2100 (f .counts .1),
-      le-leb (namesAt bs) 8064 (f .counts .2),
+      le-leb 1 (headerAt bs .nodes) (f .counts .0),
+      le-leb (headerAt bs .nodes) 2100 (f .counts .1),
+      le-leb (headerAt bs .names) 8064 (f .counts .2),
     ) refl
 
-    later : frontCheck (set bs i v) ≡ andThen (judgeRun 1 (namesAt bs) (set (drop 512 bs) (i - 512) v))
-        (λ _. judgeRun (firstNodes bs) (24 * nodesAt bs) (drop (512 * firstNodes bs) (set bs i v)))
-    unfolding frontCheck
+    later : frontCheck (set bs i v) ≡ andThen (judgeRun 1 (headerAt bs .names) (set (drop 512 bs) (i - 512) v))
+        (λ _. judgeRun (headerAt bs .first) (24 * headerAt bs .nodes) (drop (512 * headerAt bs .first) (set bs i v)))
+    unfolding blocksCheck
     later =
         rw (
-          same-nodes,
-          same-names,
-          same-dialect,
-          same-first,
-          judge-outside 0 (4 + dialectAt bs) bs i v h,
-          passes 0 (4 + dialectAt bs) bs (f .header),
+          same-header,
+          judge-outside 0 (4 + headerAt bs .dialect) bs i v h,
+          passes 0 (4 + headerAt bs .dialect) bs (f .header),
           fits,
           drop-set 512 bs i v h,
         )
         refl
 
-    names-changed : i - 512 < 512 * blocksFor (namesAt bs) → frontCheck (set bs i v) ≡ refused blockCheck []
+    names-changed : i - 512 < 512 * blocksFor (headerAt bs .names) → frontCheck (set bs i v) ≡ refused blockCheck []
     names-changed k =
-        later ∙ rw (changed-run 1 (namesAt bs) (drop 512 bs) (i - 512) v (f .names) k
+        later ∙ rw (changed-run 1 (headerAt bs .names) (drop 512 bs) (i - 512) v (f .names) k
         (λ e. other (e ∙ getD-behind 512 bs i h))) refl
 
-    nodes-changed : 512 * blocksFor (namesAt bs) ≤ i - 512 → 512 * firstNodes bs ≤ i → i < takenAt bs
+    nodes-changed : 512 * blocksFor (headerAt bs .names) ≤ i - 512 → 512 * headerAt bs .first ≤ i → i < headerAt bs .taken
         → frontCheck (set bs i v) ≡ refused blockCheck []
-    unfolding takenAt
     nodes-changed k l m =
         later
         ∙ rw
-        (run-outside 1 (namesAt bs) (drop 512 bs) (i - 512) v k, f .names, drop-set (512 * firstNodes bs) bs i v l)
-        (changed-run (firstNodes bs) (24 * nodesAt bs) (drop (512 * firstNodes bs) bs) (i - 512 * firstNodes bs) v
-        (f .nodes) (omega arith) (λ e. other (e ∙ getD-behind (512 * firstNodes bs) bs i l)))
+        (run-outside 1 (headerAt bs .names) (drop 512 bs) (i - 512) v k, f .names, drop-set (512 * headerAt bs .first) bs i v l)
+        (changed-run (headerAt bs .first) (24 * headerAt bs .nodes) (drop (512 * headerAt bs .first) bs) (i - 512 * headerAt bs .first) v
+        (f .nodes) (omega (arith, taken-is bs)) (λ e. other (e ∙ getD-behind (512 * headerAt bs .first) bs i l)))
 
   -- THEOREM
-  pub front-changed : i < takenAt bs → frontCheck (set bs i v) ≡ refused blockCheck []
-  unfolding firstNodes
+  pub front-changed : i < headerAt bs .taken → frontCheck (set bs i v) ≡ refused blockCheck []
   front-changed h = ⊎-elim
       (λ (p : 512 ≤ i). ⊎-elim
-      (λ (q : 512 * blocksFor (namesAt bs) ≤ i - 512). nodes-changed p q (omega arith) h)
-      (λ (q : i - 512 < 512 * blocksFor (namesAt bs)). names-changed p q)
-      (le-or-lt (512 * blocksFor (namesAt bs)) (i - 512)))
+      (λ (q : 512 * blocksFor (headerAt bs .names) ≤ i - 512). nodes-changed p q (omega (arith, first-is bs)) h)
+      (λ (q : i - 512 < 512 * blocksFor (headerAt bs .names)). names-changed p q)
+      (le-or-lt (512 * blocksFor (headerAt bs .names)) (i - 512)))
       (λ (p : i < 512). header-changed p)
       (le-or-lt 512 i)
 
@@ -219,8 +203,8 @@ module _ (c : Content) (fit : Fits c) (rest : List ℕ) where
   header-passes : judge 0 (length (headerOf c)) bs ≡ accepted []
   header-passes = rw parts (block-passes 0 (headerOf c) header-fits header-bytes (omega arith) name-part)
 
-  dialect-so : dialectAt bs ≡ length (c .dialect)
-  unfolding dialectAt
+  dialect-so : headerAt bs .dialect ≡ length (c .dialect)
+  unfolding headerAt dialectIn
   dialect-so =
       let p : Passing 0 (length (headerOf c)) bs = passing 0 (length (headerOf c)) bs header-passes in
       let said : field 2 bs 2 ≡ 4 + length (c .dialect) = sym (field-take 2 bs 512 2 (omega arith)) ∙ p .said
@@ -246,12 +230,12 @@ module _ (c : Content) (fit : Fits c) (rest : List ℕ) where
   field-there at h = sym (field-drop 2 bs 4 at) ∙ sym (field-take 2 (drop 4 bs) 504 at h)
       ∙ ap (λ (x : List ℕ). field 2 x at) header-there
 
-  nodes-so : nodesAt bs ≡ nodes
-  unfolding nodesAt
+  nodes-so : headerAt bs .nodes ≡ nodes
+  unfolding headerAt
   nodes-so = field-there 0 (omega arith) ∙ field-bytes 2 nodes _ (omega (arith, fit .few))
 
-  names-so : namesAt bs ≡ length (c .names)
-  unfolding namesAt
+  names-so : headerAt bs .names ≡ length (c .names)
+  unfolding headerAt
   names-so =
       let tail : List ℕ = bytesOf 2 (length (c .names)) ++ (c .dialect ++ zeros) in
       let behind : field 2 (bytesOf 2 nodes ++ tail) (length (bytesOf 2 nodes) + 0) ≡ length (c .names) =
@@ -276,18 +260,17 @@ module _ (c : Content) (fit : Fits c) (rest : List ℕ) where
   names-behind = ap (drop 512) parts ∙ drop-at (blockOf 0 (headerOf c)) name-part 512
       (length-block 0 (headerOf c) header-fits)
 
-  first-so : firstNodes bs ≡ first
-  unfolding firstNodes
-  first-so = rw names-so refl
+  first-so : headerAt bs .first ≡ first
+  first-so = first-is bs ∙ rw names-so refl
 
-  nodes-behind : drop (512 * firstNodes bs) bs ≡ node-part
+  nodes-behind : drop (512 * headerAt bs .first) bs ≡ node-part
   nodes-behind =
       let a : ℕ = 512 * blocksFor (length (c .names)) in
-      let at : 512 * firstNodes bs ≡ 512 + a = omega (arith, first-so) in
+      let at : 512 * headerAt bs .first ≡ 512 + a = omega (arith, first-so) in
       ap (λ (x : ℕ). drop x bs) at ∙ sym (drop-drop a 512 bs) ∙ ap (drop a) names-behind
       ∙ drop-at (runOf 1 (c .names)) node-part a (length-run 1 (c .names))
 
-  table-so : 24 * nodesAt bs ≡ length (c .table)
+  table-so : 24 * headerAt bs .nodes ≡ length (c .table)
   table-so = omega (arith, nodes-so, fit .whole)
 
   first-small : blocksFor (length (c .names)) ≤ 16
@@ -298,7 +281,7 @@ module _ (c : Content) (fit : Fits c) (rest : List ℕ) where
   unfolding blocksFor
   last-small = omega (arith, fit .few)
 
-  counts-so : countsFit (nodesAt bs) (namesAt bs) ≡ true
+  counts-so : countsFit (headerAt bs .nodes) (headerAt bs .names) ≡ true
   unfolding countsFit
   counts-so =
       let some : 1 ≤ nodes = omega (arith, fit .some) in
@@ -311,19 +294,19 @@ module _ (c : Content) (fit : Fits c) (rest : List ℕ) where
         le-leb (length (c .names)) 8064 (fit .names),
       ) refl
 
-  names-pass : judgeRun 1 (namesAt bs) (drop 512 bs) ≡ accepted []
+  names-pass : judgeRun 1 (headerAt bs .names) (drop 512 bs) ≡ accepted []
   names-pass = rw (names-so, names-behind)
       (run-passes 1 (c .names) node-part (fit .names-bytes) (omega (arith, first-small)))
 
-  nodes-pass : judgeRun (firstNodes bs) (24 * nodesAt bs) (drop (512 * firstNodes bs) bs) ≡ accepted []
+  nodes-pass : judgeRun (headerAt bs .first) (24 * headerAt bs .nodes) (drop (512 * headerAt bs .first) bs) ≡ accepted []
   nodes-pass = rw (nodes-behind, first-so, table-so)
       (run-passes first (c .table) rest (fit .table-bytes) (omega (arith, first-small, last-small)))
 
   -- THEOREM, in three parts: it passes, it holds the content, and it takes the file's bytes
   pub file-passes : frontCheck (fileOf c ++ rest) ≡ accepted []
-  unfolding frontCheck
+  unfolding blocksCheck
   file-passes =
-      let used : 4 + dialectAt bs ≡ length (headerOf c) = omega (arith, dialect-so, header-length) in
+      let used : 4 + headerAt bs .dialect ≡ length (headerOf c) = omega (arith, dialect-so, header-length) in
       rw (used, header-passes, counts-so, names-pass) nodes-pass
 
   pub file-holds : contentAt (fileOf c ++ rest) ≡ c
@@ -341,10 +324,10 @@ module _ (c : Content) (fit : Fits c) (rest : List ℕ) where
       )
       refl
 
-  pub file-taken : takenAt (fileOf c ++ rest) ≡ length (fileOf c)
-  unfolding takenAt fileOf
+  pub file-taken : headerAt (fileOf c ++ rest) .taken ≡ length (fileOf c)
+  unfolding fileOf
   file-taken =
-      rw (first-so, table-so)
+      rw (taken-is bs, first-so, table-so)
       (simp (
         length-append,
         length-block 0 (headerOf c) header-fits,

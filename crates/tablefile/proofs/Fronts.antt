@@ -10,19 +10,16 @@ use borrow.Author.Tests.{eq-eqb, ne-eqb, leb-true}
 use Rattle.fields.specs.Choice.{if'}
 use Rattle.fields.specs.Field.{field}
 use Rattle.fields.proofs.Fields.{tail-part}
-use Rattle.dialect.specs.Bytes.{fromBytes}
+use Rattle.fields.proofs.Basics.{and-left, and-right}
 use Rattle.dialect.specs.declared.Dialect.{Dialect}
-use Rattle.dialect.specs.declared.Decoded.{Decoded}
-use Rattle.dialect.specs.declared.Decoded.the-variants.{Valid, Invalid}
-use Rattle.soundness.proofs.Records.{and-left, and-right}
-use Rattle.table.specs.Numbers.{badDialect, blockCounts}
-use Rattle.table.specs.Answer.{Answer, accepted, refused, andThen, refusal, checked}
-use Rattle.table.specs.Check.{checkOf, givenCheck}
+use Rattle.table.specs.Numbers.{blockCounts}
+use Rattle.table.specs.Answer.{Answer, accepted, refused, andThen, refusal}
+use Rattle.table.specs.Check.{given, givenOf}
 use Rattle.table.specs.declared.Refusal.{Refusal}
-use Rattle.table.specs.declared.Checked.{Checked}
-use Rattle.table.specs.declared.Checked.the-variants.{Sound}
-use Rattle.table.specs.declared.Checked.the-variants as table-answers
-use Rattle.table.proofs.Answers.{stopped, after-both}
+use Rattle.table.specs.declared.Given.{Given}
+use Rattle.table.specs.declared.Given.the-variants.{In, Refused as Away}
+use Rattle.table.proofs.Answers.{after-both, never-passed}
+use Rattle.table.proofs.Entering.{away-is, in-is}
 use Rattle.blocks.specs.Block.{demand, judge, judged}
 use Rattle.blocks.specs.Run.{blocksFor, judgeRun}
 use Rattle.blocks.specs.declared.Judged.{Judged}
@@ -30,19 +27,46 @@ use Rattle.blocks.specs.declared.Judged.the-variants.{Passed}
 use Rattle.blocks.specs.declared.Judged.the-variants as judgements
 use Rattle.blocks.proofs.Blocks.{Passing, passing, passing-then}
 use Rattle.blocks.proofs.Runs.{run-long, run-then, content-long}
-use Rattle.tablefile.specs.Reading.{nodesAt, namesAt, dialectAt, firstNodes, takenAt, contentAt, countsFit}
-use Rattle.tablefile.specs.Reading.{frontCheck, soundCheck}
+use Rattle.tablefile.specs.Reading.{dialectIn, headerAt, contentAt, countsFit, blocksCheck, frontCheck}
+use Rattle.tablefile.specs.Reading.{soundCheck}
+use Rattle.tablefile.specs.declared.Heading.{Heading}
 use Rattle.tablefile.proofs.Copies.{dialect-long}
 
 -- how many dialect bytes block 0 has
-module _ (bs : List ℕ) {u : ℕ} (u-is : u ≡ field 2 bs 2) where
-  pub dialect-nine : u ≡ 13 → (9 ≡ dialectAt bs) × (9 ≤ 9)
-  unfolding dialectAt
-  dialect-nine e = (rw (← u-is, eq-eqb u 13 e) refl, omega arith)
+pub dialect-nine : {u : ℕ} → u ≡ 13 → (9 ≡ dialectIn u) × (9 ≤ 9)
+unfolding dialectIn
+dialect-nine {u} e = (rw (eq-eqb u 13 e) refl, omega arith)
 
-  pub dialect-none : (u ≡ 13 → ⊥) → (0 ≡ dialectAt bs) × (0 ≤ 9)
-  unfolding dialectAt
-  dialect-none e = (rw (← u-is, ne-eqb u 13 e) refl, omega arith)
+pub dialect-none : {u : ℕ} → (u ≡ 13 → ⊥) → (0 ≡ dialectIn u) × (0 ≤ 9)
+unfolding dialectIn
+dialect-none {u} e = (rw (ne-eqb u 13 e) refl, omega arith)
+
+-- what block 0 says, in the terms of code
+pub header-is : (bs : List ℕ) {nodes names used d k m : ℕ} → nodes ≡ field 2 bs 4 → names ≡ field 2 bs 6
+    → used ≡ field 2 bs 2 → d ≡ dialectIn used → k ≡ blocksFor names → m ≡ blocksFor (24 * nodes)
+    → _≡_ {A = Heading}
+    (record { nodes = nodes; names = names; dialect = d; first = 1 + k; taken = 512 * (1 + k + m) }) (headerAt bs)
+unfolding headerAt
+header-is bs nodes-is names-is used-is d-is k-is m-is =
+    rw (m-is, k-is, d-is, used-is, names-is, nodes-is) refl
+
+-- where that puts the blocks
+module _ (bs : List ℕ) where
+  pub first-is : headerAt bs .first ≡ 1 + blocksFor (headerAt bs .names)
+  unfolding headerAt
+  first-is = refl
+
+  pub taken-is : headerAt bs .taken ≡ 512 * (headerAt bs .first + blocksFor (24 * headerAt bs .nodes))
+  unfolding headerAt
+  taken-is = refl
+
+  pub dialect-few : headerAt bs .dialect ≤ 9
+  unfolding headerAt dialectIn
+  dialect-few = few (eqb (field 2 bs 2) 13)
+    where
+      few : (b : Bool) → if' b (λ _. 9) (λ _. 0) ≤ 9
+      few true = omega arith
+      few false = omega arith
 
 -- counts that fit
 pub counts-small : (nodes names : ℕ) → countsFit nodes names ≡ true → (1 ≤ nodes) × (nodes ≤ 2100) × (names ≤ 8064)
@@ -54,124 +78,103 @@ counts-small nodes names e =
       leb-true names 8064 (and-right (leb nodes 2100) (leb names 8064) rest),
     )
 
--- what is counted with counts that fit stays within the machine's words
-module _ (nodes names : ℕ) {f : Bool} (f-is : f ≡ countsFit nodes names) (f-yes : f ≡ true) where
-  small : (1 ≤ nodes) × (nodes ≤ 2100) × (names ≤ 8064)
-  small = counts-small nodes names (sym f-is ∙ f-yes)
+pub dialect-small : (bs : List ℕ) {h : Heading} → h ≡ headerAt bs → h .dialect ≤ 9
+dialect-small bs h-is = rw h-is (dialect-few bs)
 
-  pub nodes-fit : 24 * nodes < 2 ^ 64
-  nodes-fit = omega (arith, small)
+-- the blocks of the file at the front, step by step; h is what block 0 says
+module _ (bs : List ℕ) (h : Heading) (z : Judged) (z-is : judged z ≡ judge 0 (4 + h .dialect) bs) where
+  pub front-zero : {n : ℕ} → z ≡ judgements.Refused n → refused n [] ≡ blocksCheck h bs
+  unfolding blocksCheck
+  front-zero e = rw (← z-is, e) refl
 
-  module _ {k : ℕ} (k-is : k ≡ blocksFor names) where
-    few : k ≤ 16
-    unfolding blocksFor
-    few = omega (arith, small)
+  module _ (z-good : z ≡ Passed) where
+    pub zero-long : 512 ≤ length bs
+    zero-long = passing 0 (4 + h .dialect) bs (sym (rw z-good at z-is)) .long
 
-    pub first-fits : 1 + k < 2 ^ 64
-    first-fits = omega (arith, few)
+    module _ {f : Bool} (f-is : f ≡ countsFit (h .nodes) (h .names)) where
+      pub front-counts : f ≡ false → refused blockCounts [] ≡ blocksCheck h bs
+      unfolding blocksCheck
+      front-counts f-no = rw (← z-is, z-good, ← f-is, f-no) refl
 
-    pub first-word : 1 + k < 2 ^ 16
-    first-word = omega (arith, few)
+      module _ (f-yes : f ≡ true) (r : Judged)
+          (r-is : judged r ≡ judgeRun 1 (h .names) (take (length bs - 512) (drop 512 bs))) where
+        run : judgeRun 1 (h .names) (drop 512 bs) ≡ judged r
+        run = sym (r-is ∙ ap (judgeRun 1 (h .names)) (tail-part 512 bs))
 
-    pub first-bytes : 512 * (1 + k) < 2 ^ 64
-    first-bytes = omega (arith, few)
+        pub front-names : {n : ℕ} → r ≡ judgements.Refused n → refused n [] ≡ blocksCheck h bs
+        unfolding blocksCheck
+        front-names e = rw (← z-is, z-good, ← f-is, f-yes, run, e) refl
+
+        module _ (r-good : r ≡ Passed) where
+          pub front-nodes : {x : Answer} → x ≡ judgeRun (h .first) (24 * h .nodes)
+              (take (length bs - 512 * h .first) (drop (512 * h .first) bs)) → x ≡ blocksCheck h bs
+          unfolding blocksCheck
+          front-nodes x-is = x-is ∙ rw (tail-part (512 * h .first) bs, ← z-is, z-good, ← f-is, f-yes, run, r-good) refl
 
 -- a run of names that passes is there
-run-behind : (bs : List ℕ) (names : ℕ) {x : Answer} → x ≡ judgeRun 1 names (take (length bs - 512) (drop 512 bs))
-    → judgeRun 1 names (drop 512 bs) ≡ x
-run-behind bs names x-is = sym (x-is ∙ ap (judgeRun 1 names) (tail-part 512 bs))
+pub names-long : (bs : List ℕ) {h : Heading} → h ≡ headerAt bs → (r : Judged)
+    → judged r ≡ judgeRun 1 (h .names) (take (length bs - 512) (drop 512 bs)) → r ≡ Passed → 512 ≤ length bs
+    → 512 * h .first ≤ length bs
+names-long bs {h} h-is r r-is r-good long =
+    let run : judgeRun 1 (h .names) (drop 512 bs) ≡ judged r =
+    sym (r-is ∙ ap (judgeRun 1 (h .names)) (tail-part 512 bs)) in
+    let there = run-long 1 (h .names) (drop 512 bs) (run ∙ ap judged r-good) in
+    let first : h .first ≡ 1 + blocksFor (h .names) = rw h-is (first-is bs) in
+    omega (arith, there, length-drop 512 bs, first)
 
-pub names-long : (bs : List ℕ) {names : ℕ} → names ≡ namesAt bs → {r : Judged} {k : ℕ}
-    → judged r ≡ judgeRun 1 names (take (length bs - 512) (drop 512 bs)) → r ≡ Passed → k ≡ blocksFor names
-    → 512 ≤ length bs → 512 * (1 + k) ≤ length bs
-names-long bs {names} names-is r-is r-good k-is long =
-    let there = run-long 1 names (drop 512 bs) (run-behind bs names r-is ∙ ap judged r-good) in
-    omega (arith, there, length-drop 512 bs)
+-- what is counted with counts that fit stays within the machine's words
+module _ (bs : List ℕ) {h : Heading} (h-is : h ≡ headerAt bs) {f : Bool}
+    (f-is : f ≡ countsFit (h .nodes) (h .names)) (f-yes : f ≡ true) where
+  small : (1 ≤ h .nodes) × (h .nodes ≤ 2100) × (h .names ≤ 8064)
+  small = counts-small (h .nodes) (h .names) (sym f-is ∙ f-yes)
 
--- the blocks of the file at the front, step by step
-module _ (bs : List ℕ) {d : ℕ} (d-is : d ≡ dialectAt bs) (h : Judged) (h-is : judged h ≡ judge 0 (4 + d) bs) where
-  header : judge 0 (4 + dialectAt bs) bs ≡ judged h
-  header = ap (λ (x : ℕ). judge 0 (4 + x) bs) (sym d-is) ∙ sym h-is
+  pub nodes-fit : 24 * h .nodes < 2 ^ 64
+  nodes-fit = omega (arith, small)
 
-  pub front-header : {n : ℕ} → h ≡ judgements.Refused n → refused n [] ≡ frontCheck bs
-  unfolding frontCheck
-  front-header e = rw (header, e) refl
+  first-few : h .first ≤ 17
+  unfolding blocksFor
+  first-few = let first : h .first ≡ 1 + blocksFor (h .names) = rw h-is (first-is bs) in omega (arith, small, first)
 
-  module _ (h-good : h ≡ Passed) where
-    pub header-long : 512 ≤ length bs
-    header-long = passing 0 (4 + d) bs (sym (rw h-good at h-is)) .long
+  pub first-word : h .first < 2 ^ 16
+  first-word = omega (arith, first-few)
 
-    module _ {nodes names : ℕ} (nodes-is : nodes ≡ nodesAt bs) (names-is : names ≡ namesAt bs) {f : Bool}
-        (f-is : f ≡ countsFit nodes names) where
-      pub front-counts : f ≡ false → refused blockCounts [] ≡ frontCheck bs
-      unfolding frontCheck
-      front-counts f-no = let bad : countsFit nodes names ≡ false = sym f-is ∙ f-no in
-          rw (header, h-good, ← nodes-is, ← names-is, bad) refl
-
-      module _ (f-yes : f ≡ true) where
-        good : countsFit nodes names ≡ true
-        good = sym f-is ∙ f-yes
-
-        module _ (r : Judged) (r-is : judged r ≡ judgeRun 1 names (take (length bs - 512) (drop 512 bs))) where
-          run : judgeRun 1 names (drop 512 bs) ≡ judged r
-          run = run-behind bs names r-is
-
-          pub front-names : {n : ℕ} → r ≡ judgements.Refused n → refused n [] ≡ frontCheck bs
-          unfolding frontCheck
-          front-names e = rw (header, h-good, ← nodes-is, ← names-is, good, run, e) refl
-
-          module _ (r-good : r ≡ Passed) {k : ℕ} (k-is : k ≡ blocksFor names) where
-            pub front-nodes : {x : Answer}
-                → x ≡ judgeRun (1 + k) (24 * nodes) (take (length bs - 512 * (1 + k)) (drop (512 * (1 + k)) bs))
-                → x ≡ frontCheck bs
-            unfolding frontCheck firstNodes
-            front-nodes x-is =
-                x-is ∙ rw (
-                  tail-part (512 * (1 + k)) bs,
-                  header,
-                  h-good,
-                  ← nodes-is,
-                  ← names-is,
-                  good,
-                  run,
-                  r-good,
-                  k-is,
-                ) refl
+  pub first-bytes : 512 * h .first < 2 ^ 64
+  first-bytes = omega (arith, first-few)
 
 -- what the blocks of a file say once they pass
 pub record Fronted (bs : List ℕ) : Type 0 where
-  pub header : Passing 0 (4 + dialectAt bs) bs
-  pub counts : (1 ≤ nodesAt bs) × (nodesAt bs ≤ 2100) × (namesAt bs ≤ 8064)
-  pub names : judgeRun 1 (namesAt bs) (drop 512 bs) ≡ accepted []
-  pub nodes : judgeRun (firstNodes bs) (24 * nodesAt bs) (drop (512 * firstNodes bs) bs) ≡ accepted []
+  pub header : Passing 0 (4 + headerAt bs .dialect) bs
+  pub counts : (1 ≤ headerAt bs .nodes) × (headerAt bs .nodes ≤ 2100) × (headerAt bs .names ≤ 8064)
+  pub names : judgeRun 1 (headerAt bs .names) (drop 512 bs) ≡ accepted []
+  pub nodes : judgeRun (headerAt bs .first) (24 * headerAt bs .nodes) (drop (512 * headerAt bs .first) bs) ≡ accepted []
 
 -- a demand that is met, and what follows it
 pub demand-then : (b : Bool) (n : ℕ) (next : Unit {0} → Answer) → andThen (demand b n) next ≡ accepted []
     → (b ≡ true) × (next tt ≡ accepted [])
 demand-then true n next e = (refl, e)
-demand-then false n next e = let z : _≡_ {A = ℕ} 0 1 = cc in absurd (omega arith)
+demand-then false n next e = never-passed e
 
 module _ (bs : List ℕ) where
   -- LAW: a file at the front whose blocks pass, and what follows it
   pub fronted-then : (next : Unit {0} → Answer) → andThen (frontCheck bs) next ≡ accepted []
       → Fronted bs × (next tt ≡ accepted [])
-  unfolding frontCheck
+  unfolding blocksCheck
   fronted-then next e =
-      let nodes : Unit {0} → Answer = λ _. judgeRun (firstNodes bs) (24 * nodesAt bs)
-      (drop (512 * firstNodes bs) bs) in
-      let names : Unit {0} → Answer = λ _. andThen (judgeRun 1 (namesAt bs) (drop 512 bs)) nodes in
-      let fit : Bool = countsFit (nodesAt bs) (namesAt bs) in
+      let nodes : Unit {0} → Answer = λ _. judgeRun (headerAt bs .first) (24 * headerAt bs .nodes)
+      (drop (512 * headerAt bs .first) bs) in
+      let names : Unit {0} → Answer = λ _. andThen (judgeRun 1 (headerAt bs .names) (drop 512 bs)) nodes in
+      let fit : Bool = countsFit (headerAt bs .nodes) (headerAt bs .names) in
       let counts : Unit {0} → Answer = λ _. andThen (demand fit blockCounts) names in
-      let one = passing-then 0 (4 + dialectAt bs) bs (λ _. andThen (counts tt) next)
-      (sym (after-both (judge 0 (4 + dialectAt bs) bs) counts next) ∙ e) in
+      let one = passing-then 0 (4 + headerAt bs .dialect) bs (λ _. andThen (counts tt) next)
+      (sym (after-both (judge 0 (4 + headerAt bs .dialect) bs) counts next) ∙ e) in
       let two = demand-then fit blockCounts (λ _. andThen (names tt) next)
       (sym (after-both (demand fit blockCounts) names next) ∙ one .1) in
-      let three = run-then 1 (namesAt bs) (drop 512 bs) (λ _. andThen (nodes tt) next)
-      (sym (after-both (judgeRun 1 (namesAt bs) (drop 512 bs)) nodes next) ∙ two .1) in
-      let four = run-then (firstNodes bs) (24 * nodesAt bs) (drop (512 * firstNodes bs) bs) next (three .1) in (
+      let three = run-then 1 (headerAt bs .names) (drop 512 bs) (λ _. andThen (nodes tt) next)
+      (sym (after-both (judgeRun 1 (headerAt bs .names) (drop 512 bs)) nodes next) ∙ two .1) in
+      let four = run-then (headerAt bs .first) (24 * headerAt bs .nodes) (drop (512 * headerAt bs .first) bs) next (three .1) in (
         record {
           header = one .0;
-          counts = counts-small (nodesAt bs) (namesAt bs) (two .0);
+          counts = counts-small (headerAt bs .nodes) (headerAt bs .names) (two .0);
           names = three .0;
           nodes = four .0;
         },
@@ -183,64 +186,45 @@ module _ (bs : List ℕ) where
 
   -- how much of the bytes is there, and how much it holds
   module _ (f : Fronted bs) where
-    pub dialect-few : dialectAt bs ≤ 9
-    unfolding dialectAt
-    dialect-few = few (eqb (field 2 bs 2) 13)
-      where
-        few : (b : Bool) → if' b (λ _. 9) (λ _. 0) ≤ 9
-        few true = omega arith
-        few false = omega arith
+    pub names-there : 512 * blocksFor (headerAt bs .names) ≤ length (drop 512 bs)
+    names-there = run-long 1 (headerAt bs .names) (drop 512 bs) (f .names)
 
-    pub names-there : 512 * blocksFor (namesAt bs) ≤ length (drop 512 bs)
-    names-there = run-long 1 (namesAt bs) (drop 512 bs) (f .names)
+    pub nodes-there : 512 * blocksFor (24 * headerAt bs .nodes) ≤ length (drop (512 * headerAt bs .first) bs)
+    nodes-there = run-long (headerAt bs .first) (24 * headerAt bs .nodes) (drop (512 * headerAt bs .first) bs) (f .nodes)
 
-    pub nodes-there : 512 * blocksFor (24 * nodesAt bs) ≤ length (drop (512 * firstNodes bs) bs)
-    nodes-there = run-long (firstNodes bs) (24 * nodesAt bs) (drop (512 * firstNodes bs) bs) (f .nodes)
+    pub first-there : 512 * headerAt bs .first ≤ length bs
+    first-there = omega (arith, names-there, length-drop 512 bs, f .header .long, first-is bs)
 
-    pub first-there : 512 * firstNodes bs ≤ length bs
-    unfolding firstNodes
-    first-there = omega (arith, names-there, length-drop 512 bs, f .header .long)
+    pub taken-there : headerAt bs .taken ≤ length bs
+    taken-there =
+        omega (arith, nodes-there, first-there, length-drop (512 * headerAt bs .first) bs, taken-is bs)
 
-    pub taken-there : takenAt bs ≤ length bs
-    unfolding takenAt
-    taken-there = omega (arith, nodes-there, first-there, length-drop (512 * firstNodes bs) bs)
-
-    pub table-length : length (contentAt bs .table) ≡ 24 * nodesAt bs
+    pub table-length : length (contentAt bs .table) ≡ 24 * headerAt bs .nodes
     unfolding contentAt
-    table-length = content-long (24 * nodesAt bs) (drop (512 * firstNodes bs) bs) nodes-there
+    table-length = content-long (24 * headerAt bs .nodes) (drop (512 * headerAt bs .first) bs) nodes-there
 
-    pub names-length : length (contentAt bs .names) ≡ namesAt bs
+    pub names-length : length (contentAt bs .names) ≡ headerAt bs .names
     unfolding contentAt
-    names-length = content-long (namesAt bs) (drop 512 bs) names-there
+    names-length = content-long (headerAt bs .names) (drop 512 bs) names-there
 
-    pub dialect-length : length (contentAt bs .dialect) ≡ dialectAt bs
+    pub dialect-length : length (contentAt bs .dialect) ≡ headerAt bs .dialect
     unfolding contentAt
-    dialect-length = dialect-long bs (dialectAt bs) (f .header .long) dialect-few
+    dialect-length = dialect-long bs (headerAt bs .dialect) (f .header .long) (dialect-few bs)
 
--- 1 to 5, step by step; the parts as code cuts them
-module _ (t : List ℕ) (a : ℕ) (ns : List ℕ) (b : ℕ) (ds : List ℕ) (d : ℕ) (k : Checked)
-    (k-is : checked k ≡ checkOf (take (a - 0) t) (take (b - 0) ns)) where
-  check-is : checkOf (take a t) (take b ns) ≡ checked k
-  check-is =
+-- 1 to 5, of the parts as code cuts them
+module _ (t : List ℕ) (a : ℕ) (ns : List ℕ) (b : ℕ) (ds : List ℕ) (d : ℕ) (g : Given)
+    (g-is : given g ≡ givenOf (take (a - 0) t) (take (b - 0) ns) (take (d - 0) ds)) where
+  cut : given g ≡ givenOf (take a t) (take b ns) (take d ds)
+  cut =
       let p : a - 0 ≡ a = omega arith in
       let q : b - 0 ≡ b = omega arith in
-      sym (rw (p, q) at k-is)
+      let r : d - 0 ≡ d = omega arith in
+      rw (p, q, r) at g-is
 
-  pub sound-refused : {r : Refusal} → k ≡ table-answers.Refused r
-      → refusal r ≡ soundCheck (record { table = take a t; names = take b ns; dialect = take d ds })
-  unfolding givenCheck
-  sound-refused {r} e = rw (check-is, e) (stopped r _)
+  pub sound-refused : {why : Refusal} → g ≡ Away why
+      → refusal why ≡ soundCheck (record { table = take a t; names = take b ns; dialect = take d ds })
+  sound-refused e = rw (away-is (take a t) (take b ns) (take d ds) cut e) refl
 
-  module _ (k-good : k ≡ Sound) {x : Decoded} (x-is : x ≡ fromBytes (take (d - 0) ds)) where
-    dialect-is : fromBytes (take d ds) ≡ x
-    dialect-is = let p : d - 0 ≡ d = omega arith in sym (rw p at x-is)
-
-    pub sound-valid : {y : Dialect} → x ≡ Valid y
-        → accepted [] ≡ soundCheck (record { table = take a t; names = take b ns; dialect = take d ds })
-    unfolding givenCheck
-    sound-valid e = rw (check-is, k-good, dialect-is, e) refl
-
-    pub sound-invalid : x ≡ Invalid → refused badDialect []
-        ≡ soundCheck (record { table = take a t; names = take b ns; dialect = take d ds })
-    unfolding givenCheck
-    sound-invalid e = rw (check-is, k-good, dialect-is, e) refl
+  pub sound-passed : {x : Dialect} → g ≡ In x
+      → accepted [] ≡ soundCheck (record { table = take a t; names = take b ns; dialect = take d ds })
+  sound-passed e = rw (in-is (take a t) (take b ns) (take d ds) cut e) refl

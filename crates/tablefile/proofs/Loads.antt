@@ -1,12 +1,11 @@
 -- Laws of what the reader answers by value, in the terms of code. Assumes nothing.
 use mathlib.Core.Path.{_≡_, refl, sym, ap, _∙_}
 use mathlib.Core.List.{List, []}
-use Prim.Native.Nat.{ℕ, _+_, _*_, _-_, _<_, _≤_}
+use Prim.Native.Nat.{ℕ, _+_, _*_, _-_, _^_, _<_, _≤_}
 use native.Mathlib.Omega.{arith}
 use lib.ListN.{length, take, drop, replicate, length-append}
 use lib.Seq.{take-append-seam}
 use borrow.Author.Tests.{le-leb, lt-leb}
-use Rattle.fields.proofs.Fields.{tail-part}
 use Rattle.table.specs.Numbers.{bytesLeftOver}
 use Rattle.table.specs.Answer.{Answer, accepted, refused, refusal}
 use Rattle.table.specs.declared.Refusal.{Refusal}
@@ -16,83 +15,49 @@ use Rattle.blocks.specs.declared.Judged.{Judged}
 use Rattle.blocks.specs.declared.Judged.the-variants.{Passed}
 use Rattle.blocks.specs.declared.Judged.the-variants as judgements
 use Rattle.tablefile.specs.File.{Content}
-use Rattle.tablefile.specs.Reading.{nodesAt, namesAt, dialectAt, firstNodes, takenAt, contentAt, frontCheck}
-use Rattle.tablefile.specs.Reading.{soundCheck, readCheck}
+use Rattle.tablefile.specs.Reading.{headerAt, contentAt, blocksCheck, frontCheck, soundCheck, readCheck}
+use Rattle.tablefile.specs.declared.Heading.{Heading}
 use Rattle.tablefile.specs.Loading.{verdict, laid, loadedOf, none, held}
 use Rattle.tablefile.specs.declared.Verdict.{Verdict}
 use Rattle.tablefile.specs.declared.Verdict.the-variants.{Accepted, Refused}
 use Rattle.tablefile.specs.declared.Loaded.{Loaded}
-use Rattle.tablefile.proofs.Fronts.{Fronted, fronted, dialect-few, names-there, nodes-there, first-there}
-use Rattle.tablefile.proofs.Fronts.{table-length, names-length, dialect-length}
+use Rattle.tablefile.proofs.Fronts.{first-is, taken-is, dialect-few, Fronted, fronted, first-there}
+use Rattle.tablefile.proofs.Fronts.{taken-there, table-length, names-length, dialect-length}
 
 -- what code loads once the blocks pass
-module _ (bs : List ℕ) (passed : frontCheck bs ≡ accepted []) {names nodes d k : ℕ} (names-is : names ≡ namesAt bs)
-    (nodes-is : nodes ≡ nodesAt bs) (d-is : d ≡ dialectAt bs) (k-is : k ≡ blocksFor names) where
+module _ (bs : List ℕ) {h : Heading} (h-is : h ≡ headerAt bs) (passed : frontCheck bs ≡ accepted []) where
   f : Fronted bs
   f = fronted bs passed
 
-  pub load-first : k ≤ 16
-  unfolding blocksFor
-  load-first = omega (arith, f .counts)
+  pub load-table : (512 * (h .first + blocksFor (24 * h .nodes)) ≤ length bs) × (24 * h .nodes ≤ 50400)
+  load-table = rw h-is (omega (arith, taken-is bs, taken-there bs f), omega (arith, f .counts))
 
-  first-is : firstNodes bs ≡ 1 + k
-  unfolding firstNodes
-  first-is = rw (k-is, names-is) refl
+  pub load-fits : 24 * h .nodes < 2 ^ 64
+  load-fits = omega (arith, load-table)
 
-  pub load-at : 512 * (1 + k) ≤ length bs
-  load-at = omega (arith, first-there bs f, first-is)
+  pub load-names : (512 * (1 + blocksFor (h .names)) ≤ length bs) × (h .names ≤ 8064)
+  load-names = rw h-is (omega (arith, first-is bs, first-there bs f), omega (arith, f .counts))
 
-  pub load-last : {m : ℕ} → m ≡ blocksFor (24 * nodes) → m ≤ 100
-  unfolding blocksFor
-  load-last m-is = omega (arith, f .counts)
+  pub load-dialect : (512 ≤ length bs) × (h .dialect ≤ 9)
+  load-dialect = (f .header .long, rw h-is (dialect-few bs))
 
-  pub load-table : (512 * blocksFor (24 * nodes)
-      ≤ length (take (length bs - 512 * (1 + k)) (drop (512 * (1 + k)) bs))) × (24 * nodes ≤ 50400)
-  load-table = (
-    rw (tail-part (512 * (1 + k)) bs, ← first-is, nodes-is) (nodes-there bs f),
-    omega (arith, f .counts),
-  )
-
-  pub load-names : (512 * blocksFor names ≤ length (take (length bs - 512) (drop 512 bs))) × (names ≤ 8064)
-  load-names = (rw (tail-part 512 bs, names-is) (names-there bs f), omega (arith, f .counts))
-
-  pub load-dialect : (512 ≤ length bs) × (d ≤ 9)
-  load-dialect = (f .header .long, rw d-is (dialect-few bs f))
-
-  pub load-is : {m : ℕ} {ts ns ds : List ℕ} → m ≡ blocksFor (24 * nodes)
-      → ts ≡ laid 50400 (contentOf (24 * nodes) (take (length bs - 512 * (1 + k)) (drop (512 * (1 + k)) bs)))
-      → ns ≡ laid 8064 (contentOf names (take (length bs - 512) (drop 512 bs)))
-      → ds ≡ laid 9 (take d (drop 8 bs))
+  pub load-is : {ts ns ds : List ℕ} → ts ≡ laid 50400 (contentOf (24 * h .nodes) (drop (512 * h .first) bs))
+      → ns ≡ laid 8064 (contentOf (h .names) (drop 512 bs)) → ds ≡ laid 9 (take (h .dialect) (drop 8 bs))
       → _≡_ {A = Loaded}
       (record {
         verdict = Accepted;
-        taken = 512 * (1 + k + m);
+        taken = h .taken;
         table = ts;
-        «table_len» = 24 * nodes;
+        «table_len» = 24 * h .nodes;
         names = ns;
-        «names_len» = names;
+        «names_len» = h .names;
         dialect = ds;
-        «dialect_len» = d;
+        «dialect_len» = h .dialect;
       })
-      (loadedOf Accepted (contentAt bs) (takenAt bs))
-  unfolding loadedOf contentAt takenAt
-  load-is m-is ts-is ns-is ds-is =
-      rw (
-        ts-is,
-        ns-is,
-        ds-is,
-        m-is,
-        tail-part (512 * (1 + k)) bs,
-        tail-part 512 bs,
-        ← first-is,
-        table-length bs f,
-        names-length bs f,
-        dialect-length bs f,
-        nodes-is,
-        names-is,
-        d-is,
-      )
-      refl
+      (loadedOf Accepted (contentAt bs) (headerAt bs .taken))
+  unfolding loadedOf contentAt
+  load-is ts-is ns-is ds-is =
+      rw (ts-is, ns-is, ds-is, h-is, table-length bs f, names-length bs f, dialect-length bs f) refl
 
 -- what an answer holds
 module _ (c : Content) (taken : ℕ) where
@@ -128,22 +93,31 @@ module _ (x : Answer) (c : Content) (taken : ℕ) {r : Loaded} where
   meets-accepted r-is x-is = rw r-is (x-is, refl)
 
 -- the whole file, step by step
-module _ (bs : List ℕ) (j : Judged) (j-is : judged j ≡ frontCheck bs) where
+module _ (bs : List ℕ) {h : Heading} (h-is : h ≡ headerAt bs) (j : Judged) (j-is : judged j ≡ blocksCheck h bs) where
+  judged-is : judged j ≡ frontCheck bs
+  judged-is = rw h-is at j-is
+
+  pub front-refused : {n : ℕ} → j ≡ judgements.Refused n → refused n [] ≡ frontCheck bs
+  front-refused e = sym (ap judged e) ∙ judged-is
+
   pub read-front : {n : ℕ} → j ≡ judgements.Refused n → refused n [] ≡ readCheck bs
   unfolding readCheck
-  read-front e = rw (← j-is, e) refl
+  read-front e = rw (← judged-is, e) refl
 
-  module _ (j-good : j ≡ Passed) {l : Loaded} (l-is : l ≡ loadedOf Accepted (contentAt bs) (takenAt bs)) where
+  pub front-passed : j ≡ Passed → frontCheck bs ≡ accepted []
+  front-passed j-good = sym judged-is ∙ ap judged j-good
+
+  module _ (j-good : j ≡ Passed) {l : Loaded} (l-is : l ≡ loadedOf Accepted (contentAt bs) (headerAt bs .taken)) where
     front-good : frontCheck bs ≡ accepted []
-    front-good = sym j-is ∙ ap judged j-good
+    front-good = front-passed j-good
 
-    taken-is : l .taken ≡ takenAt bs
+    length-is : l .taken ≡ headerAt bs .taken
     unfolding loadedOf
-    taken-is = rw l-is refl
+    length-is = rw l-is refl
 
     pub read-left : l .taken < length bs → refused bytesLeftOver [] ≡ readCheck bs
     unfolding readCheck
-    read-left h = rw (front-good, lt-leb (length bs) (takenAt bs) (rw taken-is at h)) refl
+    read-left h = rw (front-good, lt-leb (length bs) (headerAt bs .taken) (rw length-is at h)) refl
 
     module _ (whole : length bs ≤ l .taken) (s : Verdict)
         (s-is : verdict s ≡ soundCheck (record {
@@ -153,11 +127,11 @@ module _ (bs : List ℕ) (j : Judged) (j-is : judged j ≡ frontCheck bs) where
         })) where
       sound-is : soundCheck (contentAt bs) ≡ verdict s
       unfolding held
-      sound-is = ap soundCheck (sym (held-is (contentAt bs) (takenAt bs)) ∙ ap held (sym l-is)) ∙ sym s-is
+      sound-is = ap soundCheck (sym (held-is (contentAt bs) (headerAt bs .taken)) ∙ ap held (sym l-is)) ∙ sym s-is
 
       read-so : readCheck bs ≡ verdict s
       unfolding readCheck
-      read-so = rw (front-good, le-leb (length bs) (takenAt bs) (rw taken-is at whole)) sound-is
+      read-so = rw (front-good, le-leb (length bs) (headerAt bs .taken) (rw length-is at whole)) sound-is
 
       pub read-unsound : {why : Refusal} → s ≡ Refused why → refusal why ≡ readCheck bs
       read-unsound e = sym (read-so ∙ ap verdict e)

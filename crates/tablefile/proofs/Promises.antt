@@ -2,12 +2,14 @@
 use mathlib.Core.Path.{_≡_, sym, ap, _∙_}
 use mathlib.Core.List.{List}
 use Prim.Native.Nat.{ℕ}
+use Rattle.fields.proofs.Coincide.{coincide}
 use Rattle.table.specs.Answer.{Answer}
 use Rattle.tablefile.specs.File.{Content}
-use Rattle.tablefile.specs.Reading.{contentAt, takenAt, frontCheck, readCheck}
+use Rattle.tablefile.specs.Reading.{headerAt, contentAt, frontCheck, readCheck}
 use Rattle.tablefile.specs.Loading.{verdict, loadedOf}
 use Rattle.tablefile.specs.declared.Verdict.{Verdict}
 use Rattle.tablefile.specs.declared.Loaded.{Loaded}
+use Rattle.tablefile.specs.declared.Heading.{Heading}
 use Rattle.tablefile.proofs.Accepted.{verdict-injective}
 
 -- an answer and what is laid out for its verdict
@@ -16,14 +18,18 @@ one : (x : Answer) (c : Content) (n : ℕ) (r s : Loaded) → verdict (r .verdic
 one x c n r s p f q g =
     f ∙ ap (λ (v : Verdict). loadedOf v c n) (verdict-injective (r .verdict) (s .verdict) (p ∙ sym q)) ∙ sym g
 
+-- of `header`, the bytes as lent
+pub header-one : (bytes : List ℕ) {r s : Heading} → r ≡ headerAt bytes → s ≡ headerAt bytes → r ≡ s
+header-one bytes = coincide
+
 -- of `front`, the bytes as lent
 pub front-one : (bytes : List ℕ) {r s : Loaded} → verdict (r .verdict) ≡ frontCheck bytes
-    → r ≡ loadedOf (r .verdict) (contentAt bytes) (takenAt bytes) → verdict (s .verdict) ≡ frontCheck bytes
-    → s ≡ loadedOf (s .verdict) (contentAt bytes) (takenAt bytes) → r ≡ s
+    → r ≡ loadedOf (r .verdict) (contentAt bytes) (headerAt bytes .taken) → verdict (s .verdict) ≡ frontCheck bytes
+    → s ≡ loadedOf (s .verdict) (contentAt bytes) (headerAt bytes .taken) → r ≡ s
 front-one bytes {r} {s} = one _ _ _ r s
 
 -- of `read`, the file as lent
 pub read-one : (file : List ℕ) {r s : Loaded} → verdict (r .verdict) ≡ readCheck file
-    → r ≡ loadedOf (r .verdict) (contentAt file) (takenAt file) → verdict (s .verdict) ≡ readCheck file
-    → s ≡ loadedOf (s .verdict) (contentAt file) (takenAt file) → r ≡ s
+    → r ≡ loadedOf (r .verdict) (contentAt file) (headerAt file .taken) → verdict (s .verdict) ≡ readCheck file
+    → s ≡ loadedOf (s .verdict) (contentAt file) (headerAt file .taken) → r ≡ s
 read-one file {r} {s} = one _ _ _ r s

@@ -10,7 +10,7 @@ use Rattle.table.specs.Answer.{accepted}
 use Rattle.table.specs.declared.Refusal.the-variants.{Bare}
 use Rattle.blocks.proofs.Spelling.{Bytes}
 use Rattle.tablefile.specs.File.{Content, fileOf}
-use Rattle.tablefile.specs.Reading.{takenAt, contentAt, frontCheck, soundCheck, readCheck}
+use Rattle.tablefile.specs.Reading.{headerAt, contentAt, frontCheck, soundCheck, readCheck}
 use Rattle.tablefile.specs.Loading.{verdict, loadedOf, none, held}
 use Rattle.tablefile.specs.declared.Verdict.{Verdict}
 use Rattle.tablefile.specs.declared.Verdict.the-variants.{Accepted, Refused}
@@ -23,16 +23,16 @@ use Rattle.tablefile.proofs.Accepted.{SoundContent, back-holds, back-ta
 
 -- the promise of `read`, and of `front`
 abbrev pub Read : List ℕ → Loaded → Type 0
-Read bs r = (verdict (r .verdict) ≡ readCheck bs) × (r ≡ loadedOf (r .verdict) (contentAt bs) (takenAt bs))
+Read bs r = (verdict (r .verdict) ≡ readCheck bs) × (r ≡ loadedOf (r .verdict) (contentAt bs) (headerAt bs .taken))
 
 abbrev pub Front : List ℕ → Loaded → Type 0
-Front bs r = (verdict (r .verdict) ≡ frontCheck bs) × (r ≡ loadedOf (r .verdict) (contentAt bs) (takenAt bs))
+Front bs r = (verdict (r .verdict) ≡ frontCheck bs) × (r ≡ loadedOf (r .verdict) (contentAt bs) (headerAt bs .taken))
 
 -- an answer that is accepted holds what stands there
-pub holds : (bs : List ℕ) (r : Loaded) → r ≡ loadedOf (r .verdict) (contentAt bs) (takenAt bs) → r .verdict ≡ Accepted
+pub holds : (bs : List ℕ) (r : Loaded) → r ≡ loadedOf (r .verdict) (contentAt bs) (headerAt bs .taken) → r .verdict ≡ Accepted
     → held r ≡ contentAt bs
-holds bs r r-is good = ap held (r-is ∙ ap (λ (w : Verdict). loadedOf w (contentAt bs) (takenAt bs)) good)
-    ∙ held-is (contentAt bs) (takenAt bs)
+holds bs r r-is good = ap held (r-is ∙ ap (λ (w : Verdict). loadedOf w (contentAt bs) (headerAt bs .taken)) good)
+    ∙ held-is (contentAt bs) (headerAt bs .taken)
 
 -- an accepted file is the file of its answer
 pub accepted-is-file : (file : List ℕ) (r : Loaded) → Bytes file → Read file r → r .verdict ≡ Accepted
@@ -62,15 +62,15 @@ changed-byte file r i v s p good h other q =
     let told : s .verdict ≡ Refused (Bare blockCheck) =
     verdict-injective (s .verdict) (Refused (Bare blockCheck))
     (q .0 ∙ read-changed file (sym (p .0) ∙ ap verdict good) i v h other) in
-    q .1 ∙ ap (λ (w : Verdict). loadedOf w (contentAt (set file i v)) (takenAt (set file i v))) told
+    q .1 ∙ ap (λ (w : Verdict). loadedOf w (contentAt (set file i v)) (headerAt (set file i v) .taken)) told
 
 -- the same of the file at the front: what it takes is the file of its answer
 pub front-accepted-is-file : (bytes : List ℕ) (r : Loaded) → Bytes bytes → Front bytes r → r .verdict ≡ Accepted
     → take (r .taken) bytes ≡ fileOf (held r)
 unfolding loadedOf
 front-accepted-is-file bytes r small p good =
-    let taken : r .taken ≡ takenAt bytes = ap (λ (l : Loaded). l .taken)
-    (p .1 ∙ ap (λ (w : Verdict). loadedOf w (contentAt bytes) (takenAt bytes)) good) in
+    let taken : r .taken ≡ headerAt bytes .taken = ap (λ (l : Loaded). l .taken)
+    (p .1 ∙ ap (λ (w : Verdict). loadedOf w (contentAt bytes) (headerAt bytes .taken)) good) in
     ap (λ (n : ℕ). take n bytes) taken
     ∙ front-is-file bytes small (fronted bytes (sym (p .0) ∙ ap verdict good))
     ∙ ap fileOf (sym (holds bytes r (p .1) good))
@@ -84,11 +84,11 @@ front-read-back c rest r fit p =
 
 -- and any one byte of it changed to any other value is refused with 72
 pub front-changed-byte : (bytes : List ℕ) (r : Loaded) (i v : ℕ) (s : Loaded) → Front bytes r
-    → r .verdict ≡ Accepted → i < takenAt bytes → (v ≡ getD bytes i 0 → ⊥) → Front (set bytes i v) s
+    → r .verdict ≡ Accepted → i < headerAt bytes .taken → (v ≡ getD bytes i 0 → ⊥) → Front (set bytes i v) s
     → s ≡ loadedOf (Refused (Bare blockCheck)) none 0
 unfolding loadedOf
 front-changed-byte bytes r i v s p good h other q =
     let told : s .verdict ≡ Refused (Bare blockCheck) =
     verdict-injective (s .verdict) (Refused (Bare blockCheck))
     (q .0 ∙ front-changed bytes (fronted bytes (sym (p .0) ∙ ap verdict good)) i v other h) in
-    q .1 ∙ ap (λ (w : Verdict). loadedOf w (contentAt (set bytes i v)) (takenAt (set bytes i v))) told
+    q .1 ∙ ap (λ (w : Verdict). loadedOf w (contentAt (set bytes i v)) (headerAt (set bytes i v) .taken)) told

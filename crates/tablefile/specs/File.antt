@@ -18,3 +18,7 @@ headerOf c = bytesOf 2 (length (c .table) / 24) ++ (bytesOf 2 (length (c .names)
 -- the file: block 0, then names, 504 a block, and nodes, 21 a block; the numbers run on
 unfoldable pub fileOf : Content → List ℕ
 fileOf c = blockOf 0 (headerOf c) ++ (runOf 1 (c .names) ++ runOf (1 + blocksFor (length (c .names))) (c .table))
+
+-- the most blocks that a file has: block 0, 16 with 8,064 name bytes, 100 with 2,100 nodes
+abbrev pub mostBlocks : ℕ
+mostBlocks = 117

@@ -3,6 +3,7 @@ use mathlib.Core.List.{List, [], _++_}
 use Prim.Native.Nat.{ℕ, _-_}
 use lib.ListN.{length, take, replicate}
 use Rattle.table.specs.Answer.{Answer, accepted, refusal}
+use Rattle.table.specs.Check.{mostBytes, mostNames}
 use Rattle.tablefile.specs.File.{Content}
 use Rattle.tablefile.specs.declared.Verdict.{Verdict}
 use Rattle.tablefile.specs.declared.Verdict.the-variants.{Accepted, Refused}
@@ -22,9 +23,9 @@ unfoldable pub loadedOf : Verdict → Content → ℕ → Loaded
 loadedOf Accepted c taken = record {
   verdict = Accepted;
   taken = taken;
-  table = laid 50400 (c .table);
+  table = laid mostBytes (c .table);
   «table_len» = length (c .table);
-  names = laid 8064 (c .names);
+  names = laid mostNames (c .names);
   «names_len» = length (c .names);
   dialect = laid 9 (c .dialect);
   «dialect_len» = length (c .dialect);
@@ -32,9 +33,9 @@ loadedOf Accepted c taken = record {
 loadedOf (Refused r) c taken = record {
   verdict = Refused r;
   taken = 0;
-  table = replicate 50400 0;
+  table = replicate mostBytes 0;
   «table_len» = 0;
-  names = replicate 8064 0;
+  names = replicate mostNames 0;
   «names_len» = 0;
   dialect = replicate 9 0;
   «dialect_len» = 0;

@@ -1,6 +1,6 @@
 -- Reading: the one file at the front of some bytes, and a file that is all there is. These are definitions.
 use mathlib.Core.Bool.{Bool, _&&_}
-use mathlib.Core.List.{List, []}
+use mathlib.Core.List.{List}
 use Prim.Native.Nat.{ℕ, _+_, _*_}
 use lib.ListN.{length, take, drop}
 use lib.Dec.{eqb, leb}
@@ -8,49 +8,53 @@ use Rattle.fields.specs.Choice.{if'}
 use Rattle.fields.specs.Field.{field}
 use Rattle.table.specs.Numbers.{blockCounts, bytesLeftOver}
 use Rattle.table.specs.Answer.{Answer, andThen}
-use Rattle.table.specs.Check.{givenCheck}
-use Rattle.blocks.specs.Block.{demand, judge}
+use Rattle.table.specs.Check.{mostNodes, mostNames, givenCheck}
+use Rattle.blocks.specs.Block.{blockBytes, demand, judge}
 use Rattle.blocks.specs.Run.{blocksFor, judgeRun, contentOf}
 use Rattle.tablefile.specs.File.{Content}
-
--- what block 0 says: node count and name byte count
-unfoldable pub nodesAt : List ℕ → ℕ
-nodesAt bs = field 2 bs 4
-
-unfoldable pub namesAt : List ℕ → ℕ
-namesAt bs = field 2 bs 6
+use Rattle.tablefile.specs.declared.Heading.{Heading}
 
 -- how many dialect bytes block 0 has: nine if it uses 13, else none, so that any used bytes but 4 and 13 are 73
-unfoldable pub dialectAt : List ℕ → ℕ
-dialectAt bs = if' (eqb (field 2 bs 2) 13) (λ _. 9) (λ _. 0)
+unfoldable pub dialectIn : ℕ → ℕ
+dialectIn used = if' (eqb used 13) (λ _. 9) (λ _. 0)
 
--- the number of the first node block: those of the names stand before it
-unfoldable pub firstNodes : List ℕ → ℕ
-firstNodes bs = 1 + blocksFor (namesAt bs)
-
--- how many bytes the file takes
-unfoldable pub takenAt : List ℕ → ℕ
-takenAt bs = 512 * (firstNodes bs + blocksFor (24 * nodesAt bs))
+-- what block 0 says: node count, name byte count, dialect bytes; and where that puts the blocks: the names from block 1 on, then the nodes
+unfoldable pub headerAt : List ℕ → Heading
+headerAt bs =
+    let nodes = field 2 bs 4 in
+    let names = field 2 bs 6 in
+    record {
+      nodes = nodes;
+      names = names;
+      dialect = dialectIn (field 2 bs 2);
+      first = 1 + blocksFor names;
+      taken = blockBytes * (1 + blocksFor names + blocksFor (24 * nodes));
+    }
 
 -- what it holds
 unfoldable pub contentAt : List ℕ → Content
-contentAt bs = record {
-  table = contentOf (24 * nodesAt bs) (drop (512 * firstNodes bs) bs);
-  names = contentOf (namesAt bs) (drop 512 bs);
-  dialect = take (dialectAt bs) (drop 8 bs);
-}
+contentAt bs =
+    let h = headerAt bs in
+    record {
+      table = contentOf (24 * h .nodes) (drop (blockBytes * h .first) bs);
+      names = contentOf (h .names) (drop blockBytes bs);
+      dialect = take (h .dialect) (drop 8 bs);
+    }
 
 -- 1 to 2,100 nodes and at most 8,064 name bytes
 unfoldable pub countsFit : ℕ → ℕ → Bool
-countsFit nodes names = leb 1 nodes && (leb nodes 2100 && leb names 8064)
+countsFit nodes names = leb 1 nodes && (leb nodes mostNodes && leb names mostNames)
 
 -- the file at the front: block 0, then 74 for its counts, then the blocks of the names, then those of the nodes
-unfoldable pub frontCheck : List ℕ → Answer
-frontCheck bs =
-    andThen (judge 0 (4 + dialectAt bs) bs) (λ _.
-    andThen (demand (countsFit (nodesAt bs) (namesAt bs)) blockCounts) (λ _.
-    andThen (judgeRun 1 (namesAt bs) (drop 512 bs)) (λ _.
-    judgeRun (firstNodes bs) (24 * nodesAt bs) (drop (512 * firstNodes bs) bs))))
+unfoldable pub blocksCheck : Heading → List ℕ → Answer
+blocksCheck h bs =
+    andThen (judge 0 (4 + h .dialect) bs) (λ _.
+    andThen (demand (countsFit (h .nodes) (h .names)) blockCounts) (λ _.
+    andThen (judgeRun 1 (h .names) (drop blockBytes bs)) (λ _.
+    judgeRun (h .first) (24 * h .nodes) (drop (blockBytes * h .first) bs))))
+
+abbrev pub frontCheck : List ℕ → Answer
+frontCheck bs = blocksCheck (headerAt bs) bs
 
 -- 1 to 5, of what a file holds
 abbrev pub soundCheck : Content → Answer
@@ -60,5 +64,5 @@ soundCheck c = givenCheck (c .table) (c .names) (c .dialect)
 unfoldable pub readCheck : List ℕ → Answer
 readCheck bs =
     andThen (frontCheck bs) (λ _.
-    andThen (demand (leb (length bs) (takenAt bs)) bytesLeftOver) (λ _.
+    andThen (demand (leb (length bs) (headerAt bs .taken)) bytesLeftOver) (λ _.
     soundCheck (contentAt bs)))

@@ -1,19 +1,26 @@
 // The reader of table files: the one file at the front of some bytes, or a file that is all there is.
+use blocks::BLOCK_BYTES;
 use blocks::Judged;
-use dialect::Decoded;
-use table::Checked;
+use table::Given;
+use table::MOST_BYTES;
+use table::MOST_NAMES;
+use table::MOST_NODES;
 use table::Refusal;
 use table::numbers;
 ghost use mathlib.Core.Path.{_≡_};
 ghost use mathlib.Core.List.{[], _++_};
-ghost use Prim.Native.Nat.{_+_, _*_, _≤_, _<_, min};
+ghost use Prim.Native.Nat.{_+_, _*_, _≤_};
 ghost use lib.ListN.{length, take, drop};
 ghost use Rattle.table.specs.Answer.{accepted};
-ghost use Rattle.blocks.specs.Block.{judged};
+ghost use Rattle.table.specs.Check.{mostBytes, mostNames};
+ghost use Rattle.blocks.specs.Block.{blockBytes, judged};
 ghost use Rattle.blocks.specs.Run.{blocksFor, contentOf};
-ghost use Rattle.tablefile.specs.Reading.{nodesAt, namesAt, dialectAt, firstNodes, takenAt, contentAt, countsFit, frontCheck, soundCheck, readCheck};
+ghost use Rattle.tablefile.specs.Reading.{dialectIn, headerAt, contentAt, countsFit, blocksCheck, frontCheck, soundCheck, readCheck};
 ghost use Rattle.tablefile.specs.Loading.{verdict, laid, loadedOf, none};
 ghost use Rattle.tablefile.specs.declared.Verdict.the-variants.{Accepted, Refused};
+
+// The most blocks that a file has: block 0, 16 with 8,064 name bytes, 100 with 2,100 nodes.
+pub const MOST_BLOCKS: usize = 117;
 
 // Whether a file is accepted, or why it is refused.
 pub enum Verdict {
@@ -26,36 +33,65 @@ pub enum Verdict {
 pub struct Loaded {
     pub verdict: Verdict,
     pub taken: usize,
-    pub table: [u8; 50400],
+    pub table: [u8; MOST_BYTES],
     pub table_len: usize,
-    pub names: [u8; 8064],
+    pub names: [u8; MOST_NAMES],
     pub names_len: usize,
     pub dialect: [u8; 9],
     pub dialect_len: usize,
 }
 
+// What block 0 says of a file, and where that puts its blocks: how many nodes, name bytes and dialect bytes there are, the number of the
+// first node block, and how many bytes the file takes.
+pub struct Heading {
+    pub nodes: usize,
+    pub names: usize,
+    pub dialect: usize,
+    pub first: usize,
+    pub taken: usize,
+}
+
+// What the first bytes of a file say, were they its block 0. It takes any bytes; who judges the file judges block 0 too.
+pub fn header(bytes: &[u8]) -> Heading
+    ensures { λ r. ⌜ r ≡ headerAt (now (bytes .entry)) ⌝ }
+{
+    let nodes = fields::half(bytes, 4) as usize;
+    let names = fields::half(bytes, 6) as usize;
+    let first = 1 + blocks::blocks_for(names);
+    let last = blocks::blocks_for(24 * nodes);
+    Heading {
+        nodes: nodes,
+        names: names,
+        dialect: dialect_in(fields::half(bytes, 2)),
+        first: first,
+        taken: BLOCK_BYTES * (first + last),
+    }
+}
+
 // The file at the front of some bytes: 70, 72, 71, 73 for each block, 74 after block 0; and how many bytes it takes.
 pub fn front(bytes: &[u8]) -> Loaded
     ensures { λ r. ⌜ verdict (r .verdict) ≡ frontCheck (now (bytes .entry)) ⌝ }
-    ensures { λ r. ⌜ r ≡ loadedOf (r .verdict) (contentAt (now (bytes .entry))) (takenAt (now (bytes .entry))) ⌝ }
+    ensures { λ r. ⌜ r ≡ loadedOf (r .verdict) (contentAt (now (bytes .entry))) (headerAt (now (bytes .entry)) .taken) ⌝ }
 {
-    let first = judge_front(bytes);
+    let h = header(bytes);
+    let first = judge_front(bytes, h);
     if let Judged::Refused(number) = first {
         return refused(Refusal::Bare(number));
     }
-    load(bytes)
+    load(bytes, h)
 }
 
 // A file: as at the front, then 75 for bytes left over, then 1 to 5.
 pub fn read(file: &[u8]) -> Loaded
     ensures { λ r. ⌜ verdict (r .verdict) ≡ readCheck (now (file .entry)) ⌝ }
-    ensures { λ r. ⌜ r ≡ loadedOf (r .verdict) (contentAt (now (file .entry))) (takenAt (now (file .entry))) ⌝ }
+    ensures { λ r. ⌜ r ≡ loadedOf (r .verdict) (contentAt (now (file .entry))) (headerAt (now (file .entry)) .taken) ⌝ }
 {
-    let first = judge_front(file);
+    let h = header(file);
+    let first = judge_front(file, h);
     if let Judged::Refused(n) = first {
         return refused(Refusal::Bare(n));
     }
-    let l = load(file);
+    let l = load(file, h);
     if l.taken < file.len() {
         return refused(Refusal::Bare(numbers::BYTES_LEFT_OVER));
     }
@@ -77,47 +113,40 @@ pub fn read(file: &[u8]) -> Loaded
 }
 
 // The blocks of the file at the front, each in its turn.
-fn judge_front(bytes: &[u8]) -> Judged
-    ensures { λ r. ⌜ judged r ≡ frontCheck (now (bytes .entry)) ⌝ }
+fn judge_front(bytes: &[u8], h: Heading) -> Judged
+    requires { ⌜ h ≡ headerAt (now bytes) ⌝ }
+    ensures { λ r. ⌜ judged r ≡ blocksCheck h (now (bytes .entry)) ⌝ }
 {
-    let used = 4 + dialect_at(bytes);
-    let header = blocks::judge(bytes, 0, used);
-    if let Judged::Refused(n) = header {
+    let zero = blocks::judge(bytes, 0, 4 + h.dialect);
+    if let Judged::Refused(n) = zero {
         return Judged::Refused(n);
     }
-    let nodes = nodes_at(bytes);
-    let names = names_at(bytes);
-    if !counts_fit(nodes, names) {
+    if !counts_fit(h.nodes, h.names) {
         return Judged::Refused(numbers::BLOCK_COUNTS);
     }
-    let run = blocks::judge_run(&bytes[512..], 1, names);
+    let run = blocks::judge_run(&bytes[BLOCK_BYTES..], 1, h.names);
     if let Judged::Refused(n) = run {
         return Judged::Refused(n);
     }
-    let first = 1 + blocks::blocks_for(names);
-    let at = 512 * first;
-    blocks::judge_run(&bytes[at..], first as u16, 24 * nodes)
+    let at = BLOCK_BYTES * h.first;
+    blocks::judge_run(&bytes[at..], h.first as u16, 24 * h.nodes)
 }
 
 // What the file at the front holds, if its blocks pass.
-fn load(bytes: &[u8]) -> Loaded
-    requires { ⌜ frontCheck (now bytes) ≡ accepted [] ⌝ }
-    ensures { λ r. ⌜ r ≡ loadedOf Accepted (contentAt (now (bytes .entry))) (takenAt (now (bytes .entry))) ⌝ }
+fn load(bytes: &[u8], h: Heading) -> Loaded
+    requires { ⌜ (h ≡ headerAt (now bytes)) × (frontCheck (now bytes) ≡ accepted []) ⌝ }
+    ensures { λ r. ⌜ r ≡ loadedOf Accepted (contentAt (now (bytes .entry))) (headerAt (now (bytes .entry)) .taken) ⌝ }
 {
-    let names_len = names_at(bytes);
-    let table_len = 24 * nodes_at(bytes);
-    let dialect_len = dialect_at(bytes);
-    let first = 1 + blocks::blocks_for(names_len);
-    let at = 512 * first;
+    let len = 24 * h.nodes;
     Loaded {
         verdict: Verdict::Accepted,
-        taken: 512 * (first + blocks::blocks_for(table_len)),
-        table: table_of(&bytes[at..], table_len),
-        table_len: table_len,
-        names: names_of(&bytes[512..], names_len),
-        names_len: names_len,
-        dialect: dialect_of(bytes, dialect_len),
-        dialect_len: dialect_len,
+        taken: h.taken,
+        table: table_of(bytes, h.first, len),
+        table_len: len,
+        names: names_of(bytes, h.names),
+        names_len: h.names,
+        dialect: dialect_of(bytes, h.dialect),
+        dialect_len: h.dialect,
     }
 }
 
@@ -126,14 +155,10 @@ fn check(table: &[u8], t: usize, names: &[u8], n: usize, dialect: &[u8], d: usiz
     requires { ⌜ (t ≤ length (now table)) × (n ≤ length (now names)) × (d ≤ length (now dialect)) ⌝ }
     ensures { λ r. ⌜ verdict r ≡ soundCheck (record { table = take t (now (table .entry)); names = take n (now (names .entry)); dialect = take d (now (dialect .entry)) }) ⌝ }
 {
-    let checked = table::check(&table[0..t], &names[0..n]);
-    if let Checked::Refused(r) = checked {
-        return Verdict::Refused(r);
-    }
-    let decoded = dialect::from_bytes(&dialect[0..d]);
-    match decoded {
-        Decoded::Valid(d) => Verdict::Accepted,
-        Decoded::Invalid => Verdict::Refused(Refusal::Bare(numbers::BAD_DIALECT)),
+    let entered = table::enter_dialect(&table[0..t], &names[0..n], &dialect[0..d]);
+    match entered {
+        Given::In(d) => Verdict::Accepted,
+        Given::Refused(why) => Verdict::Refused(why),
     }
 }
 
@@ -144,46 +169,27 @@ fn refused(why: Refusal) -> Loaded
     Loaded {
         verdict: Verdict::Refused(why),
         taken: 0,
-        table: [0u8; 50400],
+        table: [0u8; MOST_BYTES],
         table_len: 0,
-        names: [0u8; 8064],
+        names: [0u8; MOST_NAMES],
         names_len: 0,
         dialect: [0u8; 9],
         dialect_len: 0,
     }
 }
 
-// What block 0 says: the node count, the name byte count, and how many dialect bytes there are.
-fn nodes_at(bytes: &[u8]) -> usize
-    ensures { λ r. ⌜ (r ≡ nodesAt (now (bytes .entry))) × (r < 65536) ⌝ }
+// How many dialect bytes block 0 has, of so many used bytes.
+fn dialect_in(used: u16) -> usize
+    ensures { λ r. ⌜ (r ≡ dialectIn used) × (r ≤ 9) ⌝ }
 {
-    fields::half(bytes, 4) as usize
-}
-
-fn names_at(bytes: &[u8]) -> usize
-    ensures { λ r. ⌜ (r ≡ namesAt (now (bytes .entry))) × (r < 65536) ⌝ }
-{
-    fields::half(bytes, 6) as usize
-}
-
-fn dialect_at(bytes: &[u8]) -> usize
-    ensures { λ r. ⌜ (r ≡ dialectAt (now (bytes .entry))) × (r ≤ 9) ⌝ }
-{
-    if fields::half(bytes, 2) == 13 { 9 } else { 0 }
+    if used == 13 { 9 } else { 0 }
 }
 
 // Whether counts are within the limits.
 fn counts_fit(nodes: usize, names: usize) -> bool
     ensures { λ r. ⌜ r ≡ countsFit nodes names ⌝ }
 {
-    (1 <= nodes) & ((nodes <= 2100) & (names <= 8064))
-}
-
-// How many of len bytes stand in the first block of a run.
-fn used_here(len: usize) -> usize
-    ensures { λ r. ⌜ r ≡ min 504 len ⌝ }
-{
-    if len < 504 { len } else { 504 }
+    (1 <= nodes) & ((nodes <= MOST_NODES) & (names <= MOST_NAMES))
 }
 
 // Puts the first len of some bytes at the front of out.
@@ -198,42 +204,44 @@ fn put(from: &[u8], len: usize, out: &mut [u8])
     }
 }
 
-// Puts len content bytes of the run at the front of some bytes into out, block by block.
-fn copy(bytes: &[u8], len: usize, out: &mut [u8])
-    requires { ⌜ (512 * blocksFor len ≤ length (now bytes)) × (len ≤ length (now out)) ⌝ }
-    ensures { λ r. ⌜ now (out .exit) ≡ contentOf len (now (bytes .entry)) ++ drop len (now (out .entry)) ⌝ }
+// Puts len content bytes of the blocks from a number on at the front of out, block by block.
+fn copy(bytes: &[u8], first: usize, len: usize, out: &mut [u8])
+    requires { ⌜ (blockBytes * (first + blocksFor len) ≤ length (now bytes)) × (len ≤ length (now out)) ⌝ }
+    ensures { λ r. ⌜ now (out .exit) ≡ contentOf len (drop (blockBytes * first) (now (bytes .entry))) ++ drop len (now (out .entry)) ⌝ }
 {
-    if len == 0 {
-        return;
+    let mut number = first;
+    let mut done = 0;
+    while done < len {
+        let used = blocks::used_here(len - done);
+        put(blocks::content(bytes, number), used, &mut out[done..]);
+        number += 1;
+        done += used;
     }
-    let used = used_here(len);
-    put(&bytes[4..], used, out);
-    copy(&bytes[512..], len - used, &mut out[used..]);
 }
 
-// The table that a run holds.
-fn table_of(bytes: &[u8], len: usize) -> [u8; 50400]
-    requires { ⌜ (512 * blocksFor len ≤ length (now bytes)) × (len ≤ 50400) ⌝ }
-    ensures { λ r. ⌜ r ≡ laid 50400 (contentOf len (now (bytes .entry))) ⌝ }
+// The table that the blocks from a number on hold.
+fn table_of(bytes: &[u8], first: usize, len: usize) -> [u8; MOST_BYTES]
+    requires { ⌜ (blockBytes * (first + blocksFor len) ≤ length (now bytes)) × (len ≤ mostBytes) ⌝ }
+    ensures { λ r. ⌜ r ≡ laid mostBytes (contentOf len (drop (blockBytes * first) (now (bytes .entry)))) ⌝ }
 {
-    let mut t = [0u8; 50400];
-    copy(bytes, len, &mut t);
+    let mut t = [0u8; MOST_BYTES];
+    copy(bytes, first, len, &mut t);
     t
 }
 
-// The names that a run holds.
-fn names_of(bytes: &[u8], len: usize) -> [u8; 8064]
-    requires { ⌜ (512 * blocksFor len ≤ length (now bytes)) × (len ≤ 8064) ⌝ }
-    ensures { λ r. ⌜ r ≡ laid 8064 (contentOf len (now (bytes .entry))) ⌝ }
+// The names that the blocks from block 1 on hold.
+fn names_of(bytes: &[u8], len: usize) -> [u8; MOST_NAMES]
+    requires { ⌜ (blockBytes * (1 + blocksFor len) ≤ length (now bytes)) × (len ≤ mostNames) ⌝ }
+    ensures { λ r. ⌜ r ≡ laid mostNames (contentOf len (drop blockBytes (now (bytes .entry)))) ⌝ }
 {
-    let mut t = [0u8; 8064];
-    copy(bytes, len, &mut t);
+    let mut t = [0u8; MOST_NAMES];
+    copy(bytes, 1, len, &mut t);
     t
 }
 
 // The dialect bytes that block 0 holds.
 fn dialect_of(bytes: &[u8], len: usize) -> [u8; 9]
-    requires { ⌜ (512 ≤ length (now bytes)) × (len ≤ 9) ⌝ }
+    requires { ⌜ (blockBytes ≤ length (now bytes)) × (len ≤ 9) ⌝ }
     ensures { λ r. ⌜ r ≡ laid 9 (take len (drop 8 (now (bytes .entry)))) ⌝ }
 {
     let mut d = [0u8; 9];

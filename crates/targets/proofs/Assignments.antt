@@ -7,10 +7,10 @@ use native.Mathlib.Omega.{arith}
 use lib.ListN.{length, take, drop}
 use lib.Dec.{eqb}
 use borrow.Author.Tests.{eq-eqb, ne-eqb}
-use Rattle.forest.specs.Forest.{nodeOf, spanOf, restOf, node, Forest, none, _then_, forest, treeOf}
+use Rattle.forest.specs.Forest.{nodeOf, spanOf, restOf, Forest, forest, treeOf}
 use Rattle.forest.proofs.Stretch.{forest-none, forest-tree, kids-part, rest-part}
 use Rattle.table.specs.Numbers.{invalidModifyLhs, typeOnAugmented, typeOnTuple}
-use Rattle.table.specs.Answer.{Answer, accepted, refused, andThen, refusedAt, refusal}
+use Rattle.table.specs.Answer.{Answer, accepted, andThen, refusedAt, refusal}
 use Rattle.table.specs.declared.Refusal.{Refusal}
 use Rattle.targets.specs.Targets.{isGroup, «check_assign», leaves, counted, modifyCheck, typeCheck}
 use Rattle.targets.specs.Targets.{«check_assignment»}

@@ -2,16 +2,16 @@
 use mathlib.Core.Path.{_≡_, refl, sym, ap, _∙_}
 use mathlib.Core.Bool.{Bool, true, false}
 use mathlib.Core.List.{List, [], _∷_}
-use Prim.Native.Nat.{ℕ, _+_, _-_, _*_, _/_, _<_, _≤_}
+use Prim.Native.Nat.{ℕ, _+_, _-_, _/_, _<_, _≤_}
 use native.Mathlib.Nat.{add-zero, add-assoc}
 use native.Mathlib.Omega.{arith}
 use lib.ListN.{length, take, drop}
 use Rattle.fields.specs.Choice.{if'}
-use Rattle.forest.specs.Forest.{Node, nodeOf, spanOf, kidsOf, restOf, Tree, node, Forest, none, _then_, forest}
+use Rattle.forest.specs.Forest.{nodeOf, spanOf, kidsOf, restOf, Tree, node, Forest, none, _then_, forest}
 use Rattle.forest.specs.Forest.{treeOf, count, countTree}
 use Rattle.forest.proofs.Stretch.{forest-none, forest-tree, kids-part, rest-part, count-forest, length-kids}
 use Rattle.table.specs.Numbers.{invalidLhs}
-use Rattle.table.specs.Answer.{Answer, accepted, refused, andThen, refusedAt, refusal}
+use Rattle.table.specs.Answer.{Answer, accepted, andThen, refusedAt, refusal}
 use Rattle.table.specs.declared.Refusal.{Refusal}
 use Rattle.table.proofs.Answers.{first-refused, first-accepted, same-values, after-both}
 use Rattle.targets.specs.Targets.{isLeaf, isGroup, «check_assign», checkEach, leaves, leavesEach, counted}

@@ -1,4 +1,3 @@
 pub mod Counts
 pub mod Assignments
-pub mod Jobs
 pub mod Promises

@@ -4,7 +4,6 @@ use mathlib.Core.List.{List}
 use Prim.Native.Nat.{ℕ}
 use Rattle.fields.proofs.Coincide.{coincide-by}
 use Rattle.table.proofs.Answers.{refusal-injective, never-accepted}
-use Rattle.table.specs.Answer.{refusal}
 use Rattle.targets.specs.Jobs.{targeted, targetOf, assignmentOf}
 use Rattle.targets.specs.declared.Targeted.{Targeted}
 use Rattle.targets.specs.declared.Targeted.the-variants.{Leaves, Refused}

@@ -1,10 +1,8 @@
 -- The target and assignment jobs, in document 01's order of numbers, and what their answers mean. These are definitions.
 use mathlib.Core.List.{List, [], _∷_}
 use Prim.Native.Nat.{ℕ}
-use Rattle.forest.specs.Forest.{Tree, treeOf}
-use Rattle.table.specs.Answer.{Answer, accepted, refused, andThen, refusal}
-use Rattle.table.specs.Check.{checkOf, nodeCheck, stretchOf}
-use Rattle.table.specs.declared.Wanted.{Wanted}
+use Rattle.table.specs.Answer.{Answer, accepted, refusal}
+use Rattle.table.specs.Check.{onNode}
 use Rattle.table.specs.declared.Wanted.the-variants.{Assignment, Expression}
 use Rattle.targets.specs.Targets.{counted, «check_assignment»}
 use Rattle.targets.specs.declared.Targeted.{Targeted}
@@ -14,13 +12,6 @@ use Rattle.targets.specs.declared.Targeted.the-variants.{Leaves, Refused
 abbrev pub targeted : Targeted → Answer
 targeted (Leaves n) = accepted (n ∷ [])
 targeted (Refused r) = refusal r
-
--- a job on node i of the table t, of a kind that it wants: 1 to 4, 6, then what a rule says of the node's tree
-unfoldable pub onNode : Wanted → (Tree → Answer) → List ℕ → List ℕ → ℕ → Answer
-onNode w rule t names i =
-    andThen (checkOf t names) (λ _.
-    andThen (nodeCheck t i w) (λ _.
-    rule (treeOf i (stretchOf t i))))
 
 -- the target job: 30, or the leaves
 abbrev pub targetOf : List ℕ → List ℕ → ℕ → Answer

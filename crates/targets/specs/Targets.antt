@@ -1,14 +1,14 @@
 -- Assignment targets and assignments: check_assign and check_assignment of src/syntax/grammar_util.rs, over trees. These are definitions.
 -- Copyright 2018 The Starlark in Rust Authors. Copyright (c) Facebook, Inc. and its affiliates. Licensed under Apache-2.0; changed.
-use mathlib.Core.Bool.{Bool, true, false, _&&_, _||_}
-use mathlib.Core.List.{List, [], _∷_}
+use mathlib.Core.Bool.{Bool, _&&_, _||_}
+use mathlib.Core.List.{[], _∷_}
 use Prim.Native.Nat.{ℕ, _+_}
 use lib.Dec.{eqb}
 use Rattle.fields.specs.Choice.{if'}
 use Rattle.forest.specs.Forest.{Node, Tree, node, Forest, none, _then_}
 use Rattle.soundness.specs.KindNumbers.{kindAssignModify, kindTuple, kindDot, kindIndex, kindIdentifier, kindList}
 use Rattle.table.specs.Numbers.{invalidLhs, invalidModifyLhs, typeOnAugmented, typeOnTuple}
-use Rattle.table.specs.Answer.{Answer, accepted, refused, andThen, refusedAt}
+use Rattle.table.specs.Answer.{Answer, accepted, andThen, refusedAt}
 
 -- the leaves of targets: Identifier, Dot and Index
 abbrev pub isLeaf : ℕ → Bool

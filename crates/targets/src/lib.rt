@@ -26,12 +26,9 @@ pub enum Targeted {
 pub fn target(table: &[u8], names: &[u8], node: usize) -> Targeted
     ensures { λ r. ⌜ targeted r ≡ targetOf (now (table .entry)) (now (names .entry)) node ⌝ }
 {
-    let found = table::check(table, names);
-    if let Checked::Refused(why) = found {
+    let entered = table::enter(table, names, node, Wanted::Expression);
+    if let Checked::Refused(why) = entered {
         return Targeted::Refused(why);
-    }
-    if !table::node_fits(table, node, Wanted::Expression) {
-        return Targeted::Refused(Refusal::Bare(numbers::WRONG_NODE));
     }
     check_assign(table::stretch(table, node), node, 0)
 }
@@ -40,12 +37,9 @@ pub fn target(table: &[u8], names: &[u8], node: usize) -> Targeted
 pub fn assignment(table: &[u8], names: &[u8], node: usize) -> Targeted
     ensures { λ r. ⌜ targeted r ≡ assignmentOf (now (table .entry)) (now (names .entry)) node ⌝ }
 {
-    let found = table::check(table, names);
-    if let Checked::Refused(why) = found {
+    let entered = table::enter(table, names, node, Wanted::Assignment);
+    if let Checked::Refused(why) = entered {
         return Targeted::Refused(why);
-    }
-    if !table::node_fits(table, node, Wanted::Assignment) {
-        return Targeted::Refused(Refusal::Bare(numbers::WRONG_NODE));
     }
     check_assignment(table::stretch(table, node), node)
 }

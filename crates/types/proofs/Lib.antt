@@ -1,7 +1,6 @@
-pub mod Writing
+pub mod FormOf
+pub mod Dots
+pub mod Bases
+pub mod Reading
 pub mod Jobs
 pub mod Promises
-pub mod Places
-pub mod Proper
-pub mod Indices
-pub mod Buffer

@@ -1,19 +1,37 @@
--- Two answers that meet the promise of a public function coincide, and so do the buffers that they leave, for every table, names, dialect bytes, node and buffer. Assumes nothing.
-use mathlib.Core.Path.{_≡_}
+-- Two answers that meet the promise of a public function coincide. Assumes nothing.
+use mathlib.Core.Path.{_≡_, sym, ap}
 use mathlib.Core.List.{List}
 use Prim.Native.Nat.{ℕ}
-use lib.ListN.{length}
 use Rattle.fields.proofs.Coincide.{coincide, coincide-by}
-use Rattle.typerules.specs.Jobs.{shaped, typeShapeOf}
-use Rattle.typerules.specs.declared.Shaped.{Shaped}
-use Rattle.typerules.proofs.Promises.{shaped-injective}
-use Rattle.types.specs.Jobs.{shapesAfter}
+use Rattle.forest.specs.Forest.{nodeOf}
+use Rattle.table.proofs.Answers.{refusal-injective, never-accepted}
+use Rattle.types.specs.Forms.{formOf, shapeOf, readsOf}
+use Rattle.types.specs.Jobs.{shaped, typeShapeOf}
+use Rattle.types.specs.declared.Form.{Form}
+use Rattle.types.specs.declared.Reads.{Reads}
+use Rattle.types.specs.declared.Shaped.{Shaped}
+use Rattle.types.specs.declared.Shaped.the-variants.{Accepted, Refused}
 
--- of `type_shape`: the answer and the buffer at exit
-pub type-shape-one : (table names dialect : List ℕ) (node : ℕ) (shapes : List ℕ) {r s : Shaped}
-    {shapes-r shapes-s : List ℕ} → shaped r ≡ typeShapeOf table names dialect node (length shapes)
-    → shapes-r ≡ shapesAfter table names dialect node shapes
-    → shaped s ≡ typeShapeOf table names dialect node (length shapes)
-    → shapes-s ≡ shapesAfter table names dialect node shapes → (r ≡ s) × (shapes-r ≡ shapes-s)
-type-shape-one table names dialect node shapes r-is shapes-is s-is shapes-are =
-    (coincide-by shaped shaped-injective r-is s-is, coincide shapes-is shapes-are)
+-- no two answers mean the same
+pub shaped-injective : (x y : Shaped) → shaped x ≡ shaped y → x ≡ y
+shaped-injective Accepted Accepted e = cc
+shaped-injective Accepted (Refused r) e = never-accepted r (sym e)
+shaped-injective (Refused q) Accepted e = never-accepted q e
+shaped-injective (Refused q) (Refused r) e = ap Refused (refusal-injective q r e)
+
+-- of `judge`
+pub judge-one : (table names dialect : List ℕ) (node room : ℕ) {r s : Shaped}
+    → shaped r ≡ typeShapeOf table names dialect node room → shaped s ≡ typeShapeOf table names dialect node room
+    → r ≡ s
+judge-one table names dialect node room = coincide-by shaped shaped-injective
+
+-- of `forms::form`, `forms::shape_of` and `forms::reads_of`
+pub form-one : (t : List ℕ) {r s : Form} → r ≡ formOf (nodeOf 0 t .kind) (nodeOf 0 t .detail)
+    → s ≡ formOf (nodeOf 0 t .kind) (nodeOf 0 t .detail) → r ≡ s
+form-one t = coincide
+
+pub shape-of-one : (form : Form) {r s : ℕ} → r ≡ shapeOf form → s ≡ shapeOf form → r ≡ s
+shape-of-one form = coincide
+
+pub reads-of-one : (form : Form) {r s : Reads} → r ≡ readsOf form → s ≡ readsOf form → r ≡ s
+reads-of-one form = coincide

@@ -1,20 +1,36 @@
--- The buffer of the type job at exit. These are definitions.
-use mathlib.Core.Bool.{Bool, true, false}
-use mathlib.Core.List.{List}
-use Prim.Native.Nat.{ℕ}
+-- The answer of the type job, in document 01's order of numbers, and what answers mean. These are definitions.
+use mathlib.Core.List.{List, []}
+use Prim.Native.Nat.{ℕ, _/_}
+use lib.Dec.{leb}
 use lib.ListN.{length}
+use Rattle.fields.specs.Choice.{if'}
 use Rattle.forest.specs.Forest.{treeOf}
-use Rattle.table.specs.Check.{stretchOf}
-use Rattle.typerules.specs.Jobs.{typeShapeOf}
-use Rattle.typerules.specs.declared.Shaped.{Shaped}
-use Rattle.typerules.specs.declared.Shaped.the-variants.{Accepted, Refused}
-use Rattle.types.specs.Shapes.{shapesOf, afterAnswer}
+use Rattle.dialect.specs.declared.DialectTypes.{DialectTypes}
+use Rattle.table.specs.Numbers.{shortBuffer}
+use Rattle.table.specs.Answer.{Answer, accepted, refused, andThen, refusal}
+use Rattle.table.specs.Check.{givenOf, inGiven, nodeCheck, stretchOf}
+use Rattle.table.specs.declared.Wanted.the-variants.{Expression}
+use Rattle.types.specs.Types.{«dialect_check_type»}
+use Rattle.types.specs.declared.Shaped.{Shaped}
+use Rattle.types.specs.declared.Shaped.the-variants.{Accepted, Refused}
 
--- whether an answer is a refusal
-abbrev pub isRefused : Shaped → Bool
-isRefused Accepted = false
-isRefused (Refused r) = true
+-- what an answer of the type job means: accepted, or refused
+abbrev pub shaped : Shaped → Answer
+shaped Accepted = accepted []
+shaped (Refused r) = refusal r
 
--- the buffer at exit: its byte k is that of node i + k, so the nodes of the stretch are counted from 0
-abbrev pub shapesAfter : List ℕ → List ℕ → List ℕ → ℕ → List ℕ → List ℕ
-shapesAfter t names bytes i buffer = afterAnswer (typeShapeOf t names bytes i (length buffer)) (shapesOf (treeOf 0 (stretchOf t i))) buffer
+-- 7: the buffer has a byte for each node of the type's subtree
+abbrev pub roomCheck : ℕ → List ℕ → Answer
+roomCheck room t = if' (leb (length t / 24) room) (λ _. accepted []) (λ _. refused shortBuffer [])
+
+-- the type job on node i of the table t, for a buffer of so many bytes, where the table is sound and the dialect known:
+-- 6, 7, then the type
+unfoldable pub typeAt : List ℕ → List ℕ → DialectTypes → ℕ → ℕ → Answer
+typeAt t names types i room =
+    andThen (nodeCheck t i Expression) (λ _.
+    andThen (roomCheck room (stretchOf t i)) (λ _.
+    «dialect_check_type» names types (treeOf i (stretchOf t i))))
+
+-- the whole job: 1 to 5, 6, 7, 45, 40 to 44
+unfoldable pub typeShapeOf : List ℕ → List ℕ → List ℕ → ℕ → ℕ → Answer
+typeShapeOf t names bytes i room = inGiven (givenOf t names bytes) (λ d. typeAt t names (d .«enable_types») i room)

@@ -1,2 +1,4 @@
-pub mod Shapes
+pub mod Forms
+pub mod Paths
+pub mod Types
 pub mod Jobs

@@ -1,38 +1,94 @@
-// The type job: a type is judged, and the shapes of what is read go into a buffer.
-mod shapes;
+// Types: the type rule and the argument rule on a node of a table, judged with no buffer.
+//
+// Ported from src/syntax/type_expr.rs (TypeExprUnpackP::unpack) and src/syntax/grammar_util.rs (dialect_check_type) of starlark_syntax 0.14.2, and changed:
+// a type is a stretch of the node table, and its first refusal is the answer.
+// Copyright 2018 The Starlark in Rust Authors. Copyright (c) Facebook, Inc. and its affiliates. Licensed under Apache-2.0.
+pub mod forms;
+mod judging;
+mod paths;
 
-use typerules::Shaped;
+use dialect::DialectTypes;
+use table::Given;
+use table::Refusal;
+use table::Wanted;
+use table::numbers;
 ghost use mathlib.Core.Path.{_≡_};
+ghost use mathlib.Core.List.{[]};
+ghost use Prim.Native.Nat.{_+_, _*_, _≤_};
 ghost use lib.ListN.{length};
-ghost use Rattle.typerules.specs.Jobs.{shaped, typeShapeOf};
-ghost use Rattle.types.specs.Jobs.{isRefused, shapesAfter};
+ghost use Rattle.forest.specs.Forest.{treeOf};
+ghost use Rattle.table.specs.Answer.{accepted};
+ghost use Rattle.table.specs.Check.{checkOf};
+ghost use Rattle.types.specs.Types.{«dialect_check_type»};
+ghost use Rattle.types.specs.Jobs.{shaped, typeAt, typeShapeOf};
 
-// The type job: whether a node is a type in a dialect. Then the buffer gets the shape of each node that is read as a type or argument; a refusal changes nothing.
-pub fn type_shape(
-    table: &[u8],
-    names: &[u8],
-    dialect: &[u8],
-    node: usize,
-    shapes: &mut [u8],
-) -> Shaped
-    ensures { λ r. ⌜ shaped r ≡ typeShapeOf (now (table .entry)) (now (names .entry)) (now (dialect .entry)) node (length (now (shapes .entry))) ⌝ }
-    ensures { λ r. ⌜ now (shapes .exit) ≡ shapesAfter (now (table .entry)) (now (names .entry)) (now (dialect .entry)) node (now (shapes .entry)) ⌝ }
-{
-    let judged = typerules::judge(table, names, dialect, node, shapes.len());
-    if is_refused(judged) {
-        return judged;
-    }
-    let t = table::stretch(table, node);
-    shapes::write_type(t, 0, shapes);
-    judged
+// What a type may be by the kind of its node.
+pub enum Form {
+    Ellipsis,
+    Path,
+    Index,
+    Index2,
+    List,
+    Union,
+    Tuple,
+    Other,
 }
 
-// Whether an answer is a refusal.
-fn is_refused(answer: Shaped) -> bool
-    ensures { λ r. ⌜ r ≡ isRefused answer ⌝ }
+// How a child is read: not at all, as a type, or as an argument of an Index2.
+pub enum How {
+    Unread,
+    AsType,
+    AsArgument,
+}
+
+// How the children of a type are read: the first, and the others.
+pub struct Reads {
+    pub first: How,
+    pub others: How,
+}
+
+// What the type job answers: accepted, or why it is refused.
+pub enum Shaped {
+    Accepted,
+    Refused(Refusal),
+}
+
+// Whether a node is a type in a dialect, for a buffer with room for so many shapes.
+pub fn judge(table: &[u8], names: &[u8], dialect: &[u8], node: usize, room: usize) -> Shaped
+    ensures { λ r. ⌜ shaped r ≡ typeShapeOf (now (table .entry)) (now (names .entry)) (now (dialect .entry)) node room ⌝ }
 {
-    match answer {
-        Shaped::Accepted => false,
-        Shaped::Refused(_) => true,
+    let entered = table::enter_dialect(table, names, dialect);
+    match entered {
+        Given::In(d) => {
+            let types = d.enable_types;
+            type_at(table, names, types, node, room)
+        }
+        Given::Refused(why) => Shaped::Refused(why),
     }
+}
+
+// The same for a table that is sound, in a dialect with these types.
+fn type_at(table: &[u8], names: &[u8], types: DialectTypes, node: usize, room: usize) -> Shaped
+    requires { ⌜ accepted [] ≡ checkOf (now table) (now names) ⌝ }
+    ensures { λ r. ⌜ shaped r ≡ typeAt (now (table .entry)) (now (names .entry)) types node room ⌝ }
+{
+    if !table::node_fits(table, node, Wanted::Expression) {
+        return Shaped::Refused(Refusal::Bare(numbers::WRONG_NODE));
+    }
+    let t = table::stretch(table, node);
+    if room < t.len() / 24 {
+        return Shaped::Refused(Refusal::Bare(numbers::SHORT_BUFFER));
+    }
+    dialect_check_type(names, types, t, node)
+}
+
+// The type that a stretch begins with, in a dialect with these types.
+fn dialect_check_type(names: &[u8], types: DialectTypes, t: &[u8], node: usize) -> Shaped
+    requires { ⌜ (24 ≤ length (now t)) × (24 * node + length (now t) ≤ 50400) ⌝ }
+    ensures { λ r. ⌜ shaped r ≡ «dialect_check_type» (now (names .entry)) types (treeOf node (now (t .entry))) ⌝ }
+{
+    if !dialect::permits_types(types) {
+        return Shaped::Refused(table::refused_at(numbers::TYPES_DISABLED, node as u32, t));
+    }
+    judging::unpack(names, t, node)
 }

@@ -16,9 +16,10 @@ use Rattle.forest.proofs.Stretch.{count-forest, length-kids}
 use Rattle.soundness.specs.KindNumbers.{kindDef, kindFor, kindBreak, kindContinue, kindReturn, kindLoad}
 use Rattle.soundness.specs.KindNumbers.{kindEllipsis, kindLambda}
 use Rattle.soundness.specs.Kinds.{statement, expression, parameter, kindIn as rowIn, kindOf, classOf}
-use Rattle.unpack.specs.Written.{paramOf, paramsIn}
-use Rattle.unpack.proofs.Theorems.{list-short}
-use Rattle.errors.specs.Errors.{Err, unless}
+use Rattle.deflist.specs.Written.{paramOf, paramsIn}
+use Rattle.deflist.proofs.Theorems.{list-short}
+use Rattle.errors.specs.declared.Err.{Err}
+use Rattle.errors.specs.Errors.{unless}
 use Rattle.errors.proofs.Few.{if-few, unless-few, with-few}
 use Rattle.validate.specs.Module.{defErrors, isBanned, isIf, arms, f, «visit_stmt», exprErrors, expr}
 use Rattle.validate.specs.Module.{«visit_expr», «validate_module»}

@@ -1,5 +1,5 @@
 -- Laws of the module job, in the terms of code: one for each return. Assumes nothing.
-use mathlib.Core.Path.{_≡_, refl, sym, ap, _∙_}
+use mathlib.Core.Path.{_≡_, refl, sym}
 use mathlib.Core.Bool.{true, false}
 use mathlib.Core.List.{List, [], _∷_}
 use Prim.Native.Nat.{ℕ, _+_, _-_, _*_, _≤_, min}
@@ -7,20 +7,15 @@ use native.Mathlib.Omega.{arith}
 use lib.ListN.{length, take, drop, length-take}
 use lib.Seq.{take-all}
 use borrow.Rule.Slice.PartMut.{putMid}
-use Rattle.dialect.specs.Bytes.{fromBytes}
 use Rattle.dialect.specs.declared.Dialect.{Dialect}
-use Rattle.dialect.specs.declared.Decoded.{Decoded}
-use Rattle.dialect.specs.declared.Decoded.the-variants.{Valid, Invalid}
 use Rattle.forest.specs.Forest.{forest, count}
 use Rattle.forest.proofs.Stretch.{count-forest}
-use Rattle.table.specs.Numbers.{badDialect}
-use Rattle.table.specs.Answer.{Answer, accepted, refused, refusal, checked}
-use Rattle.table.specs.Check.{checkOf, givenCheck}
+use Rattle.table.specs.Answer.{Answer, accepted, refusal}
+use Rattle.table.specs.Check.{given, givenOf}
 use Rattle.table.specs.declared.Refusal.{Refusal}
-use Rattle.table.specs.declared.Refusal.the-variants.{Bare, Placed, Spanned}
-use Rattle.table.specs.declared.Checked.{Checked}
-use Rattle.table.specs.declared.Checked.the-variants.{Sound, Refused}
-use Rattle.table.proofs.Handed.{passed}
+use Rattle.table.specs.declared.Given.{Given}
+use Rattle.table.specs.declared.Given.the-variants.{In, Refused as Away}
+use Rattle.table.proofs.Entering.{given-known, away-is, in-is}
 use Rattle.errors.specs.Errors.{width, stored, Stores}
 use Rattle.validate.specs.Module.{«visit_stmt», «visit_expr», «validate_module»}
 use Rattle.validate.specs.Job.{passErrors, errorsOf, moduleOf, errorsAfter}
@@ -65,30 +60,15 @@ pass-is d names t h = rw (← all-within t h) refl
 abbrev pub Promised : List ℕ → List ℕ → List ℕ → List ℕ → Answer → List ℕ → Type 0
 Promised t names bytes xs r ys = (r ≡ moduleOf t names bytes) × (ys ≡ errorsAfter t names bytes xs)
 
-module _ (t names bytes xs : List ℕ) {found : Checked} (f-is : checked found ≡ checkOf t names) where
-  pub job-refused : {why : Refusal} → found ≡ Refused why → Promised t names bytes xs (refusal why) xs
-  unfolding givenCheck errorsOf
-  job-refused {why} h = go why (sym f-is ∙ ap checked h)
-    where
-      go : (why : Refusal) → checkOf t names ≡ refusal why → Promised t names bytes xs (refusal why) xs
-      go (Bare n) told = (rw told refl, rw told (sym (stored-none xs)))
-      go (Placed n k) told = (rw told refl, rw told (sym (stored-none xs)))
-      go (Spanned n k b e) told = (rw told refl, rw told (sym (stored-none xs)))
+module _ (t names bytes xs : List ℕ) {g : Given} (g-is : given g ≡ givenOf t names bytes) where
+  pub job-refused : {why : Refusal} → g ≡ Away why → Promised t names bytes xs (refusal why) xs
+  unfolding errorsOf
+  job-refused h = let told = away-is t names bytes g-is h in (rw told refl, rw told (sym (stored-none xs)))
 
-  module _ (sound : found ≡ Sound) {read : Decoded} (read-is : read ≡ fromBytes bytes) where
-    told : checkOf t names ≡ accepted []
-    told = sym f-is ∙ ap checked sound
-
-    pub table-short : length t ≤ 50400
-    table-short = passed t names (sym told) .most
-
-    pub job-dialect : read ≡ Invalid → Promised t names bytes xs (refused badDialect []) xs
-    unfolding givenCheck errorsOf
-    job-dialect h = (rw (told, ← read-is, h) refl, rw (told, ← read-is, h) (sym (stored-none xs)))
-
-    pub job-total : {d : Dialect} {n : ℕ} {ys : List ℕ} → read ≡ Valid d → n ≡ length (passErrors d names t)
-        → ys ≡ stored (passErrors d names t) xs → Promised t names bytes xs (accepted (n ∷ [])) ys
-    unfolding givenCheck errorsOf
-    job-total {d} h count words =
-        let all = pass-is d names t table-short in
-        (rw (told, ← read-is, h, ← all, count) refl, rw (told, ← read-is, h, ← all) words)
+  pub job-total : {d : Dialect} {n : ℕ} {ys : List ℕ} → g ≡ In d → n ≡ length (passErrors d names t)
+      → ys ≡ stored (passErrors d names t) xs → Promised t names bytes xs (accepted (n ∷ [])) ys
+  unfolding errorsOf
+  job-total {d} h count words =
+      let told = in-is t names bytes g-is h in
+      let all = pass-is d names t (given-known t names bytes told .0 .most) in
+      (rw (told, ← all, count) refl, rw (told, ← all) words)

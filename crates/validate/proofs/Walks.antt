@@ -10,14 +10,15 @@ use borrow.Author.Tests.{eq-eqb, ne-eqb}
 use borrow.Rule.Slice.PartMut.{putMid}
 use Rattle.dialect.specs.declared.Dialect.{Dialect}
 use Rattle.dialect.specs.Rows.{permitsTypes}
-use Rattle.forest.specs.Forest.{nodeOf, spanOf, kidsOf, node, Forest, none, forest, treeOf}
+use Rattle.forest.specs.Forest.{nodeOf, spanOf, kidsOf, Forest, forest, treeOf}
 use Rattle.forest.proofs.Stretch.{forest-none, kids-part, length-kids, each-cut}
-use Rattle.soundness.specs.Kinds.{statement, classOf}
+use Rattle.soundness.specs.Kinds.{classOf}
 use Rattle.table.specs.Numbers.{defNotPermitted, topLevelFor, topLevelIf, breakMisplaced, continueMisplaced}
 use Rattle.table.specs.Numbers.{returnMisplaced, loadNotAtTop, loadNotPermitted, ellipsisNotPermitted}
 use Rattle.table.specs.Numbers.{lambdaNotPermitted}
-use Rattle.unpack.proofs.Theorems.{list-short}
-use Rattle.errors.specs.Errors.{Err, errAt, unless, width, Stores}
+use Rattle.deflist.proofs.Theorems.{list-short}
+use Rattle.errors.specs.declared.Err.{Err}
+use Rattle.errors.specs.Errors.{errAt, unless, width, Stores}
 use Rattle.errors.specs.Params.{withParams}
 use Rattle.validate.specs.Module.{defErrors, isBanned, isIf, loadErrors, arms, f, «visit_stmt», exprErrors}
 use Rattle.validate.specs.Module.{expr, «visit_expr»}

@@ -3,13 +3,11 @@ use mathlib.Core.List.{List, [], _∷_}
 use Prim.Native.Nat.{ℕ}
 use lib.ListN.{length, take}
 use Rattle.dialect.specs.declared.Dialect.{Dialect}
-use Rattle.dialect.specs.Bytes.{fromBytes}
-use Rattle.dialect.specs.declared.Decoded.{Decoded}
-use Rattle.dialect.specs.declared.Decoded.the-variants.{Valid, Invalid}
 use Rattle.forest.specs.Forest.{forest}
-use Rattle.table.specs.Answer.{Answer, accepted, refused, andThen, refusal}
-use Rattle.table.specs.Check.{givenCheck}
-use Rattle.errors.specs.Errors.{Err, stored}
+use Rattle.table.specs.Answer.{Answer, accepted, refusal}
+use Rattle.table.specs.Check.{Handing, inDialect, turnedAway, givenOf, inGiven}
+use Rattle.errors.specs.declared.Err.{Err}
+use Rattle.errors.specs.Errors.{stored}
 use Rattle.validate.specs.Module.{«validate_module»}
 use Rattle.validate.specs.declared.Listed.{Listed}
 use Rattle.validate.specs.declared.Listed.the-variants.{Total, Refused}
@@ -23,21 +21,17 @@ listed (Refused r) = refusal r
 unfoldable pub passErrors : Dialect → List ℕ → List ℕ → List Err
 passErrors d names t = «validate_module» d names (forest 0 (take 50400 t))
 
--- the errors of a module in a dialect; a job that refuses has none
-abbrev pub errorsIn : Decoded → List ℕ → List ℕ → List Err
-errorsIn (Valid d) names t = «validate_module» d names (forest 0 t)
-errorsIn Invalid names t = []
-
-abbrev pub ifAccepted : Answer → List Err → List Err
-ifAccepted (accepted vs) es = es
-ifAccepted (refused n vs) es = []
+-- the errors of a module in the dialect that the job is given; a job that is turned away has none
+abbrev pub errorsIn : Handing → List ℕ → List ℕ → List Err
+errorsIn (inDialect d) names t = «validate_module» d names (forest 0 t)
+errorsIn (turnedAway n vs) names t = []
 
 unfoldable pub errorsOf : List ℕ → List ℕ → List ℕ → List Err
-errorsOf t names bytes = ifAccepted (givenCheck t names bytes) (errorsIn (fromBytes bytes) names t)
+errorsOf t names bytes = errorsIn (givenOf t names bytes) names t
 
 -- the answer: a refusal, or how many errors there are, whether they fit or not
 abbrev pub moduleOf : List ℕ → List ℕ → List ℕ → Answer
-moduleOf t names bytes = andThen (givenCheck t names bytes) (λ _. accepted (length (errorsOf t names bytes) ∷ []))
+moduleOf t names bytes = inGiven (givenOf t names bytes) (λ _. accepted (length (errorsOf t names bytes) ∷ []))
 
 -- the list of words at exit
 abbrev pub errorsAfter : List ℕ → List ℕ → List ℕ → List ℕ → List ℕ

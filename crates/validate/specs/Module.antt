@@ -11,7 +11,8 @@ use Rattle.forest.specs.Forest.{Node, Tree, node, Forest, none, _then_}
 use Rattle.soundness.specs.KindNumbers.{kindDef, kindFor, kindIf, kindIfElse, kindBreak, kindContinue, kindReturn, kindLoad, kindEllipsis, kindLambda}
 use Rattle.soundness.specs.Kinds.{statement, classOf}
 use Rattle.table.specs.Numbers.{defNotPermitted, topLevelFor, topLevelIf, breakMisplaced, continueMisplaced, returnMisplaced, loadNotAtTop, loadNotPermitted, ellipsisNotPermitted, lambdaNotPermitted}
-use Rattle.errors.specs.Errors.{Err, errAt, unless}
+use Rattle.errors.specs.declared.Err.{Err}
+use Rattle.errors.specs.Errors.{errAt, unless}
 use Rattle.errors.specs.Params.{withParams}
 
 -- a def and its parameters

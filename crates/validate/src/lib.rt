@@ -5,11 +5,9 @@
 mod expressions;
 mod statements;
 
-use dialect::Decoded;
 use dialect::Dialect;
-use table::Checked;
+use table::Given;
 use table::Refusal;
-use table::numbers;
 ghost use mathlib.Core.Path.{_≡_};
 ghost use Prim.Native.Nat.{_≤_};
 ghost use lib.ListN.{length, take};
@@ -29,14 +27,10 @@ pub fn module(table: &[u8], names: &[u8], dialect: &[u8], errors: &mut [u32]) ->
     ensures { λ r. ⌜ listed r ≡ moduleOf (now (table .entry)) (now (names .entry)) (now (dialect .entry)) ⌝ }
     ensures { λ r. ⌜ now (errors .exit) ≡ errorsAfter (now (table .entry)) (now (names .entry)) (now (dialect .entry)) (now (errors .entry)) ⌝ }
 {
-    let found = table::check(table, names);
-    if let Checked::Refused(why) = found {
-        return Listed::Refused(why);
-    }
-    let read = dialect::from_bytes(dialect);
-    match read {
-        Decoded::Valid(d) => Listed::Total(pass(table, names, d, errors)),
-        Decoded::Invalid => Listed::Refused(Refusal::Bare(numbers::BAD_DIALECT)),
+    let entered = table::enter_dialect(table, names, dialect);
+    match entered {
+        Given::In(d) => Listed::Total(pass(table, names, d, errors)),
+        Given::Refused(why) => Listed::Refused(why),
     }
 }
 

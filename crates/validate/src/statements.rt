@@ -4,6 +4,7 @@
 // Copyright 2018 The Starlark in Rust Authors. Copyright (c) Facebook, Inc. and its affiliates. Licensed under Apache-2.0.
 use dialect::Dialect;
 use errors::params;
+use soundness::classes;
 use soundness::kinds;
 use table::numbers;
 ghost use mathlib.Core.Path.{_≡_};
@@ -53,7 +54,7 @@ fn check_statement(
     requires { ⌜ (24 ≤ length (now t)) × (24 * at + length (now t) ≤ 50400) ⌝ }
     ensures { λ r. ⌜ Stores (f d (now (names .entry)) «top» «in_for» «in_def» (treeOf at (now (t .entry)))) (now (errors .entry)) r (now (errors .exit)) ⌝ }
 {
-    if table::class(t) != 1 {
+    if table::class(t) != classes::STATEMENT {
         return 0;
     }
     let kind = forest::kind(t);

@@ -1,7 +1,5 @@
--- `arguments::call` meets its contract: each return is one step of the job. Assumes nothing.
-use borrow.Author.Tests.{not-true, not-false}
-use Rattle.table.proofs.Handed.{handed}
-use Rattle.arguments.proofs.Calls.{call-refused, call-wrong, call-answer}
+-- `arguments::call` meets its contract: 1 to 4, 6, then the rule of the node's stretch. Assumes nothing.
+use Rattle.table.proofs.Entering.{job-refused, job-rule, job-long, job-within}
 use borrow.Author.Needs.{needs}
 use Rattle.arguments.proofs.call.Statement.{statement}
 use Rattle.arguments.proofs.call.Tie as tie
@@ -12,14 +10,8 @@ call-spec =
     (tie.spec
     (λ c κs. search needs)
     (λ c. search needs)
-    (λ c. search call-refused)  -- returns
+    (λ c. search job-refused)  -- returns
     (λ c. search needs)
     (λ c κs. search needs)
-    (λ c. search (call-wrong, not-true))  -- returns-2
-    (λ c κs. search needs)
-    (λ c κs.  -- arguments-requires
-    let node-fits = c .before .before .node-fits in
-    let enum-told = c .before .before .before .enum-told in
-    let check = c .before .before .before .before .before .check in
-    handed _ _ _ _ check.ensures enum-told.given.1 node-fits.ensures (search not-false) (c .stretch .ensures))
-    (λ c. search (call-answer, not-false)))  -- returns-3
+    (λ c κs. search (job-long, job-within))  -- arguments-requires
+    (λ c. search job-rule))  -- returns-2

@@ -1,17 +1,17 @@
--- `arguments::unpack` meets its contract: the arguments that are left decide. Assumes nothing.
-use mathlib.Core.Path.{_∙_}
+-- `arguments::unpack` meets its contract: the arguments that are read and those that are left decide. Assumes nothing.
 use native.Mathlib.Omega.{arith}
 use lib.ListN.{length}
+use Rattle.arguments.proofs.Walking.{Walking, walk-start, walk-upto, walk-small}
+use Rattle.arguments.proofs.Walking.{walk-refused, walk-on, walk-end}
 use borrow.Author.Needs.{needs}
-use Rattle.arguments.proofs.Steps.{Walking, walk-start, walk-refused, walk-repeated, walk-on, walk-end}
 use Rattle.arguments.proofs.unpack.Statement.{statement}
 use Rattle.arguments.proofs.unpack.Tie as tie
 
 abbrev Inv-loop : tie.InvT-loop
-Inv-loop args names first left₀ at₀ s₀ left at s = Walking names args first left at s
+Inv-loop args names first w₀ left₀ at₀ n₀ w left at n = Walking names args first w left at n
 
 abbrev μ-loop : tie.MeasureT-loop
-μ-loop args names first left₀ at₀ s₀ left at s = length left
+μ-loop args names first w₀ left₀ at₀ n₀ w left at n = length left
 
 pub unpack-spec : {M : Type 1} → statement M
 unpack-spec =
@@ -20,37 +20,20 @@ unpack-spec =
     Inv-loop
     μ-loop
     (λ c. walk-start _ _ _)  -- loop-holds
-    (λ c. search)  -- sub-repeated
-    (λ c κs. search needs)
-    (λ c κs. search needs)
+    (λ c κs. search walk-upto)  -- check-argument-requires
+    (λ c. omega arith)  -- cast-refused
     (λ c κs. search needs)
     (λ c. search needs)
+    (λ c. search walk-refused)  -- returns
     (λ c. search needs)
-    (λ c. omega arith)  -- cast-refused-at
+    (λ c. omega arith)  -- cast-advance
     (λ c κs. search needs)
-    (λ c.  -- returns
-    let next2 = c .before .before .next2 in
-    let take = c .before .before .before .before .take in
-    let kind = c .before .before .before .before .before .kind in
-    let repeated = c .before .before .before .before .before .before .repeated in
+    (λ c κs.  -- advance-requires
+    let loop = c .before .before .before .before .before .before .loop in
     let back = c .before .before .before .before .before .before in
-    let loop-test = back .before .loop-test in
-    let loop = back .before .before .loop in
-    c .refused-at .ensures ∙ walk-refused loop.inv loop-test.taken repeated.ensures kind.ensures
-    (λ n. rw next2.given.1 at (take.ensures n)))
-    (λ c. search needs)
-    (λ c. omega arith)  -- cast-refused-at-name
-    (λ c κs. search needs)
-    (λ c.  -- returns-2
-    let enum-told = c .before .enum-told in
-    let take = c .before .before .before .take in
-    let kind = c .before .before .before .before .kind in
-    let repeated = c .before .before .before .before .before .repeated in
-    let loop-test = c .before .before .before .before .before .before .loop-test in
-    let back = c .before .before .before .before .before .before in
-    let loop = back .before .loop in
-    c .refused-at-name .ensures ∙ walk-repeated loop.inv loop-test.taken repeated.ensures kind.ensures
-    (λ n. rw enum-told.given.1 at (take.ensures n)))
+    let start = back .before .before .before in
+    walk-small loop.inv start.pre)
+    (λ c. omega arith)  -- add-n
     (λ c κs. search needs)
     (λ c. omega arith)  -- add-at
     (λ c. search needs)
@@ -59,13 +42,14 @@ unpack-spec =
     (λ c. search needs)
     (λ c.  -- loop-again
     let span = c .before .span in
-    let next = c .before .before .before .next in
-    let take = c .before .before .before .before .before .take in
-    let kind = c .before .before .before .before .before .before .kind in
+    let advance = c .before .before .advance in
+    let kind-of = c .before .before .before .kind-of in
+    let enum-told = c .before .before .before .before .enum-told in
+    let refused = c .before .before .before .before .before .before .refused in
     let back = c .before .before .before .before .before .before in
-    let repeated = back .before .repeated in
+    let check-argument = back .before .check-argument in
     let loop-test = back .before .before .loop-test in
     let loop = back .before .before .before .loop in
-    walk-on loop.inv loop-test.taken repeated.ensures kind.ensures (λ n. rw next.given.1 at (take.ensures n))
-    span.ensures)
-    (λ c. search walk-end))  -- returns-3
+    walk-on loop.inv loop-test.taken check-argument.ensures refused.ensures enum-told.given.1 kind-of.ensures
+    advance.ensures span.ensures)
+    (λ c. search walk-end))  -- returns-2

@@ -3,7 +3,7 @@ use Prim.Native.Nat.{ℕ, _-_}
 use native.Mathlib.Omega.{arith}
 use borrow.Author.Needs.{needs}
 use lib.ListN.{replicate, length-replicate}
-use Rattle.blocks.proofs.Filling.{Filled, fill-start, fill-long, fill-on, fill-whole}
+use Rattle.blocks.proofs.Filling.{Filled, fill-start, fill-on, fill-whole}
 use Rattle.blocks.proofs.first_block.Statement.{statement}
 use Rattle.blocks.proofs.first_block.Tie as tie
 

@@ -1,7 +1,6 @@
 -- `dialect::row_named` meets its contract: in each arm the row of the table is the name's row. Assumes nothing.
 use native.Mathlib.Omega.{arith}
 use borrow.Author.Needs.{needs}
-use Rattle.dialect.specs.Rows.{rowNamed}
 use Rattle.dialect.proofs.row_named.Statement.{statement}
 use Rattle.dialect.proofs.row_named.Tie as tie
 

@@ -14,5 +14,5 @@ push-spec =
     (λ c. simp length-set (omega arith))  -- slice-write-errors-2
     (λ c. simp length-set (omega arith))  -- slice-write-errors-3
     (λ c. search needs)
-    (λ c. push-fits _ _ _ _ (omega arith))  -- returns
-    (λ c. push-full _ _ _ _ (omega arith)))  -- returns-2
+    (λ c. push-fits _ _ (omega arith))  -- returns
+    (λ c. push-full _ _ (omega arith)))  -- returns-2

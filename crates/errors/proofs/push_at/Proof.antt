@@ -1,5 +1,5 @@
--- `errors::push_at` meets its contract: the span of the record. Assumes nothing.
-use Rattle.errors.proofs.Storing.{push-spanned}
+-- `errors::push_at` meets its contract: the error at the record is stored. Assumes nothing.
+use Rattle.errors.proofs.Storing.{push-known}
 use borrow.Author.Needs.{needs}
 use Rattle.errors.proofs.push_at.Statement.{statement}
 use Rattle.errors.proofs.push_at.Tie as tie
@@ -10,6 +10,5 @@ push-at-spec =
     (tie.spec
     (λ c κs. search needs)
     (λ c κs. search needs)
-    (λ c κs. search needs)
     (λ c. search needs)
-    (λ c. search push-spanned))  -- returns
+    (λ c. search push-known))  -- returns

@@ -2,7 +2,7 @@
 use Rattle.ffi.proofs.Told.{told-with}
 use Rattle.ffi.specs.Words.{words}
 use mathlib.Core.Path.{refl}
-use Rattle.typerules.specs.Jobs.{shaped}
+use Rattle.types.specs.Jobs.{shaped}
 use borrow.Author.Needs.{needs}
 use Rattle.ffi.proofs.starlark_type.Statement.{statement}
 use Rattle.ffi.proofs.starlark_type.Tie as tie

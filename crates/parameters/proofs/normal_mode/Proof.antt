@@ -1,5 +1,5 @@
 -- `parameters::normal_mode` meets its contract: it is the definition, state by state. Assumes nothing.
-use mathlib.Core.Path.{refl, _∙_, ap}
+use mathlib.Core.Path.{refl}
 use borrow.Author.Needs.{needs}
 use Rattle.parameters.proofs.normal_mode.Statement.{statement}
 use Rattle.parameters.proofs.normal_mode.Tie as tie

@@ -1,7 +1,7 @@
 -- `parameters::write_modes` meets its contract: the modes that are left decide. Assumes nothing.
 use borrow.Author.Needs.{needs}
 use lib.ListN.{length}
-use Rattle.unpack.proofs.Reading.{rest-less}
+use Rattle.deflist.proofs.Reading.{rest-less}
 use Rattle.parameters.proofs.Lists.{Writing, write-start, write-room, write-on, write-end}
 use Rattle.parameters.proofs.write_modes.Statement.{statement}
 use Rattle.parameters.proofs.write_modes.Tie as tie

@@ -1,5 +1,4 @@
 -- `tablecheck::fill` ends, within its buffer: each turn reads at least one byte more. Assumes nothing.
-use native.Mathlib.Omega.{arith}
 use borrow.Author.Needs.{needs}
 use Prim.Native.Nat.{_-_, _≤_}
 use lib.ListN.{length}

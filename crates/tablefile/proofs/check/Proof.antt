@@ -1,6 +1,6 @@
--- `tablefile::check` meets its contract: each return is one step of 1 to 5. Assumes nothing.
+-- `tablefile::check` meets its contract: a dialect is given, or the refusal of 1 to 5. Assumes nothing.
 use borrow.Author.Needs.{needs}
-use Rattle.tablefile.proofs.Fronts.{sound-refused, sound-valid, sound-invalid}
+use Rattle.tablefile.proofs.Fronts.{sound-refused, sound-passed}
 use Rattle.tablefile.proofs.check.Statement.{statement}
 use Rattle.tablefile.proofs.check.Tie as tie
 
@@ -14,15 +14,11 @@ check-spec =
     (λ c. search needs)
     (λ c. search needs)
     (λ c. search needs)
-    (λ c κs. search needs)
-    (λ c. search needs)
-    (λ c. search sound-refused)  -- returns
-    (λ c. search needs)
     (λ c. search needs)
     (λ c. search needs)
     (λ c. search needs)
     (λ c κs. search needs)
     (λ c. search needs)
     (λ c. search needs)
-    (λ c. search sound-valid)  -- returns-2
-    (λ c. search sound-invalid))  -- returns-3
+    (λ c. search sound-passed)  -- returns
+    (λ c. search sound-refused))  -- returns-2

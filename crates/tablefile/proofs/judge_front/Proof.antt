@@ -1,8 +1,9 @@
 -- `tablefile::judge_front` meets its contract: each return is one step of the check. Assumes nothing.
+use native.Mathlib.Omega.{arith}
 use borrow.Author.Needs.{needs}
 use borrow.Author.Tests.{not-true, not-false}
-use Rattle.tablefile.proofs.Fronts.{front-header, front-counts, front-names, front-nodes}
-use Rattle.tablefile.proofs.Fronts.{header-long, names-long, nodes-fit, first-fits, first-word, first-bytes}
+use Rattle.tablefile.proofs.Fronts.{dialect-small, front-zero, zero-long, front-counts, front-names, front-nodes}
+use Rattle.tablefile.proofs.Fronts.{names-long, nodes-fit, first-word, first-bytes}
 use Rattle.tablefile.proofs.judge_front.Statement.{statement}
 use Rattle.tablefile.proofs.judge_front.Tie as tie
 
@@ -10,38 +11,28 @@ pub judge-front-spec : {M : Type 1} → statement M
 judge-front-spec =
     tie.close
     (tie.spec
+    (λ c. omega (arith, dialect-small))  -- add-judge
     (λ c κs. search needs)
     (λ c. search needs)
-    (λ c κs. search needs)
+    (λ c. search front-zero)  -- returns
     (λ c. search needs)
-    (λ c. search front-header)  -- returns
-    (λ c. search needs)
-    (λ c κs. search needs)
-    (λ c κs. search needs)
     (λ c κs. search needs)
     (λ c. search (front-counts, not-true))  -- returns-2
-    (λ c. search header-long)  -- sub-judge-run
-    (λ c. search header-long)  -- part-judge-run-start
+    (λ c. search zero-long)  -- sub-judge-run
+    (λ c. search zero-long)  -- part-judge-run-start
     (λ c. search needs)
     (λ c κs. search needs)
     (λ c. search needs)
     (λ c. search (front-names, not-false))  -- returns-3
     (λ c. search needs)
-    (λ c κs. search needs)
-    (λ c. search (first-fits, not-false))  -- add-first
     (λ c. search (first-bytes, not-false))  -- mul-at
-    (λ c.  -- sub-judge-run-2
-    let enum-told2 = c .before .enum-told2 in
-    let judge-run = c .before .before .before .judge-run in
-    let back = c .before .before .before .before .before .before in
-    let names-at = back .before .names-at in
-    names-long _ names-at.ensures.0 judge-run.ensures enum-told2.given.1 (c .blocks-for .ensures) (search header-long))
+    (λ c. search (names-long, zero-long))  -- sub-judge-run-2
     (λ c.  -- part-judge-run-start-2
     let enum-told2 = c .before .enum-told2 in
     let judge-run = c .before .before .before .judge-run in
     let back = c .before .before .before .before .before .before in
-    let names-at = back .before .names-at in
-    names-long _ names-at.ensures.0 judge-run.ensures enum-told2.given.1 (c .blocks-for .ensures) (search header-long))
+    let start = back .before .before .before .before .before .before in
+    names-long _ start.pre _ judge-run.ensures enum-told2.given.1 (search zero-long))
     (λ c. search needs)
     (λ c. search (first-word, not-false))  -- cast-judge-run
     (λ c. search (nodes-fit, not-false))  -- mul-judge-run

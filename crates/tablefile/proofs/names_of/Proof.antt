@@ -1,6 +1,6 @@
--- `tablefile::names_of` meets its contract: the content of the run over zero bytes. Assumes nothing.
+-- `tablefile::names_of` meets its contract: the content of the blocks over zero bytes. Assumes nothing.
 use borrow.Author.Needs.{needs}
-use Rattle.tablefile.proofs.Copies.{laid-run}
+use Rattle.tablefile.proofs.Copies.{laid-names}
 use Rattle.tablefile.proofs.names_of.Statement.{statement}
 use Rattle.tablefile.proofs.names_of.Tie as tie
 
@@ -10,4 +10,4 @@ names-of-spec =
     (tie.spec
     (λ c. search needs)
     (λ c κs. search needs)
-    (λ c. search laid-run))  -- returns
+    (λ c. search laid-names))  -- returns

@@ -1,9 +1,7 @@
 -- `tablefile::read` meets its contract: each return is one step of the check. Assumes nothing.
-use mathlib.Core.Path.{sym, ap, _∙_}
 use borrow.Author.Needs.{needs}
-use Rattle.blocks.specs.Block.{judged}
-use Rattle.tablefile.proofs.Loads.{within-arrays, meets-refused, meets-accepted, read-front, read-left}
-use Rattle.tablefile.proofs.Loads.{read-unsound, read-sound}
+use Rattle.tablefile.proofs.Loads.{within-arrays, meets-refused, meets-accepted, front-passed, read-front}
+use Rattle.tablefile.proofs.Loads.{read-left, read-unsound, read-sound}
 use Rattle.tablefile.proofs.read.Statement.{statement}
 use Rattle.tablefile.proofs.read.Tie as tie
 
@@ -12,11 +10,15 @@ read-spec =
     tie.close
     (tie.spec
     (λ c κs. search needs)
+    (λ c κs. search needs)
     (λ c. search needs)
     (λ c κs. search needs)
     (λ c. meets-refused _ _ _ _ (c .refused .ensures) (search read-front))  -- returns
     (λ c. search needs)
-    (λ c κs. sym (c .before .before .judge-front .ensures) ∙ ap judged (c .enum-told .given .1))  -- load-requires
+    (λ c κs.  -- load-requires
+    let judge-front = c .before .before .judge-front in
+    let header = c .before .before .before .header in
+    (header.ensures, front-passed _ header.ensures _ judge-front.ensures (c .enum-told .given .1)))
     (λ c κs. search needs)
     (λ c. meets-refused _ _ _ _ (c .refused2 .ensures) (search read-left))  -- returns-2
     (λ c. search needs)

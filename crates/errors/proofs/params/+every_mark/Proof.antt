@@ -3,7 +3,7 @@ use native.Mathlib.Omega.{arith}
 use borrow.Author.Needs.{needs}
 use lib.ListN.{length}
 use borrow.Author.Tests.{not-true, not-false}
-use Rattle.unpack.proofs.Reading.{rest-less}
+use Rattle.deflist.proofs.Reading.{rest-less}
 use Rattle.errors.proofs.Lists.{every-end, every-other, every-here, every-short}
 use Prim.Native.Nat.{ℕ, _<_}
 use borrow.Fn.Kinds.{In}
@@ -12,8 +12,8 @@ use Rattle.errors.proofs.params.every_mark.Reads as every-mark
 use Rattle.errors.proofs.params.every_mark.Kinds as every-mark-kinds
 use Rattle.errors.proofs.params.+every_mark.Lts-every_mark as every-mark-lts
 use Rattle.forest.proofs.span.Reads as span-reads
-use Rattle.unpack.proofs.entry.kind_of.Reads as kind-of-reads
-use Rattle.unpack.proofs.entry.listed.Reads as listed-reads
+use Rattle.deflist.proofs.entry.kind_of.Reads as kind-of-reads
+use Rattle.deflist.proofs.entry.listed.Reads as listed-reads
 use Rattle.errors.proofs.free.Reads as free-reads
 use Rattle.errors.proofs.push_at.Reads as push-at-reads
 use Rattle.errors.proofs.params.is_mark.Reads as is-mark-reads

@@ -12,6 +12,7 @@ unpack-error-spec =
     (λ c. search needs)
     (λ c. search needs)
     (λ c κs. search needs)
+    (λ c κs. search needs)
     (λ c. search error-none)  -- returns
     (λ c. search needs)
     (λ c. search error-one))  -- returns-2

@@ -1,0 +1,44 @@
+-- Two answers that meet the promise of a public function coincide: each promise is an equation. Assumes nothing.
+use mathlib.Core.Path.{_≡_}
+use mathlib.Core.Bool.{Bool}
+use mathlib.Core.List.{List}
+use Prim.Native.Nat.{ℕ, _+_, _/_}
+use lib.ListN.{length}
+use Rattle.fields.proofs.Coincide.{coincide}
+use Rattle.forest.specs.Forest.{kidsOf}
+use Rattle.deflist.specs.Written.{written}
+use Rattle.deflist.specs.Unpack.{nextState, isSlash, firstState, unpack}
+use Rattle.deflist.specs.Told.{told}
+use Rattle.deflist.specs.Reading.{isListed, kindHere, Inside}
+use Rattle.deflist.specs.declared.Kind.{Kind}
+use Rattle.deflist.specs.declared.State.{State}
+use Rattle.deflist.specs.declared.Flat.{Flat}
+use Rattle.deflist.specs.declared.Judged.{Judged}
+
+-- of `judge`; its second promise only bounds what the first determines
+pub judge-one : (names t : List ℕ) (node : ℕ) {r s : Judged} → r ≡ told (unpack (written names node t))
+    → Inside (node + 1 + length t / 24) r → s ≡ told (unpack (written names node t))
+    → Inside (node + 1 + length t / 24) s → r ≡ s
+judge-one names t node p _ q _ = coincide p q
+
+-- of `children`, `entry::listed`, `entry::kind_of`
+pub children-one : (t : List ℕ) {r s : List ℕ} → r ≡ kidsOf t → s ≡ kidsOf t → r ≡ s
+children-one t = coincide
+
+pub listed-one : (t : List ℕ) {r s : Bool} → r ≡ isListed t → s ≡ isListed t → r ≡ s
+listed-one t = coincide
+
+pub kind-of-one : (t : List ℕ) {r s : Kind} → r ≡ kindHere t → s ≡ kindHere t → r ≡ s
+kind-of-one t = coincide
+
+-- of `states::first_state`, `states::next_state`
+pub first-state-one : (only : Flat) {r s : State} → r ≡ firstState only → s ≡ firstState only → r ≡ s
+first-state-one only = coincide
+
+pub next-state-one : (state : State) (kind : Kind) {r s : State} → r ≡ nextState state kind
+    → s ≡ nextState state kind → r ≡ s
+next-state-one state kind = coincide
+
+-- of `is_slash`
+pub is-slash-one : (kind : Kind) {r s : Bool} → r ≡ isSlash kind → s ≡ isSlash kind → r ≡ s
+is-slash-one kind = coincide

@@ -1,0 +1,351 @@
+-- The walk of code over a stretch is unpack's over the written list. Assumes nothing.
+use mathlib.Core.Path.{_≡_, refl, sym, ap, _∙_}
+use mathlib.Core.Bool.{Bool, true, false, _&&_}
+use mathlib.Core.List.{List, [], _∷_, _++_, append-nil}
+use Prim.Native.Nat.{ℕ, _+_, _-_, _*_, _/_, _<_, _≤_}
+use native.Mathlib.Omega.{arith}
+use lib.ListN.{length, take, drop, length-take, length-drop, length-append, take-append-drop}
+use lib.Seq.{length-take-le}
+use Rattle.fields.proofs.Basics.{and-left, and-right, clash}
+use Rattle.fields.proofs.Fields.{tail-part}
+use Rattle.forest.specs.Forest.{nodeOf, spanOf, kidsOf, forest}
+use Rattle.forest.proofs.Stretch.{length-kids}
+use Rattle.forest.specs.Names.{nameOf}
+use Rattle.forest.specs.declared.Found.{Found}
+use Rattle.forest.specs.declared.Found.the-variants.{At, Nothing}
+use Rattle.table.specs.Numbers.{slashFirst, duplicatedParameter, starLast, noNormalAfterStar}
+use Rattle.deflist.specs.Written.{Name, Param, normal, noArgs, slash, args, kwargs, nodeIn, kindIn, param}
+use Rattle.deflist.specs.Written.{paramOf, paramsIn, written}
+use Rattle.deflist.specs.Unpack.{writtenAt, firstSame, repeats, rule, check, advance}
+use Rattle.deflist.specs.Unpack.{nextStar, start, slashFrom, firstSlash, positionalOnly, isSlash, normalNext}
+use Rattle.deflist.specs.Unpack.{fromStar, finish, Outcome, accepted, refused, run, unpack}
+use Rattle.deflist.specs.Told.{fault, told}
+use Rattle.deflist.specs.Reading.{isListed, kindHere, beginsWithSlash, isNamed, isNormal, StarIn, Inside}
+use Rattle.deflist.specs.Reading.{Bounded}
+use Rattle.deflist.specs.declared.Kind.{Kind}
+use Rattle.deflist.specs.declared.Kind.the-variants.{Normal, NoArgs, Slash, Args, KwArgs}
+use Rattle.deflist.specs.declared.State.{State}
+use Rattle.deflist.specs.declared.Check.{Check}
+use Rattle.deflist.specs.declared.Check.the-variants.{Fine, Broken}
+use Rattle.deflist.specs.declared.Written.{Written}
+use Rattle.deflist.specs.declared.WrittenPlace.{WrittenPlace}
+use Rattle.deflist.specs.declared.WrittenPlace.the-variants.{AtWritten, NoWritten}
+use Rattle.deflist.specs.declared.Flat.{Flat}
+use Rattle.deflist.specs.declared.Counts.{Counts}
+use Rattle.deflist.specs.declared.Unpacking.{Unpacking}
+use Rattle.deflist.specs.declared.Fault.{Fault}
+use Rattle.deflist.specs.declared.Judged.{Judged}
+use Rattle.deflist.specs.declared.Judged.the-variants.{Accepted, Refused}
+use Rattle.deflist.proofs.Reading.{node-in, kind-in, listed-long, list-end, list-on, Reading, read-start}
+use Rattle.deflist.proofs.Reading.{read-here, read-on, read-end}
+use Rattle.deflist.proofs.Steps.{Cleared, run-stop, run-on, clear-on, clear-start, bounded-on}
+
+-- 11: marks repeat no name, others the first of theirs
+module _ (ns : List ℕ) (before : List Param) (left : List ℕ) {k : Kind} (k-is : k ≡ kindHere left) {b : Bool}
+    (b-is : b ≡ isNamed k) where
+  pub repeats-none : b ≡ false → (i : ℕ) → Nothing ≡ repeats before (paramOf ns (nodeOf i left))
+  unfolding repeats paramOf kindHere
+  repeats-none h i = rw (← k-is) (go k (sym b-is ∙ h))
+    where
+      go : (k : Kind) → isNamed k ≡ false
+          → Nothing ≡ repeats before (param k (nodeOf i left) (nameOf ns (nodeOf i left)))
+      go (Normal d) e = clash refl e
+      go NoArgs e = refl
+      go Slash e = refl
+      go Args e = clash refl e
+      go KwArgs e = clash refl e
+
+  pub repeats-named : b ≡ true → {x : Name} {r : Found} → x ≡ nameOf ns (nodeOf 0 left) → r ≡ firstSame x before
+      → (i : ℕ) → r ≡ repeats before (paramOf ns (nodeOf i left))
+  unfolding repeats paramOf kindHere nameOf
+  repeats-named h x-is r-is i = r-is ∙ rw (← k-is, x-is) (go k (sym b-is ∙ h))
+    where
+      go : (k : Kind) → isNamed k ≡ true → firstSame (nameOf ns (nodeOf i left)) before
+          ≡ repeats before (param k (nodeOf i left) (nameOf ns (nodeOf i left)))
+      go (Normal d) e = refl
+      go NoArgs e = clash e refl
+      go Slash e = clash e refl
+      go Args e = refl
+      go KwArgs e = refl
+
+-- 11 before the rule of the kind
+module _ (ns : List ℕ) (before : List Param) (left : List ℕ) (s : State) (o : Bool) {k : Kind}
+    (k-is : k ≡ kindHere left) {f : Found} (f-is : (i : ℕ) → f ≡ repeats before (paramOf ns (nodeOf i left))) where
+  pub check-found : {j : ℕ} → f ≡ At j → (i : ℕ)
+      → Broken duplicatedParameter ≡ check before s o (paramOf ns (nodeOf i left))
+  check-found e i = let h : repeats before (paramOf ns (nodeOf i left)) ≡ At _ = sym (f-is i) ∙ e in rw h refl
+
+  pub check-rule : f ≡ Nothing → {c : Check} → c ≡ rule s o k → (i : ℕ)
+      → c ≡ check before s o (paramOf ns (nodeOf i left))
+  check-rule e c-is i =
+      let h : repeats before (paramOf ns (nodeOf i left)) ≡ Nothing = sym (f-is i) ∙ e in
+      rw h (c-is ∙ ap (rule s o) (k-is ∙ sym (kind-in ns i left)))
+
+-- 17 and 18
+normal-next : (p : Param) (o : Outcome) → isNormal (kindIn p) ≡ true → normalNext p o ≡ o
+normal-next (normal r n d) o e = refl
+normal-next (noArgs r) o e = clash e refl
+normal-next (slash r) o e = clash e refl
+normal-next (args r n) o e = clash e refl
+normal-next (kwargs r n) o e = clash e refl
+
+other-next : (p : Param) (o : Outcome) → isNormal (kindIn p) ≡ false
+    → normalNext p o ≡ refused noNormalAfterStar (nodeIn p)
+other-next (normal r n d) o e = clash refl e
+other-next (noArgs r) o e = refl
+other-next (slash r) o e = refl
+other-next (args r n) o e = refl
+other-next (kwargs r n) o e = refl
+
+module _ (kids : List ℕ) (first : ℕ) (star : Written) (c : Counts) {at e : ℕ}
+    (inside : at ≤ length kids)
+    (skips : (ns : List ℕ) (i : ℕ) → star .0 ≤ length (paramsIn ns (forest i kids))
+    → drop (star .0) (paramsIn ns (forest i kids)) ≡ paramsIn ns (forest (i + at / 24) (drop at kids)))
+    (e-is : e ≡ spanOf (take (length kids - at) (drop at kids))) where
+  abbrev here : List ℕ
+  here = take (length kids - at) (drop at kids)
+
+  abbrev after : List ℕ
+  after = take (length here - e) (drop e here)
+
+  long : length here ≡ length kids - at
+  long = simp (length-take, length-drop) (omega arith)
+
+  from-star : (ns : List ℕ) → star .0 < length (paramsIn ns (forest first kids))
+      → drop (star .0) (paramsIn ns (forest first kids)) ≡ paramsIn ns (forest (first + at / 24) here)
+  from-star ns h = skips ns first (omega arith)
+      ∙ ap (λ (l : List ℕ). paramsIn ns (forest (first + at / 24) l)) (sym (tail-part at kids))
+
+  star-then : (ns : List ℕ) → star .0 < length (paramsIn ns (forest first kids))
+      → drop (star .0) (paramsIn ns (forest first kids)) ≡ paramOf ns (nodeOf (first + at / 24) here)
+      ∷ paramsIn ns (forest (first + at / 24 + e / 24) after)
+  star-then ns h = go (isListed here) refl
+    where
+      go : (b : Bool) → isListed here ≡ b
+          → drop (star .0) (paramsIn ns (forest first kids)) ≡ paramOf ns (nodeOf (first + at / 24) here)
+          ∷ paramsIn ns (forest (first + at / 24 + e / 24) after)
+      go true l = from-star ns h ∙ list-on ns (first + at / 24) here l e-is
+      go false l = let z : length (paramsIn ns (forest first kids)) - star .0 ≡ 0 = sym (length-drop (star .0) _)
+          ∙ ap length (from-star ns h ∙ list-end ns (first + at / 24) here l) in absurd (omega arith)
+
+  module _ {l : Bool} (l-is : l ≡ isListed after) where
+    pub star-last : l ≡ false → {f : Fault} → f ≡ fault starLast (nodeOf (first + at / 24) here)
+        → ((ns : List ℕ) → StarIn (paramsIn ns (forest first kids)) (AtWritten star)
+        → Refused f ≡ told (finish (paramsIn ns (forest first kids)) (AtWritten star) c))
+        × Inside (first + length kids / 24) (Refused f)
+    unfolding finish
+    star-last l-no f-is = (
+      λ ns h.
+          let w-is : drop (star .0) (paramsIn ns (forest first kids)) ≡ paramOf ns (nodeOf (first + at / 24) here) ∷
+          [] = star-then ns h ∙ ap (λ (ps : List Param). paramOf ns (nodeOf (first + at / 24) here) ∷ ps)
+          (list-end ns _ after (sym l-is ∙ l-no)) in
+          rw (f-is, w-is, node-in ns (nodeOf (first + at / 24) here)) refl,
+      rw f-is (omega arith),
+    )
+
+    module _ (l-yes : l ≡ true) {k : Kind} (k-is : k ≡ kindHere after) {b : Bool} (b-is : b ≡ isNormal k) where
+      next-is : (ns : List ℕ) → star .0 < length (paramsIn ns (forest first kids))
+          → fromStar (drop (star .0) (paramsIn ns (forest first kids))) (accepted c)
+          ≡ normalNext (paramOf ns (nodeOf (first + at / 24 + e / 24) after)) (accepted c)
+      next-is ns h = rw (star-then ns h, list-on ns (first + at / 24 + e / 24) after (sym l-is ∙ l-yes) refl) refl
+
+      abbrev follower : List ℕ → Param
+      follower ns = paramOf ns (nodeOf (first + at / 24 + e / 24) after)
+
+      kind-next : (ns : List ℕ) → isNormal (kindIn (paramOf ns (nodeOf (first + at / 24 + e / 24) after))) ≡ b
+      kind-next ns = ap isNormal (kind-in ns _ after ∙ sym k-is) ∙ sym b-is
+
+      pub star-normal : b ≡ true → ((ns : List ℕ) → StarIn (paramsIn ns (forest first kids)) (AtWritten star)
+          → Accepted c ≡ told (finish (paramsIn ns (forest first kids)) (AtWritten star) c))
+          × Inside (first + length kids / 24) (Accepted c)
+      unfolding finish
+      star-normal b-yes = (
+        λ ns h. rw (next-is ns h ∙ normal-next (follower ns) (accepted c) (kind-next ns ∙ b-yes))
+            refl,
+        tt,
+      )
+
+      pub star-other : b ≡ false → {f : Fault}
+          → f ≡ fault noNormalAfterStar (nodeOf (first + at / 24 + e / 24) after)
+          → ((ns : List ℕ) → StarIn (paramsIn ns (forest first kids)) (AtWritten star)
+          → Refused f ≡ told (finish (paramsIn ns (forest first kids)) (AtWritten star) c))
+          × Inside (first + length kids / 24) (Refused f)
+      unfolding finish
+      star-other b-no f-is = (
+        λ ns h. rw (
+          f-is,
+          next-is ns h ∙ other-next (follower ns) (accepted c) (kind-next ns ∙ b-no),
+          node-in ns (nodeOf (first + at / 24 + e / 24) after),
+        ) refl,
+        rw f-is (omega (arith, long)),
+      )
+
+-- The parameters in turn: n are read, u is known of them, and the node at comes next
+pub record Judging (ns kids : List ℕ) (first : ℕ) (u₀ u : Unpacking) (left : List ℕ) (at n : ℕ) : Type 0 where
+  pub reads : Reading ns (paramsIn ns (forest first kids)) n at left
+  pub room : 24 * at + length left ≤ 24 * first + length kids
+  pub fewer : 24 * n + length left ≤ length kids
+  pub bounded : Bounded n (u₀ .counts .«num_positional_only» .0) (u .counts)
+  pub clear : Cleared u
+  pub star : StarIn (take n (paramsIn ns (forest first kids))) (u .«index_of_star»)
+  pub same : run (take n (paramsIn ns (forest first kids))) u (drop n (paramsIn ns (forest first kids))) ≡ run
+      [] u₀ (paramsIn ns (forest first kids))
+
+pub judge-start : (ns kids : List ℕ) (first : ℕ) (only : Flat) {u : Unpacking} → u ≡ start only
+    → Judging ns kids first u u kids first 0
+unfolding start
+judge-start ns kids first only u-is =
+    rw u-is
+    (record {
+      reads = read-start ns first kids;
+      room = omega arith;
+      fewer = omega arith;
+      bounded = record { positional = omega arith; only = omega arith; args = tt; kwargs = tt; flat = omega arith };
+      clear = clear-start only;
+      star = tt;
+      same = refl;
+    })
+
+star-wider : (w : List Param) (p : Param) (star : WrittenPlace) → StarIn w star → StarIn (w ++ p ∷ []) star
+star-wider w p NoWritten h = tt
+star-wider w p (AtWritten i) h = omega (arith, length-append w (p ∷ []))
+
+star-more : (w : List Param) (p : Param) (star : WrittenPlace) (k : Kind) → StarIn w star
+    → StarIn (w ++ p ∷ []) (nextStar star (writtenAt (length w)) k)
+star-more w p star (Normal d) h = star-wider w p star h
+star-more w p star NoArgs h = omega (arith, length-append w (p ∷ []))
+star-more w p star Slash h = star-wider w p star h
+star-more w p star Args h = star-wider w p star h
+star-more w p star KwArgs h = star-wider w p star h
+
+module _ {ns kids : List ℕ} {first : ℕ} {u₀ u : Unpacking} {left : List ℕ} {at n : ℕ}
+    (j : Judging ns kids first u₀ u left at n) where
+  module _ {l : Bool} (l-is : l ≡ isListed left) where
+    module _ (l-yes : l ≡ true) where
+      listed : isListed left ≡ true
+      listed = sym l-is ∙ l-yes
+
+      here-then : {e : ℕ} → e ≡ spanOf left
+          → run (take n (paramsIn ns (forest first kids))) u
+          (paramOf ns (nodeOf at left) ∷ paramsIn ns (forest (at + e / 24) (take (length left - e) (drop e left))))
+          ≡ run [] u₀ (paramsIn ns (forest first kids))
+      here-then e-is = ap (run (take n (paramsIn ns (forest first kids))) u)
+          (sym (j .reads .rest ∙ list-on ns at left listed e-is)) ∙ j .same
+
+      module _ {c : Check} (c-is : (i : ℕ)
+          → c ≡ check (take n (paramsIn ns (forest first kids))) (u .state) (u .«seen_optional»)
+          (paramOf ns (nodeOf i left))) where
+        pub judge-stop : (only : Flat) → u₀ ≡ start only → {m : ℕ} → c ≡ Broken m → {f : Fault}
+            → f ≡ fault m (nodeOf at left)
+            → (Refused f ≡ told (run [] (start only) (paramsIn ns (forest first kids))))
+            × Inside (first + length kids / 24) (Refused f)
+        judge-stop only u₀-is e f-is = (
+          rw (
+            f-is,
+            ← u₀-is,
+            ← here-then refl,
+            run-stop (take n (paramsIn ns (forest first kids))) u (paramOf ns (nodeOf at left)) _
+                (sym (c-is at) ∙ e),
+            node-in ns (nodeOf at left),
+          ) refl,
+          rw f-is (omega (arith, j .room)),
+        )
+
+        pub judge-on : c ≡ Fine → {k : Kind} → k ≡ kindHere left → {v : Unpacking} → v ≡ advance u (writtenAt n) k
+            → {e : ℕ} → e ≡ spanOf left
+            → Judging ns kids first u₀ v (take (length left - e) (drop e left)) (at + e / 24) (n + 1)
+        unfolding advance
+        judge-on fine {k} k-is v-is {e} e-is =
+            let w = paramsIn ns (forest first kids) in
+            let p = paramOf ns (nodeOf at left) in
+            let x = read-here (j .reads) listed e-is in
+            let good = sym (c-is at) ∙ fine in
+            let long : length (take n w) ≡ n = length-take-le n w (j .reads .upto) in
+            let kind : k ≡ kindIn p = k-is ∙ sym (kind-in ns at left) in
+            rw (v-is, kind)
+            (record {
+              reads = read-on (j .reads) listed e-is;
+              room = simp (length-take, length-drop) (omega (arith, j .room, listed-long left listed));
+              fewer = simp (length-take, length-drop) (omega (arith, j .fewer, listed-long left listed));
+              bounded = bounded-on (u .state) (u .counts) (kindIn p) (j .bounded);
+              clear = rw long at (clear-on (take n w) u p [] (j .clear) good);
+              star = rw (x .front) (rw long at (star-more (take n w) p (u .«index_of_star») (kindIn p) (j .star)));
+              same = rw (x .front, x .rest)
+                  (rw long at (sym (run-on (take n w) u p _ (j .clear) good) ∙ here-then e-is));
+            })
+
+    module _ (l-no : l ≡ false) where
+      whole : take n (paramsIn ns (forest first kids)) ≡ paramsIn ns (forest first kids)
+      whole = sym (append-nil _) ∙ ap (λ (ps : List Param). take n (paramsIn ns (forest first kids)) ++ ps)
+          (sym (read-end (j .reads) (sym l-is ∙ l-no))) ∙ take-append-drop n (paramsIn ns (forest first kids))
+
+      pub judge-end : (only : Flat) → u₀ ≡ start only → {r : Judged}
+          → ((names : List ℕ) → StarIn (paramsIn names (forest first kids)) (u .«index_of_star»)
+          → r ≡ told (finish (paramsIn names (forest first kids)) (u .«index_of_star») (u .counts)))
+          × Inside (first + length kids / 24) r
+          → (r ≡ told (run [] (start only) (paramsIn ns (forest first kids)))) × Inside (first + length kids / 24) r
+      unfolding run
+      judge-end only u₀-is r-is = (
+        rw (← u₀-is) (r-is .0 ns (rw whole at (j .star))
+            ∙ ap told (rw (whole, read-end (j .reads) (sym l-is ∙ l-no)) at (j .same))),
+        r-is .1,
+      )
+
+-- 10, and the rest
+unpack-not-slash : (ns kids : List ℕ) (first : ℕ) → beginsWithSlash kids ≡ false
+    → unpack (paramsIn ns (forest first kids)) ≡ run
+    [] (start (positionalOnly (firstSlash (paramsIn ns (forest first kids))))) (paramsIn ns (forest first kids))
+unfolding unpack beginsWithSlash slashFrom
+unpack-not-slash ns kids first h = go (isListed kids) refl
+  where
+    go : (l : Bool) → isListed kids ≡ l → unpack (paramsIn ns (forest first kids)) ≡ run
+        [] (start (positionalOnly (firstSlash (paramsIn ns (forest first kids))))) (paramsIn ns (forest first kids))
+    go true e =
+        let miss : isSlash (kindIn (paramOf ns (nodeOf first kids))) ≡ false = ap isSlash (kind-in ns first kids)
+        ∙ (rw e at h) in
+        rw (list-on ns first kids e refl, miss) refl
+    go false e = rw (list-end ns first kids e) refl
+
+module _ (ns kids : List ℕ) (first : ℕ) {b : Bool} (b-is : b ≡ beginsWithSlash kids) where
+  pub unpack-slash : b ≡ true → {f : Fault} → f ≡ fault slashFirst (nodeOf first kids)
+      → (Refused f ≡ told (unpack (paramsIn ns (forest first kids))))
+      × Inside (first + length kids / 24) (Refused f)
+  unfolding unpack beginsWithSlash
+  unpack-slash b-yes f-is =
+      let yes : (isListed kids && isSlash (kindHere kids)) ≡ true = sym b-is ∙ b-yes in
+      let hit : isSlash (kindIn (paramOf ns (nodeOf first kids))) ≡ true = ap isSlash (kind-in ns first kids)
+      ∙ and-right (isListed kids) _ yes in (
+        rw (f-is, list-on ns first kids (and-left _ _ yes) refl, hit, node-in ns (nodeOf first kids)) refl,
+        rw f-is (omega arith),
+      )
+
+  pub unpack-run : b ≡ false → {s : WrittenPlace}
+      → ((names : List ℕ) (i : ℕ) → s ≡ firstSlash (paramsIn names (forest i kids))) → {only : Flat}
+      → only ≡ positionalOnly s
+      → {r : Judged} → (r ≡ told (run [] (start only) (paramsIn ns (forest first kids))))
+      × Inside (first + length kids / 24) r
+      → (r ≡ told (unpack (paramsIn ns (forest first kids)))) × Inside (first + length kids / 24) r
+  unpack-run b-no {s} s-is {only} only-is r-is = (r-is .0 ∙ ap told (sym start-is), r-is .1)
+    where
+      start-is : unpack (paramsIn ns (forest first kids)) ≡ run [] (start only) (paramsIn ns (forest first kids))
+      start-is = unpack-not-slash ns kids first (sym b-is ∙ b-no)
+          ∙ ap (λ (x : Flat). run [] (start x) (paramsIn ns (forest first kids)))
+          (ap positionalOnly (sym (s-is ns first)) ∙ sym only-is)
+
+-- a node's list stands in its children
+module _ (t : List ℕ) (node : ℕ) {kids : List ℕ} (kids-are : kids ≡ kidsOf t) where
+  pub judge-room : 24 * (node + 1) + length kids ≤ 24 * (node + 1) + length t
+  judge-room = omega (arith, ap length kids-are ∙ length-kids t)
+
+  pub judge-list : (ns : List ℕ) {r : Judged}
+      → (r ≡ told (unpack (paramsIn ns (forest (node + 1) kids)))) × Inside (node + 1 + length kids / 24) r
+      → (r ≡ told (unpack (written ns node t))) × Inside (node + 1 + length t / 24) r
+  unfolding written
+  judge-list ns {r} r-is = (
+    r-is .0 ∙ ap (λ (l : List ℕ). told (unpack (paramsIn ns (forest (node + 1) l)))) kids-are,
+    wider r (r-is .1),
+  )
+    where
+      wider : (r : Judged) → Inside (node + 1 + length kids / 24) r → Inside (node + 1 + length t / 24) r
+      wider (Accepted c) h = tt
+      wider (Refused f) h = omega (arith, judge-room)

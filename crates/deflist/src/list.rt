@@ -1,0 +1,53 @@
+// The written list, read from the children of a def or lambda: each next parameter is found by stepping over the one before it.
+use crate::Written;
+use crate::WrittenPlace;
+use crate::entry;
+use crate::rules;
+ghost use mathlib.Core.Path.{_≡_};
+ghost use mathlib.Core.List.{List};
+ghost use Prim.Native.Nat.{ℕ, _+_, _/_, _≤_};
+ghost use lib.ListN.{length, drop};
+ghost use Rattle.forest.specs.Forest.{nodeOf, forest};
+ghost use Rattle.deflist.specs.Written.{paramOf, paramsIn};
+ghost use Rattle.deflist.specs.Unpack.{hasName, firstSlash};
+
+// Whether the parameter that a stretch begins with has this name.
+pub(crate) fn has_name(names: &[u8], name: &[u8], t: &[u8]) -> bool
+    ensures { λ r. ⌜ ((i : ℕ) → r ≡ hasName (now (name .entry)) (paramOf (now (names .entry)) (nodeOf i (now (t .entry))))) ⌝ }
+{
+    if !rules::is_named(entry::kind_of(t)) {
+        return false;
+    }
+    forest::names::same_bytes(forest::names::name(names, t), name)
+}
+
+// The written position of the first `/`.
+pub(crate) fn first_slash(kids: &[u8]) -> WrittenPlace
+    ensures { λ r. ⌜ ((names : List ℕ) (i : ℕ) → r ≡ firstSlash (paramsIn names (forest i (now (kids .entry))))) ⌝ }
+{
+    let mut left = kids;
+    let mut i = 0;
+    while entry::listed(left) {
+        if entry::is_slash(entry::kind_of(left)) {
+            return WrittenPlace::AtWritten(Written(i));
+        }
+        let e = forest::span(left);
+        left = &left[e..];
+        i += 1;
+    }
+    WrittenPlace::NoWritten
+}
+
+// How many bytes the first n parameters take.
+pub(crate) fn skip(kids: &[u8], n: Written) -> usize
+    ensures { λ r. ⌜ r ≤ length (now (kids .entry)) ⌝ }
+    ensures { λ r. ⌜ ((names : List ℕ) (i : ℕ) → n .0 ≤ length (paramsIn names (forest i (now (kids .entry)))) → drop (n .0) (paramsIn names (forest i (now (kids .entry)))) ≡ paramsIn names (forest (i + r / 24) (drop r (now (kids .entry))))) ⌝ }
+{
+    let mut at = 0;
+    let mut i = 0;
+    while i < n.0 {
+        at += forest::span(&kids[at..]);
+        i += 1;
+    }
+    at
+}

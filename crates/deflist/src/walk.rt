@@ -1,0 +1,267 @@
+// unpack: 10, then the parameters in turn, then what follows a bare `*`.
+//
+// Ported from src/syntax/def.rs of starlark_syntax 0.14.2, and changed: the list is a stretch of the node table, and names are compared instead of hashed.
+// Copyright 2018 The Starlark in Rust Authors. Copyright (c) Facebook, Inc. and its affiliates. Licensed under Apache-2.0.
+use crate::Check;
+use crate::Counts;
+use crate::Fault;
+use crate::Flat;
+use crate::FlatPlace;
+use crate::Judged;
+use crate::Kind;
+use crate::State;
+use crate::Unpacking;
+use crate::Written;
+use crate::WrittenPlace;
+use crate::entry;
+use crate::list;
+use crate::rules;
+use crate::states;
+use forest::Found;
+use table::numbers;
+ghost use mathlib.Core.Path.{_≡_};
+ghost use mathlib.Core.List.{List, []};
+ghost use Prim.Native.Nat.{ℕ, _+_, _*_, _/_, _≤_, _<_, _^_};
+ghost use lib.ListN.{length, take};
+ghost use Rattle.forest.specs.Forest.{nodeOf, forest};
+ghost use Rattle.deflist.specs.Written.{paramOf, paramsIn, written};
+ghost use Rattle.deflist.specs.Unpack.{firstSame, repeats, check as checkOf, oneMore, morePositional, count as countOf, advance as advanceOf, finish as finishOf, run as runOf, start as startOf, unpack as unpackOf};
+ghost use Rattle.deflist.specs.declared.WrittenPlace.the-variants.{AtWritten};
+ghost use Rattle.deflist.specs.Told.{fault as faultOf, told};
+ghost use Rattle.deflist.specs.Reading.{kindHere, beginsWithSlash, Inside, StarIn};
+
+// The node of the first of n parameters that has this name; first is the node of the first record.
+fn earlier(names: &[u8], name: &[u8], kids: &[u8], first: usize, n: Written) -> Found
+    requires { ⌜ (24 * first + length (now kids) < 2 ^ 64) × (n .0 ≤ length (paramsIn (now names) (forest first (now kids)))) ⌝ }
+    ensures { λ r. ⌜ r ≡ firstSame (now (name .entry)) (take (n .0) (paramsIn (now (names .entry)) (forest first (now (kids .entry))))) ⌝ }
+{
+    let mut left = kids;
+    let mut at = first;
+    let mut i = 0;
+    while i < n.0 {
+        if list::has_name(names, name, &left[0..24]) {
+            return Found::At(at);
+        }
+        let e = forest::span(left);
+        at += e / 24;
+        left = &left[e..];
+        i += 1;
+    }
+    Found::Nothing
+}
+
+// A refusal at the record that a stretch begins with.
+fn fault(number: u32, node: usize, t: &[u8]) -> Fault
+    ensures { λ r. ⌜ r ≡ faultOf number (nodeOf node (now (t .entry))) ⌝ }
+{
+    Fault {
+        number,
+        node,
+        span: table::span_of(t),
+    }
+}
+
+// The first of the n parameters before it whose name the parameter that left begins with repeats.
+fn repeated(names: &[u8], kids: &[u8], first: usize, n: Written, left: &[u8], kind: Kind) -> Found
+    requires { ⌜ (24 * first + length (now kids) < 2 ^ 64) × (n .0 ≤ length (paramsIn (now names) (forest first (now kids)))) × (kind ≡ kindHere (now left)) ⌝ }
+    ensures { λ r. ⌜ ((i : ℕ) → r ≡ repeats (take (n .0) (paramsIn (now (names .entry)) (forest first (now (kids .entry))))) (paramOf (now (names .entry)) (nodeOf i (now (left .entry))))) ⌝ }
+{
+    if !rules::is_named(kind) {
+        return Found::Nothing;
+    }
+    earlier(names, forest::names::name(names, left), kids, first, n)
+}
+
+// 11 before the rule of the kind.
+fn check(
+    names: &[u8],
+    kids: &[u8],
+    first: usize,
+    n: Written,
+    left: &[u8],
+    state: State,
+    optional: bool,
+    kind: Kind,
+) -> Check
+    requires { ⌜ (24 * first + length (now kids) < 2 ^ 64) × (n .0 ≤ length (paramsIn (now names) (forest first (now kids)))) × (kind ≡ kindHere (now left)) ⌝ }
+    ensures { λ r. ⌜ ((i : ℕ) → r ≡ checkOf (take (n .0) (paramsIn (now (names .entry)) (forest first (now (kids .entry))))) state optional (paramOf (now (names .entry)) (nodeOf i (now (left .entry))))) ⌝ }
+{
+    let found = repeated(names, kids, first, n, left, kind);
+    match found {
+        Found::At(_) => Check::Broken(numbers::DUPLICATED_PARAMETER),
+        Found::Nothing => rules::rule(state, optional, kind),
+    }
+}
+
+// One more in the flat list.
+fn one_more(flat: Flat) -> Flat
+    requires { ⌜ flat .0 < 2 ^ 63 ⌝ }
+    ensures { λ r. ⌜ r ≡ oneMore flat ⌝ }
+{
+    Flat(flat.0 + 1)
+}
+
+// One more that can be filled positionally, before any star.
+fn more_positional(state: State, n: Flat) -> Flat
+    requires { ⌜ n .0 < 2 ^ 63 ⌝ }
+    ensures { λ r. ⌜ r ≡ morePositional state n ⌝ }
+{
+    match state {
+        State::Normal => one_more(n),
+        State::SeenSlash => one_more(n),
+        State::SeenStar => n,
+        State::SeenStarStar => n,
+    }
+}
+
+// What is counted at a parameter of a kind.
+fn count(state: State, c: Counts, kind: Kind) -> Counts
+    requires { ⌜ (c .«num_positional» .0 < 2 ^ 63) × (c .flat .0 < 2 ^ 63) ⌝ }
+    ensures { λ r. ⌜ r ≡ countOf state c kind ⌝ }
+{
+    let positional = c.num_positional;
+    let only = c.num_positional_only;
+    let args = c.args;
+    let kwargs = c.kwargs;
+    let flat = c.flat;
+    match kind {
+        Kind::Normal(_) => Counts {
+            num_positional: more_positional(state, positional),
+            num_positional_only: only,
+            args,
+            kwargs,
+            flat: one_more(flat),
+        },
+        Kind::NoArgs => c,
+        Kind::Slash => c,
+        Kind::Args => Counts {
+            num_positional: positional,
+            num_positional_only: only,
+            args: FlatPlace::AtFlat(flat),
+            kwargs,
+            flat: one_more(flat),
+        },
+        Kind::KwArgs => Counts {
+            num_positional: positional,
+            num_positional_only: only,
+            args,
+            kwargs: FlatPlace::AtFlat(flat),
+            flat: one_more(flat),
+        },
+    }
+}
+
+// All that is kept after a parameter of a kind, which stands at i in the written list.
+fn advance(u: Unpacking, i: Written, kind: Kind) -> Unpacking
+    requires { ⌜ (u .counts .«num_positional» .0 < 2 ^ 63) × (u .counts .flat .0 < 2 ^ 63) ⌝ }
+    ensures { λ r. ⌜ r ≡ advanceOf u i kind ⌝ }
+{
+    let state = u.state;
+    let star = u.index_of_star;
+    let counts = u.counts;
+    Unpacking {
+        state: states::next_state(state, kind),
+        seen_optional: rules::next_optional(u.seen_optional, kind),
+        index_of_star: rules::next_star(star, i, kind),
+        counts: count(state, counts, kind),
+    }
+}
+
+// 17 and 18, for the bare `*` at a written position.
+fn after_star(kids: &[u8], first: usize, star: Written, counts: Counts) -> Judged
+    requires { ⌜ 24 * first + length (now kids) < 2 ^ 64 ⌝ }
+    ensures { λ r. ⌜ ((names : List ℕ) → StarIn (paramsIn names (forest first (now (kids .entry)))) (AtWritten star) → r ≡ told (finishOf (paramsIn names (forest first (now (kids .entry)))) (AtWritten star) counts)) ⌝ }
+    ensures { λ r. ⌜ Inside (first + length (now (kids .entry)) / 24) r ⌝ }
+{
+    let at = list::skip(kids, star);
+    let here = &kids[at..];
+    let e = forest::span(here);
+    let next = &here[e..];
+    let node = first + at / 24;
+    if !entry::listed(next) {
+        return Judged::Refused(fault(numbers::STAR_LAST, node, here));
+    }
+    if rules::is_normal(entry::kind_of(next)) {
+        return Judged::Accepted(counts);
+    }
+    Judged::Refused(fault(numbers::NO_NORMAL_AFTER_STAR, node + e / 24, next))
+}
+
+// After the last parameter.
+fn finish(kids: &[u8], first: usize, star: WrittenPlace, counts: Counts) -> Judged
+    requires { ⌜ 24 * first + length (now kids) < 2 ^ 64 ⌝ }
+    ensures { λ r. ⌜ ((names : List ℕ) → StarIn (paramsIn names (forest first (now (kids .entry)))) star → r ≡ told (finishOf (paramsIn names (forest first (now (kids .entry)))) star counts)) ⌝ }
+    ensures { λ r. ⌜ Inside (first + length (now (kids .entry)) / 24) r ⌝ }
+{
+    match star {
+        WrittenPlace::AtWritten(i) => after_star(kids, first, i, counts),
+        WrittenPlace::NoWritten => Judged::Accepted(counts),
+    }
+}
+
+// The parameters in turn, where only are positional only.
+fn run(names: &[u8], kids: &[u8], first: usize, only: Flat) -> Judged
+    requires { ⌜ 24 * first + length (now kids) < 2 ^ 64 ⌝ }
+    ensures { λ r. ⌜ r ≡ told (runOf [] (startOf only) (paramsIn (now (names .entry)) (forest first (now (kids .entry))))) ⌝ }
+    ensures { λ r. ⌜ Inside (first + length (now (kids .entry)) / 24) r ⌝ }
+{
+    let mut u = rules::start(only);
+    let mut left = kids;
+    let mut at = first;
+    let mut n = 0;
+    while entry::listed(left) {
+        let kind = entry::kind_of(left);
+        let state = u.state;
+        let c = check(
+            names,
+            kids,
+            first,
+            Written(n),
+            left,
+            state,
+            u.seen_optional,
+            kind,
+        );
+        if let Check::Broken(number) = c {
+            return Judged::Refused(fault(number, at, left));
+        }
+        u = advance(u, Written(n), kind);
+        n += 1;
+        let e = forest::span(left);
+        at += e / 24;
+        left = &left[e..];
+    }
+    let star = u.index_of_star;
+    let counts = u.counts;
+    finish(kids, first, star, counts)
+}
+
+// Whether `/` is first.
+fn slash_first(kids: &[u8]) -> bool
+    ensures { λ r. ⌜ r ≡ beginsWithSlash (now (kids .entry)) ⌝ }
+{
+    entry::listed(kids) & entry::is_slash(entry::kind_of(kids))
+}
+
+// 10 first, then the parameters in turn; first is the node of the first record.
+fn unpack(names: &[u8], kids: &[u8], first: usize) -> Judged
+    requires { ⌜ 24 * first + length (now kids) < 2 ^ 64 ⌝ }
+    ensures { λ r. ⌜ r ≡ told (unpackOf (paramsIn (now (names .entry)) (forest first (now (kids .entry))))) ⌝ }
+    ensures { λ r. ⌜ Inside (first + length (now (kids .entry)) / 24) r ⌝ }
+{
+    if slash_first(kids) {
+        return Judged::Refused(fault(numbers::SLASH_FIRST, first, kids));
+    }
+    let slash = list::first_slash(kids);
+    run(names, kids, first, rules::positional_only(slash))
+}
+
+// DefParams::unpack of the written list of a node, whose stretch is lent: what is counted, or the first refusal.
+pub(crate) fn judge(names: &[u8], t: &[u8], node: u32) -> Judged
+    ensures { λ r. ⌜ r ≡ told (unpackOf (written (now (names .entry)) node (now (t .entry)))) ⌝ }
+    ensures { λ r. ⌜ Inside (node + 1 + length (now (t .entry)) / 24) r ⌝ }
+{
+    let kids = crate::children(t);
+    let first = (node as usize) + 1;
+    unpack(names, kids, first)
+}

@@ -1,0 +1,6 @@
+pub mod Writing
+pub mod Jobs
+pub mod Promises
+pub mod Places
+pub mod Proper
+pub mod Buffer

@@ -1,0 +1,91 @@
+-- An accepted type has a shape from 1 to 7 at each node that is read, from whatever index its places are counted: no 0
+-- is ever written. Assumes nothing.
+use mathlib.Core.Bool.{Bool, true, false}
+use mathlib.Core.List as L
+use mathlib.Core.List.{_∷_, _++_}
+use Prim.Native.Nat.{ℕ, _+_, _/_, _<_, _≤_}
+use native.Mathlib.Omega.{arith}
+use lib.ListN.{length}
+use lib.Dec.{eqb}
+use Rattle.fields.specs.Choice.{if'}
+use Rattle.forest.specs.Forest.{Node, nodeOf, kidsOf, restOf, spanOf, Forest, forest, treeOf}
+use Rattle.forest.proofs.Stretch.{forest-none, forest-tree, forest-induction}
+use Rattle.soundness.specs.KindNumbers.{kindList}
+use Rattle.types.specs.Forms.{formOf, shapeOf, listShape, readsAs, readsOf, argumentsOnly}
+use Rattle.types.specs.Types.{atNode, «unpack», unpackChild, unpackEach}
+use Rattle.types.specs.declared.Form.{Form}
+use Rattle.types.specs.declared.Form.the-variants.{Ellipsis, Path, Index, Index2, List, Union, Tuple, Other}
+use Rattle.types.specs.declared.How.{How}
+use Rattle.types.specs.declared.How.the-variants.{Unread, AsType, AsArgument}
+use Rattle.types.specs.declared.Reads.{Reads}
+use Rattle.shapes.specs.Shapes.{Shape, shapeAt, shapesOf, shapesChild, shapesEach, Proper}
+use Rattle.shapes.proofs.Jobs.{Passes, both-pass}
+
+proper-none : Proper L.[]
+unfolding Proper
+proper-none = tt
+
+proper-one : (r : Node) (v : ℕ) (ss : L.List Shape) → (1 ≤ v) × (v ≤ 7) → Proper ss → Proper (shapeAt r v ∷ ss)
+unfolding Proper
+proper-one r v ss k p = (k .0, (k .1, p))
+
+proper-append : (ss us : L.List Shape) → Proper ss → Proper us → Proper (ss ++ us)
+unfolding Proper
+proper-append L.[] us p q = q
+proper-append (x ∷ ss) us p q = (p .0, (p .1 .0, proper-append ss us (p .1 .1) q))
+
+-- a form that is not refused at its node has a shape
+shape-known : (names : L.List ℕ) (f : Form) (r : Node) (ks : Forest) → Passes (atNode names f r ks)
+    → (1 ≤ shapeOf f) × (shapeOf f ≤ 7)
+unfolding atNode
+shape-known names Ellipsis r ks p = omega arith
+shape-known names Path r ks p = omega arith
+shape-known names Index r ks p = omega arith
+shape-known names Index2 r ks p = omega arith
+shape-known names List r ks p = omega arith
+shape-known names Union r ks p = omega arith
+shape-known names Tuple r ks p = omega arith
+shape-known names Other r ks p = absurd p
+
+-- children that pass from one index have proper shapes from any
+abbrev pub ProperFrom : L.List ℕ → ℕ → L.List ℕ → Type 0
+ProperFrom names i bs =
+    (reads : Reads) (j : ℕ) → Passes (unpackEach reads names (forest i bs)) → Proper (shapesEach reads (forest j bs))
+
+module _ (names : L.List ℕ) (i j : ℕ) (bs : L.List ℕ) (ks : ProperFrom names (i + 1) (kidsOf bs)) where
+  pub type-proper : Passes («unpack» names (treeOf i bs)) → Proper (shapesOf (treeOf j bs))
+  unfolding «unpack» shapesOf
+  type-proper p =
+      let form : Form = formOf (nodeOf i bs .kind) (nodeOf i bs .detail) in
+      let both = both-pass (atNode names form (nodeOf i bs) (forest (i + 1) (kidsOf bs))) _ p in
+      proper-one (nodeOf j bs) (shapeOf form) _ (shape-known names form _ _ (both .0))
+      (ks (readsOf form) (j + 1) (both .1))
+
+  child-proper : (how : How) → Passes (unpackChild how names (treeOf i bs)) → Proper (shapesChild how (treeOf j bs))
+  unfolding «unpack» shapesOf
+  child-proper Unread p = proper-none
+  child-proper AsType p = type-proper p
+  child-proper AsArgument p = go (eqb (nodeOf i bs .kind) kindList) p
+    where
+      go : (b : Bool) → Passes (if' b (λ _. unpackEach argumentsOnly names (forest (i + 1) (kidsOf bs)))
+          (λ _. «unpack» names (treeOf i bs)))
+          → Proper (if' b (λ _. shapeAt (nodeOf j bs) listShape ∷ shapesEach argumentsOnly (forest (j + 1) (kidsOf bs)))
+          (λ _. shapesOf (treeOf j bs)))
+      go true q = proper-one (nodeOf j bs) listShape _ (omega arith) (ks argumentsOnly (j + 1) q)
+      go false q = type-proper q
+
+-- LAW: what passes the type rule has proper shapes
+pub each-proper : (names : L.List ℕ) (i : ℕ) (bs : L.List ℕ) → ProperFrom names i bs
+unfolding «unpack» shapesOf
+each-proper names = forest-induction (ProperFrom names) few more
+  where
+    few : (i : ℕ) (bs : L.List ℕ) → length bs < 24 → ProperFrom names i bs
+    few i bs short reads j p = rw (forest-none j bs short) proper-none
+
+    more : (i : ℕ) (bs : L.List ℕ) → 24 ≤ length bs → ProperFrom names (i + 1) (kidsOf bs)
+        → ProperFrom names (i + spanOf bs / 24) (restOf bs) → ProperFrom names i bs
+    more i bs big ks rs reads j p =
+        let both = both-pass (unpackChild (reads .first) names (treeOf i bs)) _ (rw (forest-tree i bs big) at p) in
+        rw (forest-tree j bs big) (proper-append (shapesChild (reads .first) (treeOf j bs)) _
+        (child-proper names i j bs ks (reads .first) (both .0))
+        (rs (readsAs (reads .others) (reads .others)) (j + spanOf bs / 24) (both .1)))

@@ -1,6 +1,0 @@
-pub mod FormOf
-pub mod Dots
-pub mod Bases
-pub mod Reading
-pub mod Jobs
-pub mod Promises

@@ -1,4 +1,0 @@
-pub mod Forms
-pub mod Paths
-pub mod Types
-pub mod Jobs

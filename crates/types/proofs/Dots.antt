@@ -1,0 +1,60 @@
+-- Laws of paths over a stretch, in the terms of code: one for each return. Assumes nothing.
+use mathlib.Core.Path.{_≡_, refl, _∙_}
+use mathlib.Core.Bool.{Bool, true, false}
+use mathlib.Core.List.{List, []}
+use Prim.Native.Nat.{ℕ, _+_, _-_, _<_, _≤_}
+use lib.ListN.{length, take, drop}
+use borrow.Author.Tests.{eq-eqb, ne-eqb}
+use Rattle.forest.specs.Forest.{nodeOf, spanOf, forest, treeOf}
+use Rattle.forest.specs.Names.{nameOf}
+use Rattle.forest.proofs.Stretch.{forest-none, forest-tree, kids-part}
+use Rattle.soundness.specs.KindNumbers.{kindDot, kindIdentifier}
+use Rattle.table.specs.Numbers.{dotInType, expectingPath, dotTypeBan}
+use Rattle.table.specs.Answer.{Answer, accepted, refusedAt}
+use Rattle.types.specs.Paths.{banned, objectPath, «unpack_path»}
+
+-- the object of a Dot
+module _ (ban : Bool) (i : ℕ) (t : List ℕ) where
+  pub object-none : length t < 24 → accepted [] ≡ objectPath ban (forest i t)
+  unfolding objectPath
+  object-none h = rw (forest-none i t h) refl
+
+  module _ (big : 24 ≤ length t) {k : ℕ} (k-is : k ≡ nodeOf 0 t .kind) where
+    pub object-banned : k ≡ kindIdentifier → ban ≡ true → {r : Answer} → r ≡ refusedAt dotTypeBan (nodeOf i t)
+        → r ≡ objectPath ban (forest i t)
+    unfolding objectPath
+    object-banned h b r-is = r-is ∙ rw (forest-tree i t big, ← k-is, eq-eqb k kindIdentifier h, b) refl
+
+    pub object-free : k ≡ kindIdentifier → ban ≡ false → accepted [] ≡ objectPath ban (forest i t)
+    unfolding objectPath
+    object-free h b = rw (forest-tree i t big, ← k-is, eq-eqb k kindIdentifier h, b) refl
+
+    module _ (no : k ≡ kindIdentifier → ⊥) where
+      pub object-other : (k ≡ kindDot → ⊥) → {r : Answer} → r ≡ refusedAt dotInType (nodeOf i t)
+          → r ≡ objectPath ban (forest i t)
+      unfolding objectPath
+      object-other h r-is = r-is ∙ rw (forest-tree i t big, ← k-is, ne-eqb k kindIdentifier no, ne-eqb k kindDot h) refl
+
+      pub object-dot : k ≡ kindDot → {e : ℕ} {r : Answer} → e ≡ spanOf t
+          → r ≡ objectPath ban (forest (i + 1) (take (e - 24) (drop 24 t))) → r ≡ objectPath ban (forest i t)
+      unfolding objectPath
+      object-dot h {e} e-is r-is = r-is ∙ rw
+          (kids-part e t e-is, forest-tree i t big, ← k-is, ne-eqb k kindIdentifier no, eq-eqb k kindDot h) refl
+
+-- a path
+module _ (names : List ℕ) (i : ℕ) (t : List ℕ) {k : ℕ} (k-is : k ≡ nodeOf 0 t .kind) where
+  pub path-identifier : k ≡ kindIdentifier → accepted [] ≡ «unpack_path» names (treeOf i t)
+  unfolding «unpack_path»
+  path-identifier h = rw (← k-is, eq-eqb k kindIdentifier h) refl
+
+  module _ (no : k ≡ kindIdentifier → ⊥) where
+    pub path-other : (k ≡ kindDot → ⊥) → {r : Answer} → r ≡ refusedAt expectingPath (nodeOf i t)
+        → r ≡ «unpack_path» names (treeOf i t)
+    unfolding «unpack_path»
+    path-other h r-is = r-is ∙ rw (← k-is, ne-eqb k kindIdentifier no, ne-eqb k kindDot h) refl
+
+    pub path-dot : k ≡ kindDot → {e : ℕ} {b : Bool} {r : Answer} → e ≡ spanOf t → b ≡ banned names (nodeOf 0 t)
+        → r ≡ objectPath b (forest (i + 1) (take (e - 24) (drop 24 t))) → r ≡ «unpack_path» names (treeOf i t)
+    unfolding «unpack_path» nameOf
+    path-dot h {e} e-is b-is r-is = r-is ∙ rw
+        (kids-part e t e-is, b-is, ← k-is, ne-eqb k kindIdentifier no, eq-eqb k kindDot h) refl

@@ -1,0 +1,81 @@
+-- Types: unpack and unpack_argument of src/syntax/type_expr.rs and dialect_check_type of src/syntax/grammar_util.rs,
+-- over trees. These are definitions.
+-- Copyright 2018 The Starlark in Rust Authors. Copyright (c) Facebook, Inc. and its affiliates. Licensed under Apache-2.0; changed.
+use mathlib.Core.List as L
+use Prim.Native.Nat.{ℕ}
+use lib.Dec.{eqb}
+use Rattle.fields.specs.Choice.{if'}
+use Rattle.forest.specs.Forest.{Node, Tree, node, Forest, none, _then_}
+use Rattle.soundness.specs.KindNumbers.{kindIdentifier, kindList}
+use Rattle.dialect.specs.declared.DialectTypes.{DialectTypes}
+use Rattle.dialect.specs.Rows.{permitsTypes}
+use Rattle.table.specs.Numbers.{invalidType, emptyListInType, typesDisabled}
+use Rattle.table.specs.Answer.{Answer, accepted, andThen, refusedAt}
+use Rattle.types.specs.Forms.{formOf, readsAs, readsOf, argumentsOnly, ofChild}
+use Rattle.types.specs.Paths.{«unpack_path»}
+use Rattle.types.specs.declared.How.{How}
+use Rattle.types.specs.declared.Reads.{Reads}
+use Rattle.types.specs.declared.Form.{Form}
+use Rattle.types.specs.declared.Form.the-variants.{Ellipsis, Path, Index, Index2, List, Union, Tuple, Other}
+
+-- the base of an Index, whose node is r: an Identifier, else 40 at the Index
+unfoldable pub indexBase : Node → Forest → Answer
+indexBase r none = refusedAt invalidType r
+indexBase r (node b bs then ts) = if' (eqb (b .kind) kindIdentifier) (λ _. accepted L.[]) (λ _. refusedAt invalidType r)
+
+-- the base of an Index2: a path. Only an unsound one has none, and nothing is refused
+unfoldable pub index2Base : L.List ℕ → Forest → Answer
+index2Base names none = accepted L.[]
+index2Base names (b then ts) = «unpack_path» names b
+
+-- the items of a List that is a type: 41 for none, 40 for one
+unfoldable pub listLength : Node → Forest → Answer
+listLength r none = refusedAt emptyListInType r
+listLength r (t then none) = refusedAt invalidType r
+listLength r (t then (u then ts)) = accepted L.[]
+
+-- what is refused at a node before its children are read
+unfoldable pub atNode : L.List ℕ → Form → Node → Forest → Answer
+atNode names Ellipsis r ks = accepted L.[]
+atNode names Path r ks = «unpack_path» names (node r ks)
+atNode names Index r ks = indexBase r ks
+atNode names Index2 r ks = index2Base names ks
+atNode names List r ks = listLength r ks
+atNode names Union r ks = accepted L.[]
+atNode names Tuple r ks = accepted L.[]
+atNode names Other r ks = refusedAt invalidType r
+
+-- a node as a type, given what its children give by how they are read
+abbrev pub typeRule : L.List ℕ → Node → Forest → (Reads → Answer) → Answer
+typeRule names r ks children =
+    andThen (atNode names (formOf (r .kind) (r .detail)) r ks) (λ _. children (readsOf (formOf (r .kind) (r .detail))))
+
+-- the type rule and the argument rule, which refer to each other; the first refusal, left to right
+unfoldable mutual
+  pub «unpack» : L.List ℕ → Tree → Answer
+  «unpack» names (node r ks) = typeRule names r ks (λ reads. unpackEach reads names ks)
+
+  -- an argument of Index2: a List of arguments, or a type
+  pub «unpack_argument» : L.List ℕ → Tree → Answer
+  «unpack_argument» names (node r ks) =
+      if' (eqb (r .kind) kindList) (λ _. unpackEach argumentsOnly names ks) (λ _.
+      typeRule names r ks (λ reads. unpackEach reads names ks))
+
+  -- the children of a node: the first, then the others
+  pub unpackEach : Reads → L.List ℕ → Forest → Answer
+  unpackEach reads names none = accepted L.[]
+  unpackEach reads names (t then ts) =
+      andThen (ofChild (reads .first) (accepted L.[]) (λ _. «unpack» names t) (λ _. «unpack_argument» names t)) (λ _.
+      unpackEach (readsAs (reads .others) (reads .others)) names ts)
+
+-- a child as it is read
+abbrev pub unpackChild : How → L.List ℕ → Tree → Answer
+unpackChild how names t = ofChild how (accepted L.[]) (λ _. «unpack» names t) (λ _. «unpack_argument» names t)
+
+-- 45 at the type, where the dialect has none
+abbrev pub typesCheck : DialectTypes → Node → Answer
+typesCheck types r = if' (permitsTypes types) (λ _. accepted L.[]) (λ _. refusedAt typesDisabled r)
+
+-- a type in a dialect
+unfoldable pub «dialect_check_type» : L.List ℕ → DialectTypes → Tree → Answer
+«dialect_check_type» names types (node r ks) = andThen (typesCheck types r) (λ _. «unpack» names (node r ks))

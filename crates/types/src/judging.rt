@@ -1,0 +1,141 @@
+// The type rule and the argument rule: whether a stretch begins with a type or an argument, and the first refusal if not.
+//
+// Ported from src/syntax/type_expr.rs of starlark_syntax 0.14.2 (unpack, unpack_argument), and changed: a type is a stretch of the node table.
+// Copyright 2018 The Starlark in Rust Authors. Copyright (c) Facebook, Inc. and its affiliates. Licensed under Apache-2.0.
+use crate::Form;
+use crate::How;
+use crate::Reads;
+use crate::Shaped;
+use crate::forms;
+use crate::paths;
+use soundness::kinds;
+use table::numbers;
+ghost use mathlib.Core.Path.{_≡_};
+ghost use Prim.Native.Nat.{_+_, _*_, _≤_};
+ghost use lib.ListN.{length};
+ghost use Rattle.forest.specs.Forest.{nodeOf, kidsOf, treeOf, forest};
+ghost use Rattle.types.specs.Forms.{formOf};
+ghost use Rattle.types.specs.Types.{indexBase, index2Base, listLength, atNode};
+ghost use Rattle.types.specs.Types.{«unpack», unpackChild, unpackEach};
+ghost use Rattle.types.specs.Jobs.{shaped};
+
+// The base of the Index that a stretch begins with.
+fn index_base(t: &[u8], node: usize) -> Shaped
+    requires { ⌜ (24 ≤ length (now t)) × (24 * node + length (now t) ≤ 50400) ⌝ }
+    ensures { λ r. ⌜ shaped r ≡ indexBase (nodeOf node (now (t .entry))) (forest (node + 1) (kidsOf (now (t .entry)))) ⌝ }
+{
+    let e = forest::span(t);
+    let k = &t[24..e];
+    if k.len() < 24 {
+        return Shaped::Refused(table::refused_at(numbers::INVALID_TYPE, node as u32, t));
+    }
+    if forest::kind(k) != kinds::IDENTIFIER {
+        return Shaped::Refused(table::refused_at(numbers::INVALID_TYPE, node as u32, t));
+    }
+    Shaped::Accepted
+}
+
+// The base of the Index2 that a stretch begins with.
+fn index2_base(names: &[u8], t: &[u8], node: usize) -> Shaped
+    requires { ⌜ (24 ≤ length (now t)) × (24 * node + length (now t) ≤ 50400) ⌝ }
+    ensures { λ r. ⌜ shaped r ≡ index2Base (now (names .entry)) (forest (node + 1) (kidsOf (now (t .entry)))) ⌝ }
+{
+    let e = forest::span(t);
+    let k = &t[24..e];
+    if k.len() < 24 {
+        return Shaped::Accepted;
+    }
+    paths::unpack_path(names, k, node + 1)
+}
+
+// The items of the List that a stretch begins with: a type has two or more.
+fn list_length(t: &[u8], node: usize) -> Shaped
+    requires { ⌜ (24 ≤ length (now t)) × (24 * node + length (now t) ≤ 50400) ⌝ }
+    ensures { λ r. ⌜ shaped r ≡ listLength (nodeOf node (now (t .entry))) (forest (node + 1) (kidsOf (now (t .entry)))) ⌝ }
+{
+    let e = forest::span(t);
+    let k = &t[24..e];
+    if k.len() < 24 {
+        return Shaped::Refused(table::refused_at(numbers::EMPTY_LIST_IN_TYPE, node as u32, t));
+    }
+    let a = forest::span(k);
+    if k.len() < a + 24 {
+        return Shaped::Refused(table::refused_at(numbers::INVALID_TYPE, node as u32, t));
+    }
+    Shaped::Accepted
+}
+
+// What is refused at the node that a stretch begins with, before its children are read.
+fn at_node(names: &[u8], t: &[u8], node: usize) -> Shaped
+    requires { ⌜ (24 ≤ length (now t)) × (24 * node + length (now t) ≤ 50400) ⌝ }
+    ensures { λ r. ⌜ shaped r ≡ atNode (now (names .entry)) (formOf (nodeOf 0 (now (t .entry)) .kind) (nodeOf 0 (now (t .entry)) .detail)) (nodeOf node (now (t .entry))) (forest (node + 1) (kidsOf (now (t .entry)))) ⌝ }
+{
+    let form = forms::form(t);
+    match form {
+        Form::Ellipsis => Shaped::Accepted,
+        Form::Path => paths::unpack_path(names, t, node),
+        Form::Index => index_base(t, node),
+        Form::Index2 => index2_base(names, t, node),
+        Form::List => list_length(t, node),
+        Form::Union => Shaped::Accepted,
+        Form::Tuple => Shaped::Accepted,
+        Form::Other => Shaped::Refused(table::refused_at(numbers::INVALID_TYPE, node as u32, t)),
+    }
+}
+
+// The type that a stretch begins with.
+pub(crate) fn unpack(names: &[u8], t: &[u8], node: usize) -> Shaped
+    requires { ⌜ (24 ≤ length (now t)) × (24 * node + length (now t) ≤ 50400) ⌝ }
+    ensures { λ r. ⌜ shaped r ≡ «unpack» (now (names .entry)) (treeOf node (now (t .entry))) ⌝ }
+{
+    let here = at_node(names, t, node);
+    if let Shaped::Refused(why) = here {
+        return Shaped::Refused(why);
+    }
+    let reads = forms::reads_of(forms::form(t));
+    let e = forest::span(t);
+    unpack_each(names, reads, &t[24..e], node + 1)
+}
+
+// A child as it is read: as a type, or as an argument of an Index2, which is a List of arguments or a type.
+fn unpack_child(names: &[u8], how: How, t: &[u8], node: usize) -> Shaped
+    requires { ⌜ (24 ≤ length (now t)) × (24 * node + length (now t) ≤ 50400) ⌝ }
+    ensures { λ r. ⌜ shaped r ≡ unpackChild how (now (names .entry)) (treeOf node (now (t .entry))) ⌝ }
+{
+    match how {
+        How::Unread => Shaped::Accepted,
+        How::AsType => unpack(names, t, node),
+        How::AsArgument => {
+            if forest::kind(t) == kinds::LIST {
+                let e = forest::span(t);
+                let reads = Reads {
+                    first: How::AsArgument,
+                    others: How::AsArgument,
+                };
+                return unpack_each(names, reads, &t[24..e], node + 1);
+            }
+            unpack(names, t, node)
+        }
+    }
+}
+
+// The children side by side in a stretch, left to right.
+fn unpack_each(names: &[u8], reads: Reads, t: &[u8], node: usize) -> Shaped
+    requires { ⌜ 24 * node + length (now t) ≤ 50400 ⌝ }
+    ensures { λ r. ⌜ shaped r ≡ unpackEach reads (now (names .entry)) (forest node (now (t .entry))) ⌝ }
+{
+    let mut left = t;
+    let mut at = node;
+    let mut how = reads.first;
+    while 24 <= left.len() {
+        let child = unpack_child(names, how, left, at);
+        if let Shaped::Refused(why) = child {
+            return Shaped::Refused(why);
+        }
+        let e = forest::span(left);
+        left = &left[e..];
+        at += e / 24;
+        how = reads.others;
+    }
+    Shaped::Accepted
+}

@@ -1,0 +1,62 @@
+// Paths in types: an Identifier, or Dots down to one.
+//
+// Ported from src/syntax/type_expr.rs of starlark_syntax 0.14.2 (unpack_path), and changed: a path is a stretch of the node table.
+// Copyright 2018 The Starlark in Rust Authors. Copyright (c) Facebook, Inc. and its affiliates. Licensed under Apache-2.0.
+use crate::Shaped;
+use soundness::kinds;
+use table::numbers;
+ghost use mathlib.Core.Path.{_≡_};
+ghost use Prim.Native.Nat.{_+_, _*_, _≤_};
+ghost use lib.ListN.{length};
+ghost use Rattle.forest.specs.Forest.{nodeOf, treeOf, forest};
+ghost use Rattle.types.specs.Paths.{banned, objectPath, «unpack_path»};
+ghost use Rattle.types.specs.Jobs.{shaped};
+
+// The field `type`, which may not end a path.
+const TYPE: [u8; 4] = [116, 121, 112, 101];
+
+// Whether a path that ends in the field of the Dot that a stretch begins with is banned.
+fn is_banned(names: &[u8], t: &[u8]) -> bool
+    ensures { λ r. ⌜ r ≡ banned (now (names .entry)) (nodeOf 0 (now (t .entry))) ⌝ }
+{
+    let field = TYPE;
+    forest::names::same_bytes(forest::names::name(names, t), &field)
+}
+
+// The path that a stretch begins with.
+pub(crate) fn unpack_path(names: &[u8], t: &[u8], node: usize) -> Shaped
+    requires { ⌜ (24 ≤ length (now t)) × (24 * node + length (now t) ≤ 50400) ⌝ }
+    ensures { λ r. ⌜ shaped r ≡ «unpack_path» (now (names .entry)) (treeOf node (now (t .entry))) ⌝ }
+{
+    let kind = forest::kind(t);
+    if kind == kinds::IDENTIFIER {
+        return Shaped::Accepted;
+    }
+    if kind != kinds::DOT {
+        return Shaped::Refused(table::refused_at(numbers::EXPECTING_PATH, node as u32, t));
+    }
+    let e = forest::span(t);
+    object_path(is_banned(names, t), &t[24..e], node + 1)
+}
+
+// The object of a Dot in a path that is banned, or not.
+fn object_path(ban: bool, t: &[u8], node: usize) -> Shaped
+    requires { ⌜ 24 * node + length (now t) ≤ 50400 ⌝ }
+    ensures { λ r. ⌜ shaped r ≡ objectPath ban (forest node (now (t .entry))) ⌝ }
+{
+    if t.len() < 24 {
+        return Shaped::Accepted;
+    }
+    let kind = forest::kind(t);
+    if kind == kinds::IDENTIFIER {
+        if ban {
+            return Shaped::Refused(table::refused_at(numbers::DOT_TYPE_BAN, node as u32, t));
+        }
+        return Shaped::Accepted;
+    }
+    if kind != kinds::DOT {
+        return Shaped::Refused(table::refused_at(numbers::DOT_IN_TYPE, node as u32, t));
+    }
+    let e = forest::span(t);
+    object_path(ban, &t[24..e], node + 1)
+}
