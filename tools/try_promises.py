@@ -81,7 +81,7 @@ def theorems(crate):
     return f"crates/{crate}/proofs/Promises.antt"
 
 
-NO_SHAPES_PROMISE = changed(source("types"), r"^    ensures [^\n]*shapes \.exit[^\n]*\n", "")
+NO_SHAPES_PROMISE = changed(source("shapes"), r"^    ensures [^\n]*shapes \.exit[^\n]*\n", "")
 MADE_UP = "fn made_up(n: u32) -> u32 {\n    n\n}\n"
 
 # the words of a fault, its plant, and a pattern of the line that must tell it
@@ -91,10 +91,10 @@ PLANTED = [
      "ffi::starlark_assignment: no 'ensures' fixes its answer"),
     ("the buffer promise of type_shape deleted",
      NO_SHAPES_PROMISE,
-     "types::type_shape: no 'ensures' fixes what shapes is at exit"),
+     "shapes::type_shape: no 'ensures' fixes what shapes is at exit"),
     ("and from its theorem too",
-     both(NO_SHAPES_PROMISE, *[changed(theorems("types"), rf"→ shapes-{answer} ≡ [^→]*", "") for answer in "rs"]),
-     "types::type_shape: no 'ensures' fixes what shapes is at exit"),
+     both(NO_SHAPES_PROMISE, *[changed(theorems("shapes"), rf"→ shapes-{answer} ≡ [^→]*", "") for answer in "rs"]),
+     "shapes::type_shape: no 'ensures' fixes what shapes is at exit"),
     ("a 'requires' at a public function",
      changed(source("targets"), r"(^pub fn target\([^\n]*\n)", r"\1    requires { ⌜ node ≤ 1 ⌝ }\n"),
      "targets::target: it has a 'requires'"),
@@ -108,8 +108,8 @@ PLANTED = [
      changed(source("fields"), r"    (?=ensures \{ λ r\. ⌜ r ≡ field 2)", "    // "),
      "fields::half: no 'ensures' fixes its answer"),
     ("a premise of a theorem weakened",
-     changed(theorems("types"), "shapes-s ≡ shapesAfter [^→]*", "shapes-s ≡ shapes-r "),
-     "types::type_shape: its contract gives .* but its theorem says '.*shapes-s ≡ shapes-r"),
+     changed(theorems("shapes"), "shapes-s ≡ shapesAfter [^→]*", "shapes-s ≡ shapes-r "),
+     "shapes::type_shape: its contract gives .* but its theorem says '.*shapes-s ≡ shapes-r"),
     ("a conclusion of a theorem weakened",
      changed(theorems("ffi"), r"\(r ≡ s\) × \(out-r ≡ out-s\)", "r ≡ s"),
      "ffi::starlark_table: its contract gives .* but its theorem says"),
