@@ -150,7 +150,7 @@ PLANTED = [
      changed("docs/PROMISES.md", r"^\| `byte` \|[^\n]*\n", ""),
      "docs/PROMISES.md lacks a line that the sources give"),
     ("the wrong answers of a function moved to one that it calls",
-     moved_edits("table", "check", "src/depth.rt", "if 64 < here {", "if 65 < here {"),
+     moved_edits("table", "check", "src/depth.rt", "if MOST_DEPTH < here {", "if 65 < here {"),
      "table::check: no wrong answer .* stands in its body"),
     ("a wrong answer in a contract",
      created("crates/fields/wrong/planted.edit", "file: src/lib.rt\nold: r ≡ field 2 (\nnew: r ≡ field 4 (\n"),
