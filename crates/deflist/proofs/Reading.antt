@@ -18,6 +18,7 @@ use Rattle.soundness.specs.Kinds.{parameter, classOf}
 use Rattle.deflist.specs.Written.{Param, nodeIn, kindIn, param, paramOf, paramsIn, kindAt}
 use Rattle.deflist.specs.Unpack.{hasName, firstSame, isSlash, slashFrom, firstSlash, writtenAt}
 use Rattle.deflist.specs.Reading.{isListed, kindHere}
+use Rattle.deflist.specs.declared.Written.{Written}
 use Rattle.deflist.specs.declared.Kind.{Kind}
 use Rattle.deflist.specs.declared.Kind.the-variants.{Normal, NoArgs, Slash, Args, KwArgs}
 use Rattle.deflist.specs.declared.WrittenPlace.the-variants.{AtWritten, NoWritten}
@@ -222,11 +223,12 @@ module _ {kids left : List ℕ} {n : ℕ} (s : Slashing kids left n) where
         rw hit at (slash-one l-yes refl ns i)
 
     pub slash-on : l ≡ true → {k : Kind} {b : Bool} {e : ℕ} → k ≡ kindHere left → b ≡ isSlash k → b ≡ false
-        → e ≡ spanOf left → Slashing kids (take (length left - e) (drop e left)) (n + 1)
+        → e ≡ spanOf left → {m : Written} → m ≡ writtenAt (n + 1)
+        → Slashing kids (take (length left - e) (drop e left)) (m .0)
     unfolding slashFrom
-    slash-on l-yes {k} {b} {e} k-is b-is b-no e-is =
+    slash-on l-yes {k} {b} {e} k-is b-is b-no e-is m-is =
         let yes : isListed left ≡ true = sym l-is ∙ l-yes in
-        record {
+        rw m-is (record {
           room = simp (length-take, length-drop) (omega (arith, s .room, listed-long left yes));
           from = λ ns i. s .from ns i + e / 24;
           reads = λ ns i. read-on (s .reads ns i) yes e-is;
@@ -234,11 +236,17 @@ module _ {kids left : List ℕ} {n : ℕ} (s : Slashing kids left n) where
               let miss : isSlash (kindIn (paramOf ns (nodeOf (s .from ns i) left)))
               ≡ false = ap isSlash (kind-in ns (s .from ns i) left ∙ sym k-is) ∙ sym b-is ∙ b-no in
               rw (read-on (s .reads ns i) yes e-is .rest) (rw miss at (slash-one l-yes e-is ns i));
-        }
+        })
 
     pub slash-end : l ≡ false → (ns : List ℕ) (i : ℕ) → NoWritten ≡ firstSlash (paramsIn ns (forest i kids))
     unfolding slashFrom
     slash-end l-no ns i = rw (read-end (s .reads ns i) (sym l-is ∙ l-no)) at (s .same ns i)
+
+-- the same of a position that is a struct
+pub slash-at : {kids left : List ℕ} (w : Written) → Slashing kids left (w .0) → {l : Bool} → l ≡ isListed left
+    → l ≡ true → {k : Kind} {b : Bool} → k ≡ kindHere left → b ≡ isSlash k → b ≡ true
+    → (ns : List ℕ) (i : ℕ) → AtWritten w ≡ firstSlash (paramsIn ns (forest i kids))
+slash-at w s l-is l-yes k-is b-is b-yes ns i = slash-here s l-is l-yes k-is b-is b-yes ns i
 
 -- Stepping over n parameters: i are stepped over, and they take at bytes
 pub record Skipping (kids : List ℕ) (n at i : ℕ) : Type 0 where

@@ -252,17 +252,17 @@ module _ {ns kids : List ℕ} {first : ℕ} {u₀ u : Unpacking} {left : List �
         )
 
         pub judge-on : c ≡ Fine → {k : Kind} → k ≡ kindHere left → {v : Unpacking} → v ≡ advance u (writtenAt n) k
-            → {e : ℕ} → e ≡ spanOf left
-            → Judging ns kids first u₀ v (take (length left - e) (drop e left)) (at + e / 24) (n + 1)
+            → {e : ℕ} → e ≡ spanOf left → {m : Written} → m ≡ writtenAt (n + 1)
+            → Judging ns kids first u₀ v (take (length left - e) (drop e left)) (at + e / 24) (m .0)
         unfolding advance
-        judge-on fine {k} k-is v-is {e} e-is =
+        judge-on fine {k} k-is v-is {e} e-is m-is =
             let w = paramsIn ns (forest first kids) in
             let p = paramOf ns (nodeOf at left) in
             let x = read-here (j .reads) listed e-is in
             let good = sym (c-is at) ∙ fine in
             let long : length (take n w) ≡ n = length-take-le n w (j .reads .upto) in
             let kind : k ≡ kindIn p = k-is ∙ sym (kind-in ns at left) in
-            rw (v-is, kind)
+            rw (v-is, kind, m-is)
             (record {
               reads = read-on (j .reads) listed e-is;
               room = simp (length-take, length-drop) (omega (arith, j .room, listed-long left listed));

@@ -5,11 +5,11 @@ use crate::entry;
 use crate::rules;
 ghost use mathlib.Core.Path.{_≡_};
 ghost use mathlib.Core.List.{List};
-ghost use Prim.Native.Nat.{ℕ, _+_, _/_, _≤_};
+ghost use Prim.Native.Nat.{ℕ, _+_, _/_, _≤_, _<_, _^_};
 ghost use lib.ListN.{length, drop};
 ghost use Rattle.forest.specs.Forest.{nodeOf, forest};
 ghost use Rattle.deflist.specs.Written.{paramOf, paramsIn};
-ghost use Rattle.deflist.specs.Unpack.{hasName, firstSlash};
+ghost use Rattle.deflist.specs.Unpack.{writtenAt, hasName, firstSlash};
 
 // Whether the parameter that a stretch begins with has this name.
 pub(crate) fn has_name(names: &[u8], name: &[u8], t: &[u8]) -> bool
@@ -21,19 +21,27 @@ pub(crate) fn has_name(names: &[u8], name: &[u8], t: &[u8]) -> bool
     forest::names::same_bytes(forest::names::name(names, t), name)
 }
 
+// The next position in the written list.
+pub(crate) fn next(n: Written) -> Written
+    requires { ⌜ n .0 + 1 < 2 ^ 64 ⌝ }
+    ensures { λ r. ⌜ r ≡ writtenAt (n .0 + 1) ⌝ }
+{
+    Written(n.0 + 1)
+}
+
 // The written position of the first `/`.
 pub(crate) fn first_slash(kids: &[u8]) -> WrittenPlace
     ensures { λ r. ⌜ ((names : List ℕ) (i : ℕ) → r ≡ firstSlash (paramsIn names (forest i (now (kids .entry))))) ⌝ }
 {
     let mut left = kids;
-    let mut i = 0;
+    let mut i = Written(0);
     while entry::listed(left) {
         if entry::is_slash(entry::kind_of(left)) {
-            return WrittenPlace::AtWritten(Written(i));
+            return WrittenPlace::AtWritten(i);
         }
         let e = forest::span(left);
         left = &left[e..];
-        i += 1;
+        i = next(i);
     }
     WrittenPlace::NoWritten
 }

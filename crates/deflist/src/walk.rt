@@ -208,25 +208,16 @@ fn run(names: &[u8], kids: &[u8], first: usize, only: Flat) -> Judged
     let mut u = rules::start(only);
     let mut left = kids;
     let mut at = first;
-    let mut n = 0;
+    let mut n = Written(0);
     while entry::listed(left) {
         let kind = entry::kind_of(left);
         let state = u.state;
-        let c = check(
-            names,
-            kids,
-            first,
-            Written(n),
-            left,
-            state,
-            u.seen_optional,
-            kind,
-        );
+        let c = check(names, kids, first, n, left, state, u.seen_optional, kind);
         if let Check::Broken(number) = c {
             return Judged::Refused(fault(number, at, left));
         }
-        u = advance(u, Written(n), kind);
-        n += 1;
+        u = advance(u, n, kind);
+        n = list::next(n);
         let e = forest::span(left);
         at += e / 24;
         left = &left[e..];

@@ -9,8 +9,8 @@ use Rattle.table.specs.declared.Refusal.{Refusal}
 use Rattle.table.specs.declared.Place.{Place}
 use Rattle.table.specs.declared.Place.the-variants.{At, Nothing}
 use Rattle.parameters.specs.declared.Range.{Range}
-use Rattle.parameters.specs.Params.{paramsOf}
-use Rattle.parameters.proofs.Accepted.{AllBelow, accepted-small}
+use Rattle.parameters.specs.Params.{paramsOf, AllBelow}
+use Rattle.parameters.proofs.Accepted.{accepted-small}
 use Rattle.arguments.specs.Job.{placeValues, callValues}
 use Rattle.arguments.specs.declared.CallArgs.{CallArgs}
 use Rattle.ffi.specs.Words.{number, words, placeIn, callWords, laid, Fit}

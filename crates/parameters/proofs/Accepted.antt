@@ -26,7 +26,7 @@ use Rattle.deflist.specs.declared.Counts.{Counts}
 use Rattle.deflist.specs.Reached.{reached, AllAtMost}
 use Rattle.deflist.proofs.Theorems.{accepted-bounded, written-short}
 use Rattle.deflist.proofs.Counted.{counted-at-most, at-most-wider}
-use Rattle.parameters.specs.Params.{answerOf, roomCheck, listAnswer, listOf, paramsOf}
+use Rattle.parameters.specs.Params.{AllBelow, answerOf, roomCheck, listAnswer, listOf, paramsOf}
 
 -- an accepted answer: the table is sound, the node fits, the buffer is long enough, and unpack accepts the list with these values
 pub record Passed (t ns : List ℕ) (node room : ℕ) (vs : List ℕ) : Type 0 where
@@ -77,11 +77,6 @@ accepted-passed t ns node room {vs} e = by-entry (entryCheck Parameters t ns nod
         let known = entry-sound Parameters t ns node s in
         by-room (sound-entry Parameters t ns node (known .0) (known .1)) (leb (length (listOf t ns node)) room) refl e
     by-entry (refused n ws) s e = never-passed e
-
--- every number is at most m
-abbrev pub AllBelow : ℕ → List ℕ → Type 0
-AllBelow m [] = Unit {0}
-AllBelow m (v ∷ vs) = (v ≤ m) × AllBelow m vs
 
 place-below : (p : FlatPlace) (n m : ℕ) → PlaceBelow m p → n ≤ m
     → (placeRange (placeOf p) n .from ≤ m) × (placeRange (placeOf p) n .upto ≤ m + 1)

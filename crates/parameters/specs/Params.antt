@@ -1,6 +1,6 @@
 -- The parameters job: what it answers, and the mode buffer afterwards, for any bytes. These are definitions.
 use mathlib.Core.List.{List, [], _++_}
-use Prim.Native.Nat.{ℕ}
+use Prim.Native.Nat.{ℕ, _≤_}
 use lib.ListN.{length, drop}
 use lib.Dec.{leb}
 use Rattle.fields.specs.Choice.{if'}
@@ -49,3 +49,8 @@ afterwards (refused n vs) modes ms = ms
 
 unfoldable pub modesAfter : List ℕ → List ℕ → ℕ → List ℕ → List ℕ
 modesAfter t names node ms = afterwards (paramsOf t names node (length ms)) (def.modes (listOf t names node)) ms
+
+-- every number is at most m
+abbrev pub AllBelow : ℕ → List ℕ → Type 0
+AllBelow m [] = Unit {0}
+AllBelow m (v ∷ vs) = (v ≤ m) × AllBelow m vs

@@ -121,15 +121,15 @@ and-swap false false s = refl
 abbrev pub kidsNumber : List ℕ → ℕ
 kidsNumber t = length (classes (forest 0 t))
 
-number-within : (i : ℕ) (bs : List ℕ) → length (classes (forest i bs)) ≤ length bs
+number-within : (i : ℕ) (bs : List ℕ) → 24 * length (classes (forest i bs)) ≤ length bs
 unfolding classes
 number-within =
-    forest-induction (λ i bs. length (classes (forest i bs)) ≤ length bs)
+    forest-induction (λ i bs. 24 * length (classes (forest i bs)) ≤ length bs)
     (λ i bs s. rw (forest-none i bs s) (omega arith))
     (λ i bs big ks rs. rw (forest-tree i bs big) (omega (arith, length-rest bs)))
 
--- where a rule has no last ones, no child stands past the bytes
-pub no-last : (t : List ℕ) {b : ℕ} → b ≡ 0 → LastFrom (kidsNumber t) b (length t)
+-- where a rule has no last ones, no child stands past the records
+pub no-last : (t : List ℕ) {b : ℕ} → b ≡ 0 → LastFrom (kidsNumber t) b (length t / 24)
 no-last t e = omega (arith, number-within 0 t)
 
 -- the nodes side by side in `left`, a rest of t, are whole and of the classes wanted of the children of t from j on

@@ -6,6 +6,38 @@ ghost use lib.ListN.{getD};
 ghost use Rattle.soundness.specs.Kinds.{kindOf, classOf};
 ghost use Rattle.soundness.specs.Packed.{RowOf, ruleAt, ruleOf, childrenOf, frontsIn, frontIn, timesIn, middleIn, backsIn, backIn};
 
+// Where the parts of a row stand in its number: the power of 16 of their last digit.
+const CLASS: u64 = 0x100_0000_0000;
+
+const DETAILS: u64 = 0x10_0000_0000;
+
+const NAMED: u64 = 0x1_0000_0000;
+
+const RULE_0: u64 = 0x100_0000;
+
+const RULE_1: u64 = 0x1_0000;
+
+const RULE_2: u64 = 0x100;
+
+// And those of a rule.
+const FRONTS: u64 = 0x10_0000_0000;
+
+const FRONT_0: u64 = 0x1_0000_0000;
+
+const FRONT_1: u64 = 0x1000_0000;
+
+const FRONT_2: u64 = 0x100_0000;
+
+const TIMES: u64 = 0x10_0000;
+
+const MIDDLE: u64 = 0x1_0000;
+
+const BACKS: u64 = 0x1000;
+
+const BACK_0: u64 = 0x100;
+
+const BACK_1: u64 = 0x10;
+
 // The row of a kind: class, largest detail, whether a name stands on it, and the number of its rule at the details 0, 1, 2 and 3, two digits each. A
 // number that no kind has gives nothing.
 fn row_of(kind: u8) -> u64
@@ -61,25 +93,25 @@ fn row_of(kind: u8) -> u64
     }
 }
 
-// The class of a kind: 1 statement, 2 expression, 3 parameter, 4 argument, 0 no kind.
+// The class of a kind, 0 for no kind.
 pub(crate) fn class(kind: u8) -> u8
     ensures { λ r. ⌜ r ≡ classOf kind ⌝ }
 {
-    (row_of(kind) / 0x100_0000_0000 % 16) as u8
+    (row_of(kind) / CLASS % 16) as u8
 }
 
 // The largest detail of a kind.
 pub(crate) fn details(kind: u8) -> u8
     ensures { λ r. ⌜ r ≡ kindOf kind .details ⌝ }
 {
-    (row_of(kind) / 0x10_0000_0000 % 4) as u8
+    (row_of(kind) / DETAILS % 4) as u8
 }
 
 // Whether a name stands on a kind.
 pub(crate) fn named(kind: u8) -> bool
     ensures { λ r. ⌜ r ≡ kindOf kind .named ⌝ }
 {
-    row_of(kind) / 0x1_0000_0000 % 16 == 1
+    row_of(kind) / NAMED % 16 == 1
 }
 
 // The number of the rule of a kind at a detail.
@@ -88,9 +120,9 @@ fn rule_number(kind: u8, detail: u8) -> u64
 {
     let row = row_of(kind);
     match detail {
-        0 => row / 0x100_0000 % 0x100,
-        1 => row / 0x1_0000 % 0x100,
-        2 => row / 0x100 % 0x100,
+        0 => row / RULE_0 % 0x100,
+        1 => row / RULE_1 % 0x100,
+        2 => row / RULE_2 % 0x100,
         3 => row % 0x100,
         _ => 0,
     }
@@ -135,7 +167,7 @@ pub(crate) fn rule_of(kind: u8, detail: u8) -> u64
 pub(crate) fn fronts(rule: u64) -> usize
     ensures { λ r. ⌜ r ≡ frontsIn rule ⌝ }
 {
-    (rule / 0x10_0000_0000 % 4) as usize
+    (rule / FRONTS % 4) as usize
 }
 
 // The class of child j among the first.
@@ -143,9 +175,9 @@ pub(crate) fn front(rule: u64, j: usize) -> u8
     ensures { λ r. ⌜ r ≡ getD (frontIn rule) j 0 ⌝ }
 {
     match j {
-        0 => (rule / 0x1_0000_0000 % 16) as u8,
-        1 => (rule / 0x1000_0000 % 16) as u8,
-        2 => (rule / 0x100_0000 % 16) as u8,
+        0 => (rule / FRONT_0 % 16) as u8,
+        1 => (rule / FRONT_1 % 16) as u8,
+        2 => (rule / FRONT_2 % 16) as u8,
         _ => 0,
     }
 }
@@ -154,21 +186,21 @@ pub(crate) fn front(rule: u64, j: usize) -> u8
 pub(crate) fn times(rule: u64) -> u8
     ensures { λ r. ⌜ r ≡ timesIn rule ⌝ }
 {
-    (rule / 0x10_0000 % 16) as u8
+    (rule / TIMES % 16) as u8
 }
 
 // Their class.
 pub(crate) fn middle(rule: u64) -> u8
     ensures { λ r. ⌜ r ≡ middleIn rule ⌝ }
 {
-    (rule / 0x1_0000 % 16) as u8
+    (rule / MIDDLE % 16) as u8
 }
 
 // How many children come last.
 pub(crate) fn backs(rule: u64) -> usize
     ensures { λ r. ⌜ r ≡ backsIn rule ⌝ }
 {
-    (rule / 0x1000 % 4) as usize
+    (rule / BACKS % 4) as usize
 }
 
 // The class of child k of the last.
@@ -176,8 +208,8 @@ pub(crate) fn back(rule: u64, k: usize) -> u8
     ensures { λ r. ⌜ r ≡ getD (backIn rule) k 0 ⌝ }
 {
     match k {
-        0 => (rule / 0x100 % 16) as u8,
-        1 => (rule / 16 % 16) as u8,
+        0 => (rule / BACK_0 % 16) as u8,
+        1 => (rule / BACK_1 % 16) as u8,
         2 => (rule % 16) as u8,
         _ => 0,
     }

@@ -77,12 +77,13 @@ fn children(t: &[u8]) -> usize
     n
 }
 
-// The child from which on the last ones stand, of which a rule has so many: the children are counted only where it has any.
+// The child from which on the last ones stand, of which a rule has so many. Where it has none, no child: the children are then not counted, and
+// there are no more of them than records.
 fn last_from(t: &[u8], backs: usize) -> usize
     ensures { λ r. ⌜ LastFrom (length (classes (forest 0 (now (t .entry))))) backs r ⌝ }
 {
     if backs == 0 {
-        return t.len();
+        return t.len() / 24;
     }
     let n = children(t);
     if n < backs {

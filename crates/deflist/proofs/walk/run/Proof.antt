@@ -8,7 +8,7 @@ use Rattle.deflist.proofs.walk.run.Statement.{statement}
 use Rattle.deflist.proofs.walk.run.Tie as tie
 
 abbrev Inv-loop : tie.InvT-loop
-Inv-loop names kids first u₀ left₀ at₀ n₀ u left at n = Judging names kids first u₀ u left at n
+Inv-loop names kids first u₀ left₀ at₀ n₀ u left at n = Judging names kids first u₀ u left at (n .0)
 
 abbrev μ-loop : tie.MeasureT-loop
 μ-loop names kids first u₀ left₀ at₀ n₀ u left at n = length left
@@ -46,16 +46,17 @@ run-spec =
     (λ c. search rest-less)  -- loop-less
     (λ c.  -- loop-again
     let span = c .before .span in
-    let advance = c .before .before .advance in
-    let enum-told = c .before .before .before .enum-told in
-    let check = c .before .before .before .before .before .check in
-    let kind-of = c .before .before .before .before .before .before .kind-of in
+    let next = c .before .before .next in
+    let advance = c .before .before .before .advance in
+    let enum-told = c .before .before .before .before .enum-told in
+    let check = c .before .before .before .before .before .before .check in
     let back = c .before .before .before .before .before .before in
-    let if1 = back .before .if1 in
-    let listed = back .before .before .listed in
-    let loop = back .before .before .before .loop in
+    let kind-of = back .before .kind-of in
+    let if1 = back .before .before .if1 in
+    let listed = back .before .before .before .listed in
+    let loop = back .before .before .before .before .loop in
     judge-on loop.inv listed.ensures if1.taken check.ensures enum-told.given.1 kind-of.ensures advance.ensures
-    span.ensures)
+    span.ensures next.ensures)
     (λ c κs. search needs)
     (λ c.  -- returns-2
     let if1 = c .before .before .if1 in
