@@ -3,6 +3,7 @@
 // Ported from src/syntax/call.rs of starlark_syntax 0.14.2, and changed: the arguments are records of a node table, the set of names is a search.
 // Copyright 2018 The Starlark in Rust Authors. Copyright (c) Facebook, Inc. and its affiliates. Licensed under Apache-2.0.
 use forest::Found;
+use forest::RECORD;
 use soundness::kinds;
 use table::Checked;
 use table::Place;
@@ -80,9 +81,9 @@ fn arguments(t: &[u8], names: &[u8], node: usize) -> Called
     ensures { λ r. ⌜ called r ≡ callAnswer (now (names .entry)) (treeOf node (now (t .entry))) ⌝ }
 {
     let e = forest::span(t);
-    let kids = &t[24..e];
+    let kids = &t[RECORD..e];
     let c = forest::span(kids);
-    unpack(&kids[c..], names, node + 1 + c / 24)
+    unpack(&kids[c..], names, node + 1 + c / RECORD)
 }
 
 // CallArgsUnpack::unpack of a list of arguments, the first of which is the node first.
@@ -102,7 +103,7 @@ fn unpack(args: &[u8], names: &[u8], first: usize) -> Called
     let mut left = args;
     let mut at = first;
     let mut n = 0;
-    while 24 <= left.len() {
+    while RECORD <= left.len() {
         let stage = w.stage;
         let c = check_argument(names, args, first, n, left, stage);
         let judged = refused(c, at as u32, left);
@@ -112,7 +113,7 @@ fn unpack(args: &[u8], names: &[u8], first: usize) -> Called
         w = advance(w, n as u32, kind_of(left));
         n += 1;
         let e = forest::span(left);
-        at += e / 24;
+        at += e / RECORD;
         left = &left[e..];
     }
     let counts = w.counts;
@@ -227,7 +228,7 @@ fn earlier(names: &[u8], name: &[u8], args: &[u8], first: usize, n: usize) -> Fo
             return Found::At(at);
         }
         let e = forest::span(left);
-        at += e / 24;
+        at += e / RECORD;
         left = &left[e..];
         i += 1;
     }

@@ -19,10 +19,11 @@ use Rattle.fields.specs.Field.{field}
 use Rattle.fields.proofs.Fields.{field-take}
 use Rattle.table.specs.Numbers.{blockShort, blockNumber, blockCheck, blockUsed}
 use Rattle.table.specs.Answer.{Answer, accepted, refused, andThen}
-use Rattle.blocks.specs.Block.{bytesOf, sumOf, weighed, beforeSum, blockOf, zeros, demand, examine, judge}
-use Rattle.blocks.proofs.Spelling.{Bytes, bytes-take, bytes-append, bytes-zeros, bytes-spelled}
-use Rattle.blocks.proofs.Spelling.{length-bytes, field-behind, field-before, field-bytes, bytes-field}
-use Rattle.blocks.proofs.Spelling.{field-outside, field-changed}
+use Rattle.fields.specs.Field.{bytesOf}
+use Rattle.blocks.specs.Block.{sumOf, weighed, beforeSum, blockOf, zeros, demand, examine, judge}
+use Rattle.fields.proofs.Spelling.{Bytes, bytes-take, bytes-append, bytes-zeros, bytes-spelled}
+use Rattle.fields.proofs.Spelling.{length-bytes, field-behind, field-before, field-bytes, bytes-field}
+use Rattle.fields.proofs.Spelling.{field-outside, field-changed}
 use Rattle.blocks.proofs.Sums.{weighed-front, weighed-outside, weighed-changed, sum-small}
 
 -- what the judgement of a block demands

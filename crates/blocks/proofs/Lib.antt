@@ -1,5 +1,4 @@
 pub mod Filling
-pub mod Spelling
 pub mod Sums
 pub mod Judging
 pub mod Blocks

@@ -21,7 +21,7 @@ use Rattle.blocks.specs.Run.{blocksFor, blocksOf, runOf, judgeBlocks, ju
 use Rattle.blocks.specs.Run.{contentOf}
 use Rattle.blocks.proofs.Blocks.{passing, passing-then, passes, take-min, length-block}
 use Rattle.blocks.proofs.Blocks.{content-there, block-passes, passed-is-block, changed-block, judge-outside}
-use Rattle.blocks.proofs.Spelling.{Bytes, bytes-take, bytes-drop}
+use Rattle.fields.proofs.Spelling.{Bytes, bytes-take, bytes-drop}
 
 -- a byte behind the first n
 pub drop-set : (n : ℕ) (l : List ℕ) (i v : ℕ) → n ≤ i → drop n (set l i v) ≡ set (drop n l) (i - n) v

@@ -10,7 +10,7 @@ use lib.ListN.{length, getD, set, List·getD-append}
 use lib.Seq.{getD-set-same, getD-set-other}
 use Rattle.fields.proofs.Basics.{le-or-lt}
 use Rattle.blocks.specs.Block.{weighed, sumOf}
-use Rattle.blocks.proofs.Spelling.{Bytes}
+use Rattle.fields.proofs.Spelling.{Bytes}
 
 -- what a byte adds
 pub weight-small : (p x : ℕ) → p < 508 → x < 256 → (p + 1) * x ≤ 129540

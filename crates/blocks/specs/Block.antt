@@ -1,11 +1,11 @@
 -- Blocks of 512 bytes, little-endian: 0-1 number, 2-3 used bytes, 4-507 content, 508-511 the sum. These are definitions.
 use mathlib.Core.Bool.{Bool, true, _&&_}
 use mathlib.Core.List.{List, [], _∷_, _++_}
-use Prim.Native.Nat.{ℕ, zero, suc, _+_, _*_, _-_, _/_, _%_}
+use Prim.Native.Nat.{ℕ, zero, suc, _+_, _*_, _-_}
 use lib.ListN.{length, getD, take, drop, replicate}
 use lib.Dec.{eqb, leb}
 use Rattle.fields.specs.Choice.{if'}
-use Rattle.fields.specs.Field.{field}
+use Rattle.fields.specs.Field.{field, bytesOf}
 use Rattle.table.specs.Numbers.{blockShort, blockNumber, blockCheck, blockUsed}
 use Rattle.table.specs.Answer.{Answer, accepted, refused, andThen}
 use Rattle.blocks.specs.declared.Judged.{Judged}
@@ -17,11 +17,6 @@ blockBytes = 512
 
 abbrev pub contentBytes : ℕ
 contentBytes = 504
-
--- a number as w bytes, low byte first
-unfoldable pub bytesOf : ℕ → ℕ → List ℕ
-bytesOf zero n = []
-bytesOf (suc w) n = n % 256 ∷ bytesOf w (n / 256)
 
 -- the sum of (p + 1) times byte p over the first n places
 unfoldable pub weighed : ℕ → List ℕ → ℕ

@@ -4,7 +4,7 @@ use mathlib.Core.List.{List}
 use Prim.Native.Nat.{ℕ, _<_, _≤_}
 use lib.ListN.{length}
 use lib.Dec.{eqb, leb}
-use Rattle.forest.specs.Forest.{nodeOf}
+use Rattle.forest.specs.Forest.{recordBytes, nodeOf}
 use Rattle.soundness.specs.Kinds.{parameter, classOf}
 use Rattle.deflist.specs.Written.{Param, kindAt}
 use Rattle.deflist.specs.Unpack.{isSlash}
@@ -20,7 +20,7 @@ use Rattle.deflist.specs.declared.Judged.the-variants.{Accepted, Refused
 
 -- a stretch begins with a parameter
 unfoldable pub isListed : List ℕ → Bool
-isListed t = leb 24 (length t) && eqb (classOf (nodeOf 0 t .kind)) parameter
+isListed t = leb recordBytes (length t) && eqb (classOf (nodeOf 0 t .kind)) parameter
 
 -- the kind of the parameter that a stretch begins with
 unfoldable pub kindHere : List ℕ → Kind

@@ -1,5 +1,6 @@
 // The parameter that a stretch begins with.
 use crate::Kind;
+use forest::RECORD;
 use soundness::classes;
 use soundness::kinds;
 ghost use mathlib.Core.Path.{_≡_};
@@ -11,7 +12,7 @@ ghost use Rattle.deflist.specs.Reading.{isListed, kindHere};
 pub fn listed(t: &[u8]) -> bool
     ensures { λ r. ⌜ r ≡ isListed (now (t .entry)) ⌝ }
 {
-    (24 <= t.len()) & (table::class(t) == classes::PARAMETER)
+    (RECORD <= t.len()) & (table::class(t) == classes::PARAMETER)
 }
 
 fn has_default(detail: u8) -> bool

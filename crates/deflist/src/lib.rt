@@ -8,6 +8,7 @@ mod rules;
 pub mod states;
 mod walk;
 
+use forest::RECORD;
 use table::Span;
 ghost use mathlib.Core.Path.{_≡_};
 ghost use Prim.Native.Nat.{_+_, _/_};
@@ -92,10 +93,10 @@ pub fn children(t: &[u8]) -> &[u8]
     ensures { λ r. ⌜ now r ≡ kidsOf (now (t .entry)) ⌝ }
 {
     let e = forest::span(t);
-    if e < 24 {
+    if e < RECORD {
         return &t[0..0];
     }
-    &t[24..e]
+    &t[RECORD..e]
 }
 
 // DefParams::unpack of the written list of a node, whose stretch is lent: what is counted, or the first refusal.

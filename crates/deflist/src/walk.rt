@@ -18,6 +18,7 @@ use crate::list;
 use crate::rules;
 use crate::states;
 use forest::Found;
+use forest::RECORD;
 use table::numbers;
 ghost use mathlib.Core.Path.{_≡_};
 ghost use mathlib.Core.List.{List, []};
@@ -39,11 +40,11 @@ fn earlier(names: &[u8], name: &[u8], kids: &[u8], first: usize, n: Written) -> 
     let mut at = first;
     let mut i = 0;
     while i < n.0 {
-        if list::has_name(names, name, &left[0..24]) {
+        if list::has_name(names, name, &left[0..RECORD]) {
             return Found::At(at);
         }
         let e = forest::span(left);
-        at += e / 24;
+        at += e / RECORD;
         left = &left[e..];
         i += 1;
     }
@@ -177,14 +178,14 @@ fn after_star(kids: &[u8], first: usize, star: Written, counts: Counts) -> Judge
     let here = &kids[at..];
     let e = forest::span(here);
     let next = &here[e..];
-    let node = first + at / 24;
+    let node = first + at / RECORD;
     if !entry::listed(next) {
         return Judged::Refused(fault(numbers::STAR_LAST, node, here));
     }
     if rules::is_normal(entry::kind_of(next)) {
         return Judged::Accepted(counts);
     }
-    Judged::Refused(fault(numbers::NO_NORMAL_AFTER_STAR, node + e / 24, next))
+    Judged::Refused(fault(numbers::NO_NORMAL_AFTER_STAR, node + e / RECORD, next))
 }
 
 // After the last parameter.
@@ -219,7 +220,7 @@ fn run(names: &[u8], kids: &[u8], first: usize, only: Flat) -> Judged
         u = advance(u, n, kind);
         n = list::next(n);
         let e = forest::span(left);
-        at += e / 24;
+        at += e / RECORD;
         left = &left[e..];
     }
     let star = u.index_of_star;

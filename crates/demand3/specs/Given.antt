@@ -6,7 +6,7 @@ use Prim.Native.Nat.{ℕ, _+_, _*_, _/_, _<_, _≤_}
 use lib.ListN.{length, drop}
 use lib.Dec.{eqb}
 use Rattle.fields.specs.Choice.{if'}
-use Rattle.forest.specs.Forest.{Node, nodeOf, kidsOf, node, Forest, none, _then_, forest}
+use Rattle.forest.specs.Forest.{recordBytes, Node, nodeOf, kidsOf, node, Forest, none, _then_, forest}
 use Rattle.soundness.specs.KindNumbers.{kindDef, kindLambda}
 use Rattle.soundness.specs.Kinds.{parameter, classOf}
 use Rattle.table.specs.Answer.{accepted}
@@ -29,8 +29,8 @@ allParameters t names i = map (paramOf names) (parametersIn (forest (i + 1) (kid
 -- a sound table, a def or lambda in it, and a buffer with a byte for each written parameter
 pub record Given (t names : List ℕ) (node : ℕ) (ms : List ℕ) : Type 0 where
   pub sound : checkOf t names ≡ accepted []
-  pub within : node < length t / 24
-  pub defOrLambda : (nodeOf node (drop (24 * node) t) .kind ≡ kindDef) ⊎ (nodeOf node (drop (24 * node) t) .kind ≡ kindLambda)
+  pub within : node < length t / recordBytes
+  pub defOrLambda : (nodeOf node (drop (recordBytes * node) t) .kind ≡ kindDef) ⊎ (nodeOf node (drop (recordBytes * node) t) .kind ≡ kindLambda)
   pub room : length (listOf t names node) ≤ length ms
 
 -- a good cut of a written list

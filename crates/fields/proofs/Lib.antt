@@ -1,4 +1,5 @@
 pub mod Basics
 pub mod Fields
+pub mod Spelling
 pub mod Coincide
 pub mod Promises

@@ -2,6 +2,7 @@
 use mathlib.Core.List.{List, [], _∷_}
 use Prim.Native.Nat.{ℕ, _/_}
 use lib.ListN.{length}
+use Rattle.forest.specs.Forest.{recordBytes}
 use Rattle.table.specs.Answer.{Answer, accepted, refused, andThen, refusal}
 use Rattle.tablefile.specs.Reading.{contentAt, readCheck}
 use Rattle.validate.specs.Job.{moduleOf, errorsAfter}
@@ -20,7 +21,7 @@ behind v (refused n vs) = refused n vs
 
 -- what a file holds is answered as the module job answers it, behind the number of nodes
 abbrev pub heldAnswer : List ℕ → List ℕ → List ℕ → Answer
-heldAnswer t names bytes = behind (length t / 24) (moduleOf t names bytes)
+heldAnswer t names bytes = behind (length t / recordBytes) (moduleOf t names bytes)
 
 -- the answer: the reader's refusal, or that of what the file holds
 unfoldable pub answerOf : List ℕ → Answer

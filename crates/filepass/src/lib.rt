@@ -2,6 +2,7 @@
 use blocks::BLOCK_BYTES;
 use dialect::Decoded;
 use errors::WIDTH;
+use forest::RECORD;
 use table::MOST_NODES;
 use table::Refusal;
 use table::numbers;
@@ -72,7 +73,7 @@ fn list(table: &[u8], names: &[u8], dialect: &[u8], errors: &mut [u32]) -> Passe
     let decoded = dialect::from_bytes(dialect);
     match decoded {
         Decoded::Valid(d) => Passed::Listed {
-            nodes: (table.len() / 24) as u32,
+            nodes: (table.len() / RECORD) as u32,
             total: validate::pass(table, names, d, errors),
         },
         Decoded::Invalid => Passed::Refused(Refusal::Bare(numbers::BAD_DIALECT)),

@@ -6,6 +6,10 @@ use lib.Dec.{leb}
 use Rattle.fields.specs.Choice.{if'}
 use Rattle.fields.specs.Field.{field}
 
+-- how many bytes a record has
+abbrev pub recordBytes : ℕ
+recordBytes = 24
+
 -- a record, with its index in the table
 pub record Node : Type 0 where
   pub at : ℕ
@@ -40,11 +44,11 @@ nodeOf i bs = record {
 
 -- how many bytes the first node's subtree takes: a record at least, and no more than there are
 abbrev pub spanOf : List ℕ → ℕ
-spanOf bs = min (24 * max 1 (sizeOf bs)) (length bs)
+spanOf bs = min (recordBytes * max 1 (sizeOf bs)) (length bs)
 
 -- the records under the first node, and those after its subtree
 unfoldable pub kidsOf : List ℕ → List ℕ
-kidsOf bs = take (spanOf bs - 24) (drop 24 bs)
+kidsOf bs = take (spanOf bs - recordBytes) (drop recordBytes bs)
 
 unfoldable pub restOf : List ℕ → List ℕ
 restOf bs = drop (spanOf bs) bs
@@ -63,7 +67,7 @@ mutual
 unfoldable pub forestIn : ℕ → ℕ → List ℕ → Forest
 forestIn zero i bs = none
 forestIn (suc k) i bs =
-    if' (leb 24 (length bs)) (λ _. node (nodeOf i bs) (forestIn k (i + 1) (kidsOf bs)) then forestIn k (i + spanOf bs / 24) (restOf bs)) (λ _. none)
+    if' (leb recordBytes (length bs)) (λ _. node (nodeOf i bs) (forestIn k (i + 1) (kidsOf bs)) then forestIn k (i + spanOf bs / recordBytes) (restOf bs)) (λ _. none)
 
 -- the whole of it: a stretch has fewer records than bytes
 unfoldable pub forest : ℕ → List ℕ → Forest

@@ -5,6 +5,9 @@ pub mod names;
 ghost use mathlib.Core.Path.{_≡_};
 ghost use Rattle.forest.specs.Forest.{nodeOf, spanOf};
 
+// How many bytes a record has.
+pub const RECORD: usize = 24;
+
 // The index of a record, or none.
 pub enum Found {
     At(usize),
@@ -74,20 +77,20 @@ pub fn source(t: &[u8]) -> u32
     fields::word(t, 20)
 }
 
-// How many bytes the first node's subtree takes: `&t[24..e]` are its children and `&t[e..]` is what follows.
+// How many bytes the first node's subtree takes: `&t[RECORD..e]` are its children and `&t[e..]` is what follows.
 pub fn span(t: &[u8]) -> usize
     ensures { λ r. ⌜ r ≡ spanOf (now (t .entry)) ⌝ }
 {
     let n = t.len();
     let s = size(t) as usize;
     if s == 0 {
-        if 24 < n {
-            return 24;
+        if RECORD < n {
+            return RECORD;
         }
         return n;
     }
-    if 24 * s < n {
-        return 24 * s;
+    if RECORD * s < n {
+        return RECORD * s;
     }
     n
 }

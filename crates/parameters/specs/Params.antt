@@ -1,5 +1,5 @@
 -- The parameters job: what it answers, and the mode buffer afterwards, for any bytes. These are definitions.
-use mathlib.Core.List.{List, [], _++_}
+use mathlib.Core.List.{List, [], _∷_, _++_}
 use Prim.Native.Nat.{ℕ, _≤_}
 use lib.ListN.{length, drop}
 use lib.Dec.{leb}

@@ -2,6 +2,7 @@
 //
 // Ported from src/syntax/type_expr.rs of starlark_syntax 0.14.2, and changed: the type that unpack builds is a byte for each node that it reads.
 // Copyright 2018 The Starlark in Rust Authors. Copyright (c) Facebook, Inc. and its affiliates. Licensed under Apache-2.0.
+use forest::RECORD;
 use soundness::kinds;
 use types::How;
 use types::Reads;
@@ -25,7 +26,7 @@ pub(crate) fn write_type(t: &[u8], at: usize, shapes: &mut [u8])
     shapes[at] = shape;
     let reads = forms::reads_of(form);
     let e = forest::span(t);
-    write_each(reads, &t[24..e], at + 1, shapes)
+    write_each(reads, &t[RECORD..e], at + 1, shapes)
 }
 
 // Writes the shapes of a child as it is read: as a type, or as an argument of an Index2, which is a List of arguments or a type.
@@ -44,7 +45,7 @@ fn write_child(how: How, t: &[u8], at: usize, shapes: &mut [u8])
                     others: How::AsArgument,
                 };
                 let e = forest::span(t);
-                return write_each(reads, &t[24..e], at + 1, shapes);
+                return write_each(reads, &t[RECORD..e], at + 1, shapes);
             }
             write_type(t, at, shapes)
         }
@@ -59,11 +60,11 @@ fn write_each(reads: Reads, t: &[u8], at: usize, shapes: &mut [u8])
     let mut left = t;
     let mut place = at;
     let mut how = reads.first;
-    while 24 <= left.len() {
+    while RECORD <= left.len() {
         write_child(how, left, place, shapes);
         let e = forest::span(left);
         left = &left[e..];
-        place += e / 24;
+        place += e / RECORD;
         how = reads.others;
     }
 }

@@ -7,7 +7,7 @@ use lib.ListN.{getD, take}
 use lib.Dec.{eqb, ltb, leb}
 use Rattle.fields.specs.Choice.{if'}
 use Rattle.soundness.specs.Kinds.{statement, expression, parameter, argument, one, two, three, Times, anyNumber, evenNumber, atMost, Children, children, exactly, any, evenly, upTo, thenAny, thenUpTo, anyThen, kindOf, classOf}
-use Rattle.forest.specs.Forest.{sizeOf, nodeOf, spanOf}
+use Rattle.forest.specs.Forest.{recordBytes, sizeOf, nodeOf, spanOf}
 use Rattle.soundness.specs.Sound.{permitted, fixed, between}
 
 -- the parts of a packed rule: how many come first and the classes of up to three, how many then come and their class, how many come last and the classes of up to three
@@ -82,7 +82,7 @@ classAt r m j = if' (ltb j (frontsIn r)) (λ _. getD (frontIn r) j 0) (λ _. if'
 
 -- the node that a stretch begins with is whole and of this class
 abbrev pub childSound : ℕ → List ℕ → Bool
-childSound want bs = eqb (sizeOf bs) (spanOf bs / 24) && eqb (classOf (nodeOf 0 bs .kind)) want
+childSound want bs = eqb (sizeOf bs) (spanOf bs / recordBytes) && eqb (classOf (nodeOf 0 bs .kind)) want
 
 -- how many bytes it then takes, else zero
 unfoldable pub childOf : ℕ → List ℕ → ℕ

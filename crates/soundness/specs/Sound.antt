@@ -5,7 +5,7 @@ use Prim.Native.Nat.{ℕ, zero, suc, _+_, _-_, _*_, _/_, _%_}
 use lib.ListN.{length, drop, replicate}
 use lib.Dec.{leb, eqb}
 use Rattle.fields.specs.Choice.{if'}
-use Rattle.forest.specs.Forest.{Node, nodeOf, kidsOf, node, Forest, none, _then_, forest, count}
+use Rattle.forest.specs.Forest.{recordBytes, Node, nodeOf, kidsOf, node, Forest, none, _then_, forest, count}
 use Rattle.forest.specs.Names.{same}
 use Rattle.forest.specs.declared.Found.{Found}
 use Rattle.forest.specs.declared.Found.the-variants.{At, Nothing}
@@ -90,7 +90,7 @@ soundAt x i bs = soundNode x (nodeOf i bs) (forest (i + 1) (kidsOf bs))
 
 -- node 0 is a statement that covers the table
 unfoldable pub rootSound : List ℕ → Bool
-rootSound t = eqb (classOf (nodeOf 0 t .kind)) statement && eqb (24 * nodeOf 0 t .size) (length t)
+rootSound t = eqb (classOf (nodeOf 0 t .kind)) statement && eqb (recordBytes * nodeOf 0 t .size) (length t)
 
 -- what the rule of record i of a table is told
 unfoldable pub contextOf : List ℕ → List ℕ → ℕ → Context
@@ -98,7 +98,7 @@ contextOf t names i = context (length names)
 
 -- record i of a table
 unfoldable pub recordSound : List ℕ → List ℕ → ℕ → Bool
-recordSound t names i = if' (eqb i 0) (λ _. rootSound t) (λ _. true) && soundAt (contextOf t names i) i (drop (24 * i) t)
+recordSound t names i = if' (eqb i 0) (λ _. rootSound t) (λ _. true) && soundAt (contextOf t names i) i (drop (recordBytes * i) t)
 
 -- the first of n numbers from i on at which a test fails
 unfoldable pub firstFalse : (ℕ → Bool) → ℕ → ℕ → Found
@@ -107,4 +107,4 @@ firstFalse p i (suc n) = if' (p i) (λ _. firstFalse p (i + 1) n) (λ _. At i)
 
 -- the first unsound record in index order
 unfoldable pub firstUnsound : List ℕ → List ℕ → Found
-firstUnsound t names = firstFalse (recordSound t names) 0 (length t / 24)
+firstUnsound t names = firstFalse (recordSound t names) 0 (length t / recordBytes)

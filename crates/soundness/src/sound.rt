@@ -3,6 +3,7 @@ use crate::classes;
 use crate::kinds;
 use crate::rows;
 use forest::Found;
+use forest::RECORD;
 ghost use mathlib.Core.Path.{_≡_};
 ghost use mathlib.Core.Bool.{_&&_};
 ghost use Prim.Native.Nat.{_*_, _≤_};
@@ -59,7 +60,7 @@ fn fields_sound(t: &[u8], names: usize) -> bool
 fn whole(size: u16, len: usize) -> bool
     ensures { λ r. ⌜ r ≡ (leb 1 size && leb (24 * size) len) ⌝ }
 {
-    let end = 24 * (size as usize);
+    let end = RECORD * (size as usize);
     (1 <= size) & (end <= len)
 }
 
@@ -69,7 +70,7 @@ fn children(t: &[u8]) -> usize
 {
     let mut left = t;
     let mut n = 0;
-    while 24 <= left.len() {
+    while RECORD <= left.len() {
         let e = forest::span(left);
         left = &left[e..];
         n += 1;
@@ -83,7 +84,7 @@ fn last_from(t: &[u8], backs: usize) -> usize
     ensures { λ r. ⌜ LastFrom (length (classes (forest 0 (now (t .entry))))) backs r ⌝ }
 {
     if backs == 0 {
-        return t.len() / 24;
+        return t.len() / RECORD;
     }
     let n = children(t);
     if n < backs {
@@ -129,7 +130,7 @@ fn child(t: &[u8], want: u8) -> usize
     requires { ⌜ 24 ≤ length (now t) ⌝ }
     ensures { λ r. ⌜ r ≡ childOf want (now (t .entry)) ⌝ }
 {
-    let head = &t[0..24];
+    let head = &t[0..RECORD];
     let size = forest::size(head);
     if !whole(size, t.len()) {
         return 0;
@@ -137,7 +138,7 @@ fn child(t: &[u8], want: u8) -> usize
     if rows::class(forest::kind(head)) != want {
         return 0;
     }
-    24 * (size as usize)
+    RECORD * (size as usize)
 }
 
 // Whether the nodes of a stretch fill it and are the children that a rule permits, where the last ones stand from child m on.
@@ -147,7 +148,7 @@ fn children_sound(t: &[u8], rule: u64, m: usize) -> bool
 {
     let mut left = t;
     let mut j = 0;
-    while 24 <= left.len() {
+    while RECORD <= left.len() {
         let e = child(left, class_wanted(rule, m, j));
         if e == 0 {
             return false;
@@ -172,7 +173,7 @@ fn record_sound(t: &[u8], names: usize) -> bool
     requires { ⌜ 24 ≤ length (now t) ⌝ }
     ensures { λ r. ⌜ r ≡ soundAt (context names) 0 (now (t .entry)) ⌝ }
 {
-    let head = &t[0..24];
+    let head = &t[0..RECORD];
     if !fields_sound(head, names) {
         return false;
     }
@@ -180,8 +181,8 @@ fn record_sound(t: &[u8], names: usize) -> bool
     if !whole(size, t.len()) {
         return false;
     }
-    let e = 24 * (size as usize);
-    kids_sound(&t[24..e], forest::kind(head), forest::detail(head))
+    let e = RECORD * (size as usize);
+    kids_sound(&t[RECORD..e], forest::kind(head), forest::detail(head))
 }
 
 // Node 0 is a statement that covers the table.
@@ -189,14 +190,14 @@ fn root_sound(table: &[u8]) -> bool
     ensures { λ r. ⌜ r ≡ rootSound (now (table .entry)) ⌝ }
 {
     (rows::class(forest::kind(table)) == classes::STATEMENT)
-        & (24 * (forest::size(table) as usize) == table.len())
+        & (RECORD * (forest::size(table) as usize) == table.len())
 }
 
 // The first unsound record in index order.
 pub(crate) fn first_unsound(table: &[u8], names: &[u8]) -> Found
     ensures { λ r. ⌜ r ≡ firstUnsound (now (table .entry)) (now (names .entry)) ⌝ }
 {
-    let n = table.len() / 24;
+    let n = table.len() / RECORD;
     let m = names.len();
     if n == 0 {
         return Found::Nothing;
@@ -206,7 +207,7 @@ pub(crate) fn first_unsound(table: &[u8], names: &[u8]) -> Found
     }
     let mut i = 0;
     while i < n {
-        let a = 24 * i;
+        let a = RECORD * i;
         if !record_sound(&table[a..], m) {
             return Found::At(i);
         }

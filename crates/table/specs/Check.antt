@@ -9,7 +9,7 @@ use Rattle.dialect.specs.Bytes.{fromBytes}
 use Rattle.dialect.specs.declared.Dialect.{Dialect}
 use Rattle.dialect.specs.declared.Decoded.{Decoded}
 use Rattle.dialect.specs.declared.Decoded.the-variants.{Valid, Invalid}
-use Rattle.forest.specs.Forest.{sizeOf, nodeOf, Tree, treeOf, forest}
+use Rattle.forest.specs.Forest.{recordBytes, sizeOf, nodeOf, Tree, treeOf, forest}
 use Rattle.forest.specs.declared.Found.{Found}
 use Rattle.forest.specs.declared.Found.the-variants.{At, Nothing}
 use Rattle.table.specs.Numbers.{tableLength, nameBytes, unsoundRecord, tooDeep, badDialect, wrongNode}
@@ -35,7 +35,7 @@ mostNames = 8064
 
 -- 1: the table has 1 to 2,100 records of 24 bytes
 unfoldable pub lengthSound : ℕ → Bool
-lengthSound n = leb 24 n && (leb n mostBytes && eqb (n % 24) 0)
+lengthSound n = leb recordBytes n && (leb n mostBytes && eqb (n % recordBytes) 0)
 
 abbrev pub lengthCheck : ℕ → Answer
 lengthCheck n = if' (lengthSound n) (λ _. accepted []) (λ _. refused tableLength [])
@@ -93,14 +93,14 @@ wants Expression k = eqb (classOf k) expression
 
 -- 6: the node is within the table and of a kind that the job wants
 unfoldable pub nodeFits : List ℕ → ℕ → Wanted → Bool
-nodeFits t i w = ltb i (length t / 24) && wants w (nodeOf i (drop (24 * i) t) .kind)
+nodeFits t i w = ltb i (length t / recordBytes) && wants w (nodeOf i (drop (recordBytes * i) t) .kind)
 
 abbrev pub nodeCheck : List ℕ → ℕ → Wanted → Answer
 nodeCheck t i w = if' (nodeFits t i w) (λ _. accepted []) (λ _. refused wrongNode [])
 
 -- a node's subtree, as a stretch of the table; beyond the table it is empty
 unfoldable pub stretchOf : List ℕ → ℕ → List ℕ
-stretchOf t i = if' (ltb i (length t / 24)) (λ _. take (24 * sizeOf (drop (24 * i) t)) (drop (24 * i) t)) (λ _. [])
+stretchOf t i = if' (ltb i (length t / recordBytes)) (λ _. take (recordBytes * sizeOf (drop (recordBytes * i) t)) (drop (recordBytes * i) t)) (λ _. [])
 
 -- 1 to 4, 6: a job on a node is let in
 unfoldable pub entryCheck : Wanted → List ℕ → List ℕ → ℕ → Answer

@@ -1,5 +1,6 @@
 // Depth: the first node, in table order, that is deeper than document 01 permits.
 use forest::Found;
+use forest::RECORD;
 ghost use mathlib.Core.Path.{_≡_};
 ghost use Prim.Native.Nat.{_+_, _*_, _≤_, _<_, _^_};
 ghost use lib.ListN.{length};
@@ -22,7 +23,7 @@ fn deep_from(t: &[u8], at: usize, depth: usize) -> Found
     ensures { λ r. ⌜ r ≡ firstDeep depth (forest at (now (t .entry))) ⌝ }
 {
     // so few nodes cannot reach that deep, which spares most subtrees the walk
-    if depth + t.len() / 24 <= MOST_DEPTH {
+    if depth + t.len() / RECORD <= MOST_DEPTH {
         return Found::Nothing;
     }
     let here = depth + weight_of(forest::kind(t));
@@ -30,11 +31,11 @@ fn deep_from(t: &[u8], at: usize, depth: usize) -> Found
         return Found::At(at);
     }
     let e = forest::span(t);
-    let below = deep_from(&t[24..e], at + 1, here);
+    let below = deep_from(&t[RECORD..e], at + 1, here);
     if let Found::At(i) = below {
         return Found::At(i);
     }
-    deep_from(&t[e..], at + e / 24, depth)
+    deep_from(&t[e..], at + e / RECORD, depth)
 }
 
 // The first node of a table that is too deep.

@@ -5,6 +5,7 @@ pub mod numbers;
 use dialect::Decoded;
 use dialect::Dialect;
 use forest::Found;
+use forest::RECORD;
 use soundness::classes;
 use soundness::kinds;
 ghost use mathlib.Core.Path.{_≡_};
@@ -23,7 +24,7 @@ pub struct Span {
 // The most nodes of a table, its most bytes, 24 a node, and the most name bytes.
 pub const MOST_NODES: usize = 2100;
 
-pub const MOST_BYTES: usize = 24 * MOST_NODES;
+pub const MOST_BYTES: usize = RECORD * MOST_NODES;
 
 pub const MOST_NAMES: usize = 8064;
 
@@ -64,7 +65,7 @@ pub enum Wanted {
 fn length_sound(n: usize) -> bool
     ensures { λ r. ⌜ r ≡ lengthSound n ⌝ }
 {
-    (24 <= n) & ((n <= MOST_BYTES) & (n % 24 == 0))
+    (RECORD <= n) & ((n <= MOST_BYTES) & (n % RECORD == 0))
 }
 
 // The check of a table: 1, 2, 3 and 4 in this order.
@@ -156,10 +157,10 @@ fn wanted_kind(wanted: Wanted, kind: u8) -> bool
 pub fn node_fits(table: &[u8], node: usize, wanted: Wanted) -> bool
     ensures { λ r. ⌜ r ≡ nodeFits (now (table .entry)) node wanted ⌝ }
 {
-    if table.len() / 24 <= node {
+    if table.len() / RECORD <= node {
         return false;
     }
-    let a = 24 * node;
+    let a = RECORD * node;
     wanted_kind(wanted, forest::kind(&table[a..]))
 }
 
@@ -167,12 +168,12 @@ pub fn node_fits(table: &[u8], node: usize, wanted: Wanted) -> bool
 pub fn stretch(table: &[u8], node: usize) -> &[u8]
     ensures { λ r. ⌜ now r ≡ stretchOf (now (table .entry)) node ⌝ }
 {
-    if table.len() / 24 <= node {
+    if table.len() / RECORD <= node {
         return &table[0..0];
     }
-    let a = 24 * node;
+    let a = RECORD * node;
     let size = forest::size(&table[a..]) as usize;
-    let e = 24 * (node + size);
+    let e = RECORD * (node + size);
     if table.len() < e {
         return &table[a..];
     }

@@ -19,7 +19,7 @@ use Rattle.table.specs.Answer.{Answer, accepted, refused, andThen}
 use Rattle.table.proofs.Answers.{refusal-injective, never-accepted}
 use Rattle.table.proofs.Entering.{given-known, given-passed}
 use Rattle.blocks.specs.Block.{demand}
-use Rattle.blocks.proofs.Spelling.{Bytes}
+use Rattle.fields.proofs.Spelling.{Bytes}
 use Rattle.tablefile.specs.File.{Content, fileOf}
 use Rattle.tablefile.specs.Reading.{headerAt, contentAt, frontCheck, soundCheck, readCheck}
 use Rattle.tablefile.specs.Loading.{verdict}

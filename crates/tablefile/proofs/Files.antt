@@ -14,10 +14,11 @@ use Rattle.fields.specs.Field.{field}
 use Rattle.fields.proofs.Fields.{field-drop, field-take}
 use Rattle.table.specs.Numbers.{blockCheck}
 use Rattle.table.specs.Answer.{accepted, refused, andThen}
-use Rattle.blocks.specs.Block.{bytesOf, blockOf, judge}
+use Rattle.fields.specs.Field.{bytesOf}
+use Rattle.blocks.specs.Block.{blockOf, judge}
 use Rattle.blocks.specs.Run.{blocksFor, runOf, judgeRun}
-use Rattle.blocks.proofs.Spelling.{Bytes, bytes-drop, bytes-append, bytes-spelled, length-bytes}
-use Rattle.blocks.proofs.Spelling.{field-behind, field-bytes, bytes-field}
+use Rattle.fields.proofs.Spelling.{Bytes, bytes-drop, bytes-append, bytes-spelled, length-bytes}
+use Rattle.fields.proofs.Spelling.{field-behind, field-bytes, bytes-field}
 use Rattle.blocks.proofs.Blocks.{Passing, passing, passes, length-block, content-there, block-passes}
 use Rattle.blocks.proofs.Blocks.{passed-is-block, changed-block, judge-outside}
 use Rattle.blocks.proofs.Runs.{drop-set, getD-behind, length-run, passed-is-run, run-passes, run-holds, run-outside}

@@ -8,7 +8,7 @@ use lib.ListN.{length, getD, take, set}
 use Rattle.table.specs.Numbers.{blockCheck}
 use Rattle.table.specs.Answer.{accepted}
 use Rattle.table.specs.declared.Refusal.the-variants.{Bare}
-use Rattle.blocks.proofs.Spelling.{Bytes}
+use Rattle.fields.proofs.Spelling.{Bytes}
 use Rattle.tablefile.specs.File.{Content, fileOf}
 use Rattle.tablefile.specs.Reading.{headerAt, contentAt, frontCheck, soundCheck, readCheck}
 use Rattle.tablefile.specs.Loading.{verdict, loadedOf, none, held}

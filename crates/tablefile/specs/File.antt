@@ -2,7 +2,9 @@
 use mathlib.Core.List.{List, _++_}
 use Prim.Native.Nat.{ℕ, _+_, _/_}
 use lib.ListN.{length}
-use Rattle.blocks.specs.Block.{bytesOf, blockOf}
+use Rattle.forest.specs.Forest.{recordBytes}
+use Rattle.fields.specs.Field.{bytesOf}
+use Rattle.blocks.specs.Block.{blockOf}
 use Rattle.blocks.specs.Run.{blocksFor, runOf}
 
 -- what a file holds: a table, names, and the bytes of a dialect, none or nine
@@ -13,7 +15,7 @@ pub record Content : Type 0 where
 
 -- what block 0 holds: node count, name byte count (2 bytes each) and the dialect, so 4 or 13 used
 unfoldable pub headerOf : Content → List ℕ
-headerOf c = bytesOf 2 (length (c .table) / 24) ++ (bytesOf 2 (length (c .names)) ++ c .dialect)
+headerOf c = bytesOf 2 (length (c .table) / recordBytes) ++ (bytesOf 2 (length (c .names)) ++ c .dialect)
 
 -- the file: block 0, then names, 504 a block, and nodes, 21 a block; the numbers run on
 unfoldable pub fileOf : Content → List ℕ

@@ -4,6 +4,7 @@ use mathlib.Core.List.{List}
 use Prim.Native.Nat.{ℕ, _+_, _*_}
 use lib.ListN.{length, take, drop}
 use lib.Dec.{eqb, leb}
+use Rattle.forest.specs.Forest.{recordBytes}
 use Rattle.fields.specs.Choice.{if'}
 use Rattle.fields.specs.Field.{field}
 use Rattle.table.specs.Numbers.{blockCounts, bytesLeftOver}
@@ -28,7 +29,7 @@ headerAt bs =
       names = names;
       dialect = dialectIn (field 2 bs 2);
       first = 1 + blocksFor names;
-      taken = blockBytes * (1 + blocksFor names + blocksFor (24 * nodes));
+      taken = blockBytes * (1 + blocksFor names + blocksFor (recordBytes * nodes));
     }
 
 -- what it holds
@@ -36,7 +37,7 @@ unfoldable pub contentAt : List ℕ → Content
 contentAt bs =
     let h = headerAt bs in
     record {
-      table = contentOf (24 * h .nodes) (drop (blockBytes * h .first) bs);
+      table = contentOf (recordBytes * h .nodes) (drop (blockBytes * h .first) bs);
       names = contentOf (h .names) (drop blockBytes bs);
       dialect = take (h .dialect) (drop 8 bs);
     }
@@ -51,7 +52,7 @@ blocksCheck h bs =
     andThen (judge 0 (4 + h .dialect) bs) (λ _.
     andThen (demand (countsFit (h .nodes) (h .names)) blockCounts) (λ _.
     andThen (judgeRun 1 (h .names) (drop blockBytes bs)) (λ _.
-    judgeRun (h .first) (24 * h .nodes) (drop (blockBytes * h .first) bs))))
+    judgeRun (h .first) (recordBytes * h .nodes) (drop (blockBytes * h .first) bs))))
 
 abbrev pub frontCheck : List ℕ → Answer
 frontCheck bs = blocksCheck (headerAt bs) bs

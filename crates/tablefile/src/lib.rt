@@ -1,6 +1,7 @@
 // The reader of table files: the one file at the front of some bytes, or a file that is all there is.
 use blocks::BLOCK_BYTES;
 use blocks::Judged;
+use forest::RECORD;
 use table::Given;
 use table::MOST_BYTES;
 use table::MOST_NAMES;
@@ -58,7 +59,7 @@ pub fn header(bytes: &[u8]) -> Heading
     let nodes = fields::half(bytes, 4) as usize;
     let names = fields::half(bytes, 6) as usize;
     let first = 1 + blocks::blocks_for(names);
-    let last = blocks::blocks_for(24 * nodes);
+    let last = blocks::blocks_for(RECORD * nodes);
     Heading {
         nodes: nodes,
         names: names,
@@ -129,7 +130,7 @@ fn judge_front(bytes: &[u8], h: Heading) -> Judged
         return Judged::Refused(n);
     }
     let at = BLOCK_BYTES * h.first;
-    blocks::judge_run(&bytes[at..], h.first as u16, 24 * h.nodes)
+    blocks::judge_run(&bytes[at..], h.first as u16, RECORD * h.nodes)
 }
 
 // What the file at the front holds, if its blocks pass.
@@ -137,7 +138,7 @@ fn load(bytes: &[u8], h: Heading) -> Loaded
     requires { ⌜ (h ≡ headerAt (now bytes)) × (frontCheck (now bytes) ≡ accepted []) ⌝ }
     ensures { λ r. ⌜ r ≡ loadedOf Accepted (contentAt (now (bytes .entry))) (headerAt (now (bytes .entry)) .taken) ⌝ }
 {
-    let len = 24 * h.nodes;
+    let len = RECORD * h.nodes;
     Loaded {
         verdict: Verdict::Accepted,
         taken: h.taken,

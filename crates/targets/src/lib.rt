@@ -2,6 +2,7 @@
 //
 // Ported from src/syntax/grammar_util.rs of starlark_syntax 0.14.2 (check_assign, check_assignment), and changed: a target is a stretch of the node table.
 // Copyright 2018 The Starlark in Rust Authors. Copyright (c) Facebook, Inc. and its affiliates. Licensed under Apache-2.0.
+use forest::RECORD;
 use soundness::kinds;
 use table::Checked;
 use table::Refusal;
@@ -69,7 +70,7 @@ fn check_assign(t: &[u8], node: usize, count: u32) -> Targeted
     }
     if is_group(kind) {
         let e = forest::span(t);
-        return check_each(&t[24..e], node + 1, count);
+        return check_each(&t[RECORD..e], node + 1, count);
     }
     Targeted::Refused(table::refused_at(numbers::INVALID_LHS, node as u32, t))
 }
@@ -79,14 +80,14 @@ fn check_each(t: &[u8], node: usize, count: u32) -> Targeted
     requires { ⌜ (24 * node + length (now t) ≤ 50400) × (count ≤ node) ⌝ }
     ensures { λ r. ⌜ targeted r ≡ countedEach count (forest node (now (t .entry))) ⌝ }
 {
-    if t.len() < 24 {
+    if t.len() < RECORD {
         return Targeted::Leaves(count);
     }
     let first = check_assign(t, node, count);
     match first {
         Targeted::Leaves(n) => {
             let e = forest::span(t);
-            check_each(&t[e..], node + e / 24, n)
+            check_each(&t[e..], node + e / RECORD, n)
         }
         Targeted::Refused(why) => Targeted::Refused(why),
     }
@@ -98,8 +99,8 @@ fn check_assignment(t: &[u8], node: usize) -> Targeted
     ensures { λ r. ⌜ targeted r ≡ «check_assignment» (treeOf node (now (t .entry))) ⌝ }
 {
     let e = forest::span(t);
-    let lhs = &t[24..e];
-    if lhs.len() < 24 {
+    let lhs = &t[RECORD..e];
+    if lhs.len() < RECORD {
         return Targeted::Leaves(0);
     }
     let at = node + 1;
@@ -110,7 +111,7 @@ fn check_assignment(t: &[u8], node: usize) -> Targeted
     match first {
         Targeted::Leaves(n) => {
             let a = forest::span(lhs);
-            check_type(t, lhs, &lhs[a..], at + a / 24, n)
+            check_type(t, lhs, &lhs[a..], at + a / RECORD, n)
         }
         Targeted::Refused(why) => Targeted::Refused(why),
     }
@@ -124,7 +125,7 @@ fn check_type(t: &[u8], lhs: &[u8], ty: &[u8], node: usize, leaves: u32) -> Targ
     if forest::detail(t) != 1 {
         return Targeted::Leaves(leaves);
     }
-    if ty.len() < 24 {
+    if ty.len() < RECORD {
         return Targeted::Leaves(leaves);
     }
     if forest::kind(t) == kinds::ASSIGN_MODIFY {

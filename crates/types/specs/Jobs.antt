@@ -4,7 +4,7 @@ use Prim.Native.Nat.{ℕ, _/_}
 use lib.Dec.{leb}
 use lib.ListN.{length}
 use Rattle.fields.specs.Choice.{if'}
-use Rattle.forest.specs.Forest.{treeOf}
+use Rattle.forest.specs.Forest.{recordBytes, treeOf}
 use Rattle.dialect.specs.declared.DialectTypes.{DialectTypes}
 use Rattle.table.specs.Numbers.{shortBuffer}
 use Rattle.table.specs.Answer.{Answer, accepted, refused, andThen, refusal}
@@ -21,7 +21,7 @@ shaped (Refused r) = refusal r
 
 -- 7: the buffer has a byte for each node of the type's subtree
 abbrev pub roomCheck : ℕ → List ℕ → Answer
-roomCheck room t = if' (leb (length t / 24) room) (λ _. accepted []) (λ _. refused shortBuffer [])
+roomCheck room t = if' (leb (length t / recordBytes) room) (λ _. accepted []) (λ _. refused shortBuffer [])
 
 -- the type job on node i of the table t, for a buffer of so many bytes, where the table is sound and the dialect known:
 -- 6, 7, then the type

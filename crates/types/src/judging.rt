@@ -8,6 +8,7 @@ use crate::Reads;
 use crate::Shaped;
 use crate::forms;
 use crate::paths;
+use forest::RECORD;
 use soundness::kinds;
 use table::numbers;
 ghost use mathlib.Core.Path.{_≡_};
@@ -25,8 +26,8 @@ fn index_base(t: &[u8], node: usize) -> Shaped
     ensures { λ r. ⌜ shaped r ≡ indexBase (nodeOf node (now (t .entry))) (forest (node + 1) (kidsOf (now (t .entry)))) ⌝ }
 {
     let e = forest::span(t);
-    let k = &t[24..e];
-    if k.len() < 24 {
+    let k = &t[RECORD..e];
+    if k.len() < RECORD {
         return Shaped::Refused(table::refused_at(numbers::INVALID_TYPE, node as u32, t));
     }
     if forest::kind(k) != kinds::IDENTIFIER {
@@ -41,8 +42,8 @@ fn index2_base(names: &[u8], t: &[u8], node: usize) -> Shaped
     ensures { λ r. ⌜ shaped r ≡ index2Base (now (names .entry)) (forest (node + 1) (kidsOf (now (t .entry)))) ⌝ }
 {
     let e = forest::span(t);
-    let k = &t[24..e];
-    if k.len() < 24 {
+    let k = &t[RECORD..e];
+    if k.len() < RECORD {
         return Shaped::Accepted;
     }
     paths::unpack_path(names, k, node + 1)
@@ -54,12 +55,12 @@ fn list_length(t: &[u8], node: usize) -> Shaped
     ensures { λ r. ⌜ shaped r ≡ listLength (nodeOf node (now (t .entry))) (forest (node + 1) (kidsOf (now (t .entry)))) ⌝ }
 {
     let e = forest::span(t);
-    let k = &t[24..e];
-    if k.len() < 24 {
+    let k = &t[RECORD..e];
+    if k.len() < RECORD {
         return Shaped::Refused(table::refused_at(numbers::EMPTY_LIST_IN_TYPE, node as u32, t));
     }
     let a = forest::span(k);
-    if k.len() < a + 24 {
+    if k.len() < a + RECORD {
         return Shaped::Refused(table::refused_at(numbers::INVALID_TYPE, node as u32, t));
     }
     Shaped::Accepted
@@ -94,7 +95,7 @@ pub(crate) fn unpack(names: &[u8], t: &[u8], node: usize) -> Shaped
     }
     let reads = forms::reads_of(forms::form(t));
     let e = forest::span(t);
-    unpack_each(names, reads, &t[24..e], node + 1)
+    unpack_each(names, reads, &t[RECORD..e], node + 1)
 }
 
 // A child as it is read: as a type, or as an argument of an Index2, which is a List of arguments or a type.
@@ -112,7 +113,7 @@ fn unpack_child(names: &[u8], how: How, t: &[u8], node: usize) -> Shaped
                     first: How::AsArgument,
                     others: How::AsArgument,
                 };
-                return unpack_each(names, reads, &t[24..e], node + 1);
+                return unpack_each(names, reads, &t[RECORD..e], node + 1);
             }
             unpack(names, t, node)
         }
@@ -127,14 +128,14 @@ fn unpack_each(names: &[u8], reads: Reads, t: &[u8], node: usize) -> Shaped
     let mut left = t;
     let mut at = node;
     let mut how = reads.first;
-    while 24 <= left.len() {
+    while RECORD <= left.len() {
         let child = unpack_child(names, how, left, at);
         if let Shaped::Refused(why) = child {
             return Shaped::Refused(why);
         }
         let e = forest::span(left);
         left = &left[e..];
-        at += e / 24;
+        at += e / RECORD;
         how = reads.others;
     }
     Shaped::Accepted

@@ -8,6 +8,7 @@ mod judging;
 mod paths;
 
 use dialect::DialectTypes;
+use forest::RECORD;
 use table::Given;
 use table::Refusal;
 use table::Wanted;
@@ -76,7 +77,7 @@ fn type_at(table: &[u8], names: &[u8], types: DialectTypes, node: usize, room: u
         return Shaped::Refused(Refusal::Bare(numbers::WRONG_NODE));
     }
     let t = table::stretch(table, node);
-    if room < t.len() / 24 {
+    if room < t.len() / RECORD {
         return Shaped::Refused(Refusal::Bare(numbers::SHORT_BUFFER));
     }
     dialect_check_type(names, types, t, node)

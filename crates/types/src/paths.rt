@@ -3,6 +3,7 @@
 // Ported from src/syntax/type_expr.rs of starlark_syntax 0.14.2 (unpack_path), and changed: a path is a stretch of the node table.
 // Copyright 2018 The Starlark in Rust Authors. Copyright (c) Facebook, Inc. and its affiliates. Licensed under Apache-2.0.
 use crate::Shaped;
+use forest::RECORD;
 use soundness::kinds;
 use table::numbers;
 ghost use mathlib.Core.Path.{_≡_};
@@ -36,7 +37,7 @@ pub(crate) fn unpack_path(names: &[u8], t: &[u8], node: usize) -> Shaped
         return Shaped::Refused(table::refused_at(numbers::EXPECTING_PATH, node as u32, t));
     }
     let e = forest::span(t);
-    object_path(is_banned(names, t), &t[24..e], node + 1)
+    object_path(is_banned(names, t), &t[RECORD..e], node + 1)
 }
 
 // The object of a Dot in a path that is banned, or not.
@@ -44,7 +45,7 @@ fn object_path(ban: bool, t: &[u8], node: usize) -> Shaped
     requires { ⌜ 24 * node + length (now t) ≤ 50400 ⌝ }
     ensures { λ r. ⌜ shaped r ≡ objectPath ban (forest node (now (t .entry))) ⌝ }
 {
-    if t.len() < 24 {
+    if t.len() < RECORD {
         return Shaped::Accepted;
     }
     let kind = forest::kind(t);
@@ -58,5 +59,5 @@ fn object_path(ban: bool, t: &[u8], node: usize) -> Shaped
         return Shaped::Refused(table::refused_at(numbers::DOT_IN_TYPE, node as u32, t));
     }
     let e = forest::span(t);
-    object_path(ban, &t[24..e], node + 1)
+    object_path(ban, &t[RECORD..e], node + 1)
 }

@@ -5,7 +5,7 @@ use lib.ListN.{length, take}
 use Rattle.dialect.specs.declared.Dialect.{Dialect}
 use Rattle.forest.specs.Forest.{forest}
 use Rattle.table.specs.Answer.{Answer, accepted, refusal}
-use Rattle.table.specs.Check.{Handing, inDialect, turnedAway, givenOf, inGiven}
+use Rattle.table.specs.Check.{mostBytes, Handing, inDialect, turnedAway, givenOf, inGiven}
 use Rattle.errors.specs.declared.Err.{Err}
 use Rattle.errors.specs.Errors.{stored}
 use Rattle.validate.specs.Module.{«validate_module»}
@@ -19,7 +19,7 @@ listed (Refused r) = refusal r
 
 -- the errors of any bytes in a dialect, unchecked: those of as many records as a table has at most
 unfoldable pub passErrors : Dialect → List ℕ → List ℕ → List Err
-passErrors d names t = «validate_module» d names (forest 0 (take 50400 t))
+passErrors d names t = «validate_module» d names (forest 0 (take mostBytes t))
 
 -- the errors of a module in the dialect that the job is given; a job that is turned away has none
 abbrev pub errorsIn : Handing → List ℕ → List ℕ → List Err

@@ -4,6 +4,7 @@
 // Copyright 2018 The Starlark in Rust Authors. Copyright (c) Facebook, Inc. and its affiliates. Licensed under Apache-2.0.
 use dialect::Dialect;
 use errors::params;
+use forest::RECORD;
 use soundness::kinds;
 use table::numbers;
 ghost use Prim.Native.Nat.{_+_, _*_, _≤_};
@@ -17,16 +18,16 @@ pub(crate) fn visit_expr(d: Dialect, names: &[u8], t: &[u8], at: usize, errors: 
     requires { ⌜ 24 * at + length (now t) ≤ 50400 ⌝ }
     ensures { λ r. ⌜ Stores («visit_expr» d (now (names .entry)) (forest at (now (t .entry)))) (now (errors .entry)) r (now (errors .exit)) ⌝ }
 {
-    if t.len() < 24 {
+    if t.len() < RECORD {
         return 0;
     }
     let own = expression(d, names, t, at, errors);
     let after_own = errors::free(errors.len(), own);
     let e = forest::span(t);
-    let below = visit_expr(d, names, &t[24..e], at + 1, &mut errors[after_own..]);
+    let below = visit_expr(d, names, &t[RECORD..e], at + 1, &mut errors[after_own..]);
     let after_tree = errors::free(errors.len(), own + below);
     let after = &t[e..];
-    let rest = visit_expr(d, names, after, at + e / 24, &mut errors[after_tree..]);
+    let rest = visit_expr(d, names, after, at + e / RECORD, &mut errors[after_tree..]);
     own + below + rest
 }
 

@@ -7,6 +7,7 @@ mod statements;
 
 use dialect::Dialect;
 use table::Given;
+use table::MOST_BYTES;
 use table::Refusal;
 ghost use mathlib.Core.Path.{_≡_};
 ghost use Prim.Native.Nat.{_≤_};
@@ -48,10 +49,10 @@ pub fn pass(table: &[u8], names: &[u8], d: Dialect, errors: &mut [u32]) -> u32
 fn within(t: &[u8]) -> &[u8]
     ensures { λ r. ⌜ now r ≡ take 50400 (now (t .entry)) ⌝ }
 {
-    if t.len() <= 50400 {
+    if t.len() <= MOST_BYTES {
         return t;
     }
-    &t[0..50400]
+    &t[0..MOST_BYTES]
 }
 
 // The statements, then the expressions, which are lent what the statements leave free.

@@ -4,6 +4,7 @@
 // Copyright 2018 The Starlark in Rust Authors. Copyright (c) Facebook, Inc. and its affiliates. Licensed under Apache-2.0.
 use dialect::Dialect;
 use errors::params;
+use forest::RECORD;
 use soundness::classes;
 use soundness::kinds;
 use table::numbers;
@@ -28,7 +29,7 @@ pub(crate) fn visit_stmt(
     requires { ⌜ 24 * at + length (now t) ≤ 50400 ⌝ }
     ensures { λ r. ⌜ Stores («visit_stmt» d (now (names .entry)) «top» «in_for» «in_def» (forest at (now (t .entry)))) (now (errors .entry)) r (now (errors .exit)) ⌝ }
 {
-    if t.len() < 24 {
+    if t.len() < RECORD {
         return 0;
     }
     let first = check_statement(d, names, t, at, top, in_for, in_def, errors);
@@ -36,7 +37,7 @@ pub(crate) fn visit_stmt(
     let e = forest::span(t);
     let after = &t[e..];
     let left = &mut errors[free..];
-    let rest = visit_stmt(d, names, after, at + e / 24, top, in_for, in_def, left);
+    let rest = visit_stmt(d, names, after, at + e / RECORD, top, in_for, in_def, left);
     first + rest
 }
 
@@ -59,7 +60,7 @@ fn check_statement(
     }
     let kind = forest::kind(t);
     let e = forest::span(t);
-    let below = &t[24..e];
+    let below = &t[RECORD..e];
     if kind == kinds::DEF {
         let first = def_errors(d, names, t, at, errors);
         let free = errors::free(errors.len(), first);

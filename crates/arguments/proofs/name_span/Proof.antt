@@ -1,13 +1,7 @@
 -- `arguments::name_span` meets its contract: begin and end are the name's. Assumes nothing.
-use Rattle.table.proofs.Answers.{span-injective}
 use borrow.Author.Needs.{needs}
 use Rattle.arguments.proofs.name_span.Statement.{statement}
 use Rattle.arguments.proofs.name_span.Tie as tie
 
 pub name-span-spec : {M : Type 1} → statement M
-name-span-spec =
-    tie.close
-    (tie.spec
-    (λ c κs. search needs)
-    (λ c κs. search needs)
-    (λ c. span-injective _ _ (c .before .source .ensures) (c .name-stop .ensures)))  -- returns
+name-span-spec = tie.close (tie.spec (λ c κs. search needs) (λ c κs. search needs) (λ c. cc))  -- returns

@@ -1,13 +1,7 @@
 -- `table::span_of` meets its contract: begin and end are the record's. Assumes nothing.
 use borrow.Author.Needs.{needs}
-use Rattle.table.proofs.Answers.{span-injective}
 use Rattle.table.proofs.span_of.Statement.{statement}
 use Rattle.table.proofs.span_of.Tie as tie
 
 pub span-of-spec : {M : Type 1} → statement M
-span-of-spec =
-    tie.close
-    (tie.spec
-    (λ c κs. search needs)
-    (λ c κs. search needs)
-    (λ c. span-injective _ _ (c .before .begin .ensures) (c .stop .ensures)))  -- returns
+span-of-spec = tie.close (tie.spec (λ c κs. search needs) (λ c κs. search needs) (λ c. cc))  -- returns

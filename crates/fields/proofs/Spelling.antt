@@ -8,10 +8,9 @@ use native.Mathlib.Numerals.{add-one}
 use native.Mathlib.Omega.{arith}
 use lib.ListN.{length, getD, take, drop, set, replicate, length-take, List·getD-append, List·getD-eq-default}
 use lib.Seq.{getD-take, getD-drop, getD-set-same, getD-set-other, drop-cons, drop-append-seam}
+use Rattle.fields.specs.Field.{field, bytesOf}
 use Rattle.fields.proofs.Basics.{le-or-lt}
-use Rattle.fields.specs.Field.{field}
 use Rattle.fields.proofs.Fields.{field-drop}
-use Rattle.blocks.specs.Block.{bytesOf}
 
 -- every byte is below 256
 abbrev pub Bytes : List ℕ → Type 0
