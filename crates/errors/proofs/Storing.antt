@@ -6,7 +6,7 @@ use Prim.Native.Nat.{ℕ, suc, _+_, _*_, _-_, _<_, _≤_, min}
 use native.Mathlib.Omega.{arith}
 use lib.Dec.{leb}
 use lib.ListN.{length, take, drop, set, length-drop, length-append, drop-of-length-le}
-use lib.Seq.{drop-drop, take-length, drop-length}
+use lib.Seq.{drop-drop, take-length, drop-length, take-append-add, drop-append-add}
 use borrow.Author.Tests.{le-leb, lt-leb, leb-true, leb-false}
 use borrow.Rule.Slice.PartMut.{putMid}
 use Rattle.fields.proofs.Fields.{tail-part}
@@ -14,23 +14,27 @@ use Rattle.forest.specs.Forest.{Node, nodeOf}
 use Rattle.errors.specs.Errors.{errAt, unless, width, wordsOf, stored, Stores}
 use Rattle.errors.specs.declared.Err.{Err}
 
+-- an error has as many words as it says
+words-width : (e : Err) → length (wordsOf e) ≡ width
+words-width e = refl
+
 -- there is room for an error, or none
-room : {P : Type 0} (xs : List ℕ) → (3 ≤ length xs → P) → (length xs < 3 → P) → P
-room {P} xs fits full = go (leb 3 (length xs)) refl
+room : {P : Type 0} (xs : List ℕ) → (width ≤ length xs → P) → (length xs < width → P) → P
+room {P} xs fits full = go (leb width (length xs)) refl
   where
-    go : (b : Bool) → leb 3 (length xs) ≡ b → P
-    go true e = fits (leb-true 3 (length xs) e)
-    go false e = full (leb-false 3 (length xs) e)
+    go : (b : Bool) → leb width (length xs) ≡ b → P
+    go true e = fits (leb-true width (length xs) e)
+    go false e = full (leb-false width (length xs) e)
 
 -- storing one error and then others
 module _ (e : Err) (es : List Err) (xs : List ℕ) where
-  stored-fits : 3 ≤ length xs → stored (e ∷ es) xs ≡ wordsOf e ++ stored es (drop 3 xs)
+  stored-fits : width ≤ length xs → stored (e ∷ es) xs ≡ wordsOf e ++ stored es (drop width xs)
   unfolding stored
-  stored-fits h = rw (le-leb 3 (length xs) h) refl
+  stored-fits h = rw (le-leb width (length xs) h) refl
 
-  stored-full : length xs < 3 → stored (e ∷ es) xs ≡ xs
+  stored-full : length xs < width → stored (e ∷ es) xs ≡ xs
   unfolding stored
-  stored-full h = rw (lt-leb 3 (length xs) h) refl
+  stored-full h = rw (lt-leb width (length xs) h) refl
 
 -- LAW: nothing is stored of no errors, and no word is added or taken
 pub stored-none : (xs : List ℕ) → stored [] xs ≡ xs
@@ -42,7 +46,8 @@ stored-length [] xs = ap length (stored-none xs)
 stored-length (e ∷ es) xs =
     room xs
     (λ h. ap length (stored-fits e es xs h)
-    ∙ (let n = stored-length es (drop 3 xs) in omega (arith, n, length-drop 3 xs)))
+    ∙ length-append (wordsOf e) (stored es (drop width xs))
+    ∙ (let n = stored-length es (drop width xs) in omega (arith, n, words-width e, length-drop width xs)))
     (λ h. ap length (stored-full e es xs h))
 
 stored-nil : (es : List Err) → stored es [] ≡ []
@@ -58,11 +63,20 @@ stored-append [] fs xs = let z : min 0 (length xs) ≡ 0 = omega arith in rw (z,
 stored-append (e ∷ es) fs xs =
     room xs
     (λ h.
-    let m : min (3 * suc (length es)) (length xs)
-    ≡ suc (suc (suc (min (3 * length es) (length (drop 3 xs))))) = omega (arith, length-drop 3 xs) in
-    rw (stored-fits e (es ++ fs) xs h, stored-fits e es xs h, m, stored-append es fs (drop 3 xs)) refl)
+    let rest = stored es (drop width xs) in
+    let k : ℕ = min (width * length es) (length (drop width xs)) in
+    let m : min (width * suc (length es)) (length xs) ≡ length (wordsOf e) + k = omega
+    (arith, words-width e, length-drop width xs) in
+    stored-fits e (es ++ fs) xs h
+    ∙ ap (λ (l : List ℕ). wordsOf e ++ l) (stored-append es fs (drop width xs))
+    ∙ sym (ap (λ (n : ℕ). take n (stored (e ∷ es) xs) ++ stored fs (drop n (stored (e ∷ es) xs))) m
+    ∙ ap (λ (l : List ℕ). take (length (wordsOf e) + k) l ++ stored fs (drop (length (wordsOf e) + k) l))
+    (stored-fits e es xs h)
+    ∙ ap (λ (l : List ℕ). l ++ stored fs (drop (length (wordsOf e) + k) (wordsOf e ++ rest)))
+    (take-append-add (wordsOf e) rest k)
+    ∙ ap (λ (l : List ℕ). (wordsOf e ++ take k rest) ++ stored fs l) (drop-append-add (wordsOf e) rest k)))
     (λ h.
-    let m : min (3 * suc (length es)) (length xs) ≡ length xs = omega arith in
+    let m : min (width * suc (length es)) (length xs) ≡ length xs = omega arith in
     rw (
       stored-full e (es ++ fs) xs h,
       stored-full e es xs h,
@@ -148,8 +162,9 @@ pub stored-all : (es : List Err) (xs : List ℕ) → width * length es ≤ lengt
     → stored es xs ≡ allWords es ++ drop (width * length es) xs
 stored-all [] xs h = stored-none xs
 stored-all (e ∷ es) xs h =
-    let next = stored-all es (drop 3 xs) (omega (arith, length-drop 3 xs)) in
-    let more : 3 + 3 * length es ≡ 3 * suc (length es) = omega arith in
-    let skip : drop (3 * length es) (drop 3 xs) ≡ drop (3 * suc (length es)) xs = drop-drop (3 * length es) 3 xs
+    let next = stored-all es (drop width xs) (omega (arith, length-drop width xs)) in
+    let more : width + width * length es ≡ width * suc (length es) = omega arith in
+    let skip : drop (width * length es) (drop width xs)
+    ≡ drop (width * suc (length es)) xs = drop-drop (width * length es) width xs
     ∙ ap (λ (n : ℕ). drop n xs) more in
     rw (stored-fits e es xs (omega arith), next, skip) refl
