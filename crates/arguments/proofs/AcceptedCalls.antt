@@ -1,4 +1,5 @@
--- What an accepted call is, over the whole job: the table passes the check, the node is a call, and its arguments stand in order with distinct names.
+-- What an accepted call is, over the whole job: the table passes the check, the node is a call, and its arguments stand
+-- in order with distinct names.
 -- In both directions, with the counts and places of the answer. Assumes nothing.
 use mathlib.Core.Path.{_≡_, refl, sym, ap, _∙_}
 use mathlib.Core.Bool.{true}
@@ -37,7 +38,8 @@ answer-ordered l c e = go (unpack l) refl e
     go (repeatedName r) h e = never (cc)
     go internalError h e = never (cc)
 
--- THEOREM: in a table that passes the check, a call whose arguments stand in order with distinct names is accepted, with their counts and places
+-- THEOREM: in a table that passes the check, a call whose arguments stand in order with distinct names is accepted,
+-- with their counts and places
 pub ordered-accepted : (t names : List ℕ) (i : ℕ) (c : CallArgs) {vs : List ℕ} → checkOf t names ≡ accepted vs
     → nodeFits t i Call ≡ true → Ordered (argumentsOf names (treeOf i (stretchOf t i))) c
     → callOf t names i ≡ accepted (callValues c)

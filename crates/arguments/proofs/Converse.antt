@@ -1,5 +1,6 @@
--- A list of arguments in order with distinct names is accepted, with its counts and places. Assumes nothing.
-use mathlib.Core.Path.{_≡_, refl, _∙_}
+-- A list of arguments in order with distinct names is accepted, with its counts and places: each argument may stand
+-- where it stands, and counting them one after the other gives the counts. Assumes nothing.
+use mathlib.Core.Path.{_≡_, refl, sym, ap, _∙_}
 use mathlib.Core.Bool.{false}
 use mathlib.Core.List.{List, [], _∷_, _++_}
 use Prim.Native.Nat.{ℕ, zero, suc, _+_}
@@ -7,12 +8,13 @@ use native.Mathlib.Omega.{arith}
 use lib.ListN.{length, replicate, length-append}
 use lib.Seq.{append-snoc}
 use Rattle.forest.specs.Names.{Distinct}
+use Rattle.forest.specs.declared.Found.the-variants.{Nothing as NotFound}
 use Rattle.fields.proofs.Basics.{never}
 use Rattle.table.specs.declared.Place.{Place}
 use Rattle.table.specs.declared.Place.the-variants.{At, Nothing}
 use Rattle.arguments.specs.Written.{Argument, kindIn}
-use Rattle.arguments.specs.Call.{pastNamed, inKwargs, repeats, rule, check, nextStage, counts, count}
-use Rattle.arguments.specs.Call.{advance, given, taken, unpacked, bit, run, unpack}
+use Rattle.arguments.specs.Call.{pastNamed, inKwargs, rule, check, nextStage, counts, count, advance, given}
+use Rattle.arguments.specs.Call.{unpacked, bit, run, start, unpack}
 use Rattle.arguments.specs.Accepted.{kindsOf, one, Placed, namesOf, Ordered}
 use Rattle.arguments.specs.declared.Kind.{Kind}
 use Rattle.arguments.specs.declared.Kind.the-variants.{Positional, Named, Args, KwArgs}
@@ -23,13 +25,18 @@ use Rattle.arguments.specs.declared.Check.the-variants.{Fine}
 use Rattle.arguments.specs.declared.CallArgs.{CallArgs}
 use Rattle.arguments.specs.declared.Walk.{Walk}
 use Rattle.arguments.proofs.Names.{names-new}
-use Rattle.arguments.proofs.Order.{run-passes, run-last}
+use Rattle.arguments.proofs.Order.{Walked, walked-start, walked-more, run-more, run-last, order-total, kinds-long}
 
-abbrev at : ArgsStage → CallArgs → Walk
-at s c = record { stage = s; counts = c }
+add-none : (n : ℕ) → n + 0 ≡ n
+add-none n = omega arith
 
-snoc-long : (before : List Argument) (p : Argument) → length (before ++ p ∷ []) ≡ length before + 1
-snoc-long before p = simp length-append
+one-on : (n m : ℕ) → n + 1 + m ≡ n + suc m
+one-on n m = omega arith
+
+-- arguments of these kinds may follow at a stage, names aside
+abbrev Follows : ArgsStage → List Kind → Type 0
+Follows s [] = Unit {0}
+Follows s (k ∷ ks) = (rule s NotFound k ≡ Fine) × Follows (nextStage s k) ks
 
 not-last : (s : ArgsStage) → pastNamed s ≡ false → inKwargs s ≡ false
 not-last AtPositional e = refl
@@ -37,83 +44,72 @@ not-last AtNamed e = refl
 not-last AtArgs e = never (cc)
 not-last AtKwargs e = never (cc)
 
--- an argument of a kind that keeps its rule is taken
-on-kind : (before : List Argument) (s : ArgsStage) (c : CallArgs) (p : Argument) (ps : List Argument) (k : Kind)
-    → kindIn p ≡ k → rule s (repeats before p) k ≡ Fine → taken c k ≡ false
-    → run before (at s c) (p ∷ ps) ≡ run (before ++ p ∷ []) (at (nextStage s k) (count c (length before) k)) ps
-unfolding advance check
-on-kind before s c p ps k e fine free = run-passes before (at s c) p ps (rw e fine) (rw e free) ∙ rw e refl
+module _ (k : Place) where
+  kwargs-follow : (s : ArgsStage) → inKwargs s ≡ false → Follows s (one k KwArgs)
+  kwargs-follow s h = go k
+    where
+      go : (k : Place) → Follows s (one k KwArgs)
+      go (At i) = (rw h refl, tt)
+      go Nothing = tt
 
--- at most one `**`
-run-kwargs : (k : Place) (before l : List Argument) (s : ArgsStage) (p n : ℕ) (a : Place) → inKwargs s ≡ false
-    → p + n + bit (given a) ≡ length before → kindsOf l ≡ one k KwArgs → Placed k (p + n + bit (given a))
-    → run before (at s (counts p n a Nothing)) l ≡ unpacked (counts p n a k)
-run-kwargs Nothing before [] s p n a h m e i = run-last before (at s (counts p n a Nothing)) (omega arith)
-run-kwargs Nothing before (q ∷ l) s p n a h m e i = never (cc)
-run-kwargs (At j) before [] s p n a h m e i = never (cc)
-run-kwargs (At j) before (q ∷ []) s p n a h m e i =
-    let kind : kindIn q ≡ KwArgs = cc in
-    let there : length before ≡ j = omega arith in
-    on-kind before s (counts p n a Nothing) q [] KwArgs kind (rw h refl) refl
-    ∙ run-last (before ++ q ∷ []) (at AtKwargs (counts p n a (At (length before)))) (omega (arith, snoc-long before q))
-    ∙ rw there refl
-run-kwargs (At j) before (q ∷ r ∷ l) s p n a h m e i = never (cc)
+  args-follow : (a : Place) (s : ArgsStage) → pastNamed s ≡ false → Follows s (one a Args ++ one k KwArgs)
+  args-follow (At i) s h = (rw h refl, kwargs-follow AtArgs refl)
+  args-follow Nothing s h = kwargs-follow s (not-last s h)
 
--- at most one star before it
-run-args : (a k : Place) (before l : List Argument) (s : ArgsStage) (p n : ℕ) → pastNamed s ≡ false
-    → p + n ≡ length before → kindsOf l ≡ one a Args ++ one k KwArgs → Placed a (p + n)
-    → Placed k (p + n + bit (given a))
-    → run before (at s (counts p n Nothing Nothing)) l ≡ unpacked (counts p n a k)
-run-args Nothing k before l s p n h m e i j = run-kwargs k before l s p n Nothing (not-last s h) (omega arith) e j
-run-args (At x) k before [] s p n h m e i j = never (cc)
-run-args (At x) k before (q ∷ l) s p n h m e i j =
-    let kind : kindIn q ≡ Args = cc in
-    let rest : kindsOf l ≡ one k KwArgs = cc in
-    let there : length before ≡ x = omega arith in
-    on-kind before s (counts p n Nothing Nothing) q l Args kind (rw h refl) refl
-    ∙ rw there (run-kwargs k (before ++ q ∷ []) l AtArgs p n (At x) refl (omega (arith, snoc-long before q)) rest j)
+  named-follow : (n : ℕ) (a : Place) (s : ArgsStage) → pastNamed s ≡ false
+      → Follows s (replicate n Named ++ (one a Args ++ one k KwArgs))
+  named-follow zero a s h = args-follow a s h
+  named-follow (suc n) a s h = (rw h refl, named-follow n a AtNamed refl)
 
--- named ones before them
-run-named : (m : ℕ) (a k : Place) (before l : List Argument) (s : ArgsStage) (p n : ℕ) → pastNamed s ≡ false
-    → p + n ≡ length before → kindsOf l ≡ replicate m Named ++ (one a Args ++ one k KwArgs)
-    → Distinct (namesOf (before ++ l)) → Placed a (p + (n + m)) → Placed k (p + (n + m) + bit (given a))
-    → run before (at s (counts p n Nothing Nothing)) l ≡ unpacked (counts p (n + m) a k)
-run-named zero a k before l s p n h m e d i j =
-    let z : n + 0 ≡ n = omega arith in
-    rw z (run-args a k before l s p n h m e (rw z at i) (rw z at j))
-run-named (suc x) a k before [] s p n h m e d i j = never (cc)
-run-named (suc x) a k before (q ∷ l) s p n h m e d i j =
-    let kind : kindIn q ≡ Named = cc in
-    let rest : kindsOf l ≡ replicate x Named ++ (one a Args ++ one k KwArgs) = cc in
-    let z : n + suc x ≡ n + 1 + x = omega arith in
-    on-kind before s (counts p n Nothing Nothing) q l Named kind (rw (h, names-new before q l d) refl) refl
-    ∙ rw z (run-named x a k (before ++ q ∷ []) l AtNamed p (n + 1) refl (omega (arith, snoc-long before q)) rest
-    (rw append-snoc d) (rw z at i) (rw z at j))
+  all-follow : (p n : ℕ) (a : Place)
+      → Follows AtPositional (replicate p Positional ++ (replicate n Named ++ (one a Args ++ one k KwArgs)))
+  all-follow zero n a = named-follow n a AtPositional refl
+  all-follow (suc p) n a = (refl, all-follow p n a)
 
--- positional ones before those
-run-positional : (y x : ℕ) (a k : Place) (before l : List Argument) (p : ℕ) → p ≡ length before
-    → kindsOf l ≡ replicate y Positional ++ (replicate x Named ++ (one a Args ++ one k KwArgs))
-    → Distinct (namesOf (before ++ l)) → Placed a (p + y + x) → Placed k (p + y + x + bit (given a))
-    → run before (at AtPositional (counts p 0 Nothing Nothing)) l ≡ unpacked (counts (p + y) x a k)
-run-positional zero x a k before l p m e d i j =
-    let z : p + 0 ≡ p = omega arith in
-    let w : p + (0 + x) ≡ p + 0 + x = omega arith in
-    let same : 0 + x ≡ x = omega arith in
-    rw (z, ← same) (run-named x a k before l AtPositional p 0 refl (omega arith) e d (rw w i) (rw w j))
-run-positional (suc y) x a k before [] p m e d i j = never (cc)
-run-positional (suc y) x a k before (q ∷ l) p m e d i j =
-    let kind : kindIn q ≡ Positional = cc in
-    let rest : kindsOf l ≡ replicate y Positional ++ (replicate x Named ++ (one a Args ++ one k KwArgs)) = cc in
-    let z : p + suc y ≡ p + 1 + y = omega arith in
-    on-kind before AtPositional (counts p 0 Nothing Nothing) q l Positional kind refl refl
-    ∙ rw z (run-positional y x a k (before ++ q ∷ []) l (p + 1) (omega (arith, snoc-long before q)) rest
-    (rw append-snoc d) (rw z at i) (rw z at j))
+-- arguments of these kinds counted, the first of them at place i
+abbrev counted : CallArgs → ℕ → List Kind → CallArgs
+counted c i [] = c
+counted c i (k ∷ ks) = counted (count c i k) (i + 1) ks
+
+-- LAW: what may follow with names that stay distinct is accepted, and counted
+run-counted : (before l : List Argument) (w : Walk) → Walked before w → Follows (w .stage) (kindsOf l)
+    → Distinct (namesOf (before ++ l)) → run before w l ≡ unpacked (counted (w .counts) (length before) (kindsOf l))
+unfolding check advance
+run-counted before [] w o f d = run-last before w (sym (order-total o) ∙ kinds-long before)
+run-counted before (p ∷ ps) w o f d =
+    let fine : check before (w .stage) p ≡ Fine = rw (names-new before p ps d) (f .0) in
+    let long : length (before ++ p ∷ []) ≡ length before + 1 = simp length-append in
+    run-more before w p ps fine o
+    ∙ run-counted (before ++ p ∷ []) ps (advance w (length before) (kindIn p)) (walked-more before w p ps fine o)
+    (f .1) (rw append-snoc d)
+    ∙ rw long refl
+
+-- so many positional counted, so many named, then a star and a `**`
+positional-counted : (m p n i : ℕ) (ks : List Kind) → counted (counts p n Nothing Nothing) i (replicate m Positional ++ ks)
+    ≡ counted (counts (p + m) n Nothing Nothing) (i + m) ks
+positional-counted zero p n i ks = rw (add-none p, add-none i) refl
+positional-counted (suc m) p n i ks = positional-counted m (p + 1) n (i + 1) ks ∙ rw (one-on p m, one-on i m) refl
+
+named-counted : (m p n i : ℕ) (ks : List Kind) → counted (counts p n Nothing Nothing) i (replicate m Named ++ ks)
+    ≡ counted (counts p (n + m) Nothing Nothing) (i + m) ks
+named-counted zero p n i ks = rw (add-none n, add-none i) refl
+named-counted (suc m) p n i ks = named-counted m p (n + 1) (i + 1) ks ∙ rw (one-on n m, one-on i m) refl
+
+stars-counted : (a k : Place) (p n i : ℕ) → Placed a i → Placed k (i + bit (given a))
+    → counted (counts p n Nothing Nothing) i (one a Args ++ one k KwArgs) ≡ counts p n a k
+stars-counted (At x) (At y) p n i e h = rw (e, h) refl
+stars-counted (At x) Nothing p n i e h = rw e refl
+stars-counted Nothing (At y) p n i e h = let here : y ≡ i = omega arith in rw here refl
+stars-counted Nothing Nothing p n i e h = refl
 
 -- THEOREM: a list in order with distinct names is accepted, with its counts and places
 pub ordered-unpacked : (l : List Argument) (c : CallArgs) → Ordered l c → unpack l ≡ unpacked c
 unfolding unpack
 ordered-unpacked l c o =
-    let z : 0 + c .«num_pos» ≡ c .«num_pos» = omega arith in
-    rw z at
-    (run-positional (c .«num_pos») (c .«num_named») (c .star) (c .«star_star») [] l 0 refl (o .kinds) (o .distinct)
-    (rw z (o .star-at)) (rw z (o .kwargs-at)))
+    let p = c .«num_pos» in
+    let n = c .«num_named» in
+    let only-p : 0 + p ≡ p = omega arith in
+    let only-n : 0 + n ≡ n = omega arith in
+    run-counted [] l start walked-start (rw (o .kinds) (all-follow (c .«star_star») p n (c .star))) (o .distinct)
+    ∙ ap unpacked (rw (o .kinds, positional-counted p 0 0 0, only-p, named-counted n p 0 p, only-n)
+    (stars-counted (c .star) (c .«star_star») p n (p + n) (o .star-at) (o .kwargs-at)))

@@ -1,4 +1,5 @@
--- What an accepted list of arguments is, defined by itself: positional, then named, then at most one star, then at most one `**`, names distinct.
+-- What an accepted list of arguments is, defined by itself: positional, then named, then at most one star, then at most
+-- one `**`, names distinct.
 -- These are definitions.
 use mathlib.Core.Path.{_≡_}
 use mathlib.Core.List.{List, [], _∷_, _++_}
@@ -25,7 +26,8 @@ one Nothing k = []
 
 -- so many positional, then so many named, then the star, then the `**`
 abbrev pub inOrder : CallArgs → List Kind
-inOrder a = replicate (a .«num_pos») Positional ++ (replicate (a .«num_named») Named ++ (one (a .star) Args ++ one (a .«star_star») KwArgs))
+inOrder a = replicate (a .«num_pos») Positional
+    ++ (replicate (a .«num_named») Named ++ (one (a .star) Args ++ one (a .«star_star») KwArgs))
 
 -- a place, if there is one, is the n-th
 abbrev pub Placed : Place → ℕ → Type 0
@@ -40,7 +42,8 @@ namesOf (named r n ∷ ps) = n ∷ namesOf ps
 namesOf (args r ∷ ps) = namesOf ps
 namesOf (kwargs r ∷ ps) = namesOf ps
 
--- a list of arguments in order, so many as c says, with the star and the `**` at the places that c says, and with distinct names
+-- a list of arguments in order, so many as c says, with the star and the `**` at the places that c says, and with
+-- distinct names
 pub record Ordered (l : List Argument) (c : CallArgs) : Type 0 where
   pub kinds : kindsOf l ≡ inOrder c
   pub star-at : Placed (c .star) (c .«num_pos» + c .«num_named»)

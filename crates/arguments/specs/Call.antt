@@ -1,5 +1,6 @@
 -- CallArgsUnpack::unpack of src/syntax/call.rs, with all its outcomes. These are definitions.
--- Copyright 2018 The Starlark in Rust Authors. Copyright (c) Facebook, Inc. and its affiliates. Licensed under Apache-2.0; changed.
+-- Copyright 2018 The Starlark in Rust Authors. Copyright (c) Facebook, Inc. and its affiliates.
+-- Licensed under Apache-2.0; changed.
 use mathlib.Core.Bool.{Bool, true, false}
 use mathlib.Core.List.{List, [], _∷_, _++_}
 use Prim.Native.Nat.{ℕ, _+_}
@@ -17,7 +18,8 @@ use Rattle.arguments.specs.Written.{Name, Argument, positional, named, a
 use Rattle.arguments.specs.declared.Kind.{Kind}
 use Rattle.arguments.specs.declared.Kind.the-variants.{Positional, Named, Args, KwArgs}
 use Rattle.arguments.specs.declared.ArgsStage.{ArgsStage}
-use Rattle.arguments.specs.declared.ArgsStage.the-variants.{Positional as AtPositional, Named as AtNamed, Args as AtArgs, Kwargs as AtKwargs}
+use Rattle.arguments.specs.declared.ArgsStage.the-variants.{Positional as AtPositional, Named as AtNamed}
+use Rattle.arguments.specs.declared.ArgsStage.the-variants.{Args as AtArgs, Kwargs as AtKwargs}
 use Rattle.arguments.specs.declared.Check.{Check}
 use Rattle.arguments.specs.declared.Check.the-variants.{Fine, Broken, Repeated}
 use Rattle.arguments.specs.declared.CallArgs.{CallArgs}

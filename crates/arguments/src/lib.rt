@@ -1,7 +1,9 @@
 // Call arguments: positional, then named, then at most one star, then at most one `**`, names distinct.
 //
-// Ported from src/syntax/call.rs of starlark_syntax 0.14.2, and changed: the arguments are records of a node table, the set of names is a search.
-// Copyright 2018 The Starlark in Rust Authors. Copyright (c) Facebook, Inc. and its affiliates. Licensed under Apache-2.0.
+// Ported from src/syntax/call.rs of starlark_syntax 0.14.2, and changed: the arguments are records of a node table, the
+// set of names is a search.
+// Copyright 2018 The Starlark in Rust Authors. Copyright (c) Facebook, Inc. and its affiliates.
+// Licensed under Apache-2.0.
 use forest::Found;
 use forest::RECORD;
 use soundness::kinds;
@@ -18,7 +20,9 @@ ghost use Rattle.forest.specs.Forest.{nodeOf, forest, treeOf};
 ghost use Rattle.forest.specs.Names.{nameOf};
 ghost use Rattle.table.specs.Answer.{checked};
 ghost use Rattle.arguments.specs.Written.{kindAt, argumentOf, argumentsIn};
-ghost use Rattle.arguments.specs.Call.{pastPositional, pastNamed, inKwargs, hasName, firstSame, newName, positionalRule, argsRule, kwargsRule, namedRule, check as checkOf, nextStage, count as countOf, advance as advanceOf, unpack as unpackOf};
+ghost use Rattle.arguments.specs.Call.{pastPositional, pastNamed, inKwargs, hasName, firstSame, newName};
+ghost use Rattle.arguments.specs.Call.{positionalRule, argsRule, kwargsRule, namedRule, check as checkOf};
+ghost use Rattle.arguments.specs.Call.{nextStage, count as countOf, advance as advanceOf, unpack as unpackOf};
 ghost use Rattle.arguments.specs.Job.{nameStop, nameSpan, checkAnswer, outcomeAnswer, callAnswer, called, callOf};
 
 // Where unpack stands among the arguments, in this order.
@@ -89,7 +93,8 @@ fn arguments(t: &[u8], names: &[u8], node: usize) -> Called
 // CallArgsUnpack::unpack of a list of arguments, the first of which is the node first.
 fn unpack(args: &[u8], names: &[u8], first: usize) -> Called
     requires { ⌜ 24 * first + length (now args) ≤ 50424 ⌝ }
-    ensures { λ r. ⌜ called r ≡ outcomeAnswer (unpackOf (argumentsIn (now (names .entry)) (forest first (now (args .entry))))) ⌝ }
+    ensures { λ r. ⌜ called r ≡
+        outcomeAnswer (unpackOf (argumentsIn (now (names .entry)) (forest first (now (args .entry))))) ⌝ }
 {
     let mut w = Walk {
         stage: ArgsStage::Positional,
@@ -217,8 +222,10 @@ fn has_name(names: &[u8], name: &[u8], t: &[u8]) -> bool
 
 // The node of the first of n arguments that is named and has this name; first is the node of the first of them.
 fn earlier(names: &[u8], name: &[u8], args: &[u8], first: usize, n: usize) -> Found
-    requires { ⌜ (24 * first + length (now args) ≤ 50424) × (n ≤ length (argumentsIn (now names) (forest first (now args)))) ⌝ }
-    ensures { λ r. ⌜ r ≡ firstSame (now (name .entry)) (take n (argumentsIn (now (names .entry)) (forest first (now (args .entry))))) ⌝ }
+    requires { ⌜ (24 * first + length (now args) ≤ 50424) ×
+        (n ≤ length (argumentsIn (now names) (forest first (now args)))) ⌝ }
+    ensures { λ r. ⌜ r ≡
+        firstSame (now (name .entry)) (take n (argumentsIn (now (names .entry)) (forest first (now (args .entry))))) ⌝ }
 {
     let mut left = args;
     let mut at = first;
@@ -264,8 +271,11 @@ fn named_rule(
     left: &[u8],
     stage: ArgsStage,
 ) -> Check
-    requires { ⌜ (24 * first + length (now args) ≤ 50424) × (n ≤ length (argumentsIn (now names) (forest first (now args)))) ⌝ }
-    ensures { λ r. ⌜ r ≡ namedRule stage (firstSame (nameOf (now (names .entry)) (nodeOf 0 (now (left .entry)))) (take n (argumentsIn (now (names .entry)) (forest first (now (args .entry)))))) ⌝ }
+    requires { ⌜ (24 * first + length (now args) ≤ 50424) ×
+        (n ≤ length (argumentsIn (now names) (forest first (now args)))) ⌝ }
+    ensures { λ r. ⌜ r ≡
+        namedRule stage (firstSame (nameOf (now (names .entry)) (nodeOf 0 (now (left .entry))))
+        (take n (argumentsIn (now (names .entry)) (forest first (now (args .entry)))))) ⌝ }
 {
     if past_named(stage) {
         return Check::Broken(numbers::NAMED_AFTER_STAR);
@@ -302,8 +312,11 @@ fn check_argument(
     left: &[u8],
     stage: ArgsStage,
 ) -> Check
-    requires { ⌜ (24 * first + length (now args) ≤ 50424) × (n ≤ length (argumentsIn (now names) (forest first (now args)))) ⌝ }
-    ensures { λ r. ⌜ r ≡ checkOf (take n (argumentsIn (now (names .entry)) (forest first (now (args .entry))))) stage (argumentOf (now (names .entry)) (nodeOf 0 (now (left .entry)))) ⌝ }
+    requires { ⌜ (24 * first + length (now args) ≤ 50424) ×
+        (n ≤ length (argumentsIn (now names) (forest first (now args)))) ⌝ }
+    ensures { λ r. ⌜ r ≡
+        checkOf (take n (argumentsIn (now (names .entry)) (forest first (now (args .entry))))) stage
+        (argumentOf (now (names .entry)) (nodeOf 0 (now (left .entry)))) ⌝ }
 {
     let kind = kind_of(left);
     match kind {

@@ -1,5 +1,5 @@
--- Theorems of single blocks, over the number and the used bytes: a block that passes is the block of its content and nothing else, that
--- block passes, and any one changed byte of it gives 72. Assumes nothing.
+-- Theorems of single blocks, over the number and the used bytes: a block that passes is the block of its content and
+-- nothing else, that block passes, and any one changed byte of it gives 72. Assumes nothing.
 use mathlib.Core.Path.{_≡_, refl, sym, ap, _∙_}
 use mathlib.Core.Bool.{Bool, true, false, _&&_}
 use mathlib.Core.Logic.{⊎-elim}
@@ -240,7 +240,8 @@ passed-is-block number used bs fits small p =
     ∙ ap (bytesOf 4) (sym (p .check) ∙ sum) in
     sym (take-append-drop 508 b) ∙ rw (s, front) refl
 
--- THEOREM: any one byte of a block that passes changed to any other value gives 72, whatever number and used bytes are then asked for
+-- THEOREM: any one byte of a block that passes changed to any other value gives 72, whatever number and used bytes are
+-- then asked for
 pub changed-block : (number used : ℕ) (bs : List ℕ) (i v : ℕ) → Passing number used bs → i < 512
     → (v ≡ getD bs i 0 → ⊥) → (number′ used′ : ℕ) → judge number′ used′ (set bs i v) ≡ refused blockCheck []
 unfolding judge examine sumOf

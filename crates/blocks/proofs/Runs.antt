@@ -1,5 +1,5 @@
--- Laws of runs of blocks, in the terms of code, and theorems: a run that passes is the run of its content, that run passes, and any one
--- changed byte of it gives 72. Assumes nothing.
+-- Laws of runs of blocks, in the terms of code, and theorems: a run that passes is the run of its content, that run
+-- passes, and any one changed byte of it gives 72. Assumes nothing.
 use mathlib.Core.Path.{_≡_, refl, sym, ap, _∙_}
 use mathlib.Core.Logic.{⊎-elim}
 use mathlib.Core.List.{List, [], _∷_, _++_, append-assoc, append-nil}

@@ -1,4 +1,5 @@
--- Runs of blocks: a content of any length, 504 bytes a block; only the last may be partly used, and the numbers run on. These are definitions.
+-- Runs of blocks: a content of any length, 504 bytes a block; only the last may be partly used, and the numbers run on.
+-- These are definitions.
 use mathlib.Core.List.{List, [], _++_}
 use Prim.Native.Nat.{ℕ, zero, suc, _+_, _*_, _-_, _/_, min}
 use lib.ListN.{length, take, drop}
@@ -12,16 +13,19 @@ blocksFor total = (total + 503) / contentBytes
 -- the first n blocks of a content, numbered from this number on
 unfoldable pub blocksOf : ℕ → ℕ → List ℕ → List ℕ
 blocksOf zero number content = []
-blocksOf (suc n) number content = blockOf number (take contentBytes content) ++ blocksOf n (number + 1) (drop contentBytes content)
+blocksOf (suc n) number content = blockOf number (take contentBytes content)
+    ++ blocksOf n (number + 1) (drop contentBytes content)
 
 -- all blocks of a content
 unfoldable pub runOf : ℕ → List ℕ → List ℕ
 runOf number content = blocksOf (blocksFor (length content)) number content
 
--- n blocks, judged one after the other, that are numbered from this number on and are to hold so many bytes: each uses 504, or what is left
+-- n blocks, judged one after the other, that are numbered from this number on and are to hold so many bytes: each uses
+-- 504, or what is left
 unfoldable pub judgeBlocks : ℕ → ℕ → ℕ → List ℕ → Answer
 judgeBlocks zero number total bs = accepted []
-judgeBlocks (suc n) number total bs = andThen (judge number (min contentBytes total) bs) (λ _. judgeBlocks n (number + 1) (total - contentBytes) (drop blockBytes bs))
+judgeBlocks (suc n) number total bs = andThen (judge number (min contentBytes total) bs)
+    (λ _. judgeBlocks n (number + 1) (total - contentBytes) (drop blockBytes bs))
 
 -- the run at the front of some bytes: as many blocks as so many bytes fill
 unfoldable pub judgeRun : ℕ → ℕ → List ℕ → Answer

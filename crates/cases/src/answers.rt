@@ -4,11 +4,13 @@ use arguments::Called;
 use dialect::Decoded;
 use dialect::Dialect;
 use dialect::DialectTypes;
+use forest::RECORD;
 use libc::STDOUT_FILENO;
 use parameters::Counted;
 use parameters::Range;
 use parameters::Unpacked;
 use table::Checked;
+use table::Extent;
 use table::Place;
 use table::Refusal;
 use table::Wanted;
@@ -44,24 +46,20 @@ fn say_number(n: u64) {
     io::print_decimal(STDOUT_FILENO, n);
 }
 
-fn say_placed(number: u32, node: u32) {
-    say_number(number as u64);
-    say(b" at ");
-    say_number(node as u64);
-}
-
 // A refusal as its number, the node that it carries, and its span.
 fn say_refusal(r: Refusal) {
-    match r {
-        Refusal::Bare(number) => say_number(number as u64),
-        Refusal::Placed { number, node } => say_placed(number, node),
-        Refusal::Spanned { number, node, span } => {
-            say_placed(number, node);
-            say(b" ");
-            say_number(span.begin as u64);
-            say(b"-");
-            say_number(span.end as u64);
-        }
+    say_number(table::number(r) as u64);
+    let node = table::node_of(r);
+    if let Place::At(i) = node {
+        say(b" at ");
+        say_number(i as u64);
+    }
+    let extent = table::extent_of(r);
+    if let Extent::Of { begin, end } = extent {
+        say(b" ");
+        say_number(begin as u64);
+        say(b"-");
+        say_number(end as u64);
     }
 }
 
@@ -90,7 +88,7 @@ fn say_node(table: &[u8], node: usize, wants: u16) {
     }
     let s = table::stretch(table, node);
     say(b"stretch of ");
-    say_number((s.len() / 24) as u64);
+    say_number((s.len() / RECORD) as u64);
     say(b", class ");
     say_number(table::class(s) as u64);
     say(b", refused as ");
@@ -282,7 +280,8 @@ fn say_module(table: &[u8], names: &[u8], dialect: &[u8], room: usize) {
     say_words(list);
 }
 
-// 0 is a heading, 1 the table check, 2 a job's node, 3 the bytes of a dialect, 4 a call's arguments, 5 parameters, 6 a target, 7 an assignment, 8 a type, 9 a module.
+// 0 is a heading, 1 the table check, 2 a job's node, 3 the bytes of a dialect, 4 a call's arguments, 5 parameters, 6 a
+// target, 7 an assignment, 8 a type, 9 a module.
 pub(crate) fn answer(a: Asked, table: &[u8], names: &[u8], dialect: &[u8]) {
     let job = a.job;
     match job {

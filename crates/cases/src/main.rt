@@ -1,6 +1,7 @@
-// Runs the cases of data/cases.bin, a request each, and prints what the jobs answer: both sides of each limit and of each rule.
-// The cases stand in words in cases.txt, and in kinds.txt, which tools/kinds.py makes of document 01's sentences; tools/tables.py makes the requests
-// of them, and the gate holds them together.
+// Runs the cases of data/cases.bin, a request each, and prints what the jobs answer: both sides of each limit and of
+// each rule.
+// The cases stand in words in cases.txt, and in kinds.txt, which tools/kinds.py makes of document 01's sentences;
+// tools/tables.py makes the requests of them, and the gate holds them together.
 mod answers;
 
 use answers::Asked;

@@ -1,9 +1,11 @@
--- Document 01's table of proved examples: a row for each, on the definitions that the promises cite. These are definitions.
+-- Document 01's table of proved examples: a row for each, on the definitions that the promises cite. These are
+-- definitions.
 use mathlib.Core.Bool.{true, false}
 use mathlib.Core.List.{List, [], _∷_}
 use Prim.Native.Nat.{ℕ}
 use Rattle.forest.specs.Forest.{Node, Tree, node, none, _then_}
-use Rattle.soundness.specs.KindNumbers.{kindIdentifier, kindDot, kindIndex, kindIndex2, kindNormal, kindNoArgs, kindSlash, kindArgsParam, kindKwArgsParam, kindNamed, kindArgsArg}
+use Rattle.soundness.specs.KindNumbers.{kindIdentifier, kindDot, kindIndex, kindIndex2, kindNormal, kindNoArgs}
+use Rattle.soundness.specs.KindNumbers.{kindSlash, kindArgsParam, kindKwArgsParam, kindNamed, kindArgsArg}
 use Rattle.table.specs.Answer.{Answer, accepted, refused}
 use Rattle.deflist.specs.Written.{Param, normal, noArgs, slash, args, kwargs}
 use Rattle.deflist.specs.Unpack as def
@@ -24,7 +26,18 @@ names = 116 ∷ 121 ∷ 112 ∷ 101 ∷ 97 ∷ 98 ∷ 102 ∷ 120 ∷ 121 ∷ 10
 
 -- a record of a kind, with the name of so many bytes that starts at a place
 abbrev pub named : ℕ → ℕ → ℕ → Node
-named kind start len = record { at = 0; kind = kind; detail = 0; nameLen = len; nameStart = start; begin = 0; stop = 0; size = 0; pad = 0; source = 0 }
+named kind start len = record {
+  at = 0;
+  kind = kind;
+  detail = 0;
+  nameLen = len;
+  nameStart = start;
+  begin = 0;
+  stop = 0;
+  size = 0;
+  pad = 0;
+  source = 0;
+}
 
 abbrev pub plain : ℕ → Node
 plain kind = named kind 0 0
@@ -105,7 +118,8 @@ pub data Shown : Type 0 where
   fine : Shown
 
 abbrev pub ofCounted : Counted → Shown
-ofCounted c = list (c .indices .«num_positional») (c .indices .«num_positional_only») (c .indices .args) (c .indices .kwargs) (namedOnly (c .indices) (c .flat))
+ofCounted c = list (c .indices .«num_positional») (c .indices .«num_positional_only») (c .indices .args)
+    (c .indices .kwargs) (namedOnly (c .indices) (c .flat))
 
 abbrev pub ofOutcome : def.Outcome → Shown
 ofOutcome (def.accepted c) = ofCounted (countedOf c)
@@ -133,7 +147,8 @@ row q s = record { asked = q; shown = s }
 abbrev pub table : List Row
 table =
     row (parameters []) (list 0 0 Nothing Nothing (range 0 0)) ∷  -- ()
-    row (parameters (parameter a ∷ slashMark ∷ parameter b ∷ star ∷ parameter c ∷ starStar k ∷ [])) (list 2 1 Nothing (At 3) (range 2 3)) ∷  -- (a, /, b, *, c, **k)
+    row (parameters (parameter a ∷ slashMark ∷ parameter b ∷ star ∷ parameter c  -- (a, /, b, *, c, **k)
+    ∷ starStar k ∷ [])) (list 2 1 Nothing (At 3) (range 2 3)) ∷
     row (parameters (starArgs ∷ parameter a ∷ [])) (list 0 0 (At 0) Nothing (range 1 2)) ∷  -- (*args, a)
     row (parameters (withDefault a ∷ slashMark ∷ parameter b ∷ [])) (number 13) ∷  -- (a=1, /, b)
     row (parameters (slashMark ∷ parameter a ∷ [])) (number 10) ∷  -- (/, a)

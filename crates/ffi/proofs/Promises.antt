@@ -1,4 +1,5 @@
--- Two answers that meet the promise of a public function coincide: the number, the twelve words, and the lent buffer, for every input. Assumes nothing.
+-- Two answers that meet the promise of a public function coincide: the number, the twelve words, and the lent buffer,
+-- for every input. Assumes nothing.
 use mathlib.Core.Path.{_≡_}
 use mathlib.Core.List.{List}
 use Prim.Native.Nat.{ℕ}

@@ -1,4 +1,5 @@
--- What a caller in C gets: the number that is returned, and the twelve words afterwards, from a job's answer. These are definitions.
+-- What a caller in C gets: the number that is returned, and the twelve words afterwards, from a job's answer. These are
+-- definitions.
 use mathlib.Core.List.{List, [], _∷_, _++_}
 use Prim.Native.Nat.{ℕ, _+_, _≤_}
 use lib.Dec.{eqb}

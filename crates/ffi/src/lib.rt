@@ -109,7 +109,8 @@ fn put_call(a: CallArgs, out: &mut [u32; 12]) -> u32
 #[no_mangle]
 pub extern "C" fn starlark_table(table: &[u8], names: &[u8], out: &mut [u32; 12]) -> u32
     ensures { λ r. ⌜ r ≡ number (checkOf (now (table .entry)) (now (names .entry))) ⌝ }
-    ensures { λ r. ⌜ now (out .exit) ≡ laid (words (checkOf (now (table .entry)) (now (names .entry)))) 0 (now (out .entry)) ⌝ }
+    ensures { λ r. ⌜ now (out .exit) ≡
+        laid (words (checkOf (now (table .entry)) (now (names .entry)))) 0 (now (out .entry)) ⌝ }
 {
     let answer = table::check(table, names);
     match answer {
@@ -127,9 +128,13 @@ pub extern "C" fn starlark_params(
     modes: &mut [u8],
     out: &mut [u32; 12],
 ) -> u32
-    ensures { λ r. ⌜ r ≡ number (paramsOf (now (table .entry)) (now (names .entry)) node (length (now (modes .entry)))) ⌝ }
-    ensures { λ r. ⌜ now (out .exit) ≡ laid (words (paramsOf (now (table .entry)) (now (names .entry)) node (length (now (modes .entry))))) 0 (now (out .entry)) ⌝ }
-    ensures { λ r. ⌜ now (modes .exit) ≡ modesAfter (now (table .entry)) (now (names .entry)) node (now (modes .entry)) ⌝ }
+    ensures { λ r. ⌜ r ≡
+        number (paramsOf (now (table .entry)) (now (names .entry)) node (length (now (modes .entry)))) ⌝ }
+    ensures { λ r. ⌜ now (out .exit) ≡
+        laid (words (paramsOf (now (table .entry)) (now (names .entry)) node (length (now (modes .entry))))) 0
+        (now (out .entry)) ⌝ }
+    ensures { λ r. ⌜ now (modes .exit) ≡
+        modesAfter (now (table .entry)) (now (names .entry)) node (now (modes .entry)) ⌝ }
 {
     let answer = parameters::params(table, names, node, modes);
     match answer {
@@ -142,7 +147,8 @@ pub extern "C" fn starlark_params(
 #[no_mangle]
 pub extern "C" fn starlark_call(table: &[u8], names: &[u8], node: usize, out: &mut [u32; 12]) -> u32
     ensures { λ r. ⌜ r ≡ number (callOf (now (table .entry)) (now (names .entry)) node) ⌝ }
-    ensures { λ r. ⌜ now (out .exit) ≡ laid (callWords (callOf (now (table .entry)) (now (names .entry)) node)) 0 (now (out .entry)) ⌝ }
+    ensures { λ r. ⌜ now (out .exit) ≡
+        laid (callWords (callOf (now (table .entry)) (now (names .entry)) node)) 0 (now (out .entry)) ⌝ }
 {
     let answer = arguments::call(table, names, node);
     match answer {
@@ -160,7 +166,8 @@ pub extern "C" fn starlark_target(
     out: &mut [u32; 12],
 ) -> u32
     ensures { λ r. ⌜ r ≡ number (targetOf (now (table .entry)) (now (names .entry)) node) ⌝ }
-    ensures { λ r. ⌜ now (out .exit) ≡ laid (words (targetOf (now (table .entry)) (now (names .entry)) node)) 0 (now (out .entry)) ⌝ }
+    ensures { λ r. ⌜ now (out .exit) ≡
+        laid (words (targetOf (now (table .entry)) (now (names .entry)) node)) 0 (now (out .entry)) ⌝ }
 {
     let answer = targets::target(table, names, node);
     match answer {
@@ -178,7 +185,8 @@ pub extern "C" fn starlark_assignment(
     out: &mut [u32; 12],
 ) -> u32
     ensures { λ r. ⌜ r ≡ number (assignmentOf (now (table .entry)) (now (names .entry)) node) ⌝ }
-    ensures { λ r. ⌜ now (out .exit) ≡ laid (words (assignmentOf (now (table .entry)) (now (names .entry)) node)) 0 (now (out .entry)) ⌝ }
+    ensures { λ r. ⌜ now (out .exit) ≡
+        laid (words (assignmentOf (now (table .entry)) (now (names .entry)) node)) 0 (now (out .entry)) ⌝ }
 {
     let answer = targets::assignment(table, names, node);
     match answer {
@@ -197,9 +205,14 @@ pub extern "C" fn starlark_type(
     shapes: &mut [u8],
     out: &mut [u32; 12],
 ) -> u32
-    ensures { λ r. ⌜ r ≡ number (typeShapeOf (now (table .entry)) (now (names .entry)) (now (dialect .entry)) node (length (now (shapes .entry)))) ⌝ }
-    ensures { λ r. ⌜ now (out .exit) ≡ laid (words (typeShapeOf (now (table .entry)) (now (names .entry)) (now (dialect .entry)) node (length (now (shapes .entry))))) 0 (now (out .entry)) ⌝ }
-    ensures { λ r. ⌜ now (shapes .exit) ≡ shapesAfter (now (table .entry)) (now (names .entry)) (now (dialect .entry)) node (now (shapes .entry)) ⌝ }
+    ensures { λ r. ⌜ r ≡
+        number (typeShapeOf (now (table .entry)) (now (names .entry)) (now (dialect .entry)) node
+        (length (now (shapes .entry)))) ⌝ }
+    ensures { λ r. ⌜ now (out .exit) ≡
+        laid (words (typeShapeOf (now (table .entry)) (now (names .entry)) (now (dialect .entry)) node
+        (length (now (shapes .entry))))) 0 (now (out .entry)) ⌝ }
+    ensures { λ r. ⌜ now (shapes .exit) ≡
+        shapesAfter (now (table .entry)) (now (names .entry)) (now (dialect .entry)) node (now (shapes .entry)) ⌝ }
 {
     let answer = shapes::type_shape(table, names, dialect, node, shapes);
     match answer {
@@ -218,8 +231,11 @@ pub extern "C" fn starlark_module(
     out: &mut [u32; 12],
 ) -> u32
     ensures { λ r. ⌜ r ≡ number (moduleOf (now (table .entry)) (now (names .entry)) (now (dialect .entry))) ⌝ }
-    ensures { λ r. ⌜ now (out .exit) ≡ laid (words (moduleOf (now (table .entry)) (now (names .entry)) (now (dialect .entry)))) 0 (now (out .entry)) ⌝ }
-    ensures { λ r. ⌜ now (errors .exit) ≡ errorsAfter (now (table .entry)) (now (names .entry)) (now (dialect .entry)) (now (errors .entry)) ⌝ }
+    ensures { λ r. ⌜ now (out .exit) ≡
+        laid (words (moduleOf (now (table .entry)) (now (names .entry)) (now (dialect .entry)))) 0
+        (now (out .entry)) ⌝ }
+    ensures { λ r. ⌜ now (errors .exit) ≡
+        errorsAfter (now (table .entry)) (now (names .entry)) (now (dialect .entry)) (now (errors .entry)) ⌝ }
 {
     let answer = validate::module(table, names, dialect, errors);
     match answer {

@@ -140,7 +140,8 @@ module _ (m : ℕ) (bs : List ℕ) (enough : 512 * mostBlocks < m) (longer : m <
       (after-both head (λ _. andThen counts runs) next
       ∙ ap (λ (x : Answer). andThen head (λ _. x)) (after-both counts runs next))
 
-  whole-part : (fit : Bool) → countsFit (headerAt bs .nodes) (headerAt bs .names) ≡ fit → whole (take m bs) fit ≡ whole bs fit
+  whole-part : (fit : Bool) → countsFit (headerAt bs .nodes) (headerAt bs .names) ≡ fit
+      → whole (take m bs) fit ≡ whole bs fit
   unfolding whole
   whole-part false e = rw (judge-part 0 (4 + headerAt bs .dialect) m bs (omega arith)) refl
   whole-part true e = rw (judge-part 0 (4 + headerAt bs .dialect) m bs (omega arith), later-part e) refl

@@ -68,7 +68,8 @@ pub fn check_read(
 fn list(table: &[u8], names: &[u8], dialect: &[u8], errors: &mut [u32]) -> Passed
     requires { ⌜ givenCheck (now table) (now names) (now dialect) ≡ accepted [] ⌝ }
     ensures { λ r. ⌜ passed r ≡ heldAnswer (now (table .entry)) (now (names .entry)) (now (dialect .entry)) ⌝ }
-    ensures { λ r. ⌜ now (errors .exit) ≡ errorsAfter (now (table .entry)) (now (names .entry)) (now (dialect .entry)) (now (errors .entry)) ⌝ }
+    ensures { λ r. ⌜ now (errors .exit) ≡
+        errorsAfter (now (table .entry)) (now (names .entry)) (now (dialect .entry)) (now (errors .entry)) ⌝ }
 {
     let decoded = dialect::from_bytes(dialect);
     match decoded {

@@ -1,6 +1,8 @@
 // The files of data/files.bin, each behind its label. They stand in words in files.txt, and tools/tables.py makes them.
 use crate::say;
 use crate::say_number;
+use forest::RECORD;
+use table::Place;
 use table::Refusal;
 use tablefile::Loaded;
 use tablefile::Verdict;
@@ -73,7 +75,7 @@ fn say_answer(l: Loaded) {
 
 fn say_held(l: Loaded) {
     say(b"accepted, nodes ");
-    say_number((l.table_len / 24) as u64);
+    say_number((l.table_len / RECORD) as u64);
     say(b", name bytes ");
     say_number(l.names_len as u64);
     say(b", dialect bytes ");
@@ -84,17 +86,12 @@ fn say_held(l: Loaded) {
 
 fn say_refused(r: Refusal) {
     say(b"refused ");
-    match r {
-        Refusal::Bare(number) => say_number(number as u64),
-        Refusal::Placed { number, node } => say_placed(number, node),
-        Refusal::Spanned { number, node, span } => say_placed(number, node),
+    say_number(table::number(r) as u64);
+    let node = table::node_of(r);
+    if let Place::At(i) = node {
+        say(b" at ");
+        say_number(i as u64);
     }
-}
-
-fn say_placed(number: u32, node: u32) {
-    say_number(number as u64);
-    say(b" at ");
-    say_number(node as u64);
 }
 
 // Nothing, if all bytes from a place on are zero.

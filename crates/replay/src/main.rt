@@ -1,6 +1,7 @@
-// Replays recorded requests through the C interface, and prints for each job how many answers are the recorded ones: those that the crate gave,
-// and those that the model of document 01 gave, where the crate has none. data/requests.bin was written by `oracle/compare --record`, on
-// inputs on which all that judge them agreed; oracle/README.md has its form.
+// Replays recorded requests through the C interface, and prints for each job how many answers are the recorded ones:
+// those that the crate gave, and those that the model of document 01 gave, where the crate has none. data/requests.bin
+// was written by `oracle/compare --record`, on inputs on which all that judge them agreed; oracle/README.md has its
+// form.
 mod requests;
 
 use libc::STDOUT_FILENO;

@@ -1,4 +1,5 @@
-// One recorded request: it is read, its job is run on memory with a pattern, and all of that memory is held to what is recorded.
+// One recorded request: it is read, its job is run on memory with a pattern, and all of that memory is held to what is
+// recorded.
 use forest::names;
 ghost use Prim.Native.Nat.{_<_};
 
@@ -9,8 +10,8 @@ pub(crate) enum Replayed {
     Different(usize),
 }
 
-// The head of a request: the job, how long its parts are, the job's node, the number that it answers, how many words, and whether the crate (1)
-// or the model alone (0) has given the answer.
+// The head of a request: the job, how long its parts are, the job's node, the number that it answers, how many words,
+// and whether the crate (1) or the model alone (0) has given the answer.
 struct Asked {
     job: usize,
     dialect: usize,

@@ -1,7 +1,9 @@
 // Shapes: the bytes that a type's nodes get in the buffer, once the type is accepted.
 //
-// Ported from src/syntax/type_expr.rs of starlark_syntax 0.14.2, and changed: the type that unpack builds is a byte for each node that it reads.
-// Copyright 2018 The Starlark in Rust Authors. Copyright (c) Facebook, Inc. and its affiliates. Licensed under Apache-2.0.
+// Ported from src/syntax/type_expr.rs of starlark_syntax 0.14.2, and changed: the type that unpack builds is a byte for
+// each node that it reads.
+// Copyright 2018 The Starlark in Rust Authors. Copyright (c) Facebook, Inc. and its affiliates.
+// Licensed under Apache-2.0.
 use forest::RECORD;
 use soundness::kinds;
 use types::How;
@@ -29,10 +31,12 @@ pub(crate) fn write_type(t: &[u8], at: usize, shapes: &mut [u8])
     write_each(reads, &t[RECORD..e], at + 1, shapes)
 }
 
-// Writes the shapes of a child as it is read: as a type, or as an argument of an Index2, which is a List of arguments or a type.
+// Writes the shapes of a child as it is read: as a type, or as an argument of an Index2, which is a List of arguments
+// or a type.
 fn write_child(how: How, t: &[u8], at: usize, shapes: &mut [u8])
     requires { ⌜ (24 ≤ length (now t)) × (at + length (now t) / 24 ≤ length (now shapes)) ⌝ }
-    ensures { λ r. ⌜ now (shapes .exit) ≡ written (shapesChild how (treeOf at (now (t .entry)))) (now (shapes .entry)) ⌝ }
+    ensures { λ r. ⌜ now (shapes .exit) ≡
+        written (shapesChild how (treeOf at (now (t .entry)))) (now (shapes .entry)) ⌝ }
 {
     match how {
         How::Unread => {}
@@ -55,7 +59,8 @@ fn write_child(how: How, t: &[u8], at: usize, shapes: &mut [u8])
 // Writes the shapes of the children side by side in a stretch, the first of them at the place at.
 fn write_each(reads: Reads, t: &[u8], at: usize, shapes: &mut [u8])
     requires { ⌜ at + length (now t) / 24 ≤ length (now shapes) ⌝ }
-    ensures { λ r. ⌜ now (shapes .exit) ≡ written (shapesEach reads (forest at (now (t .entry)))) (now (shapes .entry)) ⌝ }
+    ensures { λ r. ⌜ now (shapes .exit) ≡
+        written (shapesEach reads (forest at (now (t .entry)))) (now (shapes .entry)) ⌝ }
 {
     let mut left = t;
     let mut place = at;

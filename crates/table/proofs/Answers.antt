@@ -4,9 +4,11 @@ use mathlib.Core.List.{List, [], _∷_}
 use Prim.Native.Nat.{ℕ}
 use Rattle.fields.proofs.Basics.{never}
 use Rattle.table.specs.Answer.{Answer, accepted, refused, andThen, numberOf, carried, refusal}
-use Rattle.table.specs.Answer.{checked}
+use Rattle.table.specs.Answer.{checked, nodeIn, extentIn}
 use Rattle.table.specs.Check.{given}
 use Rattle.table.specs.declared.Span.{Span}
+use Rattle.table.specs.declared.Place.the-variants.{At}
+use Rattle.table.specs.declared.Extent.the-variants.{Of}
 use Rattle.table.specs.declared.Given.{Given}
 use Rattle.table.specs.declared.Given.the-variants.{In, Refused as Away}
 use Rattle.table.specs.declared.Refusal.{Refusal}
@@ -16,6 +18,17 @@ use Rattle.table.specs.declared.Checked.the-variants.{Sound, Refused}
 
 pub span-injective : (s u : Span) → s .begin ≡ u .begin → s .end ≡ u .end → s ≡ u
 span-injective s u b e = λ i. record { begin = b i; end = e i }
+
+-- what a refusal carries, by its variant
+module _ (why : Refusal) {n k : ℕ} where
+  pub node-placed : why ≡ Placed n k → At k ≡ nodeIn why
+  node-placed h = rw h refl
+
+  pub node-spanned : {s : Span} → why ≡ Spanned n k s → At k ≡ nodeIn why
+  node-spanned h = rw h refl
+
+  pub extent-spanned : {s : Span} → why ≡ Spanned n k s → Of (s .begin) (s .end) ≡ extentIn why
+  extent-spanned h = rw h refl
 
 pub refusal-injective : (r s : Refusal) → refusal r ≡ refusal s → r ≡ s
 refusal-injective (Bare n) (Bare m) e = cc

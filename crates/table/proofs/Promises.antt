@@ -6,11 +6,13 @@ use Prim.Native.Nat.{ℕ}
 use Rattle.fields.proofs.Coincide.{coincide, coincide-by}
 use Rattle.forest.specs.Forest.{nodeOf}
 use Rattle.soundness.specs.Kinds.{classOf}
-use Rattle.table.specs.Answer.{refused, refusedAt, numberOf, refusal, checked, spanAt}
+use Rattle.table.specs.Answer.{refused, refusedAt, numberOf, refusal, checked, spanAt, nodeIn, extentIn}
 use Rattle.table.specs.Check.{checkOf, given, givenOf, nodeFits, stretchOf, entryCheck}
 use Rattle.table.specs.declared.Span.{Span}
 use Rattle.table.specs.declared.Given.{Given}
 use Rattle.table.specs.declared.Refusal.{Refusal}
+use Rattle.table.specs.declared.Place.{Place}
+use Rattle.table.specs.declared.Extent.{Extent}
 use Rattle.table.specs.declared.Checked.{Checked}
 use Rattle.table.specs.declared.Wanted.{Wanted}
 use Rattle.table.proofs.Answers.{refusal-injective, checked-injective, given-injective}
@@ -42,6 +44,14 @@ stretch-one table node = coincide
 -- of `number`
 pub number-one : (why : Refusal) {r s : ℕ} → r ≡ numberOf why → s ≡ numberOf why → r ≡ s
 number-one why = coincide
+
+-- of `node_of`
+pub node-of-one : (why : Refusal) {r s : Place} → r ≡ nodeIn why → s ≡ nodeIn why → r ≡ s
+node-of-one why = coincide
+
+-- of `extent_of`
+pub extent-of-one : (why : Refusal) {r s : Extent} → r ≡ extentIn why → s ≡ extentIn why → r ≡ s
+extent-of-one why = coincide
 
 -- of `span_of`
 pub span-of-one : (t : List ℕ) {r s : Span} → r ≡ spanAt (nodeOf 0 t) → s ≡ spanAt (nodeOf 0 t) → r ≡ s

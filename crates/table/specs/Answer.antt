@@ -5,6 +5,10 @@ use Rattle.forest.specs.Forest.{Node}
 use Rattle.table.specs.declared.Refusal.{Refusal}
 use Rattle.table.specs.declared.Refusal.the-variants.{Bare, Placed, Spanned}
 use Rattle.table.specs.declared.Span.{Span}
+use Rattle.table.specs.declared.Place.{Place}
+use Rattle.table.specs.declared.Place.the-variants.{At as AtPlace, Nothing as NoPlace}
+use Rattle.table.specs.declared.Extent.{Extent}
+use Rattle.table.specs.declared.Extent.the-variants.{Of, Nothing as NoSpan}
 use Rattle.table.specs.declared.Checked.{Checked}
 use Rattle.table.specs.declared.Checked.the-variants.{Sound, Refused}
 
@@ -22,12 +26,24 @@ andThen (refused n vs) next = refused n vs
 abbrev pub refusedAt : ℕ → Node → Answer
 refusedAt n r = refused n (r .at ∷ r .begin ∷ r .stop ∷ [])
 
--- a refusal of code: its number, and what it carries
+-- a refusal of code: its number
 abbrev pub numberOf : Refusal → ℕ
 numberOf (Bare n) = n
 numberOf (Placed n k) = n
 numberOf (Spanned n k s) = n
 
+-- the node that it carries, and the span
+abbrev pub nodeIn : Refusal → Place
+nodeIn (Bare n) = NoPlace
+nodeIn (Placed n k) = AtPlace k
+nodeIn (Spanned n k s) = AtPlace k
+
+abbrev pub extentIn : Refusal → Extent
+extentIn (Bare n) = NoSpan
+extentIn (Placed n k) = NoSpan
+extentIn (Spanned n k s) = Of (s .begin) (s .end)
+
+-- all of that in numbers
 abbrev pub carried : Refusal → List ℕ
 carried (Bare n) = []
 carried (Placed n k) = k ∷ []

@@ -12,7 +12,7 @@ ghost use mathlib.Core.Path.{_≡_};
 ghost use Rattle.forest.specs.Forest.{nodeOf};
 ghost use Rattle.soundness.specs.Kinds.{classOf};
 ghost use mathlib.Core.List.{[], _∷_};
-ghost use Rattle.table.specs.Answer.{refused, refusedAt, numberOf, refusal, checked, spanAt};
+ghost use Rattle.table.specs.Answer.{refused, refusedAt, numberOf, nodeIn, extentIn, refusal, checked, spanAt};
 ghost use Rattle.table.specs.Check.{lengthSound, checkOf, given, givenOf, wants, nodeFits, stretchOf, entryCheck};
 
 // Where something stands in the script: from begin up to, but not with, end.
@@ -31,6 +31,12 @@ pub const MOST_NAMES: usize = 8064;
 // A place in a list, counted from 0, or none.
 pub enum Place {
     At(u32),
+    Nothing,
+}
+
+// A span in numbers, or none.
+pub enum Extent {
+    Of { begin: u32, end: u32 },
     Nothing,
 }
 
@@ -110,6 +116,31 @@ pub fn number(why: Refusal) -> u32
         Refusal::Bare(number) => number,
         Refusal::Placed { number, node } => number,
         Refusal::Spanned { number, node, span } => number,
+    }
+}
+
+// The node that a refusal carries.
+pub fn node_of(why: Refusal) -> Place
+    ensures { λ r. ⌜ r ≡ nodeIn why ⌝ }
+{
+    match why {
+        Refusal::Bare(number) => Place::Nothing,
+        Refusal::Placed { number, node } => Place::At(node),
+        Refusal::Spanned { number, node, span } => Place::At(node),
+    }
+}
+
+// The span that a refusal carries.
+pub fn extent_of(why: Refusal) -> Extent
+    ensures { λ r. ⌜ r ≡ extentIn why ⌝ }
+{
+    match why {
+        Refusal::Bare(number) => Extent::Nothing,
+        Refusal::Placed { number, node } => Extent::Nothing,
+        Refusal::Spanned { number, node, span } => Extent::Of {
+            begin: span.begin,
+            end: span.end,
+        },
     }
 }
 

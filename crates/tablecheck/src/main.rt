@@ -1,5 +1,5 @@
-// Checks the table file that its argument names, or else standard input. It prints `nodes N`, a line `number begin end` for each
-// error and `errors N`; or, for a file that is refused, the one line `refused K`.
+// Checks the table file that its argument names, or else standard input. It prints `nodes N`, a line `number begin end`
+// for each error and `errors N`; or, for a file that is refused, the one line `refused K`.
 // It only reads, calls and prints: what is answered to a file is the library's, filepass.
 use filepass::ENOUGH_BYTES;
 use filepass::ENOUGH_WORDS;
@@ -60,8 +60,8 @@ fn fill(fd: i32, file: &mut [u8]) -> Got {
     Got::Bytes(done)
 }
 
-// What the program prints of so many bytes that it has read. The list has room for all errors. A refusal's line has its number alone, also
-// where it carries a node.
+// What the program prints of so many bytes that it has read. The list has room for all errors. A refusal's line has its
+// number alone, also where it carries a node.
 fn report(file: &[u8; ENOUGH_BYTES], len: usize) {
     let mut errors = [0u32; ENOUGH_WORDS];
     let passed = filepass::check_read(file, len, &mut errors);

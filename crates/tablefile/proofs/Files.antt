@@ -1,4 +1,5 @@
--- The file at the front and the file of a content: each is the other's inverse, and one changed byte is told. Assumes nothing.
+-- The file at the front and the file of a content: each is the other's inverse, and one changed byte is told. Assumes
+-- nothing.
 use mathlib.Core.Path.{_≡_, refl, sym, ap, _∙_}
 use mathlib.Core.Bool.{true}
 use mathlib.Core.Logic.{_⊎_, ⊎-elim}
@@ -132,13 +133,18 @@ module _ (bs : List ℕ) (f : Fronted bs) (i v : ℕ) (other : v ≡ getD bs i 0
         later ∙ rw (changed-run 1 (headerAt bs .names) (drop 512 bs) (i - 512) v (f .names) k
         (λ e. other (e ∙ getD-behind 512 bs i h))) refl
 
-    nodes-changed : 512 * blocksFor (headerAt bs .names) ≤ i - 512 → 512 * headerAt bs .first ≤ i → i < headerAt bs .taken
+    nodes-changed : 512 * blocksFor (headerAt bs .names) ≤ i - 512 → 512 * headerAt bs .first ≤ i
+        → i < headerAt bs .taken
         → frontCheck (set bs i v) ≡ refused blockCheck []
     nodes-changed k l m =
         later
-        ∙ rw
-        (run-outside 1 (headerAt bs .names) (drop 512 bs) (i - 512) v k, f .names, drop-set (512 * headerAt bs .first) bs i v l)
-        (changed-run (headerAt bs .first) (24 * headerAt bs .nodes) (drop (512 * headerAt bs .first) bs) (i - 512 * headerAt bs .first) v
+        ∙ rw (
+          run-outside 1 (headerAt bs .names) (drop 512 bs) (i - 512) v k,
+          f .names,
+          drop-set (512 * headerAt bs .first) bs i v l,
+        )
+        (changed-run (headerAt bs .first) (24 * headerAt bs .nodes) (drop (512 * headerAt bs .first) bs)
+        (i - 512 * headerAt bs .first) v
         (f .nodes) (omega (arith, taken-is bs)) (λ e. other (e ∙ getD-behind (512 * headerAt bs .first) bs i l)))
 
   -- THEOREM
@@ -299,7 +305,8 @@ module _ (c : Content) (fit : Fits c) (rest : List ℕ) where
   names-pass = rw (names-so, names-behind)
       (run-passes 1 (c .names) node-part (fit .names-bytes) (omega (arith, first-small)))
 
-  nodes-pass : judgeRun (headerAt bs .first) (24 * headerAt bs .nodes) (drop (512 * headerAt bs .first) bs) ≡ accepted []
+  nodes-pass : judgeRun (headerAt bs .first) (24 * headerAt bs .nodes) (drop (512 * headerAt bs .first) bs)
+      ≡ accepted []
   nodes-pass = rw (nodes-behind, first-so, table-so)
       (run-passes first (c .table) rest (fit .table-bytes) (omega (arith, first-small, last-small)))
 

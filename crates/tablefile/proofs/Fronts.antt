@@ -171,7 +171,8 @@ module _ (bs : List ℕ) where
       (sym (after-both (demand fit blockCounts) names next) ∙ one .1) in
       let three = run-then 1 (headerAt bs .names) (drop 512 bs) (λ _. andThen (nodes tt) next)
       (sym (after-both (judgeRun 1 (headerAt bs .names) (drop 512 bs)) nodes next) ∙ two .1) in
-      let four = run-then (headerAt bs .first) (24 * headerAt bs .nodes) (drop (512 * headerAt bs .first) bs) next (three .1) in (
+      let four = run-then (headerAt bs .first) (24 * headerAt bs .nodes) (drop (512 * headerAt bs .first) bs) next
+      (three .1) in (
         record {
           header = one .0;
           counts = counts-small (headerAt bs .nodes) (headerAt bs .names) (two .0);
@@ -190,7 +191,8 @@ module _ (bs : List ℕ) where
     names-there = run-long 1 (headerAt bs .names) (drop 512 bs) (f .names)
 
     pub nodes-there : 512 * blocksFor (24 * headerAt bs .nodes) ≤ length (drop (512 * headerAt bs .first) bs)
-    nodes-there = run-long (headerAt bs .first) (24 * headerAt bs .nodes) (drop (512 * headerAt bs .first) bs) (f .nodes)
+    nodes-there = run-long (headerAt bs .first) (24 * headerAt bs .nodes) (drop (512 * headerAt bs .first) bs)
+        (f .nodes)
 
     pub first-there : 512 * headerAt bs .first ≤ length bs
     first-there = omega (arith, names-there, length-drop 512 bs, f .header .long, first-is bs)

@@ -29,7 +29,8 @@ abbrev pub Front : List ℕ → Loaded → Type 0
 Front bs r = (verdict (r .verdict) ≡ frontCheck bs) × (r ≡ loadedOf (r .verdict) (contentAt bs) (headerAt bs .taken))
 
 -- an answer that is accepted holds what stands there
-pub holds : (bs : List ℕ) (r : Loaded) → r ≡ loadedOf (r .verdict) (contentAt bs) (headerAt bs .taken) → r .verdict ≡ Accepted
+pub holds : (bs : List ℕ) (r : Loaded) → r ≡ loadedOf (r .verdict) (contentAt bs) (headerAt bs .taken)
+    → r .verdict ≡ Accepted
     → held r ≡ contentAt bs
 holds bs r r-is good = ap held (r-is ∙ ap (λ (w : Verdict). loadedOf w (contentAt bs) (headerAt bs .taken)) good)
     ∙ held-is (contentAt bs) (headerAt bs .taken)

@@ -1,4 +1,5 @@
--- What the reader answers by value: table, names and dialect with their lengths, zero past them, and all zero when refused. These are definitions.
+-- What the reader answers by value: table, names and dialect with their lengths, zero past them, and all zero when
+-- refused. These are definitions.
 use mathlib.Core.List.{List, [], _++_}
 use Prim.Native.Nat.{ℕ, _-_}
 use lib.ListN.{length, take, replicate}

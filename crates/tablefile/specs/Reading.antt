@@ -19,7 +19,8 @@ use Rattle.tablefile.specs.declared.Heading.{Heading}
 unfoldable pub dialectIn : ℕ → ℕ
 dialectIn used = if' (eqb used 13) (λ _. 9) (λ _. 0)
 
--- what block 0 says: node count, name byte count, dialect bytes; and where that puts the blocks: the names from block 1 on, then the nodes
+-- what block 0 says: node count, name byte count, dialect bytes; and where that puts the blocks: the names from block 1
+-- on, then the nodes
 unfoldable pub headerAt : List ℕ → Heading
 headerAt bs =
     let nodes = field 2 bs 4 in

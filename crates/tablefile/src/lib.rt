@@ -16,7 +16,8 @@ ghost use Rattle.table.specs.Answer.{accepted};
 ghost use Rattle.table.specs.Check.{mostBytes, mostNames};
 ghost use Rattle.blocks.specs.Block.{blockBytes, judged};
 ghost use Rattle.blocks.specs.Run.{blocksFor, contentOf};
-ghost use Rattle.tablefile.specs.Reading.{dialectIn, headerAt, contentAt, countsFit, blocksCheck, frontCheck, soundCheck, readCheck};
+ghost use Rattle.tablefile.specs.Reading.{dialectIn, headerAt, contentAt, countsFit, blocksCheck, frontCheck};
+ghost use Rattle.tablefile.specs.Reading.{soundCheck, readCheck};
 ghost use Rattle.tablefile.specs.Loading.{verdict, laid, loadedOf, none};
 ghost use Rattle.tablefile.specs.declared.Verdict.the-variants.{Accepted, Refused};
 
@@ -29,8 +30,8 @@ pub enum Verdict {
     Refused(Refusal),
 }
 
-// What a file holds, by value, and how many bytes it takes. Where it has no dialect, dialect_len is 0. All is zero when refused, and past
-// the lengths.
+// What a file holds, by value, and how many bytes it takes. Where it has no dialect, dialect_len is 0. All is zero when
+// refused, and past the lengths.
 pub struct Loaded {
     pub verdict: Verdict,
     pub taken: usize,
@@ -42,8 +43,8 @@ pub struct Loaded {
     pub dialect_len: usize,
 }
 
-// What block 0 says of a file, and where that puts its blocks: how many nodes, name bytes and dialect bytes there are, the number of the
-// first node block, and how many bytes the file takes.
+// What block 0 says of a file, and where that puts its blocks: how many nodes, name bytes and dialect bytes there are,
+// the number of the first node block, and how many bytes the file takes.
 pub struct Heading {
     pub nodes: usize,
     pub names: usize,
@@ -52,7 +53,8 @@ pub struct Heading {
     pub taken: usize,
 }
 
-// What the first bytes of a file say, were they its block 0. It takes any bytes; who judges the file judges block 0 too.
+// What the first bytes of a file say, were they its block 0. It takes any bytes; who judges the file judges block 0
+// too.
 pub fn header(bytes: &[u8]) -> Heading
     ensures { λ r. ⌜ r ≡ headerAt (now (bytes .entry)) ⌝ }
 {
@@ -72,7 +74,8 @@ pub fn header(bytes: &[u8]) -> Heading
 // The file at the front of some bytes: 70, 72, 71, 73 for each block, 74 after block 0; and how many bytes it takes.
 pub fn front(bytes: &[u8]) -> Loaded
     ensures { λ r. ⌜ verdict (r .verdict) ≡ frontCheck (now (bytes .entry)) ⌝ }
-    ensures { λ r. ⌜ r ≡ loadedOf (r .verdict) (contentAt (now (bytes .entry))) (headerAt (now (bytes .entry)) .taken) ⌝ }
+    ensures { λ r. ⌜ r ≡
+        loadedOf (r .verdict) (contentAt (now (bytes .entry))) (headerAt (now (bytes .entry)) .taken) ⌝ }
 {
     let h = header(bytes);
     let first = judge_front(bytes, h);
@@ -154,7 +157,13 @@ fn load(bytes: &[u8], h: Heading) -> Loaded
 // 1 to 5, of what a file holds: each array up to its length.
 fn check(table: &[u8], t: usize, names: &[u8], n: usize, dialect: &[u8], d: usize) -> Verdict
     requires { ⌜ (t ≤ length (now table)) × (n ≤ length (now names)) × (d ≤ length (now dialect)) ⌝ }
-    ensures { λ r. ⌜ verdict r ≡ soundCheck (record { table = take t (now (table .entry)); names = take n (now (names .entry)); dialect = take d (now (dialect .entry)) }) ⌝ }
+    ensures { λ r. ⌜ verdict r ≡
+        soundCheck (record {
+          table = take t (now (table .entry));
+          names = take n (now (names .entry));
+          dialect = take d
+              (now (dialect .entry));
+        }) ⌝ }
 {
     let entered = table::enter_dialect(&table[0..t], &names[0..n], &dialect[0..d]);
     match entered {
@@ -208,7 +217,8 @@ fn put(from: &[u8], len: usize, out: &mut [u8])
 // Puts len content bytes of the blocks from a number on at the front of out, block by block.
 fn copy(bytes: &[u8], first: usize, len: usize, out: &mut [u8])
     requires { ⌜ (blockBytes * (first + blocksFor len) ≤ length (now bytes)) × (len ≤ length (now out)) ⌝ }
-    ensures { λ r. ⌜ now (out .exit) ≡ contentOf len (drop (blockBytes * first) (now (bytes .entry))) ++ drop len (now (out .entry)) ⌝ }
+    ensures { λ r. ⌜ now (out .exit) ≡
+        contentOf len (drop (blockBytes * first) (now (bytes .entry))) ++ drop len (now (out .entry)) ⌝ }
 {
     let mut number = first;
     let mut done = 0;

@@ -1,6 +1,7 @@
 -- The forms of type expressions: TypeExprUnpackP of src/syntax/type_expr.rs by the kind of a node.
 -- These are definitions.
--- Copyright 2018 The Starlark in Rust Authors. Copyright (c) Facebook, Inc. and its affiliates. Licensed under Apache-2.0; changed.
+-- Copyright 2018 The Starlark in Rust Authors. Copyright (c) Facebook, Inc. and its affiliates.
+-- Licensed under Apache-2.0; changed.
 use mathlib.Core.Bool.{_&&_, _||_}
 use Prim.Native.Nat.{ℕ}
 use lib.Dec.{eqb}

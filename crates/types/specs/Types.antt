@@ -1,6 +1,7 @@
 -- Types: unpack and unpack_argument of src/syntax/type_expr.rs and dialect_check_type of src/syntax/grammar_util.rs,
 -- over trees. These are definitions.
--- Copyright 2018 The Starlark in Rust Authors. Copyright (c) Facebook, Inc. and its affiliates. Licensed under Apache-2.0; changed.
+-- Copyright 2018 The Starlark in Rust Authors. Copyright (c) Facebook, Inc. and its affiliates.
+-- Licensed under Apache-2.0; changed.
 use mathlib.Core.List as L
 use Prim.Native.Nat.{ℕ}
 use lib.Dec.{eqb}

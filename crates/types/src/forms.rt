@@ -1,7 +1,9 @@
 // The forms of type expressions by the kind of a node.
 //
-// Ported from src/syntax/type_expr.rs of starlark_syntax 0.14.2 (the arms of TypeExprUnpackP::unpack), and changed: a form is told by the kind of a node.
-// Copyright 2018 The Starlark in Rust Authors. Copyright (c) Facebook, Inc. and its affiliates. Licensed under Apache-2.0.
+// Ported from src/syntax/type_expr.rs of starlark_syntax 0.14.2 (the arms of TypeExprUnpackP::unpack), and changed: a
+// form is told by the kind of a node.
+// Copyright 2018 The Starlark in Rust Authors. Copyright (c) Facebook, Inc. and its affiliates.
+// Licensed under Apache-2.0.
 use crate::Form;
 use crate::How;
 use crate::Reads;

@@ -1,7 +1,10 @@
-// The type rule and the argument rule: whether a stretch begins with a type or an argument, and the first refusal if not.
+// The type rule and the argument rule: whether a stretch begins with a type or an argument, and the first refusal if
+// not.
 //
-// Ported from src/syntax/type_expr.rs of starlark_syntax 0.14.2 (unpack, unpack_argument), and changed: a type is a stretch of the node table.
-// Copyright 2018 The Starlark in Rust Authors. Copyright (c) Facebook, Inc. and its affiliates. Licensed under Apache-2.0.
+// Ported from src/syntax/type_expr.rs of starlark_syntax 0.14.2 (unpack, unpack_argument), and changed: a type is a
+// stretch of the node table.
+// Copyright 2018 The Starlark in Rust Authors. Copyright (c) Facebook, Inc. and its affiliates.
+// Licensed under Apache-2.0.
 use crate::Form;
 use crate::How;
 use crate::Reads;
@@ -23,7 +26,8 @@ ghost use Rattle.types.specs.Jobs.{shaped};
 // The base of the Index that a stretch begins with.
 fn index_base(t: &[u8], node: usize) -> Shaped
     requires { ⌜ (24 ≤ length (now t)) × (24 * node + length (now t) ≤ 50400) ⌝ }
-    ensures { λ r. ⌜ shaped r ≡ indexBase (nodeOf node (now (t .entry))) (forest (node + 1) (kidsOf (now (t .entry)))) ⌝ }
+    ensures { λ r. ⌜ shaped r ≡
+        indexBase (nodeOf node (now (t .entry))) (forest (node + 1) (kidsOf (now (t .entry)))) ⌝ }
 {
     let e = forest::span(t);
     let k = &t[RECORD..e];
@@ -52,7 +56,8 @@ fn index2_base(names: &[u8], t: &[u8], node: usize) -> Shaped
 // The items of the List that a stretch begins with: a type has two or more.
 fn list_length(t: &[u8], node: usize) -> Shaped
     requires { ⌜ (24 ≤ length (now t)) × (24 * node + length (now t) ≤ 50400) ⌝ }
-    ensures { λ r. ⌜ shaped r ≡ listLength (nodeOf node (now (t .entry))) (forest (node + 1) (kidsOf (now (t .entry)))) ⌝ }
+    ensures { λ r. ⌜ shaped r ≡
+        listLength (nodeOf node (now (t .entry))) (forest (node + 1) (kidsOf (now (t .entry)))) ⌝ }
 {
     let e = forest::span(t);
     let k = &t[RECORD..e];
@@ -69,7 +74,9 @@ fn list_length(t: &[u8], node: usize) -> Shaped
 // What is refused at the node that a stretch begins with, before its children are read.
 fn at_node(names: &[u8], t: &[u8], node: usize) -> Shaped
     requires { ⌜ (24 ≤ length (now t)) × (24 * node + length (now t) ≤ 50400) ⌝ }
-    ensures { λ r. ⌜ shaped r ≡ atNode (now (names .entry)) (formOf (nodeOf 0 (now (t .entry)) .kind) (nodeOf 0 (now (t .entry)) .detail)) (nodeOf node (now (t .entry))) (forest (node + 1) (kidsOf (now (t .entry)))) ⌝ }
+    ensures { λ r. ⌜ shaped r ≡
+        atNode (now (names .entry)) (formOf (nodeOf 0 (now (t .entry)) .kind) (nodeOf 0 (now (t .entry)) .detail))
+        (nodeOf node (now (t .entry))) (forest (node + 1) (kidsOf (now (t .entry)))) ⌝ }
 {
     let form = forms::form(t);
     match form {

@@ -1,8 +1,9 @@
 // Types: the type rule and the argument rule on a node of a table, judged with no buffer.
 //
-// Ported from src/syntax/type_expr.rs (TypeExprUnpackP::unpack) and src/syntax/grammar_util.rs (dialect_check_type) of starlark_syntax 0.14.2, and changed:
-// a type is a stretch of the node table, and its first refusal is the answer.
-// Copyright 2018 The Starlark in Rust Authors. Copyright (c) Facebook, Inc. and its affiliates. Licensed under Apache-2.0.
+// Ported from src/syntax/type_expr.rs (TypeExprUnpackP::unpack) and src/syntax/grammar_util.rs (dialect_check_type) of
+// starlark_syntax 0.14.2, and changed: a type is a stretch of the node table, and its first refusal is the answer.
+// Copyright 2018 The Starlark in Rust Authors. Copyright (c) Facebook, Inc. and its affiliates.
+// Licensed under Apache-2.0.
 pub mod forms;
 mod judging;
 mod paths;
@@ -56,7 +57,8 @@ pub enum Shaped {
 
 // Whether a node is a type in a dialect, for a buffer with room for so many shapes.
 pub fn judge(table: &[u8], names: &[u8], dialect: &[u8], node: usize, room: usize) -> Shaped
-    ensures { λ r. ⌜ shaped r ≡ typeShapeOf (now (table .entry)) (now (names .entry)) (now (dialect .entry)) node room ⌝ }
+    ensures { λ r. ⌜ shaped r ≡
+        typeShapeOf (now (table .entry)) (now (names .entry)) (now (dialect .entry)) node room ⌝ }
 {
     let entered = table::enter_dialect(table, names, dialect);
     match entered {

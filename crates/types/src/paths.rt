@@ -1,7 +1,9 @@
 // Paths in types: an Identifier, or Dots down to one.
 //
-// Ported from src/syntax/type_expr.rs of starlark_syntax 0.14.2 (unpack_path), and changed: a path is a stretch of the node table.
-// Copyright 2018 The Starlark in Rust Authors. Copyright (c) Facebook, Inc. and its affiliates. Licensed under Apache-2.0.
+// Ported from src/syntax/type_expr.rs of starlark_syntax 0.14.2 (unpack_path), and changed: a path is a stretch of the
+// node table.
+// Copyright 2018 The Starlark in Rust Authors. Copyright (c) Facebook, Inc. and its affiliates.
+// Licensed under Apache-2.0.
 use crate::Shaped;
 use forest::RECORD;
 use soundness::kinds;

@@ -1,4 +1,5 @@
--- `ffi::put_ranges` meets its contract: each range is laid behind the one before it, and the flat count last. Assumes nothing.
+-- `ffi::put_ranges` meets its contract: each range is laid behind the one before it, and the flat count last. Assumes
+-- nothing.
 use mathlib.Core.Path.{refl}
 use Rattle.ffi.proofs.Told.{range-fit}
 use borrow.Author.Needs.{needs}

@@ -1,4 +1,5 @@
--- `ffi::starlark_module` meets its contract: the answer of the job, arm by arm, and the errors as the job leaves them. Assumes nothing.
+-- `ffi::starlark_module` meets its contract: the answer of the job, arm by arm, and the errors as the job leaves them.
+-- Assumes nothing.
 use Rattle.ffi.proofs.Told.{told-with}
 use Rattle.ffi.specs.Words.{words}
 use Rattle.validate.specs.Job.{listed}

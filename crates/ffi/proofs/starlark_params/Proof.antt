@@ -1,4 +1,5 @@
--- `ffi::starlark_params` meets its contract: the answer of the job, arm by arm, and the modes as the job leaves them. Assumes nothing.
+-- `ffi::starlark_params` meets its contract: the answer of the job, arm by arm, and the modes as the job leaves them.
+-- Assumes nothing.
 use Rattle.ffi.proofs.Told.{told-with, params-fit}
 use Rattle.ffi.specs.Words.{words}
 use Rattle.parameters.specs.Params.{unpacked}
