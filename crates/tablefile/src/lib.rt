@@ -161,8 +161,7 @@ fn check(table: &[u8], t: usize, names: &[u8], n: usize, dialect: &[u8], d: usiz
         soundCheck (record {
           table = take t (now (table .entry));
           names = take n (now (names .entry));
-          dialect = take d
-              (now (dialect .entry));
+          dialect = take d (now (dialect .entry));
         }) ⌝ }
 {
     let entered = table::enter_dialect(&table[0..t], &names[0..n], &dialect[0..d]);
