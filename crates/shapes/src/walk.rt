@@ -12,7 +12,7 @@ use types::forms;
 ghost use mathlib.Core.Path.{_≡_};
 ghost use Prim.Native.Nat.{_+_, _/_, _≤_};
 ghost use lib.ListN.{length};
-ghost use Rattle.forest.specs.Forest.{treeOf, forest};
+ghost use Rattle.forest.specs.Forest.{recordBytes, treeOf, forest};
 ghost use Rattle.shapes.specs.Shapes.{shapesOf, shapesChild, shapesEach, written};
 
 // The shape of a List that is an argument.
@@ -20,7 +20,7 @@ const LIST: u8 = 5;
 
 // Writes the shapes of the type that a stretch begins with, its own at the place at.
 pub(crate) fn write_type(t: &[u8], at: usize, shapes: &mut [u8])
-    requires { ⌜ (24 ≤ length (now t)) × (at + length (now t) / 24 ≤ length (now shapes)) ⌝ }
+    requires { ⌜ (recordBytes ≤ length (now t)) × (at + length (now t) / recordBytes ≤ length (now shapes)) ⌝ }
     ensures { λ r. ⌜ now (shapes .exit) ≡ written (shapesOf (treeOf at (now (t .entry)))) (now (shapes .entry)) ⌝ }
 {
     let form = forms::form(t);
@@ -34,7 +34,7 @@ pub(crate) fn write_type(t: &[u8], at: usize, shapes: &mut [u8])
 // Writes the shapes of a child as it is read: as a type, or as an argument of an Index2, which is a List of arguments
 // or a type.
 fn write_child(how: How, t: &[u8], at: usize, shapes: &mut [u8])
-    requires { ⌜ (24 ≤ length (now t)) × (at + length (now t) / 24 ≤ length (now shapes)) ⌝ }
+    requires { ⌜ (recordBytes ≤ length (now t)) × (at + length (now t) / recordBytes ≤ length (now shapes)) ⌝ }
     ensures { λ r. ⌜ now (shapes .exit) ≡
         written (shapesChild how (treeOf at (now (t .entry)))) (now (shapes .entry)) ⌝ }
 {
@@ -58,7 +58,7 @@ fn write_child(how: How, t: &[u8], at: usize, shapes: &mut [u8])
 
 // Writes the shapes of the children side by side in a stretch, the first of them at the place at.
 fn write_each(reads: Reads, t: &[u8], at: usize, shapes: &mut [u8])
-    requires { ⌜ at + length (now t) / 24 ≤ length (now shapes) ⌝ }
+    requires { ⌜ at + length (now t) / recordBytes ≤ length (now shapes) ⌝ }
     ensures { λ r. ⌜ now (shapes .exit) ≡
         written (shapesEach reads (forest at (now (t .entry)))) (now (shapes .entry)) ⌝ }
 {

@@ -1,7 +1,7 @@
 -- The table check, 1 to 4 in this order, a job's dialect, 5, and a job's node, 6. These are definitions.
 use mathlib.Core.Bool.{Bool, _&&_, _||_}
 use mathlib.Core.List.{List, [], _∷_}
-use Prim.Native.Nat.{ℕ, _*_, _/_, _%_}
+use Prim.Native.Nat.{ℕ, _+_, _*_, _/_, _%_, _≤_}
 use lib.ListN.{length, take, drop}
 use lib.Dec.{eqb, ltb, leb}
 use Rattle.fields.specs.Choice.{if'}
@@ -32,6 +32,13 @@ mostBytes = 50400
 
 abbrev pub mostNames : ℕ
 mostNames = 8064
+
+-- a stretch whose first record has the index i lies within the largest table; and it begins with a record
+abbrev pub Within : ℕ → List ℕ → Type 0
+Within i t = recordBytes * i + length t ≤ mostBytes
+
+abbrev pub Headed : ℕ → List ℕ → Type 0
+Headed i t = (recordBytes ≤ length t) × Within i t
 
 -- 1: the table has 1 to 2,100 records of 24 bytes
 unfoldable pub lengthSound : ℕ → Bool

@@ -15,9 +15,9 @@ use forest::RECORD;
 use soundness::kinds;
 use table::numbers;
 ghost use mathlib.Core.Path.{_≡_};
-ghost use Prim.Native.Nat.{_+_, _*_, _≤_};
-ghost use lib.ListN.{length};
+ghost use Prim.Native.Nat.{_+_};
 ghost use Rattle.forest.specs.Forest.{nodeOf, kidsOf, treeOf, forest};
+ghost use Rattle.table.specs.Check.{Within, Headed};
 ghost use Rattle.types.specs.Forms.{formOf};
 ghost use Rattle.types.specs.Types.{indexBase, index2Base, listLength, atNode};
 ghost use Rattle.types.specs.Types.{«unpack», unpackChild, unpackEach};
@@ -25,7 +25,7 @@ ghost use Rattle.types.specs.Jobs.{shaped};
 
 // The base of the Index that a stretch begins with.
 fn index_base(t: &[u8], node: usize) -> Shaped
-    requires { ⌜ (24 ≤ length (now t)) × (24 * node + length (now t) ≤ 50400) ⌝ }
+    requires { ⌜ Headed node (now t) ⌝ }
     ensures { λ r. ⌜ shaped r ≡
         indexBase (nodeOf node (now (t .entry))) (forest (node + 1) (kidsOf (now (t .entry)))) ⌝ }
 {
@@ -42,7 +42,7 @@ fn index_base(t: &[u8], node: usize) -> Shaped
 
 // The base of the Index2 that a stretch begins with.
 fn index2_base(names: &[u8], t: &[u8], node: usize) -> Shaped
-    requires { ⌜ (24 ≤ length (now t)) × (24 * node + length (now t) ≤ 50400) ⌝ }
+    requires { ⌜ Headed node (now t) ⌝ }
     ensures { λ r. ⌜ shaped r ≡ index2Base (now (names .entry)) (forest (node + 1) (kidsOf (now (t .entry)))) ⌝ }
 {
     let e = forest::span(t);
@@ -55,7 +55,7 @@ fn index2_base(names: &[u8], t: &[u8], node: usize) -> Shaped
 
 // The items of the List that a stretch begins with: a type has two or more.
 fn list_length(t: &[u8], node: usize) -> Shaped
-    requires { ⌜ (24 ≤ length (now t)) × (24 * node + length (now t) ≤ 50400) ⌝ }
+    requires { ⌜ Headed node (now t) ⌝ }
     ensures { λ r. ⌜ shaped r ≡
         listLength (nodeOf node (now (t .entry))) (forest (node + 1) (kidsOf (now (t .entry)))) ⌝ }
 {
@@ -73,7 +73,7 @@ fn list_length(t: &[u8], node: usize) -> Shaped
 
 // What is refused at the node that a stretch begins with, before its children are read.
 fn at_node(names: &[u8], t: &[u8], node: usize) -> Shaped
-    requires { ⌜ (24 ≤ length (now t)) × (24 * node + length (now t) ≤ 50400) ⌝ }
+    requires { ⌜ Headed node (now t) ⌝ }
     ensures { λ r. ⌜ shaped r ≡
         atNode (now (names .entry)) (formOf (nodeOf 0 (now (t .entry)) .kind) (nodeOf 0 (now (t .entry)) .detail))
         (nodeOf node (now (t .entry))) (forest (node + 1) (kidsOf (now (t .entry)))) ⌝ }
@@ -93,7 +93,7 @@ fn at_node(names: &[u8], t: &[u8], node: usize) -> Shaped
 
 // The type that a stretch begins with.
 pub(crate) fn unpack(names: &[u8], t: &[u8], node: usize) -> Shaped
-    requires { ⌜ (24 ≤ length (now t)) × (24 * node + length (now t) ≤ 50400) ⌝ }
+    requires { ⌜ Headed node (now t) ⌝ }
     ensures { λ r. ⌜ shaped r ≡ «unpack» (now (names .entry)) (treeOf node (now (t .entry))) ⌝ }
 {
     let here = at_node(names, t, node);
@@ -107,7 +107,7 @@ pub(crate) fn unpack(names: &[u8], t: &[u8], node: usize) -> Shaped
 
 // A child as it is read: as a type, or as an argument of an Index2, which is a List of arguments or a type.
 fn unpack_child(names: &[u8], how: How, t: &[u8], node: usize) -> Shaped
-    requires { ⌜ (24 ≤ length (now t)) × (24 * node + length (now t) ≤ 50400) ⌝ }
+    requires { ⌜ Headed node (now t) ⌝ }
     ensures { λ r. ⌜ shaped r ≡ unpackChild how (now (names .entry)) (treeOf node (now (t .entry))) ⌝ }
 {
     match how {
@@ -129,7 +129,7 @@ fn unpack_child(names: &[u8], how: How, t: &[u8], node: usize) -> Shaped
 
 // The children side by side in a stretch, left to right.
 fn unpack_each(names: &[u8], reads: Reads, t: &[u8], node: usize) -> Shaped
-    requires { ⌜ 24 * node + length (now t) ≤ 50400 ⌝ }
+    requires { ⌜ Within node (now t) ⌝ }
     ensures { λ r. ⌜ shaped r ≡ unpackEach reads (now (names .entry)) (forest node (now (t .entry))) ⌝ }
 {
     let mut left = t;

@@ -16,11 +16,10 @@ use table::Wanted;
 use table::numbers;
 ghost use mathlib.Core.Path.{_≡_};
 ghost use mathlib.Core.List.{[]};
-ghost use Prim.Native.Nat.{_+_, _*_, _≤_};
-ghost use lib.ListN.{length};
 ghost use Rattle.forest.specs.Forest.{treeOf};
 ghost use Rattle.table.specs.Answer.{accepted};
 ghost use Rattle.table.specs.Check.{checkOf};
+ghost use Rattle.table.specs.Check.{Headed};
 ghost use Rattle.types.specs.Types.{«dialect_check_type»};
 ghost use Rattle.types.specs.Jobs.{shaped, typeAt, typeShapeOf};
 
@@ -87,7 +86,7 @@ fn type_at(table: &[u8], names: &[u8], types: DialectTypes, node: usize, room: u
 
 // The type that a stretch begins with, in a dialect with these types.
 fn dialect_check_type(names: &[u8], types: DialectTypes, t: &[u8], node: usize) -> Shaped
-    requires { ⌜ (24 ≤ length (now t)) × (24 * node + length (now t) ≤ 50400) ⌝ }
+    requires { ⌜ Headed node (now t) ⌝ }
     ensures { λ r. ⌜ shaped r ≡ «dialect_check_type» (now (names .entry)) types (treeOf node (now (t .entry))) ⌝ }
 {
     if !dialect::permits_types(types) {

@@ -9,9 +9,9 @@ use forest::RECORD;
 use soundness::kinds;
 use table::numbers;
 ghost use mathlib.Core.Path.{_≡_};
-ghost use Prim.Native.Nat.{_+_, _*_, _≤_};
-ghost use lib.ListN.{length};
+ghost use Prim.Native.Nat.{_+_};
 ghost use Rattle.forest.specs.Forest.{nodeOf, treeOf, forest};
+ghost use Rattle.table.specs.Check.{Within, Headed};
 ghost use Rattle.types.specs.Paths.{banned, objectPath, «unpack_path»};
 ghost use Rattle.types.specs.Jobs.{shaped};
 
@@ -28,7 +28,7 @@ fn is_banned(names: &[u8], t: &[u8]) -> bool
 
 // The path that a stretch begins with.
 pub(crate) fn unpack_path(names: &[u8], t: &[u8], node: usize) -> Shaped
-    requires { ⌜ (24 ≤ length (now t)) × (24 * node + length (now t) ≤ 50400) ⌝ }
+    requires { ⌜ Headed node (now t) ⌝ }
     ensures { λ r. ⌜ shaped r ≡ «unpack_path» (now (names .entry)) (treeOf node (now (t .entry))) ⌝ }
 {
     let kind = forest::kind(t);
@@ -44,7 +44,7 @@ pub(crate) fn unpack_path(names: &[u8], t: &[u8], node: usize) -> Shaped
 
 // The object of a Dot in a path that is banned, or not.
 fn object_path(ban: bool, t: &[u8], node: usize) -> Shaped
-    requires { ⌜ 24 * node + length (now t) ≤ 50400 ⌝ }
+    requires { ⌜ Within node (now t) ⌝ }
     ensures { λ r. ⌜ shaped r ≡ objectPath ban (forest node (now (t .entry))) ⌝ }
 {
     if t.len() < RECORD {
