@@ -1,8 +1,11 @@
--- No two answers mean the same, so that a promise about what an answer means fixes the answer; and steps in order. Assumes nothing.
+-- No two answers mean the same, so that a promise about what an answer means fixes the answer; and steps in order.
+-- Assumes nothing.
 use mathlib.Core.Path.{_≡_, refl, sym, ap, _∙_}
+use mathlib.Core.Bool.{Bool, true, false}
 use mathlib.Core.List.{List, [], _∷_}
 use Prim.Native.Nat.{ℕ}
 use Rattle.fields.proofs.Basics.{never}
+use Rattle.fields.specs.Choice.{if'}
 use Rattle.table.specs.Answer.{Answer, accepted, refused, andThen, numberOf, carried, refusal}
 use Rattle.table.specs.Answer.{checked, nodeIn, extentIn}
 use Rattle.table.specs.Check.{given}
@@ -75,10 +78,6 @@ given-injective (Away r) (Away s) e =
     let values : carried r ≡ carried s = cc in
     ap Away (refusal-injective r s (λ i. refused (numbers i) (values i)))
 
--- a refusal stops: nothing follows it
-pub stopped : (why : Refusal) (next : Unit {0} → Answer) → refusal why ≡ andThen (refusal why) next
-stopped why next = refl
-
 -- LAWS of a step x, where what follows it is accepted: a refusal is its own; and if the whole is accepted, it is passed
 module _ (x : Answer) (vs : List ℕ) where
   pub first-refused : (why : Refusal) (next : Unit {0} → Answer) → refusal why ≡ andThen x (λ _. accepted vs)
@@ -109,3 +108,14 @@ pub after-both : (x : Answer) (y z : Unit {0} → Answer)
     → andThen (andThen x y) z ≡ andThen x (λ _. andThen (y tt) z)
 after-both (accepted vs) y z = refl
 after-both (refused n vs) y z = refl
+
+-- LAW: where two steps are passed, each is; a test that is passed comes out true
+pub passed-both : (x : Answer) (next : Unit {0} → Answer) {ws : List ℕ} → andThen x next ≡ accepted ws
+    → (us : List ℕ) × (x ≡ accepted us) × (next tt ≡ accepted ws)
+passed-both (accepted us) next e = (us, refl, e)
+passed-both (refused n us) next e = never-passed e
+
+pub test-passed : (b : Bool) (n : ℕ) {us : List ℕ} → if' b (λ _. accepted []) (λ _. refused n []) ≡ accepted us
+    → b ≡ true
+test-passed true n e = refl
+test-passed false n e = never-passed e

@@ -8,15 +8,14 @@ use lib.ListN.{length, take, drop}
 use lib.Dec.{leb}
 use borrow.Author.Tests.{le-leb, lt-leb, leb-true, eqb-true, lt-ltb}
 use Rattle.fields.proofs.Basics.{and-left, and-right}
-use Rattle.table.proofs.Answers.{never-passed}
-use Rattle.fields.specs.Choice.{if'}
+use Rattle.table.proofs.Answers.{never-passed, passed-both, test-passed}
 use Rattle.forest.specs.Forest.{sizeOf, forest}
 use Rattle.forest.specs.declared.Found.{Found}
 use Rattle.forest.specs.declared.Found.the-variants.{At, Nothing}
 use Rattle.table.specs.Numbers.{tableLength, nameBytes, unsoundRecord, tooDeep}
 use Rattle.soundness.specs.Sound.{contextOf, recordSound, firstUnsound}
 use Rattle.table.specs.Depth.{firstDeep}
-use Rattle.table.specs.Answer.{Answer, accepted, refused, andThen}
+use Rattle.table.specs.Answer.{accepted, refused}
 use Rattle.table.specs.Check.{lengthSound, lengthCheck, namesCheck, noneFound, checkOf, stretchOf}
 use Rattle.soundness.proofs.Search.{found}
 use Rattle.soundness.proofs.SoundTables.{Sound, sound-subtree, here-size}
@@ -51,7 +50,7 @@ module _ (t names : List ℕ) {l : Bool} (l-is : l ≡ lengthSound (length t)) w
     unfolding checkOf
     check-names h = rw (good, lt-leb (length names) 8064 h) refl
 
-    pub unsound-small : {u : Found} → u ≡ firstUnsound t names → {i : ℕ} → u ≡ At i → i < 2100
+    pub unsound-small : {u : Found} → u ≡ firstUnsound t names → {i : ℕ} → u ≡ At i → i < 4294967296
     unsound-small u-is at = omega (arith, unsound-inside t names u-is at, length-whole (length t) good)
 
     module _ (few : length names ≤ 8064) {u : Found} (u-is : u ≡ firstUnsound t names) where
@@ -64,14 +63,20 @@ module _ (t names : List ℕ) {l : Bool} (l-is : l ≡ lengthSound (length t)) w
         unfolding checkOf
         check-deep at = rw (good, le-leb (length names) 8064 few, ← u-is, clean, ← d-is, at) refl
 
-        pub deep-small : {i : ℕ} → d ≡ At i → i < 2100
+        pub deep-small : {i : ℕ} → d ≡ At i → i < 4294967296
         deep-small {i} at = omega (arith, deep-inside 0 t 0 i (sym d-is ∙ at), length-whole (length t) good)
 
         pub check-sound : d ≡ Nothing → accepted [] ≡ checkOf t names
         unfolding checkOf
         check-sound flat = rw (good, le-leb (length names) 8064 few, ← u-is, clean, ← d-is, flat) refl
 
--- LAW: a table that the check accepts has a sound length, few name bytes, no unsound record and no node that is too deep
+-- a search that is passed found nothing, and has no values
+none-passed : (n : ℕ) (f : Found) {ws : List ℕ} → noneFound n f ≡ accepted ws → (f ≡ Nothing) × (ws ≡ [])
+none-passed n (At i) e = never-passed e
+none-passed n Nothing e = (refl, cc)
+
+-- LAW: a table that the check accepts has a sound length, few name bytes, no unsound record and no node that is too
+-- deep
 pub record Clean (t names : List ℕ) : Type 0 where
   pub least : 24 ≤ length t
   pub most : length t ≤ 50400
@@ -80,53 +85,32 @@ pub record Clean (t names : List ℕ) : Type 0 where
   pub unsound : firstUnsound t names ≡ Nothing
   pub deep : firstDeep 0 (forest 0 t) ≡ Nothing
 
-pub accepted-clean : (t names : List ℕ) {vs : List ℕ} → checkOf t names ≡ accepted vs → Clean t names
-unfolding checkOf
-accepted-clean t names {vs} e = by-length (lengthSound (length t)) refl e
-  where
-    by-deep : lengthSound (length t) ≡ true → length names ≤ 8064 → firstUnsound t names ≡ Nothing → (f : Found)
-        → firstDeep 0 (forest 0 t) ≡ f → noneFound tooDeep f ≡ accepted vs → Clean t names
-    by-deep l n u (At i) d e = never-passed e
-    by-deep l n u Nothing d e = let w = length-whole (length t) l in
-        record { least = w .0; most = w .1; whole = w .2; few = n; unsound = u; deep = d }
+module _ (t names : List ℕ) {vs : List ℕ} (e : checkOf t names ≡ accepted vs) where
+  passed-all : Clean t names × (vs ≡ [])
+  unfolding checkOf
+  passed-all =
+      let long = passed-both (lengthCheck (length t)) _ e in
+      let few = passed-both (namesCheck (length names)) _ (long .2) in
+      let sound = passed-both (noneFound unsoundRecord (firstUnsound t names)) _ (few .2) in
+      let flat = none-passed tooDeep (firstDeep 0 (forest 0 t)) (sound .2) in
+      let whole = length-whole (length t) (test-passed _ _ (long .1)) in (
+        record {
+          least = whole .0;
+          most = whole .1;
+          whole = whole .2;
+          few = leb-true (length names) 8064 (test-passed _ _ (few .1));
+          unsound = none-passed unsoundRecord (firstUnsound t names) (sound .1) .0;
+          deep = flat .0;
+        },
+        flat .1,
+      )
 
-    by-unsound : lengthSound (length t) ≡ true → length names ≤ 8064 → (f : Found) → firstUnsound t names ≡ f
-        → andThen (noneFound unsoundRecord f) (λ _. noneFound tooDeep (firstDeep 0 (forest 0 t))) ≡ accepted vs
-        → Clean t names
-    by-unsound l n (At i) u e = never-passed e
-    by-unsound l n Nothing u e = by-deep l n u (firstDeep 0 (forest 0 t)) refl e
+  pub accepted-clean : Clean t names
+  accepted-clean = passed-all .0
 
-    by-names : lengthSound (length t) ≡ true → (b : Bool) → leb (length names) 8064 ≡ b
-        → andThen (if' b (λ _. accepted []) (λ _. refused nameBytes []))
-        (λ _. andThen (noneFound unsoundRecord (firstUnsound t names))
-        (λ _. noneFound tooDeep (firstDeep 0 (forest 0 t)))) ≡ accepted vs → Clean t names
-    by-names l true n e = by-unsound l (leb-true (length names) 8064 n) (firstUnsound t names) refl e
-    by-names l false n e = never-passed e
-
-    by-length : (b : Bool) → lengthSound (length t) ≡ b
-        → andThen (if' b (λ _. accepted []) (λ _. refused tableLength []))
-        (λ _. andThen (namesCheck (length names))
-        (λ _. andThen (noneFound unsoundRecord (firstUnsound t names))
-        (λ _. noneFound tooDeep (firstDeep 0 (forest 0 t))))) ≡ accepted vs → Clean t names
-    by-length true l e = by-names l (leb (length names) 8064) refl e
-    by-length false l e = never-passed e
-
--- LAW: a passed check has no values
-then-accepted : (x : Answer) (next : Unit {0} → Answer) {ws : List ℕ} → andThen x next ≡ accepted ws
-    → next tt ≡ accepted ws
-then-accepted (accepted vs) next e = e
-then-accepted (refused n vs) next e = never-passed e
-
-none-values : (n : ℕ) (f : Found) {ws : List ℕ} → noneFound n f ≡ accepted ws → ws ≡ []
-none-values n (At i) e = never-passed e
-none-values n Nothing e = cc
-
-pub check-values : (t ns : List ℕ) {ws : List ℕ} → checkOf t ns ≡ accepted ws → ws ≡ []
-unfolding checkOf
-check-values t ns e =
-    none-values tooDeep (firstDeep 0 (forest 0 t))
-    (then-accepted (noneFound unsoundRecord (firstUnsound t ns)) _
-    (then-accepted (namesCheck (length ns)) _ (then-accepted (lengthCheck (length t)) _ e)))
+  -- LAW: a passed check has no values
+  pub check-values : vs ≡ []
+  check-values = passed-all .1
 
 -- LAW: in such a table the stretch of a node is sound, and as long as its record says
 module _ {t names : List ℕ} (c : Clean t names) (i : ℕ) (h : i < length t / 24) where

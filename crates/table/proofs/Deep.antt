@@ -2,9 +2,9 @@
 use mathlib.Core.Path.{_≡_, refl, sym, ap, _∙_}
 use mathlib.Core.Bool.{Bool, true, false}
 use mathlib.Core.List.{List}
-use Prim.Native.Nat.{ℕ, _+_, _-_, _/_, _<_, _≤_}
+use Prim.Native.Nat.{ℕ, _+_, _-_, _*_, _/_, _<_, _≤_, _^_}
 use native.Mathlib.Omega.{arith}
-use lib.ListN.{length, take, drop}
+use lib.ListN.{length, take, drop, length-take, length-drop}
 use lib.Dec.{ltb}
 use borrow.Author.Tests.{lt-ltb, le-ltb}
 use Rattle.fields.proofs.Basics.{never}
@@ -35,37 +35,49 @@ mutual
       let light = weight-little (r .kind) in
       rw (le-ltb 64 (d + weight (r .kind)) (omega arith)) (few-not-deep (d + weight (r .kind)) ks (omega arith))
 
-module _ (d i : ℕ) (t : List ℕ) where
-  pub deep-none : d + length t / 24 ≤ 64 → Nothing ≡ firstDeep d (forest i t)
-  deep-none h = sym (few-not-deep d (forest i t) (rw (count-forest i t) h))
+-- nodes side by side: at each turn what is left gives the whole answer
+pub record Searching (t : List ℕ) (at d : ℕ) (left : List ℕ) (i : ℕ) : Type 0 where
+  pub within : 24 * i + length left < 2 ^ 63
+  pub part : length left ≤ length t
+  pub shallow : d ≤ 64
+  pub same : firstDeep d (forest i left) ≡ firstDeep d (forest at t)
 
-  module _ (shallow : d ≤ 64) (many : 64 < d + length t / 24) {kind w : ℕ} (kind-is : kind ≡ nodeOf 0 t .kind)
-      (w-is : w ≡ weight kind) where
-    big : 24 ≤ length t
-    big = omega arith
+module _ {t : List ℕ} {at d : ℕ} where
+  pub deep-start : 24 * at + length t < 2 ^ 63 → d ≤ 64 → Searching t at d t at
+  deep-start h low = record { within = h; part = omega arith; shallow = low; same = refl }
 
-    weighed : w ≡ weight (nodeOf i t .kind)
-    weighed = w-is ∙ ap weight kind-is
+  module _ {left : List ℕ} {i : ℕ} (s : Searching t at d left i) where
+    pub deep-none : d + length left / 24 ≤ 64 → Nothing ≡ firstDeep d (forest at t)
+    deep-none h = sym (few-not-deep d (forest i left) (rw (count-forest i left) h)) ∙ s .same
 
-    pub deep-here : 64 < d + w → At i ≡ firstDeep d (forest i t)
-    unfolding firstDeep
-    deep-here h = rw (forest-tree i t big, ← weighed, lt-ltb 64 (d + w) h) refl
+    module _ (many : 64 < d + length left / 24) {w : ℕ} (w-is : w ≡ weight (nodeOf 0 left .kind)) where
+      big : 24 ≤ length left
+      big = omega (arith, s .shallow)
 
-    module _ (h : d + w ≤ 64) {e : ℕ} (e-is : e ≡ spanOf t) {b : Found}
-        (b-is : b ≡ firstDeep (d + w) (forest (i + 1) (take (e - 24) (drop 24 t)))) where
-      cut : firstDeep d (forest i t) ≡ orElse b
-          (λ _. firstDeep d (forest (i + e / 24) (take (length t - e) (drop e t))))
+      pub deep-here : 64 < d + w → At i ≡ firstDeep d (forest at t)
       unfolding firstDeep
-      cut =
-          each-cut (firstDeep d) i e t (deepIn d) (λ (x y : Found). orElse x (λ _. y)) (λ x y. refl) big e-is
-          ∙ rw (← weighed, le-ltb 64 (d + w) h, b-is, kids-cut (firstDeep (d + w)) i e t e-is) refl
+      deep-here h = rw (forest-tree i left big, ← w-is, lt-ltb 64 (d + w) h) at (s .same)
 
-      pub deep-below : {j : ℕ} → b ≡ At j → At j ≡ firstDeep d (forest i t)
-      deep-below f = sym (cut ∙ rw f refl)
+      module _ (h : d + w ≤ 64) {e : ℕ} (e-is : e ≡ spanOf left) (b : Found)
+          (b-is : b ≡ firstDeep (d + w) (forest (i + 1) (take (e - 24) (drop 24 left)))) where
+        cut : firstDeep d (forest at t) ≡ orElse b
+            (λ _. firstDeep d (forest (i + e / 24) (take (length left - e) (drop e left))))
+        unfolding firstDeep
+        cut =
+            sym (s .same)
+            ∙ each-cut (firstDeep d) i e left (deepIn d) (λ (x y : Found). orElse x (λ _. y)) (λ x y. refl) big e-is
+            ∙ rw (← w-is, le-ltb 64 (d + w) h, b-is, kids-cut (firstDeep (d + w)) i e left e-is) refl
 
-      pub deep-after : b ≡ Nothing → {r : Found}
-          → r ≡ firstDeep d (forest (i + e / 24) (take (length t - e) (drop e t))) → r ≡ firstDeep d (forest i t)
-      deep-after f r-is = r-is ∙ sym (cut ∙ rw f refl)
+        pub deep-below : {j : ℕ} → b ≡ At j → At j ≡ firstDeep d (forest at t)
+        deep-below f = sym (cut ∙ rw f refl)
+
+        pub deep-on : b ≡ Nothing → Searching t at d (take (length left - e) (drop e left)) (i + e / 24)
+        deep-on f = record {
+          within = simp (length-take, length-drop) (omega (arith, s .within));
+          part = simp (length-take, length-drop) (omega (arith, s .part));
+          shallow = s .shallow;
+          same = sym (cut ∙ rw f refl);
+        }
 
 -- LAW: a node that is too deep is one of the stretch
 pub deep-inside : (i : ℕ) (bs : List ℕ) (d k : ℕ) → firstDeep d (forest i bs) ≡ At k → k < i + length bs / 24

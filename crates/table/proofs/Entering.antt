@@ -1,4 +1,5 @@
--- How a job is let in, in the terms of code: on a node (1 to 4, 6), in a dialect (1 to 5), and what it knows then. Assumes nothing.
+-- How a job is let in, in the terms of code: on a node (1 to 4, 6), in a dialect (1 to 5), and what it knows then.
+-- Assumes nothing.
 use mathlib.Core.Path.{_≡_, refl, sym, ap, _∙_}
 use mathlib.Core.Bool.{Bool, true, false}
 use mathlib.Core.List.{List, []}
@@ -91,7 +92,8 @@ given-known t names bytes {d} e = go (checkOf t names) (fromBytes bytes) refl re
   where
     go : (a : Answer) (x : Decoded) → checkOf t names ≡ a → fromBytes bytes ≡ x → handing a x ≡ inDialect d
         → Clean t names × (fromBytes bytes ≡ Valid d)
-    go (accepted vs) (Valid f) sound read h = let same : f ≡ d = cc in (accepted-clean t names sound, read ∙ ap Valid same)
+    go (accepted vs) (Valid f) sound read h = let same : f ≡ d = cc in
+        (accepted-clean t names sound, read ∙ ap Valid same)
     go (accepted vs) Invalid sound read h = never (cc)
     go (refused n vs) x sound read h = never (cc)
 

@@ -1,16 +1,14 @@
 -- What a job knows once the table check and its node's check are passed, in the terms of code. Assumes nothing.
-use mathlib.Core.Path.{_≡_, sym, _∙_}
-use mathlib.Core.Bool.{Bool, true}
+use mathlib.Core.Path.{_≡_, sym}
+use mathlib.Core.Bool.{true}
 use mathlib.Core.List.{List}
-use Prim.Native.Nat.{ℕ, _+_, _*_, _/_, _<_, _≤_}
+use Prim.Native.Nat.{ℕ, _+_, _*_, _/_, _≤_}
 use native.Mathlib.Omega.{arith}
 use lib.ListN.{length, length-take, length-drop}
 use borrow.Author.Tests.{ltb-true}
 use Rattle.fields.proofs.Basics.{and-left}
-use Rattle.table.specs.Answer.{accepted, checked}
+use Rattle.table.specs.Answer.{accepted}
 use Rattle.table.specs.Check.{checkOf, nodeFits, stretchOf}
-use Rattle.table.specs.declared.Checked.{Checked}
-use Rattle.table.specs.declared.Checked.the-variants.{Sound}
 use Rattle.table.specs.declared.Wanted.{Wanted}
 use Rattle.table.proofs.Checking.{Clean, accepted-clean, stretch-is, stretch-size}
 
@@ -26,16 +24,3 @@ stretch-within t names i w c fits =
     let here = ltb-true i (length t / 24) (and-left _ _ fits) in
     let z = stretch-size c i here in
     rw (stretch-is c i here) (simp (length-take, length-drop) (omega (arith, c .most)))
-
--- the same, in the terms of code: the check f found nothing, the node's test b is passed, and s is the stretch
-module _ (t names : List ℕ) (i : ℕ) (w : Wanted) {f : Checked} (f-is : checked f ≡ checkOf t names)
-    (f-good : f ≡ Sound) {b : Bool} (b-is : b ≡ nodeFits t i w) (b-yes : b ≡ true) where
-  pub clean : Clean t names
-  clean = passed t names (rw f-good at f-is)
-
-  pub fitting : i < length t / 24
-  unfolding nodeFits
-  fitting = ltb-true i (length t / 24) (and-left _ _ (sym b-is ∙ b-yes))
-
-  pub handed : {s : List ℕ} → s ≡ stretchOf t i → (24 ≤ length s) × (24 * i + length s ≤ 50400)
-  handed s-is = rw s-is (stretch-within t names i w clean (sym b-is ∙ b-yes))

@@ -1,7 +1,9 @@
--- What the table check means, over its whole definition: when it accepts, and which node 3 and 4 carry. Assumes nothing.
-use mathlib.Core.Path.{_≡_, refl, ap, _∙_}
+-- What the table check means, over its whole definition: when it accepts, and which node 3 and 4 carry.
+-- Assumes nothing.
+use mathlib.Core.Path.{_≡_, refl}
 use mathlib.Core.Bool.{Bool, true, false}
 use mathlib.Core.List.{List, [], _∷_}
+use mathlib.Core.Logic.{_⊎_, inl, inr, ⊎-elim}
 use Prim.Native.Nat.{ℕ, _/_, _%_, _<_, _≤_}
 use native.Mathlib.Omega.{arith}
 use lib.ListN.{length, getD}
@@ -22,8 +24,8 @@ use Rattle.table.proofs.Checking.{Clean, accepted-clean}
 use Rattle.table.proofs.Depths.{deep-first, deep-nowhere}
 
 module _ (t names : List ℕ) where
-  -- THEOREM: a table is accepted exactly where its length is sound, its names are few, no record is unsound and no node too deep
-  -- (the other direction is accepted-clean)
+  -- THEOREM: a table is accepted exactly where its length is sound, its names are few, no record is unsound and no node
+  -- too deep (the other direction is accepted-clean)
   pub clean-accepted : Clean t names → checkOf t names ≡ accepted []
   unfolding checkOf lengthSound
   clean-accepted c = rw (
@@ -45,40 +47,34 @@ module _ (t names : List ℕ) where
       → getD (depths 0 (forest 0 t)) j 0 ≤ mostDepth
   accepted-flat e = deep-nowhere t (accepted-clean t names e .deep)
 
+  -- a refusal with a node is of one of the two searches, which found the node
+  of-searches : {m k : ℕ} → checkOf t names ≡ refused m (k ∷ [])
+      → ((m ≡ unsoundRecord) × (firstUnsound t names ≡ At k))
+      ⊎ ((m ≡ tooDeep) × (firstUnsound t names ≡ Nothing) × (firstDeep 0 (forest 0 t) ≡ At k))
+  unfolding checkOf
+  of-searches {m} {k} = go (lengthSound (length t)) (leb (length names) 8064) (firstUnsound t names)
+      (firstDeep 0 (forest 0 t))
+    where
+      go : (l n : Bool) (u d : Found)
+          → andThen (if' l (λ _. accepted []) (λ _. refused tableLength []))
+          (λ _. andThen (if' n (λ _. accepted []) (λ _. refused nameBytes []))
+          (λ _. andThen (noneFound unsoundRecord u) (λ _. noneFound tooDeep d))) ≡ refused m (k ∷ [])
+          → ((m ≡ unsoundRecord) × (u ≡ At k)) ⊎ ((m ≡ tooDeep) × (u ≡ Nothing) × (d ≡ At k))
+      go true true (At i) d e = inl (cc, cc)
+      go true true Nothing (At i) e = inr (cc, refl, cc)
+      go true true Nothing Nothing e = never (cc)
+      go true false u d e = never (cc)
+      go false n u d e = never (cc)
+
   -- THEOREM: 3 carries the first unsound record: it is unsound, and all before it are sound
   pub unsound-first : (k : ℕ) → checkOf t names ≡ refused unsoundRecord (k ∷ [])
       → First (recordSound t names) 0 (length t / 24) k
-  unfolding checkOf firstUnsound
-  unsound-first k = by-length (lengthSound (length t)) (leb (length names) 8064) (firstUnsound t names)
-      (firstDeep 0 (forest 0 t)) refl
-    where
-      by-length : (l n : Bool) (u d : Found) → firstUnsound t names ≡ u
-          → andThen (if' l (λ _. accepted []) (λ _. refused tableLength []))
-          (λ _. andThen (if' n (λ _. accepted []) (λ _. refused nameBytes []))
-          (λ _. andThen (noneFound unsoundRecord u) (λ _. noneFound tooDeep d)))
-          ≡ refused unsoundRecord (k ∷ []) → First (recordSound t names) 0 (length t / 24) k
-      by-length true true (At i) d u-is e = let same : i ≡ k = cc in
-          found (recordSound t names) (length t / 24) k (u-is ∙ ap At same)
-      by-length true true Nothing (At i) u-is e = let z : _≡_ {A = ℕ} 4 3 = cc in absurd (omega arith)
-      by-length true true Nothing Nothing u-is e = never (cc)
-      by-length true false u d u-is e = let z : _≡_ {A = ℕ} 2 3 = cc in absurd (omega arith)
-      by-length false n u d u-is e = let z : _≡_ {A = ℕ} 1 3 = cc in absurd (omega arith)
+  unfolding firstUnsound
+  unsound-first k e = ⊎-elim (λ h. found (recordSound t names) (length t / 24) k (h .1))
+      (λ h. absurd (omega (arith, h .0)))
+      (of-searches e)
 
   -- THEOREM: 4 carries the first node that is deeper than the largest depth, in a table with no unsound record
   pub deep-is-first : (k : ℕ) → checkOf t names ≡ refused tooDeep (k ∷ [])
       → (firstUnsound t names ≡ Nothing) × FirstDeeper (forest 0 t) k
-  unfolding checkOf
-  deep-is-first k = by-length (lengthSound (length t)) (leb (length names) 8064) (firstUnsound t names)
-      (firstDeep 0 (forest 0 t)) refl refl
-    where
-      by-length : (l n : Bool) (u d : Found) → firstUnsound t names ≡ u → firstDeep 0 (forest 0 t) ≡ d
-          → andThen (if' l (λ _. accepted []) (λ _. refused tableLength []))
-          (λ _. andThen (if' n (λ _. accepted []) (λ _. refused nameBytes []))
-          (λ _. andThen (noneFound unsoundRecord u) (λ _. noneFound tooDeep d)))
-          ≡ refused tooDeep (k ∷ []) → (firstUnsound t names ≡ Nothing) × FirstDeeper (forest 0 t) k
-      by-length true true (At i) d u-is d-is e = let z : _≡_ {A = ℕ} 3 4 = cc in absurd (omega arith)
-      by-length true true Nothing (At i) u-is d-is e = let same : i ≡ k = cc in
-          (u-is, deep-first t k (d-is ∙ ap At same))
-      by-length true true Nothing Nothing u-is d-is e = never (cc)
-      by-length true false u d u-is d-is e = let z : _≡_ {A = ℕ} 2 4 = cc in absurd (omega arith)
-      by-length false n u d u-is d-is e = let z : _≡_ {A = ℕ} 1 4 = cc in absurd (omega arith)
+  deep-is-first k e = ⊎-elim (λ h. absurd (omega (arith, h .0))) (λ h. (h .1, deep-first t k (h .2))) (of-searches e)

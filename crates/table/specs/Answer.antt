@@ -12,7 +12,8 @@ use Rattle.table.specs.declared.Extent.the-variants.{Of, Nothing as NoSp
 use Rattle.table.specs.declared.Checked.{Checked}
 use Rattle.table.specs.declared.Checked.the-variants.{Sound, Refused}
 
--- accepted, with the values of the job; or refused, with document 01's number and what it carries: nothing, the node, or the node and its span
+-- accepted, with the values of the job; or refused, with document 01's number and what it carries: nothing, the node,
+-- or the node and its span
 pub data Answer : Type 0 where
   accepted : List ℕ → Answer
   refused : ℕ → List ℕ → Answer

@@ -107,7 +107,9 @@ nodeCheck t i w = if' (nodeFits t i w) (λ _. accepted []) (λ _. refused wrongN
 
 -- a node's subtree, as a stretch of the table; beyond the table it is empty
 unfoldable pub stretchOf : List ℕ → ℕ → List ℕ
-stretchOf t i = if' (ltb i (length t / recordBytes)) (λ _. take (recordBytes * sizeOf (drop (recordBytes * i) t)) (drop (recordBytes * i) t)) (λ _. [])
+stretchOf t i =
+    if' (ltb i (length t / recordBytes))
+    (λ _. take (recordBytes * sizeOf (drop (recordBytes * i) t)) (drop (recordBytes * i) t)) (λ _. [])
 
 -- 1 to 4, 6: a job on a node is let in
 unfoldable pub entryCheck : Wanted → List ℕ → List ℕ → ℕ → Answer

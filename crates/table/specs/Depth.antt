@@ -28,7 +28,8 @@ unfoldable mutual
   firstDeep d (t then ts) = orElse (deepIn d t) (λ _. firstDeep d ts)
 
   pub deepIn : ℕ → Tree → Found
-  deepIn d (node r ks) = if' (ltb mostDepth (d + weight (r .kind))) (λ _. At (r .at)) (λ _. firstDeep (d + weight (r .kind)) ks)
+  deepIn d (node r ks) =
+      if' (ltb mostDepth (d + weight (r .kind))) (λ _. At (r .at)) (λ _. firstDeep (d + weight (r .kind)) ks)
 
 -- the depth of each node, in table order; d is the depth of what they stand in
 unfoldable mutual

@@ -4,38 +4,43 @@ use forest::RECORD;
 ghost use mathlib.Core.Path.{_≡_};
 ghost use Prim.Native.Nat.{_+_, _*_, _≤_, _<_, _^_};
 ghost use lib.ListN.{length};
-ghost use Rattle.forest.specs.Forest.{forest};
+ghost use Rattle.forest.specs.Forest.{nodeOf, forest};
 ghost use Rattle.table.specs.Depth.{weight, firstDeep};
 
 // The largest depth.
 const MOST_DEPTH: usize = 64;
 
-// What a record of a kind adds to its parent's depth. A function of its own for the request that gives parameters and arguments the weight 0.
-fn weight_of(kind: u8) -> usize
-    ensures { λ r. ⌜ (r ≡ weight kind) × (r ≤ 1) ⌝ }
+// What the record that a stretch begins with adds to its parent's depth. A function of its own for the request that
+// gives parameters and arguments the weight 0.
+fn weight_of(t: &[u8]) -> usize
+    ensures { λ r. ⌜ (r ≡ weight (nodeOf 0 (now (t .entry)) .kind)) × (r ≤ 1) ⌝ }
 {
     1
 }
 
-// The nodes of a stretch whose first record has the index at; depth is their parent's.
+// The nodes of a stretch whose first record has the index at; depth is their parent's. Children by recursion, which the
+// depth limit ends; siblings in a loop.
 fn deep_from(t: &[u8], at: usize, depth: usize) -> Found
     requires { ⌜ (24 * at + length (now t) < 2 ^ 63) × (depth ≤ 64) ⌝ }
     ensures { λ r. ⌜ r ≡ firstDeep depth (forest at (now (t .entry))) ⌝ }
 {
-    // so few nodes cannot reach that deep, which spares most subtrees the walk
-    if depth + t.len() / RECORD <= MOST_DEPTH {
-        return Found::Nothing;
+    let mut left = t;
+    let mut i = at;
+    // fewer nodes cannot reach that deep, which spares most subtrees the walk
+    while MOST_DEPTH < depth + left.len() / RECORD {
+        let here = depth + weight_of(left);
+        if MOST_DEPTH < here {
+            return Found::At(i);
+        }
+        let e = forest::span(left);
+        let below = deep_from(&left[RECORD..e], i + 1, here);
+        if let Found::At(j) = below {
+            return Found::At(j);
+        }
+        left = &left[e..];
+        i += e / RECORD;
     }
-    let here = depth + weight_of(forest::kind(t));
-    if MOST_DEPTH < here {
-        return Found::At(at);
-    }
-    let e = forest::span(t);
-    let below = deep_from(&t[RECORD..e], at + 1, here);
-    if let Found::At(i) = below {
-        return Found::At(i);
-    }
-    deep_from(&t[e..], at + e / RECORD, depth)
+    Found::Nothing
 }
 
 // The first node of a table that is too deep.

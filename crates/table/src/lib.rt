@@ -1,4 +1,5 @@
-// The check of a node table (1 to 4), how a job on a node (6) or in a dialect (5) is let in, its stretch, and the one type of refusals.
+// The check of a node table (1 to 4), how a job on a node (6) or in a dialect (5) is let in, its stretch, and the one
+// type of refusals.
 mod depth;
 pub mod numbers;
 

@@ -1,13 +1,14 @@
--- Laws of assignments over a stretch, in the terms of code: one for each return of check_type and check_assignment. Assumes nothing.
-use mathlib.Core.Path.{_≡_, refl, sym, ap, _∙_}
+-- Laws of assignments over a stretch, in the terms of code: one for each return of check_type and check_assignment.
+-- Assumes nothing.
+use mathlib.Core.Path.{_≡_, refl, sym, _∙_}
 use mathlib.Core.Bool.{Bool, true, false, _&&_}
 use mathlib.Core.List.{List, [], _∷_}
 use Prim.Native.Nat.{ℕ, _+_, _-_, _/_, _<_, _≤_}
-use native.Mathlib.Omega.{arith}
+use native.Mathlib.Nat.{zero-add}
 use lib.ListN.{length, take, drop}
 use lib.Dec.{eqb}
-use borrow.Author.Tests.{eq-eqb, ne-eqb}
-use Rattle.forest.specs.Forest.{nodeOf, spanOf, restOf, Forest, forest, treeOf}
+use borrow.Author.Tests.{ne-eqb}
+use Rattle.forest.specs.Forest.{Node, nodeOf, spanOf, restOf, Forest, forest, treeOf}
 use Rattle.forest.proofs.Stretch.{forest-none, forest-tree, kids-part, rest-part}
 use Rattle.table.specs.Numbers.{invalidModifyLhs, typeOnAugmented, typeOnTuple}
 use Rattle.table.specs.Answer.{Answer, accepted, andThen, refusedAt, refusal}
@@ -19,49 +20,43 @@ use Rattle.targets.specs.declared.Targeted.{Targeted}
 use Rattle.targets.specs.declared.Targeted.the-variants.{Leaves, Refused}
 use Rattle.table.proofs.Answers.{first-refused, first-accepted, same-values}
 
--- the type of an assignment t with the target lhs
-abbrev pub typed : List ℕ → List ℕ → Forest → ℕ → Answer
-typed t lhs ts n = andThen (typeCheck (nodeOf 0 t) (nodeOf 0 lhs) ts) (λ _. accepted (n ∷ []))
+-- the type of an assignment with the target lhs
+abbrev pub typed : Node → Node → Forest → ℕ → Answer
+typed r lhs ts n = andThen (typeCheck r lhs ts) (λ _. accepted (n ∷ []))
 
-module _ (t lhs ty : List ℕ) (i n : ℕ) {d : ℕ} (d-is : d ≡ nodeOf 0 t .detail) where
-  pub type-unmarked : (d ≡ 1 → ⊥) → accepted (n ∷ []) ≡ typed t lhs (forest i ty) n
+module _ (t lhs : Node) (i : ℕ) (ty : List ℕ) (n : ℕ) {d : ℕ} where
+  pub type-unmarked : (d ≡ 1 → ⊥) → d ≡ t .detail → accepted (n ∷ []) ≡ typed t lhs (forest i ty) n
   unfolding typeCheck
-  type-unmarked h = rw (← d-is, ne-eqb d 1 h) refl
+  type-unmarked h d-is = rw (← d-is, ne-eqb d 1 h) refl
 
-  module _ (marked : d ≡ 1) where
+  module _ (marked : d ≡ 1) (d-is : d ≡ t .detail) where
     pub type-missing : length ty < 24 → accepted (n ∷ []) ≡ typed t lhs (forest i ty) n
     unfolding typeCheck
-    type-missing h = rw (← d-is, eq-eqb d 1 marked, forest-none i ty h) refl
+    type-missing h = rw (← d-is, marked, forest-none i ty h) refl
 
-    module _ (big : 24 ≤ length ty) {k : ℕ} (k-is : k ≡ nodeOf 0 t .kind) where
-      pub type-augmented : k ≡ 12 → {r : Answer} → r ≡ refusedAt typeOnAugmented (nodeOf i ty)
+    module _ (big : 24 ≤ length ty) {k : ℕ} where
+      pub type-augmented : k ≡ 12 → k ≡ t .kind → {r : Answer} → r ≡ refusedAt typeOnAugmented (nodeOf i ty)
           → r ≡ typed t lhs (forest i ty) n
       unfolding typeCheck
-      type-augmented h r-is = r-is ∙ rw (← d-is, eq-eqb d 1 marked, forest-tree i ty big, ← k-is, eq-eqb k 12 h)
-          refl
+      type-augmented h k-is r-is = r-is ∙ rw (← d-is, marked, forest-tree i ty big, ← k-is, h) refl
 
-      module _ (plain : k ≡ 12 → ⊥) {l : ℕ} {g : Bool} (l-is : l ≡ nodeOf 0 lhs .kind) (g-is : g ≡ isGroup l) where
-        group : isGroup (nodeOf 0 lhs .kind) ≡ g
-        group = sym (g-is ∙ ap isGroup l-is)
-
-        pub type-tuple : g ≡ true → {r : Answer} → r ≡ refusedAt typeOnTuple (nodeOf i ty)
-            → r ≡ typed t lhs (forest i ty) n
+      module _ (plain : k ≡ 12 → ⊥) (k-is : k ≡ t .kind) {l : ℕ} {g : Bool} where
+        pub type-tuple : g ≡ true → l ≡ lhs .kind → g ≡ isGroup l → {r : Answer}
+            → r ≡ refusedAt typeOnTuple (nodeOf i ty) → r ≡ typed t lhs (forest i ty) n
         unfolding typeCheck
-        type-tuple h r-is = r-is ∙ rw (
-          ← d-is,
-          eq-eqb d 1 marked,
-          forest-tree i ty big,
-          ← k-is,
-          ne-eqb k 12 plain,
-          group,
-          h,
-        ) refl
+        type-tuple h l-is g-is r-is =
+            r-is ∙ rw (← d-is, marked, forest-tree i ty big, ← k-is, ne-eqb k 12 plain, ← l-is, ← g-is, h) refl
 
-        pub type-good : g ≡ false → accepted (n ∷ []) ≡ typed t lhs (forest i ty) n
+        pub type-good : g ≡ false → l ≡ lhs .kind → g ≡ isGroup l → accepted (n ∷ []) ≡ typed t lhs (forest i ty) n
         unfolding typeCheck
-        type-good h = rw (← d-is, eq-eqb d 1 marked, forest-tree i ty big, ← k-is, ne-eqb k 12 plain, group, h) refl
+        type-good h l-is g-is =
+            rw (← d-is, marked, forest-tree i ty big, ← k-is, ne-eqb k 12 plain, ← l-is, ← g-is, h) refl
 
 -- an assignment whose children are the stretch lhs, which begins with the target
+abbrev behind : ℕ → List ℕ → List ℕ → Answer
+behind i t lhs = andThen («check_assign» (treeOf i lhs))
+    (λ _. typed (nodeOf 0 t) (nodeOf 0 lhs) (forest (i + spanOf lhs / 24) (restOf lhs)) (leaves (treeOf i lhs)))
+
 module _ (i : ℕ) (t : List ℕ) {e : ℕ} (e-is : e ≡ spanOf t) where
   pub assignment-none : length (take (e - 24) (drop 24 t)) < 24
       → accepted (0 ∷ []) ≡ «check_assignment» (treeOf i t)
@@ -71,28 +66,18 @@ module _ (i : ℕ) (t : List ℕ) {e : ℕ} (e-is : e ≡ spanOf t) where
   module _ {lhs : List ℕ} (lhs-is : lhs ≡ take (e - 24) (drop 24 t)) (big : 24 ≤ length lhs) {k l : ℕ} {g : Bool}
       (k-is : k ≡ nodeOf 0 t .kind) (l-is : l ≡ nodeOf 0 lhs .kind) (g-is : g ≡ isGroup l) where
     steps : «check_assignment» (treeOf i t)
-        ≡ andThen (modifyCheck (nodeOf i t) (nodeOf (i + 1) lhs))
-        (λ _. andThen («check_assign» (treeOf (i + 1) lhs))
-        (λ _. typed t lhs (forest (i + 1 + spanOf lhs / 24) (restOf lhs)) (leaves (treeOf (i + 1) lhs))))
+        ≡ andThen (modifyCheck (nodeOf i t) (nodeOf (i + 1) lhs)) (λ _. behind (i + 1) t lhs)
     unfolding «check_assignment» typeCheck
     steps = rw (← kids-part e t e-is, ← lhs-is, forest-tree (i + 1) lhs big) refl
 
     pub assignment-modify : (eqb k 12 && g) ≡ true → {r : Answer}
         → r ≡ refusedAt invalidModifyLhs (nodeOf (i + 1) lhs) → r ≡ «check_assignment» (treeOf i t)
-    assignment-modify h r-is =
-        let test : (eqb (nodeOf i t .kind) 12 && isGroup (nodeOf (i + 1) lhs .kind))
-        ≡ true = rw (k-is, g-is, l-is) at h in
-        r-is ∙ sym (steps ∙ rw test refl)
+    assignment-modify h r-is = r-is ∙ sym (steps ∙ rw (← k-is, ← l-is, ← g-is, h) refl)
 
     module _ (no : (eqb k 12 && g) ≡ false) (f : Targeted) (f-is : targeted f ≡ counted 0 (treeOf (i + 1) lhs))
       where
-        plain : «check_assignment» (treeOf i t)
-            ≡ andThen («check_assign» (treeOf (i + 1) lhs))
-            (λ _. typed t lhs (forest (i + 1 + spanOf lhs / 24) (restOf lhs)) (leaves (treeOf (i + 1) lhs)))
-        plain =
-            let test : (eqb (nodeOf i t .kind) 12 && isGroup (nodeOf (i + 1) lhs .kind))
-            ≡ false = rw (k-is, g-is, l-is) at no in
-            steps ∙ rw test refl
+        plain : «check_assignment» (treeOf i t) ≡ behind (i + 1) t lhs
+        plain = steps ∙ rw (← k-is, ← l-is, ← g-is, no) refl
 
         pub assignment-stop : {why : Refusal} → f ≡ Refused why → refusal why ≡ «check_assignment» (treeOf i t)
         unfolding counted
@@ -100,12 +85,12 @@ module _ (i : ℕ) (t : List ℕ) {e : ℕ} (e-is : e ≡ spanOf t) where
             ∙ sym plain
 
         pub assignment-type : {m a : ℕ} {r : Answer} → f ≡ Leaves m → a ≡ spanOf lhs
-            → r ≡ typed t lhs (forest (i + 1 + a / 24) (take (length lhs - a) (drop a lhs))) m
+            → r ≡ typed (nodeOf 0 t) (nodeOf 0 lhs) (forest (i + 1 + a / 24) (take (length lhs - a) (drop a lhs))) m
             → r ≡ «check_assignment» (treeOf i t)
         unfolding counted
         assignment-type {m} {a} h a-is r-is =
-            let vs = same-values («check_assign» (treeOf (i + 1) lhs)) _ (rw h at f-is) in
-            let sum : m ≡ 0 + leaves (treeOf (i + 1) lhs) = cc in
-            let m-is : m ≡ leaves (treeOf (i + 1) lhs) = omega arith in
+            let accepts = rw (h, zero-add) at f-is in
+            let values = same-values («check_assign» (treeOf (i + 1) lhs)) _ accepts in
+            let m-is : m ≡ leaves (treeOf (i + 1) lhs) = cc in
             r-is ∙ rw (rest-part a lhs a-is, a-is, m-is)
-            (sym (plain ∙ first-accepted («check_assign» (treeOf (i + 1) lhs)) _ _ (rw h at f-is)))
+            (sym (plain ∙ first-accepted («check_assign» (treeOf (i + 1) lhs)) _ _ accepts))

@@ -1,11 +1,12 @@
--- Laws of targets over a stretch, in the terms of code: one for each return of check_assign and check_each. Assumes nothing.
+-- Laws of targets over a stretch, in the terms of code: one for each return of check_assign and check_each.
+-- Assumes nothing.
 use mathlib.Core.Path.{_≡_, refl, sym, ap, _∙_}
 use mathlib.Core.Bool.{Bool, true, false}
 use mathlib.Core.List.{List, [], _∷_}
-use Prim.Native.Nat.{ℕ, _+_, _-_, _/_, _<_, _≤_}
+use Prim.Native.Nat.{ℕ, _+_, _-_, _*_, _/_, _<_, _≤_}
 use native.Mathlib.Nat.{add-zero, add-assoc}
 use native.Mathlib.Omega.{arith}
-use lib.ListN.{length, take, drop}
+use lib.ListN.{length, take, drop, length-take, length-drop}
 use Rattle.fields.specs.Choice.{if'}
 use Rattle.forest.specs.Forest.{nodeOf, spanOf, kidsOf, restOf, Tree, node, Forest, none, _then_, forest}
 use Rattle.forest.specs.Forest.{treeOf, count, countTree}
@@ -42,64 +43,68 @@ module _ (n i : ℕ) (t : List ℕ) {kind : ℕ} {leaf : Bool} (kind-is : kind �
     (leaf-is : leaf ≡ isLeaf kind) where
   pub assign-leaf : leaf ≡ true → accepted ((n + 1) ∷ []) ≡ counted n (treeOf i t)
   unfolding counted «check_assign» leaves
-  assign-leaf h = let l : isLeaf (nodeOf i t .kind) ≡ true = rw kind-is at (sym leaf-is ∙ h) in rw l refl
+  assign-leaf h = rw (← kind-is, ← leaf-is, h) refl
 
   module _ {group : Bool} (no-leaf : leaf ≡ false) (group-is : group ≡ isGroup kind) where
     pub assign-group : group ≡ true → {e : ℕ} {r : Answer} → e ≡ spanOf t
         → r ≡ countedEach n (forest (i + 1) (take (e - 24) (drop 24 t))) → r ≡ counted n (treeOf i t)
     unfolding counted countedEach «check_assign» leaves
     assign-group h {e} e-is r-is =
-        let l : isLeaf (nodeOf i t .kind) ≡ false = rw kind-is at (sym leaf-is ∙ no-leaf) in
-        let g : isGroup (nodeOf i t .kind) ≡ true = rw kind-is at (sym group-is ∙ h) in
-        r-is ∙ rw (kids-part e t e-is, l, g) refl
+        r-is ∙ rw (kids-part e t e-is, ← kind-is, ← leaf-is, no-leaf, ← group-is, h) refl
 
     pub assign-other : group ≡ false → {r : Answer} → r ≡ refusedAt invalidLhs (nodeOf i t)
         → r ≡ counted n (treeOf i t)
     unfolding counted «check_assign»
-    assign-other h r-is =
-        let l : isLeaf (nodeOf i t .kind) ≡ false = rw kind-is at (sym leaf-is ∙ no-leaf) in
-        let g : isGroup (nodeOf i t .kind) ≡ false = rw kind-is at (sym group-is ∙ h) in
-        r-is ∙ rw (l, g) refl
+    assign-other h r-is = r-is ∙ rw (← kind-is, ← leaf-is, no-leaf, ← group-is, h) refl
 
--- the nodes side by side in a stretch: none, or the first and what follows
-module _ (n i : ℕ) (t : List ℕ) where
-  pub each-empty : length t < 24 → accepted (n ∷ []) ≡ countedEach n (forest i t)
-  unfolding countedEach checkEach leavesEach
-  each-empty h = rw (forest-none i t h, add-zero) refl
+-- targets side by side: at each turn what is left gives the whole answer
+pub record Counting (t : List ℕ) (node count₀ : ℕ) (left : List ℕ) (at n : ℕ) : Type 0 where
+  pub within : 24 * at + length left ≤ 50400
+  pub part : length left ≤ length t
+  pub few : n ≤ at
+  pub same : countedEach n (forest at left) ≡ countedEach count₀ (forest node t)
 
-  module _ (big : 24 ≤ length t) (f : Targeted) (f-is : targeted f ≡ counted n (treeOf i t)) where
-    split : countedEach n (forest i t) ≡ andThen («check_assign» (treeOf i t))
-        (λ _. countedEach (n + leaves (treeOf i t)) (forest (i + spanOf t / 24) (restOf t)))
+module _ {t : List ℕ} {node count₀ : ℕ} where
+  pub each-start : 24 * node + length t ≤ 50400 → count₀ ≤ node → Counting t node count₀ t node count₀
+  each-start h few = record { within = h; part = omega arith; few = few; same = refl }
+
+  module _ {left : List ℕ} {at n : ℕ} (s : Counting t node count₀ left at n) where
+    pub each-end : length left < 24 → accepted (n ∷ []) ≡ countedEach count₀ (forest node t)
     unfolding countedEach checkEach leavesEach
-    split =
-        ap (countedEach n) (forest-tree i t big)
-        ∙ after-both («check_assign» (treeOf i t)) (λ _. checkEach (forest (i + spanOf t / 24) (restOf t)))
-        (λ _. accepted ((n + (leaves (treeOf i t) + leavesEach (forest (i + spanOf t / 24) (restOf t)))) ∷ []))
-        ∙ rw add-assoc refl
+    each-end h = rw (forest-none at left h, add-zero) at (s .same)
 
-    pub each-stop : {why : Refusal} → f ≡ Refused why → refusal why ≡ countedEach n (forest i t)
-    unfolding counted
-    each-stop {why} h = first-refused («check_assign» (treeOf i t)) _ why _ (rw h at f-is) ∙ sym split
+    module _ (big : 24 ≤ length left) (first : Targeted) (first-is : targeted first ≡ counted n (treeOf at left)) where
+      step : countedEach count₀ (forest node t) ≡ andThen («check_assign» (treeOf at left))
+          (λ _. countedEach (n + leaves (treeOf at left)) (forest (at + spanOf left / 24) (restOf left)))
+      unfolding countedEach checkEach leavesEach
+      step =
+          sym (s .same)
+          ∙ ap (countedEach n) (forest-tree at left big)
+          ∙ after-both («check_assign» (treeOf at left)) (λ _. checkEach (forest (at + spanOf left / 24) (restOf left)))
+          (λ _. accepted
+          ((n + (leaves (treeOf at left) + leavesEach (forest (at + spanOf left / 24) (restOf left)))) ∷ []))
+          ∙ rw add-assoc refl
 
-    module _ {m : ℕ} (h : f ≡ Leaves m) where
-      pub leaves-are : m ≡ n + leaves (treeOf i t)
+      pub each-stop : {why : Refusal} → first ≡ Refused why → refusal why ≡ countedEach count₀ (forest node t)
       unfolding counted
-      leaves-are = let e = same-values («check_assign» (treeOf i t)) _ (rw h at f-is) in cc
+      each-stop {why} h = first-refused («check_assign» (treeOf at left)) _ why _ (rw h at first-is) ∙ sym step
 
-      pub few-leaves : {e : ℕ} → e ≡ spanOf t → n ≤ i → m ≤ i + e / 24
-      unfolding count
-      few-leaves {e} e-is few = omega (
-        arith,
-        leaves-are,
-        leaves-tree (treeOf i t),
-        count-forest (i + 1) (kidsOf t),
-        length-kids t,
-      )
-
-      pub each-on : {e : ℕ} {r : Answer} → e ≡ spanOf t
-          → r ≡ countedEach m (forest (i + e / 24) (take (length t - e) (drop e t)))
-          → r ≡ countedEach n (forest i t)
-      unfolding counted
-      each-on {e} e-is r-is =
-          r-is ∙ rw (rest-part e t e-is, e-is, leaves-are)
-          (sym (split ∙ first-accepted («check_assign» (treeOf i t)) _ _ (rw h at f-is)))
+      pub each-on : {m e : ℕ} → first ≡ Leaves m → e ≡ spanOf left
+          → Counting t node count₀ (take (length left - e) (drop e left)) (at + e / 24) m
+      unfolding counted count
+      each-on {m} {e} h e-is =
+          let values = same-values («check_assign» (treeOf at left)) _ (rw h at first-is) in
+          let m-is : m ≡ n + leaves (treeOf at left) = cc in
+          record {
+            within = simp (length-take, length-drop) (omega (arith, s .within));
+            part = simp (length-take, length-drop) (omega (arith, s .part));
+            few = omega (
+              arith,
+              s .few,
+              leaves-tree (treeOf at left),
+              count-forest (at + 1) (kidsOf left),
+              length-kids left,
+            );
+            same = rw (rest-part e left e-is, e-is, m-is)
+                (sym (step ∙ first-accepted («check_assign» (treeOf at left)) _ _ (rw h at first-is)));
+          }

@@ -1,4 +1,5 @@
--- The target and assignment jobs, in document 01's order of numbers, and what their answers mean. These are definitions.
+-- The target and assignment jobs, in document 01's order of numbers, and what their answers mean. These are
+-- definitions.
 use mathlib.Core.List.{List, [], _∷_}
 use Prim.Native.Nat.{ℕ}
 use Rattle.table.specs.Answer.{Answer, accepted, refusal}

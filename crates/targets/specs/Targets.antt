@@ -1,5 +1,7 @@
--- Assignment targets and assignments: check_assign and check_assignment of src/syntax/grammar_util.rs, over trees. These are definitions.
--- Copyright 2018 The Starlark in Rust Authors. Copyright (c) Facebook, Inc. and its affiliates. Licensed under Apache-2.0; changed.
+-- Assignment targets and assignments: check_assign and check_assignment of src/syntax/grammar_util.rs, over trees.
+-- These are definitions.
+-- Copyright 2018 The Starlark in Rust Authors. Copyright (c) Facebook, Inc. and its affiliates.
+-- Licensed under Apache-2.0; changed.
 use mathlib.Core.Bool.{Bool, _&&_, _||_}
 use mathlib.Core.List.{[], _∷_}
 use Prim.Native.Nat.{ℕ, _+_}
@@ -48,14 +50,16 @@ countedEach n ts = andThen (checkEach ts) (λ _. accepted ((n + leavesEach ts) �
 
 -- 31: an augmented assignment, at a target that is a Tuple or List
 abbrev pub modifyCheck : Node → Node → Answer
-modifyCheck r lhs = if' (eqb (r .kind) kindAssignModify && isGroup (lhs .kind)) (λ _. refusedAt invalidModifyLhs lhs) (λ _. accepted [])
+modifyCheck r lhs =
+    if' (eqb (r .kind) kindAssignModify && isGroup (lhs .kind)) (λ _. refusedAt invalidModifyLhs lhs) (λ _. accepted [])
 
 -- what a rule says of the first of the nodes side by side; nothing where there is none
 abbrev pub ofFirst : Forest → (Node → Answer) → Answer
 ofFirst none rule = accepted []
 ofFirst (node r ks then ts) rule = rule r
 
--- 32 on an augmented assignment, 33 on a target that is a Tuple or List: at the type, which follows the target if the detail is 1
+-- 32 on an augmented assignment, 33 on a target that is a Tuple or List: at the type, which follows the target if the
+-- detail is 1
 unfoldable pub typeCheck : Node → Node → Forest → Answer
 typeCheck r lhs ts =
     if' (eqb (r .detail) 1) (λ _. ofFirst ts (λ ty.
@@ -63,7 +67,8 @@ typeCheck r lhs ts =
     if' (isGroup (lhs .kind)) (λ _. refusedAt typeOnTuple ty) (λ _. accepted [])))) (λ _.
     accepted [])
 
--- an assignment: 31, 30, then 32 and 33, else the leaves of its target; with no target, as in no sound table, it has none
+-- an assignment: 31, 30, then 32 and 33, else the leaves of its target; with no target, as in no sound table, it has
+-- none
 unfoldable pub «check_assignment» : Tree → Answer
 «check_assignment» (node r none) = accepted (0 ∷ [])
 «check_assignment» (node r (node lhs ks then ts)) =

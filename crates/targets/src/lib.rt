@@ -1,7 +1,9 @@
 // Assignment targets: the target job and the assignment job.
 //
-// Ported from src/syntax/grammar_util.rs of starlark_syntax 0.14.2 (check_assign, check_assignment), and changed: a target is a stretch of the node table.
-// Copyright 2018 The Starlark in Rust Authors. Copyright (c) Facebook, Inc. and its affiliates. Licensed under Apache-2.0.
+// Ported from src/syntax/grammar_util.rs of starlark_syntax 0.14.2 (check_assign, check_assignment), and changed: a
+// target is a stretch of the node table.
+// Copyright 2018 The Starlark in Rust Authors. Copyright (c) Facebook, Inc. and its affiliates.
+// Licensed under Apache-2.0.
 use forest::RECORD;
 use soundness::kinds;
 use table::Checked;
@@ -34,7 +36,8 @@ pub fn target(table: &[u8], names: &[u8], node: usize) -> Targeted
     check_assign(table::stretch(table, node), node, 0)
 }
 
-// The assignment job: whether a node is an assignment whose target and type may stand together, and how many leaves its target has.
+// The assignment job: whether a node is an assignment whose target and type may stand together, and how many leaves its
+// target has.
 pub fn assignment(table: &[u8], names: &[u8], node: usize) -> Targeted
     ensures { λ r. ⌜ targeted r ≡ assignmentOf (now (table .entry)) (now (names .entry)) node ⌝ }
 {
@@ -80,17 +83,20 @@ fn check_each(t: &[u8], node: usize, count: u32) -> Targeted
     requires { ⌜ (24 * node + length (now t) ≤ 50400) × (count ≤ node) ⌝ }
     ensures { λ r. ⌜ targeted r ≡ countedEach count (forest node (now (t .entry))) ⌝ }
 {
-    if t.len() < RECORD {
-        return Targeted::Leaves(count);
-    }
-    let first = check_assign(t, node, count);
-    match first {
-        Targeted::Leaves(n) => {
-            let e = forest::span(t);
-            check_each(&t[e..], node + e / RECORD, n)
+    let mut left = t;
+    let mut at = node;
+    let mut leaves = count;
+    while RECORD <= left.len() {
+        let first = check_assign(left, at, leaves);
+        match first {
+            Targeted::Leaves(n) => leaves = n,
+            Targeted::Refused(why) => return Targeted::Refused(why),
         }
-        Targeted::Refused(why) => Targeted::Refused(why),
+        let e = forest::span(left);
+        left = &left[e..];
+        at += e / RECORD;
     }
+    Targeted::Leaves(leaves)
 }
 
 // The assignment that a stretch begins with: its target, then its type.

@@ -1,9 +1,10 @@
--- `targets::check_assign` and `targets::check_each` meet their contracts: a leaf, a group of targets or an offender; nodes side by side in turn. Assumes nothing.
+-- `targets::check_assign` and `targets::check_each` meet their contracts: a leaf, a group of targets or an offender;
+-- targets side by side in turn. Assumes nothing.
 use borrow.Author.Needs.{needs}
 use lib.ListN.{length}
 use Prim.Native.Nat.{_+_, _*_}
-use Rattle.targets.proofs.Counts.{assign-leaf, assign-group, assign-other, each-empty, each-stop, each-on}
-use Rattle.targets.proofs.Counts.{few-leaves}
+use Rattle.targets.proofs.Counts.{assign-leaf, assign-group, assign-other, Counting, each-start, each-end}
+use Rattle.targets.proofs.Counts.{each-stop, each-on}
 use Prim.Native.Nat.{ℕ, _<_}
 use borrow.Fn.Kinds.{In}
 use borrow.Fn.PlainCycle.{Measures, is, falls, and}
@@ -47,6 +48,12 @@ abbrev check-each-below : ℕ → In 1 check-each-kinds.ps
 check-each-below t =
     and 1 check-each-kinds.ps (falls 1 check-each-kinds.ps _<_ μ-check-each t) check-each.Pre
 
+abbrev check-each-Inv-loop : check-each-lts.InvT-loop
+check-each-Inv-loop t node count left₀ at₀ leaves₀ left at leaves = Counting t node count left at leaves
+
+abbrev check-each-μ-loop : check-each-lts.MeasureT-loop
+check-each-μ-loop t node count left₀ at₀ leaves₀ left at leaves = length left
+
 pub +check-assign+check-each-spec : {M : Type 1} → statement M
 +check-assign+check-each-spec = close μ-check-assign μ-check-each (λ t. check-assign-lts.spec (
   kind-reads.Asked,
@@ -79,25 +86,22 @@ pub +check-assign+check-each-spec : {M : Type 1} → statement M
     (λ c. search needs)
     (λ c κs. search needs)
     (λ c. search assign-other))  -- returns-3
-    λ t. check-each-lts.spec (
-      check-assign-below t,
-      check-assign.Post,
-      span-reads.Asked,
-      span-reads.Learnt,
-      check-each-below t,
-      check-each.Post,
-    )
+    λ t. check-each-lts.spec
+    (check-assign-below t, check-assign.Post, span-reads.Asked, span-reads.Learnt)
     (check-each-at t)
     check-each.Post
-    (λ c. each-empty _ _ _ (c .if1 .taken))  -- returns
+    check-each-Inv-loop
+    check-each-μ-loop
+    (λ c. search each-start)  -- loop-holds
     (λ c κs. search needs)
     (λ c. search needs)
+    (λ c. search needs)
+    (λ c. search each-stop)  -- returns
     (λ c κs. search needs)
     (λ c. search needs)
     (λ c. search needs)
     (λ c. search needs)
     (λ c. search needs)
-    (λ c κs. search (needs, few-leaves))  -- check-each-requires
     (λ c. search needs)
-    (λ c. search each-on)  -- returns-2
-    (λ c. search each-stop)  -- returns-3
+    (λ c. search each-on)  -- loop-again
+    (λ c. search each-end)  -- returns-2
