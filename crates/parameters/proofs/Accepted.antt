@@ -1,16 +1,13 @@
 -- What an accepted answer of the job says, and that its numbers are small. Assumes nothing.
-use mathlib.Core.Path.{_≡_, refl, sym}
-use mathlib.Core.Bool.{Bool, true, false}
+use mathlib.Core.Path.{_≡_, refl}
+use mathlib.Core.Bool.{true}
 use mathlib.Core.List.{List, [], _∷_}
 use Prim.Native.Nat.{ℕ, _+_, _<_, _≤_}
 use native.Mathlib.Omega.{arith}
 use lib.ListN.{length}
-use lib.Dec.{leb}
 use borrow.Author.Tests.{le-leb, leb-true}
-use Rattle.table.proofs.Answers.{never-passed}
-use Rattle.fields.specs.Choice.{if'}
-use Rattle.table.specs.Numbers.{shortBuffer}
-use Rattle.table.specs.Answer.{Answer, accepted, refused, andThen}
+use Rattle.table.proofs.Answers.{never-passed, passed-both, test-passed}
+use Rattle.table.specs.Answer.{accepted, refused}
 use Rattle.table.specs.Check.{checkOf, nodeFits, stretchOf, entryCheck, onNode}
 use Rattle.table.specs.declared.Wanted.the-variants.{Parameters}
 use Rattle.table.proofs.Checking.{accepted-clean}
@@ -53,30 +50,25 @@ passed-accepted t ns node room sound fits enough outcome = rw (
 pub accepted-passed : (t ns : List ℕ) (node room : ℕ) {vs : List ℕ} → paramsOf t ns node room ≡ accepted vs
     → Passed t ns node room vs
 unfolding paramsOf onNode listAnswer listOf written
-accepted-passed t ns node room {vs} e = by-entry (entryCheck Parameters t ns node) refl e
+accepted-passed t ns node room {vs} e =
+    let entered = passed-both (entryCheck Parameters t ns node) _ e in
+    let roomy = passed-both (roomCheck room (listOf t ns node)) _ (entered .2) in
+    go (entry-sound Parameters t ns node (entered .1))
+    (leb-true (length (listOf t ns node)) room (test-passed _ _ (roomy .1))) (def.unpack (listOf t ns node)) refl
+    (roomy .2)
   where
-    by-list : entryCheck Parameters t ns node ≡ accepted [] → length (listOf t ns node) ≤ room → (o : def.Outcome)
-        → def.unpack (listOf t ns node) ≡ o → answerOf o ≡ accepted vs → Passed t ns node room vs
-    by-list s m (def.accepted c) u e =
-        let same : valuesOf (countedOf c) ≡ vs = cc in
-        let known = entry-sound Parameters t ns node s in
-        record { sound = known .0; fits = known .1; enough = m; counts = c; outcome = u; values = sym same }
-    by-list s m (def.refused n r) u e = never-passed e
-    by-list s m (def.internal i r) u e = never-passed e
-
-    by-room : entryCheck Parameters t ns node ≡ accepted [] → (b : Bool) → leb (length (listOf t ns node)) room ≡ b
-        → andThen (if' b (λ _. accepted []) (λ _. refused shortBuffer []))
-        (λ _. answerOf (def.unpack (listOf t ns node))) ≡ accepted vs → Passed t ns node room vs
-    by-room s true m e = by-list s (leb-true (length (listOf t ns node)) room m) (def.unpack (listOf t ns node)) refl e
-    by-room s false m e = never-passed e
-
-    by-entry : (a : Answer) → entryCheck Parameters t ns node ≡ a
-        → andThen a (λ _. andThen (roomCheck room (listOf t ns node)) (λ _. answerOf (def.unpack (listOf t ns node))))
-        ≡ accepted vs → Passed t ns node room vs
-    by-entry (accepted ws) s e =
-        let known = entry-sound Parameters t ns node s in
-        by-room (sound-entry Parameters t ns node (known .0) (known .1)) (leb (length (listOf t ns node)) room) refl e
-    by-entry (refused n ws) s e = never-passed e
+    go : (checkOf t ns ≡ accepted []) × (nodeFits t node Parameters ≡ true) → length (listOf t ns node) ≤ room
+        → (o : def.Outcome) → def.unpack (listOf t ns node) ≡ o → answerOf o ≡ accepted vs → Passed t ns node room vs
+    go s m (def.accepted c) u e = record {
+      sound = s .0;
+      fits = s .1;
+      enough = m;
+      counts = c;
+      outcome = u;
+      values = cc;
+    }
+    go s m (def.refused n r) u e = never-passed e
+    go s m (def.internal i r) u e = never-passed e
 
 place-below : (p : FlatPlace) (n m : ℕ) → PlaceBelow m p → n ≤ m
     → (placeRange (placeOf p) n .from ≤ m) × (placeRange (placeOf p) n .upto ≤ m + 1)

@@ -3,11 +3,12 @@ use mathlib.Core.Path.{_≡_, refl, sym, ap, _∙_}
 use mathlib.Core.Bool.{Bool, true, false}
 use mathlib.Core.List.{List, [], _∷_, _++_}
 use Prim.Native.Nat.{ℕ, _+_, _*_, _-_, _/_, _<_, _≤_, _^_}
+use native.Mathlib.Nat.{zero-add}
 use native.Mathlib.Omega.{arith}
 use lib.ListN.{length, drop}
 use lib.Seq.{sets, sets-eq}
 use borrow.Author.Tests.{le-leb, lt-leb}
-use Rattle.fields.proofs.Basics.{never}
+use Rattle.fields.proofs.Basics.{clash}
 use Rattle.forest.specs.Forest.{kidsOf, forest}
 use Rattle.table.specs.Numbers.{shortBuffer}
 use Rattle.table.specs.Answer.{Answer, accepted, refused, refusal, checked}
@@ -33,7 +34,8 @@ use Rattle.parameters.specs.declared.Counted.{Counted}
 use Rattle.deflist.specs.declared.Fault.{Fault}
 use Rattle.parameters.specs.Indices.{valuesOf, countedOf}
 use Rattle.parameters.specs.Params.{answerOf, listAnswer, listOf, paramsOf, afterwards, modesAfter}
-use Rattle.parameters.specs.Writing.{isRefused, firstOf, judgedAnswer, Small, AtMost}
+use Rattle.parameters.specs.Writing.{isRefused, firstOf, judgedAnswer, Small, Listed, AtMost, Modes, Kept}
+use Rattle.parameters.specs.Writing.{Leaves}
 
 -- wider bounds
 place-wider : {m n : ℕ} (p : FlatPlace) → PlaceBelow m p → m ≤ n → PlaceBelow n p
@@ -74,97 +76,91 @@ module _ {j : Judged} {f : Fault} (j-is : j ≡ Refused f) where
       → u ≡ judgedAnswer j
   refused-answer u-is = u-is ∙ sym (ap judgedAnswer j-is)
 
+-- the modes are kept by a refusal, and written where the list is accepted
+module _ (kids ms : List ℕ) {j : Judged} {b : Bool} (b-is : b ≡ isRefused j) where
+  pub kept-left : b ≡ true → Kept kids j ms ms
+  kept-left h = record { left = λ e. refl; wrote = λ e. clash (sym b-is ∙ h) e }
+
+  pub kept-wrote : b ≡ false → {s : State} → s ≡ firstOf j → {ms′ : List ℕ} → Modes kids s ms ms′
+      → Kept kids j ms ms′
+  kept-wrote h s-is w = record { left = λ e. clash e (sym b-is ∙ h); wrote = λ e. rw (← s-is) w }
+
+-- room for as many as are listed
+pub listed-most : {kids : List ℕ} {m n : ℕ} → Listed kids m → m ≤ n → AtMost kids n
+listed-most l h = record { most = λ names i. omega (arith, l .many names i) }
+
+-- every number of unpack's answer is small
+pub told-small : (ns t : List ℕ) (node : ℕ) (j : Judged) → j ≡ told (def.unpack (written ns node t))
+    → Inside (node + 1 + length t / 24) j → 24 * node + length t ≤ 50400 → Small j
+told-small ns t node (Accepted c) j-is h short =
+    bounded-wider c
+    (accepted-bounded (written ns node t) (told-accepted (def.unpack (written ns node t)) (sym j-is)))
+    (omega (arith, written-short ns node t))
+told-small ns t node (Refused f) j-is h short = omega (arith, h)
+
 -- the list of a node: m parameters stand in its children
-module _ (ns t ms : List ℕ) (node : ℕ) {kids : List ℕ} (kids-are : kids ≡ kidsOf t) {m : ℕ}
-    (m-is : (names : List ℕ) (i : ℕ) → m ≡ length (paramsIn names (forest i kids))) where
-  list-long : m ≡ length (written ns node t)
-  unfolding written
-  list-long = m-is ns (node + 1) ∙ ap (λ (l : List ℕ). length (paramsIn ns (forest (node + 1) l))) kids-are
+module _ (ns t ms : List ℕ) (node : ℕ) {kids : List ℕ} (kids-are : kids ≡ kidsOf t) {m : ℕ} (m-is : Listed kids m)
+  where
+    list-long : m ≡ length (written ns node t)
+    unfolding written
+    list-long = rw kids-are at (m-is .many ns (node + 1))
 
-  short-answer : length ms < m → listAnswer (written ns node t) (length ms) ≡ refused shortBuffer []
-  unfolding listAnswer
-  short-answer h = rw (lt-leb (length (written ns node t)) (length ms) (omega (arith, list-long))) refl
-
-  pub into-short : length ms < m → (refused shortBuffer [] ≡ listAnswer (written ns node t) (length ms))
-      × (ms ≡ afterwards (listAnswer (written ns node t) (length ms)) (def.modes (written ns node t)) ms)
-  into-short h = rw (short-answer h) (refl, refl)
-
-  module _ (room : m ≤ length ms) where
-    pub into-most : AtMost kids (length ms)
-    into-most names i = omega (arith, m-is names i)
-
-    roomy : listAnswer (written ns node t) (length ms) ≡ answerOf (def.unpack (written ns node t))
+    pub into-short : length ms < m → Leaves (written ns node t) ms (refused shortBuffer []) ms
     unfolding listAnswer
-    roomy = rw (le-leb (length (written ns node t)) (length ms) (omega (arith, list-long))) refl
+    into-short h =
+        let short = lt-leb (length (written ns node t)) (length ms) (omega (arith, list-long)) in
+        record { answer = rw short refl; buffer = rw short refl }
 
-    stored : def.modes (written ns node t) ++ drop (length (def.modes (written ns node t))) ms
-        ≡ sets ms 0 (def.modes (written ns node t))
-    stored =
-        let none-before : 0 + length (def.modes (written ns node t))
-        ≡ length (def.modes (written ns node t)) = omega arith in
-        rw none-before at
-        (sym (sets-eq (def.modes (written ns node t)) ms 0
-        (omega (arith, modes-short (written ns node t), list-long))))
-
-    same-modes : {c : Counts} → def.unpack (written ns node t) ≡ def.accepted c → {s : State}
-        → s ≡ def.firstState (c .«num_positional_only»)
-        → def.modesFrom s (paramsIn ns (forest (node + 1) kids)) ≡ def.modes (written ns node t)
+    same-modes : {c : Counts} → def.unpack (written ns node t) ≡ def.accepted c
+        → def.modesFrom (def.firstState (c .«num_positional_only»)) (paramsIn ns (forest (node + 1) kids))
+        ≡ modes (written ns node t)
     unfolding modes written
-    same-modes outcome s-is =
-        let first = s-is ∙ ap def.firstState (accepted-only (written ns node t) outcome) in
-        rw (first, kids-are) refl
+    same-modes outcome = rw (accepted-only (written ns node t) outcome, kids-are) refl
 
-    module _ {j : Judged} (j-is : j ≡ told (def.unpack (written ns node t))) where
-      answer-is : judgedAnswer j ≡ listAnswer (written ns node t) (length ms)
-      answer-is = ap judgedAnswer j-is ∙ judged-answer (def.unpack (written ns node t)) ∙ sym roomy
+    module _ (room : m ≤ length ms) where
+      stored : sets ms 0 (modes (written ns node t))
+          ≡ modes (written ns node t) ++ drop (length (modes (written ns node t))) ms
+      stored =
+          rw zero-add at (sets-eq (modes (written ns node t)) ms 0
+          (omega (arith, modes-short (written ns node t), list-long)))
 
-      -- every number of the answer is small
-      pub into-small : 24 * node + length t ≤ 50400 → Inside (node + 1 + length t / 24) j → Small j
-      into-small short inside = go j j-is inside
+      pub into-told : {j : Judged} → j ≡ told (def.unpack (written ns node t)) → {ms′ : List ℕ} → Kept kids j ms ms′
+          → {u : Answer} → u ≡ judgedAnswer j → Leaves (written ns node t) ms u ms′
+      unfolding listAnswer
+      into-told {j} j-is {ms′} k u-is =
+          let enough = le-leb (length (written ns node t)) (length ms) (omega (arith, list-long)) in
+          let answer-is = ap judgedAnswer j-is ∙ judged-answer (def.unpack (written ns node t)) in
+          record {
+            answer = rw enough (u-is ∙ answer-is);
+            buffer = rw (enough, ← answer-is) (go j j-is k);
+          }
         where
-          go : (x : Judged) → x ≡ told (def.unpack (written ns node t)) → Inside (node + 1 + length t / 24) x
-              → Small x
-          go (Accepted c) e h = bounded-wider c
-              (accepted-bounded (written ns node t) (told-accepted (def.unpack (written ns node t)) (sym e)))
-              (omega (arith, written-short ns node t))
-          go (Refused f) e h = omega (arith, h)
-
-      module _ {b : Bool} (b-is : b ≡ isRefused j) {u : Answer} (u-is : u ≡ judgedAnswer j) where
-        pub into-refused : b ≡ true → (u ≡ listAnswer (written ns node t) (length ms))
-            × (ms ≡ afterwards (listAnswer (written ns node t) (length ms)) (def.modes (written ns node t)) ms)
-        into-refused h = rw (← answer-is) (u-is, kept j (sym b-is ∙ h))
-          where
-            kept : (x : Judged) → isRefused x ≡ true
-                → ms ≡ afterwards (judgedAnswer x) (def.modes (written ns node t)) ms
-            kept (Accepted c) e = never (cc)
-            kept (Refused f) e = refl
-
-        pub into-accepted : b ≡ false → {s : State} → s ≡ firstOf j → {ms′ : List ℕ}
-            → ((names : List ℕ) (i : ℕ) → ms′ ≡ sets ms 0 (def.modesFrom s (paramsIn names (forest i kids))))
-            → (u ≡ listAnswer (written ns node t) (length ms))
-            × (ms′ ≡ afterwards (listAnswer (written ns node t) (length ms)) (def.modes (written ns node t)) ms)
-        into-accepted h {s} s-is {ms′} ms-is = rw (← answer-is) (u-is, written-over j j-is (sym b-is ∙ h) s-is)
-          where
-            written-over : (x : Judged) → x ≡ told (def.unpack (written ns node t)) → isRefused x ≡ false
-                → s ≡ firstOf x → ms′ ≡ afterwards (judgedAnswer x) (def.modes (written ns node t)) ms
-            written-over (Accepted c) e g q = ms-is ns (node + 1)
-                ∙ ap (sets ms 0) (same-modes (told-accepted (def.unpack (written ns node t)) (sym e)) q)
-                ∙ sym stored
-            written-over (Refused f) e g q = never (cc)
+          go : (x : Judged) → x ≡ told (def.unpack (written ns node t)) → Kept kids x ms ms′
+              → ms′ ≡ afterwards (judgedAnswer x) (modes (written ns node t)) ms
+          go (Accepted c) e k = k .wrote refl .wrote ns (node + 1)
+              ∙ ap (sets ms 0) (same-modes (told-accepted (def.unpack (written ns node t)) (sym e))) ∙ stored
+          go (Refused f) e k = k .left refl
 
 -- 1 to 4, 6, then the list
 module _ (t ns : List ℕ) (node : ℕ) {e : Checked} (e-is : checked e ≡ entryCheck Parameters t ns node) where
-  pub params-refused : (ms : List ℕ) {why : Refusal} → e ≡ Unsound why
-      → (refusal why ≡ paramsOf t ns node (length ms)) × (ms ≡ modesAfter t ns node ms)
-  unfolding paramsOf modesAfter
-  params-refused ms h =
-      let told = job-refused Parameters t ns node e-is (λ tree. listAnswer (writtenIn ns tree) (length ms)) h in
-      (told, rw (← told) refl)
+  module _ {why : Refusal} (h : e ≡ Unsound why) where
+    pub params-refused : (room : ℕ) → refusal why ≡ paramsOf t ns node room
+    unfolding paramsOf
+    params-refused room = job-refused Parameters t ns node e-is (λ tree. listAnswer (writtenIn ns tree) room) h
 
-  pub params-list : e ≡ Sound → {s : List ℕ} → s ≡ stretchOf t node → (ms : List ℕ) {u : Answer} {ms′ : List ℕ}
-      → (u ≡ listAnswer (written ns node s) (length ms))
-      × (ms′ ≡ afterwards (listAnswer (written ns node s) (length ms)) (def.modes (written ns node s)) ms)
-      → (u ≡ paramsOf t ns node (length ms)) × (ms′ ≡ modesAfter t ns node ms)
-  unfolding paramsOf modesAfter listOf written
-  params-list good s-is ms h =
-      rw (job-is Parameters t ns node e-is good (λ tree. listAnswer (writtenIn ns tree) (length ms)), ← s-is) h
+    pub params-left : (ms : List ℕ) → ms ≡ modesAfter t ns node ms
+    unfolding modesAfter
+    params-left ms = rw (← (params-refused (length ms))) refl
+
+  module _ (good : e ≡ Sound) {s : List ℕ} (s-is : s ≡ stretchOf t node) {ms : List ℕ} {u : Answer} {ms′ : List ℕ}
+      (h : Leaves (written ns node s) ms u ms′) where
+    params-is : paramsOf t ns node (length ms) ≡ listAnswer (written ns node s) (length ms)
+    unfolding paramsOf written
+    params-is = rw s-is (job-is Parameters t ns node e-is good (λ tree. listAnswer (writtenIn ns tree) (length ms)))
+
+    pub params-answer : u ≡ paramsOf t ns node (length ms)
+    params-answer = h .answer ∙ sym params-is
+
+    pub params-modes : ms′ ≡ modesAfter t ns node ms
+    unfolding modesAfter listOf
+    params-modes = rw (params-is, ← s-is) (h .buffer)

@@ -15,13 +15,7 @@ use Rattle.deflist.specs.declared.Kind.the-variants.{Normal, NoArgs, Slash, Arg
 use Rattle.deflist.specs.declared.State.{State}
 use Rattle.deflist.specs.declared.State.the-variants.{Normal as BeforeSlash, SeenSlash, SeenStar, SeenStarStar}
 use Rattle.deflist.proofs.Reading.{kind-in, listed-long, Reading, read-start, read-here, read-on, read-end, list-on}
-use Rattle.parameters.specs.Writing.{modeByte, modeIn, AtMost}
-
--- a list is read to its end
-all-read : (ns : List ℕ) (w : List Param) (n i : ℕ) (left : List ℕ) → Reading ns w n i left → isListed left ≡ false
-    → n ≡ length w
-all-read ns w n i left r h = let none-left : length w - n ≡ 0 = sym (length-drop n w) ∙ ap length (read-end r h) in
-    omega (arith, r .upto)
+use Rattle.parameters.specs.Writing.{modeByte, modeIn, Listed, AtMost, Modes}
 
 -- n parameters are counted
 pub record Counting (kids left : List ℕ) (n : ℕ) : Type 0 where
@@ -42,9 +36,12 @@ module _ {kids left : List ℕ} {n : ℕ} (s : Counting kids left n) {l : Bool} 
         reads = λ ns i. read-on (s .reads ns i) yes e-is;
       }
 
-  pub count-end : l ≡ false → (ns : List ℕ) (i : ℕ) → n ≡ length (paramsIn ns (forest i kids))
-  count-end l-no ns i = all-read ns (paramsIn ns (forest i kids)) n (s .from ns i) left (s .reads ns i)
-      (sym l-is ∙ l-no)
+  pub count-end : l ≡ false → Listed kids n
+  count-end l-no = record {
+    many = λ ns i.
+        let none-left = read-end (s .reads ns i) (sym l-is ∙ l-no) in
+        omega (arith, s .reads ns i .upto, length-drop n (paramsIn ns (forest i kids)), ap length none-left);
+  }
 
 -- the mode byte is the mode
 mode-in : (s : State) (k : Kind) → modeIn (modeByte s k) ≡ modeOf s k
@@ -114,7 +111,7 @@ module _ {kids ms₀ : List ℕ} {s₀ : State} {ms left : List ℕ} {s : State}
     listed = sym l-is ∙ l-yes
 
     pub write-room : f < length ms
-    write-room = omega (arith, x .flats, x .long, x .most [] 0, read-here (x .reads [] 0) listed refl .within)
+    write-room = omega (arith, x .flats, x .long, x .most .most [] 0, read-here (x .reads [] 0) listed refl .within)
 
     pub write-on : {k : Kind} {m g : ℕ} {ms′ : List ℕ} {s′ : State} {e : ℕ} → k ≡ kindHere left → m ≡ modeByte s k
         → g ≡ f + length (modeIn m) → ms′ ≡ sets ms f (modeIn m) → s′ ≡ nextState s k → e ≡ spanOf left
@@ -143,6 +140,6 @@ module _ {kids ms₀ : List ℕ} {s₀ : State} {ms left : List ℕ} {s : State}
               ∙ x .same ns i);
         }
 
-  pub write-end : l ≡ false → (ns : List ℕ) (i : ℕ) → ms ≡ sets ms₀ 0 (modesFrom s₀ (paramsIn ns (forest i kids)))
+  pub write-end : l ≡ false → Modes kids s₀ ms₀ ms
   unfolding modesFrom
-  write-end l-no ns i = rw (read-end (x .reads ns i) (sym l-is ∙ l-no)) at (x .same ns i)
+  write-end l-no = record { wrote = λ ns i. rw (read-end (x .reads ns i) (sym l-is ∙ l-no)) at (x .same ns i) }

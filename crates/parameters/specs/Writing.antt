@@ -1,11 +1,14 @@
--- What code asks while it counts a list and writes its modes. These are definitions that only contracts of private functions use.
+-- What code asks while it counts a list and writes its modes. These are definitions that only contracts of private
+-- functions use.
+use mathlib.Core.Path.{_≡_}
 use mathlib.Core.Bool.{Bool, true, false}
 use mathlib.Core.List.{List, [], _∷_}
 use Prim.Native.Nat.{ℕ, zero, suc, _≤_, _<_, _^_}
 use lib.ListN.{length}
+use lib.Seq.{sets}
 use Rattle.forest.specs.Forest.{forest}
-use Rattle.deflist.specs.Written.{paramsIn}
-use Rattle.deflist.specs.Unpack.{firstState, modeOf}
+use Rattle.deflist.specs.Written.{Param, paramsIn}
+use Rattle.deflist.specs.Unpack.{firstState, modeOf, modesFrom, modes}
 use Rattle.deflist.specs.declared.Kind.{Kind}
 use Rattle.deflist.specs.Reading.{Bounded}
 use Rattle.deflist.specs.declared.State.{State}
@@ -14,6 +17,7 @@ use Rattle.deflist.specs.declared.Judged.{Judged}
 use Rattle.deflist.specs.declared.Judged.the-variants.{Accepted, Refused}
 use Rattle.table.specs.Answer.{Answer, accepted, refused}
 use Rattle.parameters.specs.Indices.{valuesOf, countedOf}
+use Rattle.parameters.specs.Params.{listAnswer, afterwards}
 
 -- whether unpack's answer is a refusal, and the state that an accepted list begins in
 abbrev pub isRefused : Judged → Bool
@@ -46,6 +50,23 @@ abbrev pub modeIn : ℕ → List ℕ
 modeIn zero = []
 modeIn (suc m) = suc m ∷ []
 
--- a list has at most n parameters, whatever the names and the index
-abbrev pub AtMost : List ℕ → ℕ → Type 0
-AtMost kids n = (names : List ℕ) (i : ℕ) → length (paramsIn names (forest i kids)) ≤ n
+-- the list at the front of a stretch, whatever the names and the index: it has m parameters; it has at most n; the
+-- buffer ms has become ms′ where its modes, from a state on, are written at the front
+pub record Listed (kids : List ℕ) (m : ℕ) : Type 0 where
+  pub many : (names : List ℕ) (i : ℕ) → m ≡ length (paramsIn names (forest i kids))
+
+pub record AtMost (kids : List ℕ) (n : ℕ) : Type 0 where
+  pub most : (names : List ℕ) (i : ℕ) → length (paramsIn names (forest i kids)) ≤ n
+
+pub record Modes (kids : List ℕ) (s : State) (ms ms′ : List ℕ) : Type 0 where
+  pub wrote : (names : List ℕ) (i : ℕ) → ms′ ≡ sets ms 0 (modesFrom s (paramsIn names (forest i kids)))
+
+-- the same for what unpack says of it: a refusal leaves the buffer
+pub record Kept (kids : List ℕ) (j : Judged) (ms ms′ : List ℕ) : Type 0 where
+  pub left : isRefused j ≡ true → ms′ ≡ ms
+  pub wrote : isRefused j ≡ false → Modes kids (firstOf j) ms ms′
+
+-- the answer u for a written list, and the buffer ms′ that the job leaves of ms
+pub record Leaves (l : List Param) (ms : List ℕ) (u : Answer) (ms′ : List ℕ) : Type 0 where
+  pub answer : u ≡ listAnswer l (length ms)
+  pub buffer : ms′ ≡ afterwards (listAnswer l (length ms)) (modes l) ms

@@ -1,7 +1,8 @@
 // The five ranges of DefParamIndices.
 //
 // Ported from src/syntax/def.rs of starlark_syntax 0.14.2, and changed: a range is a struct of two numbers.
-// Copyright 2018 The Starlark in Rust Authors. Copyright (c) Facebook, Inc. and its affiliates. Licensed under Apache-2.0.
+// Copyright 2018 The Starlark in Rust Authors. Copyright (c) Facebook, Inc. and its affiliates.
+// Licensed under Apache-2.0.
 use crate::DefParamIndices;
 use crate::Range;
 use table::Place;

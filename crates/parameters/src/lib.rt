@@ -1,7 +1,10 @@
-// The parameters job: the parameter list of a def or lambda in a table, its five ranges, and the mode of each parameter.
+// The parameters job: the parameter list of a def or lambda in a table, its five ranges, and the mode of each
+// parameter.
 //
-// Ported from src/syntax/def.rs of starlark_syntax 0.14.2, and changed: the flat list is a buffer of mode bytes, written once the list is accepted.
-// Copyright 2018 The Starlark in Rust Authors. Copyright (c) Facebook, Inc. and its affiliates. Licensed under Apache-2.0.
+// Ported from src/syntax/def.rs of starlark_syntax 0.14.2, and changed: the flat list is a buffer of mode bytes,
+// written once the list is accepted.
+// Copyright 2018 The Starlark in Rust Authors. Copyright (c) Facebook, Inc. and its affiliates.
+// Licensed under Apache-2.0.
 pub mod indices;
 
 use deflist::Counts;
@@ -20,19 +23,19 @@ use table::Wanted;
 use table::numbers;
 ghost use mathlib.Core.Path.{_≡_};
 ghost use mathlib.Core.Bool.{true};
-ghost use mathlib.Core.List.{List, [], _∷_};
-ghost use Prim.Native.Nat.{ℕ, _+_, _*_, _≤_, _<_, _^_};
+ghost use mathlib.Core.List.{[], _∷_};
+ghost use Prim.Native.Nat.{_+_, _*_, _≤_, _<_, _^_};
 ghost use lib.ListN.{length};
 ghost use lib.Seq.{sets};
 ghost use Rattle.forest.specs.Forest.{forest};
 ghost use Rattle.table.specs.Answer.{refused, refusal as refusalOf};
-ghost use Rattle.deflist.specs.Written.{paramsIn, written};
-ghost use Rattle.deflist.specs.Unpack.{modesFrom, modes as modesOf};
+ghost use Rattle.deflist.specs.Written.{written};
 ghost use Rattle.deflist.specs.Reading.{PlaceBelow, Bounded};
 ghost use Rattle.deflist.specs.declared.Kind.the-variants.{Normal};
 ghost use Rattle.parameters.specs.Indices.{placeOf, countedOf};
-ghost use Rattle.parameters.specs.Params.{unpacked, listAnswer, paramsOf, afterwards, modesAfter};
-ghost use Rattle.parameters.specs.Writing.{isRefused, firstOf, judgedAnswer, Small, modeByte, modeIn, AtMost};
+ghost use Rattle.parameters.specs.Params.{unpacked, paramsOf, modesAfter};
+ghost use Rattle.parameters.specs.Writing.{isRefused, firstOf, judgedAnswer, Small, modeByte, modeIn};
+ghost use Rattle.parameters.specs.Writing.{Listed, AtMost, Modes, Kept, Leaves};
 
 // The sizes and indices that split the flat list into its parts, as the crate has them.
 pub struct DefParamIndices {
@@ -60,7 +63,8 @@ pub enum Unpacked {
     Refused(Refusal),
 }
 
-// The parameter list of the def or lambda at a node: 1 to 4, 6, 7, 10 to 18; or its ranges and flat count, with the modes at the front of the buffer.
+// The parameter list of the def or lambda at a node: 1 to 4, 6, 7, 10 to 18; or its ranges and flat count, with the
+// modes at the front of the buffer.
 pub fn params(table: &[u8], names: &[u8], node: usize, modes: &mut [u8]) -> Unpacked
     ensures { λ r. ⌜ unpacked r ≡ paramsOf (now (table .entry)) (now (names .entry)) node (length (now (modes .entry))) ⌝ }
     ensures { λ r. ⌜ now (modes .exit) ≡ modesAfter (now (table .entry)) (now (names .entry)) node (now (modes .entry)) ⌝ }
@@ -72,22 +76,30 @@ pub fn params(table: &[u8], names: &[u8], node: usize, modes: &mut [u8]) -> Unpa
     unpack_into(names, table::stretch(table, node), node as u32, modes)
 }
 
-// 7, then unpack's answer for the list of a node, whose stretch is lent; the modes are written once the list is accepted.
+// 7, then unpack's answer for the list of a node, whose stretch is lent; the modes are written once the list is
+// accepted.
 fn unpack_into(names: &[u8], t: &[u8], node: u32, modes: &mut [u8]) -> Unpacked
     requires { ⌜ (24 ≤ length (now t)) × (24 * node + length (now t) ≤ 50400) ⌝ }
-    ensures { λ r. ⌜ unpacked r ≡ listAnswer (written (now (names .entry)) node (now (t .entry))) (length (now (modes .entry))) ⌝ }
-    ensures { λ r. ⌜ now (modes .exit) ≡ afterwards (listAnswer (written (now (names .entry)) node (now (t .entry))) (length (now (modes .entry)))) (modesOf (written (now (names .entry)) node (now (t .entry)))) (now (modes .entry)) ⌝ }
+    ensures { λ r. ⌜ Leaves (written (now (names .entry)) node (now (t .entry))) (now (modes .entry)) (unpacked r) (now (modes .exit)) ⌝ }
 {
     let kids = deflist::children(t);
     if modes.len() < list_length(kids) {
         return Unpacked::Refused(Refusal::Bare(numbers::SHORT_BUFFER));
     }
     let judged = deflist::judge(names, t, node);
+    write_accepted(kids, judged, modes);
+    answer(judged)
+}
+
+// Writes the modes of a list that unpack accepts.
+fn write_accepted(kids: &[u8], judged: Judged, modes: &mut [u8])
+    requires { ⌜ AtMost (now kids) (length (now modes)) ⌝ }
+    ensures { λ r. ⌜ Kept (now (kids .entry)) judged (now (modes .entry)) (now (modes .exit)) ⌝ }
+{
     if is_refused(judged) {
-        return answer(judged);
+        return;
     }
     write_modes(kids, first_of(judged), modes);
-    answer(judged)
 }
 
 // Whether unpack refuses a list.
@@ -126,7 +138,7 @@ fn answer(judged: Judged) -> Unpacked
 
 // How many parameters a list has, marks counted.
 fn list_length(kids: &[u8]) -> usize
-    ensures { λ r. ⌜ ((names : List ℕ) (i : ℕ) → r ≡ length (paramsIn names (forest i (now (kids .entry))))) ⌝ }
+    ensures { λ r. ⌜ Listed (now (kids .entry)) r ⌝ }
 {
     let mut left = kids;
     let mut n = 0;
@@ -180,7 +192,7 @@ fn put(modes: &mut [u8], flat: Flat, mode: u8) -> Flat
 // Writes the modes of a list that begins in a state, at the front of the buffer.
 fn write_modes(kids: &[u8], first: State, modes: &mut [u8])
     requires { ⌜ AtMost (now kids) (length (now modes)) ⌝ }
-    ensures { λ r. ⌜ ((names : List ℕ) (i : ℕ) → now (modes .exit) ≡ sets (now (modes .entry)) 0 (modesFrom first (paramsIn names (forest i (now (kids .entry)))))) ⌝ }
+    ensures { λ r. ⌜ Modes (now (kids .entry)) first (now (modes .entry)) (now (modes .exit)) ⌝ }
 {
     let mut left = kids;
     let mut state = first;
