@@ -1,4 +1,3 @@
 pub mod Storing
-pub mod Few
-pub mod Lists
+pub mod Turns
 pub mod Promises

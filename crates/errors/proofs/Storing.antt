@@ -5,13 +5,13 @@ use mathlib.Core.List.{List, [], _∷_, _++_, append-nil}
 use Prim.Native.Nat.{ℕ, suc, _+_, _*_, _-_, _<_, _≤_, min}
 use native.Mathlib.Omega.{arith}
 use lib.Dec.{leb}
-use lib.ListN.{length, take, drop, set, length-drop, length-append, drop-of-length-le}
-use lib.Seq.{drop-drop, take-length, drop-length, take-append-add, drop-append-add}
+use lib.ListN.{length, take, drop, length-drop, length-append, drop-of-length-le}
+use lib.Seq.{sets, sets-eq, drop-drop, take-length, drop-length, take-append-add, drop-append-add}
 use borrow.Author.Tests.{le-leb, lt-leb, leb-true, leb-false}
 use borrow.Rule.Slice.PartMut.{putMid}
 use Rattle.fields.proofs.Fields.{tail-part}
-use Rattle.forest.specs.Forest.{Node, nodeOf}
-use Rattle.errors.specs.Errors.{errAt, unless, width, wordsOf, stored, Stores}
+use Rattle.table.specs.declared.Span.{Span}
+use Rattle.errors.specs.Errors.{err, unlessIn, width, wordsOf, stored, Stores}
 use Rattle.errors.specs.declared.Err.{Err}
 
 -- an error has as many words as it says
@@ -111,24 +111,15 @@ stores-both es fs {xs} {ys} {zs} {m} {n} {at} s at-is q =
       words = put-tail at ys zs ∙ rw (z, s .words, a) (sym (stored-append es fs xs));
     }
 
--- three words at the front
-three : (xs : List ℕ) (a b c : ℕ) → 3 ≤ length xs → set (set (set xs 0 a) 1 b) 2 c ≡ a ∷ b ∷ c ∷ drop 3 xs
-three [] a b c h = absurd (omega arith)
-three (x ∷ []) a b c h = absurd (omega arith)
-three (x ∷ y ∷ []) a b c h = absurd (omega arith)
-three (x ∷ y ∷ z ∷ xs) a b c h = refl
-
--- LAW: one error is three words where they fit, and none else
+-- LAW: one error is its words, as code stores them one by one, where they fit, and nothing else
 module _ (xs : List ℕ) (e : Err) where
-  pub push-fits : 3 ≤ length xs
-      → Stores (e ∷ []) xs 1 (set (set (set xs 0 (e .number)) 1 (e .span .begin)) 2 (e .span .end))
+  pub push-fits : width ≤ length xs → Stores (e ∷ []) xs 1 (sets xs 0 (wordsOf e))
   push-fits h = record {
     count = refl;
-    words = three xs (e .number) (e .span .begin) (e .span .end) h
-        ∙ sym (stored-fits e [] xs h ∙ ap (λ (l : List ℕ). wordsOf e ++ l) (stored-none (drop 3 xs)));
+    words = sets-eq (wordsOf e) xs 0 h ∙ sym (stored-fits e [] xs h ∙ rw stored-none refl);
   }
 
-  pub push-full : length xs < 3 → Stores (e ∷ []) xs 1 xs
+  pub push-full : length xs < width → Stores (e ∷ []) xs 1 xs
   push-full h = record { count = refl; words = sym (stored-full e [] xs h) }
 
 -- LAW: an error that is known is stored as such
@@ -136,22 +127,16 @@ pub push-known : {e f : Err} {m : ℕ} {xs ys : List ℕ} → e ≡ f → Stores
 push-known known s = rw (← known) s
 
 -- LAW: an error unless something is permitted
-module _ (r : Node) (n : ℕ) {b : Bool} {xs : List ℕ} where
-  pub unless-permitted : b ≡ true → Stores (unless b n r) xs 0 xs
+module _ (n : ℕ) (s : Span) {b : Bool} {xs : List ℕ} where
+  pub unless-permitted : b ≡ true → Stores (unlessIn b n s) xs 0 xs
   unless-permitted h = rw h (stores-none xs)
 
-  pub unless-not : {ys : List ℕ} {m : ℕ} → b ≡ false → Stores (errAt n r ∷ []) xs m ys
-      → Stores (unless b n r) xs m ys
-  unless-not h s = rw h s
+  pub unless-not : {ys : List ℕ} {m : ℕ} → b ≡ false → Stores (err n s ∷ []) xs m ys → Stores (unlessIn b n s) xs m ys
+  unless-not h q = rw h q
 
-pub unless-one : (b : Bool) (n : ℕ) (r : Node) {xs ys : List ℕ} {m : ℕ} → Stores (unless b n r) xs m ys → m ≤ 1
-unless-one true n r s = omega (arith, s .count)
-unless-one false n r s = omega (arith, s .count)
-
--- where a record stands does not matter to its errors
-pub unless-at : (b : Bool) (n i : ℕ) (t : List ℕ) → unless b n (nodeOf i t) ≡ unless b n (nodeOf 0 t)
-unless-at true n i t = refl
-unless-at false n i t = refl
+pub unless-one : (b : Bool) (n : ℕ) (s : Span) {xs ys : List ℕ} {m : ℕ} → Stores (unlessIn b n s) xs m ys → m ≤ 1
+unless-one true n s q = omega (arith, q .count)
+unless-one false n s q = omega (arith, q .count)
 
 -- LAW: a list with room for all errors holds the words of each, and its other words stay
 abbrev pub allWords : List Err → List ℕ

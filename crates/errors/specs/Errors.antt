@@ -19,10 +19,17 @@ err n s = record { number = n; span = s }
 abbrev pub errAt : ℕ → Node → Err
 errAt n r = err n (spanAt r)
 
--- an error at a record unless something is permitted
+-- one error alone
+abbrev pub only : Err → List Err
+only e = e ∷ []
+
+-- an error unless something is permitted: at a span, and at a record
+abbrev pub unlessIn : Bool → ℕ → Span → List Err
+unlessIn true n s = []
+unlessIn false n s = err n s ∷ []
+
 abbrev pub unless : Bool → ℕ → Node → List Err
-unless true n r = []
-unless false n r = errAt n r ∷ []
+unless permitted n r = unlessIn permitted n (spanAt r)
 
 -- the words of an error, and how many they are
 abbrev pub width : ℕ

@@ -1,13 +1,10 @@
 // Errors of the module pass in a lent list of words: storing one where it fits whole, and where the words begin that are still free.
 // A check is lent only the words that are still free, counts all its errors, and stores the first that fit.
-pub mod params;
-
 use table::Span;
 ghost use mathlib.Core.Path.{_≡_};
-ghost use mathlib.Core.List.{[], _∷_};
 ghost use Prim.Native.Nat.{_*_, min};
 ghost use Rattle.forest.specs.Forest.{nodeOf};
-ghost use Rattle.errors.specs.Errors.{errAt, unless, width, Stores};
+ghost use Rattle.errors.specs.Errors.{errAt, only, unless, width, Stores};
 
 // How many words an error has.
 pub const WIDTH: usize = 3;
@@ -18,15 +15,9 @@ pub struct Err {
     pub span: Span,
 }
 
-// A mark in a parameter list that a dialect may not permit.
-pub enum Mark {
-    Star, // the bare `*`
-    Slash,
-}
-
 // One error: stored where there is room for it, and counted in any case. Here alone an error becomes words.
-pub(crate) fn push(e: Err, errors: &mut [u32]) -> usize
-    ensures { λ r. ⌜ Stores (e ∷ []) (now (errors .entry)) r (now (errors .exit)) ⌝ }
+pub fn push(e: Err, errors: &mut [u32]) -> usize
+    ensures { λ r. ⌜ Stores (only e) (now (errors .entry)) r (now (errors .exit)) ⌝ }
 {
     let span = e.span;
     if WIDTH <= errors.len() {
@@ -49,7 +40,7 @@ fn error_at(number: u32, t: &[u8]) -> Err
 
 // An error at the record that a stretch begins with.
 pub fn push_at(number: u32, t: &[u8], errors: &mut [u32]) -> usize
-    ensures { λ r. ⌜ Stores (errAt number (nodeOf 0 (now (t .entry))) ∷ []) (now (errors .entry)) r (now (errors .exit)) ⌝ }
+    ensures { λ r. ⌜ Stores (only (errAt number (nodeOf 0 (now (t .entry))))) (now (errors .entry)) r (now (errors .exit)) ⌝ }
 {
     push(error_at(number, t), errors)
 }

@@ -1,91 +1,129 @@
--- How many errors there can be: no more than twice the nodes, so that no count overflows and a list of 4,200 errors holds all. Assumes nothing.
-use mathlib.Core.Path.{_≡_, refl, sym, ap, _∙_}
-use mathlib.Core.Bool.{Bool, true, false, _&&_, not}
-use mathlib.Core.List.{List, [], _∷_, _++_}
-use Prim.Native.Nat.{ℕ, _+_, _-_, _*_, _≤_}
+-- How many errors there can be: a module has no more than twice its nodes, so that no count overflows and a list of
+-- 4,200 errors holds all. Assumes nothing.
+use mathlib.Core.Path.{_≡_, refl}
+use mathlib.Core.Bool.{Bool, true, false}
+use mathlib.Core.List.{List, [], _∷_}
+use Prim.Native.Nat.{ℕ, zero, suc, _+_, _-_, _*_, _/_, _≤_}
 use native.Mathlib.Omega.{arith}
 use lib.Dec.{eqb}
 use lib.ListN.{length, length-append}
-use borrow.Author.Tests.{eqb-true}
+use borrow.Author.Tests.{eqb-true, ne-eqb}
 use Rattle.fields.specs.Choice.{if'}
 use Rattle.dialect.specs.declared.Dialect.{Dialect}
 use Rattle.dialect.specs.Rows.{permitsTypes}
-use Rattle.forest.specs.Forest.{Node, nodeOf, kidsOf, Tree, node, Forest, none, _then_, forest, treeOf, count}
+use Rattle.forest.specs.Forest.{Node, kidsOf, Tree, node, Forest, none, _then_, forest, treeOf, count}
 use Rattle.forest.specs.Forest.{countTree}
 use Rattle.forest.proofs.Stretch.{count-forest, length-kids}
-use Rattle.soundness.specs.KindNumbers.{kindDef, kindFor, kindBreak, kindContinue, kindReturn, kindLoad}
 use Rattle.soundness.specs.KindNumbers.{kindEllipsis, kindLambda}
 use Rattle.soundness.specs.Kinds.{statement, expression, parameter, kindIn as rowIn, kindOf, classOf}
-use Rattle.deflist.specs.Written.{paramOf, paramsIn}
+use Rattle.deflist.specs.Written.{Param, nodeIn, kindIn, paramOf, paramsIn}
+use Rattle.deflist.specs.Unpack.{Outcome, accepted, refused, internal, unpack}
+use Rattle.deflist.specs.declared.Kind.{Kind}
+use Rattle.deflist.specs.declared.Kind.the-variants.{Normal, NoArgs, Slash, Args, KwArgs}
 use Rattle.deflist.proofs.Theorems.{list-short}
 use Rattle.errors.specs.declared.Err.{Err}
 use Rattle.errors.specs.Errors.{unless}
-use Rattle.errors.proofs.Few.{if-few, unless-few, with-few}
-use Rattle.validate.specs.Module.{defErrors, isBanned, isIf, arms, f, «visit_stmt», exprErrors, expr}
-use Rattle.validate.specs.Module.{«visit_expr», «validate_module»}
+use Rattle.validate.specs.Params.{markError, everyMark, marks, permits, unpackError, «validate_params», withParams}
+use Rattle.validate.specs.Module.{atTop, inDef, armOf, defErrors, onArm, f, «visit_stmt», exprErrors, expr, «visit_expr»}
+use Rattle.validate.specs.Module.{«validate_module»}
+use Rattle.validate.specs.declared.Mark.{Mark}
+use Rattle.validate.specs.declared.Mark.the-variants.{Star, Slash as SlashMark}
+use Rattle.validate.specs.declared.Standing.{Standing}
+use Rattle.validate.specs.declared.Arm.{Arm}
+use Rattle.validate.specs.declared.Arm.the-variants.{Def, Load, Told, Below}
+
+-- an error unless something is permitted, and a choice between nothing and some
+pub unless-few : (b : Bool) (n : ℕ) (r : Node) → length (unless b n r) ≤ 1
+unless-few true n r = omega arith
+unless-few false n r = omega arith
+
+pub marks-few : (d : Dialect) (m : Mark) (ps : List Param) → length (marks d m ps) ≤ length (everyMark m ps)
+marks-few d m ps = go (permits d m)
+  where
+    go : (b : Bool) → length (if' {A = List Err} b (λ _. []) (λ _. everyMark m ps)) ≤ length (everyMark m ps)
+    go true = omega arith
+    go false = omega arith
+
+-- a parameter is one mark at most
+mark-few : (r : Node) (k : Kind) → length (markError Star r k) + length (markError SlashMark r k) ≤ 1
+mark-few r (Normal d) = omega arith
+mark-few r NoArgs = omega arith
+mark-few r Slash = omega arith
+mark-few r Args = omega arith
+mark-few r KwArgs = omega arith
+
+every-few : (ps : List Param) → length (everyMark Star ps) + length (everyMark SlashMark ps) ≤ length ps
+unfolding everyMark
+every-few [] = omega arith
+every-few (p ∷ ps) = simp length-append (omega (arith, mark-few (nodeIn p) (kindIn p), every-few ps))
+
+pub sort-few : (m : Mark) (ps : List Param) → length (everyMark m ps) ≤ length ps
+sort-few Star ps = omega (arith, every-few ps)
+sort-few SlashMark ps = omega (arith, every-few ps)
+
+pub unpack-few : (o : Outcome) → length (unpackError o) ≤ 1
+unpack-few (accepted c) = omega arith
+unpack-few (refused n r) = omega arith
+unpack-few (internal e r) = omega arith
+
+-- a parameter list: no more than its parameters, and one
+pub params-few : (d : Dialect) (ps : List Param) → length («validate_params» d ps) ≤ length ps + 1
+unfolding «validate_params»
+params-few d ps = simp length-append (omega (
+  arith,
+  marks-few d Star ps,
+  marks-few d SlashMark ps,
+  every-few ps,
+  unpack-few (unpack ps),
+))
+
+pub with-few : (d : Dialect) (names : List ℕ) (b : Bool) (n : ℕ) (r : Node) (ks : Forest)
+    → length (withParams d names b n r ks) ≤ length (paramsIn names ks) + 2
+unfolding withParams
+with-few d names b n r ks =
+    simp length-append (omega (arith, unless-few b n r, params-few d (paramsIn names ks)))
 
 -- a statement by itself: two, and its parameters, and what is below it
-arms-few : (d : Dialect) (names : List ℕ) (x y z : Bool) (r : Node) (ks : Forest)
-    (visit : Bool → Bool → Bool → List Err) (n : ℕ)
-    → ((x y z : Bool) → length (paramsIn names ks) + length (visit x y z) ≤ n)
-    → length (arms d names x y z r ks visit) ≤ 2 + n
-unfolding arms
-arms-few d names x y z r ks visit n h =
-    if-few (eqb (r .kind) kindDef) _ _ (2 + n)
-    (omega (
-      arith,
-      length-append (defErrors d names r ks) (visit false false true),
-      with-few d names (d .«enable_def») 52 r ks,
-      h false false true,
-    ))
-    (if-few (eqb (r .kind) kindFor) _ _ (2 + n)
-    (if-few (isBanned d x) _ _ (2 + n) (omega arith) (omega (arith, h false true z)))
-    (if-few (isIf (r .kind)) _ _ (2 + n) (if-few (isBanned d x) _ _ (2 + n) (omega arith)
-    (omega (arith, h false y z)))
-    (if-few (eqb (r .kind) kindBreak && not y) _ _ (2 + n) (omega arith)
-    (if-few (eqb (r .kind) kindContinue && not y) _ _ (2 + n) (omega arith)
-    (if-few (eqb (r .kind) kindReturn && not z) _ _ (2 + n) (omega arith)
-    (if-few (eqb (r .kind) kindLoad) _ _ (2 + n)
-    (omega (
-      arith,
-      length-append (unless x 58 r) (unless (d .«enable_load») 59 r),
-      unless-few x 58 r,
-      unless-few (d .«enable_load») 59 r,
-    )) (omega (arith, h x y z))))))))
+arm-few : (d : Dialect) (names : List ℕ) (s : Standing) (r : Node) (ks : Forest) (visit : Standing → List Err) (n : ℕ)
+    → ((p : Standing) → length (paramsIn names ks) + length (visit p) ≤ n) → (a : Arm)
+    → length (onArm d names s r ks visit a) ≤ 2 + n
+arm-few d names s r ks visit n h Def = omega (
+  arith,
+  length-append (defErrors d names r ks) (visit inDef),
+  with-few d names (d .«enable_def») 52 r ks,
+  h inDef,
+)
+arm-few d names s r ks visit n h Load = simp length-append (omega (
+  arith,
+  unless-few (s .«top_level») 58 r,
+  unless-few (d .«enable_load») 59 r,
+))
+arm-few d names s r ks visit n h (Told m) = omega arith
+arm-few d names s r ks visit n h (Below p) = omega (arith, h p)
 
 -- an expression by itself: two, and its parameters; a record of another class is told nothing
-own-few : (d : Dialect) (names : List ℕ) (r : Node) (ks : Forest)
-    → length (exprErrors d names r ks) ≤ 2 + length (paramsIn names ks)
-unfolding exprErrors
-own-few d names r ks =
-    if-few (eqb (r .kind) kindEllipsis) _ _ (2 + length (paramsIn names ks))
-    (omega (arith, unless-few (permitsTypes (d .«enable_types»)) 60 r))
-    (if-few (eqb (r .kind) kindLambda) _ _ (2 + length (paramsIn names ks))
-    (omega (arith, with-few d names (d .«enable_lambda») 61 r ks)) (omega arith))
+abbrev ownMost : ℕ → ℕ → ℕ
+ownMost k n = if' (eqb (classOf k) expression) (λ _. n) (λ _. 0)
 
-class-ellipsis : classOf kindEllipsis ≡ expression
-unfolding kindOf rowIn
-class-ellipsis = refl
-
-class-lambda : classOf kindLambda ≡ expression
-unfolding kindOf rowIn
-class-lambda = refl
-
-no-kind : (k j c : ℕ) → classOf j ≡ 2 → eqb (classOf k) c ≡ true → (c ≡ 2 → ⊥) → eqb k j ≡ false
-no-kind k j c j-is h far = go (eqb k j) refl
+kind-few : (k j n : ℕ) (x y : Unit {0} → List Err) → classOf j ≡ expression → length (x tt) ≤ n
+    → length (y tt) ≤ ownMost k n → length (if' (eqb k j) x y) ≤ ownMost k n
+kind-few k j n x y j-is p q = go (eqb k j) refl
   where
-    go : (b : Bool) → eqb k j ≡ b → b ≡ false
-    go true e = let same : k ≡ j = eqb-true k j e in let two : classOf k ≡ 2 = ap classOf same ∙ j-is in
-        absurd (far (sym (eqb-true (classOf k) c h) ∙ two))
-    go false e = refl
+    go : (b : Bool) → eqb k j ≡ b → length (if' b x y) ≤ ownMost k n
+    go true e = rw (eqb-true k j e, j-is) p
+    go false e = q
 
-own-none : (d : Dialect) (names : List ℕ) (r : Node) (ks : Forest) (c : ℕ) → eqb (classOf (r .kind)) c ≡ true
-    → (c ≡ 2 → ⊥) → exprErrors d names r ks ≡ []
-unfolding exprErrors
-own-none d names r ks c h far = rw (
-  no-kind (r .kind) kindEllipsis c class-ellipsis h far,
-  no-kind (r .kind) kindLambda c class-lambda h far,
-) refl
+own-few : (d : Dialect) (names : List ℕ) (r : Node) (ks : Forest)
+    → length (exprErrors d names r ks) ≤ ownMost (r .kind) (2 + length (paramsIn names ks))
+unfolding exprErrors kindOf rowIn
+own-few d names r ks =
+    kind-few (r .kind) kindEllipsis _ _ _ refl (omega (arith, unless-few (permitsTypes (d .«enable_types»)) 60 r))
+    (kind-few (r .kind) kindLambda _ _ _ refl (omega (arith, with-few d names (d .«enable_lambda») 61 r ks))
+    (omega arith))
+
+-- a class beyond the four
+other : (c n : ℕ) → n ≤ 3 → eqb (suc (suc (suc (suc c)))) n ≡ false
+other c n h = ne-eqb (suc (suc (suc (suc c)))) n (λ e. absurd (omega arith))
 
 -- whether a tree is a parameter
 abbrev lead : Tree → ℕ
@@ -106,93 +144,64 @@ unfolding paramsIn
 nothing names = omega arith
 
 module _ (d : Dialect) (names : List ℕ) where
-  -- a tree is told no more than twice its nodes, if that holds of its children
-  tree-step : (r : Node) (ks : Forest) → ((x y z : Bool)
-      → length (paramsIn names ks) + length («visit_stmt» d names x y z ks) + length («visit_expr» d names ks) ≤ 2
-      * count ks)
-      → (x y z : Bool) → lead (node r ks) + length (f d names x y z (node r ks)) + length (expr d names (node r ks))
-      ≤ 2 * (1 + count ks)
+  -- a tree is told no more than twice its nodes, if that holds of its children: by its class
+  tree-step : (r : Node) (ks : Forest)
+      → ((s : Standing) → length (paramsIn names ks) + length («visit_stmt» d names s ks)
+      + length («visit_expr» d names ks) ≤ 2 * count ks) → (s : Standing)
+      → lead (node r ks) + length (f d names s (node r ks)) + length (expr d names (node r ks)) ≤ 2 * (1 + count ks)
   unfolding f expr
-  tree-step r ks h x y z = go (eqb (classOf (r .kind)) statement) refl (eqb (classOf (r .kind)) parameter) refl
+  tree-step r ks h s = simp length-append (go (classOf (r .kind)) (own-few d names r ks))
     where
-      below : Bool → Bool → Bool → List Err
-      below = λ x y z. «visit_stmt» d names x y z ks
+      arm : List Err
+      arm = onArm d names s r ks (λ p. «visit_stmt» d names p ks) (armOf d s (r .kind))
 
-      all : length (exprErrors d names r ks ++ «visit_expr» d names ks) ≡ length (exprErrors d names r ks)
-          + length («visit_expr» d names ks)
-      all = length-append (exprErrors d names r ks) («visit_expr» d names ks)
+      own : length arm ≤ 2 + (2 * count ks - length («visit_expr» d names ks))
+      own = arm-few d names s r ks (λ p. «visit_stmt» d names p ks) _ (λ p. omega (arith, h p)) (armOf d s (r .kind))
 
-      own : length (arms d names x y z r ks below) ≤ 2 + (2 * count ks - length («visit_expr» d names ks))
-      own = arms-few d names x y z r ks below (2 * count ks - length («visit_expr» d names ks))
-          (λ x y z. omega (arith, h x y z))
-
-      go : (a : Bool) → eqb (classOf (r .kind)) statement ≡ a → (b : Bool) → eqb (classOf (r .kind)) parameter ≡ b
-          → if' b (λ _. 1) (λ _. 0) + length (if' a (λ _. arms d names x y z r ks below) (λ _. []))
-          + length (exprErrors d names r ks ++ «visit_expr» d names ks) ≤ 2 * (1 + count ks)
-      go true e true g = let one = eqb-true (classOf (r .kind)) statement e in
-          let three = eqb-true (classOf (r .kind)) parameter g in absurd (omega arith)
-      go true e false g = omega (
-        arith,
-        all,
-        own,
-        ap length (own-none d names r ks statement e (λ two. absurd (omega arith))),
-        h x y z,
-      )
-      go false e true g = omega (
-        arith,
-        all,
-        ap length (own-none d names r ks parameter g (λ two. absurd (omega arith))),
-        h x y z,
-      )
-      go false e false g = omega (arith, all, own-few d names r ks, h x y z)
+      go : (c : ℕ) → length (exprErrors d names r ks)
+          ≤ if' (eqb c expression) (λ _. 2 + length (paramsIn names ks)) (λ _. 0)
+          → if' (eqb c parameter) (λ _. 1) (λ _. 0) + length (if' (eqb c statement) (λ _. arm) (λ _. []))
+          + (length (exprErrors d names r ks) + length («visit_expr» d names ks)) ≤ 2 * (1 + count ks)
+      go zero e = omega (arith, h s)
+      go (suc zero) e = omega (arith, own, h s)
+      go (suc (suc zero)) e = omega (arith, h s)
+      go (suc (suc (suc zero))) e = omega (arith, h s)
+      go (suc (suc (suc (suc c)))) e =
+          rw (other c 3 (omega arith), other c 1 (omega arith))
+          (omega (arith, rw (other c 2 (omega arith)) at e, h s))
 
   -- the induction over statements and expressions together: a parameter's own node pays for its mark
   mutual
     unfolding f expr count
 
-    pub tree-few : (t : Tree) (x y z : Bool)
-        → lead t + length (f d names x y z t) + length (expr d names t) ≤ 2 * countTree t
-    tree-few (node r ks) x y z = tree-step r ks (λ a b c. forest-few ks a b c) x y z
+    pub tree-few : (t : Tree) (s : Standing)
+        → lead t + length (f d names s t) + length (expr d names t) ≤ 2 * countTree t
+    tree-few (node r ks) s = tree-step r ks (λ p. forest-few ks p) s
 
-    pub forest-few : (ts : Forest) (x y z : Bool)
-        → length (paramsIn names ts) + length («visit_stmt» d names x y z ts) + length («visit_expr» d names ts) ≤ 2
+    pub forest-few : (ts : Forest) (s : Standing)
+        → length (paramsIn names ts) + length («visit_stmt» d names s ts) + length («visit_expr» d names ts) ≤ 2
         * count ts
-    forest-few none x y z = nothing names
-    forest-few (t then ts) x y z =
-        omega (
-          arith,
-          lead-few names t ts,
-          tree-few t x y z,
-          forest-few ts x y z,
-          length-append (f d names x y z t) («visit_stmt» d names x y z ts),
-          length-append (expr d names t) («visit_expr» d names ts),
-        )
+    forest-few none s = nothing names
+    forest-few (t then ts) s =
+        simp length-append (omega (arith, lead-few names t ts, tree-few t s, forest-few ts s))
 
   -- THEOREM: a module has no more errors than twice its nodes
   pub module-few : (ts : Forest) → length («validate_module» d names ts) ≤ 2 * count ts
   unfolding «validate_module»
-  module-few ts = omega (
-    arith,
-    length-append («visit_stmt» d names true false false ts) («visit_expr» d names ts),
-    forest-few ts true false false,
-  )
+  module-few ts = simp length-append (omega (arith, forest-few ts (atTop)))
 
-  -- the same for what code walks: a stretch, and its first tree
-  pub visits-few : (x y z : Bool) (i : ℕ) (t : List ℕ)
-      → (12 * length («visit_stmt» d names x y z (forest i t)) ≤ length t)
-      × (12 * length («visit_expr» d names (forest i t)) ≤ length t)
-  visits-few x y z i t = let h = forest-few (forest i t) x y z in let n = count-forest i t in
-      (omega arith, omega arith)
+  -- the same for what code walks: a stretch, its first tree, and the parameters of its first node
+  module _ (i : ℕ) (t : List ℕ) where
+    pub stmts-few : (s : Standing) → 12 * length («visit_stmt» d names s (forest i t)) ≤ length t
+    stmts-few s = omega (arith, forest-few (forest i t) s, count-forest i t)
 
-  pub f-few : (x y z : Bool) (i : ℕ) (t : List ℕ) → 12 * length (f d names x y z (treeOf i t)) ≤ 24 + length t
-  unfolding count
-  f-few x y z i t = omega (arith, tree-few (treeOf i t) x y z, count-forest (i + 1) (kidsOf t), length-kids t)
+    pub exprs-few : 12 * length («visit_expr» d names (forest i t)) ≤ length t
+    exprs-few = omega (arith, forest-few (forest i t) inDef, count-forest i t)
 
-  pub own-short : (i : ℕ) (t : List ℕ) → 12 * length (exprErrors d names (nodeOf i t) (forest (i + 1) (kidsOf t)))
-      ≤ 24 + length t
-  own-short i t = omega (
-    arith,
-    own-few d names (nodeOf i t) (forest (i + 1) (kidsOf t)),
-    list-short names (i + 1) (kidsOf t),
-    length-kids t,
-  )
+    pub first-few : (s : Standing)
+        → 12 * (length (f d names s (treeOf i t)) + length (expr d names (treeOf i t))) ≤ 24 + length t
+    unfolding count
+    first-few s = omega (arith, tree-few (treeOf i t) s, count-forest (i + 1) (kidsOf t), length-kids t)
+
+    pub list-few : length (paramsIn names (forest (i + 1) (kidsOf t))) ≤ length t / 24
+    list-few = omega (arith, list-short names (i + 1) (kidsOf t), length-kids t)

@@ -1,4 +1,6 @@
+pub mod Arms
 pub mod Bounds
+pub mod Lists
 pub mod Walks
 pub mod Jobs
 pub mod Theorems

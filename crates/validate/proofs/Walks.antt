@@ -1,297 +1,181 @@
--- Laws of the two walks over a stretch, in the terms of code: one for each return. Assumes nothing.
-use mathlib.Core.Path.{_≡_, refl, _∙_}
-use mathlib.Core.Bool.{Bool, true, false, _&&_, not}
-use mathlib.Core.List.{List, [], _∷_, _++_}
+-- Laws of the two walks over a stretch, in the terms of code: one for each return and each loop. Assumes nothing.
+use mathlib.Core.Path.{_≡_, refl}
+use mathlib.Core.Bool.{Bool, true, false}
+use mathlib.Core.List.{List, [], _∷_, _++_, append-nil}
 use Prim.Native.Nat.{ℕ, _+_, _-_, _*_, _/_, _<_, _≤_, min}
 use native.Mathlib.Omega.{arith}
 use lib.Dec.{eqb}
-use lib.ListN.{length, take, drop, length-take, length-drop}
+use lib.ListN.{length, take, drop}
 use borrow.Author.Tests.{eq-eqb, ne-eqb}
 use borrow.Rule.Slice.PartMut.{putMid}
 use Rattle.dialect.specs.declared.Dialect.{Dialect}
 use Rattle.dialect.specs.Rows.{permitsTypes}
-use Rattle.forest.specs.Forest.{nodeOf, spanOf, kidsOf, Forest, forest, treeOf}
-use Rattle.forest.proofs.Stretch.{forest-none, kids-part, length-kids, each-cut}
-use Rattle.soundness.specs.Kinds.{classOf}
-use Rattle.table.specs.Numbers.{defNotPermitted, topLevelFor, topLevelIf, breakMisplaced, continueMisplaced}
-use Rattle.table.specs.Numbers.{returnMisplaced, loadNotAtTop, loadNotPermitted, ellipsisNotPermitted}
-use Rattle.table.specs.Numbers.{lambdaNotPermitted}
-use Rattle.deflist.proofs.Theorems.{list-short}
+use Rattle.forest.specs.Forest.{nodeOf, spanOf, kidsOf, Tree, Forest, none, _then_, forest, treeOf}
+use Rattle.forest.proofs.Stretch.{forest-none, kids-part, rest-part, length-kids, length-rest, each-cut}
+use Rattle.soundness.specs.KindNumbers.{kindEllipsis, kindLambda}
+use Rattle.soundness.specs.Kinds.{statement, classOf}
+use Rattle.table.specs.Numbers.{defNotPermitted, ellipsisNotPermitted, lambdaNotPermitted}
 use Rattle.errors.specs.declared.Err.{Err}
 use Rattle.errors.specs.Errors.{errAt, unless, width, Stores}
-use Rattle.errors.specs.Params.{withParams}
-use Rattle.validate.specs.Module.{defErrors, isBanned, isIf, loadErrors, arms, f, «visit_stmt», exprErrors}
-use Rattle.validate.specs.Module.{expr, «visit_expr»}
-use Rattle.errors.proofs.Storing.{stores-none, stores-both, unless-at}
-use Rattle.errors.proofs.Few.{with-few}
-use Rattle.validate.proofs.Bounds.{visits-few, f-few, own-short}
+use Rattle.errors.proofs.Storing.{stores-none, stores-both}
+use Rattle.errors.proofs.Turns.{Turns, turns-start, turns-on, turns-end, turns-few, turns-long}
+use Rattle.validate.specs.Inner.{StoresFew}
+use Rattle.validate.specs.Params.{withParams}
+use Rattle.validate.specs.Module.{inDef, armOf, loadErrors, onArm, f, «visit_stmt», exprErrors, expr, «visit_expr»}
+use Rattle.validate.specs.declared.Standing.{Standing}
+use Rattle.validate.specs.declared.Arm.{Arm}
+use Rattle.validate.specs.declared.Arm.the-variants.{Def, Load, Told, Below}
+use Rattle.validate.proofs.Bounds.{unless-few, stmts-few, exprs-few, first-few}
 
--- a part of a stretch is no longer
-part-short : (a n : ℕ) (t : List ℕ) → length (take n (drop a t)) ≤ length t
-part-short a n t = simp (length-take, length-drop) (omega arith)
+-- a rule over nodes side by side: what each tree is told, in turn, and that is little
+pub record Walk (all : Forest → List Err) (one : Tree → List Err) : Type 0 where
+  pub empty : all none ≡ []
+  pub first : (t : Tree) (ts : Forest) → all (t then ts) ≡ one t ++ all ts
+  pub short : (i : ℕ) (t : List ℕ) → 12 * length (all (forest i t)) ≤ length t
 
--- what is counted in a stretch, in a part of it, and at its first record is little
-module _ (d : Dialect) (names t : List ℕ) {xs ys : List ℕ} {m : ℕ} where
-  pub visit-short : (x y z : Bool) (i : ℕ) → Stores («visit_stmt» d names x y z (forest i t)) xs m ys
-      → 12 * m ≤ length t
-  visit-short x y z i s = omega (arith, s .count, visits-few d names x y z i t .0)
+pub statements : (d : Dialect) (names : List ℕ) (s : Standing) → Walk («visit_stmt» d names s) (f d names s)
+unfolding f
+statements d names s =
+    record { empty = refl; first = λ t ts. refl; short = λ i t. stmts-few d names i t s }
 
-  pub expr-short : (i : ℕ) → Stores («visit_expr» d names (forest i t)) xs m ys → 12 * m ≤ length t
-  expr-short i s = omega (arith, s .count, visits-few d names true true true i t .1)
+pub expressions : (d : Dialect) (names : List ℕ) → Walk («visit_expr» d names) (expr d names)
+unfolding expr
+expressions d names = record { empty = refl; first = λ t ts. refl; short = λ i t. exprs-few d names i t }
 
-  pub f-short : (x y z : Bool) (i : ℕ) → Stores (f d names x y z (treeOf i t)) xs m ys → 12 * m ≤ 24 + length t
-  f-short x y z i s = omega (arith, s .count, f-few d names x y z i t)
+-- a tree is told little
+module _ (d : Dialect) (names : List ℕ) (i : ℕ) (t : List ℕ) {xs ys : List ℕ} {n : ℕ} where
+  pub f-short : (s : Standing) → Stores (f d names s (treeOf i t)) xs n ys → 12 * n ≤ 24 + length t
+  f-short s q = omega (arith, q .count, first-few d names i t s)
 
-module _ (d : Dialect) (names t : List ℕ) {xs ys : List ℕ} {m : ℕ} where
-  pub visit-part-short : (x y z : Bool) (i a n : ℕ)
-      → Stores («visit_stmt» d names x y z (forest i (take n (drop a t)))) xs m ys → 12 * m ≤ length t
-  visit-part-short x y z i a n s = omega (
-    arith,
-    visit-short d names (take n (drop a t)) x y z i s,
-    part-short a n t,
-  )
+  pub expr-short : Stores (expr d names (treeOf i t)) xs n ys → 12 * n ≤ 24 + length t
+  expr-short q = omega (arith, q .count, first-few d names i t inDef)
 
-  pub with-count : (i : ℕ) (b : Bool) (n : ℕ)
-      → Stores (withParams d names b n (nodeOf i t) (forest (i + 1) (kidsOf t))) xs m ys → 12 * m ≤ 24 + length t
-  with-count i b n s = omega (
-    arith,
-    s .count,
-    with-few d names b n (nodeOf i t) (forest (i + 1) (kidsOf t)),
-    list-short names (i + 1) (kidsOf t),
-    length-kids t,
-  )
+-- nodes side by side in a loop: of the whole, those of what is left of t come next
+pub record Visiting (all : Forest → List Err) (one : Tree → List Err) (whole : List Err) (t xs₀ left : List ℕ)
+    (place total : ℕ) (xs : List ℕ) : Type 0 where
+  pub walk : Walk all one
+  pub within : 24 * place + length left ≤ 50400
+  pub part : length left ≤ length t
+  pub most : length whole ≤ 4200
+  pub few : total ≤ 4200
+  pub turns : Turns whole xs₀ (all (forest place left)) total xs
 
-  pub own-count : (i : ℕ) → Stores (exprErrors d names (nodeOf i t) (forest (i + 1) (kidsOf t))) xs m ys
-      → 12 * m ≤ 24 + length t
-  own-count i s = omega (arith, s .count, own-short d names i t)
+module _ {all : Forest → List Err} {one : Tree → List Err} where
+  pub each-start : Walk all one → {at : ℕ} {t xs : List ℕ} → 24 * at + length t ≤ 50400
+      → Visiting all one (all (forest at t)) t xs t at 0 xs
+  each-start w {at} {t} {xs} h = record {
+    walk = w;
+    within = h;
+    part = omega arith;
+    most = omega (arith, w .short at t);
+    few = omega arith;
+    turns = turns-start _ xs;
+  }
 
-  pub expr-part-short : (i a n : ℕ) → Stores («visit_expr» d names (forest i (take n (drop a t)))) xs m ys
-      → 12 * m ≤ length t
-  expr-part-short i a n s = omega (arith, expr-short d names (take n (drop a t)) i s, part-short a n t)
+  module _ {whole : List Err} {t xs₀ left : List ℕ} {place total : ℕ} {xs : List ℕ}
+      (v : Visiting all one whole t xs₀ left place total xs) where
+    pub each-long : length xs ≡ length xs₀
+    each-long = turns-long (v .turns)
 
--- the nodes side by side in a stretch, as statements: none, or the first and those after it
-module _ (d : Dialect) (names : List ℕ) (x y z : Bool) (i : ℕ) (t : List ℕ) {xs : List ℕ} where
-  pub visit-none : length t < 24 → Stores («visit_stmt» d names x y z (forest i t)) xs 0 xs
-  unfolding «visit_stmt»
-  visit-none h = rw (forest-none i t h) (stores-none xs)
+    pub each-end : length left < 24 → StoresFew 4200 whole xs₀ total xs
+    each-end h = record {
+      few = v .few;
+      stores = turns-end (v .turns) (rw (forest-none place left h) (v .walk .empty));
+    }
 
-  pub visit-on : 24 ≤ length t → {e m n at : ℕ} {ys zs : List ℕ} → e ≡ spanOf t
-      → Stores (f d names x y z (treeOf i t)) xs m ys → at ≡ min (width * m) (length ys)
-      → Stores («visit_stmt» d names x y z (forest (i + e / 24) (take (length t - e) (drop e t))))
-      (take (length ys - at) (drop at ys)) n zs
-      → Stores («visit_stmt» d names x y z (forest i t)) xs (m + n) (putMid at (length ys - at) ys zs)
-  unfolding «visit_stmt»
-  visit-on big {e} e-is s at-is q =
-      let cut = each-cut (λ ts. «visit_stmt» d names x y z ts) i e t (λ u. f d names x y z u) (λ es fs. es ++ fs)
-      (λ u us. refl) big e-is in
-      rw cut (stores-both _ _ s at-is q)
+    pub each-on : 24 ≤ length left → {n free : ℕ} {zs : List ℕ} → free ≡ min (width * total) (length xs)
+        → Stores (one (treeOf place left)) (take (length xs - free) (drop free xs)) n zs → {e : ℕ} → e ≡ spanOf left
+        → Visiting all one whole t xs₀ (take (length left - e) (drop e left)) (place + e / 24) (total + n)
+        (putMid free (length xs - free) xs zs)
+    each-on big free-is s {e} e-is =
+        let next = turns-on (v .turns) (each-cut all place e left one _++_ (v .walk .first) big e-is) free-is s in
+        record {
+          walk = v .walk;
+          within = rw (rest-part e left e-is) (omega (arith, length-rest left, v .within));
+          part = rw (rest-part e left e-is) (omega (arith, length-rest left, v .part));
+          most = v .most;
+          few = omega (arith, turns-few next, v .most);
+          turns = next;
+        }
 
--- the children of the first node, the stretch of them that code makes, and what the statements among them are told
+-- the children of the first node, and the stretch of them that code makes
 abbrev pub children : ℕ → List ℕ → Forest
 children i t = forest (i + 1) (kidsOf t)
 
 abbrev pub made : ℕ → List ℕ → List ℕ
 made e t = take (e - 24) (drop 24 t)
 
-abbrev below : Dialect → List ℕ → ℕ → List ℕ → Bool → Bool → Bool → List Err
-below d names i t x y z = «visit_stmt» d names x y z (children i t)
-
--- the first node of a stretch, if it is a statement
-module _ (d : Dialect) (names : List ℕ) (x y z : Bool) (i : ℕ) (t : List ℕ) {c : ℕ}
-    (c-is : c ≡ classOf (nodeOf 0 t .kind)) where
-  pub f-none : {xs : List ℕ} → (c ≡ 1 → ⊥) → Stores (f d names x y z (treeOf i t)) xs 0 xs
+-- the first node of a stretch, if it is a statement: by its arm
+module _ (d : Dialect) (names : List ℕ) (s : Standing) (i : ℕ) (t : List ℕ) {k : ℕ} (k-is : k ≡ nodeOf 0 t .kind)
+    {b : Bool} (b-is : b ≡ eqb (classOf k) statement) where
+  pub f-none : b ≡ false → {xs : List ℕ} → Stores (f d names s (treeOf i t)) xs 0 xs
   unfolding f
-  f-none {xs} h = rw (← c-is, ne-eqb c 1 h) (stores-none xs)
+  f-none h {xs} = rw (← k-is, ← b-is, h) (stores-none xs)
 
-  module _ (yes : c ≡ 1) {k e : ℕ} (k-is : k ≡ nodeOf 0 t .kind) (e-is : e ≡ spanOf t) where
-    told : (x y z : Bool) {m : ℕ} {xs ys : List ℕ}
-        → Stores («visit_stmt» d names x y z (forest (i + 1) (made e t))) xs m ys
-        → Stores (below d names i t x y z) xs m ys
-    told x y z s = rw (kids-part e t e-is) at s
-
-    opened : f d names x y z (treeOf i t) ≡ arms d names x y z (nodeOf i t) (children i t) (below d names i t)
+  module _ (is-one : b ≡ true) {a : Arm} (a-is : a ≡ armOf d s k) where
+    opened : f d names s (treeOf i t)
+        ≡ onArm d names s (nodeOf i t) (children i t) (λ p. «visit_stmt» d names p (children i t)) a
     unfolding f
-    opened = rw (← c-is, eq-eqb c 1 yes) refl
+    opened = rw (← k-is, ← b-is, is-one, a-is) refl
 
-    pub f-def : k ≡ 2 → {m n at : ℕ} {xs ys zs : List ℕ}
-        → Stores (withParams d names (d .«enable_def») defNotPermitted (nodeOf i t) (children i t)) xs m ys
-        → at ≡ min (width * m) (length ys)
-        → Stores («visit_stmt» d names false false true (forest (i + 1) (made e t)))
-        (take (length ys - at) (drop at ys)) n zs
-        → Stores (f d names x y z (treeOf i t)) xs (m + n) (putMid at (length ys - at) ys zs)
-    unfolding arms
-    f-def h s at-is q =
-        let here : arms d names x y z (nodeOf i t) (children i t) (below d names i t)
-        ≡ defErrors d names (nodeOf i t) (children i t)
-        ++ below d names i t false false true = rw (← k-is, eq-eqb k 2 h) refl in
-        rw (opened ∙ here) (stores-both _ _ s at-is (told false false true q))
+    module _ {m : ℕ} {xs ys : List ℕ} where
+      pub f-load : a ≡ Load → Stores (loadErrors d s (nodeOf 0 t)) xs m ys → Stores (f d names s (treeOf i t)) xs m ys
+      f-load h q = rw (opened, h) q
 
-    module _ (no-def : k ≡ 2 → ⊥) where
-      module _ (is-for : k ≡ 3) {b : Bool} (b-is : b ≡ isBanned d x) {m : ℕ} {xs ys : List ℕ} where
-        pub f-for-banned : b ≡ true → Stores (errAt topLevelFor (nodeOf 0 t) ∷ []) xs m ys
-            → Stores (f d names x y z (treeOf i t)) xs m ys
-        unfolding arms
-        f-for-banned h s =
-            let here : arms d names x y z (nodeOf i t) (children i t) (below d names i t)
-            ≡ errAt topLevelFor (nodeOf i t) ∷
-            [] = rw (← k-is, ne-eqb k 2 no-def, eq-eqb k 3 is-for, ← b-is, h) refl in
-            rw (opened ∙ here) s
+      pub f-told : {n : ℕ} → a ≡ Told n → Stores (errAt n (nodeOf 0 t) ∷ []) xs m ys
+          → Stores (f d names s (treeOf i t)) xs m ys
+      f-told h q = rw (opened, h) q
 
-        pub f-for : b ≡ false → Stores («visit_stmt» d names false true z (forest (i + 1) (made e t))) xs m ys
-            → Stores (f d names x y z (treeOf i t)) xs m ys
-        unfolding arms
-        f-for h s =
-            let here : arms d names x y z (nodeOf i t) (children i t) (below d names i t)
-            ≡ below d names i t false true z = rw (← k-is, ne-eqb k 2 no-def, eq-eqb k 3 is-for, ← b-is, h)
-            refl in
-            rw (opened ∙ here) (told false true z s)
+      module _ {e : ℕ} (e-is : e ≡ spanOf t) {most : ℕ} where
+        pub f-below : {p : Standing} → a ≡ Below p
+            → StoresFew most («visit_stmt» d names p (forest (i + 1) (made e t))) xs m ys
+            → Stores (f d names s (treeOf i t)) xs m ys
+        f-below h q = rw (opened, h, ← kids-part e t e-is) (q .stores)
 
-      module _ (no-for : k ≡ 3 → ⊥) {g : Bool} (g-is : g ≡ isIf k) where
-        module _ (is-if : g ≡ true) {b : Bool} (b-is : b ≡ isBanned d x) {m : ℕ} {xs ys : List ℕ} where
-          pub f-if-banned : b ≡ true → Stores (errAt topLevelIf (nodeOf 0 t) ∷ []) xs m ys
-              → Stores (f d names x y z (treeOf i t)) xs m ys
-          unfolding arms
-          f-if-banned h s =
-              let here : arms d names x y z (nodeOf i t) (children i t) (below d names i t)
-              ≡ errAt topLevelIf (nodeOf i t) ∷
-              [] = rw (← k-is, ne-eqb k 2 no-def, ne-eqb k 3 no-for, ← g-is, is-if, ← b-is, h) refl in
-              rw (opened ∙ here) s
-
-          pub f-if : b ≡ false → Stores («visit_stmt» d names false y z (forest (i + 1) (made e t))) xs m ys
-              → Stores (f d names x y z (treeOf i t)) xs m ys
-          unfolding arms
-          f-if h s =
-              let here : arms d names x y z (nodeOf i t) (children i t) (below d names i t)
-              ≡ below d names i t false y z = rw
-              (← k-is, ne-eqb k 2 no-def, ne-eqb k 3 no-for, ← g-is, is-if, ← b-is, h) refl in
-              rw (opened ∙ here) (told false y z s)
-
-        module _ (no-if : g ≡ false) {m : ℕ} {xs ys : List ℕ} where
-          pub f-break : (eqb k 6 && not y) ≡ true → Stores (errAt breakMisplaced (nodeOf 0 t) ∷ []) xs m ys
-              → Stores (f d names x y z (treeOf i t)) xs m ys
-          unfolding arms
-          f-break h s =
-              let here : arms d names x y z (nodeOf i t) (children i t) (below d names i t)
-              ≡ errAt breakMisplaced (nodeOf i t) ∷
-              [] = rw (← k-is, ne-eqb k 2 no-def, ne-eqb k 3 no-for, ← g-is, no-if, h) refl in
-              rw (opened ∙ here) s
-
-          module _ (no-break : (eqb k 6 && not y) ≡ false) where
-            pub f-continue : (eqb k 7 && not y) ≡ true → Stores (errAt continueMisplaced (nodeOf 0 t) ∷ []) xs m ys
-                → Stores (f d names x y z (treeOf i t)) xs m ys
-            unfolding arms
-            f-continue h s =
-                let here : arms d names x y z (nodeOf i t) (children i t) (below d names i t)
-                ≡ errAt continueMisplaced (nodeOf i t) ∷
-                [] = rw (← k-is, ne-eqb k 2 no-def, ne-eqb k 3 no-for, ← g-is, no-if, no-break, h) refl in
-                rw (opened ∙ here) s
-
-            module _ (no-continue : (eqb k 7 && not y) ≡ false) where
-              pub f-return : (eqb k 8 && not z) ≡ true → Stores (errAt returnMisplaced (nodeOf 0 t) ∷ []) xs m ys
-                  → Stores (f d names x y z (treeOf i t)) xs m ys
-              unfolding arms
-              f-return h s =
-                  let here : arms d names x y z (nodeOf i t) (children i t) (below d names i t)
-                  ≡ errAt returnMisplaced (nodeOf i t) ∷
-                  [] = rw (
-                    ← k-is,
-                    ne-eqb k 2 no-def,
-                    ne-eqb k 3 no-for,
-                    ← g-is,
-                    no-if,
-                    no-break,
-                    no-continue,
-                    h,
-                  ) refl in
-                  rw (opened ∙ here) s
-
-              module _ (no-return : (eqb k 8 && not z) ≡ false) where
-                pub f-load : k ≡ 9 → Stores (loadErrors d x (nodeOf 0 t)) xs m ys
-                    → Stores (f d names x y z (treeOf i t)) xs m ys
-                unfolding arms
-                f-load h s =
-                    let here : arms d names x y z (nodeOf i t) (children i t) (below d names i t)
-                    ≡ loadErrors d x (nodeOf i t) = rw (
-                      ← k-is,
-                      ne-eqb k 2 no-def,
-                      ne-eqb k 3 no-for,
-                      ← g-is,
-                      no-if,
-                      no-break,
-                      no-continue,
-                      no-return,
-                      eq-eqb k 9 h,
-                    ) refl in
-                    rw (
-                      opened ∙ here,
-                      unless-at x loadNotAtTop i t,
-                      unless-at (d .«enable_load») loadNotPermitted i t,
-                    ) s
-
-                pub f-other : (k ≡ 9 → ⊥) → Stores («visit_stmt» d names x y z (forest (i + 1) (made e t))) xs m ys
-                    → Stores (f d names x y z (treeOf i t)) xs m ys
-                unfolding arms
-                f-other h s =
-                    let here : arms d names x y z (nodeOf i t) (children i t) (below d names i t)
-                    ≡ below d names i t x y z = rw (
-                      ← k-is,
-                      ne-eqb k 2 no-def,
-                      ne-eqb k 3 no-for,
-                      ← g-is,
-                      no-if,
-                      no-break,
-                      no-continue,
-                      no-return,
-                      ne-eqb k 9 h,
-                    ) refl in
-                    rw (opened ∙ here) (told x y z s)
+        pub f-def : a ≡ Def → {few n at : ℕ} {zs : List ℕ}
+            → StoresFew few (withParams d names (d .«enable_def») defNotPermitted (nodeOf i t) (children i t)) xs m ys
+            → at ≡ min (width * m) (length ys)
+            → StoresFew most («visit_stmt» d names inDef (forest (i + 1) (made e t)))
+            (take (length ys - at) (drop at ys)) n zs
+            → Stores (f d names s (treeOf i t)) xs (m + n) (putMid at (length ys - at) ys zs)
+        f-def h q at-is z =
+            rw (opened, h) (stores-both _ _ (q .stores) at-is (rw (kids-part e t e-is) at (z .stores)))
 
 -- the first record of a stretch by itself, as an expression
-module _ (d : Dialect) (names : List ℕ) (i : ℕ) (t : List ℕ) {k : ℕ} (k-is : k ≡ nodeOf 0 t .kind) {xs ys : List ℕ}
-    {m : ℕ} where
-  pub own-ellipsis : k ≡ 31 → {b : Bool} → b ≡ permitsTypes (d .«enable_types»)
+module _ (d : Dialect) (names : List ℕ) (i : ℕ) (t : List ℕ) {k : ℕ} (k-is : k ≡ nodeOf 0 t .kind) where
+  pub own-ellipsis : k ≡ kindEllipsis → {b : Bool} → b ≡ permitsTypes (d .«enable_types») → {m : ℕ} {xs ys : List ℕ}
       → Stores (unless b ellipsisNotPermitted (nodeOf 0 t)) xs m ys
-      → Stores (exprErrors d names (nodeOf i t) (children i t)) xs m ys
+      → StoresFew (2 + length t / 24) (exprErrors d names (nodeOf i t) (children i t)) xs m ys
   unfolding exprErrors
   own-ellipsis h {b} b-is s =
-      let here : exprErrors d names (nodeOf i t) (children i t)
-      ≡ unless b ellipsisNotPermitted (nodeOf i t) = rw (← k-is, eq-eqb k 31 h, ← b-is) refl in
-      rw (here ∙ unless-at b ellipsisNotPermitted i t) s
+      rw (← k-is, eq-eqb k kindEllipsis h, ← b-is)
+      record { few = omega (arith, s .count, unless-few b ellipsisNotPermitted (nodeOf 0 t)); stores = s }
 
-  pub own-lambda : (k ≡ 31 → ⊥) → k ≡ 27 → Stores
-      (withParams d names (d .«enable_lambda») lambdaNotPermitted (nodeOf i t) (children i t)) xs m ys
-      → Stores (exprErrors d names (nodeOf i t) (children i t)) xs m ys
+  pub own-lambda : k ≡ kindLambda → {most m : ℕ} {xs ys : List ℕ}
+      → StoresFew most (withParams d names (d .«enable_lambda») lambdaNotPermitted (nodeOf i t) (children i t)) xs m ys
+      → StoresFew most (exprErrors d names (nodeOf i t) (children i t)) xs m ys
+  unfolding exprErrors withParams
+  own-lambda h s = rw (← k-is, h) s
+
+  pub own-other : (k ≡ kindEllipsis → ⊥) → (k ≡ kindLambda → ⊥) → {xs : List ℕ}
+      → StoresFew (2 + length t / 24) (exprErrors d names (nodeOf i t) (children i t)) xs 0 xs
   unfolding exprErrors
-  own-lambda other h s =
-      let here : exprErrors d names (nodeOf i t) (children i t)
-      ≡ withParams d names (d .«enable_lambda») lambdaNotPermitted (nodeOf i t) (children i t) = rw
-      (← k-is, ne-eqb k 31 other, eq-eqb k 27 h) refl in
-      rw here s
+  own-other no-ellipsis no-lambda {xs} =
+      rw (← k-is, ne-eqb k kindEllipsis no-ellipsis, ne-eqb k kindLambda no-lambda)
+      record { few = omega arith; stores = stores-none xs }
 
-module _ (d : Dialect) (names : List ℕ) (i : ℕ) (t : List ℕ) {xs : List ℕ} where
-  pub own-other : {k : ℕ} → k ≡ nodeOf 0 t .kind → (k ≡ 31 → ⊥) → (k ≡ 27 → ⊥)
-      → Stores (exprErrors d names (nodeOf i t) (children i t)) xs 0 xs
-  unfolding exprErrors
-  own-other {k} k-is no-ellipsis no-lambda =
-      let here : exprErrors d names (nodeOf i t) (children i t) ≡
-      [] = rw (← k-is, ne-eqb k 31 no-ellipsis, ne-eqb k 27 no-lambda) refl in
-      rw here (stores-none xs)
+-- and then all below it, if there is any
+module _ (d : Dialect) (names : List ℕ) (i : ℕ) (t : List ℕ) {e : ℕ} (e-is : e ≡ spanOf t) {most m : ℕ}
+    {xs ys : List ℕ} (own : StoresFew most (exprErrors d names (nodeOf i t) (children i t)) xs m ys) where
+  pub expr-leaf : e ≤ 24 → Stores (expr d names (treeOf i t)) xs m ys
+  unfolding expr
+  expr-leaf h =
+      let no : length (kidsOf t) < 24 = omega (arith, length-kids t) in
+      let nothing : «visit_expr» d names (children i t) ≡ [] = rw (forest-none (i + 1) (kidsOf t) no) refl in
+      rw (nothing, append-nil) (own .stores)
 
-  -- all expressions of a stretch: none, or those of its first tree and those after it
-  pub expr-none : length t < 24 → Stores («visit_expr» d names (forest i t)) xs 0 xs
-  unfolding «visit_expr»
-  expr-none h = rw (forest-none i t h) (stores-none xs)
-
-  pub expr-on : 24 ≤ length t → {e a b c k m : ℕ} {ys zs vs : List ℕ} → e ≡ spanOf t
-      → Stores (exprErrors d names (nodeOf i t) (children i t)) xs a ys → k ≡ min (width * a) (length ys)
-      → Stores («visit_expr» d names (forest (i + 1) (made e t))) (take (length ys - k) (drop k ys)) b zs
-      → m ≡ min (width * (a + b)) (length (putMid k (length ys - k) ys zs))
-      → Stores («visit_expr» d names (forest (i + e / 24) (take (length t - e) (drop e t))))
-      (take (length (putMid k (length ys - k) ys zs) - m) (drop m (putMid k (length ys - k) ys zs))) c vs
-      → Stores («visit_expr» d names (forest i t)) xs (a + b + c)
-      (putMid m (length (putMid k (length ys - k) ys zs) - m) (putMid k (length ys - k) ys zs) vs)
-  unfolding «visit_expr»
-  expr-on big {e} e-is own k-is kids m-is rest =
-      let cut = each-cut (λ ts. «visit_expr» d names ts) i e t (λ u. expr d names u) (λ es fs. es ++ fs)
-      (λ u us. refl) big e-is in
-      rw cut (stores-both _ _ (stores-both _ _ own k-is (rw (kids-part e t e-is) at kids)) m-is rest)
+  pub expr-on : {few n at : ℕ} {zs : List ℕ} → at ≡ min (width * m) (length ys)
+      → StoresFew few («visit_expr» d names (forest (i + 1) (made e t))) (take (length ys - at) (drop at ys)) n zs
+      → Stores (expr d names (treeOf i t)) xs (m + n) (putMid at (length ys - at) ys zs)
+  unfolding expr
+  expr-on at-is z = stores-both _ _ (own .stores) at-is (rw (kids-part e t e-is) at (z .stores))

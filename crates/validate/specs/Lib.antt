@@ -1,2 +1,4 @@
+pub mod Params
 pub mod Module
 pub mod Job
+pub mod Inner

@@ -1,5 +1,6 @@
 -- The module pass: validate_module of src/syntax/validate.rs, over trees. These are definitions.
--- Copyright 2018 The Starlark in Rust Authors. Copyright (c) Facebook, Inc. and its affiliates. Licensed under Apache-2.0; changed.
+-- Copyright 2018 The Starlark in Rust Authors. Copyright (c) Facebook, Inc. and its affiliates.
+-- Licensed under Apache-2.0; changed.
 use mathlib.Core.Bool.{Bool, true, false, _&&_, _||_, not}
 use mathlib.Core.List.{List, [], _∷_, _++_}
 use Prim.Native.Nat.{ℕ}
@@ -8,54 +9,81 @@ use Rattle.fields.specs.Choice.{if'}
 use Rattle.dialect.specs.declared.Dialect.{Dialect}
 use Rattle.dialect.specs.Rows.{permitsTypes}
 use Rattle.forest.specs.Forest.{Node, Tree, node, Forest, none, _then_}
-use Rattle.soundness.specs.KindNumbers.{kindDef, kindFor, kindIf, kindIfElse, kindBreak, kindContinue, kindReturn, kindLoad, kindEllipsis, kindLambda}
+use Rattle.soundness.specs.KindNumbers.{kindDef, kindFor, kindIf, kindIfElse, kindBreak, kindContinue, kindReturn}
+use Rattle.soundness.specs.KindNumbers.{kindLoad, kindEllipsis, kindLambda}
 use Rattle.soundness.specs.Kinds.{statement, classOf}
-use Rattle.table.specs.Numbers.{defNotPermitted, topLevelFor, topLevelIf, breakMisplaced, continueMisplaced, returnMisplaced, loadNotAtTop, loadNotPermitted, ellipsisNotPermitted, lambdaNotPermitted}
+use Rattle.table.specs.Numbers.{defNotPermitted, topLevelFor, topLevelIf, breakMisplaced, continueMisplaced}
+use Rattle.table.specs.Numbers.{returnMisplaced, loadNotAtTop, loadNotPermitted, ellipsisNotPermitted}
+use Rattle.table.specs.Numbers.{lambdaNotPermitted}
 use Rattle.errors.specs.declared.Err.{Err}
 use Rattle.errors.specs.Errors.{errAt, unless}
-use Rattle.errors.specs.Params.{withParams}
+use Rattle.validate.specs.Params.{withParams}
+use Rattle.validate.specs.declared.Standing.{Standing}
+use Rattle.validate.specs.declared.Arm.{Arm}
+use Rattle.validate.specs.declared.Arm.the-variants.{Def, Load, Told, Below}
 
--- a def and its parameters
-abbrev pub defErrors : Dialect → List ℕ → Node → Forest → List Err
-defErrors d names r ks = withParams d names (d .«enable_def») defNotPermitted r ks
+-- where a statement stands: at top level or not, inside a for or not, inside a def or not
+abbrev pub standing : Bool → Bool → Bool → Standing
+standing top_level inside_for inside_def =
+    record { «top_level» = top_level; «inside_for» = inside_for; «inside_def» = inside_def }
+
+-- a module's statement, and the body of a def
+abbrev pub atTop : Standing
+atTop = standing true false false
+
+abbrev pub inDef : Standing
+inDef = standing false false true
 
 -- at the top level, a for or if needs a dialect that permits it
-abbrev pub isBanned : Dialect → Bool → Bool
-isBanned d top_level = top_level && not (d .«enable_top_level_stmt»)
+abbrev pub isBanned : Dialect → Standing → Bool
+isBanned d s = s .«top_level» && not (d .«enable_top_level_stmt»)
+
+-- an error and nothing below, or the statements below in their place
+abbrev pub toldIf : Bool → ℕ → Standing → Arm
+toldIf refused n below = if' refused (λ _. Told n) (λ _. Below below)
 
 -- If and IfElse
 abbrev pub isIf : ℕ → Bool
 isIf k = eqb k kindIf || eqb k kindIfElse
 
--- a load: 58, then 59
-abbrev pub loadErrors : Dialect → Bool → Node → List Err
-loadErrors d top_level r = unless top_level loadNotAtTop r ++ unless (d .«enable_load») loadNotPermitted r
+-- what is to be done at a statement of a kind: the arms of the inner f, with their guards
+unfoldable pub armOf : Dialect → Standing → ℕ → Arm
+armOf d s k =
+    if' (eqb k kindDef) (λ _. Def) (λ _.
+    if' (eqb k kindFor) (λ _. toldIf (isBanned d s) topLevelFor (standing false true (s .«inside_def»))) (λ _.
+    if' (isIf k) (λ _. toldIf (isBanned d s) topLevelIf (standing false (s .«inside_for») (s .«inside_def»))) (λ _.
+    if' (eqb k kindBreak && not (s .«inside_for»)) (λ _. Told breakMisplaced) (λ _.
+    if' (eqb k kindContinue && not (s .«inside_for»)) (λ _. Told continueMisplaced) (λ _.
+    if' (eqb k kindReturn && not (s .«inside_def»)) (λ _. Told returnMisplaced) (λ _.
+    if' (eqb k kindLoad) (λ _. Load) (λ _.
+    Below s)))))))
 
--- the arms of the inner f: what a statement is told at top level or not, inside a for or not, inside a def or not;
--- visit gives what the statements below it are told, in places of the same three sorts
-unfoldable pub arms : Dialect → List ℕ → Bool → Bool → Bool → Node → Forest → (Bool → Bool → Bool → List Err) → List Err
-arms d names top_level inside_for inside_def r ks visit =
-    if' (eqb (r .kind) kindDef) (λ _. defErrors d names r ks ++ visit false false true) (λ _.
-    if' (eqb (r .kind) kindFor) (λ _. if' (isBanned d top_level) (λ _. errAt topLevelFor r ∷ []) (λ _. visit false true inside_def)) (λ _.
-    if' (isIf (r .kind)) (λ _. if' (isBanned d top_level) (λ _. errAt topLevelIf r ∷ []) (λ _. visit false inside_for inside_def)) (λ _.
-    if' (eqb (r .kind) kindBreak && not inside_for) (λ _. errAt breakMisplaced r ∷ []) (λ _.
-    if' (eqb (r .kind) kindContinue && not inside_for) (λ _. errAt continueMisplaced r ∷ []) (λ _.
-    if' (eqb (r .kind) kindReturn && not inside_def) (λ _. errAt returnMisplaced r ∷ []) (λ _.
-    if' (eqb (r .kind) kindLoad) (λ _. loadErrors d top_level r) (λ _.
-    visit top_level inside_for inside_def)))))))
+-- a def and its parameters
+abbrev pub defErrors : Dialect → List ℕ → Node → Forest → List Err
+defErrors d names r ks = withParams d names (d .«enable_def») defNotPermitted r ks
+
+-- a load: 58, then 59
+abbrev pub loadErrors : Dialect → Standing → Node → List Err
+loadErrors d s r = unless (s .«top_level») loadNotAtTop r ++ unless (d .«enable_load») loadNotPermitted r
+
+-- what a statement is told, by its arm; visit gives what the statements below it are told in a place
+abbrev pub onArm : Dialect → List ℕ → Standing → Node → Forest → (Standing → List Err) → Arm → List Err
+onArm d names s r ks visit Def = defErrors d names r ks ++ visit inDef
+onArm d names s r ks visit Load = loadErrors d s r
+onArm d names s r ks visit (Told n) = errAt n r ∷ []
+onArm d names s r ks visit (Below p) = visit p
 
 -- a statement, and the statements among nodes side by side, in turn; a node that is no statement is told nothing
 unfoldable mutual
-  pub f : Dialect → List ℕ → Bool → Bool → Bool → Tree → List Err
-  f d names top_level inside_for inside_def (node r ks) =
+  pub f : Dialect → List ℕ → Standing → Tree → List Err
+  f d names s (node r ks) =
       if' (eqb (classOf (r .kind)) statement)
-      (λ _. arms d names top_level inside_for inside_def r ks (λ x y z. «visit_stmt» d names x y z ks))
+      (λ _. onArm d names s r ks (λ p. «visit_stmt» d names p ks) (armOf d s (r .kind)))
       (λ _. [])
 
-  pub «visit_stmt» : Dialect → List ℕ → Bool → Bool → Bool → Forest → List Err
-  «visit_stmt» d names top_level inside_for inside_def none = []
-  «visit_stmt» d names top_level inside_for inside_def (t then ts) =
-      f d names top_level inside_for inside_def t ++ «visit_stmt» d names top_level inside_for inside_def ts
+  pub «visit_stmt» : Dialect → List ℕ → Standing → Forest → List Err
+  «visit_stmt» d names s none = []
+  «visit_stmt» d names s (t then ts) = f d names s t ++ «visit_stmt» d names s ts
 
 -- what an expression is told by itself: `...`, or a lambda and its parameters
 unfoldable pub exprErrors : Dialect → List ℕ → Node → Forest → List Err
@@ -75,4 +103,4 @@ unfoldable mutual
 
 -- a module: its statement at top level, then all expressions
 unfoldable pub «validate_module» : Dialect → List ℕ → Forest → List Err
-«validate_module» d names ts = «visit_stmt» d names true false false ts ++ «visit_expr» d names ts
+«validate_module» d names ts = «visit_stmt» d names atTop ts ++ «visit_expr» d names ts

@@ -3,6 +3,7 @@
 // Ported from src/syntax/validate.rs of starlark_syntax 0.14.2 (validate_module), and changed: a module is a node table, and errors go into a lent list.
 // Copyright 2018 The Starlark in Rust Authors. Copyright (c) Facebook, Inc. and its affiliates. Licensed under Apache-2.0.
 mod expressions;
+mod params;
 mod statements;
 
 use dialect::Dialect;
@@ -21,6 +22,27 @@ ghost use Rattle.validate.specs.Job.{listed, passErrors, moduleOf, error
 pub enum Listed {
     Total(u32),
     Refused(Refusal),
+}
+
+// Where a statement stands.
+pub(crate) struct Standing {
+    pub top_level: bool,
+    pub inside_for: bool,
+    pub inside_def: bool,
+}
+
+// What is to be done at a statement.
+pub(crate) enum Arm {
+    Def, // a def: what it is told itself, then its body
+    Load, // a load: what it is told, and nothing below
+    Told(u32), // one error, and nothing below
+    Below(Standing), // the statements below, in that place
+}
+
+// A mark in a parameter list that a dialect may not permit.
+pub(crate) enum Mark {
+    Star, // the bare `*`
+    Slash,
 }
 
 // The module job. A list that is too short for all errors holds the first that fit whole, and is no refusal.
@@ -60,7 +82,12 @@ fn validate_module(d: Dialect, names: &[u8], table: &[u8], errors: &mut [u32]) -
     requires { ⌜ length (now table) ≤ 50400 ⌝ }
     ensures { λ r. ⌜ Stores («validate_module» d (now (names .entry)) (forest 0 (now (table .entry)))) (now (errors .entry)) r (now (errors .exit)) ⌝ }
 {
-    let first = statements::visit_stmt(d, names, table, 0, true, false, false, errors);
+    let top = Standing {
+        top_level: true,
+        inside_for: false,
+        inside_def: false,
+    };
+    let first = statements::visit_stmt(d, names, table, 0, top, errors);
     let at = errors::free(errors.len(), first);
     let rest = expressions::visit_expr(d, names, table, 0, &mut errors[at..]);
     first + rest

@@ -8,7 +8,7 @@ pub push-unless-spec : {M : Type 1} → statement M
 push-unless-spec =
     tie.close
     (tie.spec
-    (λ c. unless-permitted _ _ (c .if1 .taken))  -- returns
+    (λ c. search unless-permitted)  -- returns
     (λ c κs. search needs)
     (λ c. search needs)
     (λ c. search unless-not))  -- returns-2

@@ -1,6 +1,4 @@
 -- `validate::validate_module` meets its contract: the statements, then the expressions. Assumes nothing.
-use native.Mathlib.Omega.{arith}
-use Rattle.validate.proofs.Walks.{visit-short, expr-short}
 use Rattle.validate.proofs.Jobs.{module-all}
 use borrow.Author.Needs.{needs}
 use Rattle.validate.proofs.validate_module.Statement.{statement}
@@ -17,6 +15,6 @@ validate-module-spec =
     (λ c. search needs)
     (λ c. search needs)
     (λ c κs. search needs)
-    (λ c. omega (arith, visit-short, expr-short))  -- add-result
+    (λ c. search needs)
     (λ c. search needs)
     (λ c. search module-all))  -- returns

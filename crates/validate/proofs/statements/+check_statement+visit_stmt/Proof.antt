@@ -1,11 +1,14 @@
--- `validate::statements::check_statement` and `validate::statements::visit_stmt` meet their contracts: the arms of f, and nodes side by side in turn. Assumes nothing.
+-- `validate::statements::check_statement` and `visit_stmt` meet their contracts: what is to be done at a statement, and the
+-- statements side by side in turn. Assumes nothing.
 use native.Mathlib.Omega.{arith}
-use borrow.Author.Needs.{needs}
 use lib.ListN.{length}
 use Prim.Native.Nat.{_+_, _*_}
-use Rattle.validate.proofs.Walks.{with-count, f-short, visit-part-short, visit-none, visit-on, f-none, f-def}
-use Rattle.validate.proofs.Walks.{f-for-banned, f-for, f-if-banned, f-if, f-break, f-continue, f-return}
-use Rattle.validate.proofs.Walks.{f-load, f-other}
+use borrow.Author.Tests.{not-true, not-false}
+use Rattle.forest.specs.Forest.{forest}
+use Rattle.validate.specs.Module.{f, «visit_stmt»}
+use Rattle.validate.proofs.Walks.{statements, Visiting, each-start, each-on, each-long, each-end, f-short, f-none, f-def, f-load}
+use Rattle.validate.proofs.Walks.{f-told, f-below}
+use borrow.Author.Needs.{needs}
 use Prim.Native.Nat.{ℕ, _<_}
 use borrow.Fn.Kinds.{In}
 use borrow.Fn.PlainCycle.{Measures, is, falls, and}
@@ -19,10 +22,9 @@ use Rattle.errors.proofs.free.Reads as free-reads
 use Rattle.errors.proofs.push_at.Reads as push-at-reads
 use Rattle.forest.proofs.kind.Reads as kind-reads
 use Rattle.forest.proofs.span.Reads as span-reads
-use Rattle.table.proofs.class.Reads as class-reads
-use Rattle.validate.proofs.statements.def_errors.Reads as def-errors-reads
-use Rattle.validate.proofs.statements.is_banned.Reads as is-banned-reads
-use Rattle.validate.proofs.statements.is_if.Reads as is-if-reads
+use Rattle.validate.proofs.params.with_params.Reads as with-params-reads
+use Rattle.validate.proofs.statements.arm_of.Reads as arm-of-reads
+use Rattle.validate.proofs.statements.is_statement.Reads as is-statement-reads
 use Rattle.validate.proofs.statements.load_errors.Reads as load-errors-reads
 use Rattle.validate.proofs.statements.+check_statement+visit_stmt.{statement}
 use Rattle.validate.proofs.statements.+check_statement+visit_stmt.Tie.{close}
@@ -57,108 +59,100 @@ abbrev visit-stmt-below : ℕ → In 3 visit-stmt-kinds.ps
 visit-stmt-below t =
     and 3 visit-stmt-kinds.ps (falls 3 visit-stmt-kinds.ps _<_ μ-visit-stmt t) visit-stmt.Pre
 
+abbrev visit-stmt-Inv-loop : visit-stmt-lts.InvT-loop
+visit-stmt-Inv-loop d names t at s errors₀ left₀ place₀ total₀ errors left place total =
+    Visiting («visit_stmt» d names s) (f d names s) («visit_stmt» d names s (forest at t)) t errors₀ left place total errors
+
+abbrev visit-stmt-μ-loop : visit-stmt-lts.MeasureT-loop
+visit-stmt-μ-loop d names t at s errors₀ left₀ place₀ total₀ errors left place total = length left
+
 pub +check-statement+visit-stmt-spec : {M : Type 1} → statement M
 +check-statement+visit-stmt-spec =
     close μ-check-statement μ-visit-stmt (λ t. check-statement-lts.spec (
-      class-reads.Asked,
-      class-reads.Learnt,
       kind-reads.Asked,
       kind-reads.Learnt,
+      is-statement-reads.Asked,
+      is-statement-reads.Learnt,
       span-reads.Asked,
       span-reads.Learnt,
-      def-errors-reads.Asked,
-      def-errors-reads.Learnt,
+      arm-of-reads.Asked,
+      arm-of-reads.Learnt,
+      with-params-reads.Asked,
+      with-params-reads.Learnt,
       free-reads.Asked,
       free-reads.Learnt,
       visit-stmt-below t,
       visit-stmt.Post,
-      is-banned-reads.Asked,
-      is-banned-reads.Learnt,
-      push-at-reads.Asked,
-      push-at-reads.Learnt,
-      is-if-reads.Asked,
-      is-if-reads.Learnt,
       load-errors-reads.Asked,
       load-errors-reads.Learnt,
+      push-at-reads.Asked,
+      push-at-reads.Learnt,
     )
     (check-statement-at t)
     check-statement.Post
     (λ c κs. search needs)
-    (λ c. search f-none)  -- returns
+    (λ c κs. search needs)
+    (λ c. search (f-none, not-true))  -- returns
+    (λ c κs. search needs)
+    (λ c κs. search needs)
+    (λ c. search needs)
+    (λ c. search needs)
     (λ c κs. search needs)
     (λ c κs. search needs)
     (λ c. search needs)
     (λ c. search needs)
     (λ c. search needs)
-    (λ c κs. search needs)
-    (λ c κs. search needs)
     (λ c. search needs)
     (λ c. search needs)
     (λ c. search needs)
     (λ c. search needs)
     (λ c. search needs)
     (λ c κs. search needs)
-    (λ c. omega (arith, with-count, visit-part-short))  -- add-result
     (λ c. search needs)
-    (λ c. search f-def)  -- returns-2
-    (λ c κs. search needs)
-    (λ c κs. search needs)
-    (λ c. search needs)
-    (λ c. search f-for-banned)  -- returns-3
     (λ c. search needs)
     (λ c κs. search needs)
     (λ c. search needs)
-    (λ c. search f-for)  -- returns-4
-    (λ c κs. search needs)
-    (λ c κs. search needs)
     (λ c κs. search needs)
     (λ c. search needs)
-    (λ c. search f-if-banned)  -- returns-5
     (λ c. search needs)
-    (λ c κs. search needs)
     (λ c. search needs)
-    (λ c. search f-if)  -- returns-6
-    (λ c κs. search needs)
     (λ c. search needs)
-    (λ c. search f-break)  -- returns-7
-    (λ c κs. search needs)
-    (λ c. search needs)
-    (λ c. search f-continue)  -- returns-8
-    (λ c κs. search needs)
-    (λ c. search needs)
-    (λ c. search f-return)  -- returns-9
-    (λ c κs. search needs)
-    (λ c. search needs)
-    (λ c. search f-load)  -- returns-10
     (λ c. search needs)
     (λ c κs. search needs)
     (λ c. search needs)
-    (λ c. search f-other))  -- returns-11
+    (λ c. search (f-def, not-false))  -- returns-2
+    (λ c. search needs)
+    (λ c. search (f-load, not-false))  -- returns-3
+    (λ c. search needs)
+    (λ c. search (f-told, not-false))  -- returns-4
+    (λ c. search needs)
+    (λ c. search (f-below, not-false)))  -- returns-5
     λ t. visit-stmt-lts.spec (
-      check-statement-below t,
-      check-statement.Post,
       free-reads.Asked,
       free-reads.Learnt,
+      check-statement-below t,
+      check-statement.Post,
       span-reads.Asked,
       span-reads.Learnt,
-      visit-stmt-below t,
-      visit-stmt.Post,
     )
     (visit-stmt-at t)
     visit-stmt.Post
-    (λ c. search visit-none)  -- returns
+    visit-stmt-Inv-loop
+    visit-stmt-μ-loop
+    (λ c. each-start (statements _ _ _) (search needs))
     (λ c κs. search needs)
-    (λ c κs. search needs)
-    (λ c κs. search needs)
-    (λ c. search needs)
-    (λ c. search needs)
-    (λ c. search needs)
-    (λ c. search needs)
     (λ c. search needs)
     (λ c. search needs)
     (λ c. search needs)
     (λ c. search needs)
     (λ c κs. search needs)
-    (λ c. omega (arith, f-short, visit-part-short))  -- add-result
+    (λ c. omega (arith, f-short))  -- add-total
+    (λ c κs. search needs)
     (λ c. search needs)
-    (λ c. search visit-on)  -- returns-2
+    (λ c. search needs)
+    (λ c. search needs)
+    (λ c. search needs)
+    (λ c. search needs)
+    (λ c. search each-on)  -- loop-again
+    (λ c. search each-long)  -- same-length
+    (λ c. search each-end)  -- returns

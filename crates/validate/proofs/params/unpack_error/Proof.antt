@@ -1,8 +1,8 @@
--- `errors::params::unpack_error` meets its contract: what unpack says of the list. Assumes nothing.
-use Rattle.errors.proofs.Lists.{error-none, error-one}
+-- `validate::params::unpack_error` meets its contract: what unpack says of the list. Assumes nothing.
+use Rattle.validate.proofs.Lists.{error-none, error-one}
 use borrow.Author.Needs.{needs}
-use Rattle.errors.proofs.params.unpack_error.Statement.{statement}
-use Rattle.errors.proofs.params.unpack_error.Tie as tie
+use Rattle.validate.proofs.params.unpack_error.Statement.{statement}
+use Rattle.validate.proofs.params.unpack_error.Tie as tie
 
 pub unpack-error-spec : {M : Type 1} → statement M
 unpack-error-spec =

@@ -1,6 +1,6 @@
 -- The parameters of a def or lambda in the module pass: validate_params of src/syntax/validate.rs. These are definitions.
 -- Copyright 2018 The Starlark in Rust Authors. Copyright (c) Facebook, Inc. and its affiliates. Licensed under Apache-2.0; changed.
-use mathlib.Core.Bool.{Bool, true, false}
+use mathlib.Core.Bool.{Bool, true, false, not}
 use mathlib.Core.List.{List, [], _∷_, _++_}
 use Prim.Native.Nat.{ℕ}
 use Rattle.fields.specs.Choice.{if'}
@@ -12,10 +12,10 @@ use Rattle.deflist.specs.Unpack.{isSlash, Outcome, accepted, refused, internal,
 use Rattle.deflist.specs.Told.{internalError}
 use Rattle.deflist.specs.declared.Kind.{Kind}
 use Rattle.deflist.specs.declared.Kind.the-variants.{Normal, NoArgs, Slash, Args, KwArgs}
 use Rattle.errors.specs.declared.Err.{Err}
 use Rattle.errors.specs.Errors.{errAt, unless}
-use Rattle.errors.specs.declared.Mark.{Mark}
-use Rattle.errors.specs.declared.Mark.the-variants.{Star, Slash as SlashMark}
+use Rattle.validate.specs.declared.Mark.{Mark}
+use Rattle.validate.specs.declared.Mark.the-variants.{Star, Slash as SlashMark}
 
 -- which parameters are a mark: the bare `*`, or `/`
 abbrev pub isNoArgs : Kind → Bool
@@ -38,10 +38,13 @@ abbrev pub notPermitted : Mark → ℕ
 notPermitted Star = starNotPermitted
 notPermitted SlashMark = slashNotPermitted
 
--- an error at every mark of a sort, and none where the dialect permits it
+-- an error at a parameter that is a mark of a sort; at every one; and none where the dialect permits it
+abbrev pub markError : Mark → Node → Kind → List Err
+markError m r k = unless (not (isMark m k)) (notPermitted m) r
+
 unfoldable pub everyMark : Mark → List Param → List Err
 everyMark m [] = []
-everyMark m (p ∷ ps) = if' (isMark m (kindIn p)) (λ _. errAt (notPermitted m) (nodeIn p) ∷ everyMark m ps) (λ _. everyMark m ps)
+everyMark m (p ∷ ps) = markError m (nodeIn p) (kindIn p) ++ everyMark m ps
 
 abbrev pub marks : Dialect → Mark → List Param → List Err
 marks d m ps = if' (permits d m) (λ _. []) (λ _. everyMark m ps)

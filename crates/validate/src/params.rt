@@ -1,0 +1,154 @@
+// The parameters of a def or lambda in the module pass.
+//
+// Ported from src/syntax/validate.rs of starlark_syntax 0.14.2 (validate_params), and changed: the list is a stretch of
+// the node table.
+// Copyright 2018 The Starlark in Rust Authors. Copyright (c) Facebook, Inc. and its affiliates.
+// Licensed under Apache-2.0.
+use crate::Mark;
+use deflist::Fault;
+use deflist::Judged;
+use deflist::Kind;
+use deflist::entry;
+use dialect::Dialect;
+use errors::Err;
+use table::numbers;
+ghost use mathlib.Core.Path.{_≡_};
+ghost use mathlib.Core.List.{[]};
+ghost use Prim.Native.Nat.{_+_, _/_};
+ghost use lib.ListN.{length};
+ghost use Rattle.forest.specs.Forest.{nodeOf, kidsOf, forest};
+ghost use Rattle.deflist.specs.Written.{paramsIn, written};
+ghost use Rattle.deflist.specs.Unpack.{unpack};
+ghost use Rattle.deflist.specs.Reading.{kindHere};
+ghost use Rattle.errors.specs.Errors.{err};
+ghost use Rattle.validate.specs.Inner.{StoresFew};
+ghost use Rattle.validate.specs.Params.{isNoArgs, isMark, permits, notPermitted, markError, everyMark, marks};
+ghost use Rattle.validate.specs.Params.{unpackError, «validate_params», withParams};
+
+// What may not be in this dialect, then the parameters of the node that a stretch begins with.
+pub(crate) fn with_params(
+    permitted: bool,
+    number: u32,
+    d: Dialect,
+    names: &[u8],
+    t: &[u8],
+    at: u32,
+    errors: &mut [u32],
+) -> usize
+    ensures { λ r. ⌜ StoresFew (2 + length (now (t .entry)) / 24) (withParams d (now (names .entry)) permitted number (nodeOf at (now (t .entry))) (forest (at + 1) (kidsOf (now (t .entry))))) (now (errors .entry)) r (now (errors .exit)) ⌝ }
+{
+    let first = errors::push_unless(permitted, number, t, errors);
+    let free = errors::free(errors.len(), first);
+    let rest = validate_params(d, names, t, at, &mut errors[free..]);
+    first + rest
+}
+
+// Every `*` and then every `/` that is not permitted, then unpack's one error.
+fn validate_params(d: Dialect, names: &[u8], t: &[u8], at: u32, errors: &mut [u32]) -> usize
+    ensures { λ r. ⌜ StoresFew (1 + length (now (t .entry)) / 24) («validate_params» d (written (now (names .entry)) at (now (t .entry)))) (now (errors .entry)) r (now (errors .exit)) ⌝ }
+{
+    let list = deflist::children(t);
+    let stars = marks_of(d, Mark::Star, list, errors);
+    let after_stars = errors::free(errors.len(), stars);
+    let slashes = marks_of(d, Mark::Slash, list, &mut errors[after_stars..]);
+    let after_marks = errors::free(errors.len(), stars + slashes);
+    let last = unpack_error(names, t, at, &mut errors[after_marks..]);
+    stars + slashes + last
+}
+
+// unpack's one error, if it has one.
+fn unpack_error(names: &[u8], t: &[u8], at: u32, errors: &mut [u32]) -> usize
+    ensures { λ r. ⌜ StoresFew 1 (unpackError (unpack (written (now (names .entry)) at (now (t .entry))))) (now (errors .entry)) r (now (errors .exit)) ⌝ }
+{
+    let judged = deflist::judge(names, t, at);
+    match judged {
+        Judged::Accepted(_) => 0,
+        Judged::Refused(f) => errors::push(error_of(f), errors),
+    }
+}
+
+// unpack's refusal as an error.
+fn error_of(f: Fault) -> Err
+    ensures { λ r. ⌜ r ≡ err (f .number) (f .span) ⌝ }
+{
+    let span = f.span;
+    Err {
+        number: f.number,
+        span: span,
+    }
+}
+
+// Every mark of a sort in a list, unless the dialect permits it. Names and indices do not matter to it.
+fn marks_of(d: Dialect, mark: Mark, list: &[u8], errors: &mut [u32]) -> usize
+    ensures { λ r. ⌜ StoresFew (length (now (list .entry)) / 24) (marks d mark (paramsIn [] (forest 0 (now (list .entry))))) (now (errors .entry)) r (now (errors .exit)) ⌝ }
+{
+    if permitted(d, mark) {
+        return 0;
+    }
+    every_mark(mark, list, errors)
+}
+
+// Every mark of a sort in a list.
+fn every_mark(mark: Mark, list: &[u8], errors: &mut [u32]) -> usize
+    ensures { λ r. ⌜ StoresFew (length (now (list .entry)) / 24) (everyMark mark (paramsIn [] (forest 0 (now (list .entry))))) (now (errors .entry)) r (now (errors .exit)) ⌝ }
+{
+    let mut left = list;
+    let mut total = 0;
+    while entry::listed(left) {
+        let free = errors::free(errors.len(), total);
+        total += mark_error(mark, left, &mut errors[free..]);
+        let e = forest::span(left);
+        left = &left[e..];
+    }
+    total
+}
+
+// The parameter that a stretch begins with, if it is a mark of a sort.
+fn mark_error(mark: Mark, t: &[u8], errors: &mut [u32]) -> usize
+    ensures { λ r. ⌜ StoresFew 1 (markError mark (nodeOf 0 (now (t .entry))) (kindHere (now (t .entry)))) (now (errors .entry)) r (now (errors .exit)) ⌝ }
+{
+    let other = !is_mark(mark, entry::kind_of(t));
+    errors::push_unless(other, number_of(mark), t, errors)
+}
+
+// Whether a parameter is a mark of a sort.
+fn is_mark(mark: Mark, kind: Kind) -> bool
+    ensures { λ r. ⌜ r ≡ isMark mark kind ⌝ }
+{
+    match mark {
+        Mark::Star => is_star(kind),
+        Mark::Slash => entry::is_slash(kind),
+    }
+}
+
+fn is_star(kind: Kind) -> bool
+    ensures { λ r. ⌜ r ≡ isNoArgs kind ⌝ }
+{
+    match kind {
+        Kind::Normal(_) => false,
+        Kind::NoArgs => true,
+        Kind::Slash => false,
+        Kind::Args => false,
+        Kind::KwArgs => false,
+    }
+}
+
+// The switch of a mark.
+fn permitted(d: Dialect, mark: Mark) -> bool
+    ensures { λ r. ⌜ r ≡ permits d mark ⌝ }
+{
+    match mark {
+        Mark::Star => d.enable_keyword_only_arguments,
+        Mark::Slash => d.enable_positional_only_arguments,
+    }
+}
+
+// The number of a mark that is not permitted.
+fn number_of(mark: Mark) -> u32
+    ensures { λ r. ⌜ r ≡ notPermitted mark ⌝ }
+{
+    match mark {
+        Mark::Star => numbers::STAR_NOT_PERMITTED,
+        Mark::Slash => numbers::SLASH_NOT_PERMITTED,
+    }
+}
