@@ -1,5 +1,6 @@
--- "Too many parameters" (def.rs:171) and the unwraps (280, 305, 346) turn numbers into u32: the written position of `/`, the flat count and
--- num_positional on the way. In no list, accepted or refused, is any of them larger than the list is long. Assumes nothing.
+-- "Too many parameters" (def.rs:171) and the unwraps (280, 305, 346) turn numbers into u32: the written position of
+-- `/`, the flat count and num_positional on the way. In no list, accepted or refused, is any of them larger than the
+-- list is long. Assumes nothing.
 use mathlib.Core.Path.{_≡_, refl}
 use mathlib.Core.Bool.{Bool, true, false}
 use mathlib.Core.List.{List, [], _∷_, _++_}
@@ -59,7 +60,8 @@ through-bounded n k g before u (p ∷ ps) clear b h = (
         (rest _ _ (clear-on before u p ps clear f) more (omega (arith, long)))
     go (Broken m) f rest = rw (step-stop before u p ps f) tt
 
--- THEOREM: in every list, accepted or refused, each number that unpack counts is at most the length of the list, in every state
+-- THEOREM: in every list, accepted or refused, each number that unpack counts is at most the length of the list, in
+-- every state
 pub counted-at-most : (l : List Param) → AllAtMost (length l) (reached l)
 unfolding reached AllAtMost
 counted-at-most [] = through-bounded 0 0 (omega arith) [] (start (flatAt 0)) [] (clear-start (flatAt 0))

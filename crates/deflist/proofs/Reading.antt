@@ -17,7 +17,7 @@ use Rattle.forest.proofs.Stretch.{node-take, forest-none, forest-tree, rest-par
 use Rattle.soundness.specs.Kinds.{parameter, classOf}
 use Rattle.deflist.specs.Written.{Param, nodeIn, kindIn, param, paramOf, paramsIn, kindAt}
 use Rattle.deflist.specs.Unpack.{hasName, firstSame, isSlash, slashFrom, firstSlash, writtenAt}
-use Rattle.deflist.specs.Reading.{isListed, kindHere}
+use Rattle.deflist.specs.Reading.{isListed, kindHere, SlashAt, Skips}
 use Rattle.deflist.specs.declared.Written.{Written}
 use Rattle.deflist.specs.declared.Kind.{Kind}
 use Rattle.deflist.specs.declared.Kind.the-variants.{Normal, NoArgs, Slash, Args, KwArgs}
@@ -238,15 +238,16 @@ module _ {kids left : List ℕ} {n : ℕ} (s : Slashing kids left n) where
               rw (read-on (s .reads ns i) yes e-is .rest) (rw miss at (slash-one l-yes e-is ns i));
         })
 
-    pub slash-end : l ≡ false → (ns : List ℕ) (i : ℕ) → NoWritten ≡ firstSlash (paramsIn ns (forest i kids))
+    pub slash-end : l ≡ false → SlashAt kids NoWritten
     unfolding slashFrom
-    slash-end l-no ns i = rw (read-end (s .reads ns i) (sym l-is ∙ l-no)) at (s .same ns i)
+    slash-end l-no = record { first = λ ns i. rw (read-end (s .reads ns i) (sym l-is ∙ l-no)) at (s .same ns i) }
 
 -- the same of a position that is a struct
 pub slash-at : {kids left : List ℕ} (w : Written) → Slashing kids left (w .0) → {l : Bool} → l ≡ isListed left
     → l ≡ true → {k : Kind} {b : Bool} → k ≡ kindHere left → b ≡ isSlash k → b ≡ true
-    → (ns : List ℕ) (i : ℕ) → AtWritten w ≡ firstSlash (paramsIn ns (forest i kids))
-slash-at w s l-is l-yes k-is b-is b-yes ns i = slash-here s l-is l-yes k-is b-is b-yes ns i
+    → SlashAt kids (AtWritten w)
+slash-at w s l-is l-yes k-is b-is b-yes =
+    record { first = λ ns i. slash-here s l-is l-yes k-is b-is b-yes ns i }
 
 -- Stepping over n parameters: i are stepped over, and they take at bytes
 pub record Skipping (kids : List ℕ) (n at i : ℕ) : Type 0 where
@@ -288,6 +289,6 @@ module _ {kids : List ℕ} {n at i : ℕ} (s : Skipping kids n at i) where
             rw (index, left) (read-on (s .reads ns j most) listed here);
       }
 
-  pub skip-end : n ≤ i → (ns : List ℕ) (j : ℕ) → n ≤ length (paramsIn ns (forest j kids))
-      → drop n (paramsIn ns (forest j kids)) ≡ paramsIn ns (forest (j + at / 24) (drop at kids))
-  skip-end h ns j most = let same : i ≡ n = omega (arith, s .upto) in rw same at (s .reads ns j most .rest)
+  pub skip-end : n ≤ i → Skips kids n at
+  skip-end h = let same : i ≡ n = omega (arith, s .upto) in
+      record { within = s .inside; rest = λ ns j most. rw same at (s .reads ns j most .rest) }

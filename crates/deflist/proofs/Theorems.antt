@@ -1,5 +1,6 @@
--- What def.rs leaves to the reader: its internal errors never arise, whatever the list; and what is counted is no more than the list is long,
--- so that "Too many parameters" (def.rs:171) and the unwraps (280, 305, 346) cannot fire in a table of 2,100 nodes. Assumes nothing.
+-- What def.rs leaves to the reader: its internal errors never arise, whatever the list; and what is counted is no more
+-- than the list is long, so that "Too many parameters" (def.rs:171) and the unwraps (280, 305, 346) cannot fire in a
+-- table of 2,100 nodes. Assumes nothing.
 use mathlib.Core.Path.{_≡_, refl, sym, ap, _∙_}
 use mathlib.Core.Bool.{Bool, true, false}
 use mathlib.Core.List.{List, [], _∷_, _++_}

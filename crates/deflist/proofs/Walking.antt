@@ -16,12 +16,13 @@ use Rattle.forest.specs.declared.Found.the-variants.{At, Nothing}
 use Rattle.table.specs.Numbers.{slashFirst, duplicatedParameter, starLast, noNormalAfterStar}
 use Rattle.deflist.specs.Written.{Name, Param, normal, noArgs, slash, args, kwargs, nodeIn, kindIn, param}
 use Rattle.deflist.specs.Written.{paramOf, paramsIn, written}
-use Rattle.deflist.specs.Unpack.{writtenAt, firstSame, repeats, rule, check, advance}
+use Rattle.deflist.specs.Unpack.{writtenAt, firstSame, repeats, rule, advance}
 use Rattle.deflist.specs.Unpack.{nextStar, start, slashFrom, firstSlash, positionalOnly, isSlash, normalNext}
 use Rattle.deflist.specs.Unpack.{fromStar, finish, Outcome, accepted, refused, run, unpack}
 use Rattle.deflist.specs.Told.{fault, told}
-use Rattle.deflist.specs.Reading.{isListed, kindHere, beginsWithSlash, isNamed, isNormal, StarIn, Inside}
-use Rattle.deflist.specs.Reading.{Bounded}
+use Rattle.deflist.specs.Reading.{isListed, kindHere, beginsWithSlash, isNamed, isNormal, StarIn, Inside, Skips}
+use Rattle.deflist.specs.Reading.{Finishes}
+use Rattle.deflist.specs.Reading.{Checks, Says, SlashAt, Bounded}
 use Rattle.deflist.specs.declared.Kind.{Kind}
 use Rattle.deflist.specs.declared.Kind.the-variants.{Normal, NoArgs, Slash, Args, KwArgs}
 use Rattle.deflist.specs.declared.State.{State}
@@ -71,15 +72,17 @@ module _ (ns : List ℕ) (before : List Param) (left : List ℕ) {k : Kind} (k-i
 -- 11 before the rule of the kind
 module _ (ns : List ℕ) (before : List Param) (left : List ℕ) (s : State) (o : Bool) {k : Kind}
     (k-is : k ≡ kindHere left) {f : Found} (f-is : (i : ℕ) → f ≡ repeats before (paramOf ns (nodeOf i left))) where
-  pub check-found : {j : ℕ} → f ≡ At j → (i : ℕ)
-      → Broken duplicatedParameter ≡ check before s o (paramOf ns (nodeOf i left))
-  check-found e i = let h : repeats before (paramOf ns (nodeOf i left)) ≡ At _ = sym (f-is i) ∙ e in rw h refl
+  pub check-found : {j : ℕ} → f ≡ At j → Checks ns before s o left (Broken duplicatedParameter)
+  check-found e = record {
+    says = λ i. let h : repeats before (paramOf ns (nodeOf i left)) ≡ At _ = sym (f-is i) ∙ e in rw h refl;
+  }
 
-  pub check-rule : f ≡ Nothing → {c : Check} → c ≡ rule s o k → (i : ℕ)
-      → c ≡ check before s o (paramOf ns (nodeOf i left))
-  check-rule e c-is i =
-      let h : repeats before (paramOf ns (nodeOf i left)) ≡ Nothing = sym (f-is i) ∙ e in
-      rw h (c-is ∙ ap (rule s o) (k-is ∙ sym (kind-in ns i left)))
+  pub check-rule : f ≡ Nothing → {c : Check} → c ≡ rule s o k → Checks ns before s o left c
+  check-rule e c-is = record {
+    says = λ i.
+        let h : repeats before (paramOf ns (nodeOf i left)) ≡ Nothing = sym (f-is i) ∙ e in
+        rw h (c-is ∙ ap (rule s o) (k-is ∙ sym (kind-in ns i left)));
+  }
 
 -- 17 and 18
 normal-next : (p : Param) (o : Outcome) → isNormal (kindIn p) ≡ true → normalNext p o ≡ o
@@ -98,10 +101,7 @@ other-next (args r n) o e = refl
 other-next (kwargs r n) o e = refl
 
 module _ (kids : List ℕ) (first : ℕ) (star : Written) (c : Counts) {at e : ℕ}
-    (inside : at ≤ length kids)
-    (skips : (ns : List ℕ) (i : ℕ) → star .0 ≤ length (paramsIn ns (forest i kids))
-    → drop (star .0) (paramsIn ns (forest i kids)) ≡ paramsIn ns (forest (i + at / 24) (drop at kids)))
-    (e-is : e ≡ spanOf (take (length kids - at) (drop at kids))) where
+    (skips : Skips kids (star .0) at) (e-is : e ≡ spanOf (take (length kids - at) (drop at kids))) where
   abbrev here : List ℕ
   here = take (length kids - at) (drop at kids)
 
@@ -109,11 +109,11 @@ module _ (kids : List ℕ) (first : ℕ) (star : Written) (c : Counts) {at e : �
   after = take (length here - e) (drop e here)
 
   long : length here ≡ length kids - at
-  long = simp (length-take, length-drop) (omega arith)
+  long = simp (length-take, length-drop) (omega (arith, skips .within))
 
   from-star : (ns : List ℕ) → star .0 < length (paramsIn ns (forest first kids))
       → drop (star .0) (paramsIn ns (forest first kids)) ≡ paramsIn ns (forest (first + at / 24) here)
-  from-star ns h = skips ns first (omega arith)
+  from-star ns h = skips .rest ns first (omega arith)
       ∙ ap (λ (l : List ℕ). paramsIn ns (forest (first + at / 24) l)) (sym (tail-part at kids))
 
   star-then : (ns : List ℕ) → star .0 < length (paramsIn ns (forest first kids))
@@ -130,18 +130,16 @@ module _ (kids : List ℕ) (first : ℕ) (star : Written) (c : Counts) {at e : �
 
   module _ {l : Bool} (l-is : l ≡ isListed after) where
     pub star-last : l ≡ false → {f : Fault} → f ≡ fault starLast (nodeOf (first + at / 24) here)
-        → ((ns : List ℕ) → StarIn (paramsIn ns (forest first kids)) (AtWritten star)
-        → Refused f ≡ told (finish (paramsIn ns (forest first kids)) (AtWritten star) c))
-        × Inside (first + length kids / 24) (Refused f)
+        → Finishes kids first (AtWritten star) c (Refused f)
     unfolding finish
-    star-last l-no f-is = (
-      λ ns h.
+    star-last l-no f-is = record {
+      says = λ ns h.
           let w-is : drop (star .0) (paramsIn ns (forest first kids)) ≡ paramOf ns (nodeOf (first + at / 24) here) ∷
           [] = star-then ns h ∙ ap (λ (ps : List Param). paramOf ns (nodeOf (first + at / 24) here) ∷ ps)
           (list-end ns _ after (sym l-is ∙ l-no)) in
-          rw (f-is, w-is, node-in ns (nodeOf (first + at / 24) here)) refl,
-      rw f-is (omega arith),
-    )
+          rw (f-is, w-is, node-in ns (nodeOf (first + at / 24) here)) refl;
+      inside = rw f-is (omega (arith, skips .within));
+    }
 
     module _ (l-yes : l ≡ true) {k : Kind} (k-is : k ≡ kindHere after) {b : Bool} (b-is : b ≡ isNormal k) where
       next-is : (ns : List ℕ) → star .0 < length (paramsIn ns (forest first kids))
@@ -155,30 +153,25 @@ module _ (kids : List ℕ) (first : ℕ) (star : Written) (c : Counts) {at e : �
       kind-next : (ns : List ℕ) → isNormal (kindIn (paramOf ns (nodeOf (first + at / 24 + e / 24) after))) ≡ b
       kind-next ns = ap isNormal (kind-in ns _ after ∙ sym k-is) ∙ sym b-is
 
-      pub star-normal : b ≡ true → ((ns : List ℕ) → StarIn (paramsIn ns (forest first kids)) (AtWritten star)
-          → Accepted c ≡ told (finish (paramsIn ns (forest first kids)) (AtWritten star) c))
-          × Inside (first + length kids / 24) (Accepted c)
+      pub star-normal : b ≡ true → Finishes kids first (AtWritten star) c (Accepted c)
       unfolding finish
-      star-normal b-yes = (
-        λ ns h. rw (next-is ns h ∙ normal-next (follower ns) (accepted c) (kind-next ns ∙ b-yes))
-            refl,
-        tt,
-      )
+      star-normal b-yes = record {
+        says = λ ns h. rw (next-is ns h ∙ normal-next (follower ns) (accepted c) (kind-next ns ∙ b-yes)) refl;
+        inside = tt;
+      }
 
       pub star-other : b ≡ false → {f : Fault}
           → f ≡ fault noNormalAfterStar (nodeOf (first + at / 24 + e / 24) after)
-          → ((ns : List ℕ) → StarIn (paramsIn ns (forest first kids)) (AtWritten star)
-          → Refused f ≡ told (finish (paramsIn ns (forest first kids)) (AtWritten star) c))
-          × Inside (first + length kids / 24) (Refused f)
+          → Finishes kids first (AtWritten star) c (Refused f)
       unfolding finish
-      star-other b-no f-is = (
-        λ ns h. rw (
+      star-other b-no f-is = record {
+        says = λ ns h. rw (
           f-is,
           next-is ns h ∙ other-next (follower ns) (accepted c) (kind-next ns ∙ b-no),
           node-in ns (nodeOf (first + at / 24 + e / 24) after),
-        ) refl,
-        rw f-is (omega (arith, long)),
-      )
+        ) refl;
+        inside = rw f-is (omega (arith, long, skips .within));
+      }
 
 -- The parameters in turn: n are read, u is known of them, and the node at comes next
 pub record Judging (ns kids : List ℕ) (first : ℕ) (u₀ u : Unpacking) (left : List ℕ) (at n : ℕ) : Type 0 where
@@ -232,24 +225,22 @@ module _ {ns kids : List ℕ} {first : ℕ} {u₀ u : Unpacking} {left : List �
       here-then e-is = ap (run (take n (paramsIn ns (forest first kids))) u)
           (sym (j .reads .rest ∙ list-on ns at left listed e-is)) ∙ j .same
 
-      module _ {c : Check} (c-is : (i : ℕ)
-          → c ≡ check (take n (paramsIn ns (forest first kids))) (u .state) (u .«seen_optional»)
-          (paramOf ns (nodeOf i left))) where
+      module _ {c : Check}
+          (c-is : Checks ns (take n (paramsIn ns (forest first kids))) (u .state) (u .«seen_optional») left c) where
         pub judge-stop : (only : Flat) → u₀ ≡ start only → {m : ℕ} → c ≡ Broken m → {f : Fault}
             → f ≡ fault m (nodeOf at left)
-            → (Refused f ≡ told (run [] (start only) (paramsIn ns (forest first kids))))
-            × Inside (first + length kids / 24) (Refused f)
-        judge-stop only u₀-is e f-is = (
-          rw (
+            → Says (run [] (start only) (paramsIn ns (forest first kids))) (first + length kids / 24) (Refused f)
+        judge-stop only u₀-is e f-is = record {
+          same = rw (
             f-is,
             ← u₀-is,
             ← here-then refl,
             run-stop (take n (paramsIn ns (forest first kids))) u (paramOf ns (nodeOf at left)) _
-                (sym (c-is at) ∙ e),
+                (sym (c-is .says at) ∙ e),
             node-in ns (nodeOf at left),
-          ) refl,
-          rw f-is (omega (arith, j .room)),
-        )
+          ) refl;
+          inside = rw f-is (omega (arith, j .room));
+        }
 
         pub judge-on : c ≡ Fine → {k : Kind} → k ≡ kindHere left → {v : Unpacking} → v ≡ advance u (writtenAt n) k
             → {e : ℕ} → e ≡ spanOf left → {m : Written} → m ≡ writtenAt (n + 1)
@@ -259,7 +250,7 @@ module _ {ns kids : List ℕ} {first : ℕ} {u₀ u : Unpacking} {left : List �
             let w = paramsIn ns (forest first kids) in
             let p = paramOf ns (nodeOf at left) in
             let x = read-here (j .reads) listed e-is in
-            let good = sym (c-is at) ∙ fine in
+            let good = sym (c-is .says at) ∙ fine in
             let long : length (take n w) ≡ n = length-take-le n w (j .reads .upto) in
             let kind : k ≡ kindIn p = k-is ∙ sym (kind-in ns at left) in
             rw (v-is, kind, m-is)
@@ -280,16 +271,14 @@ module _ {ns kids : List ℕ} {first : ℕ} {u₀ u : Unpacking} {left : List �
           (sym (read-end (j .reads) (sym l-is ∙ l-no))) ∙ take-append-drop n (paramsIn ns (forest first kids))
 
       pub judge-end : (only : Flat) → u₀ ≡ start only → {r : Judged}
-          → ((names : List ℕ) → StarIn (paramsIn names (forest first kids)) (u .«index_of_star»)
-          → r ≡ told (finish (paramsIn names (forest first kids)) (u .«index_of_star») (u .counts)))
-          × Inside (first + length kids / 24) r
-          → (r ≡ told (run [] (start only) (paramsIn ns (forest first kids)))) × Inside (first + length kids / 24) r
+          → Finishes kids first (u .«index_of_star») (u .counts) r
+          → Says (run [] (start only) (paramsIn ns (forest first kids))) (first + length kids / 24) r
       unfolding run
-      judge-end only u₀-is r-is = (
-        rw (← u₀-is) (r-is .0 ns (rw whole at (j .star))
-            ∙ ap told (rw (whole, read-end (j .reads) (sym l-is ∙ l-no)) at (j .same))),
-        r-is .1,
-      )
+      judge-end only u₀-is r-is = record {
+        same = rw (← u₀-is) (r-is .says ns (rw whole at (j .star))
+            ∙ ap told (rw (whole, read-end (j .reads) (sym l-is ∙ l-no)) at (j .same)));
+        inside = r-is .inside;
+      }
 
 -- 10, and the rest
 unpack-not-slash : (ns kids : List ℕ) (first : ℕ) → beginsWithSlash kids ≡ false
@@ -308,29 +297,26 @@ unpack-not-slash ns kids first h = go (isListed kids) refl
 
 module _ (ns kids : List ℕ) (first : ℕ) {b : Bool} (b-is : b ≡ beginsWithSlash kids) where
   pub unpack-slash : b ≡ true → {f : Fault} → f ≡ fault slashFirst (nodeOf first kids)
-      → (Refused f ≡ told (unpack (paramsIn ns (forest first kids))))
-      × Inside (first + length kids / 24) (Refused f)
+      → Says (unpack (paramsIn ns (forest first kids))) (first + length kids / 24) (Refused f)
   unfolding unpack beginsWithSlash
   unpack-slash b-yes f-is =
       let yes : (isListed kids && isSlash (kindHere kids)) ≡ true = sym b-is ∙ b-yes in
       let hit : isSlash (kindIn (paramOf ns (nodeOf first kids))) ≡ true = ap isSlash (kind-in ns first kids)
-      ∙ and-right (isListed kids) _ yes in (
-        rw (f-is, list-on ns first kids (and-left _ _ yes) refl, hit, node-in ns (nodeOf first kids)) refl,
-        rw f-is (omega arith),
-      )
+      ∙ and-right (isListed kids) _ yes in
+      record {
+        same = rw (f-is, list-on ns first kids (and-left _ _ yes) refl, hit, node-in ns (nodeOf first kids)) refl;
+        inside = rw f-is (omega arith);
+      }
 
-  pub unpack-run : b ≡ false → {s : WrittenPlace}
-      → ((names : List ℕ) (i : ℕ) → s ≡ firstSlash (paramsIn names (forest i kids))) → {only : Flat}
-      → only ≡ positionalOnly s
-      → {r : Judged} → (r ≡ told (run [] (start only) (paramsIn ns (forest first kids))))
-      × Inside (first + length kids / 24) r
-      → (r ≡ told (unpack (paramsIn ns (forest first kids)))) × Inside (first + length kids / 24) r
-  unpack-run b-no {s} s-is {only} only-is r-is = (r-is .0 ∙ ap told (sym start-is), r-is .1)
+  pub unpack-run : b ≡ false → {s : WrittenPlace} → SlashAt kids s → {only : Flat} → only ≡ positionalOnly s
+      → {r : Judged} → Says (run [] (start only) (paramsIn ns (forest first kids))) (first + length kids / 24) r
+      → Says (unpack (paramsIn ns (forest first kids))) (first + length kids / 24) r
+  unpack-run b-no {s} s-is {only} only-is r-is = rw start-is r-is
     where
       start-is : unpack (paramsIn ns (forest first kids)) ≡ run [] (start only) (paramsIn ns (forest first kids))
       start-is = unpack-not-slash ns kids first (sym b-is ∙ b-no)
           ∙ ap (λ (x : Flat). run [] (start x) (paramsIn ns (forest first kids)))
-          (ap positionalOnly (sym (s-is ns first)) ∙ sym only-is)
+          (ap positionalOnly (sym (s-is .first ns first)) ∙ sym only-is)
 
 -- a node's list stands in its children
 module _ (t : List ℕ) (node : ℕ) {kids : List ℕ} (kids-are : kids ≡ kidsOf t) where
@@ -338,13 +324,10 @@ module _ (t : List ℕ) (node : ℕ) {kids : List ℕ} (kids-are : kids ≡ kids
   judge-room = omega (arith, ap length kids-are ∙ length-kids t)
 
   pub judge-list : (ns : List ℕ) {r : Judged}
-      → (r ≡ told (unpack (paramsIn ns (forest (node + 1) kids)))) × Inside (node + 1 + length kids / 24) r
-      → (r ≡ told (unpack (written ns node t))) × Inside (node + 1 + length t / 24) r
+      → Says (unpack (paramsIn ns (forest (node + 1) kids))) (node + 1 + length kids / 24) r
+      → Says (unpack (written ns node t)) (node + 1 + length t / 24) r
   unfolding written
-  judge-list ns {r} r-is = (
-    r-is .0 ∙ ap (λ (l : List ℕ). told (unpack (paramsIn ns (forest (node + 1) l)))) kids-are,
-    wider r (r-is .1),
-  )
+  judge-list ns {r} r-is = record { same = rw kids-are at (r-is .same); inside = wider r (r-is .inside) }
     where
       wider : (r : Judged) → Inside (node + 1 + length kids / 24) r → Inside (node + 1 + length t / 24) r
       wider (Accepted c) h = tt

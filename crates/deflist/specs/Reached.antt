@@ -20,7 +20,8 @@ through before u (p ∷ ps) = u ∷ onward (step before u p) (λ v. through (bef
 -- those of a whole list; one that begins with `/` is refused before any
 unfoldable pub reached : List Param → List Unpacking
 reached [] = through [] (start (flatAt 0)) []
-reached (p ∷ ps) = if' (isSlash (kindIn p)) (λ _. []) (λ _. through [] (start (positionalOnly (firstSlash (p ∷ ps)))) (p ∷ ps))
+reached (p ∷ ps) =
+    if' (isSlash (kindIn p)) (λ _. []) (λ _. through [] (start (positionalOnly (firstSlash (p ∷ ps)))) (p ∷ ps))
 
 -- every number that is counted in these states is at most m
 unfoldable pub AllAtMost : ℕ → List Unpacking → Type 0

@@ -1,15 +1,19 @@
 -- What code asks of a stretch while it reads a list, and bounds of what it answers. These are definitions.
+use mathlib.Core.Path.{_≡_}
 use mathlib.Core.Bool.{Bool, true, false, _&&_}
 use mathlib.Core.List.{List}
-use Prim.Native.Nat.{ℕ, _<_, _≤_}
-use lib.ListN.{length}
+use Prim.Native.Nat.{ℕ, _+_, _/_, _<_, _≤_}
+use lib.ListN.{length, drop}
 use lib.Dec.{eqb, leb}
-use Rattle.forest.specs.Forest.{recordBytes, nodeOf}
+use Rattle.forest.specs.Forest.{recordBytes, nodeOf, forest}
 use Rattle.soundness.specs.Kinds.{parameter, classOf}
-use Rattle.deflist.specs.Written.{Param, kindAt}
-use Rattle.deflist.specs.Unpack.{isSlash}
+use Rattle.deflist.specs.Written.{Param, kindAt, paramOf, paramsIn}
+use Rattle.deflist.specs.Unpack.{isSlash, firstSlash, check, finish, Outcome}
+use Rattle.deflist.specs.Told.{told}
 use Rattle.deflist.specs.declared.Kind.{Kind}
 use Rattle.deflist.specs.declared.Kind.the-variants.{Normal, NoArgs, Slash, Args, KwArgs}
+use Rattle.deflist.specs.declared.State.{State}
+use Rattle.deflist.specs.declared.Check.{Check}
 use Rattle.deflist.specs.declared.WrittenPlace.{WrittenPlace}
 use Rattle.deflist.specs.declared.WrittenPlace.the-variants.{AtWritten, NoWritten}
 use Rattle.deflist.specs.declared.FlatPlace.{FlatPlace}
@@ -54,6 +58,32 @@ StarIn w (AtWritten i) = i .0 < length w
 abbrev pub Inside : ℕ → Judged → Type 0
 Inside m (Accepted c) = Unit {0}
 Inside m (Refused f) = f .node ≤ m
+
+-- what code says for an outcome, where a refusal's node comes no later than m
+pub record Says (o : Outcome) (m : ℕ) (r : Judged) : Type 0 where
+  pub same : r ≡ told o
+  pub inside : Inside m r
+
+-- the first `/` of a stretch, whatever the names and the index
+pub record SlashAt (kids : List ℕ) (s : WrittenPlace) : Type 0 where
+  pub first : (names : List ℕ) (i : ℕ) → s ≡ firstSlash (paramsIn names (forest i kids))
+
+-- the first n parameters of a stretch take r bytes, whatever the names and the index
+pub record Skips (kids : List ℕ) (n r : ℕ) : Type 0 where
+  pub within : r ≤ length kids
+  pub rest : (names : List ℕ) (i : ℕ) → n ≤ length (paramsIn names (forest i kids))
+      → drop n (paramsIn names (forest i kids)) ≡ paramsIn names (forest (i + r / recordBytes) (drop r kids))
+
+-- what is said after the last parameter of a stretch, whatever the names
+pub record Finishes (kids : List ℕ) (first : ℕ) (star : WrittenPlace) (c : Counts) (r : Judged) : Type 0 where
+  pub says : (names : List ℕ) → StarIn (paramsIn names (forest first kids)) star
+      → r ≡ told (finish (paramsIn names (forest first kids)) star c)
+  pub inside : Inside (first + length kids / recordBytes) r
+
+-- what is said of the parameter that `left` begins with, after others, whatever its index
+pub record Checks (names : List ℕ) (before : List Param) (state : State) (optional : Bool) (left : List ℕ) (c : Check)
+    : Type 0 where
+  pub says : (i : ℕ) → c ≡ check before state optional (paramOf names (nodeOf i left))
 
 -- bounds of what is counted in the first m parameters, where `/` stands no further than k
 abbrev pub PlaceBelow : ℕ → FlatPlace → Type 0

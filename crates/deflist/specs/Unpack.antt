@@ -1,5 +1,7 @@
--- DefParams::unpack of src/syntax/def.rs, with all its outcomes. Positions in the written list count the marks, flat indices do not. These are definitions.
--- Copyright 2018 The Starlark in Rust Authors. Copyright (c) Facebook, Inc. and its affiliates. Licensed under Apache-2.0; changed.
+-- DefParams::unpack of src/syntax/def.rs, with all its outcomes. Positions in the written list count the marks, flat
+-- indices do not. These are definitions.
+-- Copyright 2018 The Starlark in Rust Authors. Copyright (c) Facebook, Inc. and its affiliates.
+-- Licensed under Apache-2.0; changed.
 use mathlib.Core.Bool.{Bool, true, false, _||_}
 use mathlib.Core.List.{List, [], _∷_, _++_}
 use Prim.Native.Nat.{ℕ, _+_}
@@ -10,7 +12,8 @@ use Rattle.forest.specs.Forest.{Node}
 use Rattle.forest.specs.Names.{same}
 use Rattle.forest.specs.declared.Found.{Found}
 use Rattle.forest.specs.declared.Found.the-variants.{At, Nothing}
-use Rattle.table.specs.Numbers.{slashFirst, duplicatedParameter, normalAfterKwargs, noDefaultAfterDefault, starAfterStar, multipleSlash, multipleKwargs, starLast, noNormalAfterStar}
+use Rattle.table.specs.Numbers.{slashFirst, duplicatedParameter, normalAfterKwargs, noDefaultAfterDefault}
+use Rattle.table.specs.Numbers.{starAfterStar, multipleSlash, multipleKwargs, starLast, noNormalAfterStar}
 use Rattle.deflist.specs.Written.{Name, Param, normal, noArgs, slash, args, kwargs, nodeIn, kindIn}
 use Rattle.deflist.specs.declared.Kind.{Kind}
 use Rattle.deflist.specs.declared.Kind.the-variants.{Normal, NoArgs, Slash, Args, KwArgs}
@@ -82,7 +85,8 @@ defaultRule false default = Fine
 -- the rules of the kinds
 abbrev pub normalRule : State → Bool → Bool → Check
 normalRule s seen_optional default =
-    if' (seenStarStar s) (λ _. Broken normalAfterKwargs) (λ _. if' (seenStar s) (λ _. Fine) (λ _. defaultRule seen_optional default))
+    if' (seenStarStar s) (λ _. Broken normalAfterKwargs) (λ _.
+    if' (seenStar s) (λ _. Fine) (λ _. defaultRule seen_optional default))
 
 abbrev pub starRule : State → Check
 starRule s = if' (seenStar s) (λ _. Broken starAfterStar) (λ _. Fine)
@@ -133,7 +137,13 @@ nextStar index_of_star i KwArgs = index_of_star
 -- num_positional, num_positional_only, args, kwargs, and the length of the flat list
 abbrev pub counts : Flat → Flat → FlatPlace → FlatPlace → Flat → Counts
 counts num_positional num_positional_only a k flat =
-    record { «num_positional» = num_positional; «num_positional_only» = num_positional_only; args = a; kwargs = k; flat = flat }
+    record {
+      «num_positional» = num_positional;
+      «num_positional_only» = num_positional_only;
+      args = a;
+      kwargs = k;
+      flat = flat;
+    }
 
 abbrev pub oneMore : Flat → Flat
 oneMore n = flatAt (n .0 + 1)
@@ -144,11 +154,14 @@ morePositional s n = if' (seenStar s) (λ _. n) (λ _. oneMore n)
 
 -- what is counted at a parameter of a kind
 abbrev pub count : State → Counts → Kind → Counts
-count s c (Normal default) = counts (morePositional s (c .«num_positional»)) (c .«num_positional_only») (c .args) (c .kwargs) (oneMore (c .flat))
+count s c (Normal default) =
+    counts (morePositional s (c .«num_positional»)) (c .«num_positional_only») (c .args) (c .kwargs) (oneMore (c .flat))
 count s c NoArgs = c
 count s c Slash = c
-count s c Args = counts (c .«num_positional») (c .«num_positional_only») (AtFlat (c .flat)) (c .kwargs) (oneMore (c .flat))
-count s c KwArgs = counts (c .«num_positional») (c .«num_positional_only») (c .args) (AtFlat (c .flat)) (oneMore (c .flat))
+count s c Args =
+    counts (c .«num_positional») (c .«num_positional_only») (AtFlat (c .flat)) (c .kwargs) (oneMore (c .flat))
+count s c KwArgs =
+    counts (c .«num_positional») (c .«num_positional_only») (c .args) (AtFlat (c .flat)) (oneMore (c .flat))
 
 unfoldable pub advance : Unpacking → Written → Kind → Unpacking
 advance u i k =
@@ -193,7 +206,8 @@ unlessBroken (Broken n) next = stop n
 
 -- a parameter in its turn, after those before it
 unfoldable pub step : List Param → Unpacking → Param → Step
-step before u p = unlessBroken (check before (u .state) (u .«seen_optional») p) (λ _. keep u (writtenAt (length before)) (kindIn p))
+step before u p =
+    unlessBroken (check before (u .state) (u .«seen_optional») p) (λ _. keep u (writtenAt (length before)) (kindIn p))
 
 -- the outcomes of unpack: what is counted, a refusal at a parameter's record, an internal error at a parameter's record
 pub data Outcome : Type 0 where
@@ -255,13 +269,19 @@ firstState num_positional_only = if' (eqb (num_positional_only .0) 0) (λ _. See
 
 unfoldable pub start : Flat → Unpacking
 start num_positional_only =
-    record { state = firstState num_positional_only; «seen_optional» = false; «index_of_star» = NoWritten; counts = counts (flatAt 0) num_positional_only NoFlat NoFlat (flatAt 0) }
+    record {
+      state = firstState num_positional_only;
+      «seen_optional» = false;
+      «index_of_star» = NoWritten;
+      counts = counts (flatAt 0) num_positional_only NoFlat NoFlat (flatAt 0);
+    }
 
 -- DefParams::unpack: 10 first, then the parameters in turn
 unfoldable pub unpack : List Param → Outcome
 unpack [] = run [] (start (flatAt 0)) []
 unpack (p ∷ ps) =
-    if' (isSlash (kindIn p)) (λ _. refused slashFirst (nodeIn p)) (λ _. run [] (start (positionalOnly (firstSlash (p ∷ ps)))) (p ∷ ps))
+    if' (isSlash (kindIn p)) (λ _. refused slashFirst (nodeIn p)) (λ _.
+    run [] (start (positionalOnly (firstSlash (p ∷ ps)))) (p ∷ ps))
 
 -- the modes of document 01
 abbrev pub modePosOnly : ℕ
@@ -281,7 +301,8 @@ modeKwargs = 5
 
 -- the mode of each flat parameter; marks have none
 abbrev pub modeOf : State → Kind → List ℕ
-modeOf s (Normal default) = if' (seenSlash s) (λ _. if' (seenStar s) (λ _. modeNameOnly) (λ _. modePosOrName)) (λ _. modePosOnly) ∷ []
+modeOf s (Normal default) =
+    if' (seenSlash s) (λ _. if' (seenStar s) (λ _. modeNameOnly) (λ _. modePosOrName)) (λ _. modePosOnly) ∷ []
 modeOf s NoArgs = []
 modeOf s Slash = []
 modeOf s Args = modeArgs ∷ []

@@ -1,6 +1,7 @@
 -- The written parameter list of a def or lambda, for any bytes. These are definitions.
 -- Parameters as ParameterP of src/syntax/ast.rs has them.
--- Copyright 2018 The Starlark in Rust Authors. Copyright (c) Facebook, Inc. and its affiliates. Licensed under Apache-2.0; changed.
+-- Copyright 2018 The Starlark in Rust Authors. Copyright (c) Facebook, Inc. and its affiliates.
+-- Licensed under Apache-2.0; changed.
 use mathlib.Core.Bool.{Bool, _||_}
 use mathlib.Core.List.{List, [], _∷_}
 use Prim.Native.Nat.{ℕ}
@@ -17,7 +18,8 @@ use Rattle.deflist.specs.declared.Kind.the-variants.{Normal, NoArgs, Sla
 abbrev pub Name : Type 0
 Name = List ℕ
 
--- a written parameter, as ParameterP of the crate has them, with its record: Normal, its name and whether it has a default; `*`; `/`; `*args`; `**kwargs`
+-- a written parameter, as ParameterP of the crate has them, with its record: Normal, its name and whether it has a
+-- default; `*`; `/`; `*args`; `**kwargs`
 pub data Param : Type 0 where
   normal : Node → Name → Bool → Param
   noArgs : Node → Param

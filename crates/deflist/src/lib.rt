@@ -1,7 +1,9 @@
 // The parameter list of a def or lambda, read as DefParams::unpack reads it. Every public function takes any bytes.
 //
-// Ported from src/syntax/def.rs of starlark_syntax 0.14.2, and changed: the list is a stretch of the node table, names are compared instead of hashed, and the modes are left to the job.
-// Copyright 2018 The Starlark in Rust Authors. Copyright (c) Facebook, Inc. and its affiliates. Licensed under Apache-2.0.
+// Ported from src/syntax/def.rs of starlark_syntax 0.14.2, and changed: the list is a stretch of the node table, names
+// are compared instead of hashed, and the modes are left to the job.
+// Copyright 2018 The Starlark in Rust Authors. Copyright (c) Facebook, Inc. and its affiliates.
+// Licensed under Apache-2.0.
 pub mod entry;
 mod list;
 mod rules;

@@ -1,19 +1,20 @@
-// The written list, read from the children of a def or lambda: each next parameter is found by stepping over the one before it.
+// The written list, read from the children of a def or lambda: each next parameter is found by stepping over the one
+// before it.
 use crate::Written;
 use crate::WrittenPlace;
 use crate::entry;
 use crate::rules;
 ghost use mathlib.Core.Path.{_≡_};
-ghost use mathlib.Core.List.{List};
-ghost use Prim.Native.Nat.{ℕ, _+_, _/_, _≤_, _<_, _^_};
-ghost use lib.ListN.{length, drop};
+ghost use Prim.Native.Nat.{ℕ, _+_, _<_, _^_};
 ghost use Rattle.forest.specs.Forest.{nodeOf, forest};
-ghost use Rattle.deflist.specs.Written.{paramOf, paramsIn};
-ghost use Rattle.deflist.specs.Unpack.{writtenAt, hasName, firstSlash};
+ghost use Rattle.deflist.specs.Written.{paramOf};
+ghost use Rattle.deflist.specs.Unpack.{writtenAt, hasName};
+ghost use Rattle.deflist.specs.Reading.{SlashAt, Skips};
 
 // Whether the parameter that a stretch begins with has this name.
 pub(crate) fn has_name(names: &[u8], name: &[u8], t: &[u8]) -> bool
-    ensures { λ r. ⌜ ((i : ℕ) → r ≡ hasName (now (name .entry)) (paramOf (now (names .entry)) (nodeOf i (now (t .entry))))) ⌝ }
+    ensures { λ r. ⌜
+        ((i : ℕ) → r ≡ hasName (now (name .entry)) (paramOf (now (names .entry)) (nodeOf i (now (t .entry))))) ⌝ }
 {
     if !rules::is_named(entry::kind_of(t)) {
         return false;
@@ -31,7 +32,7 @@ pub(crate) fn next(n: Written) -> Written
 
 // The written position of the first `/`.
 pub(crate) fn first_slash(kids: &[u8]) -> WrittenPlace
-    ensures { λ r. ⌜ ((names : List ℕ) (i : ℕ) → r ≡ firstSlash (paramsIn names (forest i (now (kids .entry))))) ⌝ }
+    ensures { λ r. ⌜ SlashAt (now (kids .entry)) r ⌝ }
 {
     let mut left = kids;
     let mut i = Written(0);
@@ -48,8 +49,7 @@ pub(crate) fn first_slash(kids: &[u8]) -> WrittenPlace
 
 // How many bytes the first n parameters take.
 pub(crate) fn skip(kids: &[u8], n: Written) -> usize
-    ensures { λ r. ⌜ r ≤ length (now (kids .entry)) ⌝ }
-    ensures { λ r. ⌜ ((names : List ℕ) (i : ℕ) → n .0 ≤ length (paramsIn names (forest i (now (kids .entry)))) → drop (n .0) (paramsIn names (forest i (now (kids .entry)))) ≡ paramsIn names (forest (i + r / 24) (drop r (now (kids .entry))))) ⌝ }
+    ensures { λ r. ⌜ Skips (now (kids .entry)) (n .0) r ⌝ }
 {
     let mut at = 0;
     let mut i = 0;

@@ -1,7 +1,9 @@
 // The rules of the kinds, and what a parameter changes in the written list.
 //
-// Ported from src/syntax/def.rs of starlark_syntax 0.14.2, and changed: each rule answers its number or lets the parameter pass.
-// Copyright 2018 The Starlark in Rust Authors. Copyright (c) Facebook, Inc. and its affiliates. Licensed under Apache-2.0.
+// Ported from src/syntax/def.rs of starlark_syntax 0.14.2, and changed: each rule answers its number or lets the
+// parameter pass.
+// Copyright 2018 The Starlark in Rust Authors. Copyright (c) Facebook, Inc. and its affiliates.
+// Licensed under Apache-2.0.
 use crate::Check;
 use crate::Counts;
 use crate::Flat;
@@ -15,7 +17,8 @@ use crate::states;
 use table::numbers;
 ghost use mathlib.Core.Path.{_≡_};
 ghost use mathlib.Core.Bool.{_||_};
-ghost use Rattle.deflist.specs.Unpack.{defaultRule, normalRule, starRule, slashRule, kwargsRule, rule as ruleOf, nextOptional, nextStar, start as startOf, positionalOnly};
+ghost use Rattle.deflist.specs.Unpack.{defaultRule, normalRule, starRule, slashRule, kwargsRule, rule as ruleOf};
+ghost use Rattle.deflist.specs.Unpack.{nextOptional, nextStar, start as startOf, positionalOnly};
 ghost use Rattle.deflist.specs.Reading.{isNamed, isNormal};
 
 // Whether a parameter of a kind has a name.
@@ -147,7 +150,8 @@ pub(crate) fn next_star(star: WrittenPlace, i: Written, kind: Kind) -> WrittenPl
     }
 }
 
-// The count of positional-only parameters: the written position of `/` becomes a flat index, since no mark can stand before it.
+// The count of positional-only parameters: the written position of `/` becomes a flat index, since no mark can stand
+// before it.
 pub(crate) fn positional_only(slash: WrittenPlace) -> Flat
     ensures { λ r. ⌜ r ≡ positionalOnly slash ⌝ }
 {

@@ -1,7 +1,9 @@
 // The state that a list begins in, and what each parameter makes of it.
 //
-// Ported from src/syntax/def.rs of starlark_syntax 0.14.2, and changed: the state is a value that each parameter maps to the next.
-// Copyright 2018 The Starlark in Rust Authors. Copyright (c) Facebook, Inc. and its affiliates. Licensed under Apache-2.0.
+// Ported from src/syntax/def.rs of starlark_syntax 0.14.2, and changed: the state is a value that each parameter maps
+// to the next.
+// Copyright 2018 The Starlark in Rust Authors. Copyright (c) Facebook, Inc. and its affiliates.
+// Licensed under Apache-2.0.
 use crate::Flat;
 use crate::Kind;
 use crate::State;

@@ -1,7 +1,9 @@
 // unpack: 10, then the parameters in turn, then what follows a bare `*`.
 //
-// Ported from src/syntax/def.rs of starlark_syntax 0.14.2, and changed: the list is a stretch of the node table, and names are compared instead of hashed.
-// Copyright 2018 The Starlark in Rust Authors. Copyright (c) Facebook, Inc. and its affiliates. Licensed under Apache-2.0.
+// Ported from src/syntax/def.rs of starlark_syntax 0.14.2, and changed: the list is a stretch of the node table, and
+// names are compared instead of hashed.
+// Copyright 2018 The Starlark in Rust Authors. Copyright (c) Facebook, Inc. and its affiliates.
+// Licensed under Apache-2.0.
 use crate::Check;
 use crate::Counts;
 use crate::Fault;
@@ -21,20 +23,25 @@ use forest::Found;
 use forest::RECORD;
 use table::numbers;
 ghost use mathlib.Core.Path.{_≡_};
-ghost use mathlib.Core.List.{List, []};
+ghost use mathlib.Core.List.{[]};
 ghost use Prim.Native.Nat.{ℕ, _+_, _*_, _/_, _≤_, _<_, _^_};
 ghost use lib.ListN.{length, take};
 ghost use Rattle.forest.specs.Forest.{nodeOf, forest};
 ghost use Rattle.deflist.specs.Written.{paramOf, paramsIn, written};
-ghost use Rattle.deflist.specs.Unpack.{firstSame, repeats, check as checkOf, oneMore, morePositional, count as countOf, advance as advanceOf, finish as finishOf, run as runOf, start as startOf, unpack as unpackOf};
+ghost use Rattle.deflist.specs.Unpack.{firstSame, repeats, oneMore, morePositional};
+ghost use Rattle.deflist.specs.Unpack.{count as countOf, advance as advanceOf, run as runOf};
+ghost use Rattle.deflist.specs.Unpack.{start as startOf, unpack as unpackOf};
 ghost use Rattle.deflist.specs.declared.WrittenPlace.the-variants.{AtWritten};
-ghost use Rattle.deflist.specs.Told.{fault as faultOf, told};
-ghost use Rattle.deflist.specs.Reading.{kindHere, beginsWithSlash, Inside, StarIn};
+ghost use Rattle.deflist.specs.Told.{fault as faultOf};
+ghost use Rattle.deflist.specs.Reading.{kindHere, beginsWithSlash, Says, Finishes, Checks};
 
 // The node of the first of n parameters that has this name; first is the node of the first record.
 fn earlier(names: &[u8], name: &[u8], kids: &[u8], first: usize, n: Written) -> Found
-    requires { ⌜ (24 * first + length (now kids) < 2 ^ 64) × (n .0 ≤ length (paramsIn (now names) (forest first (now kids)))) ⌝ }
-    ensures { λ r. ⌜ r ≡ firstSame (now (name .entry)) (take (n .0) (paramsIn (now (names .entry)) (forest first (now (kids .entry))))) ⌝ }
+    requires { ⌜ (24 * first + length (now kids) < 2 ^ 64) ×
+        (n .0 ≤ length (paramsIn (now names) (forest first (now kids)))) ⌝ }
+    ensures { λ r. ⌜ r ≡
+        firstSame (now (name .entry)) (take (n .0)
+        (paramsIn (now (names .entry)) (forest first (now (kids .entry))))) ⌝ }
 {
     let mut left = kids;
     let mut at = first;
@@ -64,8 +71,11 @@ fn fault(number: u32, node: usize, t: &[u8]) -> Fault
 
 // The first of the n parameters before it whose name the parameter that left begins with repeats.
 fn repeated(names: &[u8], kids: &[u8], first: usize, n: Written, left: &[u8], kind: Kind) -> Found
-    requires { ⌜ (24 * first + length (now kids) < 2 ^ 64) × (n .0 ≤ length (paramsIn (now names) (forest first (now kids)))) × (kind ≡ kindHere (now left)) ⌝ }
-    ensures { λ r. ⌜ ((i : ℕ) → r ≡ repeats (take (n .0) (paramsIn (now (names .entry)) (forest first (now (kids .entry))))) (paramOf (now (names .entry)) (nodeOf i (now (left .entry))))) ⌝ }
+    requires { ⌜ (24 * first + length (now kids) < 2 ^ 64) ×
+        (n .0 ≤ length (paramsIn (now names) (forest first (now kids)))) × (kind ≡ kindHere (now left)) ⌝ }
+    ensures { λ r. ⌜
+        ((i : ℕ) → r ≡ repeats (take (n .0) (paramsIn (now (names .entry)) (forest first (now (kids .entry)))))
+        (paramOf (now (names .entry)) (nodeOf i (now (left .entry))))) ⌝ }
 {
     if !rules::is_named(kind) {
         return Found::Nothing;
@@ -84,8 +94,11 @@ fn check(
     optional: bool,
     kind: Kind,
 ) -> Check
-    requires { ⌜ (24 * first + length (now kids) < 2 ^ 64) × (n .0 ≤ length (paramsIn (now names) (forest first (now kids)))) × (kind ≡ kindHere (now left)) ⌝ }
-    ensures { λ r. ⌜ ((i : ℕ) → r ≡ checkOf (take (n .0) (paramsIn (now (names .entry)) (forest first (now (kids .entry))))) state optional (paramOf (now (names .entry)) (nodeOf i (now (left .entry))))) ⌝ }
+    requires { ⌜ (24 * first + length (now kids) < 2 ^ 64) ×
+        (n .0 ≤ length (paramsIn (now names) (forest first (now kids)))) × (kind ≡ kindHere (now left)) ⌝ }
+    ensures { λ r. ⌜ Checks (now (names .entry))
+        (take (n .0) (paramsIn (now (names .entry)) (forest first (now (kids .entry))))) state optional
+        (now (left .entry)) r ⌝ }
 {
     let found = repeated(names, kids, first, n, left, kind);
     match found {
@@ -171,8 +184,7 @@ fn advance(u: Unpacking, i: Written, kind: Kind) -> Unpacking
 // 17 and 18, for the bare `*` at a written position.
 fn after_star(kids: &[u8], first: usize, star: Written, counts: Counts) -> Judged
     requires { ⌜ 24 * first + length (now kids) < 2 ^ 64 ⌝ }
-    ensures { λ r. ⌜ ((names : List ℕ) → StarIn (paramsIn names (forest first (now (kids .entry)))) (AtWritten star) → r ≡ told (finishOf (paramsIn names (forest first (now (kids .entry)))) (AtWritten star) counts)) ⌝ }
-    ensures { λ r. ⌜ Inside (first + length (now (kids .entry)) / 24) r ⌝ }
+    ensures { λ r. ⌜ Finishes (now (kids .entry)) first (AtWritten star) counts r ⌝ }
 {
     let at = list::skip(kids, star);
     let here = &kids[at..];
@@ -191,8 +203,7 @@ fn after_star(kids: &[u8], first: usize, star: Written, counts: Counts) -> Judge
 // After the last parameter.
 fn finish(kids: &[u8], first: usize, star: WrittenPlace, counts: Counts) -> Judged
     requires { ⌜ 24 * first + length (now kids) < 2 ^ 64 ⌝ }
-    ensures { λ r. ⌜ ((names : List ℕ) → StarIn (paramsIn names (forest first (now (kids .entry)))) star → r ≡ told (finishOf (paramsIn names (forest first (now (kids .entry)))) star counts)) ⌝ }
-    ensures { λ r. ⌜ Inside (first + length (now (kids .entry)) / 24) r ⌝ }
+    ensures { λ r. ⌜ Finishes (now (kids .entry)) first star counts r ⌝ }
 {
     match star {
         WrittenPlace::AtWritten(i) => after_star(kids, first, i, counts),
@@ -203,8 +214,8 @@ fn finish(kids: &[u8], first: usize, star: WrittenPlace, counts: Counts) -> Judg
 // The parameters in turn, where only are positional only.
 fn run(names: &[u8], kids: &[u8], first: usize, only: Flat) -> Judged
     requires { ⌜ 24 * first + length (now kids) < 2 ^ 64 ⌝ }
-    ensures { λ r. ⌜ r ≡ told (runOf [] (startOf only) (paramsIn (now (names .entry)) (forest first (now (kids .entry))))) ⌝ }
-    ensures { λ r. ⌜ Inside (first + length (now (kids .entry)) / 24) r ⌝ }
+    ensures { λ r. ⌜ Says (runOf [] (startOf only) (paramsIn (now (names .entry)) (forest first (now (kids .entry)))))
+        (first + length (now (kids .entry)) / 24) r ⌝ }
 {
     let mut u = rules::start(only);
     let mut left = kids;
@@ -238,8 +249,8 @@ fn slash_first(kids: &[u8]) -> bool
 // 10 first, then the parameters in turn; first is the node of the first record.
 fn unpack(names: &[u8], kids: &[u8], first: usize) -> Judged
     requires { ⌜ 24 * first + length (now kids) < 2 ^ 64 ⌝ }
-    ensures { λ r. ⌜ r ≡ told (unpackOf (paramsIn (now (names .entry)) (forest first (now (kids .entry))))) ⌝ }
-    ensures { λ r. ⌜ Inside (first + length (now (kids .entry)) / 24) r ⌝ }
+    ensures { λ r. ⌜ Says (unpackOf (paramsIn (now (names .entry)) (forest first (now (kids .entry)))))
+        (first + length (now (kids .entry)) / 24) r ⌝ }
 {
     if slash_first(kids) {
         return Judged::Refused(fault(numbers::SLASH_FIRST, first, kids));
@@ -250,8 +261,8 @@ fn unpack(names: &[u8], kids: &[u8], first: usize) -> Judged
 
 // DefParams::unpack of the written list of a node, whose stretch is lent: what is counted, or the first refusal.
 pub(crate) fn judge(names: &[u8], t: &[u8], node: u32) -> Judged
-    ensures { λ r. ⌜ r ≡ told (unpackOf (written (now (names .entry)) node (now (t .entry)))) ⌝ }
-    ensures { λ r. ⌜ Inside (node + 1 + length (now (t .entry)) / 24) r ⌝ }
+    ensures { λ r. ⌜ Says (unpackOf (written (now (names .entry)) node (now (t .entry))))
+        (node + 1 + length (now (t .entry)) / 24) r ⌝ }
 {
     let kids = crate::children(t);
     let first = (node as usize) + 1;

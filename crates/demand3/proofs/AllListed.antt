@@ -1,4 +1,5 @@
--- In a sound table the written list of a def or lambda is every parameter among its children, in order. Assumes nothing.
+-- In a sound table the written list of a def or lambda is every parameter among its children, in order. Assumes
+-- nothing.
 use mathlib.Core.Path.{_≡_, refl, sym, ap, _∙_}
 use mathlib.Core.Bool.{Bool, true, false}
 use mathlib.Core.Logic.{_⊎_, inl, inr}
@@ -41,7 +42,8 @@ none-listed names none h = refl
 none-listed names (node r ks then f) (a, b) = rw a refl
 
 -- parameters, and behind them none
-leading : (names : List ℕ) (n : ℕ) (back : List ℕ) (f : Forest) → NoParameter back → classes f ≡ replicate n parameter ++ back
+leading : (names : List ℕ) (n : ℕ) (back : List ℕ) (f : Forest) → NoParameter back
+    → classes f ≡ replicate n parameter ++ back
     → paramsIn names f ≡ map (paramOf names) (parametersIn f)
 unfolding classes paramsIn parametersIn
 leading names zero back f h e =

@@ -1,4 +1,5 @@
--- A list is accepted exactly when it has a good cut; the cut is unique; what is counted and the modes are the cut's. Assumes nothing.
+-- A list is accepted exactly when it has a good cut; the cut is unique; what is counted and the modes are the cut's.
+-- Assumes nothing.
 use mathlib.Core.Path.{_≡_, refl, sym, ap, ap₂, _∙_, subst}
 use mathlib.Core.Bool.{Bool, true, false}
 use mathlib.Core.Logic.{_⊎_, inl, inr}

@@ -1,13 +1,18 @@
 -- DEMAND 3, in the user's words:
 --
---   In a sound table, with a long enough mode buffer, the parameter list of a def or lambda is accepted exactly when it can be cut, in written order, into:
---   nothing, or one or more ordinary parameters and `/`; ordinary parameters; nothing, or `*` with at least one ordinary parameter, or `*args` with any number;
---   nothing or `**kwargs`; all names distinct; and in the first two parts none without default after one with. The cut is unique. The five index ranges are then
---   the cut's, marks omitted: the ordinary parameters before `/`, those of the second part, `*args`, the ordinary ones after the star, `**kwargs`. They follow in
+-- In a sound table, with a long enough mode buffer, the parameter list of a def or lambda is accepted exactly when it
+-- can be cut, in written order, into:
+-- nothing, or one or more ordinary parameters and `/`; ordinary parameters; nothing, or `*` with at least one ordinary
+-- parameter, or `*args` with any number;
+-- nothing or `**kwargs`; all names distinct; and in the first two parts none without default after one with. The cut is
+-- unique. The five index ranges are then
+-- the cut's, marks omitted: the ordinary parameters before `/`, those of the second part, `*args`, the ordinary ones
+-- after the star, `**kwargs`. They follow in
 --   order and cover 0 to the flat count once, and each flat parameter's mode is written and is its range's.
 --
--- specs/Given.antt says what is given, specs/Cut.antt what a cut is and what is asked of it; neither speaks of unpack. The job `parameters::params` promises to
--- answer `paramsOf` and to leave `modesAfter` in the lent buffer, so each theorem is about its answer and the buffer at exit. Assumes nothing.
+-- specs/Given.antt says what is given, specs/Cut.antt what a cut is and what is asked of it; neither speaks of unpack.
+-- The job `parameters::params` promises to answer `paramsOf` and to leave `modesAfter` in the lent buffer, so each
+-- theorem is about its answer and the buffer at exit. Assumes nothing.
 use mathlib.Core.Path.{_≡_, sym, _∙_}
 use mathlib.Core.Logic.{_↔_}
 use mathlib.Core.List.{List}
@@ -27,7 +32,8 @@ use Rattle.demand3.proofs.AllListed.{all-listed}
 use Rattle.demand3.proofs.Ranges as ranges
 use Rattle.demand3.proofs.OverTheJob as job
 
--- "the parameter list of a def or lambda" is ALL its parameters, in written order: none is left out, and nothing else is in it
+-- "the parameter list of a def or lambda" is ALL its parameters, in written order: none is left out, and nothing else
+-- is in it
 pub list-is-all : (t names : List ℕ) (node : ℕ) (ms : List ℕ) → Given t names node ms
     → listOf t names node ≡ allParameters t names node
 list-is-all = all-listed
@@ -56,7 +62,8 @@ module _ (t names : List ℕ) (node : ℕ) (ms : List ℕ) (given : Given t name
         → (a : Counted) × (r ≡ Accepted a) × RangesAre a (cutRanges c)
     answer-has-the-ranges = job.answer-is t names node ms given c cut
 
-    -- "marks omitted: the ordinary parameters before `/`, those of the second part, `*args`, the ordinary ones after the star, `**kwargs`"
+    -- "marks omitted: the ordinary parameters before `/`, those of the second part, `*args`, the ordinary ones after
+    -- the star, `**kwargs`"
     pub ranges-cut-the-flat-list : CutBy (cutRanges c) (flatList (listOf t names node)) (partsOf c)
     ranges-cut-the-flat-list = rw (← cut .joins) (ranges.cut-parts c)
 

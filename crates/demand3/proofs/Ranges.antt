@@ -1,4 +1,5 @@
--- The ranges of a cut: they are what unpack answers, cut the flat list into its parts, follow and cover, and each has its mode. Assumes nothing.
+-- The ranges of a cut: they are what unpack answers, cut the flat list into its parts, follow and cover, and each has
+-- its mode. Assumes nothing.
 use mathlib.Core.Path.{_≡_, refl, ap, ap₂, _∙_}
 use mathlib.Core.Bool.{Bool, true, false, _&&_}
 use mathlib.Core.List.{List, [], _∷_, _++_, append-assoc, append-nil}

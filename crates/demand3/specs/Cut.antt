@@ -1,4 +1,5 @@
--- The cut of a parameter list into parts, by itself: what the parts are, how they join, what is asked of them, and their ranges. These are definitions.
+-- The cut of a parameter list into parts, by itself: what the parts are, how they join, what is asked of them, and
+-- their ranges. These are definitions.
 use mathlib.Core.Path.{_≡_}
 use mathlib.Core.Bool.{Bool, true, false, _&&_}
 use mathlib.Core.List.{List, [], _∷_, _++_}
@@ -127,7 +128,13 @@ pub record Parts : Type 0 where
   pub kwargs : List Param
 
 abbrev pub partsOf : Cut → Parts
-partsOf c = record { posOnly = ordinary (firsts (c .before)); posOrNamed = ordinary (c .middle); args = argsPart (c .star); namedOnly = ordinary (afterStar (c .star)); kwargs = kwargsPart (c .last) }
+partsOf c = record {
+  posOnly = ordinary (firsts (c .before));
+  posOrNamed = ordinary (c .middle);
+  args = argsPart (c .star);
+  namedOnly = ordinary (afterStar (c .star));
+  kwargs = kwargsPart (c .last);
+}
 
 -- the flat list: the written list with the marks omitted
 abbrev pub flatList : List Param → List Param
@@ -153,7 +160,8 @@ rangesOf p =
     let b = a + length (p .posOrNamed) in
     let s = b + length (p .args) in
     let n = s + length (p .namedOnly) in
-    record { posOnly = range 0 a; posOrNamed = range a b; args = range b s; namedOnly = range s n; kwargs = range n (n + length (p .kwargs)) }
+    let k = n + length (p .kwargs) in
+    record { posOnly = range 0 a; posOrNamed = range a b; args = range b s; namedOnly = range s n; kwargs = range n k }
 
 abbrev pub cutRanges : Cut → Ranges
 cutRanges c = rangesOf (partsOf c)
@@ -171,13 +179,16 @@ abbrev pub holds : Range → ℕ → ℕ
 holds r i = if' (leb (r .from) i && ltb i (r .upto)) (λ _. 1) (λ _. 0)
 
 abbrev pub holders : Ranges → ℕ → ℕ
-holders r i = holds (r .posOnly) i + (holds (r .posOrNamed) i + (holds (r .args) i + (holds (r .namedOnly) i + holds (r .kwargs) i)))
+holders r i =
+    holds (r .posOnly) i + (holds (r .posOrNamed) i + (holds (r .args) i
+    + (holds (r .namedOnly) i + holds (r .kwargs) i)))
 
 -- the values of an accepted answer: begin and end of each range, then the flat count
 abbrev pub cutValues : Cut → List ℕ
 cutValues c =
     let r = cutRanges c in
-    r .posOnly .from ∷ r .posOnly .upto ∷ r .posOrNamed .from ∷ r .posOrNamed .upto ∷ r .args .from ∷ r .args .upto ∷ r .namedOnly .from ∷ r .namedOnly .upto ∷ r .kwargs .from ∷ r .kwargs .upto ∷ cutFlat c ∷ []
+    r .posOnly .from ∷ r .posOnly .upto ∷ r .posOrNamed .from ∷ r .posOrNamed .upto ∷ r .args .from ∷ r .args .upto
+    ∷ r .namedOnly .from ∷ r .namedOnly .upto ∷ r .kwargs .from ∷ r .kwargs .upto ∷ cutFlat c ∷ []
 
 -- the modes by range
 abbrev pub partModes : Parts → List ℕ

@@ -20,7 +20,8 @@ use Rattle.demand3.specs.Cut.{Cut, join, Good, Ranges}
 -- the records side by side that are parameters, wherever they stand among the others
 unfoldable pub parametersIn : Forest → List Node
 parametersIn none = []
-parametersIn (node r ks then f) = if' (eqb (classOf (r .kind)) parameter) (λ _. r ∷ parametersIn f) (λ _. parametersIn f)
+parametersIn (node r ks then f) =
+    if' (eqb (classOf (r .kind)) parameter) (λ _. r ∷ parametersIn f) (λ _. parametersIn f)
 
 -- all parameters of a node of the table, in written order
 abbrev pub allParameters : List ℕ → List ℕ → ℕ → List Param
@@ -30,7 +31,8 @@ allParameters t names i = map (paramOf names) (parametersIn (forest (i + 1) (kid
 pub record Given (t names : List ℕ) (node : ℕ) (ms : List ℕ) : Type 0 where
   pub sound : checkOf t names ≡ accepted []
   pub within : node < length t / recordBytes
-  pub defOrLambda : (nodeOf node (drop (recordBytes * node) t) .kind ≡ kindDef) ⊎ (nodeOf node (drop (recordBytes * node) t) .kind ≡ kindLambda)
+  pub defOrLambda : (nodeOf node (drop (recordBytes * node) t) .kind ≡ kindDef)
+      ⊎ (nodeOf node (drop (recordBytes * node) t) .kind ≡ kindLambda)
   pub room : length (listOf t names node) ≤ length ms
 
 -- a good cut of a written list

@@ -1,7 +1,10 @@
-// The dialect of a module: which language features are permitted. A dialect comes by its name, or from the nine bytes of a table file.
+// The dialect of a module: which language features are permitted. A dialect comes by its name, or from the nine bytes
+// of a table file.
 //
-// Ported from src/dialect.rs of starlark_syntax 0.14.2, and changed: the named dialects are rows of numbers, and bytes are read.
-// Copyright 2018 The Starlark in Rust Authors. Copyright (c) Facebook, Inc. and its affiliates. Licensed under Apache-2.0.
+// Ported from src/dialect.rs of starlark_syntax 0.14.2, and changed: the named dialects are rows of numbers, and bytes
+// are read.
+// Copyright 2018 The Starlark in Rust Authors. Copyright (c) Facebook, Inc. and its affiliates.
+// Licensed under Apache-2.0.
 ghost use mathlib.Core.Path.{_≡_};
 ghost use lib.ListN.{length};
 ghost use Rattle.dialect.specs.Rows.{rowNamed, typesOf, permitsTypes, recordOf, dialectNamed};

@@ -42,8 +42,12 @@ pub tail-part : {A : Type 0} (a : ℕ) (l : List A) → take (length l - a) (dro
 tail-part a l = take-all (length l - a) (drop a l) (simp length-drop (omega arith))
 
 -- a field of twice the width is two fields of the part from its start on
-pub field-double : (w : ℕ) (l : List ℕ) (at : ℕ)
+field-double : (w : ℕ) (l : List ℕ) (at : ℕ)
     → field w (take (length l - at) (drop at l)) 0 + 256 ^ w * field w (take (length l - at) (drop at l)) w
     ≡ field (w + w) l at
 field-double w l at = rw (tail-part at l, field-drop w l at 0, field-drop w l at w, add-zero)
     (sym (field-split w w l at))
+
+pub field-halves : (l : List ℕ) (at : ℕ) {a b : ℕ} → a ≡ field 2 (take (length l - at) (drop at l)) 0
+    → b ≡ field 2 (take (length l - at) (drop at l)) 2 → a + 65536 * b ≡ field 4 l at
+field-halves l at a-is b-is = omega (arith, field-double 2 l at)

@@ -1,4 +1,5 @@
--- Laws of numbers as bytes, over the width: reading gives back what is spelled, and spelling what is read. Assumes nothing.
+-- Laws of numbers as bytes, over the width: reading gives back what is spelled, and spelling what is read. Assumes
+-- nothing.
 use mathlib.Core.Path.{_≡_, refl, sym, ap, _∙_}
 use mathlib.Core.Logic.{_⊎_, ⊎-elim}
 use mathlib.Core.List.{List, [], _∷_, _++_}

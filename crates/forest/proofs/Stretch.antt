@@ -1,4 +1,5 @@
--- Laws of stretches and of the forest that a stretch is. They hold for any bytes; every walk cites them. Assumes nothing.
+-- Laws of stretches and of the forest that a stretch is. They hold for any bytes; every walk cites them. Assumes
+-- nothing.
 use mathlib.Core.Path.{_≡_, refl, sym, ap, _∙_}
 use mathlib.Core.Bool.{Bool, true, false}
 use mathlib.Core.List.{List, [], _∷_, _++_}
@@ -88,7 +89,8 @@ forest-tree i bs h =
     (omega (arith, length-rest bs)) (omega arith) in
     all ∙ forestIn-tree (length bs) i bs h ∙ rw (ks, rs) refl
 
--- LAW: to show something of every forest of a stretch, show it of the empty one and of a first node from its children and what follows
+-- LAW: to show something of every forest of a stretch, show it of the empty one and of a first node from its children
+-- and what follows
 pub forest-induction : (P : ℕ → List ℕ → Type 0)
     → ((i : ℕ) (bs : List ℕ) → length bs < 24 → P i bs)
     → ((i : ℕ) (bs : List ℕ) → 24 ≤ length bs → P (i + 1) (kidsOf bs) → P (i + spanOf bs / 24) (restOf bs) → P i bs)
@@ -110,7 +112,8 @@ count-forest =
     (λ i bs s. rw (forest-none i bs s) (omega arith))
     (λ i bs big ks rs. rw (forest-tree i bs big) (omega (arith, length-kids bs, length-rest bs)))
 
--- LAWS for a rule over what stands side by side, in the terms of code: `all` is `one` at each tree, joined from the left
+-- LAWS for a rule over what stands side by side, in the terms of code: `all` is `one` at each tree, joined from the
+-- left
 module _ {A : Type 0} (all : Forest → A) (i e : ℕ) (bs : List ℕ) where
   pub kids-cut : e ≡ spanOf bs → all (forest (i + 1) (take (e - 24) (drop 24 bs)))
       ≡ all (forest (i + 1) (kidsOf bs))

@@ -67,7 +67,9 @@ mutual
 unfoldable pub forestIn : ℕ → ℕ → List ℕ → Forest
 forestIn zero i bs = none
 forestIn (suc k) i bs =
-    if' (leb recordBytes (length bs)) (λ _. node (nodeOf i bs) (forestIn k (i + 1) (kidsOf bs)) then forestIn k (i + spanOf bs / recordBytes) (restOf bs)) (λ _. none)
+    if' (leb recordBytes (length bs)) (λ _.
+    node (nodeOf i bs) (forestIn k (i + 1) (kidsOf bs)) then forestIn k (i + spanOf bs / recordBytes) (restOf bs)) (λ _.
+    none)
 
 -- the whole of it: a stretch has fewer records than bytes
 unfoldable pub forest : ℕ → List ℕ → Forest

@@ -1,5 +1,7 @@
-// Stretches of a node table: 24-byte records in preorder. A stretch begins with a record, whose subtree and what follows it are stretches again.
-// Every function takes any bytes: a record is read as far as it is there, and a subtree takes at least a record and at most what there is.
+// Stretches of a node table: 24-byte records in preorder. A stretch begins with a record, whose subtree and what
+// follows it are stretches again.
+// Every function takes any bytes: a record is read as far as it is there, and a subtree takes at least a record and at
+// most what there is.
 pub mod names;
 
 ghost use mathlib.Core.Path.{_≡_};

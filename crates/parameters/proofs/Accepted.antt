@@ -25,7 +25,8 @@ use Rattle.deflist.proofs.Theorems.{accepted-bounded, written-short}
 use Rattle.deflist.proofs.Counted.{counted-at-most, at-most-wider}
 use Rattle.parameters.specs.Params.{AllBelow, answerOf, roomCheck, listAnswer, listOf, paramsOf}
 
--- an accepted answer: the table is sound, the node fits, the buffer is long enough, and unpack accepts the list with these values
+-- an accepted answer: the table is sound, the node fits, the buffer is long enough, and unpack accepts the list with
+-- these values
 pub record Passed (t ns : List ℕ) (node room : ℕ) (vs : List ℕ) : Type 0 where
   pub sound : checkOf t ns ≡ accepted []
   pub fits : nodeFits t node Parameters ≡ true
@@ -91,9 +92,11 @@ all-wider : (m n : ℕ) (vs : List ℕ) → m ≤ n → AllBelow m vs → AllBel
 all-wider m n [] h a = tt
 all-wider m n (v ∷ vs) h a = (omega (arith, a .0), all-wider m n vs h (a .1))
 
--- THEOREM: "Too many parameters" (def.rs:171) and the unwraps (280, 305, 346) cannot fire: in a table that passes the check every list, accepted
--- or refused, has fewer than 2,100 parameters, and so has every number that unpack counts on the way
-module _ (t ns : List ℕ) (node : ℕ) (sound : checkOf t ns ≡ accepted []) (fits : nodeFits t node Parameters ≡ true) where
+-- THEOREM: "Too many parameters" (def.rs:171) and the unwraps (280, 305, 346) cannot fire: in a table that passes the
+-- check every list, accepted or refused, has fewer than 2,100 parameters, and so has every number that unpack counts on
+-- the way
+module _ (t ns : List ℕ) (node : ℕ) (sound : checkOf t ns ≡ accepted [])
+    (fits : nodeFits t node Parameters ≡ true) where
   pub list-short : length (listOf t ns node) < 2100
   unfolding listOf
   list-short = omega (

@@ -1,5 +1,7 @@
--- DefParamIndices of src/syntax/def.rs with its five ranges, the flat count, and the values of document 01. These are definitions.
--- Copyright 2018 The Starlark in Rust Authors. Copyright (c) Facebook, Inc. and its affiliates. Licensed under Apache-2.0; changed.
+-- DefParamIndices of src/syntax/def.rs with its five ranges, the flat count, and the values of document 01. These are
+-- definitions.
+-- Copyright 2018 The Starlark in Rust Authors. Copyright (c) Facebook, Inc. and its affiliates.
+-- Licensed under Apache-2.0; changed.
 use mathlib.Core.List.{List, [], _∷_}
 use Prim.Native.Nat.{ℕ, _+_}
 use Rattle.deflist.specs.declared.FlatPlace.{FlatPlace}
@@ -41,7 +43,8 @@ ends r vs = r .from ∷ r .upto ∷ vs
 
 abbrev pub valuesOf : Counted → List ℕ
 valuesOf c =
-    ends (posOnly (c .indices)) (ends (posOrNamed (c .indices)) (ends (argsRange (c .indices)) (ends (namedOnly (c .indices) (c .flat)) (ends (kwargsRange (c .indices) (c .flat)) (c .flat ∷ [])))))
+    ends (posOnly (c .indices)) (ends (posOrNamed (c .indices)) (ends (argsRange (c .indices))
+    (ends (namedOnly (c .indices) (c .flat)) (ends (kwargsRange (c .indices) (c .flat)) (c .flat ∷ [])))))
 
 -- DefParamIndices and the flat count, from what unpack has counted
 abbrev pub placeOf : FlatPlace → Place
@@ -51,6 +54,11 @@ placeOf NoFlat = Nothing
 unfoldable pub countedOf : Counts → Counted
 countedOf c =
     record {
-      indices = record { «num_positional» = c .«num_positional» .0; «num_positional_only» = c .«num_positional_only» .0; args = placeOf (c .args); kwargs = placeOf (c .kwargs) };
+      indices = record {
+        «num_positional» = c .«num_positional» .0;
+        «num_positional_only» = c .«num_positional_only» .0;
+        args = placeOf (c .args);
+        kwargs = placeOf (c .kwargs);
+      };
       flat = c .flat .0;
     }

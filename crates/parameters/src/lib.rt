@@ -66,8 +66,10 @@ pub enum Unpacked {
 // The parameter list of the def or lambda at a node: 1 to 4, 6, 7, 10 to 18; or its ranges and flat count, with the
 // modes at the front of the buffer.
 pub fn params(table: &[u8], names: &[u8], node: usize, modes: &mut [u8]) -> Unpacked
-    ensures { λ r. ⌜ unpacked r ≡ paramsOf (now (table .entry)) (now (names .entry)) node (length (now (modes .entry))) ⌝ }
-    ensures { λ r. ⌜ now (modes .exit) ≡ modesAfter (now (table .entry)) (now (names .entry)) node (now (modes .entry)) ⌝ }
+    ensures { λ r. ⌜ unpacked r ≡
+        paramsOf (now (table .entry)) (now (names .entry)) node (length (now (modes .entry))) ⌝ }
+    ensures { λ r. ⌜ now (modes .exit) ≡
+        modesAfter (now (table .entry)) (now (names .entry)) node (now (modes .entry)) ⌝ }
 {
     let entered = table::enter(table, names, node, Wanted::Parameters);
     if let Checked::Refused(why) = entered {
@@ -80,7 +82,8 @@ pub fn params(table: &[u8], names: &[u8], node: usize, modes: &mut [u8]) -> Unpa
 // accepted.
 fn unpack_into(names: &[u8], t: &[u8], node: u32, modes: &mut [u8]) -> Unpacked
     requires { ⌜ (24 ≤ length (now t)) × (24 * node + length (now t) ≤ 50400) ⌝ }
-    ensures { λ r. ⌜ Leaves (written (now (names .entry)) node (now (t .entry))) (now (modes .entry)) (unpacked r) (now (modes .exit)) ⌝ }
+    ensures { λ r. ⌜ Leaves (written (now (names .entry)) node (now (t .entry))) (now (modes .entry)) (unpacked r)
+        (now (modes .exit)) ⌝ }
 {
     let kids = deflist::children(t);
     if modes.len() < list_length(kids) {

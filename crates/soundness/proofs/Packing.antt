@@ -1,5 +1,6 @@
--- The packed rows and rules of code say what specs/Kinds says: each arm of code is one computed equation, and no other number has a row. Below that what
--- a packed rule says of each child and of their number, in the terms of code. Assumes nothing.
+-- The packed rows and rules of code say what specs/Kinds says: each arm of code is one computed equation, and no other
+-- number has a row. Below that what a packed rule says of each child and of their number, in the terms of code. Assumes
+-- nothing.
 use mathlib.Core.Path.{_≡_, refl, sym, ap, _∙_}
 use mathlib.Core.Bool.{Bool, true, false, _&&_, _||_}
 use mathlib.Core.List.{List, [], _∷_, _++_}

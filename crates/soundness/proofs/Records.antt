@@ -21,10 +21,10 @@ use Rattle.forest.proofs.Named.{same-length}
 use Rattle.soundness.specs.Kinds.{Children, kindOf, classOf}
 use Rattle.soundness.specs.Sound.{Context, fieldsSound, wholeTrees, classes, permitted, fixed, between}
 use Rattle.soundness.specs.Sound.{wanted, permits, kidsSound, soundNode, soundAt, context, contextOf}
-use Rattle.soundness.specs.Sound.{rootSound, recordSound, firstUnsound}
+use Rattle.soundness.specs.Sound.{rootSound, recordSound, firstFalse, firstUnsound}
 use Rattle.soundness.specs.Packed.{ruleOf, numberSound, LastFrom, childSound, childOf}
 use Rattle.soundness.proofs.Packing.{length-wanted}
-use Rattle.soundness.proofs.Search.{look-start, look-here}
+use Rattle.soundness.proofs.Search.{Looking, look-start, look-here, look-on}
 
 -- whether children are whole, and their classes, do not depend on their indices
 pub classes-index : (i : ℕ) (bs : List ℕ) (j : ℕ) → classes (forest i bs) ≡ classes (forest j bs)
@@ -360,17 +360,21 @@ module _ (t names : List ℕ) {b : Bool} (b-is : b ≡ rootSound t) where
       let bad : rootSound t ≡ false = cc in
       look-here (look-start (recordSound t names) (length t / 24)) (omega arith) (rw bad refl)
 
-  pub record-test : b ≡ true → (i : ℕ) {r : Bool}
-      → r ≡ soundAt (context (length names)) 0 (take (length t - 24 * i) (drop (24 * i) t))
-      → recordSound t names i ≡ r
-  unfolding recordSound contextOf
-  record-test b-yes i r-is =
-      let here : soundAt (context (length names)) i (drop (24 * i) t)
-      ≡ soundAt (context (length names)) 0 (take (length t - 24 * i) (drop (24 * i) t)) = sound-index
-      (context (length names)) (drop (24 * i) t) i
-      ∙ ap (soundAt (context (length names)) 0) (sym (tail-part (24 * i) t)) in
-      rw (here, ← r-is) (go (eqb i 0))
-    where
-      go : (z : Bool) {r : Bool} → (if' z (λ _. rootSound t) (λ _. true) && r) ≡ r
-      go true = rw (← b-is, b-yes) refl
-      go false = refl
+  module _ (b-yes : b ≡ true) {n i : ℕ} (s : Looking (recordSound t names) n i) (h : i < n) {r : Bool}
+      (r-is : r ≡ soundAt (context (length names)) 0 (take (length t - 24 * i) (drop (24 * i) t))) where
+    record-test : recordSound t names i ≡ r
+    unfolding recordSound contextOf
+    record-test =
+        let here = sound-index (context (length names)) (drop (24 * i) t) i
+        ∙ ap (soundAt (context (length names)) 0) (sym (tail-part (24 * i) t)) in
+        rw (here, ← r-is) (go (eqb i 0))
+      where
+        go : (z : Bool) {r : Bool} → (if' z (λ _. rootSound t) (λ _. true) && r) ≡ r
+        go true = rw (← b-is, b-yes) refl
+        go false = refl
+
+    pub record-here : r ≡ false → At i ≡ firstFalse (recordSound t names) 0 n
+    record-here e = look-here s h (record-test ∙ e)
+
+    pub record-on : r ≡ true → Looking (recordSound t names) n (i + 1)
+    record-on e = look-on s h (record-test ∙ e)

@@ -1,4 +1,5 @@
--- A table with no unsound record is a forest whose every node is sound, and so is the stretch of each of its nodes. Assumes nothing.
+-- A table with no unsound record is a forest whose every node is sound, and so is the stretch of each of its nodes.
+-- Assumes nothing.
 use mathlib.Core.Path.{_≡_, refl, sym, ap, _∙_}
 use mathlib.Core.Bool.{Bool, true, _&&_}
 use mathlib.Core.List.{List}
@@ -24,7 +25,8 @@ use Rattle.soundness.specs.Sound.{recordSound, firstUnsound}
 use Rattle.soundness.proofs.Search.{none-found}
 use Rattle.soundness.proofs.Records.{whole-size}
 
--- THEOREM: a record is whole exactly where its size is at least 1 and its subtree does not pass the end of what is there
+-- THEOREM: a record is whole exactly where its size is at least 1 and its subtree does not pass the end of what is
+-- there
 module _ (i : ℕ) (bs : List ℕ) (big : 24 ≤ length bs) where
   pub whole-size-fits : wholeTree (nodeOf i bs) (forest (i + 1) (kidsOf bs)) ≡ true
       → (1 ≤ sizeOf bs) × (24 * sizeOf bs ≤ length bs)

@@ -4,7 +4,15 @@ use mathlib.Core.List.{List, [], _∷_, _++_}
 use Prim.Native.Nat.{ℕ}
 use lib.Dec.{eqb}
 use Rattle.fields.specs.Choice.{if'}
-use Rattle.soundness.specs.KindNumbers.{kindStatements, kindDef, kindFor, kindIf, kindIfElse, kindBreak, kindContinue, kindReturn, kindLoad, kindOtherSimple, kindAssign, kindAssignModify, kindTuple, kindDot, kindCall, kindIndex, kindIndex2, kindSlice, kindIdentifier, kindLambda, kindString, kindInt, kindFloat, kindEllipsis, kindBytes, kindNot, kindMinus, kindPlus, kindBitNot, kindOp, kindIfExpr, kindList, kindDict, kindListComprehension, kindDictComprehension, kindFString, kindNormal, kindNoArgs, kindSlash, kindArgsParam, kindKwArgsParam, kindPositional, kindNamed, kindArgsArg, kindKwArgsArg}
+use Rattle.soundness.specs.KindNumbers.{kindStatements, kindDef, kindFor, kindIf, kindIfElse, kindBreak}
+use Rattle.soundness.specs.KindNumbers.{kindContinue, kindReturn, kindLoad, kindOtherSimple, kindAssign}
+use Rattle.soundness.specs.KindNumbers.{kindAssignModify, kindTuple, kindDot, kindCall, kindIndex, kindIndex2}
+use Rattle.soundness.specs.KindNumbers.{kindSlice, kindIdentifier, kindLambda, kindString, kindInt, kindFloat}
+use Rattle.soundness.specs.KindNumbers.{kindEllipsis, kindBytes, kindNot, kindMinus, kindPlus, kindBitNot, kindOp}
+use Rattle.soundness.specs.KindNumbers.{kindIfExpr, kindList, kindDict, kindListComprehension}
+use Rattle.soundness.specs.KindNumbers.{kindDictComprehension, kindFString, kindNormal, kindNoArgs, kindSlash}
+use Rattle.soundness.specs.KindNumbers.{kindArgsParam, kindKwArgsParam, kindPositional, kindNamed, kindArgsArg}
+use Rattle.soundness.specs.KindNumbers.{kindKwArgsArg}
 
 -- the classes of records; 0 is none
 abbrev pub statement : ℕ
@@ -35,7 +43,8 @@ pub record Children : Type 0 where
 abbrev pub children : List ℕ → Times → ℕ → List ℕ → Children
 children f t m b = record { front = f; times = t; middle = m; back = b }
 
--- exactly these; any, an even number, or at most so many of a class; these and then any, or at most so many, of a class; any of a class and then these
+-- exactly these; any, an even number, or at most so many of a class; these and then any, or at most so many, of a
+-- class; any of a class and then these
 abbrev pub exactly : List ℕ → Children
 exactly cs = children cs (atMost 0) 0 []
 
@@ -91,17 +100,21 @@ three = expression ∷ two
 abbrev pub kinds : List Kind
 kinds =
     kind kindStatements statement 0 noName (λ d. any statement) ∷  -- Statements
-    kind kindDef statement 1 noName (λ d. anyThen parameter (ifDetail d 1 1 ++ statement ∷ [])) ∷  -- Def: parameters, return type, body
-    kind kindFor statement 0 noName (λ d. exactly (expression ∷ expression ∷ statement ∷ [])) ∷  -- For: target, over, body
+    kind kindDef statement 1 noName  -- Def: parameters, return type, body
+    (λ d. anyThen parameter (ifDetail d 1 1 ++ statement ∷ [])) ∷
+    kind kindFor statement 0 noName  -- For: target, over, body
+    (λ d. exactly (expression ∷ expression ∷ statement ∷ [])) ∷
     kind kindIf statement 0 noName (λ d. exactly (expression ∷ statement ∷ [])) ∷  -- If: condition, statement
-    kind kindIfElse statement 0 noName (λ d. exactly (expression ∷ statement ∷ statement ∷ [])) ∷  -- IfElse: condition, two statements
+    kind kindIfElse statement 0 noName  -- IfElse: condition, two statements
+    (λ d. exactly (expression ∷ statement ∷ statement ∷ [])) ∷
     kind kindBreak statement 0 noName (λ d. exactly []) ∷  -- Break
     kind kindContinue statement 0 noName (λ d. exactly []) ∷  -- Continue
     kind kindReturn statement 0 noName (λ d. upTo 1 expression) ∷  -- Return
     kind kindLoad statement 0 noName (λ d. exactly []) ∷  -- Load
     kind kindOtherSimple statement 0 noName (λ d. any expression) ∷  -- other simple
     kind kindAssign statement 1 noName (λ d. exactly (one ++ ifDetail d 1 1 ++ one)) ∷  -- Assign: target, type, value
-    kind kindAssignModify statement 1 noName (λ d. exactly (one ++ ifDetail d 1 1 ++ one)) ∷  -- AssignModify: target, type, value
+    kind kindAssignModify statement 1 noName  -- AssignModify: target, type, value
+    (λ d. exactly (one ++ ifDetail d 1 1 ++ one)) ∷
     kind kindTuple expression 0 noName (λ d. any expression) ∷  -- Tuple
     kind kindDot expression 0 aName (λ d. exactly one) ∷  -- Dot: object; the name is the field
     kind kindCall expression 0 noName (λ d. thenAny one argument) ∷  -- Call: callee, arguments

@@ -1,4 +1,5 @@
--- How code's packed rows are read. That they say what Kinds says is proved, so no one needs to believe them. These are definitions.
+-- How code's packed rows are read. That they say what Kinds says is proved, so no one needs to believe them. These are
+-- definitions.
 use mathlib.Core.Bool.{Bool, _&&_}
 use mathlib.Core.List.{List, [], _∷_}
 use mathlib.Core.Path.{_≡_}
@@ -6,11 +7,14 @@ use Prim.Native.Nat.{ℕ, _-_, _/_, _%_, min}
 use lib.ListN.{getD, take}
 use lib.Dec.{eqb, ltb, leb}
 use Rattle.fields.specs.Choice.{if'}
-use Rattle.soundness.specs.Kinds.{statement, expression, parameter, argument, one, two, three, Times, anyNumber, evenNumber, atMost, Children, children, exactly, any, evenly, upTo, thenAny, thenUpTo, anyThen, kindOf, classOf}
+use Rattle.soundness.specs.Kinds.{statement, expression, parameter, argument, one, two, three, Times, anyNumber}
+use Rattle.soundness.specs.Kinds.{evenNumber, atMost, Children, children, exactly, any, evenly, upTo, thenAny}
+use Rattle.soundness.specs.Kinds.{thenUpTo, anyThen, kindOf, classOf}
 use Rattle.forest.specs.Forest.{recordBytes, sizeOf, nodeOf, spanOf}
 use Rattle.soundness.specs.Sound.{permitted, fixed, between}
 
--- the parts of a packed rule: how many come first and the classes of up to three, how many then come and their class, how many come last and the classes of up to three
+-- the parts of a packed rule: how many come first and the classes of up to three, how many then come and their class,
+-- how many come last and the classes of up to three
 abbrev pub frontsIn : ℕ → ℕ
 frontsIn r = r / 0x10_0000_0000 % 4
 
@@ -44,7 +48,8 @@ rules =
     ∷ anyThen parameter (statement ∷ []) ∷ anyThen parameter (expression ∷ statement ∷ []) ∷ anyThen parameter one
     ∷ any statement ∷ any expression ∷ evenly expression ∷ upTo 1 expression
     ∷ thenUpTo one 3 expression ∷ thenAny one expression ∷ thenAny two expression ∷ thenAny one argument
-    ∷ exactly (expression ∷ expression ∷ statement ∷ []) ∷ exactly (expression ∷ statement ∷ []) ∷ exactly (expression ∷ statement ∷ statement ∷ [])
+    ∷ exactly (expression ∷ expression ∷ statement ∷ []) ∷ exactly (expression ∷ statement ∷ [])
+    ∷ exactly (expression ∷ statement ∷ statement ∷ [])
     ∷ []
 
 unfoldable pub ruleAt : ℕ → Children
@@ -56,7 +61,9 @@ ruleOf k d = if' (leb d (kindOf k .details)) (λ _. kindOf k .kids d) (λ _. exa
 
 -- the rules of a packed row, and those of a kind, at the details 0 to 3
 unfoldable pub rulesIn : ℕ → List Children
-rulesIn row = ruleAt (row / 0x100_0000 % 0x100) ∷ ruleAt (row / 0x1_0000 % 0x100) ∷ ruleAt (row / 0x100 % 0x100) ∷ ruleAt (row % 0x100) ∷ []
+rulesIn row =
+    ruleAt (row / 0x100_0000 % 0x100) ∷ ruleAt (row / 0x1_0000 % 0x100) ∷ ruleAt (row / 0x100 % 0x100)
+    ∷ ruleAt (row % 0x100) ∷ []
 
 unfoldable pub rulesOf : ℕ → List Children
 rulesOf k = ruleOf k 0 ∷ ruleOf k 1 ∷ ruleOf k 2 ∷ ruleOf k 3 ∷ []
@@ -78,7 +85,9 @@ LastFrom n b m = min m n ≡ n - b
 
 -- the class that a packed rule wants of child j, where the last ones stand from child m on
 unfoldable pub classAt : ℕ → ℕ → ℕ → ℕ
-classAt r m j = if' (ltb j (frontsIn r)) (λ _. getD (frontIn r) j 0) (λ _. if' (ltb j m) (λ _. middleIn r) (λ _. getD (backIn r) (j - m) 0))
+classAt r m j =
+    if' (ltb j (frontsIn r)) (λ _. getD (frontIn r) j 0) (λ _.
+    if' (ltb j m) (λ _. middleIn r) (λ _. getD (backIn r) (j - m) 0))
 
 -- the node that a stretch begins with is whole and of this class
 abbrev pub childSound : ℕ → List ℕ → Bool

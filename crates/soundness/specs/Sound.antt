@@ -12,7 +12,8 @@ use Rattle.forest.specs.declared.Found.the-variants.{At, Nothing}
 use Rattle.soundness.specs.KindNumbers.{kindNamed}
 use Rattle.soundness.specs.Kinds.{statement, Times, anyNumber, evenNumber, atMost, Children, kindOf, classOf}
 
--- what a record's rule is told besides the record: the number of lent name bytes (a request to come adds the file of its statement)
+-- what a record's rule is told besides the record: the number of lent name bytes (a request to come adds the file of
+-- its statement)
 pub record Context : Type 0 where
   pub names : ℕ
 
@@ -39,14 +40,16 @@ sourceSound kind source len = if' (eqb kind kindNamed) (λ _. leb (source + len)
 -- the fields of a record: kind, detail, name, span, zero bytes, source position
 unfoldable pub fieldsSound : Context → Node → Bool
 fieldsSound x r =
-    leb 1 (classOf (r .kind)) && (leb (r .detail) (kindOf (r .kind) .details) && (nameSound (kindOf (r .kind) .named) (x .names) (r .nameLen) (r .nameStart)
+    leb 1 (classOf (r .kind)) && (leb (r .detail) (kindOf (r .kind) .details)
+    && (nameSound (kindOf (r .kind) .named) (x .names) (r .nameLen) (r .nameStart)
     && (spanSound (r .begin) (r .stop) && (eqb (r .pad) 0 && sourceSound (r .kind) (r .source) (r .nameLen)))))
 
 -- the subtree is as long as its record says
 abbrev pub wholeTree : Node → Forest → Bool
 wholeTree r ks = eqb (r .size) (1 + count ks)
 
--- the nodes side by side are as long as their records say: so they fill their stretch, and none has the size 0 or passes the end
+-- the nodes side by side are as long as their records say: so they fill their stretch, and none has the size 0 or
+-- passes the end
 unfoldable pub wholeTrees : Forest → Bool
 wholeTrees none = true
 wholeTrees (node c ks then cs) = wholeTree c ks && wholeTrees cs
@@ -62,7 +65,8 @@ permitted anyNumber n = true
 permitted evenNumber n = eqb (n % 2) 0
 permitted (atMost m) n = leb n m
 
--- how many children come first and last, how many of n stand between them, and the classes that n children have in order
+-- how many children come first and last, how many of n stand between them, and the classes that n children have in
+-- order
 abbrev pub fixed : Children → ℕ
 fixed c = length (c .front) + length (c .back)
 
@@ -98,7 +102,8 @@ contextOf t names i = context (length names)
 
 -- record i of a table
 unfoldable pub recordSound : List ℕ → List ℕ → ℕ → Bool
-recordSound t names i = if' (eqb i 0) (λ _. rootSound t) (λ _. true) && soundAt (contextOf t names i) i (drop (recordBytes * i) t)
+recordSound t names i =
+    if' (eqb i 0) (λ _. rootSound t) (λ _. true) && soundAt (contextOf t names i) i (drop (recordBytes * i) t)
 
 -- the first of n numbers from i on at which a test fails
 unfoldable pub firstFalse : (ℕ → Bool) → ℕ → ℕ → Found

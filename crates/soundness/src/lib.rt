@@ -1,4 +1,5 @@
-// Soundness of a node table: the kinds of records, the rule of a record with its children, and the first record that breaks it.
+// Soundness of a node table: the kinds of records, the rule of a record with its children, and the first record that
+// breaks it.
 pub mod classes;
 pub mod kinds;
 mod rows;

@@ -1,10 +1,11 @@
-// What code needs of each kind and of each rule, packed into a number each, its parts read off the hexadecimal digits: a `match` that gives numbers
-// is a table in the compiled code, where an array would be laid out on the stack at each call. specs/Packed.antt says how the digits are read; that
-// they say what specs/Kinds.antt says is proved arm by arm.
+// What code needs of each kind and of each rule, packed into a number each, its parts read off the hexadecimal digits:
+// a `match` that gives numbers is a table in the compiled code, where an array would be laid out on the stack at each
+// call. specs/Packed.antt says how the digits are read; that they say what specs/Kinds.antt says is proved arm by arm.
 ghost use mathlib.Core.Path.{_≡_};
 ghost use lib.ListN.{getD};
 ghost use Rattle.soundness.specs.Kinds.{kindOf, classOf};
-ghost use Rattle.soundness.specs.Packed.{RowOf, ruleAt, ruleOf, childrenOf, frontsIn, frontIn, timesIn, middleIn, backsIn, backIn};
+ghost use Rattle.soundness.specs.Packed.{RowOf, ruleAt, ruleOf, childrenOf, frontsIn, frontIn, timesIn, middleIn};
+ghost use Rattle.soundness.specs.Packed.{backsIn, backIn};
 
 // Where the parts of a row stand in its number: the power of 16 of their last digit.
 const CLASS: u64 = 0x100_0000_0000;
@@ -38,8 +39,8 @@ const BACK_0: u64 = 0x100;
 
 const BACK_1: u64 = 0x10;
 
-// The row of a kind: class, largest detail, whether a name stands on it, and the number of its rule at the details 0, 1, 2 and 3, two digits each. A
-// number that no kind has gives nothing.
+// The row of a kind: class, largest detail, whether a name stands on it, and the number of its rule at the details 0,
+// 1, 2 and 3, two digits each. A number that no kind has gives nothing.
 fn row_of(kind: u8) -> u64
     ensures { λ r. ⌜ RowOf kind r ⌝ }
 {
@@ -128,8 +129,8 @@ fn rule_number(kind: u8, detail: u8) -> u64
     }
 }
 
-// A rule by its number: how many children come first and the classes of up to three; how many then come (f any, e an even number, else at most so many)
-// and their class; how many come last and the classes of up to three.
+// A rule by its number: how many children come first and the classes of up to three; how many then come (f any, e an
+// even number, else at most so many) and their class; how many come last and the classes of up to three.
 fn rule_at(number: u64) -> u64
     ensures { λ r. ⌜ childrenOf r ≡ ruleAt number ⌝ }
 {

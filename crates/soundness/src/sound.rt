@@ -10,7 +10,8 @@ ghost use Prim.Native.Nat.{_*_, _≤_};
 ghost use lib.Dec.{leb};
 ghost use lib.ListN.{length};
 ghost use Rattle.forest.specs.Forest.{nodeOf, forest};
-ghost use Rattle.soundness.specs.Sound.{context, nameSound, spanSound, sourceSound, fieldsSound, classes, kidsSound, soundAt, rootSound, firstUnsound};
+ghost use Rattle.soundness.specs.Sound.{context, nameSound, spanSound, sourceSound, fieldsSound, classes};
+ghost use Rattle.soundness.specs.Sound.{kidsSound, soundAt, rootSound, firstUnsound};
 ghost use Rattle.soundness.specs.Packed.{backsIn, childrenOf, ruleOf, numberSound, LastFrom, classAt, childOf};
 
 // A name within the lent names where the kind has one; elsewhere length and start are zero.
@@ -78,8 +79,8 @@ fn children(t: &[u8]) -> usize
     n
 }
 
-// The child from which on the last ones stand, of which a rule has so many. Where it has none, no child: the children are then not counted, and
-// there are no more of them than records.
+// The child from which on the last ones stand, of which a rule has so many. Where it has none, no child: the children
+// are then not counted, and there are no more of them than records.
 fn last_from(t: &[u8], backs: usize) -> usize
     ensures { λ r. ⌜ LastFrom (length (classes (forest 0 (now (t .entry))))) backs r ⌝ }
 {
@@ -141,7 +142,8 @@ fn child(t: &[u8], want: u8) -> usize
     RECORD * (size as usize)
 }
 
-// Whether the nodes of a stretch fill it and are the children that a rule permits, where the last ones stand from child m on.
+// Whether the nodes of a stretch fill it and are the children that a rule permits, where the last ones stand from child
+// m on.
 fn children_sound(t: &[u8], rule: u64, m: usize) -> bool
     requires { ⌜ LastFrom (length (classes (forest 0 (now t)))) (backsIn rule) m ⌝ }
     ensures { λ r. ⌜ r ≡ kidsSound (childrenOf rule) (forest 0 (now (t .entry))) ⌝ }
@@ -168,7 +170,8 @@ fn kids_sound(t: &[u8], kind: u8, detail: u8) -> bool
     children_sound(t, rule, m)
 }
 
-// Whether the record that the rest of a table begins with is sound. Its fields are read from 24 bytes, where compiled code needs no test of lengths.
+// Whether the record that the rest of a table begins with is sound. Its fields are read from 24 bytes, where compiled
+// code needs no test of lengths.
 fn record_sound(t: &[u8], names: usize) -> bool
     requires { ⌜ 24 ≤ length (now t) ⌝ }
     ensures { λ r. ⌜ r ≡ soundAt (context names) 0 (now (t .entry)) ⌝ }

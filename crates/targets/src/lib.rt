@@ -126,7 +126,9 @@ fn check_assignment(t: &[u8], node: usize) -> Targeted
 // Whether the type of an assignment t with the target lhs may stand there; the type, if there is one, begins ty.
 fn check_type(t: &[u8], lhs: &[u8], ty: &[u8], node: usize, leaves: u32) -> Targeted
     requires { ⌜ 24 * node + length (now ty) ≤ 50400 ⌝ }
-    ensures { λ r. ⌜ targeted r ≡ andThen (typeCheck (nodeOf 0 (now (t .entry))) (nodeOf 0 (now (lhs .entry))) (forest node (now (ty .entry)))) (λ _. accepted (leaves ∷ [])) ⌝ }
+    ensures { λ r. ⌜ targeted r ≡
+        andThen (typeCheck (nodeOf 0 (now (t .entry))) (nodeOf 0 (now (lhs .entry))) (forest node (now (ty .entry))))
+        (λ _. accepted (leaves ∷ [])) ⌝ }
 {
     if forest::detail(t) != 1 {
         return Targeted::Leaves(leaves);

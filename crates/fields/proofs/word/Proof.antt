@@ -1,7 +1,6 @@
 -- `fields::word` meets its contract: two halves of the part from its start on. Assumes nothing.
-use native.Mathlib.Omega.{arith}
 use borrow.Author.Needs.{needs}
-use Rattle.fields.proofs.Fields.{field-past, field-double}
+use Rattle.fields.proofs.Fields.{field-past, field-halves}
 use Rattle.fields.proofs.word.Statement.{statement}
 use Rattle.fields.proofs.word.Tie as tie
 
@@ -19,6 +18,4 @@ word-spec =
     (λ c. search needs)
     (λ c. search needs)
     (λ c. search needs)
-    (λ c.  -- returns-2
-    let start = c .before .before .before .before .before in
-    omega (arith, field-double 2 start.args.b.now start.args.at)))
+    (λ c. search field-halves))  -- returns-2

@@ -14,4 +14,4 @@ finish-spec =
     (λ c κs. search needs)
     (λ c. search needs)
     (λ c. rw (c .before .before .star .given .1) (c .after-star .ensures))  -- returns
-    (λ c. rw (c .enum-told .given .1) (λ names h. refl, tt)))  -- returns-2
+    (λ c. rw (c .enum-told .given .1) (record { says = λ names h. refl; inside = tt })))  -- returns-2

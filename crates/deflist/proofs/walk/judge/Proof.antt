@@ -11,4 +11,4 @@ judge-spec =
     (λ c κs. search needs)
     (λ c. search needs)
     (λ c κs. search (needs, judge-room))  -- unpack-requires
-    (λ c. judge-list _ _ (c .before .children .ensures) _ (c .unpack .ensures)))  -- returns
+    (λ c. search judge-list))  -- returns

@@ -1,4 +1,5 @@
--- `deflist::walk::run` meets its contract: what is known of the parameters that are read, and those that are left, decide. Assumes nothing.
+-- `deflist::walk::run` meets its contract: what is known of the parameters that are read, and those that are left,
+-- decide. Assumes nothing.
 use borrow.Author.Needs.{needs}
 use native.Mathlib.Omega.{arith}
 use lib.ListN.{length}
@@ -26,15 +27,7 @@ run-spec =
     (λ c κs. search)  -- check-requires
     (λ c. search needs)
     (λ c κs. search needs)
-    (λ c.  -- returns
-    let the-c = c .before .before .c in
-    let check = c .before .before .before .before .check in
-    let if1 = c .before .before .before .before .before .before .if1 in
-    let back = c .before .before .before .before .before .before in
-    let listed = back .before .listed in
-    let loop = back .before .before .loop in
-    let start = back .before .before .before .start in
-    judge-stop loop.inv listed.ensures if1.taken check.ensures _ start.ensures the-c.given.1 (c .fault .ensures))
+    (λ c. search judge-stop)  -- returns
     (λ c. search needs)
     (λ c κs. omega arith)  -- advance-requires
     (λ c. search needs)
@@ -45,22 +38,8 @@ run-spec =
     (λ c. search needs)
     (λ c. search rest-less)  -- loop-less
     (λ c.  -- loop-again
-    let span = c .before .span in
-    let next = c .before .before .next in
-    let advance = c .before .before .before .advance in
-    let enum-told = c .before .before .before .before .enum-told in
-    let check = c .before .before .before .before .before .before .check in
-    let back = c .before .before .before .before .before .before in
-    let kind-of = back .before .kind-of in
-    let if1 = back .before .before .if1 in
-    let listed = back .before .before .before .listed in
-    let loop = back .before .before .before .before .loop in
-    judge-on loop.inv listed.ensures if1.taken check.ensures enum-told.given.1 kind-of.ensures advance.ensures
-    span.ensures next.ensures)
+    let there = c .before .before .before .before in
+    let back = there .before .before .before .before in
+    search (judge-on (back .before .before .loop .inv)))
     (λ c κs. search needs)
-    (λ c.  -- returns-2
-    let if1 = c .before .before .if1 in
-    let listed = c .before .before .before .listed in
-    let loop = c .before .before .before .before .loop in
-    let start = c .before .before .before .before .before .start in
-    judge-end loop.inv listed.ensures if1.left _ start.ensures (c .finish .ensures)))
+    (λ c. search judge-end))  -- returns-2

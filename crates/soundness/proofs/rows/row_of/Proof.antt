@@ -1,4 +1,5 @@
--- `soundness::rows::row_of` meets its contract: each arm is the row of its kind, and no other number is a kind. Assumes nothing.
+-- `soundness::rows::row_of` meets its contract: each arm is the row of its kind, and no other number is a kind. Assumes
+-- nothing.
 use mathlib.Core.Path.{refl}
 use Rattle.soundness.specs.Kinds.{kindOf, kindIn}
 use Rattle.soundness.specs.Packed.{rulesIn, rulesOf, ruleAt, ruleOf}

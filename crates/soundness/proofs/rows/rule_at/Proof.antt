@@ -1,4 +1,5 @@
--- `soundness::rows::rule_at` meets its contract: each arm is the rule of its number, and no other number has one. Assumes nothing.
+-- `soundness::rows::rule_at` meets its contract: each arm is the rule of its number, and no other number has one.
+-- Assumes nothing.
 use mathlib.Core.Path.{refl}
 use Rattle.soundness.specs.Packed.{childrenOf, ruleAt}
 use Rattle.soundness.proofs.Packing.{rule-none}

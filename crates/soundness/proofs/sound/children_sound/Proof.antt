@@ -1,4 +1,5 @@
--- `soundness::sound::children_sound` meets its contract: the nodes that are left decide, and their number at the end. Assumes nothing.
+-- `soundness::sound::children_sound` meets its contract: the nodes that are left decide, and their number at the end.
+-- Assumes nothing.
 use borrow.Author.Needs.{needs}
 use lib.ListN.{length}
 use Rattle.soundness.specs.Packed.{childrenOf}

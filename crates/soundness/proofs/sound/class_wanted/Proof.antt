@@ -1,4 +1,5 @@
--- `soundness::sound::class_wanted` meets its contract: a child is among the first, between, or among the last. Assumes nothing.
+-- `soundness::sound::class_wanted` meets its contract: a child is among the first, between, or among the last. Assumes
+-- nothing.
 use Rattle.soundness.proofs.Packing.{at-front, at-middle, at-back}
 use borrow.Author.Needs.{needs}
 use Rattle.soundness.proofs.sound.class_wanted.Statement.{statement}

@@ -1,4 +1,5 @@
--- `soundness::sound::kids_sound` meets its contract: the rule of the kind, and where its last ones stand. Assumes nothing.
+-- `soundness::sound::kids_sound` meets its contract: the rule of the kind, and where its last ones stand. Assumes
+-- nothing.
 use borrow.Author.Needs.{needs}
 use Rattle.soundness.proofs.sound.kids_sound.Statement.{statement}
 use Rattle.soundness.proofs.sound.kids_sound.Tie as tie

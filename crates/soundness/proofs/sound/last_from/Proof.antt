@@ -1,4 +1,5 @@
--- `soundness::sound::last_from` meets its contract: the children past it are the last ones, or there are none. Assumes nothing.
+-- `soundness::sound::last_from` meets its contract: the children past it are the last ones, or there are none. Assumes
+-- nothing.
 use Rattle.soundness.proofs.Records.{no-last}
 use borrow.Author.Needs.{needs}
 use Rattle.soundness.proofs.sound.last_from.Statement.{statement}

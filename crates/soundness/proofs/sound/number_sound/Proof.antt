@@ -1,4 +1,5 @@
--- `soundness::sound::number_sound` meets its contract: each test leads to one case of the number permitted. Assumes nothing.
+-- `soundness::sound::number_sound` meets its contract: each test leads to one case of the number permitted. Assumes
+-- nothing.
 use Rattle.soundness.proofs.Packing.{number-few, number-any, number-even, number-most}
 use borrow.Author.Needs.{needs}
 use Rattle.soundness.proofs.sound.number_sound.Statement.{statement}

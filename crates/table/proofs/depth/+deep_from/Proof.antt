@@ -1,4 +1,5 @@
--- `table::depth::deep_from` meets its contract: of nodes side by side one is too deep, or one below it, or one after it.
+-- `table::depth::deep_from` meets its contract: of nodes side by side one is too deep, or one below it, or one after
+-- it.
 -- Assumes nothing.
 use borrow.Author.Needs.{needs}
 use lib.ListN.{length}
