@@ -12,15 +12,18 @@ use Rattle.forest.specs.Forest.{Node, nodeOf, spanOf, forest, treeOf}
 use Rattle.forest.specs.Names.{nameOf, same}
 use Rattle.forest.proofs.Stretch.{forest-none, forest-tree, kids-part, rest-part, record-or-none}
 use Rattle.soundness.specs.KindNumbers.{kindPositional, kindNamed, kindArgsArg}
+use Rattle.forest.specs.declared.Found.{Found}
+use Rattle.forest.specs.declared.Found.the-variants.{Nothing}
+use Rattle.table.specs.Numbers.{namedAfterStar}
 use Rattle.table.specs.Answer.{Answer}
 use Rattle.arguments.specs.Written.{Name, Argument, kindAt, argument, argumentOf, argumentsIn}
-use Rattle.arguments.specs.Call.{hasName, firstSame, repeats, positionalRule, namedRule, argsRule, kwargsRule}
-use Rattle.arguments.specs.Call.{check, unpack}
+use Rattle.arguments.specs.Call.{pastNamed, hasName, firstSame, repeats, newName, namedRule, rule, unpack}
 use Rattle.arguments.specs.Job.{outcomeAnswer, callAnswer}
 use Rattle.arguments.specs.declared.Kind.{Kind}
 use Rattle.arguments.specs.declared.Kind.the-variants.{Positional, Named, Args, KwArgs}
 use Rattle.arguments.specs.declared.ArgsStage.{ArgsStage}
 use Rattle.arguments.specs.declared.Check.{Check}
+use Rattle.arguments.specs.declared.Check.the-variants.{Broken}
 
 -- the kind of the argument that a record's kind says
 module _ {k m : ℕ} (k-is : k ≡ m) where
@@ -57,25 +60,34 @@ module _ (ns x t : List ℕ) {k : ℕ} (k-is : k ≡ nodeOf 0 t .kind) where
   unfolding argumentOf hasName
   name-tested h nm-is b-is = b-is ∙ rw (← (kind-named k-is h), nm-is) refl
 
--- the kind chooses the rule
-module _ (before : List Argument) (s : ArgsStage) (ns t : List ℕ) {k : Kind} {r : Check}
-    (k-is : k ≡ kindAt (nodeOf 0 t .kind)) where
-  pub check-positional : k ≡ Positional → r ≡ positionalRule s → r ≡ check before s (argumentOf ns (nodeOf 0 t))
-  unfolding check argumentOf
-  check-positional h r-is = r-is ∙ rw (← k-is, h) refl
+-- what an argument repeats: one with another kind nothing, a named one the first of its name
+module _ (ns : List ℕ) (before : List Argument) (t : List ℕ) {k : ℕ} (k-is : k ≡ nodeOf 0 t .kind) where
+  pub repeats-none : (k ≡ kindNamed → ⊥) → Nothing ≡ repeats before (argumentOf ns (nodeOf 0 t))
+  unfolding argumentOf repeats kindAt
+  repeats-none d = rw (← k-is, ne-eqb k kindNamed d) (go (eqb k kindPositional) (eqb k kindArgsArg) _ _)
+    where
+      go : (p q : Bool) (r : Node) (n : Name)
+          → Nothing ≡ repeats before (argument (if' p (λ _. Positional) (λ _. if' q (λ _. Args) (λ _. KwArgs))) r n)
+      go true q r n = refl
+      go false true r n = refl
+      go false false r n = refl
 
-  pub check-named : k ≡ Named → r ≡ namedRule s (firstSame (nameOf ns (nodeOf 0 t)) before)
-      → r ≡ check before s (argumentOf ns (nodeOf 0 t))
-  unfolding check argumentOf repeats
-  check-named h r-is = r-is ∙ rw (← k-is, h) refl
+  pub repeats-named : k ≡ kindNamed → {x : Name} {r : Found} → x ≡ nameOf ns (nodeOf 0 t) → r ≡ firstSame x before
+      → r ≡ repeats before (argumentOf ns (nodeOf 0 t))
+  unfolding argumentOf repeats
+  repeats-named h x-is r-is = r-is ∙ rw (← (kind-named k-is h), x-is) refl
 
-  pub check-args : k ≡ Args → r ≡ argsRule s → r ≡ check before s (argumentOf ns (nodeOf 0 t))
-  unfolding check argumentOf
-  check-args h r-is = r-is ∙ rw (← k-is, h) refl
+-- the stage chooses 21, and the kind the rule
+pub named-late : (s : ArgsStage) (f : Found) {b : Bool} → b ≡ pastNamed s → b ≡ true
+    → Broken namedAfterStar ≡ namedRule s f
+named-late s f b-is late = rw (← b-is, late) refl
 
-  pub check-kwargs : k ≡ KwArgs → r ≡ kwargsRule s → r ≡ check before s (argumentOf ns (nodeOf 0 t))
-  unfolding check argumentOf
-  check-kwargs h r-is = r-is ∙ rw (← k-is, h) refl
+pub named-new : (s : ArgsStage) (f : Found) {b : Bool} {r : Check} → b ≡ pastNamed s → b ≡ false → r ≡ newName f
+    → r ≡ namedRule s f
+named-new s f b-is early r-is = rw (← b-is, early) r-is
+
+pub rule-named : (s : ArgsStage) (f : Found) {k : Kind} {r : Check} → k ≡ Named → r ≡ namedRule s f → r ≡ rule s f k
+rule-named s f h r-is = rw h r-is
 
 rest-short : (l : List ℕ) (c : ℕ) → length l < 24 → length (take (length l - c) (drop c l)) < 24
 rest-short l c h = simp (length-take, length-drop) (omega arith)

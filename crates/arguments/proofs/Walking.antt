@@ -6,9 +6,13 @@ use Prim.Native.Nat.{ℕ, suc, _+_, _-_, _*_, _/_, _<_, _≤_}
 use native.Mathlib.Omega.{arith}
 use lib.ListN.{length, take, drop, length-take, length-drop, length-append}
 use lib.Seq.{append-snoc, take-append-seam}
+use Rattle.fields.specs.Choice.{if'}
 use Rattle.fields.proofs.Basics.{never}
 use Rattle.forest.specs.Forest.{Node, nodeOf, spanOf, forest}
 use Rattle.forest.specs.Names.{nameOf}
+use Rattle.forest.specs.Marks.{mayStand, noted, Known}
+use Rattle.forest.proofs.Marked.{known-start, known-named, known-other, known-new}
+use Rattle.forest.specs.declared.Found.{Found}
 use Rattle.forest.specs.declared.Found.the-variants.{At, Nothing}
 use Rattle.forest.proofs.Stretch.{forest-none, forest-tree, rest-part, record-or-none}
 use Rattle.table.specs.Answer.{accepted, refusal, checked}
@@ -17,12 +21,14 @@ use Rattle.table.specs.declared.Checked.{Checked}
 use Rattle.table.specs.declared.Checked.the-variants.{Sound, Refused}
 use Rattle.table.proofs.Answers.{never-accepted}
 use Rattle.arguments.specs.Written.{Name, Argument, nodeIn, kindIn, kindAt, argument, argumentOf, argumentsIn}
-use Rattle.arguments.specs.Call.{hasName, firstSame, repeats, check, advance, Outcome, unlessBroken, run, start}
-use Rattle.arguments.specs.Call.{unpack}
+use Rattle.soundness.specs.KindNumbers.{kindNamed}
+use Rattle.arguments.proofs.Steps.{name-none, name-tested, repeats-none, repeats-named}
+use Rattle.arguments.specs.Call.{hasName, firstSame, repeats, rule, check, advance, Outcome, unlessBroken, run}
+use Rattle.arguments.specs.Call.{start, unpack}
+use Rattle.arguments.specs.Reading.{Meets}
 use Rattle.arguments.specs.Job.{callValues, checkAnswer, outcomeAnswer}
 use Rattle.arguments.specs.declared.Kind.{Kind}
 use Rattle.arguments.specs.declared.Kind.the-variants.{Positional, Named, Args, KwArgs}
-use Rattle.arguments.specs.declared.ArgsStage.{ArgsStage}
 use Rattle.arguments.specs.declared.Check.{Check}
 use Rattle.arguments.specs.declared.Check.the-variants.{Fine, Broken, Repeated}
 use Rattle.arguments.specs.declared.Walk.{Walk}
@@ -72,13 +78,13 @@ module _ (ns : List ℕ) (i : ℕ) (t : List ℕ) where
       go Args = refl
       go KwArgs = refl
 
-  check-anywhere : (before : List Argument) (s : ArgsStage)
-      → check before s (argumentOf ns (nodeOf 0 t)) ≡ check before s (argumentOf ns (nodeOf i t))
-  unfolding argumentOf check repeats nameOf
-  check-anywhere before s = go (kindAt (nodeOf 0 t .kind))
+  repeats-anywhere : (before : List Argument)
+      → repeats before (argumentOf ns (nodeOf 0 t)) ≡ repeats before (argumentOf ns (nodeOf i t))
+  unfolding argumentOf repeats nameOf
+  repeats-anywhere before = go (kindAt (nodeOf 0 t .kind))
     where
-      go : (k : Kind) → check before s (argument k (nodeOf 0 t) (nameOf ns (nodeOf 0 t)))
-          ≡ check before s (argument k (nodeOf i t) (nameOf ns (nodeOf i t)))
+      go : (k : Kind) → repeats before (argument k (nodeOf 0 t) (nameOf ns (nodeOf 0 t)))
+          ≡ repeats before (argument k (nodeOf i t) (nameOf ns (nodeOf i t)))
       go Positional = refl
       go Named = refl
       go Args = refl
@@ -135,25 +141,68 @@ module _ {ns x args : List ℕ} {first n : ℕ} {left : List ℕ} {at i : ℕ} (
             same = rw miss at (sym (one e-is) ∙ s .same);
           }
 
--- The walk: n arguments are read, and the node at comes next
-pub record Walking (ns args : List ℕ) (first : ℕ) (w : Walk) (left : List ℕ) (at n : ℕ) : Type 0 where
-  pub before : List Argument
-  pub many : length before ≡ n
-  pub all : before ++ argumentsIn ns (forest at left) ≡ argumentsIn ns (forest first args)
-  pub room : 24 * at + length left ≤ 24 * first + length args
-  pub from : first + n ≤ at
-  pub walked : Walked before w
-  pub rest : run before w (argumentsIn ns (forest at left)) ≡ unpack (argumentsIn ns (forest first args))
+-- an argument more is found by no name that it does not have
+first-more : (x : Name) (l : List Argument) (p : Argument) → firstSame x l ≡ Nothing → hasName x p ≡ false
+    → firstSame x (l ++ p ∷ []) ≡ Nothing
+unfolding firstSame
+first-more x [] p e h = rw h refl
+first-more x (q ∷ l) p e h = go (hasName x q) e (λ rest. first-more x l p rest h)
+  where
+    go : (b : Bool) → if' b (λ _. At (nodeIn q .at)) (λ _. firstSame x l) ≡ Nothing
+        → (firstSame x l ≡ Nothing → firstSame x (l ++ p ∷ []) ≡ Nothing)
+        → if' b (λ _. At (nodeIn q .at)) (λ _. firstSame x (l ++ p ∷ [])) ≡ Nothing
+    go true e rest = never (cc)
+    go false e rest = rest e
 
-pub walk-start : (ns args : List ℕ) (first : ℕ) → Walking ns args first start args first 0
-unfolding unpack
-walk-start ns args first = record {
+-- the marks know an argument more: a named one is noted; one that may not stand is new
+module _ (ns : List ℕ) {marks : List ℕ} {before : List Argument} (known : Known firstSame marks before) (left : List ℕ)
+    {k : ℕ} (k-is : k ≡ nodeOf 0 left .kind) where
+  pub meets-none : (k ≡ kindNamed → ⊥) → Meets ns before left marks Nothing
+  meets-none d = record {
+    says = λ i. repeats-none ns before left k-is d ∙ repeats-anywhere ns i left before;
+    known = λ i. known-other known _ (λ x e. first-more x before _ e
+        (sym (name-none ns x left k-is d ∙ has-anywhere ns i left x)));
+  }
+
+  module _ (h : k ≡ kindNamed) {x : Name} (x-is : x ≡ nameOf ns (nodeOf 0 left)) {m : List ℕ} (m-is : m ≡ noted marks x)
+    where
+      pub meets-searched : {r : Found} → r ≡ firstSame x before → Meets ns before left m r
+      meets-searched r-is = record {
+        says = λ i. repeats-named ns before left k-is h x-is r-is ∙ repeats-anywhere ns i left before;
+        known = λ i. rw m-is (known-named known _ x (λ y e s. first-more y before _ e
+            (sym (name-tested ns y left k-is h x-is refl ∙ has-anywhere ns i left y) ∙ s)));
+      }
+
+      pub meets-new : {t : Bool} → t ≡ mayStand marks x → t ≡ false → Meets ns before left m Nothing
+      meets-new t-is new = meets-searched (known-new known t-is new)
+
+-- The walk: n arguments are read, and the node at comes next
+pub record Walking (ns args : List ℕ) (first : ℕ) (marks₀ marks : List ℕ) (w : Walk) (left : List ℕ) (at n : ℕ) : Type 0
+  where
+    pub before : List Argument
+    pub many : length before ≡ n
+    pub all : before ++ argumentsIn ns (forest at left) ≡ argumentsIn ns (forest first args)
+    pub fits : 24 * first + length args ≤ 50424
+    pub room : 24 * at + length left ≤ 24 * first + length args
+    pub from : first + n ≤ at
+    pub walked : Walked before w
+    pub known : Known firstSame marks before
+    pub long : length marks ≡ length marks₀
+    pub rest : run before w (argumentsIn ns (forest at left)) ≡ unpack (argumentsIn ns (forest first args))
+
+pub walk-start : (ns args : List ℕ) (first : ℕ) (marks : List ℕ) → 24 * first + length args ≤ 50424
+    → Walking ns args first marks marks start args first 0
+unfolding unpack firstSame
+walk-start ns args first marks fits = record {
   before = [];
   many = refl;
   all = refl;
+  fits = fits;
   room = omega arith;
   from = omega arith;
   walked = walked-start;
+  known = known-start firstSame marks (λ x. refl);
+  long = refl;
   rest = refl;
 }
 
@@ -163,8 +212,14 @@ fine-told Fine r e = refl
 fine-told (Broken n) r e = never (cc)
 fine-told Repeated r e = never (cc)
 
-module _ {ns args : List ℕ} {first : ℕ} {w : Walk} {left : List ℕ} {at n : ℕ}
-    (k : Walking ns args first w left at n) where
+module _ {ns args : List ℕ} {first : ℕ} {marks₀ marks : List ℕ} {w : Walk} {left : List ℕ} {at n : ℕ}
+    (k : Walking ns args first marks₀ marks w left at n) where
+  read : take n (argumentsIn ns (forest first args)) ≡ k .before
+  read = rw (← (k .all), ← (k .many)) (take-append-seam (k .before) (argumentsIn ns (forest at left)))
+
+  pub walk-known : Known firstSame marks (take n (argumentsIn ns (forest first args)))
+  walk-known = rw read (k .known)
+
   pub walk-end : length left < 24
       → accepted (callValues (w .counts)) ≡ outcomeAnswer (unpack (argumentsIn ns (forest first args)))
   walk-end h =
@@ -176,48 +231,47 @@ module _ {ns args : List ℕ} {first : ℕ} {w : Walk} {left : List ℕ} {at n :
   pub walk-upto : n ≤ length (argumentsIn ns (forest first args))
   walk-upto = omega (arith, k .many, ap length (k .all), length-append (k .before) (argumentsIn ns (forest at left)))
 
-  pub walk-small : 24 * first + length args ≤ 50424
-      → (w .counts .«num_pos» < 4294967295) × (w .counts .«num_named» < 4294967295)
-  walk-small h = omega (arith, k .many, k .from, k .room, order-total (k .walked), kinds-long (k .before))
+  pub walk-small : (w .counts .«num_pos» < 4294967295) × (w .counts .«num_named» < 4294967295)
+  walk-small = omega (arith, k .fits, k .many, k .from, k .room, order-total (k .walked), kinds-long (k .before))
 
-  module _ (big : 24 ≤ length left) {c : Check}
-      (c-is : c ≡ check (take n (argumentsIn ns (forest first args))) (w .stage) (argumentOf ns (nodeOf 0 left)))
-    where
-      check-here : check (k .before) (w .stage) (argumentOf ns (nodeOf at left)) ≡ c
-      check-here =
-          let read : take n (argumentsIn ns (forest first args)) ≡ k .before = rw (← (k .all), ← (k .many))
-          (take-append-seam (k .before) (argumentsIn ns (forest at left))) in
-          sym (c-is ∙ rw read (check-anywhere ns at left (k .before) (w .stage)))
+  module _ (big : 24 ≤ length left) {m : List ℕ} {f : Found}
+      (met : Meets ns (take n (argumentsIn ns (forest first args))) left m f) {q : Kind}
+      (q-is : q ≡ kindAt (nodeOf 0 left .kind)) {c : Check} (c-is : c ≡ rule (w .stage) f q) where
+    check-here : check (k .before) (w .stage) (argumentOf ns (nodeOf at left)) ≡ c
+    unfolding check
+    check-here = sym (c-is ∙ rw (met .says at, q-is, read, ← (kind-in ns at left)) refl)
 
-      pub walk-refused : {j : Checked} {why : Refusal} → checked j ≡ checkAnswer c (nodeOf at left) → j ≡ Refused why
-          → refusal why ≡ outcomeAnswer (unpack (argumentsIn ns (forest first args)))
-      unfolding run
-      walk-refused {j} {why} j-is h =
-          rw (← (k .rest), list-on ns at left big refl, check-here, node-in ns at left) (go c _ (rw h at j-is))
-        where
-          go : (c : Check) (next : Unit {0} → Outcome) → refusal why ≡ checkAnswer c (nodeOf at left)
-              → refusal why ≡ outcomeAnswer (unlessBroken c (nodeOf at left) next)
-          go Fine next e = never-accepted why e
-          go (Broken m) next e = e
-          go Repeated next e = e
+    pub walk-refused : {j : Checked} {why : Refusal} → checked j ≡ checkAnswer c (nodeOf at left) → j ≡ Refused why
+        → refusal why ≡ outcomeAnswer (unpack (argumentsIn ns (forest first args)))
+    unfolding run
+    walk-refused {j} {why} j-is h =
+        rw (← (k .rest), list-on ns at left big refl, check-here, node-in ns at left) (go c _ (rw h at j-is))
+      where
+        go : (c : Check) (next : Unit {0} → Outcome) → refusal why ≡ checkAnswer c (nodeOf at left)
+            → refusal why ≡ outcomeAnswer (unlessBroken c (nodeOf at left) next)
+        go Fine next e = never-accepted why e
+        go (Broken m) next e = e
+        go Repeated next e = e
 
-      pub walk-on : {j : Checked} {q : Kind} {v : Walk} {e : ℕ} → checked j ≡ checkAnswer c (nodeOf at left) → j ≡ Sound
-          → q ≡ kindAt (nodeOf 0 left .kind) → v ≡ advance w n q
-          → e ≡ spanOf left
-          → Walking ns args first v (take (length left - e) (drop e left)) (at + e / 24) (n + 1)
-      walk-on {j} {q} {v} {e} j-is h q-is v-is e-is =
-          let p : Argument = argumentOf ns (nodeOf at left) in
-          let ps : List Argument = argumentsIn ns (forest (at + e / 24) (take (length left - e) (drop e left))) in
-          let here : argumentsIn ns (forest at left) ≡ p ∷ ps = list-on ns at left big e-is in
-          let fine : check (k .before) (w .stage) p ≡ Fine = check-here ∙ fine-told c (nodeOf at left) (rw h at j-is) in
-          let v-is′ : v ≡ advance w (length (k .before)) (kindIn p) = v-is
-          ∙ rw (k .many, kind-in ns at left, q-is) refl in
-          record {
-            before = k .before ++ p ∷ [];
-            many = simp length-append (omega (arith, k .many));
-            all = append-snoc (k .before) p ps ∙ rw (← here) (k .all);
-            room = simp (length-take, length-drop) (omega (arith, k .room));
-            from = omega (arith, k .from);
-            walked = rw v-is′ (walked-more (k .before) w p ps fine (k .walked));
-            rest = rw (v-is′, ← (run-more (k .before) w p ps fine (k .walked)), ← here) (k .rest);
-          }
+    pub walk-on : length m ≡ length marks → {j : Checked} {v : Walk} {e : ℕ}
+        → checked j ≡ checkAnswer c (nodeOf at left) → j ≡ Sound → v ≡ advance w n q → e ≡ spanOf left
+        → Walking ns args first marks₀ m v (take (length left - e) (drop e left)) (at + e / 24) (n + 1)
+    walk-on same-long {j} {v} {e} j-is h v-is e-is =
+        let p : Argument = argumentOf ns (nodeOf at left) in
+        let ps : List Argument = argumentsIn ns (forest (at + e / 24) (take (length left - e) (drop e left))) in
+        let here : argumentsIn ns (forest at left) ≡ p ∷ ps = list-on ns at left big e-is in
+        let fine : check (k .before) (w .stage) p ≡ Fine = check-here ∙ fine-told c (nodeOf at left) (rw h at j-is) in
+        let v-is′ : v ≡ advance w (length (k .before)) (kindIn p) = v-is
+        ∙ rw (k .many, kind-in ns at left, q-is) refl in
+        record {
+          before = k .before ++ p ∷ [];
+          many = simp length-append (omega (arith, k .many));
+          all = append-snoc (k .before) p ps ∙ rw (← here) (k .all);
+          fits = k .fits;
+          room = simp (length-take, length-drop) (omega (arith, k .room));
+          from = omega (arith, k .from);
+          known = rw read at (met .known at);
+          long = same-long ∙ k .long;
+          walked = rw v-is′ (walked-more (k .before) w p ps fine (k .walked));
+          rest = rw (v-is′, ← (run-more (k .before) w p ps fine (k .walked)), ← here) (k .rest);
+        }

@@ -2,3 +2,4 @@ pub mod Written
 pub mod Call
 pub mod Job
 pub mod Accepted
+pub mod Reading

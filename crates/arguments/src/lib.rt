@@ -6,6 +6,7 @@
 // Licensed under Apache-2.0.
 use forest::Found;
 use forest::RECORD;
+use forest::marks;
 use soundness::kinds;
 use table::Checked;
 use table::Place;
@@ -17,12 +18,13 @@ ghost use mathlib.Core.Path.{_≡_};
 ghost use Prim.Native.Nat.{_+_, _*_, _<_, _≤_};
 ghost use lib.ListN.{length, take};
 ghost use Rattle.forest.specs.Forest.{nodeOf, forest, treeOf};
-ghost use Rattle.forest.specs.Names.{nameOf};
+ghost use Rattle.forest.specs.Marks.{Known};
 ghost use Rattle.table.specs.Answer.{checked};
 ghost use Rattle.arguments.specs.Written.{kindAt, argumentOf, argumentsIn};
 ghost use Rattle.arguments.specs.Call.{pastPositional, pastNamed, inKwargs, hasName, firstSame, newName};
-ghost use Rattle.arguments.specs.Call.{positionalRule, argsRule, kwargsRule, namedRule, check as checkOf};
+ghost use Rattle.arguments.specs.Call.{positionalRule, argsRule, kwargsRule, namedRule, rule as ruleOf};
 ghost use Rattle.arguments.specs.Call.{nextStage, count as countOf, advance as advanceOf, unpack as unpackOf};
+ghost use Rattle.arguments.specs.Reading.{Meets};
 ghost use Rattle.arguments.specs.Job.{nameStop, nameSpan, checkAnswer, outcomeAnswer, callAnswer, called, callOf};
 
 // Where unpack stands among the arguments, in this order.
@@ -90,8 +92,44 @@ fn arguments(t: &[u8], names: &[u8], node: usize) -> Called
     unpack(&kids[c..], names, node + 1 + c / RECORD)
 }
 
-// CallArgsUnpack::unpack of a list of arguments, the first of which is the node first.
+// CallArgsUnpack::unpack of a list of arguments, the first of which is the node first, with as many marks as are worth
+// their place.
 fn unpack(args: &[u8], names: &[u8], first: usize) -> Called
+    requires { ⌜ 24 * first + length (now args) ≤ 50424 ⌝ }
+    ensures { λ r. ⌜ called r ≡
+        outcomeAnswer (unpackOf (argumentsIn (now (names .entry)) (forest first (now (args .entry))))) ⌝ }
+{
+    if marks::LONG <= args.len() {
+        return with_many(args, names, first);
+    }
+    if marks::SHORT <= args.len() {
+        return with_some(args, names, first);
+    }
+    let mut none = [0u8; 1];
+    in_turn(args, names, first, &mut none[0..0])
+}
+
+// The same, with marks for many arguments, and for some.
+fn with_many(args: &[u8], names: &[u8], first: usize) -> Called
+    requires { ⌜ 24 * first + length (now args) ≤ 50424 ⌝ }
+    ensures { λ r. ⌜ called r ≡
+        outcomeAnswer (unpackOf (argumentsIn (now (names .entry)) (forest first (now (args .entry))))) ⌝ }
+{
+    let mut noted = [0u8; marks::MANY];
+    in_turn(args, names, first, &mut noted)
+}
+
+fn with_some(args: &[u8], names: &[u8], first: usize) -> Called
+    requires { ⌜ 24 * first + length (now args) ≤ 50424 ⌝ }
+    ensures { λ r. ⌜ called r ≡
+        outcomeAnswer (unpackOf (argumentsIn (now (names .entry)) (forest first (now (args .entry))))) ⌝ }
+{
+    let mut noted = [0u8; marks::SOME];
+    in_turn(args, names, first, &mut noted)
+}
+
+// The arguments in turn; the names are noted in the lent marks.
+fn in_turn(args: &[u8], names: &[u8], first: usize, noted: &mut [u8]) -> Called
     requires { ⌜ 24 * first + length (now args) ≤ 50424 ⌝ }
     ensures { λ r. ⌜ called r ≡
         outcomeAnswer (unpackOf (argumentsIn (now (names .entry)) (forest first (now (args .entry))))) ⌝ }
@@ -109,13 +147,14 @@ fn unpack(args: &[u8], names: &[u8], first: usize) -> Called
     let mut at = first;
     let mut n = 0;
     while RECORD <= left.len() {
+        let found = repeated(names, args, first, n, left, noted);
         let stage = w.stage;
-        let c = check_argument(names, args, first, n, left, stage);
-        let judged = refused(c, at as u32, left);
+        let kind = kind_of(left);
+        let judged = refused(check_argument(stage, found, kind), at as u32, left);
         if let Checked::Refused(why) = judged {
             return Called::Refused(why);
         }
-        w = advance(w, n as u32, kind_of(left));
+        w = advance(w, n as u32, kind);
         n += 1;
         let e = forest::span(left);
         at += e / RECORD;
@@ -242,6 +281,33 @@ fn earlier(names: &[u8], name: &[u8], args: &[u8], first: usize, n: usize) -> Fo
     Found::Nothing
 }
 
+// The first of the n arguments before it whose name the argument that left begins with repeats. Its name is noted, and
+// where the marks do not tell of it, nothing is searched.
+fn repeated(
+    names: &[u8],
+    args: &[u8],
+    first: usize,
+    n: usize,
+    left: &[u8],
+    noted: &mut [u8],
+) -> Found
+    requires { ⌜ (24 * first + length (now args) ≤ 50424) ×
+        (n ≤ length (argumentsIn (now names) (forest first (now args)))) ×
+        Known firstSame (now noted) (take n (argumentsIn (now names) (forest first (now args)))) ⌝ }
+    ensures { λ r. ⌜ Meets (now (names .entry))
+        (take n (argumentsIn (now (names .entry)) (forest first (now (args .entry))))) (now (left .entry))
+        (now (noted .exit)) r ⌝ }
+{
+    if forest::kind(left) != kinds::NAMED {
+        return Found::Nothing;
+    }
+    let name = forest::names::name(names, left);
+    if !marks::note(noted, name) {
+        return Found::Nothing;
+    }
+    earlier(names, name, args, first, n)
+}
+
 // 20.
 fn positional_rule(stage: ArgsStage) -> Check
     ensures { λ r. ⌜ r ≡ positionalRule stage ⌝ }
@@ -262,25 +328,14 @@ fn new_name(found: Found) -> Check
     }
 }
 
-// 21, then 22, for the argument that left begins with, after n arguments.
-fn named_rule(
-    names: &[u8],
-    args: &[u8],
-    first: usize,
-    n: usize,
-    left: &[u8],
-    stage: ArgsStage,
-) -> Check
-    requires { ⌜ (24 * first + length (now args) ≤ 50424) ×
-        (n ≤ length (argumentsIn (now names) (forest first (now args)))) ⌝ }
-    ensures { λ r. ⌜ r ≡
-        namedRule stage (firstSame (nameOf (now (names .entry)) (nodeOf 0 (now (left .entry))))
-        (take n (argumentsIn (now (names .entry)) (forest first (now (args .entry)))))) ⌝ }
+// 21, then 22.
+fn named_rule(stage: ArgsStage, found: Found) -> Check
+    ensures { λ r. ⌜ r ≡ namedRule stage found ⌝ }
 {
     if past_named(stage) {
         return Check::Broken(numbers::NAMED_AFTER_STAR);
     }
-    new_name(earlier(names, forest::names::name(names, left), args, first, n))
+    new_name(found)
 }
 
 // 23.
@@ -303,25 +358,13 @@ fn kwargs_rule(stage: ArgsStage) -> Check
     Check::Fine
 }
 
-// The rule of the kind of the argument that left begins with, after n arguments.
-fn check_argument(
-    names: &[u8],
-    args: &[u8],
-    first: usize,
-    n: usize,
-    left: &[u8],
-    stage: ArgsStage,
-) -> Check
-    requires { ⌜ (24 * first + length (now args) ≤ 50424) ×
-        (n ≤ length (argumentsIn (now names) (forest first (now args)))) ⌝ }
-    ensures { λ r. ⌜ r ≡
-        checkOf (take n (argumentsIn (now (names .entry)) (forest first (now (args .entry))))) stage
-        (argumentOf (now (names .entry)) (nodeOf 0 (now (left .entry)))) ⌝ }
+// The rule of an argument's kind, for what the search among the earlier names found.
+fn check_argument(stage: ArgsStage, found: Found, kind: Kind) -> Check
+    ensures { λ r. ⌜ r ≡ ruleOf stage found kind ⌝ }
 {
-    let kind = kind_of(left);
     match kind {
         Kind::Positional => positional_rule(stage),
-        Kind::Named => named_rule(names, args, first, n, left, stage),
+        Kind::Named => named_rule(stage, found),
         Kind::Args => args_rule(stage),
         Kind::KwArgs => kwargs_rule(stage),
     }

@@ -2,30 +2,32 @@
 use mathlib.Core.Path.{_≡_, refl, sym, ap, _∙_}
 use mathlib.Core.Bool.{Bool, true, false, _&&_}
 use mathlib.Core.List.{List, [], _∷_, _++_, append-nil}
-use Prim.Native.Nat.{ℕ, _+_, _-_, _*_, _/_, _<_, _≤_}
+use Prim.Native.Nat.{ℕ, _+_, _-_, _*_, _/_, _<_, _≤_, _^_}
 use native.Mathlib.Omega.{arith}
 use lib.ListN.{length, take, drop, length-take, length-drop, length-append, take-append-drop}
 use lib.Seq.{length-take-le}
-use Rattle.fields.proofs.Basics.{and-left, and-right, clash}
+use Rattle.fields.specs.Choice.{if'}
+use Rattle.fields.proofs.Basics.{and-left, and-right, clash, never}
 use Rattle.fields.proofs.Fields.{tail-part}
 use Rattle.forest.specs.Forest.{nodeOf, spanOf, kidsOf, forest}
 use Rattle.forest.proofs.Stretch.{length-kids}
 use Rattle.forest.specs.Names.{nameOf}
+use Rattle.forest.specs.Marks.{mayStand, noted, Known}
+use Rattle.forest.proofs.Marked.{known-start, known-named, known-other, known-new}
 use Rattle.forest.specs.declared.Found.{Found}
 use Rattle.forest.specs.declared.Found.the-variants.{At, Nothing}
 use Rattle.table.specs.Numbers.{slashFirst, duplicatedParameter, starLast, noNormalAfterStar}
 use Rattle.deflist.specs.Written.{Name, Param, normal, noArgs, slash, args, kwargs, nodeIn, kindIn, param}
 use Rattle.deflist.specs.Written.{paramOf, paramsIn, written}
-use Rattle.deflist.specs.Unpack.{writtenAt, firstSame, repeats, rule, advance}
+use Rattle.deflist.specs.Unpack.{writtenAt, hasName, firstSame, repeats, rule, firstly, check, advance}
 use Rattle.deflist.specs.Unpack.{nextStar, start, slashFrom, firstSlash, positionalOnly, isSlash, normalNext}
 use Rattle.deflist.specs.Unpack.{fromStar, finish, Outcome, accepted, refused, run, unpack}
 use Rattle.deflist.specs.Told.{fault, told}
 use Rattle.deflist.specs.Reading.{isListed, kindHere, beginsWithSlash, isNamed, isNormal, StarIn, Inside, Skips}
 use Rattle.deflist.specs.Reading.{Finishes}
-use Rattle.deflist.specs.Reading.{Checks, Says, SlashAt, Bounded}
+use Rattle.deflist.specs.Reading.{Meets, Says, SlashAt, Bounded}
 use Rattle.deflist.specs.declared.Kind.{Kind}
 use Rattle.deflist.specs.declared.Kind.the-variants.{Normal, NoArgs, Slash, Args, KwArgs}
-use Rattle.deflist.specs.declared.State.{State}
 use Rattle.deflist.specs.declared.Check.{Check}
 use Rattle.deflist.specs.declared.Check.the-variants.{Fine, Broken}
 use Rattle.deflist.specs.declared.Written.{Written}
@@ -38,6 +40,7 @@ use Rattle.deflist.specs.declared.Fault.{Fault}
 use Rattle.deflist.specs.declared.Judged.{Judged}
 use Rattle.deflist.specs.declared.Judged.the-variants.{Accepted, Refused}
 use Rattle.deflist.proofs.Reading.{node-in, kind-in, listed-long, list-end, list-on, Reading, read-start}
+use Rattle.deflist.proofs.Parts.{name-none, name-tested}
 use Rattle.deflist.proofs.Reading.{read-here, read-on, read-end}
 use Rattle.deflist.proofs.Steps.{Cleared, run-stop, run-on, clear-on, clear-start, bounded-on}
 
@@ -69,20 +72,46 @@ module _ (ns : List ℕ) (before : List Param) (left : List ℕ) {k : Kind} (k-i
       go Args e = refl
       go KwArgs e = refl
 
--- 11 before the rule of the kind
-module _ (ns : List ℕ) (before : List Param) (left : List ℕ) (s : State) (o : Bool) {k : Kind}
-    (k-is : k ≡ kindHere left) {f : Found} (f-is : (i : ℕ) → f ≡ repeats before (paramOf ns (nodeOf i left))) where
-  pub check-found : {j : ℕ} → f ≡ At j → Checks ns before s o left (Broken duplicatedParameter)
-  check-found e = record {
-    says = λ i. let h : repeats before (paramOf ns (nodeOf i left)) ≡ At _ = sym (f-is i) ∙ e in rw h refl;
+-- a parameter more is found by no name that it does not have
+first-more : (x : Name) (l : List Param) (p : Param) → firstSame x l ≡ Nothing → hasName x p ≡ false
+    → firstSame x (l ++ p ∷ []) ≡ Nothing
+unfolding firstSame
+first-more x [] p e h = rw h refl
+first-more x (q ∷ l) p e h = go (hasName x q) e (λ rest. first-more x l p rest h)
+  where
+    go : (b : Bool) → if' b (λ _. At (nodeIn q .at)) (λ _. firstSame x l) ≡ Nothing
+        → (firstSame x l ≡ Nothing → firstSame x (l ++ p ∷ []) ≡ Nothing)
+        → if' b (λ _. At (nodeIn q .at)) (λ _. firstSame x (l ++ p ∷ [])) ≡ Nothing
+    go true e rest = never (cc)
+    go false e rest = rest e
+
+-- the marks know a parameter more: `*` and `/` have no name, others are noted; one that may not stand is new
+module _ (ns : List ℕ) {marks : List ℕ} {before : List Param} (known : Known firstSame marks before) (left : List ℕ)
+    {k : Kind} (k-is : k ≡ kindHere left) {b : Bool} (b-is : b ≡ isNamed k) where
+  pub meets-none : b ≡ false → Meets ns before left marks Nothing
+  meets-none h = record {
+    says = repeats-none ns before left k-is b-is h;
+    known = λ i. known-other known _ (λ x e. first-more x before _ e (sym (name-none ns x left k-is b-is h i)));
   }
 
-  pub check-rule : f ≡ Nothing → {c : Check} → c ≡ rule s o k → Checks ns before s o left c
-  check-rule e c-is = record {
-    says = λ i.
-        let h : repeats before (paramOf ns (nodeOf i left)) ≡ Nothing = sym (f-is i) ∙ e in
-        rw h (c-is ∙ ap (rule s o) (k-is ∙ sym (kind-in ns i left)));
-  }
+  module _ (h : b ≡ true) {x : Name} (x-is : x ≡ nameOf ns (nodeOf 0 left)) {m : List ℕ} (m-is : m ≡ noted marks x)
+    where
+      pub meets-searched : {r : Found} → r ≡ firstSame x before → Meets ns before left m r
+      meets-searched r-is = record {
+        says = repeats-named ns before left k-is b-is h x-is r-is;
+        known = λ i. rw m-is (known-named known _ x (λ y e s. first-more y before _ e
+            (sym (name-tested ns y left k-is b-is h x-is refl i) ∙ s)));
+      }
+
+      pub meets-new : {t : Bool} → t ≡ mayStand marks x → t ≡ false → Meets ns before left m Nothing
+      meets-new t-is new = meets-searched (known-new known t-is new)
+
+-- 11 before the rule of the kind
+pub check-found : (f : Found) (c : Check) {j : ℕ} → f ≡ At j → Broken duplicatedParameter ≡ firstly f c
+check-found f c e = rw e refl
+
+pub check-rule : (f : Found) {c r : Check} → f ≡ Nothing → r ≡ c → r ≡ firstly f c
+check-rule f e r-is = rw e r-is
 
 -- 17 and 18
 normal-next : (p : Param) (o : Outcome) → isNormal (kindIn p) ≡ true → normalNext p o ≡ o
@@ -174,28 +203,35 @@ module _ (kids : List ℕ) (first : ℕ) (star : Written) (c : Counts) {at e : �
       }
 
 -- The parameters in turn: n are read, u is known of them, and the node at comes next
-pub record Judging (ns kids : List ℕ) (first : ℕ) (u₀ u : Unpacking) (left : List ℕ) (at n : ℕ) : Type 0 where
+pub record Judging (ns kids : List ℕ) (first : ℕ) (marks₀ : List ℕ) (u₀ : Unpacking) (marks : List ℕ) (u : Unpacking)
+    (left : List ℕ) (at n : ℕ) : Type 0 where
   pub reads : Reading ns (paramsIn ns (forest first kids)) n at left
+  pub fits : 24 * first + length kids < 2 ^ 64
   pub room : 24 * at + length left ≤ 24 * first + length kids
   pub fewer : 24 * n + length left ≤ length kids
   pub bounded : Bounded n (u₀ .counts .«num_positional_only» .0) (u .counts)
   pub clear : Cleared u
   pub star : StarIn (take n (paramsIn ns (forest first kids))) (u .«index_of_star»)
+  pub known : Known firstSame marks (take n (paramsIn ns (forest first kids)))
+  pub long : length marks ≡ length marks₀
   pub same : run (take n (paramsIn ns (forest first kids))) u (drop n (paramsIn ns (forest first kids))) ≡ run
       [] u₀ (paramsIn ns (forest first kids))
 
-pub judge-start : (ns kids : List ℕ) (first : ℕ) (only : Flat) {u : Unpacking} → u ≡ start only
-    → Judging ns kids first u u kids first 0
-unfolding start
-judge-start ns kids first only u-is =
+pub judge-start : (ns kids : List ℕ) (first : ℕ) → 24 * first + length kids < 2 ^ 64 → (marks : List ℕ) (only : Flat)
+    {u : Unpacking} → u ≡ start only → Judging ns kids first marks u marks u kids first 0
+unfolding start firstSame
+judge-start ns kids first fits marks only u-is =
     rw u-is
     (record {
       reads = read-start ns first kids;
+      fits = fits;
       room = omega arith;
       fewer = omega arith;
       bounded = record { positional = omega arith; only = omega arith; args = tt; kwargs = tt; flat = omega arith };
       clear = clear-start only;
       star = tt;
+      known = known-start firstSame marks (λ x. refl);
+      long = refl;
       same = refl;
     })
 
@@ -211,8 +247,8 @@ star-more w p star Slash h = star-wider w p star h
 star-more w p star Args h = star-wider w p star h
 star-more w p star KwArgs h = star-wider w p star h
 
-module _ {ns kids : List ℕ} {first : ℕ} {u₀ u : Unpacking} {left : List ℕ} {at n : ℕ}
-    (j : Judging ns kids first u₀ u left at n) where
+module _ {ns kids : List ℕ} {first : ℕ} {marks₀ : List ℕ} {u₀ : Unpacking} {marks : List ℕ} {u : Unpacking}
+    {left : List ℕ} {at n : ℕ} (j : Judging ns kids first marks₀ u₀ marks u left at n) where
   module _ {l : Bool} (l-is : l ≡ isListed left) where
     module _ (l-yes : l ≡ true) where
       listed : isListed left ≡ true
@@ -225,42 +261,49 @@ module _ {ns kids : List ℕ} {first : ℕ} {u₀ u : Unpacking} {left : List �
       here-then e-is = ap (run (take n (paramsIn ns (forest first kids))) u)
           (sym (j .reads .rest ∙ list-on ns at left listed e-is)) ∙ j .same
 
-      module _ {c : Check}
-          (c-is : Checks ns (take n (paramsIn ns (forest first kids))) (u .state) (u .«seen_optional») left c) where
-        pub judge-stop : (only : Flat) → u₀ ≡ start only → {m : ℕ} → c ≡ Broken m → {f : Fault}
-            → f ≡ fault m (nodeOf at left)
-            → Says (run [] (start only) (paramsIn ns (forest first kids))) (first + length kids / 24) (Refused f)
-        judge-stop only u₀-is e f-is = record {
+      module _ {m : List ℕ} {f : Found} (met : Meets ns (take n (paramsIn ns (forest first kids))) left m f) {k : Kind}
+          (k-is : k ≡ kindHere left) {c : Check} (c-is : c ≡ firstly f (rule (u .state) (u .«seen_optional») k)) where
+        checked : check (take n (paramsIn ns (forest first kids))) (u .state) (u .«seen_optional»)
+            (paramOf ns (nodeOf at left)) ≡ c
+        checked = sym (c-is ∙ rw (met .says at, k-is, ← (kind-in ns at left)) refl)
+
+        pub judge-stop : (only : Flat) → u₀ ≡ start only → {m : ℕ} → c ≡ Broken m → {r : Fault}
+            → r ≡ fault m (nodeOf at left)
+            → Says (run [] (start only) (paramsIn ns (forest first kids))) (first + length kids / 24) (Refused r)
+        judge-stop only u₀-is e r-is = record {
           same = rw (
-            f-is,
+            r-is,
             ← u₀-is,
             ← here-then refl,
             run-stop (take n (paramsIn ns (forest first kids))) u (paramOf ns (nodeOf at left)) _
-                (sym (c-is .says at) ∙ e),
+                (checked ∙ e),
             node-in ns (nodeOf at left),
           ) refl;
-          inside = rw f-is (omega (arith, j .room));
+          inside = rw r-is (omega (arith, j .room));
         }
 
-        pub judge-on : c ≡ Fine → {k : Kind} → k ≡ kindHere left → {v : Unpacking} → v ≡ advance u (writtenAt n) k
-            → {e : ℕ} → e ≡ spanOf left → {m : Written} → m ≡ writtenAt (n + 1)
-            → Judging ns kids first u₀ v (take (length left - e) (drop e left)) (at + e / 24) (m .0)
+        pub judge-on : length m ≡ length marks → c ≡ Fine → {v : Unpacking} → v ≡ advance u (writtenAt n) k
+            → {e : ℕ} → e ≡ spanOf left → {i : Written} → i ≡ writtenAt (n + 1)
+            → Judging ns kids first marks₀ u₀ m v (take (length left - e) (drop e left)) (at + e / 24) (i .0)
         unfolding advance
-        judge-on fine {k} k-is v-is {e} e-is m-is =
+        judge-on same-long fine v-is {e} e-is i-is =
             let w = paramsIn ns (forest first kids) in
             let p = paramOf ns (nodeOf at left) in
             let x = read-here (j .reads) listed e-is in
-            let good = sym (c-is .says at) ∙ fine in
+            let good = checked ∙ fine in
             let long : length (take n w) ≡ n = length-take-le n w (j .reads .upto) in
             let kind : k ≡ kindIn p = k-is ∙ sym (kind-in ns at left) in
-            rw (v-is, kind, m-is)
+            rw (v-is, kind, i-is)
             (record {
               reads = read-on (j .reads) listed e-is;
+              fits = j .fits;
               room = simp (length-take, length-drop) (omega (arith, j .room, listed-long left listed));
               fewer = simp (length-take, length-drop) (omega (arith, j .fewer, listed-long left listed));
               bounded = bounded-on (u .state) (u .counts) (kindIn p) (j .bounded);
               clear = rw long at (clear-on (take n w) u p [] (j .clear) good);
               star = rw (x .front) (rw long at (star-more (take n w) p (u .«index_of_star») (kindIn p) (j .star)));
+              known = rw (x .front) (met .known at);
+              long = same-long ∙ j .long;
               same = rw (x .front, x .rest)
                   (rw long at (sym (run-on (take n w) u p _ (j .clear) good) ∙ here-then e-is));
             })

@@ -1,19 +1,19 @@
 -- What code asks of a stretch while it reads a list, and bounds of what it answers. These are definitions.
 use mathlib.Core.Path.{_≡_}
 use mathlib.Core.Bool.{Bool, true, false, _&&_}
-use mathlib.Core.List.{List}
+use mathlib.Core.List.{List, [], _∷_, _++_}
 use Prim.Native.Nat.{ℕ, _+_, _/_, _<_, _≤_}
 use lib.ListN.{length, drop}
 use lib.Dec.{eqb, leb}
 use Rattle.forest.specs.Forest.{recordBytes, nodeOf, forest}
+use Rattle.forest.specs.Marks.{Known}
+use Rattle.forest.specs.declared.Found.{Found}
 use Rattle.soundness.specs.Kinds.{parameter, classOf}
 use Rattle.deflist.specs.Written.{Param, kindAt, paramOf, paramsIn}
-use Rattle.deflist.specs.Unpack.{isSlash, firstSlash, check, finish, Outcome}
+use Rattle.deflist.specs.Unpack.{isSlash, firstSame, repeats, firstSlash, finish, Outcome}
 use Rattle.deflist.specs.Told.{told}
 use Rattle.deflist.specs.declared.Kind.{Kind}
 use Rattle.deflist.specs.declared.Kind.the-variants.{Normal, NoArgs, Slash, Args, KwArgs}
-use Rattle.deflist.specs.declared.State.{State}
-use Rattle.deflist.specs.declared.Check.{Check}
 use Rattle.deflist.specs.declared.WrittenPlace.{WrittenPlace}
 use Rattle.deflist.specs.declared.WrittenPlace.the-variants.{AtWritten, NoWritten}
 use Rattle.deflist.specs.declared.FlatPlace.{FlatPlace}
@@ -80,10 +80,11 @@ pub record Finishes (kids : List ℕ) (first : ℕ) (star : WrittenPlace) (c : C
       → r ≡ told (finish (paramsIn names (forest first kids)) star c)
   pub inside : Inside (first + length kids / recordBytes) r
 
--- what is said of the parameter that `left` begins with, after others, whatever its index
-pub record Checks (names : List ℕ) (before : List Param) (state : State) (optional : Bool) (left : List ℕ) (c : Check)
-    : Type 0 where
-  pub says : (i : ℕ) → c ≡ check before state optional (paramOf names (nodeOf i left))
+-- what is said of the name of the parameter that `left` begins with, whatever its index: the first of those before it
+-- that has an equal one; and the marks then know it too
+pub record Meets (names : List ℕ) (before : List Param) (left marks : List ℕ) (f : Found) : Type 0 where
+  pub says : (i : ℕ) → f ≡ repeats before (paramOf names (nodeOf i left))
+  pub known : (i : ℕ) → Known firstSame marks (before ++ paramOf names (nodeOf i left) ∷ [])
 
 -- bounds of what is counted in the first m parameters, where `/` stands no further than k
 abbrev pub PlaceBelow : ℕ → FlatPlace → Type 0

@@ -11,6 +11,7 @@ pub mod states;
 mod walk;
 
 use forest::RECORD;
+use forest::marks;
 use table::Span;
 ghost use mathlib.Core.Path.{_≡_};
 ghost use Prim.Native.Nat.{_+_, _/_};
@@ -19,7 +20,7 @@ ghost use Rattle.forest.specs.Forest.{kidsOf};
 ghost use Rattle.deflist.specs.Written.{written};
 ghost use Rattle.deflist.specs.Unpack.{unpack};
 ghost use Rattle.deflist.specs.Told.{told};
-ghost use Rattle.deflist.specs.Reading.{Inside};
+ghost use Rattle.deflist.specs.Reading.{Inside, Says};
 
 // Where unpack stands in the list, in this order.
 pub enum State {
@@ -106,5 +107,30 @@ pub fn judge(names: &[u8], t: &[u8], node: u32) -> Judged
     ensures { λ r. ⌜ r ≡ told (unpack (written (now (names .entry)) node (now (t .entry)))) ⌝ }
     ensures { λ r. ⌜ Inside (node + 1 + length (now (t .entry)) / 24) r ⌝ }
 {
-    walk::judge(names, t, node)
+    let n = forest::span(t);
+    if marks::LONG <= n {
+        return with_many(names, t, node);
+    }
+    if marks::SHORT <= n {
+        return with_some(names, t, node);
+    }
+    let mut none = [0u8; 1];
+    walk::judge(names, t, node, &mut none[0..0])
+}
+
+// With marks for many parameters, and for some.
+fn with_many(names: &[u8], t: &[u8], node: u32) -> Judged
+    ensures { λ r. ⌜ Says (unpack (written (now (names .entry)) node (now (t .entry))))
+        (node + 1 + length (now (t .entry)) / 24) r ⌝ }
+{
+    let mut noted = [0u8; marks::MANY];
+    walk::judge(names, t, node, &mut noted)
+}
+
+fn with_some(names: &[u8], t: &[u8], node: u32) -> Judged
+    ensures { λ r. ⌜ Says (unpack (written (now (names .entry)) node (now (t .entry))))
+        (node + 1 + length (now (t .entry)) / 24) r ⌝ }
+{
+    let mut noted = [0u8; marks::SOME];
+    walk::judge(names, t, node, &mut noted)
 }

@@ -1,7 +1,7 @@
 // unpack: 10, then the parameters in turn, then what follows a bare `*`.
 //
 // Ported from src/syntax/def.rs of starlark_syntax 0.14.2, and changed: the list is a stretch of the node table, and
-// names are compared instead of hashed.
+// names are noted and compared instead of hashed.
 // Copyright 2018 The Starlark in Rust Authors. Copyright (c) Facebook, Inc. and its affiliates.
 // Licensed under Apache-2.0.
 use crate::Check;
@@ -24,16 +24,17 @@ use forest::RECORD;
 use table::numbers;
 ghost use mathlib.Core.Path.{_≡_};
 ghost use mathlib.Core.List.{[]};
-ghost use Prim.Native.Nat.{ℕ, _+_, _*_, _/_, _≤_, _<_, _^_};
+ghost use Prim.Native.Nat.{_+_, _*_, _/_, _≤_, _<_, _^_};
 ghost use lib.ListN.{length, take};
 ghost use Rattle.forest.specs.Forest.{nodeOf, forest};
-ghost use Rattle.deflist.specs.Written.{paramOf, paramsIn, written};
-ghost use Rattle.deflist.specs.Unpack.{firstSame, repeats, oneMore, morePositional};
+ghost use Rattle.forest.specs.Marks.{Known};
+ghost use Rattle.deflist.specs.Written.{paramsIn, written};
+ghost use Rattle.deflist.specs.Unpack.{firstSame, firstly, rule as ruleOf, oneMore, morePositional};
 ghost use Rattle.deflist.specs.Unpack.{count as countOf, advance as advanceOf, run as runOf};
 ghost use Rattle.deflist.specs.Unpack.{start as startOf, unpack as unpackOf};
 ghost use Rattle.deflist.specs.declared.WrittenPlace.the-variants.{AtWritten};
 ghost use Rattle.deflist.specs.Told.{fault as faultOf};
-ghost use Rattle.deflist.specs.Reading.{kindHere, beginsWithSlash, Says, Finishes, Checks};
+ghost use Rattle.deflist.specs.Reading.{kindHere, beginsWithSlash, Says, Finishes, Meets};
 
 // The node of the first of n parameters that has this name; first is the node of the first record.
 fn earlier(names: &[u8], name: &[u8], kids: &[u8], first: usize, n: Written) -> Found
@@ -69,38 +70,38 @@ fn fault(number: u32, node: usize, t: &[u8]) -> Fault
     }
 }
 
-// The first of the n parameters before it whose name the parameter that left begins with repeats.
-fn repeated(names: &[u8], kids: &[u8], first: usize, n: Written, left: &[u8], kind: Kind) -> Found
-    requires { ⌜ (24 * first + length (now kids) < 2 ^ 64) ×
-        (n .0 ≤ length (paramsIn (now names) (forest first (now kids)))) × (kind ≡ kindHere (now left)) ⌝ }
-    ensures { λ r. ⌜
-        ((i : ℕ) → r ≡ repeats (take (n .0) (paramsIn (now (names .entry)) (forest first (now (kids .entry)))))
-        (paramOf (now (names .entry)) (nodeOf i (now (left .entry))))) ⌝ }
-{
-    if !rules::is_named(kind) {
-        return Found::Nothing;
-    }
-    earlier(names, forest::names::name(names, left), kids, first, n)
-}
-
-// 11 before the rule of the kind.
-fn check(
+// The first of the n parameters before it whose name the parameter that left begins with repeats. Its name is noted,
+// and where the marks do not tell of it, nothing is searched.
+fn repeated(
     names: &[u8],
     kids: &[u8],
     first: usize,
     n: Written,
     left: &[u8],
-    state: State,
-    optional: bool,
     kind: Kind,
-) -> Check
+    marks: &mut [u8],
+) -> Found
     requires { ⌜ (24 * first + length (now kids) < 2 ^ 64) ×
-        (n .0 ≤ length (paramsIn (now names) (forest first (now kids)))) × (kind ≡ kindHere (now left)) ⌝ }
-    ensures { λ r. ⌜ Checks (now (names .entry))
-        (take (n .0) (paramsIn (now (names .entry)) (forest first (now (kids .entry))))) state optional
-        (now (left .entry)) r ⌝ }
+        (n .0 ≤ length (paramsIn (now names) (forest first (now kids)))) × (kind ≡ kindHere (now left)) ×
+        Known firstSame (now marks) (take (n .0) (paramsIn (now names) (forest first (now kids)))) ⌝ }
+    ensures { λ r. ⌜ Meets (now (names .entry))
+        (take (n .0) (paramsIn (now (names .entry)) (forest first (now (kids .entry))))) (now (left .entry))
+        (now (marks .exit)) r ⌝ }
 {
-    let found = repeated(names, kids, first, n, left, kind);
+    if !rules::is_named(kind) {
+        return Found::Nothing;
+    }
+    let name = forest::names::name(names, left);
+    if !forest::marks::note(marks, name) {
+        return Found::Nothing;
+    }
+    earlier(names, name, kids, first, n)
+}
+
+// 11 before the rule of the kind.
+fn check(found: Found, state: State, optional: bool, kind: Kind) -> Check
+    ensures { λ r. ⌜ r ≡ firstly found (ruleOf state optional kind) ⌝ }
+{
     match found {
         Found::At(_) => Check::Broken(numbers::DUPLICATED_PARAMETER),
         Found::Nothing => rules::rule(state, optional, kind),
@@ -211,8 +212,8 @@ fn finish(kids: &[u8], first: usize, star: WrittenPlace, counts: Counts) -> Judg
     }
 }
 
-// The parameters in turn, where only are positional only.
-fn run(names: &[u8], kids: &[u8], first: usize, only: Flat) -> Judged
+// The parameters in turn, where only are positional only; their names are noted in the lent marks.
+fn run(names: &[u8], kids: &[u8], first: usize, only: Flat, marks: &mut [u8]) -> Judged
     requires { ⌜ 24 * first + length (now kids) < 2 ^ 64 ⌝ }
     ensures { λ r. ⌜ Says (runOf [] (startOf only) (paramsIn (now (names .entry)) (forest first (now (kids .entry)))))
         (first + length (now (kids .entry)) / 24) r ⌝ }
@@ -223,8 +224,9 @@ fn run(names: &[u8], kids: &[u8], first: usize, only: Flat) -> Judged
     let mut n = Written(0);
     while entry::listed(left) {
         let kind = entry::kind_of(left);
+        let found = repeated(names, kids, first, n, left, kind, marks);
         let state = u.state;
-        let c = check(names, kids, first, n, left, state, u.seen_optional, kind);
+        let c = check(found, state, u.seen_optional, kind);
         if let Check::Broken(number) = c {
             return Judged::Refused(fault(number, at, left));
         }
@@ -247,7 +249,7 @@ fn slash_first(kids: &[u8]) -> bool
 }
 
 // 10 first, then the parameters in turn; first is the node of the first record.
-fn unpack(names: &[u8], kids: &[u8], first: usize) -> Judged
+fn unpack(names: &[u8], kids: &[u8], first: usize, marks: &mut [u8]) -> Judged
     requires { ⌜ 24 * first + length (now kids) < 2 ^ 64 ⌝ }
     ensures { λ r. ⌜ Says (unpackOf (paramsIn (now (names .entry)) (forest first (now (kids .entry)))))
         (first + length (now (kids .entry)) / 24) r ⌝ }
@@ -256,15 +258,16 @@ fn unpack(names: &[u8], kids: &[u8], first: usize) -> Judged
         return Judged::Refused(fault(numbers::SLASH_FIRST, first, kids));
     }
     let slash = list::first_slash(kids);
-    run(names, kids, first, rules::positional_only(slash))
+    run(names, kids, first, rules::positional_only(slash), marks)
 }
 
-// DefParams::unpack of the written list of a node, whose stretch is lent: what is counted, or the first refusal.
-pub(crate) fn judge(names: &[u8], t: &[u8], node: u32) -> Judged
+// DefParams::unpack of the written list of a node, whose stretch is lent: what is counted, or the first refusal. Names
+// are noted in the lent marks, whatever stands there.
+pub(crate) fn judge(names: &[u8], t: &[u8], node: u32, marks: &mut [u8]) -> Judged
     ensures { λ r. ⌜ Says (unpackOf (written (now (names .entry)) node (now (t .entry))))
         (node + 1 + length (now (t .entry)) / 24) r ⌝ }
 {
     let kids = crate::children(t);
     let first = (node as usize) + 1;
-    unpack(names, kids, first)
+    unpack(names, kids, first, marks)
 }

@@ -51,3 +51,7 @@ field-double w l at = rw (tail-part at l, field-drop w l at 0, field-drop w l at
 pub field-halves : (l : List ℕ) (at : ℕ) {a b : ℕ} → a ≡ field 2 (take (length l - at) (drop at l)) 0
     → b ≡ field 2 (take (length l - at) (drop at l)) 2 → a + 65536 * b ≡ field 4 l at
 field-halves l at a-is b-is = omega (arith, field-double 2 l at)
+
+pub field-words : (l : List ℕ) (at : ℕ) {a b : ℕ} → a ≡ field 4 (take (length l - at) (drop at l)) 0
+    → b ≡ field 4 (take (length l - at) (drop at l)) 4 → a + 4294967296 * b ≡ field 8 l at
+field-words l at a-is b-is = omega (arith, field-double 4 l at)

@@ -17,3 +17,7 @@ half-one b at = coincide
 -- of `word`
 pub word-one : (b : List ℕ) (at : ℕ) {r s : ℕ} → r ≡ field 4 b at → s ≡ field 4 b at → r ≡ s
 word-one b at = coincide
+
+-- of `long`
+pub long-one : (b : List ℕ) (at : ℕ) {r s : ℕ} → r ≡ field 8 b at → s ≡ field 8 b at → r ≡ s
+long-one b at = coincide

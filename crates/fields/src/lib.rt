@@ -31,3 +31,14 @@ pub fn word(b: &[u8], at: usize) -> u32
     let from = &b[at..];
     (half(from, 0) as u32) + 65536 * (half(from, 2) as u32)
 }
+
+// The field of eight bytes at a place: two fields of four.
+pub fn long(b: &[u8], at: usize) -> u64
+    ensures { λ r. ⌜ r ≡ field 8 (now (b .entry)) at ⌝ }
+{
+    if b.len() <= at {
+        return 0;
+    }
+    let from = &b[at..];
+    (word(from, 0) as u64) + 4294967296 * (word(from, 4) as u64)
+}

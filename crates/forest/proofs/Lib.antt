@@ -1,3 +1,4 @@
 pub mod Stretch
 pub mod Named
+pub mod Marked
 pub mod Promises

@@ -1,15 +1,19 @@
 -- Laws of names: parts of the lent names, and equal bytes. Assumes nothing.
 use mathlib.Core.Path.{_≡_, refl, sym, ap, _∙_}
 use mathlib.Core.Bool.{Bool, true, false, _&&_}
-use mathlib.Core.List.{List, [], _∷_}
+use mathlib.Core.List.{List, [], _∷_, _++_}
 use Prim.Native.Nat.{ℕ, zero, suc, _+_, _-_, _<_, _≤_, min}
 use native.Mathlib.Numerals.{add-one}
+use native.Mathlib.Nat.{add-zero}
 use native.Mathlib.Omega.{arith}
-use lib.ListN.{length, getD, take, drop, length-drop, drop-of-length-le}
-use lib.Seq.{take-nil, drop-cons}
+use lib.ListN.{length, getD, take, drop, length-drop, drop-of-length-le, take-append-drop}
+use lib.Seq.{take-nil, drop-cons, drop-drop}
 use lib.Dec.{eqb}
 use borrow.Author.Tests.{eq-eqb, ne-eqb, eqb-true}
+use Rattle.fields.specs.Field.{field, bytesOf}
 use Rattle.fields.proofs.Basics.{clash}
+use Rattle.fields.proofs.Fields.{field-drop, field-take, tail-part}
+use Rattle.fields.proofs.Spelling.{Bytes, bytes-field}
 use Rattle.forest.specs.Forest.{nodeOf}
 use Rattle.forest.specs.Names.{nameOf, same}
 
@@ -100,3 +104,65 @@ same-bytes-equal (x ∷ a) (y ∷ b) e = go (eqb x y) refl (same-bytes-equal a b
     go : (t : Bool) → eqb x y ≡ t → (same a b ≡ true → a ≡ b) → (t && same a b) ≡ true → x ∷ a ≡ y ∷ b
     go true p rest q = let h : x ≡ y = eqb-true x y p in let l : a ≡ b = rest q in cc
     go false p rest q = clash q refl
+
+-- bytes before what is compared: the same ones change nothing
+same-front : (p a b : List ℕ) → same (p ++ a) (p ++ b) ≡ same a b
+unfolding same
+same-front [] a b = refl
+same-front (x ∷ p) a b = rw (eq-eqb x x refl) (same-front p a b)
+
+-- LAW: eight bytes are the same exactly where the fields of width 8 are
+eight-same : (a b : List ℕ) (i : ℕ) → Bytes a → Bytes b → i + 8 ≤ length a → i + 8 ≤ length b
+    → field 8 a i ≡ field 8 b i → take 8 (drop i a) ≡ take 8 (drop i b)
+eight-same a b i small small′ h h′ e = sym (bytes-field 8 a i small h) ∙ ap (bytesOf 8) e ∙ bytes-field 8 b i small′ h′
+
+-- two lists of bytes whose first i are the same, eight at a time
+pub record Groups (a b : List ℕ) (n i : ℕ) : Type 0 where
+  pub alike : Alike a b n i
+  pub bytes : Bytes a
+  pub bytes′ : Bytes b
+
+pub groups-start : (a b : List ℕ) → Bytes a → Bytes b → length a ≡ length b → Groups a b (length a) 0
+groups-start a b small small′ e = record { alike = same-start a b e; bytes = small; bytes′ = small′ }
+
+module _ {a b : List ℕ} {n i : ℕ} (g : Groups a b n i) where
+  -- the field that code reads from eight bytes of a list
+  here : (l : List ℕ) → field 8 (take (i + 8 - i) (drop i l)) 0 ≡ field 8 l i
+  here l = field-take 8 (drop i l) (i + 8 - i) 0 (omega arith) ∙ field-drop 8 l i 0 ∙ rw add-zero refl
+
+  module _ (h : 8 ≤ n - i) {v w : ℕ} (v-is : v ≡ field 8 (take (i + 8 - i) (drop i a)) 0)
+      (w-is : w ≡ field 8 (take (i + 8 - i) (drop i b)) 0) where
+    pub groups-go : v ≡ w → Groups a b n (i + 8)
+    groups-go e =
+        let s : Alike a b n i = g .alike in
+        let fields : field 8 a i ≡ field 8 b i = sym (v-is ∙ here a) ∙ e ∙ w-is ∙ here b in
+        let p : take 8 (drop i a) ≡ take 8 (drop i b) =
+        eight-same a b i (g .bytes) (g .bytes′) (omega (arith, s .upto, s .long)) (omega (arith, s .upto, s .long′))
+        fields in
+        let split : (l : List ℕ) → take 8 (drop i l) ++ drop (i + 8) l ≡ drop i l =
+        λ l. rw (← (drop-drop 8 i l)) (take-append-drop 8 (drop i l)) in
+        record {
+          alike = record {
+            upto = omega (arith, s .upto);
+            long = s .long;
+            long′ = s .long′;
+            left = sym (same-front (take 8 (drop i a)) (drop (i + 8) a) (drop (i + 8) b))
+                ∙ (rw (split a, p, split b) (s .left));
+          };
+          bytes = g .bytes;
+          bytes′ = g .bytes′;
+        }
+
+    pub groups-stop : (v ≡ w → ⊥) → false ≡ same a b
+    groups-stop apart = go (same a b) refl
+      where
+        go : (t : Bool) → same a b ≡ t → false ≡ t
+        go true e = let l : a ≡ b = same-bytes-equal a b e in absurd (apart (v-is ∙ rw l (sym w-is)))
+        go false e = refl
+
+  pub lefts-long : length (take (length a - i) (drop i a)) ≡ length (take (length b - i) (drop i b))
+  lefts-long = simp (tail-part, length-drop) (omega (arith, g .alike .long, g .alike .long′))
+
+  pub groups-end : {r : Bool} → r ≡ same (take (length a - i) (drop i a)) (take (length b - i) (drop i b))
+      → r ≡ same a b
+  groups-end r-is = r-is ∙ rw (tail-part i a, tail-part i b) (g .alike .left)

@@ -6,6 +6,7 @@ use Prim.Native.Nat.{ℕ}
 use Rattle.fields.proofs.Coincide.{coincide}
 use Rattle.forest.specs.Forest.{nodeOf, spanOf}
 use Rattle.forest.specs.Names.{nameOf, same}
+use Rattle.forest.specs.Marks.{noted, mayStand}
 
 -- of `kind`
 pub kind-one : (t : List ℕ) {r s : ℕ} → r ≡ nodeOf 0 t .kind → s ≡ nodeOf 0 t .kind → r ≡ s
@@ -55,3 +56,9 @@ name-one names t = coincide
 -- of `names::same_bytes`
 pub same-bytes-one : (a b : List ℕ) {r s : Bool} → r ≡ same a b → s ≡ same a b → r ≡ s
 same-bytes-one a b = coincide
+
+-- of `marks::note`, which writes in the lent marks
+pub note-one : (marks name : List ℕ) {r s : Bool} {marks-r marks-s : List ℕ} → r ≡ mayStand marks name
+    → marks-r ≡ noted marks name → s ≡ mayStand marks name → marks-s ≡ noted marks name
+    → (r ≡ s) × (marks-r ≡ marks-s)
+note-one marks name r-is marks-r-is s-is marks-s-is = (coincide r-is s-is, coincide marks-r-is marks-s-is)

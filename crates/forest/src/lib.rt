@@ -2,6 +2,7 @@
 // follows it are stretches again.
 // Every function takes any bytes: a record is read as far as it is there, and a subtree takes at least a record and at
 // most what there is.
+pub mod marks;
 pub mod names;
 
 ghost use mathlib.Core.Path.{_≡_};

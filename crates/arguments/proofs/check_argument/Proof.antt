@@ -1,6 +1,6 @@
 -- `arguments::check_argument` meets its contract: the kind chooses the rule. Assumes nothing.
-use Rattle.arguments.proofs.Steps.{check-positional, check-named, check-args, check-kwargs}
 use borrow.Author.Needs.{needs}
+use Rattle.arguments.proofs.Steps.{rule-named}
 use Rattle.arguments.proofs.check_argument.Statement.{statement}
 use Rattle.arguments.proofs.check_argument.Tie as tie
 
@@ -8,7 +8,6 @@ pub check-argument-spec : {M : Type 1} → statement M
 check-argument-spec =
     tie.close
     (tie.spec
-    (λ c κs. search needs)
     (λ c. search needs)
     (λ c κs. search needs)
     (λ c. search needs)
@@ -17,7 +16,7 @@ check-argument-spec =
     (λ c κs. search needs)
     (λ c. search needs)
     (λ c κs. search needs)
-    (λ c. search check-positional)  -- returns
-    (λ c. search check-named)  -- returns-2
-    (λ c. search check-args)  -- returns-3
-    (λ c. search check-kwargs))  -- returns-4
+    (λ c. search needs)
+    (λ c. search rule-named)  -- returns-2
+    (λ c. search needs)
+    (λ c. search needs))

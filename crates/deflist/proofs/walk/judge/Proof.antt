@@ -11,4 +11,5 @@ judge-spec =
     (λ c κs. search needs)
     (λ c. search needs)
     (λ c κs. search (needs, judge-room))  -- unpack-requires
+    (λ c. search needs)
     (λ c. search judge-list))  -- returns

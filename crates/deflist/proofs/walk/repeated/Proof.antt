@@ -1,6 +1,7 @@
--- `deflist::walk::repeated` meets its contract: marks repeat no name. Assumes nothing.
+-- `deflist::walk::repeated` meets its contract: marks of a list repeat no name, and a name that may not stand is new.
+-- Assumes nothing.
 use borrow.Author.Tests.{not-true, not-false}
-use Rattle.deflist.proofs.Walking.{repeats-none, repeats-named}
+use Rattle.deflist.proofs.Walking.{meets-none, meets-new, meets-searched}
 use borrow.Author.Needs.{needs}
 use Rattle.deflist.proofs.walk.repeated.Statement.{statement}
 use Rattle.deflist.proofs.walk.repeated.Tie as tie
@@ -10,7 +11,11 @@ repeated-spec =
     tie.close
     (tie.spec
     (λ c κs. search needs)
-    (λ c. search (repeats-none, not-true))  -- returns
+    (λ c. search (meets-none, not-true))  -- returns
     (λ c κs. search needs)
     (λ c κs. search needs)
-    (λ c. search (repeats-named, not-false)))  -- returns-2
+    (λ c. search needs)
+    (λ c. search (meets-new, not-true, not-false))  -- returns-2
+    (λ c κs. search needs)
+    (λ c. search needs)
+    (λ c. search (meets-searched, not-false)))  -- returns-3

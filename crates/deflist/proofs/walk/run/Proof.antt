@@ -9,10 +9,11 @@ use Rattle.deflist.proofs.walk.run.Statement.{statement}
 use Rattle.deflist.proofs.walk.run.Tie as tie
 
 abbrev Inv-loop : tie.InvT-loop
-Inv-loop names kids first u₀ left₀ at₀ n₀ u left at n = Judging names kids first u₀ u left at (n .0)
+Inv-loop names kids first marks₀ u₀ left₀ at₀ n₀ marks u left at n =
+    Judging names kids first marks₀ u₀ marks u left at (n .0)
 
 abbrev μ-loop : tie.MeasureT-loop
-μ-loop names kids first u₀ left₀ at₀ n₀ u left at n = length left
+μ-loop names kids first marks₀ u₀ left₀ at₀ n₀ marks u left at n = length left
 
 pub run-spec : {M : Type 1} → statement M
 run-spec =
@@ -24,9 +25,11 @@ run-spec =
     (λ c. search judge-start)  -- loop-holds
     (λ c κs. search needs)
     (λ c κs. search needs)
-    (λ c κs. search)  -- check-requires
+    (λ c κs. search)  -- repeated-requires
+    (λ c κs. search needs)
     (λ c. search needs)
     (λ c κs. search needs)
+    (λ c. search needs)
     (λ c. search judge-stop)  -- returns
     (λ c. search needs)
     (λ c κs. omega arith)  -- advance-requires
@@ -38,8 +41,17 @@ run-spec =
     (λ c. search needs)
     (λ c. search rest-less)  -- loop-less
     (λ c.  -- loop-again
-    let there = c .before .before .before .before in
-    let back = there .before .before .before .before in
-    search (judge-on (back .before .before .loop .inv)))
+    let advance = c .before .before .before .advance in
+    let fine = c .before .before .before .before .enum-told in
+    let there = c .before .before .before .before .before .before in
+    let marks = there .before .before .marks in
+    let met = there .before .before .before .repeated in
+    let kind-of = there .before .before .before .before .before .kind-of in
+    let back = there .before .before .before .before .before .before in
+    let listed = back .before .listed in
+    let loop = back .before .before .loop in
+    judge-on loop.inv listed.ensures back.if1.taken met.ensures kind-of.ensures there.check.ensures marks.given
+    fine.given.1 advance.ensures (c .before .span .ensures) (c .before .before .next .ensures))
     (λ c κs. search needs)
+    (λ c. search needs)
     (λ c. search judge-end))  -- returns-2

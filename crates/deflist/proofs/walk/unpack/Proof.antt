@@ -14,4 +14,5 @@ unpack-spec =
     (λ c κs. search needs)
     (λ c κs. search needs)
     (λ c κs. search needs)
+    (λ c. search needs)
     (λ c. search unpack-run))  -- returns-2
