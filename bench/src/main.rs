@@ -96,6 +96,7 @@ fn all_cases() -> Vec<Case> {
         let name = format!("call, {entries} arguments");
         all.push(case(name, job, move || cases::arguments(kept(scripts::arguments(entries)))));
     }
+    all.extend(name_cases());
     all.push(case("type, 3 nodes".into(), job, || cases::types(kept(scripts::small_type()))));
     all.push(case("type, 8 nodes".into(), job, || cases::types(kept(scripts::middle_type()))));
     all.push(case("type, 55 nodes".into(), job, || cases::types(kept(scripts::large_type(48)))));
@@ -117,6 +118,22 @@ fn all_cases() -> Vec<Case> {
         for nodes in MODULES {
             let name = format!("file, {nodes} nodes, {dialect}, {}", errors(nodes, bytes));
             all.push(case(name, Kind::File, move || cases::file(kept(scripts::module(nodes)), bytes)));
+        }
+    }
+    all
+}
+
+/// Lists whose names are of a family.
+fn name_cases() -> Vec<Case> {
+    let mut all = Vec::new();
+    for (words, family, [parameters, arguments]) in scripts::FAMILIES {
+        for entries in [4, 16, 48, 384, parameters] {
+            let name = format!("params, {entries} names, {words}");
+            all.push(case(name, Kind::Job, move || cases::parameters(kept(scripts::named_parameters(family, entries)))));
+        }
+        for entries in [4, 16, 48, 384, arguments] {
+            let name = format!("call, {entries} names, {words}");
+            all.push(case(name, Kind::Job, move || cases::arguments(kept(scripts::named_arguments(family, entries)))));
         }
     }
     all

@@ -57,6 +57,100 @@ pub fn arguments(entries: usize) -> Input {
     input(tables, 1)
 }
 
+/// What the names of a list have in common.
+#[derive(Clone, Copy)]
+pub enum Family {
+    /// All different, with a common prefix of 12 bytes.
+    Prefix,
+    /// All of one length, different in the last byte alone; from 64 names on in the last two, from 1,000 on in more.
+    LastByte,
+    /// All different, of 1 to 3 bytes.
+    Short,
+    /// Ordinary names, and the last repeats the first.
+    Repeated,
+}
+
+/// A family with its words, and the most names of it. A table has at most 2,100 nodes and 8,064 name bytes: these hold 2,000 parameters or
+/// 1,000 arguments, whose names overlap where they are long, and 560 names that begin with the same 12 bytes, since those cannot.
+pub const FAMILIES: [(&str, Family, [usize; 2]); 4] = [
+    ("a prefix of 12 bytes", Family::Prefix, [560, 560]),
+    ("the last byte differs", Family::LastByte, [2_000, 1_000]),
+    ("1 to 3 bytes", Family::Short, [2_000, 1_000]),
+    ("the last repeats the first", Family::Repeated, [2_000, 1_000]),
+];
+
+const LETTERS: &[u8; 63] = b"abcdefghijklmnopqrstuvwxyzABCDEFGHIJKLMNOPQRSTUVWXYZ0123456789_";
+
+fn letter(number: usize) -> char {
+    LETTERS[number % LETTERS.len()] as char
+}
+
+/// A number in letters.
+fn short_name(number: usize) -> String {
+    let mut name = letter(number % 52).to_string();
+    let mut left = number / 52;
+    while left > 0 {
+        left -= 1;
+        name.push(letter(left));
+        left /= LETTERS.len();
+    }
+    name
+}
+
+/// A text in which names of 16 bytes overlap.
+fn text() -> String {
+    let mut state: u64 = 1;
+    let mut next = || {
+        state = state.wrapping_mul(6364136223846793005).wrapping_add(1442695040888963407);
+        (state >> 33) as usize
+    };
+    (0..8_016).map(|_| letter(next() % 52)).collect()
+}
+
+/// So many names of a family, and the text that they stand in where they overlap.
+fn names(family: Family, entries: usize) -> (String, Vec<String>) {
+    let overlapping = entries >= 1_000;
+    let all = if overlapping { text() } else { String::new() };
+    let mut names: Vec<String> = (0..entries)
+        .map(|at| match family {
+            Family::Short => short_name(at),
+            _ if overlapping => all[4 * at..4 * at + 16].to_owned(),
+            Family::Prefix => format!("common_name_{}", short_name(at)),
+            Family::LastByte if entries <= 63 => format!("of_one_length_{}", letter(at)),
+            Family::LastByte => format!("of_one_len{}{}", letter(at / 63), letter(at)),
+            Family::Repeated => long_name(at),
+        })
+        .collect();
+    if let Family::Repeated = family {
+        names[entries - 1] = names[0].clone();
+    }
+    (if matches!(family, Family::Short) { String::new() } else { all }, names)
+}
+
+/// `def f(a, b, c)` with so many names of a family, and `pass`. The Def is node 0.
+pub fn named_parameters(family: Family, entries: usize) -> Input {
+    let (text, names) = names(family, entries);
+    let mut tables = Tables::from_text(&text);
+    tables.node(kind::DEF, |t| {
+        names.iter().for_each(|name| t.full(kind::NORMAL, 0, name, |_| {}));
+        t.leaf(kind::SIMPLE);
+    });
+    input(tables, 0)
+}
+
+/// `f(a = 1, b = 2, c = 3)` with so many names of a family. The Call is node 1.
+pub fn named_arguments(family: Family, entries: usize) -> Input {
+    let (text, names) = names(family, entries);
+    let mut tables = Tables::from_text(&text);
+    tables.node(kind::SIMPLE, |t| {
+        t.node(kind::CALL, |t| {
+            t.ident("f");
+            names.iter().for_each(|name| t.named(name, |t| t.leaf(kind::STRING)));
+        })
+    });
+    input(tables, 1)
+}
+
 /// Node 1 is the type.
 fn typed(build: impl FnOnce(&mut Tables)) -> Input {
     let mut tables = Tables::default();

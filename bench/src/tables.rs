@@ -11,6 +11,7 @@ pub struct Tables {
     records: Vec<Record>,
     names: Vec<u8>,
     known: BTreeMap<String, (u32, u16)>,
+    text: usize,
 }
 
 impl Tables {
@@ -18,9 +19,17 @@ impl Tables {
         self.records.len()
     }
 
+    /// Name bytes that stand there before any name: a name that occurs in them is taken from there, so that names may overlap.
+    pub fn from_text(text: &str) -> Tables {
+        Tables { names: text.as_bytes().to_vec(), text: text.len(), ..Tables::default() }
+    }
+
     fn name(&mut self, name: &str) -> (u32, u16) {
         if let Some(place) = self.known.get(name) {
             return *place;
+        }
+        if let Some(at) = self.names[..self.text].windows(name.len()).position(|window| window == name.as_bytes()) {
+            return (at as u32, name.len() as u16);
         }
         let place = (self.names.len() as u32, name.len() as u16);
         self.names.extend_from_slice(name.as_bytes());
