@@ -6,6 +6,7 @@ pub mod examples;
 pub mod files;
 pub mod lists;
 pub mod modules;
+pub mod names;
 pub mod shapes;
 pub mod tables;
 
@@ -81,6 +82,7 @@ pub const ALL: &[Family] = &[
     family("parameter lists, random", 2, PARAMS, lists::random_parameters),
     family("call lists, every order", 2, CALL, lists::argument_orders),
     family("call lists, random", 2, CALL, lists::random_arguments),
+    family("names, byte by byte", 2, PARAMS | CALL, names::byte_by_byte),
     family("types, every small tree", 4, TYPE, shapes::small_types),
     family("types, random", 2, TYPE, shapes::random_types),
     family("targets, every small tree", 4, TARGET, shapes::small_targets),
