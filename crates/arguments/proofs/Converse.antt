@@ -25,7 +25,8 @@ use Rattle.arguments.specs.declared.Check.the-variants.{Fine}
 use Rattle.arguments.specs.declared.CallArgs.{CallArgs}
 use Rattle.arguments.specs.declared.Walk.{Walk}
 use Rattle.arguments.proofs.Names.{names-new}
-use Rattle.arguments.proofs.Order.{Walked, walked-start, walked-more, run-more, run-last, order-total, kinds-long}
+use Rattle.arguments.proofs.Order.{Walked, walked-start, walked-more, run-more, run-last, order-total}
+use Rattle.arguments.proofs.Order.{kinds-long}
 
 add-none : (n : ℕ) → n + 0 ≡ n
 add-none n = omega arith
@@ -85,7 +86,8 @@ run-counted before (p ∷ ps) w o f d =
     ∙ rw long refl
 
 -- so many positional counted, so many named, then a star and a `**`
-positional-counted : (m p n i : ℕ) (ks : List Kind) → counted (counts p n Nothing Nothing) i (replicate m Positional ++ ks)
+positional-counted : (m p n i : ℕ) (ks : List Kind)
+    → counted (counts p n Nothing Nothing) i (replicate m Positional ++ ks)
     ≡ counted (counts (p + m) n Nothing Nothing) (i + m) ks
 positional-counted zero p n i ks = rw (add-none p, add-none i) refl
 positional-counted (suc m) p n i ks = positional-counted m (p + 1) n (i + 1) ks ∙ rw (one-on p m, one-on i m) refl
