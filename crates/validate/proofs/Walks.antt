@@ -1,31 +1,81 @@
--- Laws of the two walks over a stretch, in the terms of code: one for each return and each loop. Assumes nothing.
+-- Laws of the two walks over a stretch, in the terms of code: which kinds are statements, and one for each return and
+-- each loop. Assumes nothing.
 use mathlib.Core.Path.{_≡_, refl}
-use mathlib.Core.Bool.{Bool, true, false}
+use mathlib.Core.Bool.{Bool, true, false, _&&_, not}
 use mathlib.Core.List.{List, [], _∷_, _++_, append-nil}
-use Prim.Native.Nat.{ℕ, _+_, _-_, _*_, _/_, _<_, _≤_, min}
+use Prim.Native.Nat.{ℕ, zero, suc, _+_, _-_, _*_, _/_, _<_, _≤_, min}
 use native.Mathlib.Omega.{arith}
-use lib.Dec.{eqb}
+use lib.Dec.{eqb, leb}
 use lib.ListN.{length, take, drop}
-use borrow.Author.Tests.{eq-eqb, ne-eqb}
+use borrow.Author.Tests.{eq-eqb, ne-eqb, eqb-true, eqb-false}
 use borrow.Rule.Slice.PartMut.{putMid}
+use Rattle.fields.proofs.Basics.{never, and-left, and-right}
 use Rattle.dialect.specs.declared.Dialect.{Dialect}
 use Rattle.dialect.specs.Rows.{permitsTypes}
 use Rattle.forest.specs.Forest.{nodeOf, spanOf, kidsOf, Tree, Forest, none, _then_, forest, treeOf}
 use Rattle.forest.proofs.Stretch.{forest-none, kids-part, rest-part, length-kids, length-rest, each-cut}
-use Rattle.soundness.specs.KindNumbers.{kindEllipsis, kindLambda}
-use Rattle.soundness.specs.Kinds.{statement, classOf}
+use Rattle.soundness.specs.KindNumbers.{kindDef, kindFor, kindIf, kindIfElse, kindBreak, kindContinue, kindReturn}
+use Rattle.soundness.specs.KindNumbers.{kindLoad, kindEllipsis, kindLambda}
+use Rattle.soundness.specs.Kinds.{statement, kindIn, kindOf, classOf}
+use Rattle.table.specs.Answer.{spanAt}
 use Rattle.table.specs.Numbers.{defNotPermitted, ellipsisNotPermitted, lambdaNotPermitted}
 use Rattle.errors.specs.declared.Err.{Err}
 use Rattle.errors.specs.Errors.{errAt, unless, width, Stores}
-use Rattle.errors.proofs.Storing.{stores-none, stores-both}
-use Rattle.errors.proofs.Turns.{Turns, turns-start, turns-on, turns-end, turns-few, turns-long}
+use Rattle.errors.proofs.Storing.{stores-none, stores-both, unless-one}
+use Rattle.errors.proofs.Storing.{Turns, turns-start, turns-on, turns-end, turns-few, turns-long}
 use Rattle.validate.specs.Inner.{StoresFew}
 use Rattle.validate.specs.Params.{withParams}
-use Rattle.validate.specs.Module.{inDef, armOf, loadErrors, onArm, f, «visit_stmt», exprErrors, expr, «visit_expr»}
+use Rattle.validate.specs.Module.{inDef, armOf, loadErrors, onArm, f, «visit_stmt», exprErrors, expr}
+use Rattle.validate.specs.Module.{«visit_expr»}
 use Rattle.validate.specs.declared.Standing.{Standing}
 use Rattle.validate.specs.declared.Arm.{Arm}
 use Rattle.validate.specs.declared.Arm.the-variants.{Def, Load, Told, Below}
-use Rattle.validate.proofs.Bounds.{unless-few, stmts-few, exprs-few, first-few}
+use Rattle.validate.proofs.Bounds.{stmts-few, exprs-few, first-few}
+
+-- two tests come out alike; a test holds of every number below another
+abbrev alike : Bool → Bool → Bool
+alike true b = b
+alike false b = not b
+
+alike-same : (a b : Bool) → alike a b ≡ true → a ≡ b
+alike-same true true e = refl
+alike-same true false e = never (cc)
+alike-same false true e = never (cc)
+alike-same false false e = refl
+
+abbrev below : ℕ → (ℕ → Bool) → Bool
+below zero p = true
+below (suc n) p = p n && below n p
+
+below-at : (n : ℕ) (p : ℕ → Bool) (k : ℕ) → below n p ≡ true → k < n → p k ≡ true
+below-at zero p k e h = absurd (omega arith)
+below-at (suc n) p k e h = go (eqb k n) refl (below-at n p k (and-right (p n) _ e))
+  where
+    go : (b : Bool) → eqb k n ≡ b → (k < n → p k ≡ true) → p k ≡ true
+    go true t rest = rw (eqb-true k n t) (and-left (p n) _ e)
+    go false t rest = rest (omega (arith, eqb-false k n t))
+
+-- LAW: the kinds 1 to 12 are the statements'; computed for every byte
+pub statement-range : (k : ℕ) → k < 256 → (leb 1 k && leb k 12) ≡ eqb (classOf k) statement
+unfolding kindOf kindIn
+statement-range k h = alike-same _ _
+    (below-at 256 (λ k. alike (leb 1 k && leb k 12) (eqb (classOf k) statement)) k refl h)
+
+-- LAW: a kind with no arm of its own
+pub arm-other : (d : Dialect) (s : Standing) {k : ℕ} → (k ≡ kindDef → ⊥) → (k ≡ kindFor → ⊥) → (k ≡ kindIf → ⊥)
+    → (k ≡ kindIfElse → ⊥) → (k ≡ kindBreak → ⊥) → (k ≡ kindContinue → ⊥) → (k ≡ kindReturn → ⊥) → (k ≡ kindLoad → ⊥)
+    → Below s ≡ armOf d s k
+unfolding armOf
+arm-other d s {k} no-def no-for no-if no-else no-break no-continue no-return no-load = rw (
+  ne-eqb k kindDef no-def,
+  ne-eqb k kindFor no-for,
+  ne-eqb k kindIf no-if,
+  ne-eqb k kindIfElse no-else,
+  ne-eqb k kindBreak no-break,
+  ne-eqb k kindContinue no-continue,
+  ne-eqb k kindReturn no-return,
+  ne-eqb k kindLoad no-load,
+) refl
 
 -- a rule over nodes side by side: what each tree is told, in turn, and that is little
 pub record Walk (all : Forest → List Err) (one : Tree → List Err) : Type 0 where
@@ -149,7 +199,7 @@ module _ (d : Dialect) (names : List ℕ) (i : ℕ) (t : List ℕ) {k : ℕ} (k-
   unfolding exprErrors
   own-ellipsis h {b} b-is s =
       rw (← k-is, eq-eqb k kindEllipsis h, ← b-is)
-      record { few = omega (arith, s .count, unless-few b ellipsisNotPermitted (nodeOf 0 t)); stores = s }
+      record { few = omega (arith, unless-one b ellipsisNotPermitted (spanAt (nodeOf 0 t)) s); stores = s }
 
   pub own-lambda : k ≡ kindLambda → {most m : ℕ} {xs ys : List ℕ}
       → StoresFew most (withParams d names (d .«enable_lambda») lambdaNotPermitted (nodeOf i t) (children i t)) xs m ys
