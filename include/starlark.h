@@ -48,7 +48,7 @@ extern "C" {
 #define STARLARK_ERRORS 4200
 
 /* Stack enough for every job, twice over. */
-#define STARLARK_STACK_BYTES (3 << 19)
+#define STARLARK_STACK_BYTES (1 << 18)
 
 /* The table check: 1 to 4. Accepted: nothing. */
 uint32_t starlark_table(const uint8_t *table, size_t table_len, const uint8_t *names, size_t names_len, uint32_t *out);
