@@ -89,8 +89,18 @@ stored-append (e ∷ es) fs xs =
       append-nil xs,
     ) refl)
 
--- what is put back behind the words that a check was not lent
-put-tail : (a : ℕ) (s ys : List ℕ) → putMid a (length s - a) s ys ≡ take a s ++ ys
+-- in the terms of code: where the free words begin after so many errors, a list from a place on, and a list that was
+-- lent from a place on and has come back
+abbrev pub freeAt : ℕ → List ℕ → ℕ
+freeAt count xs = min (width * count) (length xs)
+
+abbrev pub after : ℕ → List ℕ → List ℕ
+after at xs = take (length xs - at) (drop at xs)
+
+abbrev pub back : ℕ → List ℕ → List ℕ → List ℕ
+back at xs ys = putMid at (length xs - at) xs ys
+
+put-tail : (a : ℕ) (s ys : List ℕ) → back a s ys ≡ take a s ++ ys
 put-tail a s ys = simp (
   drop-of-length-le (drop a s) {i = length s - a} (simp length-drop (omega arith)),
   append-nil,
@@ -102,8 +112,8 @@ stores-none xs = record { count = refl; words = sym (stored-none xs) }
 
 -- LAW: two checks, of which the second is lent the words that the first leaves free
 pub stores-both : (es fs : List Err) {xs ys zs : List ℕ} {m n at : ℕ} → Stores es xs m ys
-    → at ≡ min (width * m) (length ys) → Stores fs (take (length ys - at) (drop at ys)) n zs
-    → Stores (es ++ fs) xs (m + n) (putMid at (length ys - at) ys zs)
+    → at ≡ freeAt m ys → Stores fs (after at ys) n zs
+    → Stores (es ++ fs) xs (m + n) (back at ys zs)
 stores-both es fs {xs} {ys} {zs} {m} {n} {at} s at-is q =
     let a : at ≡ min (width * length es) (length xs) = omega
     (arith, s .count, stored-length es xs, ap length (s .words)) in
@@ -182,8 +192,8 @@ module _ {all : List Err} {xs₀ : List ℕ} {rest : List Err} {total : ℕ} {xs
 
   -- LAW: the next check, which is told the first of what is left
   pub turns-on : {one more : List Err} → rest ≡ one ++ more → {at n : ℕ} {zs : List ℕ}
-      → at ≡ min (width * total) (length xs) → Stores one (take (length xs - at) (drop at xs)) n zs
-      → Turns all xs₀ more (total + n) (putMid at (length xs - at) xs zs)
+      → at ≡ freeAt total xs → Stores one (after at xs) n zs
+      → Turns all xs₀ more (total + n) (back at xs zs)
   turns-on {one} {more} cut at-is s = record {
     done = t .done ++ one;
     same = append-assoc (t .done) one more ∙ rw (← cut) (t .same);

@@ -189,7 +189,6 @@ module _ (d : Dialect) (names : List ℕ) where
 
   -- THEOREM: a module has no more errors than twice its nodes
   pub module-few : (ts : Forest) → length («validate_module» d names ts) ≤ 2 * count ts
-  unfolding «validate_module»
   module-few ts = simp length-append (omega (arith, forest-few ts (atTop)))
 
   -- the same for what code walks: a stretch, its first tree, and the parameters of its first node

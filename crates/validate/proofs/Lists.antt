@@ -2,10 +2,9 @@
 use mathlib.Core.Path.{_≡_, refl, sym, _∙_}
 use mathlib.Core.Bool.{Bool, true, false, not}
 use mathlib.Core.List.{List, [], _∷_, _++_}
-use Prim.Native.Nat.{ℕ, _+_, _-_, _*_, _/_, _≤_, min}
+use Prim.Native.Nat.{ℕ, _+_, _-_, _/_, _≤_}
 use native.Mathlib.Omega.{arith}
-use lib.ListN.{length, take, drop}
-use borrow.Rule.Slice.PartMut.{putMid}
+use lib.ListN.{length}
 use Rattle.dialect.specs.declared.Dialect.{Dialect}
 use Rattle.forest.specs.Forest.{nodeOf, spanOf, kidsOf, restOf, forest}
 use Rattle.forest.proofs.Stretch.{forest-none, forest-induction, rest-part}
@@ -21,8 +20,8 @@ use Rattle.deflist.specs.declared.Judged.the-variants.{Accepted, Refused}
 use Rattle.deflist.proofs.Reading.{node-in, kind-in, list-end, list-on}
 use Rattle.deflist.proofs.Theorems.{list-short, written-short}
 use Rattle.errors.specs.declared.Err.{Err}
-use Rattle.errors.specs.Errors.{err, unless, width, Stores}
-use Rattle.errors.proofs.Storing.{stores-none, stores-both}
+use Rattle.errors.specs.Errors.{err, unless, Stores}
+use Rattle.errors.proofs.Storing.{freeAt, after, back, stores-none, stores-both}
 use Rattle.errors.proofs.Storing.{Turns, turns-start, turns-on, turns-end, turns-few, turns-long}
 use Rattle.validate.specs.Params.{isMark, notPermitted, withParams, permits, markError, everyMark, marks}
 use Rattle.validate.specs.Params.{unpackError}
@@ -41,7 +40,7 @@ few-by es h s = record { few = omega (arith, s .count); stores = s }
 module _ (m : Mark) where
   marks-cut : (ns : List ℕ) (i : ℕ) (t : List ℕ) {e : ℕ} → isListed t ≡ true → e ≡ spanOf t
       → everyMark m (paramsIn ns (forest i t)) ≡ markError m (nodeOf 0 t) (kindHere t)
-      ++ everyMark m (paramsIn ns (forest (i + e / 24) (take (length t - e) (drop e t))))
+      ++ everyMark m (paramsIn ns (forest (i + e / 24) (after e t)))
   unfolding everyMark
   marks-cut ns i t listed e-is = rw (list-on ns i t listed e-is, node-in ns (nodeOf i t), kind-in ns i t) refl
 
@@ -81,12 +80,12 @@ module _ (m : Mark) (t : List ℕ) where
 
     module _ {l : Bool} (l-is : l ≡ isListed left) where
       pub mark-on : l ≡ true → {k : Kind} → k ≡ kindHere left → {b : Bool} → b ≡ isMark m k → {c : ℕ}
-          → c ≡ notPermitted m → {at n : ℕ} {zs : List ℕ} → at ≡ min (width * total) (length xs)
-          → Stores (unless (not b) c (nodeOf 0 left)) (take (length xs - at) (drop at xs)) n zs
+          → c ≡ notPermitted m → {at n : ℕ} {zs : List ℕ} → at ≡ freeAt total xs
+          → Stores (unless (not b) c (nodeOf 0 left)) (after at xs) n zs
           → {e : ℕ} → e ≡ spanOf left
-          → Marking m t xs₀ (take (length left - e) (drop e left)) (total + n) (putMid at (length xs - at) xs zs)
+          → Marking m t xs₀ (after e left) (total + n) (back at xs zs)
       mark-on listed k-is {b} b-is {c} c-is at-is s {e} e-is =
-          let rest = take (length left - e) (drop e left) in
+          let rest = after e left in
           let cut : marksIn m left ≡ unless (not b) c (nodeOf 0 left) ++ marksIn m rest = rw (
             marks-cut m [] 0 left (sym l-is ∙ listed) e-is,
             ← k-is,
@@ -126,27 +125,27 @@ module _ (d : Dialect) (names t : List ℕ) (i : ℕ) where
   unfolding written
   told-anywhere m list-is s = rw (← list-is, same-marks m names [] (i + 1) _ 0) s
 
-  pub params-all : {list xs ys zs vs : List ℕ} {a b c k m u v w : ℕ} → list ≡ kidsOf t
-      → StoresFew u (marks d Star (paramsIn [] (forest 0 list))) xs a ys → k ≡ min (width * a) (length ys)
-      → StoresFew v (marks d SlashMark (paramsIn [] (forest 0 list))) (take (length ys - k) (drop k ys)) b zs
-      → m ≡ min (width * (a + b)) (length (putMid k (length ys - k) ys zs))
-      → StoresFew w (unpackError (told (unpack (written names i t))))
-      (take (length (putMid k (length ys - k) ys zs) - m) (drop m (putMid k (length ys - k) ys zs))) c vs
+  pub params-all : {list xs ys zs vs : List ℕ} {a b c k m : ℕ} → list ≡ kidsOf t
+      → Stores (marks d Star (paramsIn [] (forest 0 list))) xs a ys → k ≡ freeAt a ys
+      → Stores (marks d SlashMark (paramsIn [] (forest 0 list))) (after k ys) b zs
+      → m ≡ freeAt (a + b) (back k ys zs)
+      → Stores (unpackError (told (unpack (written names i t))))
+      (after m (back k ys zs)) c vs
       → StoresFew (1 + length t / 24) («validate_params» d (written names i t)) xs (a + b + c)
-      (putMid m (length (putMid k (length ys - k) ys zs) - m) (putMid k (length ys - k) ys zs) vs)
+      (back m (back k ys zs) vs)
   unfolding «validate_params»
   params-all list-is stars k-is slashes m-is last = few-by («validate_params» d (written names i t))
       (omega (arith, params-few d (written names i t), written-short names i t))
-      (stores-both _ _ (stores-both _ _ (told-anywhere Star list-is (stars .stores)) k-is
-      (told-anywhere SlashMark list-is (slashes .stores))) m-is (last .stores))
+      (stores-both _ _ (stores-both _ _ (told-anywhere Star list-is stars) k-is
+      (told-anywhere SlashMark list-is slashes)) m-is last)
 
   -- what a parameter list's node is told
-  pub with-all : (p : Bool) (n : ℕ) {xs ys zs : List ℕ} {m l at most : ℕ} → Stores (unless p n (nodeOf 0 t)) xs m ys
-      → at ≡ min (width * m) (length ys)
-      → StoresFew most («validate_params» d (written names i t)) (take (length ys - at) (drop at ys)) l zs
+  pub with-all : (p : Bool) (n : ℕ) {xs ys zs : List ℕ} {m l at : ℕ} → Stores (unless p n (nodeOf 0 t)) xs m ys
+      → at ≡ freeAt m ys
+      → Stores («validate_params» d (written names i t)) (after at ys) l zs
       → StoresFew (2 + length t / 24) (withParams d names p n (nodeOf i t) (forest (i + 1) (kidsOf t))) xs (m + l)
-      (putMid at (length ys - at) ys zs)
+      (back at ys zs)
   unfolding withParams written
   with-all p n s at-is q =
       few-by _ (omega (arith, with-few d names p n (nodeOf i t) (forest (i + 1) (kidsOf t)), list-few d names i t))
-      (stores-both _ _ s at-is (q .stores))
+      (stores-both _ _ s at-is q)

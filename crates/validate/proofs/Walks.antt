@@ -3,12 +3,11 @@
 use mathlib.Core.Path.{_≡_, refl}
 use mathlib.Core.Bool.{Bool, true, false, _&&_, not}
 use mathlib.Core.List.{List, [], _∷_, _++_, append-nil}
-use Prim.Native.Nat.{ℕ, zero, suc, _+_, _-_, _*_, _/_, _<_, _≤_, min}
+use Prim.Native.Nat.{ℕ, zero, suc, _+_, _-_, _*_, _/_, _<_, _≤_}
 use native.Mathlib.Omega.{arith}
 use lib.Dec.{eqb, leb}
 use lib.ListN.{length, take, drop}
 use borrow.Author.Tests.{eq-eqb, ne-eqb, eqb-true, eqb-false}
-use borrow.Rule.Slice.PartMut.{putMid}
 use Rattle.fields.proofs.Basics.{never, and-left, and-right}
 use Rattle.dialect.specs.declared.Dialect.{Dialect}
 use Rattle.dialect.specs.Rows.{permitsTypes}
@@ -20,8 +19,8 @@ use Rattle.soundness.specs.Kinds.{statement, kindIn, kindOf, classOf}
 use Rattle.table.specs.Answer.{spanAt}
 use Rattle.table.specs.Numbers.{defNotPermitted, ellipsisNotPermitted, lambdaNotPermitted}
 use Rattle.errors.specs.declared.Err.{Err}
-use Rattle.errors.specs.Errors.{errAt, unless, width, Stores}
-use Rattle.errors.proofs.Storing.{stores-none, stores-both, unless-one}
+use Rattle.errors.specs.Errors.{errAt, unless, Stores}
+use Rattle.errors.proofs.Storing.{freeAt, after, back, stores-none, stores-both, unless-one}
 use Rattle.errors.proofs.Storing.{Turns, turns-start, turns-on, turns-end, turns-few, turns-long}
 use Rattle.validate.specs.Inner.{StoresFew}
 use Rattle.validate.specs.Params.{withParams}
@@ -133,10 +132,10 @@ module _ {all : Forest → List Err} {one : Tree → List Err} where
       stores = turns-end (v .turns) (rw (forest-none place left h) (v .walk .empty));
     }
 
-    pub each-on : 24 ≤ length left → {n free : ℕ} {zs : List ℕ} → free ≡ min (width * total) (length xs)
-        → Stores (one (treeOf place left)) (take (length xs - free) (drop free xs)) n zs → {e : ℕ} → e ≡ spanOf left
-        → Visiting all one whole t xs₀ (take (length left - e) (drop e left)) (place + e / 24) (total + n)
-        (putMid free (length xs - free) xs zs)
+    pub each-on : 24 ≤ length left → {n free : ℕ} {zs : List ℕ} → free ≡ freeAt total xs
+        → Stores (one (treeOf place left)) (after free xs) n zs → {e : ℕ} → e ≡ spanOf left
+        → Visiting all one whole t xs₀ (after e left) (place + e / 24) (total + n)
+        (back free xs zs)
     each-on big free-is s {e} e-is =
         let next = turns-on (v .turns) (each-cut all place e left one _++_ (v .walk .first) big e-is) free-is s in
         record {
@@ -176,20 +175,20 @@ module _ (d : Dialect) (names : List ℕ) (s : Standing) (i : ℕ) (t : List ℕ
           → Stores (f d names s (treeOf i t)) xs m ys
       f-told h q = rw (opened, h) q
 
-      module _ {e : ℕ} (e-is : e ≡ spanOf t) {most : ℕ} where
+      module _ {e : ℕ} (e-is : e ≡ spanOf t) where
         pub f-below : {p : Standing} → a ≡ Below p
-            → StoresFew most («visit_stmt» d names p (forest (i + 1) (made e t))) xs m ys
+            → Stores («visit_stmt» d names p (forest (i + 1) (made e t))) xs m ys
             → Stores (f d names s (treeOf i t)) xs m ys
-        f-below h q = rw (opened, h, ← kids-part e t e-is) (q .stores)
+        f-below h q = rw (opened, h, ← kids-part e t e-is) q
 
-        pub f-def : a ≡ Def → {few n at : ℕ} {zs : List ℕ}
-            → StoresFew few (withParams d names (d .«enable_def») defNotPermitted (nodeOf i t) (children i t)) xs m ys
-            → at ≡ min (width * m) (length ys)
-            → StoresFew most («visit_stmt» d names inDef (forest (i + 1) (made e t)))
-            (take (length ys - at) (drop at ys)) n zs
-            → Stores (f d names s (treeOf i t)) xs (m + n) (putMid at (length ys - at) ys zs)
+        pub f-def : a ≡ Def → {n at : ℕ} {zs : List ℕ}
+            → Stores (withParams d names (d .«enable_def») defNotPermitted (nodeOf i t) (children i t)) xs m ys
+            → at ≡ freeAt m ys
+            → Stores («visit_stmt» d names inDef (forest (i + 1) (made e t)))
+            (after at ys) n zs
+            → Stores (f d names s (treeOf i t)) xs (m + n) (back at ys zs)
         f-def h q at-is z =
-            rw (opened, h) (stores-both _ _ (q .stores) at-is (rw (kids-part e t e-is) at (z .stores)))
+            rw (opened, h) (stores-both _ _ q at-is (rw (kids-part e t e-is) at z))
 
 -- the first record of a stretch by itself, as an expression
 module _ (d : Dialect) (names : List ℕ) (i : ℕ) (t : List ℕ) {k : ℕ} (k-is : k ≡ nodeOf 0 t .kind) where
@@ -215,17 +214,17 @@ module _ (d : Dialect) (names : List ℕ) (i : ℕ) (t : List ℕ) {k : ℕ} (k-
       record { few = omega arith; stores = stores-none xs }
 
 -- and then all below it, if there is any
-module _ (d : Dialect) (names : List ℕ) (i : ℕ) (t : List ℕ) {e : ℕ} (e-is : e ≡ spanOf t) {most m : ℕ}
-    {xs ys : List ℕ} (own : StoresFew most (exprErrors d names (nodeOf i t) (children i t)) xs m ys) where
+module _ (d : Dialect) (names : List ℕ) (i : ℕ) (t : List ℕ) {e : ℕ} (e-is : e ≡ spanOf t) {m : ℕ}
+    {xs ys : List ℕ} (own : Stores (exprErrors d names (nodeOf i t) (children i t)) xs m ys) where
   pub expr-leaf : e ≤ 24 → Stores (expr d names (treeOf i t)) xs m ys
   unfolding expr
   expr-leaf h =
       let no : length (kidsOf t) < 24 = omega (arith, length-kids t) in
       let nothing : «visit_expr» d names (children i t) ≡ [] = rw (forest-none (i + 1) (kidsOf t) no) refl in
-      rw (nothing, append-nil) (own .stores)
+      rw (nothing, append-nil) own
 
-  pub expr-on : {few n at : ℕ} {zs : List ℕ} → at ≡ min (width * m) (length ys)
-      → StoresFew few («visit_expr» d names (forest (i + 1) (made e t))) (take (length ys - at) (drop at ys)) n zs
-      → Stores (expr d names (treeOf i t)) xs (m + n) (putMid at (length ys - at) ys zs)
+  pub expr-on : {n at : ℕ} {zs : List ℕ} → at ≡ freeAt m ys
+      → Stores («visit_expr» d names (forest (i + 1) (made e t))) (after at ys) n zs
+      → Stores (expr d names (treeOf i t)) xs (m + n) (back at ys zs)
   unfolding expr
-  expr-on at-is z = stores-both _ _ (own .stores) at-is (rw (kids-part e t e-is) at (z .stores))
+  expr-on at-is z = stores-both _ _ own at-is (rw (kids-part e t e-is) at z)
