@@ -1,0 +1,6 @@
+pub mod Over
+pub mod Laying
+pub mod Building
+pub mod Jobs
+pub mod Promises
+pub mod RoundTrips
