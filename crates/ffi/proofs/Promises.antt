@@ -1,4 +1,5 @@
--- Two answers that meet the promise of a public function coincide: the number, the twelve words, and the lent buffer, for every input. Assumes nothing.
+-- Two answers that meet the promise of a public function coincide: the number, the twelve words, and the lent buffer,
+-- for every input. Assumes nothing.
 use mathlib.Core.Path.{_≡_}
 use mathlib.Core.List.{List}
 use Prim.Native.Nat.{ℕ}
@@ -75,7 +76,8 @@ starlark-module-one table names dialect errors out r-is out-is errors-is s-is ou
 -- of `starlark_write`
 pub starlark-write-one : (table names dialect file out : List ℕ) {r s : ℕ} {file-r file-s : List ℕ}
     {out-r out-s : List ℕ} → r ≡ number (writeOf table names dialect (length file))
-    → out-r ≡ laid (words (writeOf table names dialect (length file))) 0 out → file-r ≡ fileAfter table names dialect file
+    → out-r ≡ laid (words (writeOf table names dialect (length file))) 0 out
+    → file-r ≡ fileAfter table names dialect file
     → s ≡ number (writeOf table names dialect (length file))
     → out-s ≡ laid (words (writeOf table names dialect (length file))) 0 out
     → file-s ≡ fileAfter table names dialect file → (r ≡ s) × (file-r ≡ file-s) × (out-r ≡ out-s)

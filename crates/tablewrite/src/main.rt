@@ -1,6 +1,7 @@
-// Writes the table file of a table, its names and a dialect, or none: tablewrite TABLE NAMES NEW OUT [DIALECT], each the name of a file.
-// It prints `written N`, N the bytes of the file; or, for what is refused, the one line `refused K`, and then OUT is as it was.
-// The file is made under the name NEW, flushed, and only then takes the name OUT, so that no part of a file stands there at any time.
+// Writes the table file of a table, its names and a dialect, or none: tablewrite TABLE NAMES NEW OUT [DIALECT], each
+// the name of a file. It prints `written N`, N the bytes of the file; or, where it is refused, the line `refused K`,
+// and then OUT is as it was. The file is made under the name NEW, flushed, and only then takes the name OUT, so that
+// no part of a file stands there at any time.
 // It only reads, calls and writes: what the file is, is the library's, writer.
 use blocks::BLOCK_BYTES;
 use libc::STDOUT_FILENO;
@@ -80,7 +81,8 @@ fn read_named(i: usize, buffer: &mut [u8]) -> usize {
     got
 }
 
-// Reads until the buffer is full or the input ends. A read that fails looks like an end, so where there is room left it is asked once more.
+// Reads until the buffer is full or the input ends. A read that fails looks like an end, so where there is room left it
+// is asked once more.
 fn read_whole(fd: i32, buffer: &mut [u8]) -> usize {
     let got = io::read_full(fd, buffer);
     if got < buffer.len() {
@@ -114,7 +116,8 @@ fn keep(file: &[u8], size: usize) {
     }
 }
 
-// Makes the file under the new name, which it then loses for the other; whether that is done. Else nothing is left under the new name.
+// Makes the file under the new name, which it then loses for the other; whether that is done. Else nothing is left
+// under the new name.
 fn replace(bytes: &[u8], new: &[u8], out: &[u8]) -> bool {
     let fd = os::create(new);
     if fd < 0 {

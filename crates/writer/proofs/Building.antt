@@ -118,25 +118,21 @@ module _ (number : ℕ) (content d : List ℕ) {head o₁ o₂ o₃ : List ℕ} 
       (sym (append-assoc f (bytesOf 4 (sumOf f)) (drop 512 d)))
 
 -- block 0: the counts, then the dialect
-header-whole : (t names ds : List ℕ) {counts o₁ o₂ : List ℕ}
+pub header-whole : (t names ds d : List ℕ) {counts o₁ o₂ out : List ℕ}
     → counts ≡ bytesOf 2 (length t / 24) ++ bytesOf 2 (length names) → o₁ ≡ over 0 counts (replicate 13 0)
-    → o₂ ≡ over 4 ds o₁ → take (4 + length ds - 0) (drop 0 o₂) ≡ headerOf (holding t names ds)
-unfolding headerOf
-header-whole t names ds {counts} counts-is o₁-is o₂-is =
-    let four : length counts ≡ 4 = pair-four (length t / 24) (length names) counts-is in
-    let used : 4 + length ds - 0 ≡ 4 + length ds = omega arith in
-    let long : length (counts ++ ds) ≡ 4 + length ds = simp length-append (omega arith) in
-    rw used (ap (take (4 + length ds)) (four-then (replicate 13 0) counts ds four o₁-is o₂-is)
-    ∙ take-at (counts ++ ds) (drop (4 + length ds) (replicate 13 0)) (4 + length ds) long
-    ∙ ap (λ (x : List ℕ). x ++ ds) counts-is
-    ∙ append-assoc (bytesOf 2 (length t / 24)) (bytesOf 2 (length names)) ds)
-
-pub header-done : (t names ds d : List ℕ) {counts o₁ o₂ : List ℕ}
-    → counts ≡ bytesOf 2 (length t / 24) ++ bytesOf 2 (length names) → o₁ ≡ over 0 counts (replicate 13 0)
-    → o₂ ≡ over 4 ds o₁ → {out : List ℕ} → out ≡ over 0 (blockOf 0 (take (4 + length ds - 0) (drop 0 o₂))) d
+    → o₂ ≡ over 4 ds o₁ → out ≡ over 0 (blockOf 0 (take (4 + length ds - 0) (drop 0 o₂))) d
     → out ≡ over 0 (blockOf 0 (headerOf (holding t names ds))) d
-header-done t names ds d counts-is o₁-is o₂-is out-is =
-    rw (header-whole t names ds counts-is o₁-is o₂-is) at out-is
+unfolding headerOf
+header-whole t names ds d {counts} {o₂ = o₂} counts-is o₁-is o₂-is out-is =
+    let n : ℕ = 4 + length ds in
+    let four : length counts ≡ 4 = pair-four (length t / 24) (length names) counts-is in
+    let all : n - 0 ≡ n = omega arith in
+    let long : length (counts ++ ds) ≡ n = simp length-append (omega arith) in
+    let header : take (n - 0) (drop 0 o₂) ≡ headerOf (holding t names ds) =
+    ap (λ (k : ℕ). take k o₂) all ∙ ap (take n) (four-then (replicate 13 0) counts ds four o₁-is o₂-is)
+    ∙ take-at (counts ++ ds) (drop n (replicate 13 0)) n long ∙ ap (λ (x : List ℕ). x ++ ds) counts-is
+    ∙ append-assoc (bytesOf 2 (length t / 24)) (bytesOf 2 (length names)) ds in
+    rw header at out-is
 
 -- a run: its first block, and the others
 run-first : (number : ℕ) (left : List ℕ) → 0 < length left

@@ -1,5 +1,5 @@
 -- The writer, as request W-201 asks for it, over the promises of writer and reader, for every input:
--- what is written reads back as the same table, names and dialect, and none stays none, so the reader does not refuse it;
+-- what is written reads back as the same table, names and dialect, none as none, so the reader does not refuse it;
 -- each file that the reader accepts is written again to the same bytes;
 -- where 1 to 5 are passed it is refused, by 7, exactly if the blocks do not fit;
 -- a refusal changes no byte, and bytes past the blocks always stay. Assumes nothing.

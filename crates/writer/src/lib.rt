@@ -1,4 +1,4 @@
-// The writer of table files: a table, its names and a dialect, or none, to the blocks of document 01, into a lent buffer.
+// The writer of table files: a table, its names and a dialect, or none, to document 01's blocks, into a lent buffer.
 use blocks::BLOCK_BYTES;
 use forest::RECORD;
 use table::Given;
@@ -12,7 +12,8 @@ ghost use Rattle.fields.specs.Field.{bytesOf};
 ghost use Rattle.blocks.specs.Block.{blockBytes, contentBytes, weighed, blockOf};
 ghost use Rattle.blocks.specs.Run.{blocksFor, runOf};
 ghost use Rattle.tablefile.specs.File.{headerOf, fileOf, mostBlocks};
-ghost use Rattle.writer.specs.Writing.{holding, bytesFor, roomCheck, writeOf, over, fileAfter, isRefused, written};
+ghost use Rattle.writer.specs.Writing.{holding, bytesFor, roomCheck, writeOf, over, fileAfter};
+ghost use Rattle.writer.specs.Writing.{isRefused, written};
 
 // The answer of the job: how many bytes are written, a multiple of 512, or why it is refused.
 pub enum Written {
@@ -20,11 +21,13 @@ pub enum Written {
     Refused(Refusal),
 }
 
-// The table file of a table, its names and a dialect, nine bytes or none: 1 to 5, then 7 for a buffer that is shorter than the file. A
-// refusal changes no byte, and bytes past the file stay.
+// The table file of a table, its names and a dialect, nine bytes or none: 1 to 5, then 7 for a buffer that is shorter
+// than the file. A refusal changes no byte, and bytes past the file stay.
 pub fn write(table: &[u8], names: &[u8], dialect: &[u8], file: &mut [u8]) -> Written
-    ensures { λ r. ⌜ written r ≡ writeOf (now (table .entry)) (now (names .entry)) (now (dialect .entry)) (length (now (file .entry))) ⌝ }
-    ensures { λ r. ⌜ now (file .exit) ≡ fileAfter (now (table .entry)) (now (names .entry)) (now (dialect .entry)) (now (file .entry)) ⌝ }
+    ensures { λ r. ⌜ written r
+        ≡ writeOf (now (table .entry)) (now (names .entry)) (now (dialect .entry)) (length (now (file .entry))) ⌝ }
+    ensures { λ r. ⌜ now (file .exit)
+        ≡ fileAfter (now (table .entry)) (now (names .entry)) (now (dialect .entry)) (now (file .entry)) ⌝ }
 {
     let judged = judge(table, names, dialect, file.len());
     if is_refused(judged) {
@@ -70,8 +73,11 @@ fn is_refused(answer: Written) -> bool
 
 // Writes the file at the front of a buffer: block 0, the blocks of the names, then those of the nodes.
 fn write_file(table: &[u8], names: &[u8], dialect: &[u8], file: &mut [u8])
-    requires { ⌜ (length (now dialect) ≤ 9) × (bytesFor (length (now table)) (length (now names)) ≤ length (now file)) ⌝ }
-    ensures { λ r. ⌜ now (file .exit) ≡ over 0 (fileOf (holding (now (table .entry)) (now (names .entry)) (now (dialect .entry)))) (now (file .entry)) ⌝ }
+    requires { ⌜ (length (now dialect) ≤ 9)
+        × (bytesFor (length (now table)) (length (now names)) ≤ length (now file)) ⌝ }
+    ensures { λ r. ⌜ now (file .exit)
+        ≡ over 0 (fileOf (holding (now (table .entry)) (now (names .entry)) (now (dialect .entry))))
+        (now (file .entry)) ⌝ }
 {
     write_header(table, names, dialect, file);
     write_run(1, names, file);
@@ -82,7 +88,9 @@ fn write_file(table: &[u8], names: &[u8], dialect: &[u8], file: &mut [u8])
 // Writes block 0 at the front of some bytes: the node count, the name byte count, and the dialect if there is one.
 fn write_header(table: &[u8], names: &[u8], dialect: &[u8], out: &mut [u8])
     requires { ⌜ (length (now dialect) ≤ 9) × (blockBytes ≤ length (now out)) ⌝ }
-    ensures { λ r. ⌜ now (out .exit) ≡ over 0 (blockOf 0 (headerOf (holding (now (table .entry)) (now (names .entry)) (now (dialect .entry))))) (now (out .entry)) ⌝ }
+    ensures { λ r. ⌜ now (out .exit)
+        ≡ over 0 (blockOf 0 (headerOf (holding (now (table .entry)) (now (names .entry)) (now (dialect .entry)))))
+        (now (out .entry)) ⌝ }
 {
     let mut header = [0u8; 13];
     let counts = pair(table.len() / RECORD, names.len());
@@ -92,10 +100,12 @@ fn write_header(table: &[u8], names: &[u8], dialect: &[u8], out: &mut [u8])
     write_block(0, &header[0..used], out)
 }
 
-// Writes the blocks of a content into a file, numbered from a number on: each is lent the file from its place on, one after another.
+// Writes the blocks of a content into a file, numbered from a number on: each is lent the file from its place on, one
+// after another.
 fn write_run(first: usize, content: &[u8], file: &mut [u8])
     requires { ⌜ blockBytes * (first + blocksFor (length (now content))) ≤ length (now file) ⌝ }
-    ensures { λ r. ⌜ now (file .exit) ≡ over (blockBytes * first) (runOf first (now (content .entry))) (now (file .entry)) ⌝ }
+    ensures { λ r. ⌜ now (file .exit)
+        ≡ over (blockBytes * first) (runOf first (now (content .entry))) (now (file .entry)) ⌝ }
 {
     let mut left = content;
     let mut number = first;
@@ -108,7 +118,8 @@ fn write_run(first: usize, content: &[u8], file: &mut [u8])
     }
 }
 
-// Writes a block at the front of some bytes, from 512 zero bytes: number, used bytes and content, weighed as they are laid, and the sum.
+// Writes a block at the front of some bytes, from 512 zero bytes: number, used bytes and content, weighed as they are
+// laid, and the sum.
 fn write_block(number: usize, content: &[u8], out: &mut [u8])
     requires { ⌜ (length (now content) ≤ contentBytes) × (blockBytes ≤ length (now out)) ⌝ }
     ensures { λ r. ⌜ now (out .exit) ≡ over 0 (blockOf number (now (content .entry))) (now (out .entry)) ⌝ }

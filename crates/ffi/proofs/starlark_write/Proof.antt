@@ -1,4 +1,5 @@
--- `ffi::starlark_write` meets its contract: the answer of the job, arm by arm, and the file as the job leaves them. Assumes nothing.
+-- `ffi::starlark_write` meets its contract: the answer of the job, arm by arm, and the file as the job leaves it.
+-- Assumes nothing.
 use Rattle.ffi.proofs.Told.{told-with}
 use Rattle.ffi.specs.Words.{words}
 use Rattle.writer.specs.Writing.{written}

@@ -1,6 +1,6 @@
 -- `writer::write_header` meets its contract: the counts and the dialect are block 0's content. Assumes nothing.
 use borrow.Author.Needs.{needs}
-use Rattle.writer.proofs.Building.{header-done}
+use Rattle.writer.proofs.Building.{header-whole}
 use Rattle.writer.proofs.write_header.Statement.{statement}
 use Rattle.writer.proofs.write_header.Tie as tie
 
@@ -20,4 +20,4 @@ write-header-spec =
     (λ c. search needs)
     (λ c κs. search needs)
     (λ c. search needs)
-    (λ c. search header-done))  -- returns
+    (λ c. search header-whole))  -- returns
