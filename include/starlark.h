@@ -43,6 +43,9 @@ extern "C" {
 #define STARLARK_NAME_BYTES 8064
 #define STARLARK_DEPTH 64
 
+/* The bytes of a table file: a multiple of 512, and a buffer of so many is never too short for one. */
+#define STARLARK_FILE_BYTES 59904
+
 /* No module has more errors: two for each node. */
 #define STARLARK_ERRORS 4200
 
@@ -84,6 +87,12 @@ uint32_t starlark_type(const uint8_t *table, size_t table_len, const uint8_t *na
  * are stored, the other words stay; `errors_len` counts words, and a list that is too short is no refusal. */
 uint32_t starlark_module(const uint8_t *table, size_t table_len, const uint8_t *names, size_t names_len, const uint8_t *dialect,
                          size_t dialect_len, uint32_t *errors, size_t errors_len, uint32_t *out);
+
+/* The table file of a table, its names and a dialect (nine bytes, or none, which stays none), into `file`: 1 to 5, 7. Accepted: out[0] how
+ * many bytes are written, at most STARLARK_FILE_BYTES; bytes past them stay. 7 exactly where `file_len` is less than 512 for block 0, for each
+ * 504 name bytes and for each 21 nodes that are begun. What is written reads back as the same table, names and dialect. */
+uint32_t starlark_write(const uint8_t *table, size_t table_len, const uint8_t *names, size_t names_len, const uint8_t *dialect,
+                        size_t dialect_len, uint8_t *file, size_t file_len, uint32_t *out);
 
 #ifdef __cplusplus
 }
