@@ -75,7 +75,8 @@ fn arm_of(d: Dialect, s: Standing, kind: u8) -> Arm
 
 // A load that is not at the top, and then one that the dialect does not permit.
 fn load_errors(d: Dialect, s: Standing, t: &[u8], errors: &mut [u32]) -> usize
-    ensures { λ r. ⌜ Stores (loadErrors d s (nodeOf 0 (now (t .entry)))) (now (errors .entry)) r (now (errors .exit)) ⌝ }
+    ensures { λ r. ⌜ Stores (loadErrors d s (nodeOf 0 (now (t .entry))))
+        (now (errors .entry)) r (now (errors .exit)) ⌝ }
 {
     let first = errors::push_unless(s.top_level, numbers::LOAD_NOT_AT_TOP, t, errors);
     let free = errors::free(errors.len(), first);
