@@ -18,9 +18,9 @@
  *   Each pointer points to as many elements as the length beside it says, and `out` to twelve words.
  *   No two of the buffers that one call is lent overlap: not the table, the names, the dialect, the written buffer, `out`.
  *   No pointer is NULL, not even one of length 0; words are aligned to four bytes.
- *   The thread has stack enough: STARLARK_STACK_BYTES is twice what any job was measured to need (bindings/c/stack.c, on aarch64 and x86-64), which
- *   in the module pass grows with the nodes that stand side by side. At 2,100 nodes the table check needs 9 KB; the module
- *   pass up to 572 KB (statements; 606 on x86-64). Nesting alone, 64 deep, needs less than 50 KB.
+ *   The thread has stack enough: STARLARK_STACK_BYTES is more than twice what any job was measured to need (bindings/c/stack.c, on aarch64):
+ *   at 2,100 nodes of many shapes the table check needs 9 KB, the parameter job 18 KB, the call job 25 KB, the type job 30 KB, the module pass
+ *   35 KB, every other job no more than 9 KB.
  */
 #ifndef STARLARK_H
 #define STARLARK_H
@@ -44,11 +44,14 @@ extern "C" {
 #define STARLARK_NAME_BYTES 8064
 #define STARLARK_DEPTH 64
 
+/* The bytes of a table file: a multiple of 512, and a buffer of so many is never too short for one. */
+#define STARLARK_FILE_BYTES 59904
+
 /* No module has more errors: two for each node. */
 #define STARLARK_ERRORS 4200
 
 /* Stack enough for every job, twice over. */
-#define STARLARK_STACK_BYTES (3 << 19)
+#define STARLARK_STACK_BYTES (1 << 18)
 
 /* The table check: 1 to 4. Accepted: nothing. */
 uint32_t starlark_table(const uint8_t *table, size_t table_len, const uint8_t *names, size_t names_len, uint32_t *out);
@@ -85,6 +88,12 @@ uint32_t starlark_type(const uint8_t *table, size_t table_len, const uint8_t *na
  * are stored, the other words stay; `errors_len` counts words, and a list that is too short is no refusal. */
 uint32_t starlark_module(const uint8_t *table, size_t table_len, const uint8_t *names, size_t names_len, const uint8_t *dialect,
                          size_t dialect_len, uint32_t *errors, size_t errors_len, uint32_t *out);
+
+/* The table file of a table, its names and a dialect (nine bytes, or none, which stays none), into `file`: 1 to 5, 7. Accepted: out[0] how
+ * many bytes are written, at most STARLARK_FILE_BYTES; bytes past them stay. 7 exactly where `file_len` is less than 512 for block 0, for each
+ * 504 name bytes and for each 21 nodes that are begun. What is written reads back as the same table, names and dialect. */
+uint32_t starlark_write(const uint8_t *table, size_t table_len, const uint8_t *names, size_t names_len, const uint8_t *dialect,
+                        size_t dialect_len, uint8_t *file, size_t file_len, uint32_t *out);
 
 #ifdef __cplusplus
 }

@@ -9,6 +9,7 @@ measured.py quick LOG      from the output of oracle/compare: the jobs of each f
 measured.py long LOG       from the output of oracle/compare --long
 measured.py faults LOG     from the output of oracle/faults-port: each planted fault and where it showed
 measured.py jobs LOG       from the output of bench/run: its tables as they stand
+measured.py stack LOG      from the log of ./test or the output of bindings/run: the stack that each job needs
 measured.py sizes          lines and characters of code, definitions and proofs, crate by crate; reads the crates themselves
 """
 import datetime
@@ -20,7 +21,7 @@ import sys
 
 import repository
 
-PLACES = {"gate": "GATE", "quick": "COMPARISON", "long": "COMPARISON", "faults": "FAULTS", "jobs": "BENCHMARKS", "sizes": "SIZES"}
+PLACES = {"gate": "GATE", "quick": "COMPARISON", "long": "COMPARISON", "faults": "FAULTS", "jobs": "BENCHMARKS", "stack": "STACK", "sizes": "SIZES"}
 
 
 def table(head, rows):
@@ -65,6 +66,12 @@ def faults(log):
     return f"**{last}**\n\n" + table(["fault", "what it does", "jobs run", "showed in"], [(n, words.get(n, [""])[0], jobs, at) for n, jobs, at in rows])
 
 
+def stack(log):
+    """The most stack that each job needed, of all tables that bindings/c/stack.c makes."""
+    needed = re.findall(r"^bindings: stack needed, (.*)$", log, re.M)[-1]
+    return table(["job", "bytes of stack"], [(job, number(most)) for job, most in re.findall(r"([a-z ]+?) (\d+) ?", needed)])
+
+
 def jobs(log):
     """The tables of bench/run, which are in Markdown already, with the lines between them."""
     return log[log.index("|"):].strip() if "|" in log else log.strip()
@@ -103,7 +110,7 @@ def main(words):
     if not words or words[0] not in PLACES or len(words) != (1 if words[0] == "sizes" else 2):
         sys.exit(__doc__)
     log = open(words[1], encoding="utf-8").read() if words[1:] else ""
-    write(words[0], {"gate": gate, "quick": families, "long": families, "faults": faults, "jobs": jobs, "sizes": sizes}[words[0]](log))
+    write(words[0], {"gate": gate, "quick": families, "long": families, "faults": faults, "jobs": jobs, "stack": stack, "sizes": sizes}[words[0]](log))
 
 
 if __name__ == "__main__":

@@ -5,6 +5,8 @@ tables.py cases TEXT... OUT         write the requests of crates/cases from its 
 tables.py filecases TEXT... OUT     write the table files of crates/filetest from its cases in words
 tables.py file TEXT OUT             write the table file of a tree in words
 tables.py files TEXT...             the same for several: from X.txt to X.table
+tables.py whole TEXT OUT            the same with no change and no cut
+tables.py parts TEXT FOLDER         write what that file holds: the files table, names and dialect (no byte for none)
 Each with --check behind it: only say whether the file is what its text gives (exit status 1 if not).
 
 A tree is written (Kind children): (Statements (Break) (Return (Identifier x))). Behind the kind may stand
@@ -193,8 +195,8 @@ def file_of(table, names, dialect):
     return b"".join(block(number, content) for number, content in enumerate(parts))
 
 
-def table_file(path):
-    """The table file that a text gives."""
+def content_of(path):
+    """What a text says of a file: table, names and dialect, and its other lines."""
     said, tree = {}, []
     for line in open(path, encoding="utf-8"):
         key, mark, value = line.partition(":")
@@ -209,7 +211,13 @@ def table_file(path):
             place(root, script, 0, len(script))
     dialect = said.get("dialect", "none")
     demand(dialect in DIALECTS or dialect.isdigit(), f"no dialect is called {dialect}")
-    made = bytearray(file_of(*table_of(roots), bytes(int(c) for c in DIALECTS.get(dialect, dialect))))
+    return *table_of(roots), bytes(int(c) for c in DIALECTS.get(dialect, dialect)), said
+
+
+def table_file(path):
+    """The table file that a text gives."""
+    *content, said = content_of(path)
+    made = bytearray(file_of(*content))
     if "change" in said:
         at, value = numbers(said["change"], None)
         demand(made[at] != value, f"byte {at} is {value} already")
@@ -255,20 +263,26 @@ def pack(job, label, table, names, dialect, wanted, room, node):
     return lengths + text + table + names + dialect
 
 
+PARTS = {name: lambda path, at=at: content_of(path)[at] for at, name in enumerate(("table", "names", "dialect"))}
+MAKERS = {"cases": lines_of(request), "filecases": lines_of(file_case), "file": table_file, "whole": lambda path: file_of(*content_of(path)[:3])}
+
+
 def main():
     what, *files = [word for word in sys.argv[1:] if word != "--check"] or [""]
-    make = {"cases": lines_of(request), "filecases": lines_of(file_case)}.get(what, table_file)
-    most = {"cases": len(files), "filecases": len(files), "file": 2}.get(what, 0)
+    make = MAKERS.get(what)
+    most = len(files) if what in ("cases", "filecases") else 2
     if what == "files":
-        pairs = [([text], os.path.splitext(text)[0] + ".table") for text in files]
-    elif 2 <= len(files) <= most:
-        pairs = [(files[:-1], files[-1])]
+        pairs = [([text], os.path.splitext(text)[0] + ".table", table_file) for text in files]
+    elif what == "parts" and len(files) == 2:
+        pairs = [(files[:1], os.path.join(files[1], name), part) for name, part in PARTS.items()]
+    elif make and 2 <= len(files) <= most:
+        pairs = [(files[:-1], files[-1], make)]
     else:
         sys.exit(__doc__)
     right = True
-    for texts, out in pairs:
+    for texts, out, maker in pairs:
         try:
-            made = b"".join(make(text) for text in texts)
+            made = b"".join(maker(text) for text in texts)
         except (ValueError, OSError, struct.error) as error:
             sys.exit(f"{' '.join(texts)}: {error}")
         if "--check" not in sys.argv:
@@ -277,8 +291,8 @@ def main():
             print(f"{out}: is NOT what comes of {' and '.join(texts)}")
             right = False
     if "--check" in sys.argv and right:
-        of = "their texts" if 1 < len(pairs) else " and ".join(pairs[0][0])
-        print(f"{', '.join(out for _, out in pairs)}: what comes of {of}")
+        of = "their texts" if what == "files" else " and ".join(pairs[0][0])
+        print(f"{', '.join(out for _, out, _ in pairs)}: what comes of {of}")
     return 0 if right else 1
 
 

@@ -20,6 +20,7 @@ use starlark_syntax::syntax::module::validate_module;
 use starlark_syntax::syntax::type_expr::TypeExprUnpackP;
 
 use crate::measure::Route;
+use crate::plain;
 use crate::port::Port;
 use crate::scripts::Input;
 
@@ -30,6 +31,8 @@ pub const FRONT: &str = "crate-with-front";
 pub const MODEL: &str = "model-check";
 pub const TREE: &str = "tree";
 pub const READ: &str = "model-read";
+pub const PLAIN: &str = "plain-writer";
+pub const COPY: &str = "copy";
 
 type Routes = Vec<Route<'static>>;
 
@@ -195,6 +198,30 @@ pub fn file(input: &'static Input, dialect: &'static [u8]) -> Routes {
         Route::new(MODEL, move || black_box(read(input)).records.len()),
         Route::new(TREE, move || trees(black_box(table)).statement(0)),
         Route::new(CRATE, move || black_box(validate_module(black_box(&ready), &record, codemap())).len()),
+    ]
+}
+
+/// A file written, and a plain Rust writer with the oracle's checks in front and without; and the bytes copied.
+pub fn write(input: &'static Input, dialect: &'static [u8]) -> Routes {
+    let mut port = Port::new();
+    let number = port.write(&input.table, &input.names, dialect);
+    let answer = jobs::write(&input.table, &input.names, dialect, port.file.len());
+    must_agree(&port, number, &answer);
+    let size = answer.file.len();
+    assert_eq!(port.file[..size], answer.file[..], "port and oracle agree on what is measured");
+    let (mut checked, mut alone, mut copied) = (port.file.clone(), port.file.clone(), port.file.clone());
+    assert_eq!(plain::write(&input.table, &input.names, dialect, &mut alone), Some(size));
+    assert_eq!(alone[..size], answer.file[..], "the plain writer agrees too");
+    vec![
+        Route::new(PORT, move || port.write(&input.table, &input.names, dialect)),
+        Route::new(FRONT, move || {
+            black_box(read(input));
+            black_box(model::dialect::from_bytes(black_box(dialect)).is_ok());
+            plain::write(black_box(&input.table), &input.names, dialect, &mut checked)
+        }),
+        check_route(input),
+        Route::new(PLAIN, move || plain::write(black_box(&input.table), &input.names, dialect, black_box(&mut alone))),
+        Route::new(COPY, move || black_box(&mut copied)[..size].copy_from_slice(black_box(&answer.file))),
     ]
 }
 

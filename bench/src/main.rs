@@ -7,6 +7,7 @@
 mod cases;
 mod clock;
 mod measure;
+mod plain;
 mod port;
 mod scripts;
 mod tables;
@@ -25,6 +26,7 @@ enum Kind {
     Job,
     Table,
     File,
+    Write,
 }
 
 struct Case {
@@ -120,6 +122,10 @@ fn all_cases() -> Vec<Case> {
             all.push(case(name, Kind::File, move || cases::file(kept(scripts::module(nodes)), bytes)));
         }
     }
+    for nodes in MODULES {
+        let name = format!("write, {nodes} nodes");
+        all.push(case(name, Kind::Write, move || cases::write(kept(scripts::module(nodes)), &model::dialect::STANDARD)));
+    }
     all
 }
 
@@ -183,6 +189,9 @@ fn print_head(kind: Kind) {
         Kind::File => {
             "file to errors | port | the module job by itself | Rust route | port / Rust | reading and check | second check | tree | crate | port / (tree and crate alone)"
         }
+        Kind::Write => {
+            "file written | port | of it table check | Rust writer with the oracle's checks | port / that | Rust writer alone | port without its check / that | copying the bytes"
+        }
     };
     println!("| {columns} |");
     println!("|{}", "---|".repeat(columns.split('|').count()));
@@ -221,6 +230,14 @@ fn print_row(case: &Case, times: &[Times]) {
             row.extend([cases::READ, cases::MODEL, cases::TREE, cases::CRATE].map(|label| middle(of(times, label))));
             let least = [cases::TREE, cases::CRATE].map(|label| of(times, label).spread().median);
             row.push(format!("{:.2}", port.spread().median / least.iter().sum::<f64>()));
+        }
+        Kind::Write => {
+            let (front, check, plain) = (of(times, cases::FRONT), of(times, cases::CHECK), of(times, cases::PLAIN));
+            row.push(middle(check));
+            row.extend([micros(front.spread()), ratio(port.part_of(front))]);
+            let alone = port.spread().median - check.spread().median;
+            row.extend([micros(plain.spread()), format!("{:.2}", alone / plain.spread().median)]);
+            row.push(middle(of(times, cases::COPY)));
         }
     }
     println!("| {} |", row.join(" | "));

@@ -41,6 +41,17 @@ extern "C" {
         errors_len: usize,
         out: *mut Words,
     ) -> u32;
+    fn starlark_write(
+        t: *const u8,
+        tl: usize,
+        n: *const u8,
+        nl: usize,
+        dialect: *const u8,
+        dialect_len: usize,
+        file: *mut u8,
+        file_len: usize,
+        out: *mut Words,
+    ) -> u32;
     fn bench_file(file: *const u8, file_len: usize, errors: *mut u32, errors_len: usize, out: *mut Words) -> u32;
 }
 
@@ -49,12 +60,13 @@ pub struct Port {
     pub out: Words,
     pub bytes: Vec<u8>,
     pub errors: Vec<u32>,
+    pub file: Vec<u8>,
 }
 
 // In each call every pointer is to memory of the length beside it, and no two of them overlap.
 impl Port {
     pub fn new() -> Port {
-        Port { out: [0; 12], bytes: vec![0; 2_100], errors: vec![0; 3 * 4_200] }
+        Port { out: [0; 12], bytes: vec![0; 2_100], errors: vec![0; 3 * 4_200], file: vec![0; 59_904] }
     }
 
     pub fn table(&mut self, table: &[u8], names: &[u8]) -> u32 {
@@ -121,6 +133,24 @@ impl Port {
                 dialect.len(),
                 errors,
                 errors_len,
+                &mut self.out,
+            )
+        }
+    }
+
+    pub fn write(&mut self, table: &[u8], names: &[u8], dialect: &[u8]) -> u32 {
+        let (table, names) = black_box((table, names));
+        let (file, file_len) = (self.file.as_mut_ptr(), self.file.len());
+        unsafe {
+            starlark_write(
+                table.as_ptr(),
+                table.len(),
+                names.as_ptr(),
+                names.len(),
+                dialect.as_ptr(),
+                dialect.len(),
+                file,
+                file_len,
                 &mut self.out,
             )
         }

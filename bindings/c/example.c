@@ -1,4 +1,5 @@
-/* Every job from C, accepted and refused, on one script:
+/* Every job from C, accepted and refused, on one script. A word behind its name is where the table file of the script is put.
+ *
  *
  *     def f(a, /, b, *, c, **k): break
  *     def g(a, b=1, c): break
@@ -132,7 +133,24 @@ static void module(const char *words, const uint8_t *dialect, size_t dialect_len
     printf("\n");
 }
 
-int main(void) {
+/* The file in a buffer of `length` bytes, which hold 9: its first bytes, and how many are no longer so. An accepted one is put under the name
+ * `path`, where there is one. */
+static void write_file(const char *words, const uint8_t *dialect, size_t dialect_length, size_t length, const char *path) {
+    uint32_t out[STARLARK_WORDS];
+    static uint8_t file[STARLARK_FILE_BYTES];
+    size_t changed = STARLARK_FILE_BYTES;
+    memset(file, 9, sizeof file);
+    if (accepted(words, starlark_write(TABLE, dialect, dialect_length, file, length, out), out)) {
+        printf("%u bytes", out[0]);
+        FILE *kept = path ? fopen(path, "wb") : NULL;
+        if (kept && (fwrite(file, 1, out[0], kept) != out[0] || fclose(kept) != 0)) printf(", not kept");
+    }
+    while (changed > 0 && file[changed - 1] == 9) changed--;
+    printf(", %zu changed", changed);
+    bytes("the first", file, 18);
+}
+
+int main(int count, char **words) {
     node(STATEMENTS, 0, 49, "");
     size_t f = node(DEF, 0, 8, "");
     node(NORMAL, 0, 1, "a");
@@ -210,5 +228,10 @@ int main(void) {
     module("a list of four words", extended, 0, 4);
     module("in the Extended dialect", extended, 9, 16);
     module("eight bytes of dialect", extended, 8, 4);
+    write_file("the file in the Extended dialect", extended, 9, STARLARK_FILE_BYTES, count > 1 ? words[1] : NULL);
+    write_file("with no dialect", extended, 0, STARLARK_FILE_BYTES, NULL);
+    write_file("2,560 bytes for five blocks", extended, 0, 2560, NULL);
+    write_file("2,559 bytes for five blocks", extended, 0, 2559, NULL);
+    write_file("eight bytes of dialect", extended, 8, STARLARK_FILE_BYTES, NULL);
     return 0;
 }

@@ -25,6 +25,7 @@ static size_t nodes;
 static uint8_t names[STARLARK_NAME_BYTES];
 static uint8_t buffer[STARLARK_NODES];
 static uint32_t errors[3 * STARLARK_ERRORS];
+static uint8_t file[STARLARK_FILE_BYTES];
 static uint32_t out[STARLARK_WORDS];
 /* every switch on, so that types are read; every switch off, so that each error is given */
 static const uint8_t all_on[9] = {1, 1, 1, 1, 1, 2, 1, 1, 1};
@@ -76,12 +77,16 @@ static void run_refusing(void) {
     number = starlark_module(table, STARLARK_NODE_BYTES * nodes, names, sizeof names, all_off, 9, errors, 3 * STARLARK_ERRORS, out);
 }
 
+static void run_write(void) {
+    number = starlark_write(table, STARLARK_NODE_BYTES * nodes, names, sizeof names, all_on, 9, file, sizeof file, out);
+}
+
 struct job {
     const char *name;
     void (*run)(void);
     size_t most;
 } jobs[] = {{"table", run_table, 0}, {"params", run_params, 0}, {"call", run_call, 0}, {"target", run_target, 0}, {"assignment", run_assignment, 0}, {"type", run_type, 0},
-          {"module", run_module, 0}, {"module with all switches off", run_refusing, 0}};
+          {"module", run_module, 0}, {"module with all switches off", run_refusing, 0}, {"write", run_write, 0}};
 enum { JOBS = sizeof jobs / sizeof *jobs };
 
 /* Whether a job ends on a stack of so many bytes. */

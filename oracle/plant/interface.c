@@ -38,3 +38,8 @@ uint32_t inner_module(struct slice *, struct slice *, struct slice *, struct sli
 uint32_t starlark_module(TABLE, const uint8_t *d, size_t dl, uint32_t *errors, size_t errors_len, uint32_t *out) {
     return inner_module(SLICE(t, tl), SLICE(n, nl), SLICE(d, dl), SLICE(errors, errors_len), out);
 }
+
+uint32_t inner_write(struct slice *, struct slice *, struct slice *, struct slice *, uint32_t *);
+uint32_t starlark_write(TABLE, const uint8_t *d, size_t dl, uint8_t *file, size_t file_len, uint32_t *out) {
+    return inner_write(SLICE(t, tl), SLICE(n, nl), SLICE(d, dl), SLICE(file, file_len), out);
+}

@@ -1,6 +1,8 @@
-//! Every job from Rust, accepted and refused, with what it makes of the buffer that it is lent. Each line is a small script.
+//! Every job from Rust, accepted and refused, with what it makes of the buffer that it is lent. Each line is a small script. A word behind its name
+//! is where a table file is put.
 
 use starlark_checks::Table;
+use starlark_checks::FILE_BYTES;
 
 const STATEMENTS: u8 = 1;
 const DEF: u8 = 2;
@@ -183,6 +185,26 @@ fn modules() {
     show("eight bytes of dialect", &EXTENDED[..8], 6);
 }
 
+/// The file in `room` bytes: its first bytes, and how many are no longer what they were. An accepted one is put under the name `path`.
+fn show_file(words: &str, script: &Script, dialect: &[u8], room: usize, path: Option<String>) {
+    let mut file = vec![BEFORE; room];
+    let answer = script.table().write(dialect, &mut file);
+    let changed = file.iter().rposition(|&byte| byte != BEFORE).map_or(0, |last| last + 1);
+    println!("{words}: {answer:?}, {changed} changed, the first {:?}", &file[..18]);
+    if let (Ok(size), Some(path)) = (answer, path) {
+        std::fs::write(path, &file[..size]).expect("the file is kept");
+    }
+}
+
+fn files() {
+    let script = def(vec![leaf(NORMAL, "a"), leaf(NO_ARGS, ""), leaf(NORMAL, "b")]);
+    show_file("the file of def f(a, *, b): break, with no dialect", &script, &[], FILE_BYTES, std::env::args().nth(1));
+    show_file("in the Extended dialect", &script, &EXTENDED, FILE_BYTES, None);
+    show_file("1,536 bytes for three blocks", &script, &[], 1536, None);
+    show_file("1,535 bytes for three blocks", &script, &[], 1535, None);
+    show_file("eight bytes of dialect", &script, &EXTENDED[..8], FILE_BYTES, None);
+}
+
 fn main() {
     checks();
     parameter_lists();
@@ -191,4 +213,5 @@ fn main() {
     assignments();
     types();
     modules();
+    files();
 }

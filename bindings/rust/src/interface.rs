@@ -39,6 +39,17 @@ extern "C" {
         errors_len: usize,
         out: *mut u32,
     ) -> u32;
+    fn starlark_write(
+        table: *const u8,
+        table_len: usize,
+        names: *const u8,
+        names_len: usize,
+        dialect: *const u8,
+        dialect_len: usize,
+        file: *mut u8,
+        file_len: usize,
+        out: *mut u32,
+    ) -> u32;
     fn starlark_call(t: *const u8, tl: usize, n: *const u8, nl: usize, node: usize, out: *mut u32) -> u32;
     fn starlark_target(t: *const u8, tl: usize, n: *const u8, nl: usize, node: usize, out: *mut u32) -> u32;
     fn starlark_assignment(t: *const u8, tl: usize, n: *const u8, nl: usize, node: usize, out: *mut u32) -> u32;
@@ -85,4 +96,12 @@ pub fn module(table: Table, dialect: &[u8], errors: &mut [u32], out: &mut Words)
     let (start, length) = (errors.as_mut_ptr(), errors.len());
     let out = out.as_mut_ptr();
     unsafe { starlark_module(t, tl, n, nl, dialect.as_ptr(), dialect.len(), start, length, out) }
+}
+
+pub fn write(table: Table, dialect: &[u8], file: &mut [u8], out: &mut Words) -> u32 {
+    let Table { nodes, names } = table;
+    let (t, tl, n, nl) = (nodes.as_ptr(), nodes.len(), names.as_ptr(), names.len());
+    let (start, length) = (file.as_mut_ptr(), file.len());
+    let out = out.as_mut_ptr();
+    unsafe { starlark_write(t, tl, n, nl, dialect.as_ptr(), dialect.len(), start, length, out) }
 }

@@ -49,6 +49,9 @@ pub struct Call {
     pub star_star: Option<u32>,
 }
 
+/// A buffer of so many bytes is never too short for a table file.
+pub const FILE_BYTES: usize = 59_904;
+
 const NONE: u32 = u32::MAX;
 
 type Words = [u32; 12];
@@ -121,5 +124,11 @@ impl Table<'_> {
     /// end; the first that fit whole are stored.
     pub fn module(self, dialect: &[u8], errors: &mut [u32]) -> Result<u32, Refused> {
         accepted(|out| interface::module(self, dialect, errors, out)).map(|out| out[0])
+    }
+
+    /// The table file of the table, its names and a dialect (nine bytes, or none, which stays none), at the front of `file`: how many bytes
+    /// it takes. `FILE_BYTES` are never too few.
+    pub fn write(self, dialect: &[u8], file: &mut [u8]) -> Result<usize, Refused> {
+        accepted(|out| interface::write(self, dialect, file, out)).map(|out| out[0] as usize)
     }
 }

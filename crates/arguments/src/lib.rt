@@ -20,6 +20,7 @@ ghost use lib.ListN.{length, take};
 ghost use Rattle.forest.specs.Forest.{nodeOf, forest, treeOf};
 ghost use Rattle.forest.specs.Marks.{Known};
 ghost use Rattle.table.specs.Answer.{checked};
+ghost use Rattle.table.specs.Check.{Headed};
 ghost use Rattle.arguments.specs.Written.{kindAt, argumentOf, argumentsIn};
 ghost use Rattle.arguments.specs.Call.{pastPositional, pastNamed, inKwargs, hasName, firstSame, newName};
 ghost use Rattle.arguments.specs.Call.{positionalRule, argsRule, kwargsRule, namedRule, rule as ruleOf};
@@ -83,7 +84,7 @@ pub fn call(table: &[u8], names: &[u8], node: usize) -> Called
 
 // The arguments of the call that a stretch begins with: what stands behind its callee.
 fn arguments(t: &[u8], names: &[u8], node: usize) -> Called
-    requires { ⌜ (24 ≤ length (now t)) × (24 * node + length (now t) ≤ 50400) ⌝ }
+    requires { ⌜ Headed node (now t) ⌝ }
     ensures { λ r. ⌜ called r ≡ callAnswer (now (names .entry)) (treeOf node (now (t .entry))) ⌝ }
 {
     let e = forest::span(t);

@@ -6,7 +6,7 @@ use Rattle.fields.proofs.Basics.{never}
 use Rattle.fields.proofs.Coincide.{coincide, coincide-by}
 use Rattle.blocks.specs.declared.Judged.{Judged}
 use Rattle.blocks.specs.declared.Judged.the-variants.{Passed, Refused}
-use Rattle.blocks.specs.Block.{contentBytes, judge, judged}
+use Rattle.blocks.specs.Block.{contentBytes, weightOf, judge, judged}
 use Rattle.blocks.specs.Run.{blocksFor, judgeRun, contentIn}
 
 -- no two judgements mean the same
@@ -38,3 +38,7 @@ used-here-one more = coincide
 pub content-one : (bytes : List ℕ) (number : ℕ) {r s : List ℕ} → r ≡ contentIn number bytes
     → s ≡ contentIn number bytes → r ≡ s
 content-one bytes number = coincide
+
+-- of `weight`
+pub weight-one : (p x : ℕ) {r s : ℕ} → r ≡ weightOf p x → s ≡ weightOf p x → r ≡ s
+weight-one p x = coincide

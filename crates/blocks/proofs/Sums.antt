@@ -2,7 +2,7 @@
 use mathlib.Core.Path.{_≡_, refl}
 use mathlib.Core.Logic.{⊎-elim}
 use mathlib.Core.List.{List, _++_}
-use Prim.Native.Nat.{ℕ, zero, suc, _+_, _*_, _<_, _≤_}
+use Prim.Native.Nat.{ℕ, zero, suc, _+_, _*_, _<_, _≤_, _^_}
 use native.Mathlib.Nat.{mul-le-mul, eq-of-mul-eq-mul-left}
 use native.Mathlib.Numerals.{add-one}
 use native.Mathlib.Omega.{arith}
@@ -13,8 +13,8 @@ use Rattle.blocks.specs.Block.{weighed, sumOf}
 use Rattle.fields.proofs.Spelling.{Bytes}
 
 -- what a byte adds
-pub weight-small : (p x : ℕ) → p < 508 → x < 256 → (p + 1) * x ≤ 129540
-weight-small p x h k = mul-le-mul {n₂ = 508} {m₂ = 255} (omega arith) (omega arith)
+pub weight-small : (n p x : ℕ) → p < n → x < 256 → (p + 1) * x ≤ n * 255
+weight-small n p x h k = mul-le-mul {n₂ = n} {m₂ = 255} (omega arith) (omega arith)
 
 -- the sum over the first n places depends on their bytes alone
 pub weighed-front : (n : ℕ) (a l : List ℕ) → n ≤ length a → weighed n (a ++ l) ≡ weighed n a
@@ -36,7 +36,7 @@ weighed-small zero l h small = omega arith
 weighed-small (suc p) l h small = omega (
   arith,
   weighed-small p l (omega arith) small,
-  weight-small p (getD l p 0) (omega arith) (small p),
+  weight-small 508 p (getD l p 0) (omega arith) (small p),
 )
 
 pub sum-small : (l : List ℕ) → Bytes l → sumOf l < 4294967296
@@ -69,17 +69,21 @@ weighed-changed n l i v h k e =
 -- the loop: the sum over the places so far
 pub record Summed (b : List ℕ) (sum p : ℕ) : Type 0 where
   pub upto : p ≤ 508
-  pub few : sum ≤ 129540 * p
+  pub small : Bytes b
   pub is : sum ≡ weighed p b
 
-pub sum-start : (b : List ℕ) → Summed b 0 0
+pub sum-start : (b : List ℕ) → Bytes b → Summed b 0 0
 unfolding weighed
-sum-start b = record { upto = omega arith; few = omega arith; is = refl }
+sum-start b small = record { upto = omega arith; small = small; is = refl }
 
 module _ {b : List ℕ} {sum p : ℕ} (s : Summed b sum p) where
-  pub sum-on : {w : ℕ} → p < 508 → w ≡ (p + 1) * getD b p 0 → w ≤ 129540 → Summed b (sum + w) (p + 1)
-  unfolding weighed
-  sum-on {w} h e f = record { upto = omega arith; few = omega (arith, s .few); is = rw (add-one p, s .is, e) refl }
+  module _ (h : p < 508) {w : ℕ} (e : w ≡ (p + 1) * getD b p 0) where
+    pub sum-on : Summed b (sum + w) (p + 1)
+    unfolding weighed
+    sum-on = record { upto = omega arith; small = s .small; is = rw (add-one p, s .is, e) refl }
+
+    pub sum-fits : sum + w < 2 ^ 32
+    sum-fits = omega (arith, sum-on .is, weighed-small (p + 1) b (omega arith) (s .small))
 
   pub sum-end : 508 ≤ p → sum ≡ sumOf b
   unfolding sumOf

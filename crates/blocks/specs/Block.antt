@@ -19,10 +19,14 @@ blockBytes = 512
 abbrev pub contentBytes : ℕ
 contentBytes = 504
 
+-- what the byte x at place p adds to the sum
+abbrev pub weightOf : ℕ → ℕ → ℕ
+weightOf p x = (p + 1) * x
+
 -- the sum of (p + 1) times byte p over the first n places
 unfoldable pub weighed : ℕ → List ℕ → ℕ
 weighed zero b = 0
-weighed (suc p) b = weighed p b + (p + 1) * getD b p 0
+weighed (suc p) b = weighed p b + weightOf p (getD b p 0)
 
 -- the sum of a block: over p = 0 to 507
 unfoldable pub sumOf : List ℕ → ℕ

@@ -1,9 +1,9 @@
 // Blocks of 512 bytes: number, used bytes, content and sum, judged one by one or as a run.
 use table::numbers;
 ghost use mathlib.Core.Path.{_≡_};
-ghost use Prim.Native.Nat.{_+_, _*_, _≤_, _<_, min};
+ghost use Prim.Native.Nat.{_+_, _≤_, min};
 ghost use lib.ListN.{length, take, drop};
-ghost use Rattle.blocks.specs.Block.{blockBytes, contentBytes, sumOf, zeros, examine, judge, judged};
+ghost use Rattle.blocks.specs.Block.{blockBytes, contentBytes, weightOf, sumOf, zeros, examine, judge, judged};
 ghost use Rattle.blocks.specs.Run.{blocksFor, judgeRun, contentIn};
 
 // A block's bytes, and how many of them are content.
@@ -122,10 +122,9 @@ fn examine(b: &[u8], number: usize, used: usize) -> Judged
     Judged::Passed
 }
 
-// What a byte adds to the sum.
-fn weight(p: usize, x: u8) -> u32
-    requires { ⌜ p < 508 ⌝ }
-    ensures { λ r. ⌜ (r ≡ (p + 1) * x) × (r ≤ 129540) ⌝ }
+// What the byte at a place adds to the sum of a block.
+pub fn weight(p: u16, x: u8) -> u32
+    ensures { λ r. ⌜ r ≡ weightOf p x ⌝ }
 {
     (p as u32 + 1) * (x as u32)
 }
@@ -138,7 +137,7 @@ fn sum(b: &[u8]) -> u32
     let mut sum = 0u32;
     let mut p = 0;
     while p < 508 {
-        sum += weight(p, b[p]);
+        sum += weight(p as u16, b[p]);
         p += 1;
     }
     sum

@@ -1,14 +1,16 @@
--- Laws of errors stored in a list of words: what a check leaves, and two checks of which the second is lent the words that are still free. Assumes nothing.
+-- Laws of errors stored in a list of words: what a check leaves, and checks of which each is lent the words
+-- that are still free. Assumes nothing.
 use mathlib.Core.Path.{_≡_, refl, sym, ap, _∙_}
 use mathlib.Core.Bool.{Bool, true, false}
-use mathlib.Core.List.{List, [], _∷_, _++_, append-nil}
+use mathlib.Core.List.{List, [], _∷_, _++_, append-nil, append-assoc}
 use Prim.Native.Nat.{ℕ, suc, _+_, _*_, _-_, _<_, _≤_, min}
 use native.Mathlib.Omega.{arith}
-use lib.Dec.{leb}
 use lib.ListN.{length, take, drop, length-drop, length-append, drop-of-length-le}
 use lib.Seq.{sets, sets-eq, drop-drop, take-length, drop-length, take-append-add, drop-append-add}
-use borrow.Author.Tests.{le-leb, lt-leb, leb-true, leb-false}
+use borrow.Author.Tests.{le-leb, lt-leb}
 use borrow.Rule.Slice.PartMut.{putMid}
+use mathlib.Core.Logic.{_⊎_, inl, inr}
+use Rattle.fields.proofs.Basics.{le-or-lt}
 use Rattle.fields.proofs.Fields.{tail-part}
 use Rattle.table.specs.declared.Span.{Span}
 use Rattle.errors.specs.Errors.{err, unlessIn, width, wordsOf, stored, Stores}
@@ -20,11 +22,11 @@ words-width e = refl
 
 -- there is room for an error, or none
 room : {P : Type 0} (xs : List ℕ) → (width ≤ length xs → P) → (length xs < width → P) → P
-room {P} xs fits full = go (leb width (length xs)) refl
+room {P} xs fits full = go (le-or-lt width (length xs))
   where
-    go : (b : Bool) → leb width (length xs) ≡ b → P
-    go true e = fits (leb-true width (length xs) e)
-    go false e = full (leb-false width (length xs) e)
+    go : (width ≤ length xs) ⊎ (length xs < width) → P
+    go (inl h) = fits h
+    go (inr h) = full h
 
 -- storing one error and then others
 module _ (e : Err) (es : List Err) (xs : List ℕ) where
@@ -67,14 +69,14 @@ stored-append (e ∷ es) fs xs =
     let k : ℕ = min (width * length es) (length (drop width xs)) in
     let m : min (width * suc (length es)) (length xs) ≡ length (wordsOf e) + k = omega
     (arith, words-width e, length-drop width xs) in
-    stored-fits e (es ++ fs) xs h
-    ∙ ap (λ (l : List ℕ). wordsOf e ++ l) (stored-append es fs (drop width xs))
-    ∙ sym (ap (λ (n : ℕ). take n (stored (e ∷ es) xs) ++ stored fs (drop n (stored (e ∷ es) xs))) m
-    ∙ ap (λ (l : List ℕ). take (length (wordsOf e) + k) l ++ stored fs (drop (length (wordsOf e) + k) l))
-    (stored-fits e es xs h)
-    ∙ ap (λ (l : List ℕ). l ++ stored fs (drop (length (wordsOf e) + k) (wordsOf e ++ rest)))
-    (take-append-add (wordsOf e) rest k)
-    ∙ ap (λ (l : List ℕ). (wordsOf e ++ take k rest) ++ stored fs l) (drop-append-add (wordsOf e) rest k)))
+    rw (
+      stored-fits e (es ++ fs) xs h,
+      stored-append es fs (drop width xs),
+      m,
+      stored-fits e es xs h,
+      take-append-add (wordsOf e) rest k,
+      drop-append-add (wordsOf e) rest k,
+    ) refl)
     (λ h.
     let m : min (width * suc (length es)) (length xs) ≡ length xs = omega arith in
     rw (
@@ -87,8 +89,18 @@ stored-append (e ∷ es) fs xs =
       append-nil xs,
     ) refl)
 
--- what is put back behind the words that a check was not lent
-put-tail : (a : ℕ) (s ys : List ℕ) → putMid a (length s - a) s ys ≡ take a s ++ ys
+-- in the terms of code: where the free words begin after so many errors, a list from a place on, and a list that was
+-- lent from a place on and has come back
+abbrev pub freeAt : ℕ → List ℕ → ℕ
+freeAt count xs = min (width * count) (length xs)
+
+abbrev pub after : ℕ → List ℕ → List ℕ
+after at xs = take (length xs - at) (drop at xs)
+
+abbrev pub back : ℕ → List ℕ → List ℕ → List ℕ
+back at xs ys = putMid at (length xs - at) xs ys
+
+put-tail : (a : ℕ) (s ys : List ℕ) → back a s ys ≡ take a s ++ ys
 put-tail a s ys = simp (
   drop-of-length-le (drop a s) {i = length s - a} (simp length-drop (omega arith)),
   append-nil,
@@ -100,8 +112,8 @@ stores-none xs = record { count = refl; words = sym (stored-none xs) }
 
 -- LAW: two checks, of which the second is lent the words that the first leaves free
 pub stores-both : (es fs : List Err) {xs ys zs : List ℕ} {m n at : ℕ} → Stores es xs m ys
-    → at ≡ min (width * m) (length ys) → Stores fs (take (length ys - at) (drop at ys)) n zs
-    → Stores (es ++ fs) xs (m + n) (putMid at (length ys - at) ys zs)
+    → at ≡ freeAt m ys → Stores fs (after at ys) n zs
+    → Stores (es ++ fs) xs (m + n) (back at ys zs)
 stores-both es fs {xs} {ys} {zs} {m} {n} {at} s at-is q =
     let a : at ≡ min (width * length es) (length xs) = omega
     (arith, s .count, stored-length es xs, ap length (s .words)) in
@@ -134,9 +146,12 @@ module _ (n : ℕ) (s : Span) {b : Bool} {xs : List ℕ} where
   pub unless-not : {ys : List ℕ} {m : ℕ} → b ≡ false → Stores (err n s ∷ []) xs m ys → Stores (unlessIn b n s) xs m ys
   unless-not h q = rw h q
 
+pub unless-few : (b : Bool) (n : ℕ) (s : Span) → length (unlessIn b n s) ≤ 1
+unless-few true n s = omega arith
+unless-few false n s = omega arith
+
 pub unless-one : (b : Bool) (n : ℕ) (s : Span) {xs ys : List ℕ} {m : ℕ} → Stores (unlessIn b n s) xs m ys → m ≤ 1
-unless-one true n s q = omega (arith, q .count)
-unless-one false n s q = omega (arith, q .count)
+unless-one b n s q = omega (arith, q .count, unless-few b n s)
 
 -- LAW: a list with room for all errors holds the words of each, and its other words stay
 abbrev pub allWords : List Err → List ℕ
@@ -153,3 +168,34 @@ stored-all (e ∷ es) xs h =
     ≡ drop (width * suc (length es)) xs = drop-drop (width * length es) width xs
     ∙ ap (λ (n : ℕ). drop n xs) more in
     rw (stored-fits e es xs (omega arith), next, skip) refl
+
+-- checks in a loop, each lent the words that those before it leave free: of all errors some are stored in the words
+-- xs₀, which are now xs, and the rest is left
+pub record Turns (all : List Err) (xs₀ : List ℕ) (rest : List Err) (total : ℕ) (xs : List ℕ) : Type 0 where
+  pub done : List Err
+  pub same : done ++ rest ≡ all
+  pub stores : Stores done xs₀ total xs
+
+pub turns-start : (all : List Err) (xs : List ℕ) → Turns all xs all 0 xs
+turns-start all xs = record { done = []; same = refl; stores = stores-none xs }
+
+module _ {all : List Err} {xs₀ : List ℕ} {rest : List Err} {total : ℕ} {xs : List ℕ}
+    (t : Turns all xs₀ rest total xs) where
+  pub turns-end : rest ≡ [] → Stores all xs₀ total xs
+  turns-end h = rw (← t .same, h, append-nil) (t .stores)
+
+  pub turns-long : length xs ≡ length xs₀
+  turns-long = ap length (t .stores .words) ∙ stored-length (t .done) xs₀
+
+  pub turns-few : total ≤ length all
+  turns-few = omega (arith, t .stores .count, simp length-append at (ap length (t .same)))
+
+  -- LAW: the next check, which is told the first of what is left
+  pub turns-on : {one more : List Err} → rest ≡ one ++ more → {at n : ℕ} {zs : List ℕ}
+      → at ≡ freeAt total xs → Stores one (after at xs) n zs
+      → Turns all xs₀ more (total + n) (back at xs zs)
+  turns-on {one} {more} cut at-is s = record {
+    done = t .done ++ one;
+    same = append-assoc (t .done) one more ∙ rw (← cut) (t .same);
+    stores = stores-both (t .done) one (t .stores) at-is s;
+  }

@@ -43,7 +43,8 @@ unfoldable pub stored : List Err → List ℕ → List ℕ
 stored [] xs = xs
 stored (e ∷ es) xs = if' (leb width (length xs)) (λ _. wordsOf e ++ stored es (drop width xs)) (λ _. xs)
 
--- what a check does that finds the errors es: it counts them all, and stores those that fit into the words xs, which become ys
+-- what a check does that finds the errors es: it counts them all, and stores those that fit into the words xs, which
+-- become ys
 pub record Stores (es : List Err) (xs : List ℕ) (total : ℕ) (ys : List ℕ) : Type 0 where
   pub count : total ≡ length es
   pub words : ys ≡ stored es xs

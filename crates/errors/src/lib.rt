@@ -1,4 +1,5 @@
-// Errors of the module pass in a lent list of words: storing one where it fits whole, and where the words begin that are still free.
+// Errors of the module pass in a lent list of words: storing one where it fits whole, and where the words begin that
+// are still free.
 // A check is lent only the words that are still free, counts all its errors, and stores the first that fit.
 use table::Span;
 ghost use mathlib.Core.Path.{_≡_};
@@ -40,14 +41,16 @@ fn error_at(number: u32, t: &[u8]) -> Err
 
 // An error at the record that a stretch begins with.
 pub fn push_at(number: u32, t: &[u8], errors: &mut [u32]) -> usize
-    ensures { λ r. ⌜ Stores (only (errAt number (nodeOf 0 (now (t .entry))))) (now (errors .entry)) r (now (errors .exit)) ⌝ }
+    ensures { λ r. ⌜ Stores (only (errAt number (nodeOf 0 (now (t .entry))))) (now (errors .entry)) r
+        (now (errors .exit)) ⌝ }
 {
     push(error_at(number, t), errors)
 }
 
 // The same, unless something is permitted.
 pub fn push_unless(permitted: bool, number: u32, t: &[u8], errors: &mut [u32]) -> usize
-    ensures { λ r. ⌜ Stores (unless permitted number (nodeOf 0 (now (t .entry)))) (now (errors .entry)) r (now (errors .exit)) ⌝ }
+    ensures { λ r. ⌜ Stores (unless permitted number (nodeOf 0 (now (t .entry)))) (now (errors .entry)) r
+        (now (errors .exit)) ⌝ }
 {
     if permitted {
         return 0;

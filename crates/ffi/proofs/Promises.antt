@@ -12,6 +12,7 @@ use Rattle.targets.specs.Jobs.{targetOf, assignmentOf}
 use Rattle.types.specs.Jobs.{typeShapeOf}
 use Rattle.shapes.specs.Jobs.{shapesAfter}
 use Rattle.validate.specs.Job.{moduleOf, errorsAfter}
+use Rattle.writer.specs.Writing.{writeOf, fileAfter}
 use Rattle.ffi.specs.Words.{number, words, callWords, laid}
 
 -- of `starlark_table`
@@ -71,3 +72,14 @@ pub starlark-module-one : (table names dialect errors out : List ℕ) {r s : ℕ
     → errors-s ≡ errorsAfter table names dialect errors → (r ≡ s) × (errors-r ≡ errors-s) × (out-r ≡ out-s)
 starlark-module-one table names dialect errors out r-is out-is errors-is s-is out-are errors-are =
     (coincide r-is s-is, coincide errors-is errors-are, coincide out-is out-are)
+
+-- of `starlark_write`
+pub starlark-write-one : (table names dialect file out : List ℕ) {r s : ℕ} {file-r file-s : List ℕ}
+    {out-r out-s : List ℕ} → r ≡ number (writeOf table names dialect (length file))
+    → out-r ≡ laid (words (writeOf table names dialect (length file))) 0 out
+    → file-r ≡ fileAfter table names dialect file
+    → s ≡ number (writeOf table names dialect (length file))
+    → out-s ≡ laid (words (writeOf table names dialect (length file))) 0 out
+    → file-s ≡ fileAfter table names dialect file → (r ≡ s) × (file-r ≡ file-s) × (out-r ≡ out-s)
+starlark-write-one table names dialect file out r-is out-is file-is s-is out-are file-are =
+    (coincide r-is s-is, coincide file-is file-are, coincide out-is out-are)

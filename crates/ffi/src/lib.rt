@@ -10,6 +10,7 @@ use table::Refusal;
 use targets::Targeted;
 use types::Shaped;
 use validate::Listed;
+use writer::Written;
 ghost use mathlib.Core.Path.{_≡_};
 ghost use mathlib.Core.List.{[], _∷_};
 ghost use Prim.Native.Nat.{_+_, _<_};
@@ -23,6 +24,7 @@ ghost use Rattle.targets.specs.Jobs.{targetOf, assignmentOf};
 ghost use Rattle.types.specs.Jobs.{typeShapeOf};
 ghost use Rattle.shapes.specs.Jobs.{shapesAfter};
 ghost use Rattle.validate.specs.Job.{moduleOf, errorsAfter};
+ghost use Rattle.writer.specs.Writing.{writeOf, fileAfter};
 ghost use Rattle.ffi.specs.Words.{number, words, callWords, laid, Fit, placeIn};
 
 // A refusal: what it carries, and its number.
@@ -241,5 +243,30 @@ pub extern "C" fn starlark_module(
     match answer {
         Listed::Total(n) => put_count(n, out),
         Listed::Refused(r) => put_refused(r, out),
+    }
+}
+
+// The writer: how many bytes are written, and the file at the front of the buffer.
+#[no_mangle]
+pub extern "C" fn starlark_write(
+    table: &[u8],
+    names: &[u8],
+    dialect: &[u8],
+    file: &mut [u8],
+    out: &mut [u32; 12],
+) -> u32
+    ensures { λ r. ⌜ r ≡
+        number (writeOf (now (table .entry)) (now (names .entry)) (now (dialect .entry))
+        (length (now (file .entry)))) ⌝ }
+    ensures { λ r. ⌜ now (out .exit) ≡
+        laid (words (writeOf (now (table .entry)) (now (names .entry)) (now (dialect .entry))
+        (length (now (file .entry))))) 0 (now (out .entry)) ⌝ }
+    ensures { λ r. ⌜ now (file .exit) ≡
+        fileAfter (now (table .entry)) (now (names .entry)) (now (dialect .entry)) (now (file .entry)) ⌝ }
+{
+    let answer = writer::write(table, names, dialect, file);
+    match answer {
+        Written::Accepted(n) => put_count(n, out),
+        Written::Refused(r) => put_refused(r, out),
     }
 }

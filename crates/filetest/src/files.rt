@@ -1,11 +1,17 @@
 // The files of data/files.bin, each behind its label. They stand in words in files.txt, and tools/tables.py makes them.
 use crate::say;
 use crate::say_number;
+use blocks::BLOCK_BYTES;
 use forest::RECORD;
 use table::Place;
 use table::Refusal;
 use tablefile::Loaded;
+use tablefile::MOST_BLOCKS;
 use tablefile::Verdict;
+use writer::Written;
+
+// The most bytes of a file.
+const MOST_FILE: usize = BLOCK_BYTES * MOST_BLOCKS;
 
 // At most as many as there could be labels.
 pub(crate) fn all(fd: i32) {
@@ -36,7 +42,9 @@ fn one(fd: i32) -> bool {
     }
     say(front(&label, label_len));
     if label[0] != b'#' {
-        say_answer(tablefile::read(front(&file, file_len)));
+        let l = tablefile::read(front(&file, file_len));
+        say_answer(l);
+        say_again(l, front(&file, file_len));
     }
     say(b"\n");
     true
@@ -92,6 +100,55 @@ fn say_refused(r: Refusal) {
         say(b" at ");
         say_number(i as u64);
     }
+}
+
+// Whether the writer makes the same file of what an accepted one holds.
+fn say_again(l: Loaded, file: &[u8]) {
+    let verdict = l.verdict;
+    match verdict {
+        Verdict::Accepted => say_written(l, file),
+        Verdict::Refused(_) => {}
+    }
+}
+
+fn say_written(l: Loaded, file: &[u8]) {
+    let table = l.table;
+    let names = l.names;
+    let dialect = l.dialect;
+    let mut again = [0u8; MOST_FILE];
+    let written = writer::write(
+        front(&table, l.table_len),
+        front(&names, l.names_len),
+        front(&dialect, l.dialect_len),
+        &mut again,
+    );
+    match written {
+        Written::Accepted(size) => say_same(file, front(&again, size as usize)),
+        Written::Refused(why) => say(b", NOT WRITTEN AGAIN"),
+    }
+}
+
+fn say_same(file: &[u8], again: &[u8]) {
+    if same(file, again) {
+        say(b", written again");
+    } else {
+        say(b", WRITTEN OTHERWISE");
+    }
+}
+
+// Whether two files have the same bytes.
+fn same(a: &[u8], b: &[u8]) -> bool {
+    if a.len() != b.len() {
+        return false;
+    }
+    let mut i = 0;
+    while i < a.len() {
+        if fields::byte(a, i) != fields::byte(b, i) {
+            return false;
+        }
+        i += 1;
+    }
+    true
 }
 
 // Nothing, if all bytes from a place on are zero.

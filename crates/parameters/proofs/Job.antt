@@ -2,7 +2,7 @@
 use mathlib.Core.Path.{_≡_, refl, sym, ap, _∙_}
 use mathlib.Core.Bool.{Bool, true, false}
 use mathlib.Core.List.{List, [], _∷_, _++_}
-use Prim.Native.Nat.{ℕ, _+_, _*_, _-_, _/_, _<_, _≤_, _^_}
+use Prim.Native.Nat.{ℕ, _+_, _-_, _/_, _<_, _≤_, _^_}
 use native.Mathlib.Nat.{zero-add}
 use native.Mathlib.Omega.{arith}
 use lib.ListN.{length, drop}
@@ -12,7 +12,7 @@ use Rattle.fields.proofs.Basics.{clash}
 use Rattle.forest.specs.Forest.{kidsOf, forest}
 use Rattle.table.specs.Numbers.{shortBuffer}
 use Rattle.table.specs.Answer.{Answer, accepted, refused, refusal, checked}
-use Rattle.table.specs.Check.{stretchOf, entryCheck}
+use Rattle.table.specs.Check.{Headed, stretchOf, entryCheck}
 use Rattle.table.specs.declared.Refusal.{Refusal}
 use Rattle.table.specs.declared.Checked.{Checked}
 use Rattle.table.specs.declared.Checked.the-variants.{Sound, Refused as Unsound}
@@ -91,7 +91,7 @@ listed-most l h = record { most = λ names i. omega (arith, l .many names i) }
 
 -- every number of unpack's answer is small
 pub told-small : (ns t : List ℕ) (node : ℕ) (j : Judged) → j ≡ told (def.unpack (written ns node t))
-    → Inside (node + 1 + length t / 24) j → 24 * node + length t ≤ 50400 → Small j
+    → Inside (node + 1 + length t / 24) j → Headed node t → Small j
 told-small ns t node (Accepted c) j-is h short =
     bounded-wider c
     (accepted-bounded (written ns node t) (told-accepted (def.unpack (written ns node t)) (sym j-is)))

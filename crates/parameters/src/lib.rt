@@ -24,11 +24,12 @@ use table::numbers;
 ghost use mathlib.Core.Path.{_≡_};
 ghost use mathlib.Core.Bool.{true};
 ghost use mathlib.Core.List.{[], _∷_};
-ghost use Prim.Native.Nat.{_+_, _*_, _≤_, _<_, _^_};
+ghost use Prim.Native.Nat.{_+_, _<_, _^_};
 ghost use lib.ListN.{length};
 ghost use lib.Seq.{sets};
 ghost use Rattle.forest.specs.Forest.{forest};
 ghost use Rattle.table.specs.Answer.{refused, refusal as refusalOf};
+ghost use Rattle.table.specs.Check.{Headed};
 ghost use Rattle.deflist.specs.Written.{written};
 ghost use Rattle.deflist.specs.Reading.{PlaceBelow, Bounded};
 ghost use Rattle.deflist.specs.declared.Kind.the-variants.{Normal};
@@ -81,7 +82,7 @@ pub fn params(table: &[u8], names: &[u8], node: usize, modes: &mut [u8]) -> Unpa
 // 7, then unpack's answer for the list of a node, whose stretch is lent; the modes are written once the list is
 // accepted.
 fn unpack_into(names: &[u8], t: &[u8], node: u32, modes: &mut [u8]) -> Unpacked
-    requires { ⌜ (24 ≤ length (now t)) × (24 * node + length (now t) ≤ 50400) ⌝ }
+    requires { ⌜ Headed node (now t) ⌝ }
     ensures { λ r. ⌜ Leaves (written (now (names .entry)) node (now (t .entry))) (now (modes .entry)) (unpacked r)
         (now (modes .exit)) ⌝ }
 {

@@ -64,7 +64,7 @@ module _ (bs : List ℕ) (e : readCheck bs ≡ accepted []) where
   read-changed i v h other = rw (front-changed bs read-fronted i v other (omega (arith, read-whole))) refl
 
 -- a dialect that is valid has no bytes or nine
-dialect-lengths : (ds : List ℕ) {d : Dialect} → fromBytes ds ≡ Valid d → (length ds ≡ 0) ⊎ (length ds ≡ 9)
+pub dialect-lengths : (ds : List ℕ) {d : Dialect} → fromBytes ds ≡ Valid d → (length ds ≡ 0) ⊎ (length ds ≡ 9)
 dialect-lengths ds {d} e = go (eqb (length ds) 0) (eqb (length ds) 9) refl refl
   where
     go : (a b : Bool) → eqb (length ds) 0 ≡ a → eqb (length ds) 9 ≡ b → (length ds ≡ 0) ⊎ (length ds ≡ 9)

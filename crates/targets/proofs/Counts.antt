@@ -3,7 +3,7 @@
 use mathlib.Core.Path.{_≡_, refl, sym, ap, _∙_}
 use mathlib.Core.Bool.{Bool, true, false}
 use mathlib.Core.List.{List, [], _∷_}
-use Prim.Native.Nat.{ℕ, _+_, _-_, _*_, _/_, _<_, _≤_}
+use Prim.Native.Nat.{ℕ, _+_, _-_, _/_, _<_, _≤_}
 use native.Mathlib.Nat.{add-zero, add-assoc}
 use native.Mathlib.Omega.{arith}
 use lib.ListN.{length, take, drop, length-take, length-drop}
@@ -12,6 +12,7 @@ use Rattle.forest.specs.Forest.{nodeOf, spanOf, kidsOf, restOf, Tree, node, For
 use Rattle.forest.specs.Forest.{treeOf, count, countTree}
 use Rattle.forest.proofs.Stretch.{forest-none, forest-tree, kids-part, rest-part, count-forest, length-kids}
 use Rattle.table.specs.Numbers.{invalidLhs}
+use Rattle.table.specs.Check.{Within}
 use Rattle.table.specs.Answer.{Answer, accepted, andThen, refusedAt, refusal}
 use Rattle.table.specs.declared.Refusal.{Refusal}
 use Rattle.table.proofs.Answers.{first-refused, first-accepted, same-values, after-both}
@@ -59,13 +60,13 @@ module _ (n i : ℕ) (t : List ℕ) {kind : ℕ} {leaf : Bool} (kind-is : kind �
 
 -- targets side by side: at each turn what is left gives the whole answer
 pub record Counting (t : List ℕ) (node count₀ : ℕ) (left : List ℕ) (at n : ℕ) : Type 0 where
-  pub within : 24 * at + length left ≤ 50400
+  pub within : Within at left
   pub part : length left ≤ length t
   pub few : n ≤ at
   pub same : countedEach n (forest at left) ≡ countedEach count₀ (forest node t)
 
 module _ {t : List ℕ} {node count₀ : ℕ} where
-  pub each-start : 24 * node + length t ≤ 50400 → count₀ ≤ node → Counting t node count₀ t node count₀
+  pub each-start : Within node t → count₀ ≤ node → Counting t node count₀ t node count₀
   each-start h few = record { within = h; part = omega arith; few = few; same = refl }
 
   module _ {left : List ℕ} {at n : ℕ} (s : Counting t node count₀ left at n) where

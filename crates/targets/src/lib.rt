@@ -12,10 +12,10 @@ use table::Wanted;
 use table::numbers;
 ghost use mathlib.Core.Path.{_≡_};
 ghost use mathlib.Core.List.{[], _∷_};
-ghost use Prim.Native.Nat.{_+_, _*_, _≤_};
-ghost use lib.ListN.{length};
+ghost use Prim.Native.Nat.{_+_, _≤_};
 ghost use Rattle.forest.specs.Forest.{nodeOf, treeOf, forest};
 ghost use Rattle.table.specs.Answer.{accepted, andThen};
+ghost use Rattle.table.specs.Check.{Within, Headed};
 ghost use Rattle.targets.specs.Targets.{isLeaf, isGroup, counted, countedEach, typeCheck, «check_assignment»};
 ghost use Rattle.targets.specs.Jobs.{targeted, targetOf, assignmentOf};
 
@@ -64,7 +64,7 @@ fn is_group(kind: u8) -> bool
 
 // The target that a stretch begins with; count leaves stand before it.
 fn check_assign(t: &[u8], node: usize, count: u32) -> Targeted
-    requires { ⌜ (24 ≤ length (now t)) × ((24 * node + length (now t) ≤ 50400) × (count ≤ node)) ⌝ }
+    requires { ⌜ Headed node (now t) × (count ≤ node) ⌝ }
     ensures { λ r. ⌜ targeted r ≡ counted count (treeOf node (now (t .entry))) ⌝ }
 {
     let kind = forest::kind(t);
@@ -80,7 +80,7 @@ fn check_assign(t: &[u8], node: usize, count: u32) -> Targeted
 
 // The targets side by side in a stretch; count leaves stand before them.
 fn check_each(t: &[u8], node: usize, count: u32) -> Targeted
-    requires { ⌜ (24 * node + length (now t) ≤ 50400) × (count ≤ node) ⌝ }
+    requires { ⌜ Within node (now t) × (count ≤ node) ⌝ }
     ensures { λ r. ⌜ targeted r ≡ countedEach count (forest node (now (t .entry))) ⌝ }
 {
     let mut left = t;
@@ -101,7 +101,7 @@ fn check_each(t: &[u8], node: usize, count: u32) -> Targeted
 
 // The assignment that a stretch begins with: its target, then its type.
 fn check_assignment(t: &[u8], node: usize) -> Targeted
-    requires { ⌜ (24 ≤ length (now t)) × (24 * node + length (now t) ≤ 50400) ⌝ }
+    requires { ⌜ Headed node (now t) ⌝ }
     ensures { λ r. ⌜ targeted r ≡ «check_assignment» (treeOf node (now (t .entry))) ⌝ }
 {
     let e = forest::span(t);
@@ -125,7 +125,7 @@ fn check_assignment(t: &[u8], node: usize) -> Targeted
 
 // Whether the type of an assignment t with the target lhs may stand there; the type, if there is one, begins ty.
 fn check_type(t: &[u8], lhs: &[u8], ty: &[u8], node: usize, leaves: u32) -> Targeted
-    requires { ⌜ 24 * node + length (now ty) ≤ 50400 ⌝ }
+    requires { ⌜ Within node (now ty) ⌝ }
     ensures { λ r. ⌜ targeted r ≡
         andThen (typeCheck (nodeOf 0 (now (t .entry))) (nodeOf 0 (now (lhs .entry))) (forest node (now (ty .entry))))
         (λ _. accepted (leaves ∷ [])) ⌝ }

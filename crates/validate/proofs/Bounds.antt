@@ -17,14 +17,20 @@ use Rattle.forest.proofs.Stretch.{count-forest, length-kids}
 use Rattle.soundness.specs.KindNumbers.{kindEllipsis, kindLambda}
 use Rattle.soundness.specs.Kinds.{statement, expression, parameter, kindIn as rowIn, kindOf, classOf}
 use Rattle.deflist.specs.Written.{Param, nodeIn, kindIn, paramOf, paramsIn}
-use Rattle.deflist.specs.Unpack.{Outcome, accepted, refused, internal, unpack}
+use Rattle.deflist.specs.Unpack.{unpack}
+use Rattle.deflist.specs.Told.{told}
+use Rattle.deflist.specs.declared.Judged.{Judged}
+use Rattle.deflist.specs.declared.Judged.the-variants.{Accepted, Refused}
+use Rattle.table.specs.Answer.{spanAt}
+use Rattle.errors.proofs.Storing.{unless-few}
 use Rattle.deflist.specs.declared.Kind.{Kind}
 use Rattle.deflist.specs.declared.Kind.the-variants.{Normal, NoArgs, Slash, Args, KwArgs}
 use Rattle.deflist.proofs.Theorems.{list-short}
 use Rattle.errors.specs.declared.Err.{Err}
-use Rattle.errors.specs.Errors.{unless}
-use Rattle.validate.specs.Params.{markError, everyMark, marks, permits, unpackError, «validate_params», withParams}
-use Rattle.validate.specs.Module.{atTop, inDef, armOf, defErrors, onArm, f, «visit_stmt», exprErrors, expr, «visit_expr»}
+use Rattle.validate.specs.Params.{markError, everyMark, marks, permits, unpackError, «validate_params»}
+use Rattle.validate.specs.Params.{withParams}
+use Rattle.validate.specs.Module.{atTop, inDef, armOf, defErrors, onArm, f, «visit_stmt», exprErrors, expr}
+use Rattle.validate.specs.Module.{«visit_expr»}
 use Rattle.validate.specs.Module.{«validate_module»}
 use Rattle.validate.specs.declared.Mark.{Mark}
 use Rattle.validate.specs.declared.Mark.the-variants.{Star, Slash as SlashMark}
@@ -32,12 +38,8 @@ use Rattle.validate.specs.declared.Standing.{Standing}
 use Rattle.validate.specs.declared.Arm.{Arm}
 use Rattle.validate.specs.declared.Arm.the-variants.{Def, Load, Told, Below}
 
--- an error unless something is permitted, and a choice between nothing and some
-pub unless-few : (b : Bool) (n : ℕ) (r : Node) → length (unless b n r) ≤ 1
-unless-few true n r = omega arith
-unless-few false n r = omega arith
-
-pub marks-few : (d : Dialect) (m : Mark) (ps : List Param) → length (marks d m ps) ≤ length (everyMark m ps)
+-- a choice between nothing and some
+marks-few : (d : Dialect) (m : Mark) (ps : List Param) → length (marks d m ps) ≤ length (everyMark m ps)
 marks-few d m ps = go (permits d m)
   where
     go : (b : Bool) → length (if' {A = List Err} b (λ _. []) (λ _. everyMark m ps)) ≤ length (everyMark m ps)
@@ -61,10 +63,9 @@ pub sort-few : (m : Mark) (ps : List Param) → length (everyMark m ps) ≤ leng
 sort-few Star ps = omega (arith, every-few ps)
 sort-few SlashMark ps = omega (arith, every-few ps)
 
-pub unpack-few : (o : Outcome) → length (unpackError o) ≤ 1
-unpack-few (accepted c) = omega arith
-unpack-few (refused n r) = omega arith
-unpack-few (internal e r) = omega arith
+error-few : (j : Judged) → length (unpackError j) ≤ 1
+error-few (Accepted c) = omega arith
+error-few (Refused f) = omega arith
 
 -- a parameter list: no more than its parameters, and one
 pub params-few : (d : Dialect) (ps : List Param) → length («validate_params» d ps) ≤ length ps + 1
@@ -74,14 +75,14 @@ params-few d ps = simp length-append (omega (
   marks-few d Star ps,
   marks-few d SlashMark ps,
   every-few ps,
-  unpack-few (unpack ps),
+  error-few (told (unpack ps)),
 ))
 
 pub with-few : (d : Dialect) (names : List ℕ) (b : Bool) (n : ℕ) (r : Node) (ks : Forest)
     → length (withParams d names b n r ks) ≤ length (paramsIn names ks) + 2
 unfolding withParams
 with-few d names b n r ks =
-    simp length-append (omega (arith, unless-few b n r, params-few d (paramsIn names ks)))
+    simp length-append (omega (arith, unless-few b n (spanAt r), params-few d (paramsIn names ks)))
 
 -- a statement by itself: two, and its parameters, and what is below it
 arm-few : (d : Dialect) (names : List ℕ) (s : Standing) (r : Node) (ks : Forest) (visit : Standing → List Err) (n : ℕ)
@@ -95,8 +96,8 @@ arm-few d names s r ks visit n h Def = omega (
 )
 arm-few d names s r ks visit n h Load = simp length-append (omega (
   arith,
-  unless-few (s .«top_level») 58 r,
-  unless-few (d .«enable_load») 59 r,
+  unless-few (s .«top_level») 58 (spanAt r),
+  unless-few (d .«enable_load») 59 (spanAt r),
 ))
 arm-few d names s r ks visit n h (Told m) = omega arith
 arm-few d names s r ks visit n h (Below p) = omega (arith, h p)
@@ -117,7 +118,8 @@ own-few : (d : Dialect) (names : List ℕ) (r : Node) (ks : Forest)
     → length (exprErrors d names r ks) ≤ ownMost (r .kind) (2 + length (paramsIn names ks))
 unfolding exprErrors kindOf rowIn
 own-few d names r ks =
-    kind-few (r .kind) kindEllipsis _ _ _ refl (omega (arith, unless-few (permitsTypes (d .«enable_types»)) 60 r))
+    kind-few (r .kind) kindEllipsis _ _ _ refl
+    (omega (arith, unless-few (permitsTypes (d .«enable_types»)) 60 (spanAt r)))
     (kind-few (r .kind) kindLambda _ _ _ refl (omega (arith, with-few d names (d .«enable_lambda») 61 r ks))
     (omega arith))
 
@@ -187,7 +189,6 @@ module _ (d : Dialect) (names : List ℕ) where
 
   -- THEOREM: a module has no more errors than twice its nodes
   pub module-few : (ts : Forest) → length («validate_module» d names ts) ≤ 2 * count ts
-  unfolding «validate_module»
   module-few ts = simp length-append (omega (arith, forest-few ts (atTop)))
 
   -- the same for what code walks: a stretch, its first tree, and the parameters of its first node

@@ -1,11 +1,10 @@
 -- Laws of the module job, in the terms of code: one for each return. Assumes nothing.
 use mathlib.Core.Path.{_≡_, refl, sym}
 use mathlib.Core.List.{List, [], _∷_}
-use Prim.Native.Nat.{ℕ, _+_, _-_, _*_, _≤_, min}
+use Prim.Native.Nat.{ℕ, _-_, _*_, _≤_}
 use native.Mathlib.Omega.{arith}
-use lib.ListN.{length, take, drop, length-take}
+use lib.ListN.{length, take, length-take}
 use lib.Seq.{take-all}
-use borrow.Rule.Slice.PartMut.{putMid}
 use Rattle.dialect.specs.declared.Dialect.{Dialect}
 use Rattle.forest.specs.Forest.{forest, count}
 use Rattle.forest.proofs.Stretch.{count-forest}
@@ -15,20 +14,11 @@ use Rattle.table.specs.declared.Refusal.{Refusal}
 use Rattle.table.specs.declared.Given.{Given}
 use Rattle.table.specs.declared.Given.the-variants.{In, Refused as Away}
 use Rattle.table.proofs.Entering.{given-known, away-is, in-is}
-use Rattle.errors.specs.Errors.{width, stored, Stores}
-use Rattle.validate.specs.Module.{atTop, «visit_stmt», «visit_expr», «validate_module»}
-use Rattle.validate.specs.Inner.{StoresFew}
+use Rattle.errors.specs.Errors.{stored, Stores}
+use Rattle.validate.specs.Module.{«validate_module»}
 use Rattle.validate.specs.Job.{passErrors, errorsOf, moduleOf, errorsAfter}
-use Rattle.errors.proofs.Storing.{stored-none, stores-both}
+use Rattle.errors.proofs.Storing.{stored-none}
 use Rattle.validate.proofs.Bounds.{module-few}
-
--- statements, then expressions
-pub module-all : (d : Dialect) (names t : List ℕ) {xs ys zs : List ℕ} {m n at u v : ℕ}
-    → StoresFew u («visit_stmt» d names atTop (forest 0 t)) xs m ys → at ≡ min (width * m) (length ys)
-    → StoresFew v («visit_expr» d names (forest 0 t)) (take (length ys - at) (drop at ys)) n zs
-    → Stores («validate_module» d names (forest 0 t)) xs (m + n) (putMid at (length ys - at) ys zs)
-unfolding «validate_module»
-module-all d names t s at-is q = stores-both _ _ (s .stores) at-is (q .stores)
 
 -- a total is little
 pub total-short : (d : Dialect) (names t : List ℕ) {xs ys : List ℕ} {n : ℕ}

@@ -1,18 +1,16 @@
 -- Laws of the checks of a parameter list, in the terms of code: one for each return. Assumes nothing.
-use mathlib.Core.Path.{_≡_, refl, sym, ap, _∙_}
+use mathlib.Core.Path.{_≡_, refl, sym, _∙_}
 use mathlib.Core.Bool.{Bool, true, false, not}
 use mathlib.Core.List.{List, [], _∷_, _++_}
-use Prim.Native.Nat.{ℕ, _+_, _-_, _*_, _/_, _≤_, min}
+use Prim.Native.Nat.{ℕ, _+_, _-_, _/_, _≤_}
 use native.Mathlib.Omega.{arith}
-use lib.ListN.{length, take, drop}
-use borrow.Rule.Slice.PartMut.{putMid}
-use Rattle.fields.proofs.Basics.{never}
+use lib.ListN.{length}
 use Rattle.dialect.specs.declared.Dialect.{Dialect}
 use Rattle.forest.specs.Forest.{nodeOf, spanOf, kidsOf, restOf, forest}
 use Rattle.forest.proofs.Stretch.{forest-none, forest-induction, rest-part}
 use Rattle.deflist.specs.Written.{paramsIn, written}
-use Rattle.deflist.specs.Unpack.{Outcome, accepted, refused, internal, unpack}
-use Rattle.deflist.specs.Told.{fault, told}
+use Rattle.deflist.specs.Unpack.{unpack}
+use Rattle.deflist.specs.Told.{told}
 use Rattle.deflist.specs.Reading.{isListed, kindHere}
 use Rattle.deflist.specs.declared.Counts.{Counts}
 use Rattle.deflist.specs.declared.Kind.{Kind}
@@ -22,15 +20,16 @@ use Rattle.deflist.specs.declared.Judged.the-variants.{Accepted, Refused}
 use Rattle.deflist.proofs.Reading.{node-in, kind-in, list-end, list-on}
 use Rattle.deflist.proofs.Theorems.{list-short, written-short}
 use Rattle.errors.specs.declared.Err.{Err}
-use Rattle.errors.specs.Errors.{err, unless, width, Stores}
-use Rattle.errors.proofs.Storing.{stores-none, stores-both}
-use Rattle.errors.proofs.Turns.{Turns, turns-start, turns-on, turns-end, turns-few, turns-long}
-use Rattle.validate.specs.Params.{isMark, notPermitted, withParams, permits, markError, everyMark, marks, unpackError}
+use Rattle.errors.specs.Errors.{err, unless, Stores}
+use Rattle.errors.proofs.Storing.{freeAt, after, back, stores-none, stores-both}
+use Rattle.errors.proofs.Storing.{Turns, turns-start, turns-on, turns-end, turns-few, turns-long}
+use Rattle.validate.specs.Params.{isMark, notPermitted, withParams, permits, markError, everyMark, marks}
+use Rattle.validate.specs.Params.{unpackError}
 use Rattle.validate.specs.Params.{«validate_params»}
 use Rattle.validate.specs.Inner.{StoresFew}
 use Rattle.validate.specs.declared.Mark.{Mark}
 use Rattle.validate.specs.declared.Mark.the-variants.{Star, Slash as SlashMark}
-use Rattle.validate.proofs.Bounds.{unless-few, sort-few, unpack-few, params-few, with-few, list-few}
+use Rattle.validate.proofs.Bounds.{sort-few, params-few, with-few, list-few}
 
 -- a check of few errors
 pub few-by : {most : ℕ} (es : List Err) {xs : List ℕ} {n : ℕ} {ys : List ℕ} → length es ≤ most → Stores es xs n ys
@@ -41,7 +40,7 @@ few-by es h s = record { few = omega (arith, s .count); stores = s }
 module _ (m : Mark) where
   marks-cut : (ns : List ℕ) (i : ℕ) (t : List ℕ) {e : ℕ} → isListed t ≡ true → e ≡ spanOf t
       → everyMark m (paramsIn ns (forest i t)) ≡ markError m (nodeOf 0 t) (kindHere t)
-      ++ everyMark m (paramsIn ns (forest (i + e / 24) (take (length t - e) (drop e t))))
+      ++ everyMark m (paramsIn ns (forest (i + e / 24) (after e t)))
   unfolding everyMark
   marks-cut ns i t listed e-is = rw (list-on ns i t listed e-is, node-in ns (nodeOf i t), kind-in ns i t) refl
 
@@ -75,62 +74,48 @@ module _ (m : Mark) (t : List ℕ) where
   pub mark-start : (xs : List ℕ) → Marking m t xs t 0 xs
   mark-start xs = record { few = omega arith; turns = turns-start _ xs }
 
-  module _ {xs₀ left : List ℕ} {total : ℕ} {xs : List ℕ} (w : Marking m t xs₀ left total xs) {l : Bool}
-      (l-is : l ≡ isListed left) where
-    pub mark-end : l ≡ false → StoresFew (length t / 24) (marksIn m t) xs₀ total xs
-    unfolding everyMark
-    mark-end h = few-by (marksIn m t) all-few
-        (turns-end (w .turns) (rw (list-end [] 0 left (sym l-is ∙ h)) refl))
+  module _ {xs₀ left : List ℕ} {total : ℕ} {xs : List ℕ} (w : Marking m t xs₀ left total xs) where
+    pub mark-long : length xs ≡ length xs₀
+    mark-long = turns-long (w .turns)
 
-    pub mark-on : l ≡ true → {e : ℕ} → e ≡ spanOf left → {at n : ℕ} {zs : List ℕ}
-        → at ≡ min (width * total) (length xs)
-        → StoresFew 1 (markError m (nodeOf 0 left) (kindHere left)) (take (length xs - at) (drop at xs)) n zs
-        → Marking m t xs₀ (take (length left - e) (drop e left)) (total + n) (putMid at (length xs - at) xs zs)
-    mark-on listed {e} e-is at-is s =
-        let cut = marks-cut m [] 0 left (sym l-is ∙ listed) e-is in
-        let next = turns-on (w .turns) (cut ∙ ap (λ (es : List Err). markError m (nodeOf 0 left) (kindHere left) ++ es)
-        (same-marks m [] [] (0 + e / 24) _ 0)) at-is (s .stores) in
-        record { few = omega (arith, turns-few next, all-few); turns = next }
+    module _ {l : Bool} (l-is : l ≡ isListed left) where
+      pub mark-on : l ≡ true → {k : Kind} → k ≡ kindHere left → {b : Bool} → b ≡ isMark m k → {c : ℕ}
+          → c ≡ notPermitted m → {at n : ℕ} {zs : List ℕ} → at ≡ freeAt total xs
+          → Stores (unless (not b) c (nodeOf 0 left)) (after at xs) n zs
+          → {e : ℕ} → e ≡ spanOf left
+          → Marking m t xs₀ (after e left) (total + n) (back at xs zs)
+      mark-on listed k-is {b} b-is {c} c-is at-is s {e} e-is =
+          let rest = after e left in
+          let cut : marksIn m left ≡ unless (not b) c (nodeOf 0 left) ++ marksIn m rest = rw (
+            marks-cut m [] 0 left (sym l-is ∙ listed) e-is,
+            ← k-is,
+            ← b-is,
+            ← c-is,
+            same-marks m [] [] (0 + e / 24) rest 0,
+          ) refl in
+          let next = turns-on (w .turns) cut at-is s in
+          record { few = omega (arith, turns-few next, all-few); turns = next }
 
-pub mark-long : {m : Mark} {t xs₀ left : List ℕ} {total : ℕ} {xs : List ℕ} → Marking m t xs₀ left total xs
-    → length xs ≡ length xs₀
-mark-long w = turns-long (w .turns)
+      pub mark-end : l ≡ false → (d : Dialect) {p : Bool} → p ≡ permits d m → p ≡ false
+          → StoresFew (length t / 24) (marks d m (paramsIn [] (forest 0 t))) xs₀ total xs
+      unfolding everyMark
+      mark-end none d p-is off = rw (← p-is, off) record {
+        few = w .few;
+        stores = turns-end (w .turns) (rw (list-end [] 0 left (sym l-is ∙ none)) refl);
+      }
 
--- a parameter that may be a mark
-pub mark-one : (m : Mark) (t : List ℕ) {k : Kind} → k ≡ kindHere t → {b : Bool} → b ≡ isMark m k → {n : ℕ}
-    → n ≡ notPermitted m → {xs : List ℕ} {c : ℕ} {ys : List ℕ} → Stores (unless (not b) n (nodeOf 0 t)) xs c ys
-    → StoresFew 1 (markError m (nodeOf 0 t) (kindHere t)) xs c ys
-mark-one m t k-is b-is n-is s =
-    few-by _ (unless-few (not (isMark m (kindHere t))) (notPermitted m) (nodeOf 0 t)) (rw (← k-is, ← b-is, ← n-is) s)
+pub marks-permitted : (d : Dialect) (m : Mark) (t xs : List ℕ) {p : Bool} → p ≡ permits d m → p ≡ true
+    → StoresFew (length t / 24) (marks d m (paramsIn [] (forest 0 t))) xs 0 xs
+marks-permitted d m t xs p-is on = record { few = omega arith; stores = rw (← p-is, on) (stores-none xs) }
 
 -- what unpack says of a list
-unpack-fine : (o : Outcome) {j : Judged} {c : Counts} → j ≡ told o → j ≡ Accepted c → unpackError o ≡ []
-unpack-fine (accepted c) p q = refl
-unpack-fine (refused n r) p q = never (cc)
-unpack-fine (internal e r) p q = never (cc)
-
-unpack-fault : (o : Outcome) {j : Judged} {a : Fault} → j ≡ told o → j ≡ Refused a
-    → unpackError o ≡ err (a .number) (a .span) ∷ []
-unpack-fault (accepted c) p q = never (cc)
-unpack-fault (refused n r) {j} {a} p q = let same : fault n r ≡ a = cc in rw (← same) refl
-unpack-fault (internal e r) {j} {a} p q = let same : fault 0 r ≡ a = cc in rw (← same) refl
-
-module _ (o : Outcome) {j : Judged} (j-is : j ≡ told o) (xs : List ℕ) where
-  pub error-none : {c : Counts} → j ≡ Accepted c → StoresFew 1 (unpackError o) xs 0 xs
-  error-none h = few-by _ (unpack-few o) (rw (unpack-fine o j-is h) (stores-none xs))
+module _ {j k : Judged} (j-is : j ≡ k) (xs : List ℕ) where
+  pub error-none : {c : Counts} → j ≡ Accepted c → StoresFew 1 (unpackError k) xs 0 xs
+  error-none h = record { few = omega arith; stores = rw (← j-is, h) (stores-none xs) }
 
   pub error-one : {a : Fault} → j ≡ Refused a → {e : Err} → e ≡ err (a .number) (a .span) → {n : ℕ} {ys : List ℕ}
-      → Stores (e ∷ []) xs n ys → StoresFew 1 (unpackError o) xs n ys
-  error-one h e-is s = few-by _ (unpack-few o) (rw (unpack-fault o j-is h, ← e-is) s)
-
--- every mark of a sort, unless the dialect permits it
-module _ (d : Dialect) (m : Mark) (t xs : List ℕ) {b : Bool} (b-is : b ≡ permits d m) where
-  pub marks-permitted : b ≡ true → StoresFew (length t / 24) (marks d m (paramsIn [] (forest 0 t))) xs 0 xs
-  marks-permitted h = record { few = omega arith; stores = rw (← b-is, h) (stores-none xs) }
-
-  pub marks-not : b ≡ false → {n : ℕ} {ys : List ℕ} → StoresFew (length t / 24) (marksIn m t) xs n ys
-      → StoresFew (length t / 24) (marks d m (paramsIn [] (forest 0 t))) xs n ys
-  marks-not h s = rw (← b-is, h) s
+      → Stores (e ∷ []) xs n ys → StoresFew 1 (unpackError k) xs n ys
+  error-one h e-is s = record { few = omega (arith, s .count); stores = rw (← j-is, h, ← e-is) s }
 
 -- the whole of a list: every `*`, every `/`, unpack's error
 module _ (d : Dialect) (names t : List ℕ) (i : ℕ) where
@@ -140,27 +125,27 @@ module _ (d : Dialect) (names t : List ℕ) (i : ℕ) where
   unfolding written
   told-anywhere m list-is s = rw (← list-is, same-marks m names [] (i + 1) _ 0) s
 
-  pub params-all : {list xs ys zs vs : List ℕ} {a b c k m u v w : ℕ} → list ≡ kidsOf t
-      → StoresFew u (marks d Star (paramsIn [] (forest 0 list))) xs a ys → k ≡ min (width * a) (length ys)
-      → StoresFew v (marks d SlashMark (paramsIn [] (forest 0 list))) (take (length ys - k) (drop k ys)) b zs
-      → m ≡ min (width * (a + b)) (length (putMid k (length ys - k) ys zs))
-      → StoresFew w (unpackError (unpack (written names i t)))
-      (take (length (putMid k (length ys - k) ys zs) - m) (drop m (putMid k (length ys - k) ys zs))) c vs
+  pub params-all : {list xs ys zs vs : List ℕ} {a b c k m : ℕ} → list ≡ kidsOf t
+      → Stores (marks d Star (paramsIn [] (forest 0 list))) xs a ys → k ≡ freeAt a ys
+      → Stores (marks d SlashMark (paramsIn [] (forest 0 list))) (after k ys) b zs
+      → m ≡ freeAt (a + b) (back k ys zs)
+      → Stores (unpackError (told (unpack (written names i t))))
+      (after m (back k ys zs)) c vs
       → StoresFew (1 + length t / 24) («validate_params» d (written names i t)) xs (a + b + c)
-      (putMid m (length (putMid k (length ys - k) ys zs) - m) (putMid k (length ys - k) ys zs) vs)
+      (back m (back k ys zs) vs)
   unfolding «validate_params»
   params-all list-is stars k-is slashes m-is last = few-by («validate_params» d (written names i t))
       (omega (arith, params-few d (written names i t), written-short names i t))
-      (stores-both _ _ (stores-both _ _ (told-anywhere Star list-is (stars .stores)) k-is
-      (told-anywhere SlashMark list-is (slashes .stores))) m-is (last .stores))
+      (stores-both _ _ (stores-both _ _ (told-anywhere Star list-is stars) k-is
+      (told-anywhere SlashMark list-is slashes)) m-is last)
 
   -- what a parameter list's node is told
-  pub with-all : (p : Bool) (n : ℕ) {xs ys zs : List ℕ} {m l at most : ℕ} → Stores (unless p n (nodeOf 0 t)) xs m ys
-      → at ≡ min (width * m) (length ys)
-      → StoresFew most («validate_params» d (written names i t)) (take (length ys - at) (drop at ys)) l zs
+  pub with-all : (p : Bool) (n : ℕ) {xs ys zs : List ℕ} {m l at : ℕ} → Stores (unless p n (nodeOf 0 t)) xs m ys
+      → at ≡ freeAt m ys
+      → Stores («validate_params» d (written names i t)) (after at ys) l zs
       → StoresFew (2 + length t / 24) (withParams d names p n (nodeOf i t) (forest (i + 1) (kidsOf t))) xs (m + l)
-      (putMid at (length ys - at) ys zs)
+      (back at ys zs)
   unfolding withParams written
   with-all p n s at-is q =
       few-by _ (omega (arith, with-few d names p n (nodeOf i t) (forest (i + 1) (kidsOf t)), list-few d names i t))
-      (stores-both _ _ s at-is (q .stores))
+      (stores-both _ _ s at-is q)

@@ -1,4 +1,5 @@
--- What users of the module job rely on: a refusal changes no word, the total is at most twice the node count, and a list with room for that many errors holds all. Assumes nothing.
+-- What users of the module job rely on: a refusal changes no word, the total is at most twice the node count, and a
+-- list with room for that many errors holds all. Assumes nothing.
 use mathlib.Core.Path.{_≡_}
 use mathlib.Core.List.{List, [], _∷_, _++_}
 use Prim.Native.Nat.{ℕ, _+_, _*_, _/_, _≤_}
@@ -45,7 +46,8 @@ module _ (t names bytes : List ℕ) where
       go (inDialect d) h = let total : n ≡ length (errorsOf t names bytes) = cc in omega (arith, errors-few)
       go (turnedAway m vs) h = never (cc)
 
-  -- THEOREM: a list of words with room for twice the node count holds all errors, one after the other, and its other words stay
+  -- THEOREM: a list of words with room for twice the node count holds all errors, one after the other, and its other
+  -- words stay
   pub list-holds-all : (xs : List ℕ) → width * (2 * (length t / 24)) ≤ length xs
       → errorsAfter t names bytes xs ≡ allWords (errorsOf t names bytes)
       ++ drop (width * length (errorsOf t names bytes)) xs

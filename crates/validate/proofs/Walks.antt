@@ -1,31 +1,80 @@
--- Laws of the two walks over a stretch, in the terms of code: one for each return and each loop. Assumes nothing.
+-- Laws of the two walks over a stretch, in the terms of code: which kinds are statements, and one for each return and
+-- each loop. Assumes nothing.
 use mathlib.Core.Path.{_≡_, refl}
-use mathlib.Core.Bool.{Bool, true, false}
+use mathlib.Core.Bool.{Bool, true, false, _&&_, not}
 use mathlib.Core.List.{List, [], _∷_, _++_, append-nil}
-use Prim.Native.Nat.{ℕ, _+_, _-_, _*_, _/_, _<_, _≤_, min}
+use Prim.Native.Nat.{ℕ, zero, suc, _+_, _-_, _*_, _/_, _<_, _≤_}
 use native.Mathlib.Omega.{arith}
-use lib.Dec.{eqb}
+use lib.Dec.{eqb, leb}
 use lib.ListN.{length, take, drop}
-use borrow.Author.Tests.{eq-eqb, ne-eqb}
-use borrow.Rule.Slice.PartMut.{putMid}
+use borrow.Author.Tests.{eq-eqb, ne-eqb, eqb-true, eqb-false}
+use Rattle.fields.proofs.Basics.{never, and-left, and-right}
 use Rattle.dialect.specs.declared.Dialect.{Dialect}
 use Rattle.dialect.specs.Rows.{permitsTypes}
 use Rattle.forest.specs.Forest.{nodeOf, spanOf, kidsOf, Tree, Forest, none, _then_, forest, treeOf}
 use Rattle.forest.proofs.Stretch.{forest-none, kids-part, rest-part, length-kids, length-rest, each-cut}
-use Rattle.soundness.specs.KindNumbers.{kindEllipsis, kindLambda}
-use Rattle.soundness.specs.Kinds.{statement, classOf}
+use Rattle.soundness.specs.KindNumbers.{kindDef, kindFor, kindIf, kindIfElse, kindBreak, kindContinue, kindReturn}
+use Rattle.soundness.specs.KindNumbers.{kindLoad, kindEllipsis, kindLambda}
+use Rattle.soundness.specs.Kinds.{statement, kindIn, kindOf, classOf}
+use Rattle.table.specs.Answer.{spanAt}
 use Rattle.table.specs.Numbers.{defNotPermitted, ellipsisNotPermitted, lambdaNotPermitted}
 use Rattle.errors.specs.declared.Err.{Err}
-use Rattle.errors.specs.Errors.{errAt, unless, width, Stores}
-use Rattle.errors.proofs.Storing.{stores-none, stores-both}
-use Rattle.errors.proofs.Turns.{Turns, turns-start, turns-on, turns-end, turns-few, turns-long}
+use Rattle.errors.specs.Errors.{errAt, unless, Stores}
+use Rattle.errors.proofs.Storing.{freeAt, after, back, stores-none, stores-both, unless-one}
+use Rattle.errors.proofs.Storing.{Turns, turns-start, turns-on, turns-end, turns-few, turns-long}
 use Rattle.validate.specs.Inner.{StoresFew}
 use Rattle.validate.specs.Params.{withParams}
-use Rattle.validate.specs.Module.{inDef, armOf, loadErrors, onArm, f, «visit_stmt», exprErrors, expr, «visit_expr»}
+use Rattle.validate.specs.Module.{inDef, armOf, loadErrors, onArm, f, «visit_stmt», exprErrors, expr}
+use Rattle.validate.specs.Module.{«visit_expr»}
 use Rattle.validate.specs.declared.Standing.{Standing}
 use Rattle.validate.specs.declared.Arm.{Arm}
 use Rattle.validate.specs.declared.Arm.the-variants.{Def, Load, Told, Below}
-use Rattle.validate.proofs.Bounds.{unless-few, stmts-few, exprs-few, first-few}
+use Rattle.validate.proofs.Bounds.{stmts-few, exprs-few, first-few}
+
+-- two tests come out alike; a test holds of every number below another
+abbrev alike : Bool → Bool → Bool
+alike true b = b
+alike false b = not b
+
+alike-same : (a b : Bool) → alike a b ≡ true → a ≡ b
+alike-same true true e = refl
+alike-same true false e = never (cc)
+alike-same false true e = never (cc)
+alike-same false false e = refl
+
+abbrev below : ℕ → (ℕ → Bool) → Bool
+below zero p = true
+below (suc n) p = p n && below n p
+
+below-at : (n : ℕ) (p : ℕ → Bool) (k : ℕ) → below n p ≡ true → k < n → p k ≡ true
+below-at zero p k e h = absurd (omega arith)
+below-at (suc n) p k e h = go (eqb k n) refl (below-at n p k (and-right (p n) _ e))
+  where
+    go : (b : Bool) → eqb k n ≡ b → (k < n → p k ≡ true) → p k ≡ true
+    go true t rest = rw (eqb-true k n t) (and-left (p n) _ e)
+    go false t rest = rest (omega (arith, eqb-false k n t))
+
+-- LAW: the kinds 1 to 12 are the statements'; computed for every byte
+pub statement-range : (k : ℕ) → k < 256 → (leb 1 k && leb k 12) ≡ eqb (classOf k) statement
+unfolding kindOf kindIn
+statement-range k h = alike-same _ _
+    (below-at 256 (λ k. alike (leb 1 k && leb k 12) (eqb (classOf k) statement)) k refl h)
+
+-- LAW: a kind with no arm of its own
+pub arm-other : (d : Dialect) (s : Standing) {k : ℕ} → (k ≡ kindDef → ⊥) → (k ≡ kindFor → ⊥) → (k ≡ kindIf → ⊥)
+    → (k ≡ kindIfElse → ⊥) → (k ≡ kindBreak → ⊥) → (k ≡ kindContinue → ⊥) → (k ≡ kindReturn → ⊥) → (k ≡ kindLoad → ⊥)
+    → Below s ≡ armOf d s k
+unfolding armOf
+arm-other d s {k} no-def no-for no-if no-else no-break no-continue no-return no-load = rw (
+  ne-eqb k kindDef no-def,
+  ne-eqb k kindFor no-for,
+  ne-eqb k kindIf no-if,
+  ne-eqb k kindIfElse no-else,
+  ne-eqb k kindBreak no-break,
+  ne-eqb k kindContinue no-continue,
+  ne-eqb k kindReturn no-return,
+  ne-eqb k kindLoad no-load,
+) refl
 
 -- a rule over nodes side by side: what each tree is told, in turn, and that is little
 pub record Walk (all : Forest → List Err) (one : Tree → List Err) : Type 0 where
@@ -83,10 +132,10 @@ module _ {all : Forest → List Err} {one : Tree → List Err} where
       stores = turns-end (v .turns) (rw (forest-none place left h) (v .walk .empty));
     }
 
-    pub each-on : 24 ≤ length left → {n free : ℕ} {zs : List ℕ} → free ≡ min (width * total) (length xs)
-        → Stores (one (treeOf place left)) (take (length xs - free) (drop free xs)) n zs → {e : ℕ} → e ≡ spanOf left
-        → Visiting all one whole t xs₀ (take (length left - e) (drop e left)) (place + e / 24) (total + n)
-        (putMid free (length xs - free) xs zs)
+    pub each-on : 24 ≤ length left → {n free : ℕ} {zs : List ℕ} → free ≡ freeAt total xs
+        → Stores (one (treeOf place left)) (after free xs) n zs → {e : ℕ} → e ≡ spanOf left
+        → Visiting all one whole t xs₀ (after e left) (place + e / 24) (total + n)
+        (back free xs zs)
     each-on big free-is s {e} e-is =
         let next = turns-on (v .turns) (each-cut all place e left one _++_ (v .walk .first) big e-is) free-is s in
         record {
@@ -126,20 +175,20 @@ module _ (d : Dialect) (names : List ℕ) (s : Standing) (i : ℕ) (t : List ℕ
           → Stores (f d names s (treeOf i t)) xs m ys
       f-told h q = rw (opened, h) q
 
-      module _ {e : ℕ} (e-is : e ≡ spanOf t) {most : ℕ} where
+      module _ {e : ℕ} (e-is : e ≡ spanOf t) where
         pub f-below : {p : Standing} → a ≡ Below p
-            → StoresFew most («visit_stmt» d names p (forest (i + 1) (made e t))) xs m ys
+            → Stores («visit_stmt» d names p (forest (i + 1) (made e t))) xs m ys
             → Stores (f d names s (treeOf i t)) xs m ys
-        f-below h q = rw (opened, h, ← kids-part e t e-is) (q .stores)
+        f-below h q = rw (opened, h, ← kids-part e t e-is) q
 
-        pub f-def : a ≡ Def → {few n at : ℕ} {zs : List ℕ}
-            → StoresFew few (withParams d names (d .«enable_def») defNotPermitted (nodeOf i t) (children i t)) xs m ys
-            → at ≡ min (width * m) (length ys)
-            → StoresFew most («visit_stmt» d names inDef (forest (i + 1) (made e t)))
-            (take (length ys - at) (drop at ys)) n zs
-            → Stores (f d names s (treeOf i t)) xs (m + n) (putMid at (length ys - at) ys zs)
+        pub f-def : a ≡ Def → {n at : ℕ} {zs : List ℕ}
+            → Stores (withParams d names (d .«enable_def») defNotPermitted (nodeOf i t) (children i t)) xs m ys
+            → at ≡ freeAt m ys
+            → Stores («visit_stmt» d names inDef (forest (i + 1) (made e t)))
+            (after at ys) n zs
+            → Stores (f d names s (treeOf i t)) xs (m + n) (back at ys zs)
         f-def h q at-is z =
-            rw (opened, h) (stores-both _ _ (q .stores) at-is (rw (kids-part e t e-is) at (z .stores)))
+            rw (opened, h) (stores-both _ _ q at-is (rw (kids-part e t e-is) at z))
 
 -- the first record of a stretch by itself, as an expression
 module _ (d : Dialect) (names : List ℕ) (i : ℕ) (t : List ℕ) {k : ℕ} (k-is : k ≡ nodeOf 0 t .kind) where
@@ -149,7 +198,7 @@ module _ (d : Dialect) (names : List ℕ) (i : ℕ) (t : List ℕ) {k : ℕ} (k-
   unfolding exprErrors
   own-ellipsis h {b} b-is s =
       rw (← k-is, eq-eqb k kindEllipsis h, ← b-is)
-      record { few = omega (arith, s .count, unless-few b ellipsisNotPermitted (nodeOf 0 t)); stores = s }
+      record { few = omega (arith, unless-one b ellipsisNotPermitted (spanAt (nodeOf 0 t)) s); stores = s }
 
   pub own-lambda : k ≡ kindLambda → {most m : ℕ} {xs ys : List ℕ}
       → StoresFew most (withParams d names (d .«enable_lambda») lambdaNotPermitted (nodeOf i t) (children i t)) xs m ys
@@ -165,17 +214,17 @@ module _ (d : Dialect) (names : List ℕ) (i : ℕ) (t : List ℕ) {k : ℕ} (k-
       record { few = omega arith; stores = stores-none xs }
 
 -- and then all below it, if there is any
-module _ (d : Dialect) (names : List ℕ) (i : ℕ) (t : List ℕ) {e : ℕ} (e-is : e ≡ spanOf t) {most m : ℕ}
-    {xs ys : List ℕ} (own : StoresFew most (exprErrors d names (nodeOf i t) (children i t)) xs m ys) where
+module _ (d : Dialect) (names : List ℕ) (i : ℕ) (t : List ℕ) {e : ℕ} (e-is : e ≡ spanOf t) {m : ℕ}
+    {xs ys : List ℕ} (own : Stores (exprErrors d names (nodeOf i t) (children i t)) xs m ys) where
   pub expr-leaf : e ≤ 24 → Stores (expr d names (treeOf i t)) xs m ys
   unfolding expr
   expr-leaf h =
       let no : length (kidsOf t) < 24 = omega (arith, length-kids t) in
       let nothing : «visit_expr» d names (children i t) ≡ [] = rw (forest-none (i + 1) (kidsOf t) no) refl in
-      rw (nothing, append-nil) (own .stores)
+      rw (nothing, append-nil) own
 
-  pub expr-on : {few n at : ℕ} {zs : List ℕ} → at ≡ min (width * m) (length ys)
-      → StoresFew few («visit_expr» d names (forest (i + 1) (made e t))) (take (length ys - at) (drop at ys)) n zs
-      → Stores (expr d names (treeOf i t)) xs (m + n) (putMid at (length ys - at) ys zs)
+  pub expr-on : {n at : ℕ} {zs : List ℕ} → at ≡ freeAt m ys
+      → Stores («visit_expr» d names (forest (i + 1) (made e t))) (after at ys) n zs
+      → Stores (expr d names (treeOf i t)) xs (m + n) (back at ys zs)
   unfolding expr
-  expr-on at-is z = stores-both _ _ (own .stores) at-is (rw (kids-part e t e-is) at (z .stores))
+  expr-on at-is z = stores-both _ _ own at-is (rw (kids-part e t e-is) at z)

@@ -102,5 +102,5 @@ unfoldable mutual
   «visit_expr» d names (t then ts) = expr d names t ++ «visit_expr» d names ts
 
 -- a module: its statement at top level, then all expressions
-unfoldable pub «validate_module» : Dialect → List ℕ → Forest → List Err
+abbrev pub «validate_module» : Dialect → List ℕ → Forest → List Err
 «validate_module» d names ts = «visit_stmt» d names atTop ts ++ «visit_expr» d names ts

@@ -1,5 +1,7 @@
--- The parameters of a def or lambda in the module pass: validate_params of src/syntax/validate.rs. These are definitions.
--- Copyright 2018 The Starlark in Rust Authors. Copyright (c) Facebook, Inc. and its affiliates. Licensed under Apache-2.0; changed.
+-- The parameters of a def or lambda in the module pass: validate_params of src/syntax/validate.rs. These are
+-- definitions.
+-- Copyright 2018 The Starlark in Rust Authors. Copyright (c) Facebook, Inc. and its affiliates.
+-- Licensed under Apache-2.0; changed.
 use mathlib.Core.Bool.{Bool, true, false, not}
 use mathlib.Core.List.{List, [], _∷_, _++_}
 use Prim.Native.Nat.{ℕ}
@@ -8,12 +10,14 @@ use Rattle.dialect.specs.declared.Dialect.{Dialect}
 use Rattle.forest.specs.Forest.{Node, Forest}
 use Rattle.table.specs.Numbers.{starNotPermitted, slashNotPermitted}
 use Rattle.deflist.specs.Written.{Param, nodeIn, kindIn, paramsIn}
-use Rattle.deflist.specs.Unpack.{isSlash, Outcome, accepted, refused, internal, unpack}
-use Rattle.deflist.specs.Told.{internalError}
+use Rattle.deflist.specs.Unpack.{isSlash, unpack}
+use Rattle.deflist.specs.Told.{told}
+use Rattle.deflist.specs.declared.Judged.{Judged}
+use Rattle.deflist.specs.declared.Judged.the-variants.{Accepted, Refused}
 use Rattle.deflist.specs.declared.Kind.{Kind}
 use Rattle.deflist.specs.declared.Kind.the-variants.{Normal, NoArgs, Slash, Args, KwArgs}
 use Rattle.errors.specs.declared.Err.{Err}
-use Rattle.errors.specs.Errors.{errAt, unless}
+use Rattle.errors.specs.Errors.{err, unless}
 use Rattle.validate.specs.declared.Mark.{Mark}
 use Rattle.validate.specs.declared.Mark.the-variants.{Star, Slash as SlashMark}
 
@@ -49,15 +53,14 @@ everyMark m (p ∷ ps) = markError m (nodeIn p) (kindIn p) ++ everyMark m ps
 abbrev pub marks : Dialect → Mark → List Param → List Err
 marks d m ps = if' (permits d m) (λ _. []) (λ _. everyMark m ps)
 
--- unpack's one error; that none is internal is a theorem
-abbrev pub unpackError : Outcome → List Err
-unpackError (accepted c) = []
-unpackError (refused n r) = errAt n r ∷ []
-unpackError (internal e r) = errAt internalError r ∷ []
+-- unpack's one error, if it has one
+abbrev pub unpackError : Judged → List Err
+unpackError (Accepted c) = []
+unpackError (Refused f) = err (f .number) (f .span) ∷ []
 
 -- every 50, then every 51, then unpack's one error
 unfoldable pub «validate_params» : Dialect → List Param → List Err
-«validate_params» d ps = (marks d Star ps ++ marks d SlashMark ps) ++ unpackError (unpack ps)
+«validate_params» d ps = (marks d Star ps ++ marks d SlashMark ps) ++ unpackError (told (unpack ps))
 
 -- what may not be in this dialect, then its parameters, which stand first among its children
 unfoldable pub withParams : Dialect → List ℕ → Bool → ℕ → Node → Forest → List Err

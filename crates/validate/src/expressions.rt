@@ -9,9 +9,10 @@ use dialect::Dialect;
 use forest::RECORD;
 use soundness::kinds;
 use table::numbers;
+ghost use mathlib.Core.Path.{_≡_};
 ghost use Prim.Native.Nat.{_+_, _*_, _/_, _≤_};
 ghost use lib.ListN.{length};
-ghost use Rattle.forest.specs.Forest.{nodeOf, kidsOf, treeOf, forest};
+ghost use Rattle.forest.specs.Forest.{nodeOf, spanOf, kidsOf, treeOf, forest};
 ghost use Rattle.errors.specs.Errors.{Stores};
 ghost use Rattle.validate.specs.Inner.{StoresFew};
 ghost use Rattle.validate.specs.Module.{exprErrors, expr, «visit_expr»};
@@ -19,7 +20,9 @@ ghost use Rattle.validate.specs.Module.{exprErrors, expr, «visit_expr»
 // What the record that a stretch begins with is told by itself: `...`, or a lambda and its parameters.
 fn expr_errors(d: Dialect, names: &[u8], t: &[u8], at: usize, errors: &mut [u32]) -> usize
     requires { ⌜ 24 * at + length (now t) ≤ 50400 ⌝ }
-    ensures { λ r. ⌜ StoresFew (2 + length (now (t .entry)) / 24) (exprErrors d (now (names .entry)) (nodeOf at (now (t .entry))) (forest (at + 1) (kidsOf (now (t .entry))))) (now (errors .entry)) r (now (errors .exit)) ⌝ }
+    ensures { λ r. ⌜ StoresFew (2 + length (now (t .entry)) / 24)
+        (exprErrors d (now (names .entry)) (nodeOf at (now (t .entry))) (forest (at + 1) (kidsOf (now (t .entry)))))
+        (now (errors .entry)) r (now (errors .exit)) ⌝ }
 {
     match forest::kind(t) {
         kinds::ELLIPSIS => {
@@ -35,13 +38,21 @@ fn expr_errors(d: Dialect, names: &[u8], t: &[u8], at: usize, errors: &mut [u32]
     }
 }
 
-// The record that a stretch begins with, and then all below it: the inner expr.
-fn check_expression(d: Dialect, names: &[u8], t: &[u8], at: usize, errors: &mut [u32]) -> usize
+// The record that a stretch begins with, and then all below it: the inner expr. Its tree takes e bytes.
+fn check_expression(
+    d: Dialect,
+    names: &[u8],
+    t: &[u8],
+    e: usize,
+    at: usize,
+    errors: &mut [u32],
+) -> usize
     requires { ⌜ (24 ≤ length (now t)) × (24 * at + length (now t) ≤ 50400) ⌝ }
-    ensures { λ r. ⌜ Stores (expr d (now (names .entry)) (treeOf at (now (t .entry)))) (now (errors .entry)) r (now (errors .exit)) ⌝ }
+    requires { ⌜ e ≡ spanOf (now t) ⌝ }
+    ensures { λ r. ⌜ Stores (expr d (now (names .entry)) (treeOf at (now (t .entry)))) (now (errors .entry)) r
+        (now (errors .exit)) ⌝ }
 {
     let own = expr_errors(d, names, t, at, errors);
-    let e = forest::span(t);
     if e <= RECORD {
         return own;
     }
@@ -53,15 +64,16 @@ fn check_expression(d: Dialect, names: &[u8], t: &[u8], at: usize, errors: &mut 
 // The expressions of the nodes side by side in a stretch whose first record has the index at, in turn.
 pub(crate) fn visit_expr(d: Dialect, names: &[u8], t: &[u8], at: usize, errors: &mut [u32]) -> usize
     requires { ⌜ 24 * at + length (now t) ≤ 50400 ⌝ }
-    ensures { λ r. ⌜ StoresFew 4200 («visit_expr» d (now (names .entry)) (forest at (now (t .entry)))) (now (errors .entry)) r (now (errors .exit)) ⌝ }
+    ensures { λ r. ⌜ StoresFew 4200 («visit_expr» d (now (names .entry)) (forest at (now (t .entry))))
+        (now (errors .entry)) r (now (errors .exit)) ⌝ }
 {
     let mut left = t;
     let mut place = at;
     let mut total = 0;
     while RECORD <= left.len() {
         let free = errors::free(errors.len(), total);
-        total += check_expression(d, names, left, place, &mut errors[free..]);
         let e = forest::span(left);
+        total += check_expression(d, names, left, e, place, &mut errors[free..]);
         left = &left[e..];
         place += e / RECORD;
     }

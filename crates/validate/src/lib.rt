@@ -1,7 +1,10 @@
-// The module pass: which errors a module has in a dialect, stored in a lent list of words as far as they fit, and counted in any case.
+// The module pass: which errors a module has in a dialect, stored in a lent list of words as far as they fit, and
+// counted in any case.
 //
-// Ported from src/syntax/validate.rs of starlark_syntax 0.14.2 (validate_module), and changed: a module is a node table, and errors go into a lent list.
-// Copyright 2018 The Starlark in Rust Authors. Copyright (c) Facebook, Inc. and its affiliates. Licensed under Apache-2.0.
+// Ported from src/syntax/validate.rs of starlark_syntax 0.14.2 (validate_module), and changed: a module is a node
+// table, and errors go into a lent list.
+// Copyright 2018 The Starlark in Rust Authors. Copyright (c) Facebook, Inc. and its affiliates.
+// Licensed under Apache-2.0.
 mod expressions;
 mod params;
 mod statements;
@@ -48,7 +51,8 @@ pub(crate) enum Mark {
 // The module job. A list that is too short for all errors holds the first that fit whole, and is no refusal.
 pub fn module(table: &[u8], names: &[u8], dialect: &[u8], errors: &mut [u32]) -> Listed
     ensures { λ r. ⌜ listed r ≡ moduleOf (now (table .entry)) (now (names .entry)) (now (dialect .entry)) ⌝ }
-    ensures { λ r. ⌜ now (errors .exit) ≡ errorsAfter (now (table .entry)) (now (names .entry)) (now (dialect .entry)) (now (errors .entry)) ⌝ }
+    ensures { λ r. ⌜ now (errors .exit) ≡
+        errorsAfter (now (table .entry)) (now (names .entry)) (now (dialect .entry)) (now (errors .entry)) ⌝ }
 {
     let entered = table::enter_dialect(table, names, dialect);
     match entered {
@@ -57,11 +61,12 @@ pub fn module(table: &[u8], names: &[u8], dialect: &[u8], errors: &mut [u32]) ->
     }
 }
 
-// The module pass alone, for who has checked 1 to 5 before: how many errors there are. It takes any bytes, and looks at no more of them
-// than a table has at most.
+// The module pass alone, for who has checked 1 to 5 before: how many errors there are. It takes any bytes, and looks at
+// no more of them than a table has at most.
 pub fn pass(table: &[u8], names: &[u8], d: Dialect, errors: &mut [u32]) -> u32
     ensures { λ r. ⌜ r ≡ length (passErrors d (now (names .entry)) (now (table .entry))) ⌝ }
-    ensures { λ r. ⌜ now (errors .exit) ≡ stored (passErrors d (now (names .entry)) (now (table .entry))) (now (errors .entry)) ⌝ }
+    ensures { λ r. ⌜ now (errors .exit) ≡
+        stored (passErrors d (now (names .entry)) (now (table .entry))) (now (errors .entry)) ⌝ }
 {
     let total = validate_module(d, names, within(table), errors);
     total as u32
@@ -80,7 +85,8 @@ fn within(t: &[u8]) -> &[u8]
 // The statements, then the expressions, which are lent what the statements leave free.
 fn validate_module(d: Dialect, names: &[u8], table: &[u8], errors: &mut [u32]) -> usize
     requires { ⌜ length (now table) ≤ 50400 ⌝ }
-    ensures { λ r. ⌜ Stores («validate_module» d (now (names .entry)) (forest 0 (now (table .entry)))) (now (errors .entry)) r (now (errors .exit)) ⌝ }
+    ensures { λ r. ⌜ Stores («validate_module» d (now (names .entry)) (forest 0 (now (table .entry))))
+        (now (errors .entry)) r (now (errors .exit)) ⌝ }
 {
     let top = Standing {
         top_level: true,

@@ -19,10 +19,10 @@ ghost use lib.ListN.{length};
 ghost use Rattle.forest.specs.Forest.{nodeOf, kidsOf, forest};
 ghost use Rattle.deflist.specs.Written.{paramsIn, written};
 ghost use Rattle.deflist.specs.Unpack.{unpack};
-ghost use Rattle.deflist.specs.Reading.{kindHere};
+ghost use Rattle.deflist.specs.Told.{told};
 ghost use Rattle.errors.specs.Errors.{err};
 ghost use Rattle.validate.specs.Inner.{StoresFew};
-ghost use Rattle.validate.specs.Params.{isNoArgs, isMark, permits, notPermitted, markError, everyMark, marks};
+ghost use Rattle.validate.specs.Params.{isNoArgs, isMark, permits, notPermitted, marks};
 ghost use Rattle.validate.specs.Params.{unpackError, «validate_params», withParams};
 
 // What may not be in this dialect, then the parameters of the node that a stretch begins with.
@@ -35,7 +35,9 @@ pub(crate) fn with_params(
     at: u32,
     errors: &mut [u32],
 ) -> usize
-    ensures { λ r. ⌜ StoresFew (2 + length (now (t .entry)) / 24) (withParams d (now (names .entry)) permitted number (nodeOf at (now (t .entry))) (forest (at + 1) (kidsOf (now (t .entry))))) (now (errors .entry)) r (now (errors .exit)) ⌝ }
+    ensures { λ r. ⌜ StoresFew (2 + length (now (t .entry)) / 24)
+        (withParams d (now (names .entry)) permitted number (nodeOf at (now (t .entry)))
+        (forest (at + 1) (kidsOf (now (t .entry))))) (now (errors .entry)) r (now (errors .exit)) ⌝ }
 {
     let first = errors::push_unless(permitted, number, t, errors);
     let free = errors::free(errors.len(), first);
@@ -45,7 +47,9 @@ pub(crate) fn with_params(
 
 // Every `*` and then every `/` that is not permitted, then unpack's one error.
 fn validate_params(d: Dialect, names: &[u8], t: &[u8], at: u32, errors: &mut [u32]) -> usize
-    ensures { λ r. ⌜ StoresFew (1 + length (now (t .entry)) / 24) («validate_params» d (written (now (names .entry)) at (now (t .entry)))) (now (errors .entry)) r (now (errors .exit)) ⌝ }
+    ensures { λ r. ⌜ StoresFew (1 + length (now (t .entry)) / 24)
+        («validate_params» d (written (now (names .entry)) at (now (t .entry)))) (now (errors .entry)) r
+        (now (errors .exit)) ⌝ }
 {
     let list = deflist::children(t);
     let stars = marks_of(d, Mark::Star, list, errors);
@@ -58,7 +62,8 @@ fn validate_params(d: Dialect, names: &[u8], t: &[u8], at: u32, errors: &mut [u3
 
 // unpack's one error, if it has one.
 fn unpack_error(names: &[u8], t: &[u8], at: u32, errors: &mut [u32]) -> usize
-    ensures { λ r. ⌜ StoresFew 1 (unpackError (unpack (written (now (names .entry)) at (now (t .entry))))) (now (errors .entry)) r (now (errors .exit)) ⌝ }
+    ensures { λ r. ⌜ StoresFew 1 (unpackError (told (unpack (written (now (names .entry)) at (now (t .entry))))))
+        (now (errors .entry)) r (now (errors .exit)) ⌝ }
 {
     let judged = deflist::judge(names, t, at);
     match judged {
@@ -80,35 +85,22 @@ fn error_of(f: Fault) -> Err
 
 // Every mark of a sort in a list, unless the dialect permits it. Names and indices do not matter to it.
 fn marks_of(d: Dialect, mark: Mark, list: &[u8], errors: &mut [u32]) -> usize
-    ensures { λ r. ⌜ StoresFew (length (now (list .entry)) / 24) (marks d mark (paramsIn [] (forest 0 (now (list .entry))))) (now (errors .entry)) r (now (errors .exit)) ⌝ }
+    ensures { λ r. ⌜ StoresFew (length (now (list .entry)) / 24)
+        (marks d mark (paramsIn [] (forest 0 (now (list .entry))))) (now (errors .entry)) r (now (errors .exit)) ⌝ }
 {
     if permitted(d, mark) {
         return 0;
     }
-    every_mark(mark, list, errors)
-}
-
-// Every mark of a sort in a list.
-fn every_mark(mark: Mark, list: &[u8], errors: &mut [u32]) -> usize
-    ensures { λ r. ⌜ StoresFew (length (now (list .entry)) / 24) (everyMark mark (paramsIn [] (forest 0 (now (list .entry))))) (now (errors .entry)) r (now (errors .exit)) ⌝ }
-{
     let mut left = list;
     let mut total = 0;
     while entry::listed(left) {
         let free = errors::free(errors.len(), total);
-        total += mark_error(mark, left, &mut errors[free..]);
+        let other = !is_mark(mark, entry::kind_of(left));
+        total += errors::push_unless(other, number_of(mark), left, &mut errors[free..]);
         let e = forest::span(left);
         left = &left[e..];
     }
     total
-}
-
-// The parameter that a stretch begins with, if it is a mark of a sort.
-fn mark_error(mark: Mark, t: &[u8], errors: &mut [u32]) -> usize
-    ensures { λ r. ⌜ StoresFew 1 (markError mark (nodeOf 0 (now (t .entry))) (kindHere (now (t .entry)))) (now (errors .entry)) r (now (errors .exit)) ⌝ }
-{
-    let other = !is_mark(mark, entry::kind_of(t));
-    errors::push_unless(other, number_of(mark), t, errors)
 }
 
 // Whether a parameter is a mark of a sort.

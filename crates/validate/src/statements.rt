@@ -15,7 +15,7 @@ ghost use mathlib.Core.Path.{_≡_};
 ghost use Prim.Native.Nat.{_+_, _*_, _≤_};
 ghost use lib.Dec.{eqb};
 ghost use lib.ListN.{length};
-ghost use Rattle.forest.specs.Forest.{nodeOf, treeOf, forest};
+ghost use Rattle.forest.specs.Forest.{nodeOf, spanOf, treeOf, forest};
 ghost use Rattle.soundness.specs.Kinds.{statement, classOf};
 ghost use Rattle.errors.specs.Errors.{Stores};
 ghost use Rattle.validate.specs.Inner.{StoresFew};
@@ -75,7 +75,8 @@ fn arm_of(d: Dialect, s: Standing, kind: u8) -> Arm
 
 // A load that is not at the top, and then one that the dialect does not permit.
 fn load_errors(d: Dialect, s: Standing, t: &[u8], errors: &mut [u32]) -> usize
-    ensures { λ r. ⌜ Stores (loadErrors d s (nodeOf 0 (now (t .entry)))) (now (errors .entry)) r (now (errors .exit)) ⌝ }
+    ensures { λ r. ⌜ Stores (loadErrors d s (nodeOf 0 (now (t .entry))))
+        (now (errors .entry)) r (now (errors .exit)) ⌝ }
 {
     let first = errors::push_unless(s.top_level, numbers::LOAD_NOT_AT_TOP, t, errors);
     let free = errors::free(errors.len(), first);
@@ -84,23 +85,25 @@ fn load_errors(d: Dialect, s: Standing, t: &[u8], errors: &mut [u32]) -> usize
     first + rest
 }
 
-// The statement that a stretch begins with, if it begins with one: the inner f.
+// The statement that a stretch begins with, if it begins with one: the inner f. Its tree takes e bytes.
 fn check_statement(
     d: Dialect,
     names: &[u8],
     t: &[u8],
+    e: usize,
     at: usize,
     s: Standing,
     errors: &mut [u32],
 ) -> usize
     requires { ⌜ (24 ≤ length (now t)) × (24 * at + length (now t) ≤ 50400) ⌝ }
-    ensures { λ r. ⌜ Stores (f d (now (names .entry)) s (treeOf at (now (t .entry)))) (now (errors .entry)) r (now (errors .exit)) ⌝ }
+    requires { ⌜ e ≡ spanOf (now t) ⌝ }
+    ensures { λ r. ⌜ Stores (f d (now (names .entry)) s (treeOf at (now (t .entry)))) (now (errors .entry)) r
+        (now (errors .exit)) ⌝ }
 {
     let kind = forest::kind(t);
     if !is_statement(kind) {
         return 0;
     }
-    let e = forest::span(t);
     let arm = arm_of(d, s, kind);
     match arm {
         Arm::Def => {
@@ -138,15 +141,16 @@ pub(crate) fn visit_stmt(
     errors: &mut [u32],
 ) -> usize
     requires { ⌜ 24 * at + length (now t) ≤ 50400 ⌝ }
-    ensures { λ r. ⌜ StoresFew 4200 («visit_stmt» d (now (names .entry)) s (forest at (now (t .entry)))) (now (errors .entry)) r (now (errors .exit)) ⌝ }
+    ensures { λ r. ⌜ StoresFew 4200 («visit_stmt» d (now (names .entry)) s (forest at (now (t .entry))))
+        (now (errors .entry)) r (now (errors .exit)) ⌝ }
 {
     let mut left = t;
     let mut place = at;
     let mut total = 0;
     while RECORD <= left.len() {
         let free = errors::free(errors.len(), total);
-        total += check_statement(d, names, left, place, s, &mut errors[free..]);
         let e = forest::span(left);
+        total += check_statement(d, names, left, e, place, s, &mut errors[free..]);
         left = &left[e..];
         place += e / RECORD;
     }

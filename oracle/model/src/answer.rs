@@ -31,6 +31,8 @@ pub struct Answer {
     pub bytes: Vec<u8>,
     /// The module pass's errors: number, begin, end.
     pub errors: Vec<[u32; 3]>,
+    /// A table file, which goes to the start of the lent buffer byte by byte.
+    pub file: Vec<u8>,
 }
 
 impl From<Refusal> for Answer {
@@ -51,6 +53,7 @@ impl Answer {
 
     /// Writes the bytes that do not stay.
     pub fn write_bytes(&self, lent: &mut [u8]) {
+        lent[..self.file.len()].copy_from_slice(&self.file);
         for (place, byte) in lent.iter_mut().zip(&self.bytes) {
             if *byte != 0 {
                 *place = *byte;

@@ -59,6 +59,26 @@ pub fn write(contents: &Contents) -> Vec<u8> {
     all.zip(0..).flat_map(|(content, number)| block(number, content)).collect()
 }
 
+/// The file that the writer makes of sound contents.
+pub fn written(mut contents: Contents) -> Vec<u8> {
+    if contents.dialect.is_empty() && planted(Fault::RowWrittenForNone) {
+        contents.dialect = dialect::STANDARD.to_vec();
+    }
+    let mut file = write(&contents);
+    if planted(Fault::PadByteWritten) {
+        let last = file.len() - BLOCK;
+        file[last + CHECK_AT - 1] |= 1;
+        seal(&mut file[last..]);
+    }
+    if planted(Fault::FullBlockUsesNone) && file.len() > 2 * BLOCK {
+        for block in file.chunks_mut(BLOCK).filter(|block| block[2..4] == (CONTENT as u16).to_le_bytes()) {
+            block[2..4].fill(0);
+            seal(block);
+        }
+    }
+    file
+}
+
 /// The file's contents, or the first refusal: block by block, then what is left over, then 1 to 5.
 pub fn read(file: &[u8]) -> Result<Contents, Refusal> {
     let mut blocks = Blocks { rest: file, number: 0 };

@@ -6,6 +6,8 @@ use crate::call;
 use crate::call::Argument;
 use crate::call::Called;
 use crate::dialect;
+use crate::file;
+use crate::file::Contents;
 use crate::module;
 use crate::module::entries;
 use crate::numbers::kind;
@@ -137,6 +139,18 @@ pub fn module(table: &[u8], names: &[u8], dialect: &[u8]) -> Answer {
     answered(Table::check(table, names).and_then(|table| {
         let dialect = dialect::from_bytes(dialect)?;
         Ok(listed_answer(&table, &module::module(&table, &dialect)))
+    }))
+}
+
+/// The table file, into a buffer of so many bytes.
+pub fn write(table: &[u8], names: &[u8], dialect: &[u8], room: usize) -> Answer {
+    answered(Table::check(table, names).and_then(|_| {
+        dialect::from_bytes(dialect)?;
+        let contents = Contents { table: table.to_vec(), names: names.to_vec(), dialect: dialect.to_vec() };
+        let file = file::written(contents);
+        let early = if planted(Fault::SevenOneBlockEarly) { file::BLOCK } else { 0 };
+        long_enough(room, file.len() + early)?;
+        Ok(Answer { words: vec![file.len() as u32], file, ..Answer::default() })
     }))
 }
 

@@ -80,6 +80,12 @@ faults! {
     LeftOverAllowed
     DialectBeforeTable
     NoNameStillBlock
+    PadByteWritten
+    FullBlockUsesNone
+    RowWrittenForNone
+    SevenOneBlockEarly
+    RefusedWriteWrites
+    BytePastFileWritten
 }
 
 #[cfg(feature = "faults")]

@@ -302,6 +302,7 @@ fn model_answer(request: &Request) -> Answer {
         Job::Assignment { node } => jobs::assignment(table, names, node),
         Job::Type { dialect, node, shapes } => jobs::type_shape(table, names, dialect, node, shapes),
         Job::Module { dialect, .. } => jobs::module(table, names, dialect),
+        Job::Write { dialect, file } => jobs::write(table, names, dialect, file),
     }
 }
 
@@ -312,7 +313,7 @@ fn judged(request: &Request, model: &Answer) -> Built<Answer> {
     }
     let table = Table::check(request.table, request.names).map_err(|_| NotATree)?;
     match request.job {
-        Job::Table => Err(NotATree),
+        Job::Table | Job::Write { .. } => Err(NotATree),
         Job::Params { node, .. } => run::params(&table, node),
         Job::Call { node } => run::call(&table, node),
         Job::Target { node } => run::target(&table, node),
@@ -325,7 +326,7 @@ fn judged(request: &Request, model: &Answer) -> Built<Answer> {
 fn with_own_spans(request: &Request) -> Built<Vec<[u32; 3]>> {
     let table = Table::check(request.table, request.names).map_err(|_| NotATree)?;
     match request.job {
-        Job::Table => Err(NotATree),
+        Job::Table | Job::Write { .. } => Err(NotATree),
         Job::Params { node, .. } => own_spans::params(&table, node),
         Job::Call { node } => own_spans::call(&table, node),
         Job::Target { node } => own_spans::target(&table, node),

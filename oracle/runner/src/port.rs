@@ -14,17 +14,18 @@ pub enum Job<'a> {
     Assignment { node: usize },
     Type { dialect: &'a [u8], node: usize, shapes: usize },
     Module { dialect: &'a [u8], errors: usize },
+    Write { dialect: &'a [u8], file: usize },
 }
 
 /// How many jobs there are: those of the interface, and the program's.
-pub const JOBS: usize = 8;
+pub const JOBS: usize = 9;
 
 /// The jobs by the names that the command line knows.
 pub const NAMES: [&str; JOBS] =
-    ["table", "params", "call", "target", "assignment", "type", "module", "file"];
+    ["table", "params", "call", "target", "assignment", "type", "module", "write", "file"];
 
 /// The program's job, whose place in `NAMES` is last.
-pub const FILE: usize = 7;
+pub const FILE: usize = 8;
 
 impl Job<'_> {
     /// The job's place in `NAMES`.
@@ -37,13 +38,14 @@ impl Job<'_> {
             Job::Assignment { .. } => 4,
             Job::Type { .. } => 5,
             Job::Module { .. } => 6,
+            Job::Write { .. } => 7,
         }
     }
 
     /// The dialect's bytes, where the job takes them.
     pub fn dialect(&self) -> Option<&[u8]> {
         match self {
-            Job::Type { dialect, .. } | Job::Module { dialect, .. } => Some(dialect),
+            Job::Type { dialect, .. } | Job::Module { dialect, .. } | Job::Write { dialect, .. } => Some(dialect),
             _ => None,
         }
     }
@@ -97,6 +99,17 @@ extern "C" {
         errors_len: usize,
         out: *mut Words,
     ) -> u32;
+    fn starlark_write(
+        t: *const u8,
+        tl: usize,
+        n: *const u8,
+        nl: usize,
+        dialect: *const u8,
+        dialect_len: usize,
+        file: *mut u8,
+        file_len: usize,
+        out: *mut Words,
+    ) -> u32;
 }
 
 const GUARD: usize = 8;
@@ -135,6 +148,7 @@ impl Effect {
             Job::Params { modes, .. } => (modes, 0),
             Job::Type { shapes, .. } => (shapes, 0),
             Job::Module { errors, .. } => (0, errors),
+            Job::Write { file, .. } => (file, 0),
             _ => (0, 0),
         };
         Effect {
@@ -193,6 +207,7 @@ impl Effect {
                 Job::Assignment { node } => starlark_assignment(t, tl, n, nl, node, out),
                 Job::Type { node, .. } => starlark_type(t, tl, n, nl, d, dl, node, bytes, bytes_len, out),
                 Job::Module { .. } => starlark_module(t, tl, n, nl, d, dl, words, words_len, out),
+                Job::Write { .. } => starlark_write(t, tl, n, nl, d, dl, bytes, bytes_len, out),
             }
         };
     }

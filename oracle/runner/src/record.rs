@@ -35,7 +35,7 @@ pub struct Recorder {
 impl Recorder {
     /// Keeps the request if it is small and enough of its like are not kept yet.
     pub fn offer(&mut self, request: &Request, answer: &Answer, by_crate: bool) {
-        let (dialect, node, room) = arguments(&request.job);
+        let Some((dialect, node, room)) = arguments(&request.job) else { return };
         let is_small = request.table.len() <= MOST_TABLE_BYTES
             && request.names.len() <= MOST_NAME_BYTES
             && room <= MOST_ROOM
@@ -70,14 +70,16 @@ impl Recorder {
     }
 }
 
-fn arguments<'a>(job: &Job<'a>) -> (&'a [u8], usize, usize) {
-    match *job {
+/// A job's dialect, node and room. The smallest table file is too large for the sample, so the writer is not in it.
+fn arguments<'a>(job: &Job<'a>) -> Option<(&'a [u8], usize, usize)> {
+    Some(match *job {
         Job::Table => (&[], 0, 0),
         Job::Params { node, modes } => (&[], node, modes),
         Job::Call { node } | Job::Target { node } | Job::Assignment { node } => (&[], node, 0),
         Job::Type { dialect, node, shapes } => (dialect, node, shapes),
         Job::Module { dialect, errors } => (dialect, 0, errors),
-    }
+        Job::Write { .. } => return None,
+    })
 }
 
 fn buffer_after(job: &Job, room: usize, answer: &Answer) -> Vec<u8> {

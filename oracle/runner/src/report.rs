@@ -11,7 +11,7 @@ use crate::port::NAMES;
 
 /// What the whole comparison must run of each job at the least, in the order of `NAMES`: about 99 of 100 of what the quick run has at
 /// any seed.
-const LEAST: [u64; JOBS] = [1_345_000, 2_733_000, 659_000, 2_730_000, 752_000, 3_330_000, 1_282_000, 3_400];
+const LEAST: [u64; JOBS] = [1_345_000, 2_733_000, 659_000, 2_730_000, 752_000, 3_330_000, 1_282_000, 383_000, 3_400];
 
 pub fn print(options: &Options, tallies: &[Tally]) -> ExitCode {
     let run = families::ALL.iter().zip(tallies).filter(|(family, _)| options.asks(family));
@@ -89,6 +89,7 @@ fn numbers_of_jobs() -> [Vec<usize>; JOBS] {
         with(&[6..=6, 30..=33]),
         with(&[5..=7, 40..=45]),
         with(&[5..=5, 10..=18, 50..=61]),
+        with(&[5..=5, 7..=7]),
         with(&[5..=5, 70..=75]).into_iter().filter(|number| !(1..=2).contains(number)).collect(),
     ]
 }

@@ -137,6 +137,30 @@ pub unsafe extern "C" fn starlark_module(
     give(answer, out)
 }
 
+#[no_mangle]
+pub unsafe extern "C" fn starlark_write(
+    table: *const u8,
+    table_len: usize,
+    names: *const u8,
+    names_len: usize,
+    dialect: *const u8,
+    dialect_len: usize,
+    file: *mut u8,
+    file_len: usize,
+    out: Out,
+) -> u32 {
+    let (table, names) = (lent(table, table_len), lent(names, names_len));
+    let answer = jobs::write(table, names, lent(dialect, dialect_len), file_len);
+    let buffer = lent_mut(file, file_len);
+    if planted(Fault::RefusedWriteWrites) && answer.number != 0 && !buffer.is_empty() {
+        buffer[0] = 0;
+    }
+    if planted(Fault::BytePastFileWritten) && answer.number == 0 && answer.file.len() < buffer.len() {
+        buffer[answer.file.len()] = 0;
+    }
+    give_bytes(answer, buffer, out)
+}
+
 /// The number of the error that does not fit whole, in the words that are left.
 fn store_half_error(answer: &Answer, list: &mut [u32]) {
     let whole = list.len() / 3;

@@ -1,8 +1,7 @@
 -- `blocks::sum` meets its contract: the sum over the places so far. Assumes nothing.
 use Prim.Native.Nat.{_-_}
-use native.Mathlib.Omega.{arith}
 use borrow.Author.Needs.{needs}
-use Rattle.blocks.proofs.Sums.{Summed, sum-start, sum-on, sum-end}
+use Rattle.blocks.proofs.Sums.{Summed, sum-start, sum-fits, sum-on, sum-end}
 use Rattle.blocks.proofs.sum.Statement.{statement}
 use Rattle.blocks.proofs.sum.Tie as tie
 
@@ -18,10 +17,11 @@ sum-spec =
     (tie.spec
     Inv-loop
     μ-loop
-    (λ c. sum-start _)  -- loop-holds
+    (λ c. sum-start _ (λ i. c .shared-slice-known .given i .fits))  -- loop-holds
+    (λ c. search needs)
     (λ c. search needs)
     (λ c κs. search needs)
-    (λ c. omega arith)  -- add-sum
+    (λ c. search sum-fits)  -- add-sum
     (λ c. search needs)
     (λ c. search needs)
     (λ c. search sum-on)  -- loop-again

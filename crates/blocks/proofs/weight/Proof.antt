@@ -1,5 +1,4 @@
 -- `blocks::weight` meets its contract: the product is small. Assumes nothing.
-use mathlib.Core.Path.{refl}
 use native.Mathlib.Omega.{arith}
 use borrow.Author.Needs.{needs}
 use Rattle.blocks.proofs.Sums.{weight-small}
@@ -11,6 +10,5 @@ weight-spec =
     tie.close
     (tie.spec
     (λ c. search needs)
-    (λ c. search needs)
-    (λ c. omega (arith, weight-small (c .args .p) (c .args .x) (c .pre) (omega arith)))  -- mul-result
-    (λ c. (refl, weight-small _ _ (c .pre) (omega arith))))  -- returns
+    (λ c. omega (arith, weight-small 65536 (c .args .p) (c .args .x) (omega arith) (omega arith)))  -- mul-result
+    (λ c. search needs))

@@ -14,9 +14,10 @@ module-spec =
     (λ c. search needs)
     (λ c. search needs)
     (λ c.  -- returns
+    let back = c .before .before .before .before in
+    let entered = back .before .entered in
+    let enter-dialect = back .before .before .before .enter-dialect in
     let pass = c .before .before .pass in
-    let entered = c .before .before .before .before .before .entered in
-    let back = c .before .before .before .before .before .before in
-    job-total _ _ _ _ (back .before .enter-dialect .ensures) entered.given.1 pass.ensures.0 pass.ensures.1)
+    job-total _ _ _ _ enter-dialect.ensures entered.given.1 pass.ensures.0 pass.ensures.1)
     (λ c.  -- returns-2
     job-refused _ _ _ _ (c .before .before .before .enter-dialect .ensures) (c .before .entered2 .given .1)))

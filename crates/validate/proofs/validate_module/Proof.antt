@@ -1,5 +1,5 @@
 -- `validate::validate_module` meets its contract: the statements, then the expressions. Assumes nothing.
-use Rattle.validate.proofs.Jobs.{module-all}
+use Rattle.errors.proofs.Storing.{stores-both}
 use borrow.Author.Needs.{needs}
 use Rattle.validate.proofs.validate_module.Statement.{statement}
 use Rattle.validate.proofs.validate_module.Tie as tie
@@ -17,4 +17,4 @@ validate-module-spec =
     (λ c κs. search needs)
     (λ c. search needs)
     (λ c. search needs)
-    (λ c. search module-all))  -- returns
+    (λ c. search stores-both))  -- returns

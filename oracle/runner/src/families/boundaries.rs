@@ -58,6 +58,7 @@ fn all_jobs_at(checker: &mut Checker, table: &[u8], names: &[u8], dialect: &[u8]
         Job::Assignment { node },
         Job::Type { dialect, node, shapes: room },
         Job::Module { dialect, errors: room },
+        Job::Write { dialect, file: 512 * room.min(118) },
     ];
     for job in jobs {
         checker.check(&Request { table, names, job });

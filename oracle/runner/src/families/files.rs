@@ -77,7 +77,7 @@ pub fn files(checker: &mut Checker, plan: &Plan) {
 }
 
 /// A sound table of so many records and names of so many bytes.
-fn contents(records: usize, names: usize, dialect: &[u8]) -> Contents {
+pub fn contents(records: usize, names: usize, dialect: &[u8]) -> Contents {
     let mut cells = Cells::default();
     cells.tree(kind::STATEMENTS, 0, 0, |cells| (1..records).for_each(|_| cells.leaf(kind::BREAK, 0, 0)));
     let mut encoded = Encoded::default();

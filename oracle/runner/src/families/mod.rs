@@ -9,6 +9,7 @@ pub mod modules;
 pub mod names;
 pub mod shapes;
 pub mod tables;
+pub mod written;
 
 use crate::cells::Cells;
 use crate::cells::Encoded;
@@ -72,7 +73,8 @@ const TARGET: u32 = 1 << 3;
 const ASSIGNMENT: u32 = 1 << 4;
 const TYPE: u32 = 1 << 5;
 const MODULE: u32 = 1 << 6;
-const FILE: u32 = 1 << 7;
+const WRITE: u32 = 1 << 7;
+const FILE: u32 = 1 << 8;
 const ARCHIVE: u32 = FILE - 1;
 
 pub const ALL: &[Family] = &[
@@ -99,6 +101,7 @@ pub const ALL: &[Family] = &[
     family("tables, damaged", 2, ARCHIVE, tables::damaged),
     family("tables, depth", 2, ARCHIVE, tables::depth),
     family("dialect rows and bytes", 1, MODULE | TYPE, dialects::rows_and_bytes),
+    family("files, written", 2, WRITE, written::written),
     family("files, through the program", 1, FILE, files::files),
 ];
 

@@ -157,6 +157,7 @@ pub fn every_job(checker: &mut Checker, rng: &mut Rng, table: &[u8], names: &[u8
         Job::Assignment { node: assignment },
         Job::Type { dialect, node: ty, shapes: rng.pick(&[0, 1, 2, 4, 8, 30, 100]) },
         Job::Module { dialect, errors: rng.pick(&[0, 1, 3, 5, 6, 20, 100]) },
+        Job::Write { dialect, file: rng.pick(&[0, 1_023, 1_024, 1_535, 1_536, 2_048, 4_096]) },
     ];
     for job in jobs {
         checker.check(&Request { table, names, job });

@@ -1,4 +1,5 @@
--- `validate::params::validate_params` meets its contract: the three checks, each lent what is still free. Assumes nothing.
+-- `validate::params::validate_params` meets its contract: the three checks, each lent what is still free. Assumes
+-- nothing.
 use Rattle.validate.proofs.Lists.{params-all}
 use borrow.Author.Needs.{needs}
 use Rattle.validate.proofs.params.validate_params.Statement.{statement}

@@ -1,7 +1,7 @@
 -- `validate::statements::arm_of` meets its contract: each arm of the match is the arm of its kind. Assumes nothing.
 use mathlib.Core.Path.{refl}
 use Rattle.validate.specs.Module.{armOf}
-use Rattle.validate.proofs.Arms.{arm-other}
+use Rattle.validate.proofs.Walks.{arm-other}
 use borrow.Author.Needs.{needs}
 use Rattle.validate.proofs.statements.arm_of.Statement.{statement}
 use Rattle.validate.proofs.statements.arm_of.Tie as tie

@@ -1,5 +1,5 @@
 -- `validate::statements::is_statement` meets its contract: statements are the kinds 1 to 12. Assumes nothing.
-use Rattle.validate.proofs.Arms.{statement-range}
+use Rattle.validate.proofs.Walks.{statement-range}
 use borrow.Author.Needs.{needs}
 use Rattle.validate.proofs.statements.is_statement.Statement.{statement}
 use Rattle.validate.proofs.statements.is_statement.Tie as tie

@@ -1,0 +1,264 @@
+-- Laws of what is laid one after another: a block from its parts, block 0, a run from its blocks, a file from its runs.
+-- Assumes nothing.
+use mathlib.Core.Path.{_≡_, refl, sym, ap, _∙_}
+use mathlib.Core.Logic.{⊎-elim}
+use mathlib.Core.List.{List, [], _++_, append-assoc}
+use Prim.Native.Nat.{ℕ, zero, suc, _+_, _*_, _-_, _/_, _<_, _≤_, min}
+use native.Mathlib.Nat.{add-zero}
+use native.Mathlib.Omega.{arith}
+use lib.ListN.{length, getD, take, drop, replicate, length-append, length-take, length-drop, length-replicate}
+use lib.ListN.{getD-replicate, List·getD-append, replicate-append-replicate, drop-of-length-le}
+use lib.Seq.{take-length, drop-length, take-at, drop-at, drop-append-le, getD-append-add}
+use borrow.Rule.Slice.PartMut.{putMid}
+use Rattle.fields.proofs.Basics.{le-or-lt}
+use Rattle.fields.proofs.Fields.{tail-part}
+use Rattle.fields.specs.Field.{bytesOf}
+use Rattle.fields.proofs.Spelling.{length-bytes}
+use Rattle.blocks.specs.Block.{weighed, sumOf, beforeSum, blockOf}
+use Rattle.blocks.specs.Run.{blocksFor, blocksOf, runOf}
+use Rattle.blocks.proofs.Sums.{weighed-front}
+use Rattle.blocks.proofs.Blocks.{length-front, length-block, take-min}
+use Rattle.blocks.proofs.Runs.{blocks-more, length-run}
+use Rattle.tablefile.specs.File.{headerOf, fileOf}
+use Rattle.tablefile.proofs.Copies.{drop-zeros}
+use Rattle.writer.specs.Writing.{holding, bytesFor, over}
+use Rattle.writer.proofs.Over.{over-none, over-front, length-over, over-next, over-part}
+
+-- four bytes, and what is laid behind them
+four-then : (d a b : List ℕ) {o₁ o₂ : List ℕ} → length a ≡ 4 → o₁ ≡ over 0 a d → o₂ ≡ over 4 b o₁
+    → o₂ ≡ (a ++ b) ++ drop (4 + length b) d
+four-then d a b four o₁-is o₂-is =
+    let at : 4 ≡ 0 + length a = omega arith in
+    let long : length (a ++ b) ≡ 4 + length b = simp length-append (omega arith) in
+    o₂-is ∙ ap (over 4 b) o₁-is ∙ ap (λ (n : ℕ). over n b (over 0 a d)) at ∙ over-next 0 a d (omega arith) b
+    ∙ over-front (a ++ b) d ∙ ap (λ (n : ℕ). (a ++ b) ++ drop n d) long
+
+-- two numbers are four bytes
+pair-four : (a b : ℕ) {head : List ℕ} → head ≡ bytesOf 2 a ++ bytesOf 2 b → length head ≡ 4
+pair-four a b head-is = rw head-is (simp (length-append, length-bytes) refl)
+
+pub begun-four : (a b : ℕ) {head : List ℕ} → head ≡ bytesOf 2 a ++ bytesOf 2 b → (out : List ℕ) {sum : ℕ}
+    → sum ≡ weighed (0 + length head) out → sum ≡ weighed 4 out
+begun-four a b {head} head-is out is = let e : 0 + length head ≡ 4 = omega (arith, pair-four a b head-is) in rw e at is
+
+-- zeros weigh nothing
+weighed-zeros : (a rest : List ℕ) (k n : ℕ) → k ≤ n
+    → weighed (length a + k) (a ++ (replicate n 0 ++ rest)) ≡ weighed (length a) (a ++ (replicate n 0 ++ rest))
+unfolding weighed
+weighed-zeros a rest zero n h = rw (add-zero (length a)) refl
+weighed-zeros a rest (suc k) n h =
+    let l : List ℕ = a ++ (replicate n 0 ++ rest) in
+    let e : length a + suc k ≡ suc (length a + k) = omega arith in
+    let none : getD l (length a + k) 0 ≡ 0 = getD-append-add a (replicate n 0 ++ rest) k 0
+    ∙ List·getD-append (replicate n 0) rest 0 k (omega (arith, length-replicate {A = ℕ} n 0))
+    ∙ getD-replicate n k 0 0 (omega arith) in
+    let less : weighed (length a + k) l ≡ weighed (length a) l = weighed-zeros a rest k n (omega arith) in
+    rw (e, none) (omega (arith, less))
+
+-- a block, from 512 zero bytes: its head, its content, and the sum of both
+module _ (number : ℕ) (content d : List ℕ) {head o₁ o₂ o₃ : List ℕ} (fits : length content ≤ 504)
+    (head-is : head ≡ bytesOf 2 number ++ bytesOf 2 (length content)) (o₁-is : o₁ ≡ over 0 (replicate 512 0) d)
+    (o₂-is : o₂ ≡ over 0 head o₁) (o₃-is : o₃ ≡ over 4 content o₂) where
+  abbrev pad : List ℕ
+  pad = replicate (504 - length content) 0
+
+  abbrev rest : List ℕ
+  rest = replicate 4 0 ++ drop 512 d
+
+  head-four : length head ≡ 4
+  head-four = pair-four number (length content) head-is
+
+  before-is : beforeSum number content ≡ (head ++ content) ++ pad
+  unfolding beforeSum
+  before-is = rw head-is
+      (sym (append-assoc ((bytesOf 2 number ++ bytesOf 2 (length content))) content pad
+      ∙ append-assoc (bytesOf 2 number) (bytesOf 2 (length content)) (content ++ pad)))
+
+  zeros-left : drop (4 + length content) o₁ ≡ pad ++ rest
+  zeros-left =
+      let k : ℕ = 504 - length content in
+      let n : 512 - (4 + length content) ≡ k + 4 = omega arith in
+      let all : length (replicate {A = ℕ} 512 0) ≡ 512 = length-replicate {A = ℕ} 512 0 in
+      ap (drop (4 + length content)) (o₁-is ∙ over-front (replicate 512 0) d)
+      ∙ drop-append-le (4 + length content) (replicate 512 0) (drop (length (replicate {A = ℕ} 512 0)) d) (omega arith)
+      ∙ rw (all, drop-zeros 512 (4 + length content), n, ← replicate-append-replicate {A = ℕ} k 4 0)
+      (append-assoc pad (replicate 4 0) (drop 512 d))
+
+  laid : o₃ ≡ (head ++ content) ++ (pad ++ rest)
+  laid = four-then o₁ head content head-four o₂-is o₃-is ∙ ap (λ (x : List ℕ). (head ++ content) ++ x) zeros-left
+
+  front : o₃ ≡ beforeSum number content ++ rest
+  front = laid ∙ rw before-is (sym (append-assoc (head ++ content) pad rest))
+
+  sum-is : weighed (4 + length content) o₃ ≡ sumOf (beforeSum number content)
+  unfolding sumOf
+  sum-is =
+      let long : length (head ++ content) ≡ 4 + length content = simp length-append (omega (arith, head-four)) in
+      let all : length (head ++ content) + (504 - length content) ≡ 508 = omega arith in
+      ap (weighed (4 + length content)) laid ∙ ap (λ (n : ℕ). weighed n ((head ++ content) ++ (pad ++ rest))) (sym long)
+      ∙ sym (weighed-zeros (head ++ content) rest (504 - length content) (504 - length content) (omega arith))
+      ∙ rw all (ap (weighed 508) (sym laid ∙ front)
+      ∙ weighed-front 508 (beforeSum number content) rest (omega (arith, length-front number content fits)))
+
+  -- LAW: that is the block of the number and the content
+  pub block-whole : {sum : ℕ} → sum ≡ weighed (4 + length content) o₃ → {check o₄ : List ℕ} → check ≡ bytesOf 4 sum
+      → o₄ ≡ over 508 check o₃ → o₄ ≡ over 0 (blockOf number content) d
+  unfolding blockOf over
+  block-whole {sum} is {check} check-is o₄-is =
+      let f : List ℕ = beforeSum number content in
+      let long : length f ≡ 508 = length-front number content fits in
+      let check-so : check ≡ bytesOf 4 (sumOf f) = check-is ∙ ap (bytesOf 4) (is ∙ sum-is) in
+      let four : length (bytesOf 4 (sumOf f)) ≡ 4 = length-bytes 4 (sumOf f) in
+      let all : length (f ++ replicate 4 0) ≡ 512 = simp (length-append, length-replicate {A = ℕ}) (omega arith) in
+      let behind : drop 512 (f ++ rest) ≡ drop 512 d = ap (drop 512) (sym (append-assoc f (replicate 4 0) (drop 512 d)))
+      ∙ drop-at (f ++ replicate 4 0) (drop 512 d) 512 all in
+      let whole : length (f ++ bytesOf 4 (sumOf f)) ≡ 512 = simp (length-append) (omega arith) in
+      o₄-is
+      ∙ rw (check-so, four, front, take-at f rest 508 long, behind, whole)
+      (sym (append-assoc f (bytesOf 4 (sumOf f)) (drop 512 d)))
+
+-- block 0: the counts, then the dialect
+pub header-whole : (t names ds d : List ℕ) {counts o₁ o₂ out : List ℕ}
+    → counts ≡ bytesOf 2 (length t / 24) ++ bytesOf 2 (length names) → o₁ ≡ over 0 counts (replicate 13 0)
+    → o₂ ≡ over 4 ds o₁ → out ≡ over 0 (blockOf 0 (take (4 + length ds - 0) (drop 0 o₂))) d
+    → out ≡ over 0 (blockOf 0 (headerOf (holding t names ds))) d
+unfolding headerOf
+header-whole t names ds d {counts} {o₂ = o₂} counts-is o₁-is o₂-is out-is =
+    let n : ℕ = 4 + length ds in
+    let four : length counts ≡ 4 = pair-four (length t / 24) (length names) counts-is in
+    let all : n - 0 ≡ n = omega arith in
+    let long : length (counts ++ ds) ≡ n = simp length-append (omega arith) in
+    let header : take (n - 0) (drop 0 o₂) ≡ headerOf (holding t names ds) =
+    ap (λ (k : ℕ). take k o₂) all ∙ ap (take n) (four-then (replicate 13 0) counts ds four o₁-is o₂-is)
+    ∙ take-at (counts ++ ds) (drop n (replicate 13 0)) n long ∙ ap (λ (x : List ℕ). x ++ ds) counts-is
+    ∙ append-assoc (bytesOf 2 (length t / 24)) (bytesOf 2 (length names)) ds in
+    rw header at out-is
+
+-- a run: its first block, and the others
+run-first : (number : ℕ) (left : List ℕ) → 0 < length left
+    → runOf number left ≡ blockOf number (take 504 left) ++ runOf (number + 1) (drop 504 left)
+unfolding runOf blocksOf
+run-first number left h = rw (blocks-more (length left) h, length-drop 504 left) refl
+
+run-none : (number : ℕ) (left : List ℕ) → length left ≡ 0 → runOf number left ≡ []
+unfolding runOf blocksOf blocksFor
+run-none number left h = rw h refl
+
+drop-used : (left : List ℕ) → drop (min 504 (length left)) left ≡ drop 504 left
+drop-used left = ⊎-elim
+    (λ (h : 504 ≤ length left). let e : min 504 (length left) ≡ 504 = omega arith in rw e refl)
+    (λ (h : length left < 504).
+    let e : min 504 (length left) ≡ length left = omega arith in
+    rw (e, drop-of-length-le left {i = 504} (omega arith)) (drop-length left))
+    (le-or-lt 504 (length left))
+
+pub used-fits : (left : List ℕ) {used : ℕ} → used ≡ min 504 (length left) → length (take (used - 0) left) ≤ 504
+used-fits left used-is = simp length-take (omega arith)
+
+-- the loop over blocks: what is left, laid over the file as it is, makes the whole
+pub record Writing (d content : List ℕ) (first : ℕ) (file left : List ℕ) (number : ℕ) : Type 0 where
+  pub room : 512 * (number + blocksFor (length left)) ≤ length file
+  pub long : length file ≡ length d
+  pub same : over (512 * number) (runOf number left) file ≡ over (512 * first) (runOf first content) d
+
+pub run-start : (d content : List ℕ) (first : ℕ) → 512 * (first + blocksFor (length content)) ≤ length d
+    → Writing d content first d content first
+run-start d content first h = record { room = h; long = refl; same = refl }
+
+module _ {d content : List ℕ} {first : ℕ} {file left : List ℕ} {number : ℕ}
+    (s : Writing d content first file left number) where
+  pub run-end : length left ≤ 0 → file ≡ over (512 * first) (runOf first content) d
+  run-end h = sym (over-none (512 * number) file)
+      ∙ ap (λ (x : List ℕ). over (512 * number) x file) (sym (run-none number left (omega arith))) ∙ s .same
+
+  module _ (more : 0 < length left) where
+    run-room : 512 * number + 512 ≤ length file
+    run-room = omega (arith, s .room, blocks-more (length left) more)
+
+    pub run-block : 512 ≤ length (take (length file - 512 * number) (drop (512 * number) file))
+    run-block = rw (tail-part (512 * number) file) (simp length-drop (omega (arith, run-room)))
+
+    pub run-on : {used : ℕ} → used ≡ min 504 (length left) → {ys : List ℕ}
+        → ys ≡ over 0 (blockOf number (take (used - 0) (drop 0 left)))
+        (take (length file - 512 * number) (drop (512 * number) file))
+        → Writing d content first (putMid (512 * number) (length file - 512 * number) file ys)
+        (take (length left - used) (drop used left)) (number + 1)
+    run-on {used} used-is {ys} ys-is =
+        let b : List ℕ = blockOf number (take 504 left) in
+        let r : List ℕ = runOf (number + 1) (drop 504 left) in
+        let all : used - 0 ≡ min 504 (length left) = omega arith in
+        let part : take (used - 0) (drop 0 left) ≡ take 504 left = ap (λ (n : ℕ). take n left) all
+        ∙ sym (take-min 504 (length left) left) ∙ ap (take 504) (take-length left) in
+        let after : take (length left - used) (drop used left) ≡ drop 504 left = tail-part used left
+        ∙ ap (λ (n : ℕ). drop n left) used-is ∙ drop-used left in
+        let ys-so : ys ≡ over 0 b (take (length file - 512 * number) (drop (512 * number) file)) = rw part at ys-is in
+        let new : putMid (512 * number) (length file - 512 * number) file ys ≡ over (512 * number) b file =
+        over-part (512 * number) b file (omega (arith, run-room)) ys-so in
+        let block : length b ≡ 512 = length-block number (take 504 left) (simp length-take (omega arith)) in
+        let long : length (over (512 * number) b file) ≡ length file =
+        length-over (512 * number) b file (omega (arith, run-room)) in
+        let next : 512 * (number + 1) ≡ 512 * number + length b = omega arith in
+        let others : blocksFor (length (drop 504 left)) ≡ blocksFor (length left - 504) =
+        ap blocksFor (length-drop 504 left) in
+        rw (new, after) record {
+          room = omega (arith, s .room, blocks-more (length left) more);
+          long = long ∙ s .long;
+          same = ap (λ (n : ℕ). over n r (over (512 * number) b file)) next
+              ∙ over-next (512 * number) b file (omega (arith, run-room)) r
+              ∙ ap (λ (x : List ℕ). over (512 * number) x file) (sym (run-first number left more)) ∙ s .same;
+        }
+
+-- a file: block 0, the names' run, the nodes' run
+header-long : (t names ds : List ℕ) → length ds ≤ 9 → length (blockOf 0 (headerOf (holding t names ds))) ≡ 512
+unfolding headerOf
+header-long t names ds h =
+    length-block 0 (headerOf (holding t names ds)) (simp (length-append, length-bytes) (omega arith))
+
+pub length-file : (t names ds : List ℕ) → length ds ≤ 9
+    → length (fileOf (holding t names ds)) ≡ bytesFor (length t) (length names)
+unfolding fileOf
+length-file t names ds h =
+    let first : ℕ = 1 + blocksFor (length names) in
+    simp (length-append, header-long t names ds h, length-run 1 names, length-run first t) (omega arith)
+
+module _ (t names ds d : List ℕ) (pre : (length ds ≤ 9) × (bytesFor (length t) (length names) ≤ length d)) where
+  abbrev header : List ℕ
+  header = blockOf 0 (headerOf (holding t names ds))
+
+  abbrev begun : List ℕ
+  begun = header ++ runOf 1 names
+
+  abbrev first : ℕ
+  first = 1 + blocksFor (length names)
+
+  room : 512 * (first + blocksFor (length t)) ≤ length d
+  room = pre .1
+
+  header-is : length header ≡ 512
+  header-is = header-long t names ds (pre .0)
+
+  begun-long : length begun ≡ 512 * first
+  begun-long = simp length-append (omega (arith, header-is, length-run 1 names))
+
+  module _ {f₁ : List ℕ} (f₁-is : f₁ ≡ over 0 header d) where
+    pub names-room : 512 * first ≤ length f₁
+    names-room = rw f₁-is (omega (arith, room, length-over 0 header d (omega (arith, room, header-is))))
+
+    module _ {f₂ : List ℕ} (f₂-is : f₂ ≡ over (512 * 1) (runOf 1 names) f₁) {k : ℕ}
+        (k-is : k ≡ blocksFor (length names)) where
+      f₂-so : f₂ ≡ over 0 begun d
+      f₂-so =
+          let at : 512 * 1 ≡ 0 + length header = omega (arith, header-is) in
+          f₂-is ∙ rw (f₁-is, at) (over-next 0 header d (omega arith) (runOf 1 names))
+
+      pub nodes-room : 512 * (1 + k + blocksFor (length t)) ≤ length f₂
+      nodes-room = rw (f₂-so, k-is) (omega (arith, room, length-over 0 begun d (omega (arith, room, begun-long))))
+
+      -- LAW: that is the file
+      pub file-whole : {f₃ : List ℕ} → f₃ ≡ over (512 * (1 + k)) (runOf (1 + k) t) f₂
+          → f₃ ≡ over 0 (fileOf (holding t names ds)) d
+      unfolding fileOf
+      file-whole f₃-is =
+          let at : 512 * first ≡ 0 + length begun = omega (arith, begun-long) in
+          f₃-is ∙ rw (f₂-so, k-is, at) (over-next 0 begun d (omega arith) (runOf first t))
+          ∙ ap (λ (x : List ℕ). over 0 x d) (append-assoc header (runOf 1 names) (runOf first t))

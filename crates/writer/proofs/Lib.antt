@@ -1,0 +1,7 @@
+pub mod Over
+pub mod Laying
+pub mod Building
+pub mod Jobs
+pub mod Enough
+pub mod Promises
+pub mod RoundTrips

@@ -1,0 +1,33 @@
+-- Two answers that meet the promise of a public function coincide, and so do the buffers that they leave, for every
+-- table, names, dialect bytes and buffer. Assumes nothing.
+use mathlib.Core.Path.{_≡_, ap}
+use mathlib.Core.List.{List}
+use Prim.Native.Nat.{ℕ}
+use lib.ListN.{length, getD}
+use Rattle.fields.proofs.Coincide.{coincide, coincide-by}
+use Rattle.table.specs.Answer.{Answer, accepted, refused}
+use Rattle.table.proofs.Answers.{refusal-injective}
+use Rattle.writer.specs.declared.Written.{Written}
+use Rattle.writer.specs.declared.Written.the-variants.{Accepted, Refused}
+use Rattle.writer.specs.Writing.{writeOf, fileAfter, written}
+use Rattle.fields.proofs.Basics.{never}
+
+-- the first value of an answer
+abbrev value : Answer → ℕ
+value (accepted vs) = getD vs 0 0
+value (refused n vs) = 0
+
+-- no two answers mean the same
+pub written-injective : (r s : Written) → written r ≡ written s → r ≡ s
+written-injective (Accepted n) (Accepted m) e = ap Accepted (ap value e)
+written-injective (Accepted n) (Refused s) e = never (cc)
+written-injective (Refused r) (Accepted m) e = never (cc)
+written-injective (Refused r) (Refused s) e = ap Refused (refusal-injective r s e)
+
+-- of `write`: the answer and the buffer at exit
+pub write-one : (table names dialect file : List ℕ) {r s : Written} {file-r file-s : List ℕ}
+    → written r ≡ writeOf table names dialect (length file) → file-r ≡ fileAfter table names dialect file
+    → written s ≡ writeOf table names dialect (length file) → file-s ≡ fileAfter table names dialect file
+    → (r ≡ s) × (file-r ≡ file-s)
+write-one table names dialect file r-is file-is s-is file-are =
+    (coincide-by written written-injective r-is s-is, coincide file-is file-are)

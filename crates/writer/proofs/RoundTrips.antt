@@ -1,0 +1,134 @@
+-- The writer, as request W-201 asks for it, over the promises of writer and reader, for every input:
+-- what is written reads back as the same table, names and dialect, none as none, so the reader does not refuse it;
+-- each file that the reader accepts is written again to the same bytes;
+-- where 1 to 5 are passed it is refused, by 7, exactly if the blocks do not fit;
+-- a refusal changes no byte, and bytes past the blocks always stay. Assumes nothing.
+use mathlib.Core.Path.{_≡_, refl, sym, ap, _∙_}
+use mathlib.Core.List.{List, [], _∷_, _++_}
+use Prim.Native.Nat.{ℕ, _*_, _<_, _≤_}
+use native.Mathlib.Omega.{arith}
+use lib.ListN.{length, take, drop}
+use lib.Seq.{take-at, drop-at}
+use borrow.Author.Tests.{lt-leb}
+use Rattle.fields.proofs.Spelling.{Bytes}
+use Rattle.table.specs.Numbers.{shortBuffer}
+use Rattle.table.specs.Answer.{accepted}
+use Rattle.table.specs.declared.Refusal.{Refusal}
+use Rattle.table.specs.declared.Refusal.the-variants.{Bare}
+use Rattle.tablefile.specs.File.{fileOf, mostBlocks}
+use Rattle.tablefile.specs.Reading.{soundCheck}
+use Rattle.tablefile.specs.Loading.{loadedOf, held}
+use Rattle.tablefile.specs.declared.Loaded.{Loaded}
+use Rattle.tablefile.specs.declared.Verdict.the-variants as verdicts
+use Rattle.tablefile.proofs.Loads.{held-is}
+use Rattle.tablefile.proofs.Theorems.{Read, accepted-is-file, accepted-is-sound, file-read-back}
+use Rattle.writer.specs.declared.Written.{Written}
+use Rattle.writer.specs.declared.Written.the-variants.{Accepted, Refused}
+use Rattle.writer.specs.Writing.{holding, bytesFor, writeOf, fileAfter, isRefused, written}
+use Rattle.writer.proofs.Over.{over-front}
+use Rattle.writer.proofs.Building.{length-file}
+use Rattle.writer.proofs.Jobs.{Says, passed-says, sound-few, sound-accepted}
+use Rattle.writer.proofs.Promises.{written-injective}
+
+-- the promise of `write`: the answer, and the buffer after
+abbrev pub Write : List ℕ → List ℕ → List ℕ → List ℕ → Written → List ℕ → Type 0
+Write t names ds buffer r after =
+    (written r ≡ writeOf t names ds (length buffer)) × (after ≡ fileAfter t names ds buffer)
+
+module _ (t names ds buffer : List ℕ) (r : Written) (after : List ℕ) (w : Write t names ds buffer r after) where
+  -- what an accepted write says, and what it leaves
+  module _ {n : ℕ} (good : r ≡ Accepted n) where
+    answer-is : writeOf t names ds (length buffer) ≡ accepted (n ∷ [])
+    answer-is = sym (w .0) ∙ ap written good
+
+    says : Says t names ds (length buffer)
+    says = passed-says t names ds (length buffer) (ap isRefused answer-is)
+
+    pub written-length : n ≡ length (fileOf (holding t names ds))
+    written-length =
+        let same : Accepted n ≡ Accepted (bytesFor (length t) (length names)) =
+        written-injective _ _ (sym answer-is ∙ says .answer) in
+        value same ∙ sym (length-file t names ds (says .dialect))
+      where
+        value : {a b : ℕ} → Accepted a ≡ Accepted b → a ≡ b
+        value e = cc
+
+    -- LAW: the file, and behind it what stood there
+    pub written-is : after ≡ fileOf (holding t names ds) ++ drop n buffer
+    written-is = w .1 ∙ rw (answer-is, written-length) (over-front (fileOf (holding t names ds)) buffer)
+
+    pub written-front : take n after ≡ fileOf (holding t names ds)
+    written-front = ap (take n) written-is
+        ∙ take-at (fileOf (holding t names ds)) (drop n buffer) n (sym written-length)
+
+    -- THEOREM: what is written reads back as the same table, names and dialect
+    module _ (table-bytes : Bytes t) (names-bytes : Bytes names) (dialect-bytes : Bytes ds) (s : Loaded)
+        (read : Read (take n after) s) where
+      pub reads-back : s ≡ loadedOf verdicts.Accepted (holding t names ds) n
+      reads-back =
+          let read′ : Read (fileOf (holding t names ds)) s = rw written-front at read in
+          file-read-back (holding t names ds) s record {
+            sound = says .sound;
+            table-bytes = table-bytes;
+            names-bytes = names-bytes;
+            dialect-bytes = dialect-bytes;
+          } read′ ∙ ap (loadedOf verdicts.Accepted (holding t names ds)) (sym written-length)
+
+      pub same-content : held s ≡ holding t names ds
+      same-content = ap held reads-back ∙ held-is (holding t names ds) n
+
+      -- THEOREM: so the reader does not refuse it
+      pub not-refused : s .verdict ≡ verdicts.Accepted
+      unfolding loadedOf
+      not-refused = ap (λ (l : Loaded). l .verdict) reads-back
+
+    -- LAW: bytes past the blocks stay
+    pub past-stays : drop n after ≡ drop n buffer
+    past-stays = ap (drop n) written-is ∙ drop-at (fileOf (holding t names ds)) (drop n buffer) n (sym written-length)
+
+  -- LAW: a refusal changes no byte
+  pub refusal-keeps : {why : Refusal} → r ≡ Refused why → after ≡ buffer
+  refusal-keeps {why} e =
+      let told : writeOf t names ds (length buffer) ≡ written (Refused why) = sym (w .0) ∙ ap written e in
+      w .1 ∙ rw told refl
+
+  -- LAW: where 1 to 5 are passed it is refused exactly if the blocks do not fit, and by 7
+  module _ (sound : soundCheck (holding t names ds) ≡ accepted []) where
+    pub short-is-7 : length buffer < bytesFor (length t) (length names) → r ≡ Refused (Bare shortBuffer)
+    unfolding writeOf
+    short-is-7 h = written-injective r (Refused (Bare shortBuffer))
+        (w .0 ∙ rw (sound, lt-leb (bytesFor (length t) (length names)) (length buffer) h) refl)
+
+    pub fits-is-accepted : bytesFor (length t) (length names) ≤ length buffer
+        → r ≡ Accepted (bytesFor (length t) (length names))
+    fits-is-accepted h = written-injective r (Accepted (bytesFor (length t) (length names)))
+        (w .0 ∙ sound-accepted t names ds (length buffer) sound h)
+
+    -- LAW: 59,904 bytes are never too short
+    pub never-too-short : bytesFor (length t) (length names) ≤ 512 * mostBlocks
+    never-too-short = omega (arith, sound-few t names ds sound)
+
+-- THEOREM: a file that the reader accepts, written again from the reader's answer, gives the same bytes
+module _ (file : List ℕ) (s : Loaded) (small : Bytes file) (read : Read file s) (good : s .verdict ≡ verdicts.Accepted)
+    (buffer : List ℕ) (r : Written) (after : List ℕ)
+    (w : Write (held s .table) (held s .names) (held s .dialect) buffer r after) where
+  is-file : file ≡ fileOf (held s)
+  is-file = accepted-is-file file s small read good
+
+  is-sound : soundCheck (held s) ≡ accepted []
+  is-sound = accepted-is-sound file s read good
+
+  file-size : length file ≡ bytesFor (length (held s .table)) (length (held s .names))
+  file-size = ap length is-file ∙ length-file (held s .table) (held s .names) (held s .dialect)
+      (sound-few (held s .table) (held s .names) (held s .dialect) is-sound .1)
+
+  pub written-again : length file ≤ length buffer
+      → (r ≡ Accepted (length file)) × (after ≡ file ++ drop (length file) buffer)
+  written-again h =
+      let fits : r ≡ Accepted (length file) =
+      fits-is-accepted (held s .table) (held s .names) (held s .dialect) buffer r after w is-sound (rw file-size at h)
+      ∙ ap Accepted (sym file-size) in (
+        fits,
+        written-is (held s .table) (held s .names) (held s .dialect) buffer r after w fits
+            ∙ ap (λ (x : List ℕ). x ++ drop (length file) buffer) (sym is-file),
+      )

@@ -1,0 +1,23 @@
+-- `writer::write_header` meets its contract: the counts and the dialect are block 0's content. Assumes nothing.
+use borrow.Author.Needs.{needs}
+use Rattle.writer.proofs.Building.{header-whole}
+use Rattle.writer.proofs.write_header.Statement.{statement}
+use Rattle.writer.proofs.write_header.Tie as tie
+
+pub write-header-spec : {M : Type 1} → statement M
+write-header-spec =
+    tie.close
+    (tie.spec
+    (λ c κs. search needs)
+    (λ c. search needs)
+    (λ c. search needs)
+    (λ c κs. search needs)
+    (λ c. search needs)
+    (λ c κs. search needs)
+    (λ c. search needs)
+    (λ c. search needs)
+    (λ c. search needs)
+    (λ c. search needs)
+    (λ c κs. search needs)
+    (λ c. search needs)
+    (λ c. search header-whole))  -- returns

@@ -1,0 +1,55 @@
+-- Writing a table file: the job's answer, and the buffer at exit. These are definitions.
+use mathlib.Core.Bool.{Bool, true, false}
+use mathlib.Core.List.{List, [], _∷_, _++_}
+use Prim.Native.Nat.{ℕ, _+_, _*_}
+use lib.ListN.{length, take, drop}
+use lib.Dec.{leb}
+use Rattle.fields.specs.Choice.{if'}
+use Rattle.table.specs.Numbers.{shortBuffer}
+use Rattle.table.specs.Answer.{Answer, accepted, refused, andThen, refusal}
+use Rattle.blocks.specs.Block.{blockBytes}
+use Rattle.blocks.specs.Run.{blocksFor}
+use Rattle.tablefile.specs.File.{Content, fileOf}
+use Rattle.tablefile.specs.Reading.{soundCheck}
+use Rattle.writer.specs.declared.Written.{Written}
+use Rattle.writer.specs.declared.Written.the-variants.{Accepted, Refused}
+
+-- what a file is to hold: a table, names, and the bytes of a dialect, none or nine
+abbrev pub holding : List ℕ → List ℕ → List ℕ → Content
+holding t names bytes = record { table = t; names = names; dialect = bytes }
+
+-- how many bytes the file of so many table and name bytes takes: 512 for block 0, and for each block of names and nodes
+abbrev pub bytesFor : ℕ → ℕ → ℕ
+bytesFor table names = blockBytes * (1 + blocksFor names + blocksFor table)
+
+-- 7: the buffer is shorter than that; else the answer is how many bytes are written
+abbrev pub roomCheck : ℕ → ℕ → Answer
+roomCheck size room = if' (leb size room) (λ _. accepted (size ∷ [])) (λ _. refused shortBuffer [])
+
+-- the job, for a buffer of so many bytes: 1 to 5, then 7
+unfoldable pub writeOf : List ℕ → List ℕ → List ℕ → ℕ → Answer
+writeOf t names bytes room =
+    andThen (soundCheck (holding t names bytes)) (λ _. roomCheck (bytesFor (length t) (length names)) room)
+
+-- bytes laid over a buffer from a place on; what stands before and behind them stays
+unfoldable pub over : ℕ → List ℕ → List ℕ → List ℕ
+over at bs buffer = take at buffer ++ (bs ++ drop (at + length bs) buffer)
+
+-- the buffer at exit: the file laid over its front when accepted, else as it was
+abbrev pub afterwards : Answer → List ℕ → List ℕ → List ℕ
+afterwards (accepted vs) file buffer = over 0 file buffer
+afterwards (refused n vs) file buffer = buffer
+
+abbrev pub fileAfter : List ℕ → List ℕ → List ℕ → List ℕ → List ℕ
+fileAfter t names bytes buffer =
+    afterwards (writeOf t names bytes (length buffer)) (fileOf (holding t names bytes)) buffer
+
+-- whether an answer is a refusal
+abbrev pub isRefused : Answer → Bool
+isRefused (accepted vs) = false
+isRefused (refused n vs) = true
+
+-- what the answers of code mean
+abbrev pub written : Written → Answer
+written (Accepted n) = accepted (n ∷ [])
+written (Refused r) = refusal r
