@@ -1,4 +1,4 @@
--- Blocks of 512 bytes, little-endian: 0-1 number, 2-3 used bytes, 4-507 content, 508-511 the sum. These are definitions.
+-- Blocks of 512 bytes, little-endian: 0-1 number, 2-3 used bytes, 4-507 content, 508-511 the sum. Definitions.
 use mathlib.Core.Bool.{Bool, true, _&&_}
 use mathlib.Core.List.{List, [], _∷_, _++_}
 use Prim.Native.Nat.{ℕ, zero, suc, _+_, _*_, _-_}
@@ -33,7 +33,8 @@ sumOf b = weighed 508 b
 
 -- what stands before the sum: the number, the used bytes, the content, and zeros past the used part
 unfoldable pub beforeSum : ℕ → List ℕ → List ℕ
-beforeSum number content = bytesOf 2 number ++ (bytesOf 2 (length content) ++ (content ++ replicate (contentBytes - length content) 0))
+beforeSum number content =
+    bytesOf 2 number ++ (bytesOf 2 (length content) ++ (content ++ replicate (contentBytes - length content) 0))
 
 -- the block that has this number and this content
 unfoldable pub blockOf : ℕ → List ℕ → List ℕ
@@ -48,16 +49,19 @@ zeros (x ∷ l) = eqb x 0 && zeros l
 abbrev pub demand : Bool → ℕ → Answer
 demand met number = if' met (λ _. accepted []) (λ _. refused number [])
 
--- the demands on the 512 bytes of a block that is to have this number and so many used bytes: 72 check, 71 number, 73 used bytes or padding
+-- the demands on the 512 bytes of a block that is to have this number and so many used bytes: 72 check, 71 number, 73
+-- used bytes or padding
 unfoldable pub examine : ℕ → ℕ → List ℕ → Answer
 examine number used b =
     andThen (demand (eqb (sumOf b) (field 4 b 508)) blockCheck) (λ _.
     andThen (demand (eqb (field 2 b 0) number) blockNumber) (λ _.
     demand (eqb (field 2 b 2) used && zeros (drop (4 + used) (take 508 b))) blockUsed))
 
--- the block at the front of some bytes, which is to have this number and so many used bytes: 70 short, then the demands on its 512 bytes
+-- the block at the front of some bytes, which is to have this number and so many used bytes: 70 short, then the demands
+-- on its 512 bytes
 unfoldable pub judge : ℕ → ℕ → List ℕ → Answer
-judge number used bs = andThen (demand (leb blockBytes (length bs)) blockShort) (λ _. examine number used (take blockBytes bs))
+judge number used bs =
+    andThen (demand (leb blockBytes (length bs)) blockShort) (λ _. examine number used (take blockBytes bs))
 
 -- what the answers of code mean
 abbrev pub judged : Judged → Answer

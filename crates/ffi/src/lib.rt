@@ -239,9 +239,13 @@ pub extern "C" fn starlark_write(
     file: &mut [u8],
     out: &mut [u32; 12],
 ) -> u32
-    ensures { λ r. ⌜ r ≡ number (writeOf (now (table .entry)) (now (names .entry)) (now (dialect .entry)) (length (now (file .entry)))) ⌝ }
-    ensures { λ r. ⌜ now (out .exit) ≡ laid (words (writeOf (now (table .entry)) (now (names .entry)) (now (dialect .entry)) (length (now (file .entry))))) 0 (now (out .entry)) ⌝ }
-    ensures { λ r. ⌜ now (file .exit) ≡ fileAfter (now (table .entry)) (now (names .entry)) (now (dialect .entry)) (now (file .entry)) ⌝ }
+    ensures { λ r. ⌜ r ≡ number (writeOf (now (table .entry)) (now (names .entry)) (now (dialect .entry))
+        (length (now (file .entry)))) ⌝ }
+    ensures { λ r. ⌜ now (out .exit)
+        ≡ laid (words (writeOf (now (table .entry)) (now (names .entry)) (now (dialect .entry))
+        (length (now (file .entry))))) 0 (now (out .entry)) ⌝ }
+    ensures { λ r. ⌜ now (file .exit)
+        ≡ fileAfter (now (table .entry)) (now (names .entry)) (now (dialect .entry)) (now (file .entry)) ⌝ }
 {
     let answer = writer::write(table, names, dialect, file);
     match answer {
