@@ -6,12 +6,11 @@ use Prim.Native.Nat.{ℕ, suc, _+_, _-_, _*_, _/_, _<_, _≤_}
 use native.Mathlib.Omega.{arith}
 use lib.ListN.{length, take, drop, length-take, length-drop, length-append}
 use lib.Seq.{append-snoc, take-append-seam}
-use Rattle.fields.specs.Choice.{if'}
 use Rattle.fields.proofs.Basics.{never}
 use Rattle.forest.specs.Forest.{Node, nodeOf, spanOf, forest}
 use Rattle.forest.specs.Names.{nameOf}
 use Rattle.forest.specs.Marks.{mayStand, noted, Known}
-use Rattle.forest.proofs.Marked.{known-start, known-named, known-other, known-new}
+use Rattle.forest.proofs.Marked.{Searches, known-start, known-named, known-other, known-new}
 use Rattle.forest.specs.declared.Found.{Found}
 use Rattle.forest.specs.declared.Found.the-variants.{At, Nothing}
 use Rattle.forest.proofs.Stretch.{forest-none, forest-tree, rest-part, record-or-none}
@@ -141,18 +140,10 @@ module _ {ns x args : List ℕ} {first n : ℕ} {left : List ℕ} {at i : ℕ} (
             same = rw miss at (sym (one e-is) ∙ s .same);
           }
 
--- an argument more is found by no name that it does not have
-first-more : (x : Name) (l : List Argument) (p : Argument) → firstSame x l ≡ Nothing → hasName x p ≡ false
-    → firstSame x (l ++ p ∷ []) ≡ Nothing
+-- the search for an earlier name goes by `hasName`
+searches : Searches firstSame hasName
 unfolding firstSame
-first-more x [] p e h = rw h refl
-first-more x (q ∷ l) p e h = go (hasName x q) e (λ rest. first-more x l p rest h)
-  where
-    go : (b : Bool) → if' b (λ _. At (nodeIn q .at)) (λ _. firstSame x l) ≡ Nothing
-        → (firstSame x l ≡ Nothing → firstSame x (l ++ p ∷ []) ≡ Nothing)
-        → if' b (λ _. At (nodeIn q .at)) (λ _. firstSame x (l ++ p ∷ [])) ≡ Nothing
-    go true e rest = never (cc)
-    go false e rest = rest e
+searches = record { node = λ p. nodeIn p .at; none = λ x. refl; first = λ x p l. refl }
 
 -- the marks know an argument more: a named one is noted; one that may not stand is new
 module _ (ns : List ℕ) {marks : List ℕ} {before : List Argument} (known : Known firstSame marks before) (left : List ℕ)
@@ -160,8 +151,7 @@ module _ (ns : List ℕ) {marks : List ℕ} {before : List Argument} (known : Kn
   pub meets-none : (k ≡ kindNamed → ⊥) → Meets ns before left marks Nothing
   meets-none d = record {
     says = λ i. repeats-none ns before left k-is d ∙ repeats-anywhere ns i left before;
-    known = λ i. known-other known _ (λ x e. first-more x before _ e
-        (sym (name-none ns x left k-is d ∙ has-anywhere ns i left x)));
+    known = λ i. known-other searches known _ (λ x. name-none ns x left k-is d ∙ has-anywhere ns i left x);
   }
 
   module _ (h : k ≡ kindNamed) {x : Name} (x-is : x ≡ nameOf ns (nodeOf 0 left)) {m : List ℕ} (m-is : m ≡ noted marks x)
@@ -169,8 +159,8 @@ module _ (ns : List ℕ) {marks : List ℕ} {before : List Argument} (known : Kn
       pub meets-searched : {r : Found} → r ≡ firstSame x before → Meets ns before left m r
       meets-searched r-is = record {
         says = λ i. repeats-named ns before left k-is h x-is r-is ∙ repeats-anywhere ns i left before;
-        known = λ i. rw m-is (known-named known _ x (λ y e s. first-more y before _ e
-            (sym (name-tested ns y left k-is h x-is refl ∙ has-anywhere ns i left y) ∙ s)));
+        known = λ i. rw m-is (known-named searches known _ x
+            (λ y. name-tested ns y left k-is h x-is refl ∙ has-anywhere ns i left y));
       }
 
       pub meets-new : {t : Bool} → t ≡ mayStand marks x → t ≡ false → Meets ns before left m Nothing
@@ -192,7 +182,7 @@ pub record Walking (ns args : List ℕ) (first : ℕ) (marks₀ marks : List ℕ
 
 pub walk-start : (ns args : List ℕ) (first : ℕ) (marks : List ℕ) → 24 * first + length args ≤ 50424
     → Walking ns args first marks marks start args first 0
-unfolding unpack firstSame
+unfolding unpack
 walk-start ns args first marks fits = record {
   before = [];
   many = refl;
@@ -201,7 +191,7 @@ walk-start ns args first marks fits = record {
   room = omega arith;
   from = omega arith;
   walked = walked-start;
-  known = known-start firstSame marks (λ x. refl);
+  known = known-start searches marks;
   long = refl;
   rest = refl;
 }

@@ -6,14 +6,13 @@ use Prim.Native.Nat.{ℕ, _+_, _-_, _*_, _/_, _<_, _≤_, _^_}
 use native.Mathlib.Omega.{arith}
 use lib.ListN.{length, take, drop, length-take, length-drop, length-append, take-append-drop}
 use lib.Seq.{length-take-le}
-use Rattle.fields.specs.Choice.{if'}
-use Rattle.fields.proofs.Basics.{and-left, and-right, clash, never}
+use Rattle.fields.proofs.Basics.{and-left, and-right, clash}
 use Rattle.fields.proofs.Fields.{tail-part}
 use Rattle.forest.specs.Forest.{nodeOf, spanOf, kidsOf, forest}
 use Rattle.forest.proofs.Stretch.{length-kids}
 use Rattle.forest.specs.Names.{nameOf}
 use Rattle.forest.specs.Marks.{mayStand, noted, Known}
-use Rattle.forest.proofs.Marked.{known-start, known-named, known-other, known-new}
+use Rattle.forest.proofs.Marked.{Searches, known-start, known-named, known-other, known-new}
 use Rattle.forest.specs.declared.Found.{Found}
 use Rattle.forest.specs.declared.Found.the-variants.{At, Nothing}
 use Rattle.table.specs.Numbers.{slashFirst, duplicatedParameter, starLast, noNormalAfterStar}
@@ -72,18 +71,10 @@ module _ (ns : List ℕ) (before : List Param) (left : List ℕ) {k : Kind} (k-i
       go Args e = refl
       go KwArgs e = refl
 
--- a parameter more is found by no name that it does not have
-first-more : (x : Name) (l : List Param) (p : Param) → firstSame x l ≡ Nothing → hasName x p ≡ false
-    → firstSame x (l ++ p ∷ []) ≡ Nothing
+-- the search for an earlier name goes by `hasName`
+searches : Searches firstSame hasName
 unfolding firstSame
-first-more x [] p e h = rw h refl
-first-more x (q ∷ l) p e h = go (hasName x q) e (λ rest. first-more x l p rest h)
-  where
-    go : (b : Bool) → if' b (λ _. At (nodeIn q .at)) (λ _. firstSame x l) ≡ Nothing
-        → (firstSame x l ≡ Nothing → firstSame x (l ++ p ∷ []) ≡ Nothing)
-        → if' b (λ _. At (nodeIn q .at)) (λ _. firstSame x (l ++ p ∷ [])) ≡ Nothing
-    go true e rest = never (cc)
-    go false e rest = rest e
+searches = record { node = λ p. nodeIn p .at; none = λ x. refl; first = λ x p l. refl }
 
 -- the marks know a parameter more: `*` and `/` have no name, others are noted; one that may not stand is new
 module _ (ns : List ℕ) {marks : List ℕ} {before : List Param} (known : Known firstSame marks before) (left : List ℕ)
@@ -91,7 +82,7 @@ module _ (ns : List ℕ) {marks : List ℕ} {before : List Param} (known : Known
   pub meets-none : b ≡ false → Meets ns before left marks Nothing
   meets-none h = record {
     says = repeats-none ns before left k-is b-is h;
-    known = λ i. known-other known _ (λ x e. first-more x before _ e (sym (name-none ns x left k-is b-is h i)));
+    known = λ i. known-other searches known _ (λ x. name-none ns x left k-is b-is h i);
   }
 
   module _ (h : b ≡ true) {x : Name} (x-is : x ≡ nameOf ns (nodeOf 0 left)) {m : List ℕ} (m-is : m ≡ noted marks x)
@@ -99,8 +90,7 @@ module _ (ns : List ℕ) {marks : List ℕ} {before : List Param} (known : Known
       pub meets-searched : {r : Found} → r ≡ firstSame x before → Meets ns before left m r
       meets-searched r-is = record {
         says = repeats-named ns before left k-is b-is h x-is r-is;
-        known = λ i. rw m-is (known-named known _ x (λ y e s. first-more y before _ e
-            (sym (name-tested ns y left k-is b-is h x-is refl i) ∙ s)));
+        known = λ i. rw m-is (known-named searches known _ x (λ y. name-tested ns y left k-is b-is h x-is refl i));
       }
 
       pub meets-new : {t : Bool} → t ≡ mayStand marks x → t ≡ false → Meets ns before left m Nothing
@@ -219,7 +209,7 @@ pub record Judging (ns kids : List ℕ) (first : ℕ) (marks₀ : List ℕ) (u�
 
 pub judge-start : (ns kids : List ℕ) (first : ℕ) → 24 * first + length kids < 2 ^ 64 → (marks : List ℕ) (only : Flat)
     {u : Unpacking} → u ≡ start only → Judging ns kids first marks u marks u kids first 0
-unfolding start firstSame
+unfolding start
 judge-start ns kids first fits marks only u-is =
     rw u-is
     (record {
@@ -230,7 +220,7 @@ judge-start ns kids first fits marks only u-is =
       bounded = record { positional = omega arith; only = omega arith; args = tt; kwargs = tt; flat = omega arith };
       clear = clear-start only;
       star = tt;
-      known = known-start firstSame marks (λ x. refl);
+      known = known-start searches marks;
       long = refl;
       same = refl;
     })

@@ -19,7 +19,7 @@ use Rattle.forest.specs.Names.{same}
 use Rattle.forest.specs.Marks.{mixed, hashFrom, hashOf, placeOf, markOf, several, joined, tells}
 use Rattle.forest.specs.Marks.{noted, mayStand, Known}
 use Rattle.forest.specs.declared.Found.{Found}
-use Rattle.forest.specs.declared.Found.the-variants.{Nothing}
+use Rattle.forest.specs.declared.Found.the-variants.{At, Nothing}
 use Rattle.forest.proofs.Named.{same-bytes-equal}
 
 -- one of two tests
@@ -189,23 +189,40 @@ module _ (marks : List ℕ) (x : List ℕ) where
       other true t = clash noted-self (rw (← (same-bytes-equal x y t)) at e)
       other false t = refl
 
--- LAWS for both lists, of parameters and of arguments: what is known of the marks, at the start, after an entry with a
--- name and after one with none; and what a name that may not stand says of the search
-module _ {A : Type 0} (find : List ℕ → List A → Found) where
-  pub known-start : (marks : List ℕ) → ((x : List ℕ) → find x [] ≡ Nothing) → Known find marks []
-  known-start marks none = record { none = λ x e. none x }
+-- a search by a test, one entry after the other, as both lists have it, of parameters and of arguments
+pub record Searches {A : Type 0} (find : List ℕ → List A → Found) (has : List ℕ → A → Bool) : Type 0 where
+  pub node : A → ℕ
+  pub none : (x : List ℕ) → find x [] ≡ Nothing
+  pub first : (x : List ℕ) (p : A) (l : List A) → find x (p ∷ l) ≡ if' (has x p) (λ _. At (node p)) (λ _. find x l)
 
-module _ {A : Type 0} {find : List ℕ → List A → Found} {marks : List ℕ} {l : List A} (k : Known find marks l) where
-  pub known-named : (p : A) (n : List ℕ)
-      → ((x : List ℕ) → find x l ≡ Nothing → same n x ≡ false → find x (l ++ p ∷ []) ≡ Nothing)
-      → Known find (noted marks n) (l ++ p ∷ [])
-  known-named p n more = record {
-    none = λ x e. let new = not-noted marks n x e in more x (k .none x (new .0)) (new .1);
-  }
+-- LAWS for both lists: what is known of the marks, at the start, after an entry with a name and after one with none
+module _ {A : Type 0} {find : List ℕ → List A → Found} {has : List ℕ → A → Bool} (s : Searches find has) where
+  first-more : (x : List ℕ) (l : List A) (p : A) → find x l ≡ Nothing → has x p ≡ false → find x (l ++ p ∷ []) ≡ Nothing
+  first-more x [] p e h = s .first x p [] ∙ rw h (s .none x)
+  first-more x (q ∷ l) p e h =
+      s .first x q (l ++ p ∷ []) ∙ go (has x q) (sym (s .first x q l) ∙ e) (λ rest. first-more x l p rest h)
+    where
+      go : (b : Bool) → if' b (λ _. At (s .node q)) (λ _. find x l) ≡ Nothing
+          → (find x l ≡ Nothing → find x (l ++ p ∷ []) ≡ Nothing)
+          → if' b (λ _. At (s .node q)) (λ _. find x (l ++ p ∷ [])) ≡ Nothing
+      go true e rest = never (cc)
+      go false e rest = rest e
 
-  pub known-other : (p : A) → ((x : List ℕ) → find x l ≡ Nothing → find x (l ++ p ∷ []) ≡ Nothing)
-      → Known find marks (l ++ p ∷ [])
-  known-other p more = record { none = λ x e. more x (k .none x e) }
+  pub known-start : (marks : List ℕ) → Known find marks []
+  known-start marks = record { none = λ x e. s .none x }
 
-  pub known-new : {x : List ℕ} {b : Bool} → b ≡ mayStand marks x → b ≡ false → Nothing ≡ find x l
-  known-new b-is b-no = sym (k .none _ (sym b-is ∙ b-no))
+  module _ {marks : List ℕ} {l : List A} (k : Known find marks l) (p : A) where
+    pub known-named : (n : List ℕ) → ((x : List ℕ) → same n x ≡ has x p) → Known find (noted marks n) (l ++ p ∷ [])
+    known-named n tested = record {
+      none = λ x e.
+          let new = not-noted marks n x e in
+          first-more x l p (k .none x (new .0)) (sym (tested x) ∙ new .1);
+    }
+
+    pub known-other : ((x : List ℕ) → false ≡ has x p) → Known find marks (l ++ p ∷ [])
+    known-other unnamed = record { none = λ x e. first-more x l p (k .none x e) (sym (unnamed x)) }
+
+-- a name that may not stand is new
+pub known-new : {A : Type 0} {find : List ℕ → List A → Found} {marks : List ℕ} {l : List A} → Known find marks l
+    → {x : List ℕ} {b : Bool} → b ≡ mayStand marks x → b ≡ false → Nothing ≡ find x l
+known-new k b-is b-no = sym (k .none _ (sym b-is ∙ b-no))
