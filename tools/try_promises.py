@@ -15,6 +15,9 @@ import promises
 import repository
 
 
+CLAUSE = r"    ensures .*?⌝ \}\n"  # an 'ensures', on one line or several
+
+
 class Unplanted(Exception):
     """A fault that has no place in the sources as they stand."""
 
@@ -54,7 +57,7 @@ def without_ensures(file, function):
     def plant(copy):
         text = (copy / file).read_text()
         whole = re.search(rf"fn {function}\(.*?\n\{{\n", text, re.S)
-        (copy / file).write_text(text.replace(whole[0], re.sub(r"    ensures [^\n]*\n", "", whole[0])))
+        (copy / file).write_text(text.replace(whole[0], re.sub(CLAUSE, "", whole[0], flags=re.S)))
         return [file]
     return plant
 
@@ -81,7 +84,7 @@ def theorems(crate):
     return f"crates/{crate}/proofs/Promises.antt"
 
 
-NO_SHAPES_PROMISE = changed(source("shapes"), r"^    ensures [^\n]*shapes \.exit[^\n]*\n", "")
+NO_SHAPES_PROMISE = changed(source("shapes"), r"^    ensures (?:(?!⌝ \}).)*shapes \.exit.*?⌝ \}\n", "")
 MADE_UP = "fn made_up(n: u32) -> u32 {\n    n\n}\n"
 
 # the words of a fault, its plant, and a pattern of the line that must tell it
