@@ -13,10 +13,10 @@ import sys
 from repository import CRATES, ROOT
 from tables import NUMBER as WORDS
 
-# document 01, "Numbers given back" and "The file and the program"
-GIVEN = [*range(1, 8), *range(10, 19), *range(20, 25), *range(30, 34), *range(40, 46), *range(50, 62), *range(70, 76)]
+# document 01, "Numbers given back" and "The file and the program"; document 02
+GIVEN = [*range(1, 8), *range(10, 19), *range(20, 25), *range(30, 34), *range(40, 46), *range(50, 62), *range(70, 76), *range(80, 85)]
 HEAD = ["number", "name", "meaning", "given by"]
-JOBS = ["table", "params", "call", "target", "assignment", "type", "module", "file"]
+JOBS = ["table", "params", "call", "bind", "target", "assignment", "type", "module", "file"]
 
 
 def capitals(name):
@@ -51,6 +51,8 @@ def given_by_jobs():
         words = words.rpartition("/*")[2]
         listed = re.findall(r": ([\d, to]+)\.\s+(?:\* )?Accepted", words) + re.findall(r"number \(([\d, to]+)\)", words)
         given[job] = set(ranges(", ".join(listed)))
+    # a call and a def: what the two jobs give, and document 02's own
+    given["bind"] = given["params"] | given["call"] | set(range(80, 85))
     # the reader refuses with 74 what 1 and 2 would refuse
     given["file"] = given["module"] - {1, 2} | set(range(70, 76))
     return given
