@@ -1,0 +1,5 @@
+pub mod Walk
+pub mod Params
+pub mod Nodes
+pub mod Passed
+pub mod Reached
