@@ -3,3 +3,4 @@ pub mod Params
 pub mod Nodes
 pub mod Passed
 pub mod Reached
+pub mod Examples
