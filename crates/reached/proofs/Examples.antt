@@ -4,7 +4,6 @@ use mathlib.Core.List.{map}
 use Rattle.forest.specs.Names.{same}
 use Rattle.deflist.specs.Unpack.{hasName, firstSame, repeats, advance, step, finish, run, slashFrom, start, unpack}
 use Rattle.parameters.specs.Indices.{countedOf}
-use Rattle.arguments.specs.Call as calling
 use Rattle.arguments.specs.Call.{firstSame as callSame, hasName as callName, repeats as callRepeats, check}
 use Rattle.arguments.specs.Call.{advance as callAdvance, run as callRun, unpack as callUnpack}
 use Rattle.bind.specs.FlatList.{flatsFrom, flats}

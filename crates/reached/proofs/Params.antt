@@ -5,25 +5,27 @@ use mathlib.Core.Logic.{_⊎_, inl, inr}
 use mathlib.Core.List.{List, [], _∷_, map, append-nil}
 use Prim.Native.Nat.{ℕ, zero, suc, _+_, _<_, _≤_}
 use native.Mathlib.Omega.{arith}
-use lib.ListN.{length, getD}
+use lib.ListN.{length, getD, length-map}
 use lib.Dec.{eqb}
 use borrow.Author.Tests.{eqb-true}
 use Rattle.fields.proofs.Basics.{never, le-or-lt}
 use Rattle.fields.specs.Choice.{if'}
-use Rattle.forest.specs.Names.{same}
+use Rattle.forest.specs.Names.{same, Distinct}
 use Rattle.forest.proofs.Named.{same-bytes-refl, same-bytes-equal}
 use Rattle.table.specs.declared.Place.the-variants.{At, Nothing}
-use Rattle.deflist.specs.Written.{Name, Param}
+use Rattle.deflist.specs.Written.{Name, Param, normal, noArgs, slash, args, kwargs}
 use Rattle.deflist.specs.Unpack.{unpack, accepted, modes, modePosOnly, modePosOrName, modeNameOnly, modeArgs}
 use Rattle.deflist.specs.Unpack.{modeKwargs}
 use Rattle.deflist.specs.declared.Counts.{Counts}
+use Rattle.deflist.specs.declared.State.{State}
+use Rattle.deflist.specs.declared.State.the-variants.{SeenSlash, SeenStar, SeenStarStar}
 use Rattle.parameters.specs.Indices.{placeOf}
 use Rattle.demand3.specs.Cut.{Cut, Star, noStar, bare, starred, Last, noKwargs, withKwargs, partsOf, cutRanges, ByRange}
-use Rattle.demand3.specs.Cut.{argsPart, kwargsPart, partModes}
+use Rattle.demand3.specs.Cut.{argsPart, kwargsPart, partModes, namesOf}
 use Rattle.demand3.proofs.Cuts.{cutCounts, cut-accepted, accepted-cut, cut-modes}
 use Rattle.demand3.proofs.Counting.{argsPlace, kwargsPlace}
 use Rattle.demand3.proofs.Ranges.{modes-by-range}
-use Rattle.bind.specs.FlatList.{FlatParam, flats}
+use Rattle.bind.specs.FlatList.{FlatParam, flatsFrom, flats}
 use Rattle.bind.specs.Binding.{calledByName, namedFrom}
 use Rattle.bind.proofs.Lists.{flats-modes}
 use Rattle.bind.proofs.Entry.{flats-long}
@@ -61,6 +63,9 @@ pub record Stands (ps : List Param) (c : Counts) : Type 0 where
   pub back : (i : ℕ) → c .«num_positional» .0 ≤ i → i < length (flats ps) → 2 < getD (modes ps) i 0
   pub args : (i : ℕ) → placeOf (c .args) ≡ At i → (i < length (flats ps)) × (getD (modes ps) i 0 ≡ modeArgs)
   pub kwargs : (i : ℕ) → placeOf (c .kwargs) ≡ At i → (i < length (flats ps)) × (getD (modes ps) i 0 ≡ modeKwargs)
+  pub someArgs : (i : ℕ) → i < length (flats ps) → getD (modes ps) i 0 ≡ modeArgs → placeOf (c .args) ≡ Nothing → ⊥
+  pub someKwargs : (i : ℕ) → i < length (flats ps) → getD (modes ps) i 0 ≡ modeKwargs → placeOf (c .kwargs) ≡ Nothing
+      → ⊥
 
 args-at : (s : Star) (m i : ℕ) → placeOf (argsPlace s m) ≡ At i → (i ≡ m) × (length (argsPart s) ≡ 1)
 args-at noStar m i e = never (cc)
@@ -70,6 +75,15 @@ args-at (starred r n qs) m i e = (cc, refl)
 kwargs-at : (l : Last) (m i : ℕ) → placeOf (kwargsPlace l m) ≡ At i → (i ≡ m) × (length (kwargsPart l) ≡ 1)
 kwargs-at noKwargs m i e = never (cc)
 kwargs-at (withKwargs r n) m i e = (cc, refl)
+
+no-args : (s : Star) (m : ℕ) → placeOf (argsPlace s m) ≡ Nothing → length (argsPart s) ≡ 0
+no-args noStar m e = refl
+no-args (bare r qs) m e = refl
+no-args (starred r n qs) m e = never (cc)
+
+no-kwargs : (l : Last) (m : ℕ) → placeOf (kwargsPlace l m) ≡ Nothing → length (kwargsPart l) ≡ 0
+no-kwargs noKwargs m e = refl
+no-kwargs (withKwargs r n) m e = never (cc)
 
 pub stands : (ps : List Param) (c : Counts) → unpack ps ≡ accepted c → Stands ps c
 stands ps c h =
@@ -91,6 +105,8 @@ stands ps c h =
       kwargs = λ i g.
           let k = kwargs-at (cut .last) _ i g in
           (omega (arith, long, k .0, k .1), ranges .kwargs i (omega (arith, k .0)) (omega (arith, k .0, k .1)));
+      someArgs = λ i g m n. some-args cut i (omega (arith, long)) ranges m (no-args (cut .star) _ n);
+      someKwargs = λ i g m n. some-kwargs cut i (omega (arith, long)) ranges m (no-kwargs (cut .last) _ n);
     })
   where
     front : (cut : Cut) (i : ℕ) → i < cutCounts cut .«num_positional» .0 → ByRange (cutRanges cut) (modes ps)
@@ -111,6 +127,72 @@ stands ps c h =
         go (inr x) y = omega (arith, ranges .args i g x)
         go (inl x) (inr y) = omega (arith, ranges .namedOnly i x y)
         go (inl x) (inl y) = omega (arith, ranges .kwargs i y h)
+
+    -- in which range an index is
+    some-args : (cut : Cut) (i : ℕ) → i < cutCounts cut .flat .0 → ByRange (cutRanges cut) (modes ps)
+        → getD (modes ps) i 0 ≡ modeArgs → length (argsPart (cut .star)) ≡ 0 → ⊥
+    some-args cut i h ranges m none = go (le-or-lt (cutRanges cut .posOnly .upto) i)
+        (le-or-lt (cutRanges cut .posOrNamed .upto) i) (le-or-lt (cutRanges cut .namedOnly .upto) i)
+      where
+        go : (cutRanges cut .posOnly .upto ≤ i) ⊎ (i < cutRanges cut .posOnly .upto)
+            → (cutRanges cut .posOrNamed .upto ≤ i) ⊎ (i < cutRanges cut .posOrNamed .upto)
+            → (cutRanges cut .namedOnly .upto ≤ i) ⊎ (i < cutRanges cut .namedOnly .upto) → ⊥
+        go (inr x) y z = absurd (omega (arith, ranges .posOnly i (omega arith) x))
+        go (inl x) (inr y) z = absurd (omega (arith, ranges .posOrNamed i x y))
+        go (inl x) (inl y) (inr z) = absurd (omega (arith, ranges .namedOnly i (omega arith) z))
+        go (inl x) (inl y) (inl z) = absurd (omega (arith, ranges .kwargs i z h))
+
+    some-kwargs : (cut : Cut) (i : ℕ) → i < cutCounts cut .flat .0 → ByRange (cutRanges cut) (modes ps)
+        → getD (modes ps) i 0 ≡ modeKwargs → length (kwargsPart (cut .last)) ≡ 0 → ⊥
+    some-kwargs cut i h ranges m none = go (le-or-lt (cutRanges cut .posOnly .upto) i)
+        (le-or-lt (cutRanges cut .posOrNamed .upto) i) (le-or-lt (cutRanges cut .args .upto) i)
+      where
+        go : (cutRanges cut .posOnly .upto ≤ i) ⊎ (i < cutRanges cut .posOnly .upto)
+            → (cutRanges cut .posOrNamed .upto ≤ i) ⊎ (i < cutRanges cut .posOrNamed .upto)
+            → (cutRanges cut .args .upto ≤ i) ⊎ (i < cutRanges cut .args .upto) → ⊥
+        go (inr x) y z = absurd (omega (arith, ranges .posOnly i (omega arith) x))
+        go (inl x) (inr y) z = absurd (omega (arith, ranges .posOrNamed i x y))
+        go (inl x) (inl y) (inr z) = absurd (omega (arith, ranges .args i y z))
+        go (inl x) (inl y) (inl z) = absurd (omega (arith, ranges .namedOnly i z (omega arith)))
+
+-- the names of the flat parameters are those of the list, and so distinct
+flat-names : (s : State) (l : List Param) → map (λ (p : FlatParam). p .name) (flatsFrom s l) ≡ namesOf l
+unfolding flatsFrom
+flat-names s [] = refl
+flat-names s (normal r n d ∷ l) = ap (λ (x : List Name). n ∷ x) (flat-names s l)
+flat-names s (noArgs r ∷ l) = flat-names SeenStar l
+flat-names s (slash r ∷ l) = flat-names SeenSlash l
+flat-names s (args r n ∷ l) = ap (λ (x : List Name). n ∷ x) (flat-names SeenStar l)
+flat-names s (kwargs r n ∷ l) = ap (λ (x : List Name). n ∷ x) (flat-names SeenStarStar l)
+
+name-in : (fs : List FlatParam) (i : ℕ) (p : FlatParam) → IsAt fs i p
+    → getD (map (λ (p : FlatParam). p .name) fs) i [] ≡ p .name
+name-in (q ∷ fs) zero p e = ap (λ (x : FlatParam). x .name) e
+name-in (q ∷ fs) (suc i) p e = name-in fs i p e
+
+pub one-name : (ps : List Param) (c : Counts) → unpack ps ≡ accepted c → (i j : ℕ) (p q : FlatParam)
+    → IsAt (flats ps) i p → IsAt (flats ps) j q → p .name ≡ q .name → i ≡ j
+unfolding flats
+one-name ps c h i j p q ip jq e = go (le-or-lt i j) (le-or-lt j i)
+  where
+    names : map (λ (p : FlatParam). p .name) (flats ps) ≡ namesOf ps
+    names = flat-names _ ps
+
+    distinct : Distinct (namesOf ps)
+    distinct = let w = accepted-cut ps h in rw (w .1) at (w .2 .distinct)
+
+    long : length (namesOf ps) ≡ length (flats ps)
+    long = ap length (sym names) ∙ length-map (flats ps) (λ (p : FlatParam). p .name)
+
+    at : (k : ℕ) (r : FlatParam) → IsAt (flats ps) k r → getD (namesOf ps) k [] ≡ r .name
+    at k r x = ap (λ (l : List Name). getD l k []) (sym names) ∙ name-in (flats ps) k r x
+
+    go : (i ≤ j) ⊎ (j < i) → (j ≤ i) ⊎ (i < j) → i ≡ j
+    go (inl x) (inl y) = omega arith
+    go (inr x) y = absurd (distinct j i x (omega (arith, long, within (flats ps) i p ip))
+        (at j q jq ∙ sym e ∙ sym (at i p ip)))
+    go (inl x) (inr y) = absurd (distinct i j y (omega (arith, long, within (flats ps) j q jq))
+        (at i p ip ∙ e ∙ sym (at j q jq)))
 
 -- what a name finds
 found-mode : (m : ℕ) → calledByName m ≡ true → (m ≡ modePosOrName) ⊎ (m ≡ modeNameOnly)

@@ -1,39 +1,32 @@
 -- What an accepted binding has passed, and where its words come from. Assumes nothing.
-use mathlib.Core.Path.{_≡_, refl, sym, ap, _∙_}
-use mathlib.Core.Bool.{Bool, true, false}
-use mathlib.Core.Logic.{_⊎_, inl, inr}
+use mathlib.Core.Path.{_≡_, refl, ap, _∙_}
 use mathlib.Core.List.{List, _++_}
 use Prim.Native.Nat.{ℕ, _+_, _<_, _≤_}
 use native.Mathlib.Omega.{arith}
 use lib.ListN.{length, getD, drop, length-replicate, List·getD-append}
-use lib.Dec.{ltb}
-use borrow.Author.Tests.{ltb-true, ltb-false}
-use Rattle.fields.proofs.Basics.{never}
-use Rattle.fields.specs.Choice.{if'}
 use Rattle.table.specs.Answer.{Answer, accepted, refused, andThen}
-use Rattle.table.specs.declared.Place.{Place}
-use Rattle.table.specs.declared.Place.the-variants.{At, Nothing}
 use Rattle.table.proofs.Answers.{never-passed}
-use Rattle.deflist.specs.Written.{Name, Param}
+use Rattle.deflist.specs.Written.{Param}
 use Rattle.deflist.specs.Unpack as outcome
-use Rattle.deflist.specs.Unpack.{unpack, modes, modePosOnly, modePosOrName, modeArgs, modeKwargs}
+use Rattle.deflist.specs.Unpack.{unpack}
 use Rattle.deflist.specs.declared.Counts.{Counts}
-use Rattle.parameters.specs.Indices.{placeOf, countedOf}
+use Rattle.parameters.specs.Indices.{countedOf}
 use Rattle.parameters.specs.Params.{listOf}
 use Rattle.parameters.specs.declared.DefParamIndices.{DefParamIndices}
-use Rattle.arguments.specs.Written.{Argument, positional, named, args, kwargs}
+use Rattle.arguments.specs.Written.{Argument}
 use Rattle.arguments.specs.Call as calling
 use Rattle.arguments.specs.Job.{outcomeAnswer}
 use Rattle.bind.specs.FlatList.{FlatParam, flats}
-use Rattle.bind.specs.Binding.{namedFrom, collected, byPlace, byName, reaches, andWith, along, starCheck}
+use Rattle.bind.specs.Binding.{reaches, andWith, along, starCheck}
 use Rattle.bind.specs.Binding.{emptyCheck, binding}
 use Rattle.bind.specs.Job.{counting, noWords, listsBound, argumentsAt, entryOf, wordsOf, answeredAt, bindOf}
 use Rattle.bind.specs.Job.{listAfter}
-use Rattle.bind.specs.declared.Reach.the-variants.{Fills, Joins}
-use Rattle.bind.proofs.Entry.{Entered, entered, flats-long}
-use Rattle.reached.specs.Said.{IsAt, Ordinary, ByPlace, Starred}
+use Rattle.bind.specs.declared.Reach.the-variants.{Fills}
+use Rattle.bind.proofs.Entry.{Entered, entered}
+use Rattle.reached.specs.Said.{IsAt}
 use Rattle.reached.proofs.Walk.{Index, Nodes, along-long, own-word}
-use Rattle.reached.proofs.Params.{there, within, mode-at, Stands, stands, Found, name-found}
+use Rattle.reached.proofs.Params.{within}
+use Rattle.reached.proofs.Reaching as reaching
 use Rattle.reached.proofs.Nodes.{Rising, call-rising}
 
 -- checks in order that are passed
@@ -120,7 +113,7 @@ module _ (t ns : List ℕ) (call def : ℕ) (list : List ℕ) where
           let x : listAfter t ns call def list ≡ ws ++ drop (length ws) list = rw w refl in
           by-counts (entered t ns call def (length list) (k .1 .0)) (unpack (listOf t ns def)) refl (k .1 .1) x
 
--- what an argument reaches is there: an ordinary parameter that it fills, or the star that collects it
+-- the words of the list at exit
 module _ (t ns : List ℕ) (call def : ℕ) (list : List ℕ) (p : Passed t ns call def list) where
   abbrev ps : List Param
   ps = listOf t ns def
@@ -128,124 +121,11 @@ module _ (t ns : List ℕ) (call def : ℕ) (list : List ℕ) (p : Passed t ns c
   abbrev pub d : DefParamIndices
   d = countedOf (p .counts) .indices
 
-  pub st : Stands ps (p .counts)
-  st = stands ps (p .counts) (p .outcome)
-
-  pub flat-is : countedOf (p .counts) .flat ≡ length (flats ps)
-  unfolding countedOf
-  flat-is = sym (flats-long ps (p .outcome))
-
-  -- by its place
-  pub place-filled : (k i : ℕ) → byPlace d k ≡ Fills i → (i ≡ k) × (k < p .counts .«num_positional» .0)
-  unfolding countedOf
-  place-filled k i e = go (ltb k (p .counts .«num_positional» .0)) refl e
-    where
-      no : (x : Place) → collected x ≡ Fills i → (i ≡ k) × (k < p .counts .«num_positional» .0)
-      no (At j) e = never (cc)
-      no Nothing e = never (cc)
-
-      go : (b : Bool) → ltb k (p .counts .«num_positional» .0) ≡ b
-          → if' b (λ _. Fills k) (λ _. collected (placeOf (p .counts .args))) ≡ Fills i
-          → (i ≡ k) × (k < p .counts .«num_positional» .0)
-      go true f e = let same : k ≡ i = cc in (sym same, ltb-true k (p .counts .«num_positional» .0) f)
-      go false f e = no (placeOf (p .counts .args)) e
-
-  pub place-joined : (k i : ℕ) → byPlace d k ≡ Joins i
-      → (p .counts .«num_positional» .0 ≤ k) × (placeOf (p .counts .args) ≡ At i)
-  unfolding countedOf
-  place-joined k i e = go (ltb k (p .counts .«num_positional» .0)) refl e
-    where
-      star : (x : Place) → collected x ≡ Joins i → x ≡ At i
-      star (At j) e = let same : j ≡ i = cc in ap At same
-      star Nothing e = never (cc)
-
-      go : (b : Bool) → ltb k (p .counts .«num_positional» .0) ≡ b
-          → if' b (λ _. Fills k) (λ _. collected (placeOf (p .counts .args))) ≡ Joins i
-          → (p .counts .«num_positional» .0 ≤ k) × (placeOf (p .counts .args) ≡ At i)
-      go true f e = never (cc)
-      go false f e = (ltb-false k (p .counts .«num_positional» .0) f, star (placeOf (p .counts .args)) e)
-
-  -- by its name
-  pub name-filled : (x : Place) (i : ℕ) → byName x (d .kwargs) ≡ Fills i → x ≡ At i
-  name-filled (At j) i e = let same : j ≡ i = cc in ap At same
-  name-filled Nothing i e = no (d .kwargs) e
-    where
-      no : (x : Place) → collected x ≡ Fills i → Nothing ≡ At i
-      no (At j) e = never (cc)
-      no Nothing e = never (cc)
-
-  pub name-joined : (x : Place) (i : ℕ) → byName x (d .kwargs) ≡ Joins i
-      → (x ≡ Nothing) × (placeOf (p .counts .kwargs) ≡ At i)
-  unfolding countedOf
-  name-joined (At j) i e = never (cc)
-  name-joined Nothing i e = (refl, star (placeOf (p .counts .kwargs)) e)
-    where
-      star : (x : Place) → collected x ≡ Joins i → x ≡ At i
-      star (At j) e = let same : j ≡ i = cc in ap At same
-      star Nothing e = never (cc)
-
-  -- the parameter at a flat index
-  pub record Sits (i : ℕ) (P : FlatParam → Type 0) : Type 0 where
-    pub param : FlatParam
-    pub there : IsAt (flats ps) i param
-    pub kind : P param
-
-  pub front-sits : (k : ℕ) → k < p .counts .«num_positional» .0 → Sits k ByPlace
-  front-sits k h =
-      let x = there (flats ps) k (omega (arith, st .few)) in
-      record { param = x .0; there = x .1; kind = go (x .0) (st .front k h) (mode-at ps k (x .0) (x .1)) }
-    where
-      go : (q : FlatParam) → (getD (modes ps) k 0 ≡ modePosOnly) ⊎ (getD (modes ps) k 0 ≡ modePosOrName)
-          → q .mode ≡ getD (modes ps) k 0 → ByPlace q
-      go q (inl e) m = inl (m ∙ e)
-      go q (inr e) m = inr (m ∙ e)
-
-  pub args-sits : (i : ℕ) → placeOf (p .counts .args) ≡ At i → Sits i (λ (q : FlatParam). q .mode ≡ modeArgs)
-  args-sits i e =
-      let k = st .args i e in
-      let x = there (flats ps) i (k .0) in
-      record { param = x .0; there = x .1; kind = mode-at ps i (x .0) (x .1) ∙ k .1 }
-
-  pub kwargs-sits : (i : ℕ) → placeOf (p .counts .kwargs) ≡ At i → Sits i (λ (q : FlatParam). q .mode ≡ modeKwargs)
-  kwargs-sits i e =
-      let k = st .kwargs i e in
-      let x = there (flats ps) i (k .0) in
-      record { param = x .0; there = x .1; kind = mode-at ps i (x .0) (x .1) ∙ k .1 }
-
-  pub named-sits : (x : Name) (i : ℕ) → namedFrom 0 x (flats ps) ≡ At i → Found (flats ps) x i
-  named-sits x i e =
-      let k = name-found (flats ps) x 0 i e in
-      let same : k .0 ≡ i = omega (arith, k .1 .0) in
-      rw same at (k .1 .1)
-
-  -- LAW: what fills is ordinary, what joins is starred
-  pub fills-ordinary : (k : ℕ) (a : Argument) (i : ℕ) → reaches d (flats ps) k a ≡ Fills i → Sits i Ordinary
-  unfolding reaches
-  fills-ordinary k (positional r) i e =
-      let h = place-filled k i e in
-      let s = front-sits k (h .1) in
-      rw (h .0) (record { param = s .param; there = s .there; kind = go (s .param) (s .kind) })
-    where
-      go : (q : FlatParam) → ByPlace q → Ordinary q
-      go q (inl x) = inl x
-      go q (inr x) = inr (inl x)
-  fills-ordinary k (named r n) i e =
-      let f = named-sits n i (name-filled (namedFrom 0 n (flats ps)) i e) in
-      record { param = f .param; there = f .there; kind = inr (f .canBe) }
-  fills-ordinary k (args r) i e = never (cc)
-  fills-ordinary k (kwargs r) i e = never (cc)
-
-  pub joins-starred : (k : ℕ) (a : Argument) (i : ℕ) → reaches d (flats ps) k a ≡ Joins i → Sits i Starred
-  unfolding reaches
-  joins-starred k (positional r) i e = let s = args-sits i (place-joined k i e .1) in
-      record { param = s .param; there = s .there; kind = inl (s .kind) }
-  joins-starred k (named r n) i e = let s = kwargs-sits i (name-joined (namedFrom 0 n (flats ps)) i e .1) in
-      record { param = s .param; there = s .there; kind = inr (s .kind) }
-  joins-starred k (args r) i e = never (cc)
-  joins-starred k (kwargs r) i e = never (cc)
+  flat-is : countedOf (p .counts) .flat ≡ length (flats ps)
+  flat-is = reaching.flat-is ps (p .counts) (p .outcome)
 
   pub small : (k : ℕ) (a : Argument) (i : ℕ) → reaches d (flats ps) k a ≡ Fills i → i < countedOf (p .counts) .flat
-  small k a i e = let s = fills-ordinary k a i e in omega (arith, flat-is, within (flats ps) i (s .param) (s .there))
+  small = reaching.small ps (p .counts) (p .outcome)
 
   -- the words of the list at exit are those of the walk
   abbrev pub none-yet : List ℕ

@@ -9,7 +9,7 @@
 use mathlib.Core.Path.{_≡_, refl, sym, ap, _∙_}
 use mathlib.Core.Bool.{Bool, true, false, not, _&&_}
 use mathlib.Core.Logic.{_⊎_, inl, inr, _↔_}
-use mathlib.Core.List.{List, _∷_}
+use mathlib.Core.List.{List, [], _∷_}
 use Prim.Native.Nat.{ℕ, zero, suc, _+_, _<_, _≤_}
 use native.Mathlib.Omega.{arith}
 use lib.ListN.{length, getD, getD-replicate}
@@ -18,10 +18,10 @@ use borrow.Author.Tests.{eq-eqb, eqb-true, eqb-false}
 use Rattle.fields.proofs.Basics.{le-or-lt}
 use Rattle.fields.specs.Choice.{if'}
 use Rattle.forest.specs.Forest.{Node}
-use Rattle.table.specs.Numbers.{emptyParameter}
-use Rattle.table.specs.Answer.{accepted, refusedAt}
+use Rattle.table.specs.Numbers.{emptyParameter, unknownNamed, alreadyFilled}
+use Rattle.table.specs.Answer.{accepted, refused, refusedAt}
 use Rattle.table.proofs.Answers.{never-passed}
-use Rattle.deflist.specs.Written.{Name}
+use Rattle.deflist.specs.Written.{Name, Param}
 use Rattle.deflist.specs.Unpack.{modePosOnly, modeArgs, modeKwargs, modes}
 use Rattle.parameters.specs.Indices.{countedOf}
 use Rattle.parameters.specs.Params.{listOf}
@@ -34,8 +34,13 @@ use Rattle.bind.specs.declared.Reach.{Reach}
 use Rattle.bind.specs.declared.Reach.the-variants.{Fills, Joins}
 use Rattle.reached.specs.Said.{IsAt, Ordinary, CanBeNamed, ByPlace, Starred, flatsAt, parameterWord, argumentWord}
 use Rattle.reached.proofs.Walk.{Index, Filler, was-empty, once, comes-from}
-use Rattle.reached.proofs.Params.{within, same-at, there, mode-at, name-missed}
+use Rattle.reached.proofs.Params.{within, same-at, there, mode-at, name-missed, one-name}
+use Rattle.reached.specs.Said.{Against}
+use Rattle.reached.specs.Rules.{Rules}
 use Rattle.reached.proofs.Passed as passing
+use Rattle.reached.proofs.Complete.{complete}
+use Rattle.reached.proofs.Stops.{unknown-without-kwargs, filled-by-a-positional}
+use Rattle.reached.proofs.Reaching as reaching
 use Rattle.reached.proofs.Passed.{Passed}
 
 -- an ordinary parameter is no star
@@ -58,6 +63,9 @@ module _ (t names : List ℕ) (call def : ℕ) (list : List ℕ) {vs : List ℕ}
 
   pass : Passed t names call def list
   pass = passing.passed t names call def list bound
+
+  abbrev ps : List Param
+  ps = listOf t names def
 
   abbrev d : DefParamIndices
   d = countedOf (pass .counts) .indices
@@ -83,8 +91,10 @@ module _ (t names : List ℕ) (call def : ℕ) (list : List ℕ) {vs : List ℕ}
   every-argument k a at = go (data-of k a at)
     where
       go : (reaches d fs k a ≡ Fills (own k)) ⊎ (reaches d fs k a ≡ Joins (own k)) → (p : FlatParam) × IsAt fs (own k) p
-      go (inl e) = let s = passing.fills-ordinary t names call def list pass k a (own k) e in (s .param, s .there)
-      go (inr e) = let s = passing.joins-starred t names call def list pass k a (own k) e in (s .param, s .there)
+      go (inl e) = let s = reaching.fills-ordinary ps (pass .counts) (pass .outcome) k a (own k) e in
+          (s .param, s .there)
+      go (inr e) = let s = reaching.joins-starred ps (pass .counts) (pass .outcome) k a (own k) e in
+          (s .param, s .there)
 
   -- an argument that reaches an ordinary parameter fills it
   fills : (k : ℕ) (a : Argument) (p : FlatParam) → IsAt qs k a → IsAt fs (own k) p → Ordinary p
@@ -94,7 +104,7 @@ module _ (t names : List ℕ) (call def : ℕ) (list : List ℕ) {vs : List ℕ}
       go : (reaches d fs k a ≡ Fills (own k)) ⊎ (reaches d fs k a ≡ Joins (own k)) → reaches d fs k a ≡ Fills (own k)
       go (inl e) = e
       go (inr e) =
-          let s = passing.joins-starred t names call def list pass k a (own k) e in
+          let s = reaching.joins-starred ps (pass .counts) (pass .outcome) k a (own k) e in
           let same : s .param ≡ p = same-at fs (own k) (s .param) p (s .there) there in
           apart p o (rw same at (s .kind))
 
@@ -102,18 +112,19 @@ module _ (t names : List ℕ) (call def : ℕ) (list : List ℕ) {vs : List ℕ}
   filler : (i : ℕ) → i < length fs → (taken i ≡ 0 → ⊥)
       → (k : ℕ) × ((a : Argument) × (IsAt qs k a × ((reaches d fs k a ≡ Fills i) × (taken i ≡ nodeIn a .at))))
   filler i h n =
-      let flat = passing.flat-is t names call def list pass in
+      let flat = reaching.flat-is ps (pass .counts) (pass .outcome) in
       let word = passing.word-is t names call def list pass i (omega arith) in
-      go word (comes-from (countedOf (pass .counts) .flat) d fs (passing.small t names call def list pass) 0
+      go word (comes-from (countedOf (pass .counts) .flat) d fs (reaching.small ps (pass .counts) (pass .outcome)) 0
       (passing.none-yet t names call def list pass) qs (pass .words) (pass .walked)
       (passing.nodes t names call def list pass) (passing.enough t names call def list pass) i (omega arith))
     where
       go : taken i ≡ getD (pass .words) i 0
           → (getD (pass .words) i 0 ≡ getD (passing.none-yet t names call def list pass) i 0)
-          ⊎ Filler (countedOf (pass .counts) .flat) d fs (passing.small t names call def list pass) 0 qs (pass .words) i
+          ⊎ Filler (countedOf (pass .counts) .flat) d fs (reaching.small ps (pass .counts) (pass .outcome)) 0 qs
+          (pass .words) i
           → (k : ℕ) × ((a : Argument) × (IsAt qs k a × ((reaches d fs k a ≡ Fills i) × (taken i ≡ nodeIn a .at))))
       go w (inl e) =
-          let flat = passing.flat-is t names call def list pass in
+          let flat = reaching.flat-is ps (pass .counts) (pass .outcome) in
           absurd (n (w ∙ e ∙ getD-replicate (countedOf (pass .counts) .flat + length qs) i 0 0 (omega arith)))
       go w (inr f) =
           let zero-more : 0 + f .number ≡ f .number = omega arith in
@@ -123,10 +134,10 @@ module _ (t names : List ℕ) (call def : ℕ) (list : List ℕ) {vs : List ℕ}
   filled-word : (k : ℕ) (a : Argument) (i : ℕ) → IsAt qs k a → reaches d fs k a ≡ Fills i → taken i ≡ nodeIn a .at
   filled-word k a i at r =
       let zero-more : k ≡ 0 + k = omega arith in
-      let flat = passing.flat-is t names call def list pass in
-      let inside = passing.small t names call def list pass k a i r in
+      let flat = reaching.flat-is ps (pass .counts) (pass .outcome) in
+      let inside = reaching.small ps (pass .counts) (pass .outcome) k a i r in
       passing.word-is t names call def list pass i (omega arith)
-      ∙ was-empty (countedOf (pass .counts) .flat) d fs (passing.small t names call def list pass) 0
+      ∙ was-empty (countedOf (pass .counts) .flat) d fs (reaching.small ps (pass .counts) (pass .outcome)) 0
       (passing.none-yet t names call def list pass) qs (pass .words) (pass .walked)
       (passing.nodes t names call def list pass) (passing.enough t names call def list pass) k a i at
       (rw zero-more at r) .1
@@ -137,7 +148,7 @@ module _ (t names : List ℕ) (call def : ℕ) (list : List ℕ) {vs : List ℕ}
   at-most-one p k l a b at bt same sits o =
       let first : 0 + k ≡ k = omega arith in
       let second : 0 + l ≡ l = omega arith in
-      once (countedOf (pass .counts) .flat) d fs (passing.small t names call def list pass) 0
+      once (countedOf (pass .counts) .flat) d fs (reaching.small ps (pass .counts) (pass .outcome)) 0
       (passing.none-yet t names call def list pass) qs (pass .words) (pass .walked)
       (passing.nodes t names call def list pass) (passing.enough t names call def list pass) k l a b (own k) at bt
       (rw first (fills k a p at sits o)) (rw (second, same) (fills l b p bt (rw same at sits) o))
@@ -187,7 +198,7 @@ module _ (t names : List ℕ) (call def : ℕ) (list : List ℕ) {vs : List ℕ}
       go true e = eqb-true (taken i) 0 e
       go false e =
           let f = filler i (within fs i p sits) (eqb-false (taken i) 0 e) in
-          let x = passing.fills-ordinary t names call def list pass (f .0) (f .1 .0) i (f .1 .1 .1 .0) in
+          let x = reaching.fills-ordinary ps (pass .counts) (pass .outcome) (f .0) (f .1 .0) i (f .1 .1 .1 .0) in
           let same : x .param ≡ p = same-at fs i (x .param) p (x .there) sits in
           apart p (rw same at (x .kind)) s
 
@@ -203,10 +214,10 @@ module _ (t names : List ℕ) (call def : ℕ) (list : List ℕ) {vs : List ℕ}
       behind (inr x) m h = absurd (omega arith)
 
       go : (byPlace d k ≡ Fills (own k)) ⊎ (byPlace d k ≡ Joins (own k)) → own k ≡ k
-      go (inl e) = passing.place-filled t names call def list pass k (own k) e .0
+      go (inl e) = reaching.place-filled ps (pass .counts) (pass .outcome) k (own k) e .0
       go (inr e) =
-          let past = passing.place-joined t names call def list pass k (own k) e .0 in
-          let more = passing.st t names call def list pass .back k past (within fs k p sits) in
+          let past = reaching.place-joined ps (pass .counts) (pass .outcome) k (own k) e .0 in
+          let more = reaching.st ps (pass .counts) (pass .outcome) .back k past (within fs k p sits) in
           behind b (mode-at (listOf t names def) k p sits) more
 
   -- "later ones `*args`"
@@ -217,12 +228,12 @@ module _ (t names : List ℕ) (call def : ℕ) (list : List ℕ) {vs : List ℕ}
     where
       go : (byPlace d k ≡ Fills (own k)) ⊎ (byPlace d k ≡ Joins (own k)) → p .mode ≡ modeArgs
       go (inl e) =
-          let below = passing.place-filled t names call def list pass k (own k) e .1 in
-          let s = passing.front-sits t names call def list pass k below in
+          let below = reaching.place-filled ps (pass .counts) (pass .outcome) k (own k) e .1 in
+          let s = reaching.front-sits ps (pass .counts) (pass .outcome) k below in
           absurd (none (s .param) (s .there) (s .kind))
       go (inr e) =
-          let s = passing.args-sits t names call def list pass (own k)
-          (passing.place-joined t names call def list pass k (own k) e .1) in
+          let s = reaching.args-sits ps (pass .counts) (pass .outcome) (own k)
+          (reaching.place-joined ps (pass .counts) (pass .outcome) k (own k) e .1) in
           let same : s .param ≡ p = same-at fs (own k) (s .param) p (s .there) sits in
           rw same at (s .kind)
 
@@ -239,15 +250,28 @@ module _ (t names : List ℕ) (call def : ℕ) (list : List ℕ) {vs : List ℕ}
           → (CanBeNamed p × (p .name ≡ x))
           ⊎ ((p .mode ≡ modeKwargs) × ((i : ℕ) (q : FlatParam) → IsAt fs i q → CanBeNamed q → q .name ≡ x → ⊥))
       go (inl e) =
-          let f = passing.named-sits t names call def list pass x (own k)
-          (passing.name-filled t names call def list pass (namedFrom 0 x fs) (own k) e) in
+          let f = reaching.named-sits ps (pass .counts) (pass .outcome) x (own k)
+          (reaching.name-filled ps (pass .counts) (pass .outcome) (namedFrom 0 x fs) (own k) e) in
           let same : f .param ≡ p = same-at fs (own k) (f .param) p (f .there) sits in
           inl (rw same at (f .canBe), rw same at (f .name))
       go (inr e) =
-          let j = passing.name-joined t names call def list pass (namedFrom 0 x fs) (own k) e in
-          let s = passing.kwargs-sits t names call def list pass (own k) (j .1) in
+          let j = reaching.name-joined ps (pass .counts) (pass .outcome) (namedFrom 0 x fs) (own k) e in
+          let s = reaching.kwargs-sits ps (pass .counts) (pass .outcome) (own k) (j .1) in
           let same : s .param ≡ p = same-at fs (own k) (s .param) p (s .there) sits in
           inr (rw same at (s .kind), λ i q iq c n. name-missed fs x 0 (j .0) i q iq c n)
+
+  -- and that parameter is the only one of the name
+  pub named-reaches-it : (k i : ℕ) (r : Node) (x : Name) (p : FlatParam) → IsAt qs k (named r x) → IsAt fs i p
+      → CanBeNamed p → p .name ≡ x → own k ≡ i
+  named-reaches-it k i r x p at sits c n =
+      let q = every-argument k (named r x) at in
+      go (q .0) (q .1) (named-reaches k r x (q .0) at (q .1))
+    where
+      go : (q : FlatParam) → IsAt fs (own k) q → (CanBeNamed q × (q .name ≡ x))
+          ⊎ ((q .mode ≡ modeKwargs) × ((i : ℕ) (q : FlatParam) → IsAt fs i q → CanBeNamed q → q .name ≡ x → ⊥))
+          → own k ≡ i
+      go q there (inl (d, m)) = one-name ps (pass .counts) (pass .outcome) (own k) i q p there sits (m ∙ sym n)
+      go q there (inr (m, none)) = absurd (none i p sits c n)
 
   -- "No argument reaches a PosOnly parameter by name": what keeps the two lists from being exchanged
   pub no-name-reaches-pos-only : (k : ℕ) (r : Node) (x : Name) (p : FlatParam) → IsAt qs k (named r x)
@@ -300,3 +324,21 @@ module _ (t names : List ℕ) (call def : ℕ) (list : List ℕ) {vs : List ℕ}
           let f = needed-has-argument i p sits e in
           let some = passing.nodes t names call def list pass (f .0) (f .1 .0) (f .1 .1 .0) in
           absurd (omega (arith, f .1 .1 .1 .1))
+
+-- "with `**kwargs` 82 never arises"
+pub no-unknown-with-kwargs : (t names : List ℕ) (call def room : ℕ) {vs : List ℕ}
+    → bindOf t names call def room ≡ refused unknownNamed vs → (i : ℕ) (p : FlatParam) → IsAt (flatsAt t names def) i p
+    → p .mode ≡ modeKwargs → ⊥
+no-unknown-with-kwargs = unknown-without-kwargs
+
+-- "83 arises only against a positional"
+pub filled-against-positional : (t names : List ℕ) (call def room : ℕ) {vs : List ℕ}
+    → bindOf t names call def room ≡ refused alreadyFilled vs
+    → Against (flatsAt t names def) (argumentsAt t names call) vs
+filled-against-positional = filled-by-a-positional
+
+-- "a call and a def that meet the rules (stated without the job) are accepted"
+pub accepted-by-rules : (t names : List ℕ) (call def : ℕ) (list : List ℕ) → Rules t names call def (length list)
+    → bindOf t names call def (length list)
+    ≡ accepted (length (flatsAt t names def) ∷ length (argumentsAt t names call) ∷ [])
+accepted-by-rules = complete

@@ -34,7 +34,7 @@ Index (Fills i) w = w ≡ i
 Index (Joins i) w = w ≡ i
 Index Nowhere w = ⊥
 
-took : (place : ℕ) (r : Reach) (a : Argument) (ws vs : List ℕ)
+pub took : (place : ℕ) (r : Reach) (a : Argument) (ws vs : List ℕ)
     → turn place r (kindIn a) (nodeIn a) ws ≡ accepted vs → Took place a ws vs r
 unfolding turn
 took place (Fills i) a ws vs e = go (ltb 0 (getD ws i 0)) refl e
@@ -53,7 +53,7 @@ module _ (place : ℕ) (a : Argument) (ws vs : List ℕ) where
       ∙ length-set ws i (nodeIn a .at)
   took-long (Joins i) v = ap length v ∙ length-set ws place i
 
-  took-other : (r : Reach) (j : ℕ) → Took place a ws vs r → (j ≡ place → ⊥) → (r ≡ Fills j → ⊥)
+  pub took-other : (r : Reach) (j : ℕ) → Took place a ws vs r → (j ≡ place → ⊥) → (r ≡ Fills j → ⊥)
       → getD vs j 0 ≡ getD ws j 0
   took-other (Fills i) j (e, v) n m = ap (λ (l : List ℕ). getD l j 0) v
       ∙ getD-set-other (set ws i (nodeIn a .at)) place j i 0 n

@@ -4,8 +4,11 @@ use mathlib.Core.Logic.{_⊎_}
 use mathlib.Core.List.{List, [], _∷_}
 use Prim.Native.Nat.{ℕ, zero, suc, _+_}
 use lib.ListN.{length, getD}
+use Rattle.forest.specs.Forest.{Node}
+use Rattle.deflist.specs.Written.{Name}
 use Rattle.deflist.specs.Unpack.{modePosOnly, modePosOrName, modeNameOnly, modeArgs, modeKwargs}
 use Rattle.parameters.specs.Params.{listOf}
+use Rattle.arguments.specs.Written.{Argument, positional, named}
 use Rattle.bind.specs.FlatList.{FlatParam, flats}
 use Rattle.bind.specs.Job.{listAfter}
 
@@ -38,3 +41,18 @@ parameterWord t names call def list i = getD (listAfter t names call def list) i
 
 abbrev pub argumentWord : List ℕ → List ℕ → ℕ → ℕ → List ℕ → ℕ → ℕ
 argumentWord t names call def list k = getD (listAfter t names call def list) (length (flatsAt t names def) + k) 0
+
+-- a named argument whose parameter a positional argument has filled
+pub record Against (fs : List FlatParam) (qs : List Argument) (vs : List ℕ) : Type 0 where
+  pub number : ℕ
+  pub node : Node
+  pub name : Name
+  pub there : IsAt qs number (named node name)
+  pub carries : vs ≡ node .at ∷ node .begin ∷ node .stop ∷ []
+  pub index : ℕ
+  pub param : FlatParam
+  pub sits : IsAt fs index param
+  pub same : param .name ≡ name
+  pub canBe : CanBeNamed param
+  pub other : Node
+  pub first : IsAt qs index (positional other)
