@@ -51,8 +51,6 @@ def given_by_jobs():
         words = words.rpartition("/*")[2]
         listed = re.findall(r": ([\d, to]+)\.\s+(?:\* )?Accepted", words) + re.findall(r"number \(([\d, to]+)\)", words)
         given[job] = set(ranges(", ".join(listed)))
-    # a call and a def: what the two jobs give, and document 02's own
-    given["bind"] = given["params"] | given["call"] | set(range(80, 85))
     # the reader refuses with 74 what 1 and 2 would refuse
     given["file"] = given["module"] - {1, 2} | set(range(70, 76))
     return given
