@@ -69,6 +69,14 @@ uint32_t starlark_params(const uint8_t *table, size_t table_len, const uint8_t *
 uint32_t starlark_call(const uint8_t *table, size_t table_len, const uint8_t *names, size_t names_len, size_t node,
                        uint32_t *out);
 
+/* Which argument of the Call at `call` reaches which parameter of the Def at `def` (no Lambda): 1 to 4, 6, 7, 10 to 18, 20 to 24, 80 to 84.
+ * Accepted: out[0] the number of parameters, marks omitted, out[1] the number of arguments. The list then begins with a word for each
+ * parameter, the node of the argument that it takes, or 0 for its default and for `*args` and `**kwargs`; and then a word for each argument,
+ * the index of the parameter that it reached. It needs a word for each written parameter, marks counted, and for each argument (else 7);
+ * words past the answer stay. `list_len` counts words. */
+uint32_t starlark_bind(const uint8_t *table, size_t table_len, const uint8_t *names, size_t names_len, size_t call, size_t def,
+                       uint32_t *list, size_t list_len, uint32_t *out);
+
 /* Whether the expression at `node` is a target: 1 to 4, 6, 30. Accepted: out[0] its Identifier, Dot and Index leaves. */
 uint32_t starlark_target(const uint8_t *table, size_t table_len, const uint8_t *names, size_t names_len, size_t node,
                          uint32_t *out);

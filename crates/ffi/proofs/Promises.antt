@@ -8,6 +8,7 @@ use Rattle.fields.proofs.Coincide.{coincide}
 use Rattle.table.specs.Check.{checkOf}
 use Rattle.parameters.specs.Params.{paramsOf, modesAfter}
 use Rattle.arguments.specs.Job.{callOf}
+use Rattle.bind.specs.Job.{bindOf, listAfter}
 use Rattle.targets.specs.Jobs.{targetOf, assignmentOf}
 use Rattle.types.specs.Jobs.{typeShapeOf}
 use Rattle.shapes.specs.Jobs.{shapesAfter}
@@ -37,6 +38,16 @@ pub starlark-call-one : (table names : List ℕ) (node : ℕ) (out : List ℕ) {
     → s ≡ number (callOf table names node) → out-s ≡ laid (callWords (callOf table names node)) 0 out
     → (r ≡ s) × (out-r ≡ out-s)
 starlark-call-one table names node out r-is out-is s-is out-are = (coincide r-is s-is, coincide out-is out-are)
+
+-- of `starlark_bind`
+pub starlark-bind-one : (table names : List ℕ) (call def : ℕ) (list out : List ℕ) {r s : ℕ} {list-r list-s : List ℕ}
+    {out-r out-s : List ℕ} → r ≡ number (bindOf table names call def (length list))
+    → out-r ≡ laid (words (bindOf table names call def (length list))) 0 out
+    → list-r ≡ listAfter table names call def list → s ≡ number (bindOf table names call def (length list))
+    → out-s ≡ laid (words (bindOf table names call def (length list))) 0 out
+    → list-s ≡ listAfter table names call def list → (r ≡ s) × (list-r ≡ list-s) × (out-r ≡ out-s)
+starlark-bind-one table names call def list out r-is out-is list-is s-is out-are list-are =
+    (coincide r-is s-is, coincide list-is list-are, coincide out-is out-are)
 
 -- of `starlark_target`
 pub starlark-target-one : (table names : List ℕ) (node : ℕ) (out : List ℕ) {r s : ℕ} {out-r out-s : List ℕ}

@@ -1,6 +1,7 @@
 // The C interface: each job's number, and its values in twelve words that the caller lends.
 use arguments::CallArgs;
 use arguments::Called;
+use bind::Bound;
 use parameters::Counted;
 use parameters::Range;
 use parameters::Unpacked;
@@ -20,6 +21,7 @@ ghost use Rattle.table.specs.Check.{checkOf};
 ghost use Rattle.parameters.specs.Indices.{valuesOf};
 ghost use Rattle.parameters.specs.Params.{paramsOf, modesAfter};
 ghost use Rattle.arguments.specs.Job.{placeValues, callValues, callOf};
+ghost use Rattle.bind.specs.Job.{bindOf, listAfter};
 ghost use Rattle.targets.specs.Jobs.{targetOf, assignmentOf};
 ghost use Rattle.types.specs.Jobs.{typeShapeOf};
 ghost use Rattle.shapes.specs.Jobs.{shapesAfter};
@@ -53,6 +55,16 @@ fn put_count(n: u32, out: &mut [u32; 12]) -> u32
     ensures { λ r. ⌜ now (out .exit) ≡ laid (words (accepted (n ∷ []))) 0 (now (out .entry)) ⌝ }
 {
     out[0] = n;
+    0
+}
+
+// An answer of two values, accepted.
+fn put_two(a: u32, b: u32, out: &mut [u32; 12]) -> u32
+    ensures { λ r. ⌜ r ≡ number (accepted (a ∷ b ∷ [])) ⌝ }
+    ensures { λ r. ⌜ now (out .exit) ≡ laid (words (accepted (a ∷ b ∷ []))) 0 (now (out .entry)) ⌝ }
+{
+    out[0] = a;
+    out[1] = b;
     0
 }
 
@@ -156,6 +168,31 @@ pub extern "C" fn starlark_call(table: &[u8], names: &[u8], node: usize, out: &m
     match answer {
         Called::Accepted(a) => put_call(a, out),
         Called::Refused(r) => put_refused(r, out),
+    }
+}
+
+// The binding job: the flat count and the number of arguments, and a word for each of them in the list.
+#[no_mangle]
+pub extern "C" fn starlark_bind(
+    table: &[u8],
+    names: &[u8],
+    call: usize,
+    def: usize,
+    list: &mut [u32],
+    out: &mut [u32; 12],
+) -> u32
+    ensures { λ r. ⌜ r ≡
+        number (bindOf (now (table .entry)) (now (names .entry)) call def (length (now (list .entry)))) ⌝ }
+    ensures { λ r. ⌜ now (out .exit) ≡
+        laid (words (bindOf (now (table .entry)) (now (names .entry)) call def (length (now (list .entry))))) 0
+        (now (out .entry)) ⌝ }
+    ensures { λ r. ⌜ now (list .exit) ≡
+        listAfter (now (table .entry)) (now (names .entry)) call def (now (list .entry)) ⌝ }
+{
+    let answer = bind::bind(table, names, call, def, list);
+    match answer {
+        Bound::Accepted { flat, many } => put_two(flat, many, out),
+        Bound::Refused(r) => put_refused(r, out),
     }
 }
 

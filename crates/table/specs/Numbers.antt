@@ -197,3 +197,23 @@ blockCounts = 74
 -- bytes left over
 abbrev pub bytesLeftOver : ℕ
 bytesLeftOver = 75
+
+-- a star or `**` argument of a call that is bound
+abbrev pub starArgument : ℕ
+starArgument = 80
+
+-- a positional argument too many, without `*args`
+abbrev pub tooManyPositional : ℕ
+tooManyPositional = 81
+
+-- a named argument that no parameter takes, without `**kwargs`
+abbrev pub unknownNamed : ℕ
+unknownNamed = 82
+
+-- a named argument for a parameter that is filled already
+abbrev pub alreadyFilled : ℕ
+alreadyFilled = 83
+
+-- an ordinary parameter left empty, without default
+abbrev pub emptyParameter : ℕ
+emptyParameter = 84

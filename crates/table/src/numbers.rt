@@ -96,3 +96,13 @@ pub const BLOCK_USED: u32 = 73; // used bytes or padding
 pub const BLOCK_COUNTS: u32 = 74; // counts beyond the limits, or no node
 
 pub const BYTES_LEFT_OVER: u32 = 75; // bytes left over
+
+pub const STAR_ARGUMENT: u32 = 80; // a star or `**` argument of a call that is bound
+
+pub const TOO_MANY_POSITIONAL: u32 = 81; // a positional argument too many, without `*args`
+
+pub const UNKNOWN_NAMED: u32 = 82; // a named argument that no parameter takes, without `**kwargs`
+
+pub const ALREADY_FILLED: u32 = 83; // a named argument for a parameter that is filled already
+
+pub const EMPTY_PARAMETER: u32 = 84; // an ordinary parameter left empty, without default

@@ -1,0 +1,6 @@
+pub mod Lists
+pub mod Steps
+pub mod Loops
+pub mod Entry
+pub mod Whole
+pub mod Promises

@@ -1,0 +1,13 @@
+-- `bind::first_of` meets its contract: the first that refuses. Assumes nothing.
+use borrow.Author.Needs.{needs}
+use Rattle.bind.proofs.first_of.Statement.{statement}
+use Rattle.bind.proofs.first_of.Tie as tie
+
+pub first-of-spec : {M : Type 1} → statement M
+first-of-spec =
+    tie.close
+    (tie.spec
+    (λ c. search needs)
+    (λ c. search needs)
+    (λ c. search needs)
+    (λ c. cc))  -- returns-2

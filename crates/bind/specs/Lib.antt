@@ -1,0 +1,4 @@
+pub mod FlatList
+pub mod Binding
+pub mod Job
+pub mod Reading

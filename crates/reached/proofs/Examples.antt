@@ -1,0 +1,19 @@
+-- The corner cases of W-204, all rows in one statement. Assumes nothing.
+use mathlib.Core.Path.{_≡_, refl}
+use mathlib.Core.List.{map}
+use Rattle.forest.specs.Names.{same}
+use Rattle.deflist.specs.Unpack.{hasName, firstSame, repeats, advance, step, finish, run, slashFrom, start, unpack}
+use Rattle.parameters.specs.Indices.{countedOf}
+use Rattle.arguments.specs.Call.{firstSame as callSame, hasName as callName, repeats as callRepeats, check}
+use Rattle.arguments.specs.Call.{advance as callAdvance, run as callRun, unpack as callUnpack}
+use Rattle.bind.specs.FlatList.{flatsFrom, flats}
+use Rattle.bind.specs.Binding.{namedFrom, reaches, unreached, turn, along, starCheck, emptyCheck, binding}
+use Rattle.bind.specs.Job.{listsBound}
+use Rattle.reached.specs.Cases.{Row, rows}
+
+-- THEOREM: every row is what the definitions answer
+pub corner-cases : map (λ (r : Row). listsBound (r .params) (r .arguments)) rows ≡ map (λ (r : Row). r .shown) rows
+unfolding same hasName firstSame repeats advance step finish run slashFrom start unpack countedOf callSame callName
+    callRepeats check callAdvance callRun callUnpack flatsFrom flats namedFrom reaches unreached turn along starCheck
+    emptyCheck binding listsBound
+corner-cases = refl

@@ -1,0 +1,12 @@
+pub mod Walk
+pub mod Params
+pub mod Nodes
+pub mod Reaching
+pub mod Passed
+pub mod Accepts
+pub mod Complete
+pub mod Early
+pub mod Refusals
+pub mod Stops
+pub mod Reached
+pub mod Examples

@@ -1,0 +1,52 @@
+-- The nodes of a call's arguments: behind the call, and each behind the one before it. Assumes nothing.
+use mathlib.Core.Path.{_≡_, refl, ap}
+use mathlib.Core.List.{List, [], _∷_}
+use Prim.Native.Nat.{ℕ, zero, suc, _+_, _/_, _<_, _≤_}
+use native.Mathlib.Omega.{arith}
+use Rattle.forest.specs.Forest.{nodeOf, spanOf, kidsOf, forest}
+use Rattle.forest.proofs.Stretch.{forest-induction, rest-part}
+use Rattle.table.specs.Check.{stretchOf}
+use Rattle.arguments.specs.Written.{Argument, nodeIn, argumentOf, argumentsIn}
+use Rattle.bind.specs.Job.{argumentsAt}
+use Rattle.bind.specs.Reading.{behindCallee}
+use Rattle.bind.proofs.Lists.{args-end, args-on, arg-node, args-behind}
+use Rattle.reached.specs.Said.{IsAt}
+
+-- each argument's node is no earlier than the first, and earlier than those behind it
+pub record Rising (first : ℕ) (qs : List Argument) : Type 0 where
+  pub least : (j : ℕ) (a : Argument) → IsAt qs j a → first ≤ nodeIn a .at
+  pub rises : (j l : ℕ) (a b : Argument) → j < l → IsAt qs j a → IsAt qs l b → nodeIn a .at < nodeIn b .at
+
+rising-none : (i : ℕ) → Rising i []
+rising-none i = record { least = λ j a (e : ⊥). absurd e; rises = λ j l a b h (e : ⊥) f. absurd e }
+
+rising-more : (i n : ℕ) (a : Argument) (qs : List Argument) → nodeIn a .at ≡ i → i < n → Rising n qs
+    → Rising i (a ∷ qs)
+rising-more i n a qs at h r = record { least = least; rises = rises }
+  where
+    least : (j : ℕ) (b : Argument) → IsAt (a ∷ qs) j b → i ≤ nodeIn b .at
+    least zero b e = let same : nodeIn a .at ≡ nodeIn b .at = ap (λ (x : Argument). nodeIn x .at) e in omega arith
+    least (suc j) b e = omega (arith, r .least j b e)
+
+    rises : (j l : ℕ) (b c : Argument) → j < l → IsAt (a ∷ qs) j b → IsAt (a ∷ qs) l c → nodeIn b .at < nodeIn c .at
+    rises zero zero b c g e f = absurd (omega arith)
+    rises zero (suc l) b c g e f = let same : nodeIn a .at ≡ nodeIn b .at = ap (λ (x : Argument). nodeIn x .at) e in
+        omega (arith, r .least l c f)
+    rises (suc j) zero b c g e f = absurd (omega arith)
+    rises (suc j) (suc l) b c g e f = r .rises j l b c (omega arith) e f
+
+pub rising : (ns : List ℕ) (i : ℕ) (t : List ℕ) → Rising i (argumentsIn ns (forest i t))
+rising ns =
+    forest-induction (λ i t. Rising i (argumentsIn ns (forest i t)))
+    (λ i t short. rw (args-end ns i t short) (rising-none i))
+    (λ i t big ks rs. rw (args-on ns i t big refl, rest-part (spanOf t) t refl)
+    (rising-more i (i + spanOf t / 24) (argumentOf ns (nodeOf i t)) _
+    (ap (λ x. x .at) (arg-node ns i t)) (omega arith) rs))
+
+-- LAW: the arguments of a call
+pub call-rising : (t ns : List ℕ) (call : ℕ) → (first : ℕ) × ((0 < first) × Rising first (argumentsAt t ns call))
+unfolding argumentsAt
+call-rising t ns call =
+    let s = stretchOf t call in
+    let first = call + 1 + spanOf (kidsOf s) / 24 in
+    (first, (omega arith, rw (args-behind ns call s) at (rising ns first (behindCallee s))))

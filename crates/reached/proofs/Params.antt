@@ -1,0 +1,276 @@
+-- Where the parameters of an accepted list stand, by their modes, and what a name finds. Assumes nothing.
+use mathlib.Core.Path.{_≡_, refl, sym, ap, _∙_}
+use mathlib.Core.Bool.{Bool, true, false, _&&_, _||_}
+use mathlib.Core.Logic.{_⊎_, inl, inr}
+use mathlib.Core.List.{List, [], _∷_, map, append-nil}
+use Prim.Native.Nat.{ℕ, zero, suc, _+_, _<_, _≤_}
+use native.Mathlib.Omega.{arith}
+use lib.ListN.{length, getD, length-map}
+use lib.Dec.{eqb}
+use borrow.Author.Tests.{eqb-true}
+use Rattle.fields.proofs.Basics.{never, le-or-lt}
+use Rattle.fields.specs.Choice.{if'}
+use Rattle.forest.specs.Names.{same, Distinct}
+use Rattle.forest.proofs.Named.{same-bytes-refl, same-bytes-equal}
+use Rattle.table.specs.declared.Place.the-variants.{At, Nothing}
+use Rattle.deflist.specs.Written.{Name, Param, normal, noArgs, slash, args, kwargs}
+use Rattle.deflist.specs.Unpack.{unpack, accepted, modes, modePosOnly, modePosOrName, modeNameOnly, modeArgs}
+use Rattle.deflist.specs.Unpack.{modeKwargs}
+use Rattle.deflist.specs.declared.Counts.{Counts}
+use Rattle.deflist.specs.declared.State.{State}
+use Rattle.deflist.specs.declared.State.the-variants.{SeenSlash, SeenStar, SeenStarStar}
+use Rattle.parameters.specs.Indices.{placeOf}
+use Rattle.demand3.specs.Cut.{Cut, Star, noStar, bare, starred, Last, noKwargs, withKwargs, partsOf, cutRanges, ByRange}
+use Rattle.demand3.specs.Cut.{argsPart, kwargsPart, partModes, namesOf}
+use Rattle.demand3.proofs.Cuts.{cutCounts, cut-accepted, accepted-cut, cut-modes}
+use Rattle.demand3.proofs.Counting.{argsPlace, kwargsPlace}
+use Rattle.demand3.proofs.Ranges.{modes-by-range}
+use Rattle.bind.specs.FlatList.{FlatParam, flatsFrom, flats}
+use Rattle.bind.specs.Binding.{calledByName, namedFrom}
+use Rattle.bind.proofs.Lists.{flats-modes}
+use Rattle.bind.proofs.Entry.{flats-long}
+use Rattle.reached.specs.Said.{IsAt, CanBeNamed}
+
+-- number i of a list is there, and is one
+pub there : {A : Type 0} (l : List A) (i : ℕ) → i < length l → (x : A) × IsAt l i x
+there [] i h = absurd (omega arith)
+there (x ∷ l) zero h = (x, refl)
+there (x ∷ l) (suc i) h = there l i (omega arith)
+
+pub within : {A : Type 0} (l : List A) (i : ℕ) (x : A) → IsAt l i x → i < length l
+within (y ∷ l) zero x e = omega arith
+within (y ∷ l) (suc i) x e = omega (arith, within l i x e)
+
+pub same-at : {A : Type 0} (l : List A) (i : ℕ) (x y : A) → IsAt l i x → IsAt l i y → x ≡ y
+same-at (z ∷ l) zero x y e f = sym e ∙ f
+same-at (z ∷ l) (suc i) x y e f = same-at l i x y e f
+
+-- the mode of a flat parameter stands among the modes
+mode-in : (fs : List FlatParam) (i : ℕ) (p : FlatParam) → IsAt fs i p
+    → p .mode ≡ getD (map (λ (p : FlatParam). p .mode) fs) i 0
+mode-in (q ∷ fs) zero p e = ap (λ (x : FlatParam). x .mode) (sym e)
+mode-in (q ∷ fs) (suc i) p e = mode-in fs i p e
+
+pub mode-at : (ps : List Param) (i : ℕ) (p : FlatParam) → IsAt (flats ps) i p → p .mode ≡ getD (modes ps) i 0
+unfolding flats modes
+mode-at ps i p e = mode-in (flats ps) i p e ∙ ap (λ (l : List ℕ). getD l i 0) (flats-modes _ ps)
+
+-- where positional parameters, `*args` and `**kwargs` of an accepted list stand
+pub record Stands (ps : List Param) (c : Counts) : Type 0 where
+  pub few : c .«num_positional» .0 ≤ length (flats ps)
+  pub front : (i : ℕ) → i < c .«num_positional» .0
+      → (getD (modes ps) i 0 ≡ modePosOnly) ⊎ (getD (modes ps) i 0 ≡ modePosOrName)
+  pub back : (i : ℕ) → c .«num_positional» .0 ≤ i → i < length (flats ps) → 2 < getD (modes ps) i 0
+  pub args : (i : ℕ) → placeOf (c .args) ≡ At i → (i < length (flats ps)) × (getD (modes ps) i 0 ≡ modeArgs)
+  pub kwargs : (i : ℕ) → placeOf (c .kwargs) ≡ At i → (i < length (flats ps)) × (getD (modes ps) i 0 ≡ modeKwargs)
+  pub someArgs : (i : ℕ) → i < length (flats ps) → getD (modes ps) i 0 ≡ modeArgs → placeOf (c .args) ≡ Nothing → ⊥
+  pub someKwargs : (i : ℕ) → i < length (flats ps) → getD (modes ps) i 0 ≡ modeKwargs → placeOf (c .kwargs) ≡ Nothing
+      → ⊥
+
+args-at : (s : Star) (m i : ℕ) → placeOf (argsPlace s m) ≡ At i → (i ≡ m) × (length (argsPart s) ≡ 1)
+args-at noStar m i e = never (cc)
+args-at (bare r qs) m i e = never (cc)
+args-at (starred r n qs) m i e = (cc, refl)
+
+kwargs-at : (l : Last) (m i : ℕ) → placeOf (kwargsPlace l m) ≡ At i → (i ≡ m) × (length (kwargsPart l) ≡ 1)
+kwargs-at noKwargs m i e = never (cc)
+kwargs-at (withKwargs r n) m i e = (cc, refl)
+
+no-args : (s : Star) (m : ℕ) → placeOf (argsPlace s m) ≡ Nothing → length (argsPart s) ≡ 0
+no-args noStar m e = refl
+no-args (bare r qs) m e = refl
+no-args (starred r n qs) m e = never (cc)
+
+no-kwargs : (l : Last) (m : ℕ) → placeOf (kwargsPlace l m) ≡ Nothing → length (kwargsPart l) ≡ 0
+no-kwargs noKwargs m e = refl
+no-kwargs (withKwargs r n) m e = never (cc)
+
+pub stands : (ps : List Param) (c : Counts) → unpack ps ≡ accepted c → Stands ps c
+stands ps c h =
+    let w = accepted-cut ps h in
+    let cut : Cut = w .0 in
+    let both : accepted c ≡ accepted (cutCounts cut) = sym h ∙ ap unpack (sym (w .1)) ∙ cut-accepted cut (w .2) in
+    let counted : c ≡ cutCounts cut = cc in
+    let these : modes ps ≡ partModes (partsOf cut) = ap modes (sym (w .1)) ∙ cut-modes cut (w .2 .slash) in
+    let ranges : ByRange (cutRanges cut) (modes ps) = rw (these ∙ sym (append-nil (partModes (partsOf cut))))
+    (modes-by-range (partsOf cut) []) in
+    let long : length (flats ps) ≡ cutCounts cut .flat .0 = flats-long ps h ∙ ap (λ (x : Counts). x .flat .0) counted in
+    rw counted (record {
+      few = omega (arith, long);
+      front = λ i g. front cut i g ranges;
+      back = λ i g h. back cut i g (omega (arith, long)) ranges;
+      args = λ i g.
+          let k = args-at (cut .star) _ i g in
+          (omega (arith, long, k .0, k .1), ranges .args i (omega (arith, k .0)) (omega (arith, k .0, k .1)));
+      kwargs = λ i g.
+          let k = kwargs-at (cut .last) _ i g in
+          (omega (arith, long, k .0, k .1), ranges .kwargs i (omega (arith, k .0)) (omega (arith, k .0, k .1)));
+      someArgs = λ i g m n. some-args cut i (omega (arith, long)) ranges m (no-args (cut .star) _ n);
+      someKwargs = λ i g m n. some-kwargs cut i (omega (arith, long)) ranges m (no-kwargs (cut .last) _ n);
+    })
+  where
+    front : (cut : Cut) (i : ℕ) → i < cutCounts cut .«num_positional» .0 → ByRange (cutRanges cut) (modes ps)
+        → (getD (modes ps) i 0 ≡ modePosOnly) ⊎ (getD (modes ps) i 0 ≡ modePosOrName)
+    front cut i g ranges = go (le-or-lt (length (partsOf cut .posOnly)) i)
+      where
+        go : (length (partsOf cut .posOnly) ≤ i) ⊎ (i < length (partsOf cut .posOnly))
+            → (getD (modes ps) i 0 ≡ modePosOnly) ⊎ (getD (modes ps) i 0 ≡ modePosOrName)
+        go (inl x) = inr (ranges .posOrNamed i x g)
+        go (inr x) = inl (ranges .posOnly i (omega arith) x)
+
+    back : (cut : Cut) (i : ℕ) → cutCounts cut .«num_positional» .0 ≤ i → i < cutCounts cut .flat .0
+        → ByRange (cutRanges cut) (modes ps) → 2 < getD (modes ps) i 0
+    back cut i g h ranges = go (le-or-lt (cutRanges cut .args .upto) i) (le-or-lt (cutRanges cut .namedOnly .upto) i)
+      where
+        go : (cutRanges cut .args .upto ≤ i) ⊎ (i < cutRanges cut .args .upto)
+            → (cutRanges cut .namedOnly .upto ≤ i) ⊎ (i < cutRanges cut .namedOnly .upto) → 2 < getD (modes ps) i 0
+        go (inr x) y = omega (arith, ranges .args i g x)
+        go (inl x) (inr y) = omega (arith, ranges .namedOnly i x y)
+        go (inl x) (inl y) = omega (arith, ranges .kwargs i y h)
+
+    -- in which range an index is
+    some-args : (cut : Cut) (i : ℕ) → i < cutCounts cut .flat .0 → ByRange (cutRanges cut) (modes ps)
+        → getD (modes ps) i 0 ≡ modeArgs → length (argsPart (cut .star)) ≡ 0 → ⊥
+    some-args cut i h ranges m none = go (le-or-lt (cutRanges cut .posOnly .upto) i)
+        (le-or-lt (cutRanges cut .posOrNamed .upto) i) (le-or-lt (cutRanges cut .namedOnly .upto) i)
+      where
+        go : (cutRanges cut .posOnly .upto ≤ i) ⊎ (i < cutRanges cut .posOnly .upto)
+            → (cutRanges cut .posOrNamed .upto ≤ i) ⊎ (i < cutRanges cut .posOrNamed .upto)
+            → (cutRanges cut .namedOnly .upto ≤ i) ⊎ (i < cutRanges cut .namedOnly .upto) → ⊥
+        go (inr x) y z = absurd (omega (arith, ranges .posOnly i (omega arith) x))
+        go (inl x) (inr y) z = absurd (omega (arith, ranges .posOrNamed i x y))
+        go (inl x) (inl y) (inr z) = absurd (omega (arith, ranges .namedOnly i (omega arith) z))
+        go (inl x) (inl y) (inl z) = absurd (omega (arith, ranges .kwargs i z h))
+
+    some-kwargs : (cut : Cut) (i : ℕ) → i < cutCounts cut .flat .0 → ByRange (cutRanges cut) (modes ps)
+        → getD (modes ps) i 0 ≡ modeKwargs → length (kwargsPart (cut .last)) ≡ 0 → ⊥
+    some-kwargs cut i h ranges m none = go (le-or-lt (cutRanges cut .posOnly .upto) i)
+        (le-or-lt (cutRanges cut .posOrNamed .upto) i) (le-or-lt (cutRanges cut .args .upto) i)
+      where
+        go : (cutRanges cut .posOnly .upto ≤ i) ⊎ (i < cutRanges cut .posOnly .upto)
+            → (cutRanges cut .posOrNamed .upto ≤ i) ⊎ (i < cutRanges cut .posOrNamed .upto)
+            → (cutRanges cut .args .upto ≤ i) ⊎ (i < cutRanges cut .args .upto) → ⊥
+        go (inr x) y z = absurd (omega (arith, ranges .posOnly i (omega arith) x))
+        go (inl x) (inr y) z = absurd (omega (arith, ranges .posOrNamed i x y))
+        go (inl x) (inl y) (inr z) = absurd (omega (arith, ranges .args i y z))
+        go (inl x) (inl y) (inl z) = absurd (omega (arith, ranges .namedOnly i z (omega arith)))
+
+-- the names of the flat parameters are those of the list, and so distinct
+flat-names : (s : State) (l : List Param) → map (λ (p : FlatParam). p .name) (flatsFrom s l) ≡ namesOf l
+unfolding flatsFrom
+flat-names s [] = refl
+flat-names s (normal r n d ∷ l) = ap (λ (x : List Name). n ∷ x) (flat-names s l)
+flat-names s (noArgs r ∷ l) = flat-names SeenStar l
+flat-names s (slash r ∷ l) = flat-names SeenSlash l
+flat-names s (args r n ∷ l) = ap (λ (x : List Name). n ∷ x) (flat-names SeenStar l)
+flat-names s (kwargs r n ∷ l) = ap (λ (x : List Name). n ∷ x) (flat-names SeenStarStar l)
+
+name-in : (fs : List FlatParam) (i : ℕ) (p : FlatParam) → IsAt fs i p
+    → getD (map (λ (p : FlatParam). p .name) fs) i [] ≡ p .name
+name-in (q ∷ fs) zero p e = ap (λ (x : FlatParam). x .name) e
+name-in (q ∷ fs) (suc i) p e = name-in fs i p e
+
+pub one-name : (ps : List Param) (c : Counts) → unpack ps ≡ accepted c → (i j : ℕ) (p q : FlatParam)
+    → IsAt (flats ps) i p → IsAt (flats ps) j q → p .name ≡ q .name → i ≡ j
+unfolding flats
+one-name ps c h i j p q ip jq e = go (le-or-lt i j) (le-or-lt j i)
+  where
+    names : map (λ (p : FlatParam). p .name) (flats ps) ≡ namesOf ps
+    names = flat-names _ ps
+
+    distinct : Distinct (namesOf ps)
+    distinct = let w = accepted-cut ps h in rw (w .1) at (w .2 .distinct)
+
+    long : length (namesOf ps) ≡ length (flats ps)
+    long = ap length (sym names) ∙ length-map (flats ps) (λ (p : FlatParam). p .name)
+
+    at : (k : ℕ) (r : FlatParam) → IsAt (flats ps) k r → getD (namesOf ps) k [] ≡ r .name
+    at k r x = ap (λ (l : List Name). getD l k []) (sym names) ∙ name-in (flats ps) k r x
+
+    go : (i ≤ j) ⊎ (j < i) → (j ≤ i) ⊎ (i < j) → i ≡ j
+    go (inl x) (inl y) = omega arith
+    go (inr x) y = absurd (distinct j i x (omega (arith, long, within (flats ps) i p ip))
+        (at j q jq ∙ sym e ∙ sym (at i p ip)))
+    go (inl x) (inr y) = absurd (distinct i j y (omega (arith, long, within (flats ps) j q jq))
+        (at i p ip ∙ e ∙ sym (at j q jq)))
+
+-- what a name finds
+found-mode : (m : ℕ) → calledByName m ≡ true → (m ≡ modePosOrName) ⊎ (m ≡ modeNameOnly)
+found-mode m e = go (eqb m modePosOrName) (eqb m modeNameOnly) refl refl e
+  where
+    go : (a b : Bool) → eqb m modePosOrName ≡ a → eqb m modeNameOnly ≡ b → (a || b) ≡ true
+        → (m ≡ modePosOrName) ⊎ (m ≡ modeNameOnly)
+    go true b f g e = inl (eqb-true m modePosOrName f)
+    go false true f g e = inr (eqb-true m modeNameOnly g)
+    go false false f g e = never (cc)
+
+called : (p : FlatParam) → CanBeNamed p → calledByName (p .mode) ≡ true
+called p (inl e) = rw e refl
+called p (inr e) = rw e refl
+
+pub record Found (fs : List FlatParam) (x : Name) (i : ℕ) : Type 0 where
+  pub param : FlatParam
+  pub there : IsAt fs i param
+  pub canBe : CanBeNamed param
+  pub name : param .name ≡ x
+
+pub name-found : (fs : List FlatParam) (x : Name) (k i : ℕ) → namedFrom k x fs ≡ At i
+    → (j : ℕ) × ((i ≡ k + j) × Found fs x j)
+unfolding namedFrom
+name-found [] x k i e = never (cc)
+name-found (p ∷ fs) x k i e = go (calledByName (p .mode)) (same (p .name) x) refl refl e (name-found fs x (k + 1) i)
+  where
+    on : (namedFrom (k + 1) x fs ≡ At i → (j : ℕ) × ((i ≡ k + 1 + j) × Found fs x j))
+        → namedFrom (k + 1) x fs ≡ At i → (j : ℕ) × ((i ≡ k + j) × Found (p ∷ fs) x j)
+    on rest e =
+        let r = rest e in (
+          suc (r .0),
+          (
+            omega (arith, r .1 .0),
+            record {
+              param = r .1 .1 .param;
+              there = r .1 .1 .there;
+              canBe = r .1 .1 .canBe;
+              name = r .1 .1 .name;
+            },
+          ),
+        )
+
+    go : (a b : Bool) → calledByName (p .mode) ≡ a → same (p .name) x ≡ b
+        → if' (a && b) (λ _. At k) (λ _. namedFrom (k + 1) x fs) ≡ At i
+        → (namedFrom (k + 1) x fs ≡ At i → (j : ℕ) × ((i ≡ k + 1 + j) × Found fs x j))
+        → (j : ℕ) × ((i ≡ k + j) × Found (p ∷ fs) x j)
+    go true true f g e rest =
+        let is : i ≡ k = cc in (
+          0,
+          (
+            omega arith,
+            record {
+              param = p;
+              there = refl;
+              canBe = found-mode (p .mode) f;
+              name = same-bytes-equal (p .name) x g;
+            },
+          ),
+        )
+    go true false f g e rest = on rest e
+    go false b f g e rest = on rest e
+
+pub name-missed : (fs : List FlatParam) (x : Name) (k : ℕ) → namedFrom k x fs ≡ Nothing → (i : ℕ) (p : FlatParam)
+    → IsAt fs i p → CanBeNamed p → p .name ≡ x → ⊥
+unfolding namedFrom
+name-missed (q ∷ fs) x k e zero p at c n =
+    let test : (calledByName (q .mode) && same (q .name) x) ≡ true = rw (
+      ap (λ (y : FlatParam). calledByName (y .mode)) at ∙ called p c,
+      ap (λ (y : FlatParam). y .name) at ∙ n,
+      same-bytes-refl x,
+    ) refl in
+    let hit : At k ≡ Nothing = rw test at e in
+    never (cc)
+name-missed (q ∷ fs) x k e (suc i) p at c n = go (calledByName (q .mode) && same (q .name) x) e
+    (λ f. name-missed fs x (k + 1) f i p at c n)
+  where
+    go : (b : Bool) → if' b (λ _. At k) (λ _. namedFrom (k + 1) x fs) ≡ Nothing
+        → (namedFrom (k + 1) x fs ≡ Nothing → ⊥) → ⊥
+    go true e rest = never (cc)
+    go false e rest = rest e

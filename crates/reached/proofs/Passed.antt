@@ -1,0 +1,161 @@
+-- What an accepted binding has passed, and where its words come from. Assumes nothing.
+use mathlib.Core.Path.{_≡_, refl, ap, _∙_}
+use mathlib.Core.List.{List, _++_}
+use Prim.Native.Nat.{ℕ, _+_, _<_, _≤_}
+use native.Mathlib.Omega.{arith}
+use lib.ListN.{length, getD, drop, length-replicate, List·getD-append}
+use Rattle.table.specs.Answer.{Answer, accepted, refused, andThen}
+use Rattle.table.proofs.Answers.{never-passed}
+use Rattle.deflist.specs.Written.{Param}
+use Rattle.deflist.specs.Unpack as outcome
+use Rattle.deflist.specs.Unpack.{unpack}
+use Rattle.deflist.specs.declared.Counts.{Counts}
+use Rattle.parameters.specs.Indices.{countedOf}
+use Rattle.parameters.specs.Params.{listOf}
+use Rattle.parameters.specs.declared.DefParamIndices.{DefParamIndices}
+use Rattle.arguments.specs.Written.{Argument}
+use Rattle.arguments.specs.Call as calling
+use Rattle.arguments.specs.Job.{outcomeAnswer}
+use Rattle.bind.specs.FlatList.{FlatParam, flats}
+use Rattle.bind.specs.Binding.{reaches, andWith, along, starCheck}
+use Rattle.bind.specs.Binding.{emptyCheck, binding}
+use Rattle.bind.specs.Job.{counting, noWords, listsBound, argumentsAt, entryOf, wordsOf, answeredAt, bindOf}
+use Rattle.bind.specs.Job.{listAfter}
+use Rattle.bind.specs.declared.Reach.the-variants.{Fills}
+use Rattle.bind.proofs.Entry.{Entered, entered}
+use Rattle.reached.specs.Said.{IsAt}
+use Rattle.reached.proofs.Walk.{Index, Nodes, along-long, own-word}
+use Rattle.reached.proofs.Params.{within}
+use Rattle.reached.proofs.Reaching as reaching
+use Rattle.reached.proofs.Nodes.{Rising, call-rising}
+
+-- checks in order that are passed
+both-passed : (a : Answer) (next : Unit {0} → Answer) {vs : List ℕ} → andThen a next ≡ accepted vs
+    → (us : List ℕ) × ((a ≡ accepted us) × (next tt ≡ accepted vs))
+both-passed (accepted us) next e = (us, (refl, e))
+both-passed (refused n us) next e = never-passed e
+
+with-passed : (a : Answer) (next : List ℕ → Answer) {vs : List ℕ} → andWith a next ≡ accepted vs
+    → (us : List ℕ) × ((a ≡ accepted us) × (next us ≡ accepted vs))
+with-passed (accepted us) next e = (us, (refl, e))
+with-passed (refused n us) next e = never-passed e
+
+module _ (t ns : List ℕ) (call def : ℕ) (list : List ℕ) where
+  abbrev fs : List FlatParam
+  fs = flats (listOf t ns def)
+
+  abbrev qs : List Argument
+  qs = argumentsAt t ns call
+
+  -- what an accepted binding has passed
+  pub record Passed : Type 0 where
+    pub entry : Entered t ns call def (length list)
+    pub counts : Counts
+    pub outcome : unpack (listOf t ns def) ≡ outcome.accepted counts
+    pub callValues : List ℕ
+    pub inOrder : outcomeAnswer (calling.unpack qs) ≡ accepted callValues
+    pub stars : List ℕ
+    pub noStar : starCheck qs ≡ accepted stars
+    pub words : List ℕ
+    pub walked : along (countedOf counts .flat) (countedOf counts .indices) fs 0 (noWords (countedOf counts) qs) qs
+        ≡ accepted words
+    pub empties : List ℕ
+    pub noEmpty : emptyCheck 0 fs words ≡ accepted empties
+    pub exit : listAfter t ns call def list ≡ words ++ drop (length words) list
+
+  pub passed : {vs : List ℕ} → bindOf t ns call def (length list) ≡ accepted vs → Passed
+  unfolding bindOf wordsOf listsBound binding listAfter
+  passed {vs} e = by-words (wordsOf t ns call def (length list)) refl e
+    where
+      by-binding : Entered t ns call def (length list) → (c : Counts)
+          → unpack (listOf t ns def) ≡ outcome.accepted c → {cs ws : List ℕ}
+          → outcomeAnswer (calling.unpack qs) ≡ accepted cs
+          → binding (countedOf c) fs (noWords (countedOf c) qs) qs ≡ accepted ws
+          → listAfter t ns call def list ≡ ws ++ drop (length ws) list → Passed
+      by-binding n c u {cs} {ws} o b x =
+          let first = both-passed (starCheck qs) _ b in
+          let second = with-passed
+          (along (countedOf c .flat) (countedOf c .indices) fs 0 (noWords (countedOf c) qs) qs) _
+          (first .1 .1) in
+          let third = both-passed (emptyCheck 0 fs (second .0)) _ (second .1 .1) in
+          let same : accepted (second .0) ≡ accepted ws = third .1 .1 in
+          let these : second .0 ≡ ws = cc in
+          record {
+            entry = n;
+            counts = c;
+            outcome = u;
+            callValues = cs;
+            inOrder = o;
+            stars = first .0;
+            noStar = first .1 .0;
+            words = second .0;
+            walked = second .1 .0;
+            empties = third .0;
+            noEmpty = third .1 .0;
+            exit = rw these x;
+          }
+
+      by-counts : Entered t ns call def (length list) → (o : outcome.Outcome) → unpack (listOf t ns def) ≡ o
+          → {ws : List ℕ} → counting o (λ c. andThen (outcomeAnswer (calling.unpack qs)) (λ _.
+          binding c fs (noWords c qs) qs)) ≡ accepted ws
+          → listAfter t ns call def list ≡ ws ++ drop (length ws) list → Passed
+      by-counts n (outcome.accepted c) u b x =
+          let k = both-passed (outcomeAnswer (calling.unpack qs)) _ b in
+          by-binding n c u (k .1 .0) (k .1 .1) x
+      by-counts n (outcome.refused m r) u b x = never-passed b
+      by-counts n (outcome.internal m r) u b x = never-passed b
+
+      by-words : (a : Answer) → wordsOf t ns call def (length list) ≡ a → answeredAt a t ns call def ≡ accepted vs
+          → Passed
+      by-words (refused n us) w e = never-passed e
+      by-words (accepted ws) w e =
+          let k = both-passed (entryOf t ns call def (length list)) _ w in
+          let x : listAfter t ns call def list ≡ ws ++ drop (length ws) list = rw w refl in
+          by-counts (entered t ns call def (length list) (k .1 .0)) (unpack (listOf t ns def)) refl (k .1 .1) x
+
+-- the words of the list at exit
+module _ (t ns : List ℕ) (call def : ℕ) (list : List ℕ) (p : Passed t ns call def list) where
+  abbrev ps : List Param
+  ps = listOf t ns def
+
+  abbrev pub d : DefParamIndices
+  d = countedOf (p .counts) .indices
+
+  flat-is : countedOf (p .counts) .flat ≡ length (flats ps)
+  flat-is = reaching.flat-is ps (p .counts) (p .outcome)
+
+  pub small : (k : ℕ) (a : Argument) (i : ℕ) → reaches d (flats ps) k a ≡ Fills i → i < countedOf (p .counts) .flat
+  small = reaching.small ps (p .counts) (p .outcome)
+
+  -- the words of the list at exit are those of the walk
+  abbrev pub none-yet : List ℕ
+  none-yet = noWords (countedOf (p .counts)) (argumentsAt t ns call)
+
+  pub long : length (p .words) ≡ length (flats ps) + length (argumentsAt t ns call)
+  long = along-long (countedOf (p .counts) .flat) d (flats ps) small 0 none-yet (argumentsAt t ns call) (p .words)
+      (p .walked) ∙ length-replicate (countedOf (p .counts) .flat + length (argumentsAt t ns call)) 0
+      ∙ ap (λ (n : ℕ). n + length (argumentsAt t ns call)) flat-is
+
+  pub word-is : (i : ℕ) → i < length (flats ps) + length (argumentsAt t ns call)
+      → getD (listAfter t ns call def list) i 0 ≡ getD (p .words) i 0
+  word-is i h = ap (λ (l : List ℕ). getD l i 0) (p .exit)
+      ∙ List·getD-append (p .words) (drop (length (p .words)) list) 0 i (omega (arith, long))
+
+  pub rise : Rising (call-rising t ns call .0) (argumentsAt t ns call)
+  rise = call-rising t ns call .1 .1
+
+  pub nodes : Nodes (argumentsAt t ns call)
+  nodes j a e = omega (arith, call-rising t ns call .1 .0, rise .least j a e)
+
+  pub enough : countedOf (p .counts) .flat + 0 + length (argumentsAt t ns call) ≤ length none-yet
+  enough = omega (arith, length-replicate {A = ℕ} (countedOf (p .counts) .flat + length (argumentsAt t ns call)) 0)
+
+  -- LAW: each argument's word is what it reaches
+  pub reached-is : (k : ℕ) (a : Argument) → IsAt (argumentsAt t ns call) k a
+      → Index (reaches d (flats ps) k a) (getD (listAfter t ns call def list) (length (flats ps) + k) 0)
+  reached-is k a at =
+      let zero-more : 0 + k ≡ k = omega arith in
+      let h = within (argumentsAt t ns call) k a at in
+      let w = own-word (countedOf (p .counts) .flat) d (flats ps) small 0 none-yet (argumentsAt t ns call) (p .words)
+      (p .walked) enough k a at in
+      rw (word-is (length (flats ps) + k) (omega arith)) (rw (zero-more, flat-is) at w)

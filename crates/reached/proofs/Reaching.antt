@@ -1,0 +1,150 @@
+-- What an argument reaches is there: an ordinary parameter that it fills, or the star that collects it.
+-- Assumes nothing.
+use mathlib.Core.Path.{_≡_, refl, sym, ap, _∙_}
+use mathlib.Core.Bool.{Bool, true, false}
+use mathlib.Core.Logic.{_⊎_, inl, inr}
+use mathlib.Core.List.{List}
+use Prim.Native.Nat.{ℕ, _<_, _≤_}
+use native.Mathlib.Omega.{arith}
+use lib.ListN.{length, getD}
+use lib.Dec.{ltb}
+use borrow.Author.Tests.{ltb-true, ltb-false}
+use Rattle.fields.proofs.Basics.{never}
+use Rattle.fields.specs.Choice.{if'}
+use Rattle.table.specs.declared.Place.{Place}
+use Rattle.table.specs.declared.Place.the-variants.{At, Nothing}
+use Rattle.deflist.specs.Written.{Name, Param}
+use Rattle.deflist.specs.Unpack.{unpack, accepted, modes, modePosOnly, modePosOrName, modeArgs, modeKwargs}
+use Rattle.deflist.specs.declared.Counts.{Counts}
+use Rattle.parameters.specs.Indices.{placeOf, countedOf}
+use Rattle.parameters.specs.declared.DefParamIndices.{DefParamIndices}
+use Rattle.arguments.specs.Written.{Argument, positional, named, args, kwargs}
+use Rattle.bind.specs.FlatList.{FlatParam, flats}
+use Rattle.bind.specs.Binding.{namedFrom, collected, byPlace, byName, reaches}
+use Rattle.bind.specs.declared.Reach.the-variants.{Fills, Joins}
+use Rattle.bind.proofs.Entry.{flats-long}
+use Rattle.reached.specs.Said.{IsAt, Ordinary, ByPlace, Starred}
+use Rattle.reached.proofs.Params.{there, within, mode-at, Stands, stands, Found, name-found}
+
+module _ (ps : List Param) (c : Counts) (outcome : unpack ps ≡ accepted c) where
+  abbrev pub d : DefParamIndices
+  d = countedOf c .indices
+
+  pub st : Stands ps c
+  st = stands ps c outcome
+
+  pub flat-is : countedOf c .flat ≡ length (flats ps)
+  unfolding countedOf
+  flat-is = sym (flats-long ps outcome)
+
+  -- by its place
+  pub place-filled : (k i : ℕ) → byPlace d k ≡ Fills i → (i ≡ k) × (k < c .«num_positional» .0)
+  unfolding countedOf
+  place-filled k i e = go (ltb k (c .«num_positional» .0)) refl e
+    where
+      no : (x : Place) → collected x ≡ Fills i → (i ≡ k) × (k < c .«num_positional» .0)
+      no (At j) e = never (cc)
+      no Nothing e = never (cc)
+
+      go : (b : Bool) → ltb k (c .«num_positional» .0) ≡ b
+          → if' b (λ _. Fills k) (λ _. collected (placeOf (c .args))) ≡ Fills i
+          → (i ≡ k) × (k < c .«num_positional» .0)
+      go true f e = let same : k ≡ i = cc in (sym same, ltb-true k (c .«num_positional» .0) f)
+      go false f e = no (placeOf (c .args)) e
+
+  pub place-joined : (k i : ℕ) → byPlace d k ≡ Joins i
+      → (c .«num_positional» .0 ≤ k) × (placeOf (c .args) ≡ At i)
+  unfolding countedOf
+  place-joined k i e = go (ltb k (c .«num_positional» .0)) refl e
+    where
+      star : (x : Place) → collected x ≡ Joins i → x ≡ At i
+      star (At j) e = let same : j ≡ i = cc in ap At same
+      star Nothing e = never (cc)
+
+      go : (b : Bool) → ltb k (c .«num_positional» .0) ≡ b
+          → if' b (λ _. Fills k) (λ _. collected (placeOf (c .args))) ≡ Joins i
+          → (c .«num_positional» .0 ≤ k) × (placeOf (c .args) ≡ At i)
+      go true f e = never (cc)
+      go false f e = (ltb-false k (c .«num_positional» .0) f, star (placeOf (c .args)) e)
+
+  -- by its name
+  pub name-filled : (x : Place) (i : ℕ) → byName x (d .kwargs) ≡ Fills i → x ≡ At i
+  name-filled (At j) i e = let same : j ≡ i = cc in ap At same
+  name-filled Nothing i e = no (d .kwargs) e
+    where
+      no : (x : Place) → collected x ≡ Fills i → Nothing ≡ At i
+      no (At j) e = never (cc)
+      no Nothing e = never (cc)
+
+  pub name-joined : (x : Place) (i : ℕ) → byName x (d .kwargs) ≡ Joins i
+      → (x ≡ Nothing) × (placeOf (c .kwargs) ≡ At i)
+  unfolding countedOf
+  name-joined (At j) i e = never (cc)
+  name-joined Nothing i e = (refl, star (placeOf (c .kwargs)) e)
+    where
+      star : (x : Place) → collected x ≡ Joins i → x ≡ At i
+      star (At j) e = let same : j ≡ i = cc in ap At same
+      star Nothing e = never (cc)
+
+  -- the parameter at a flat index
+  pub record Sits (i : ℕ) (P : FlatParam → Type 0) : Type 0 where
+    pub param : FlatParam
+    pub there : IsAt (flats ps) i param
+    pub kind : P param
+
+  pub front-sits : (k : ℕ) → k < c .«num_positional» .0 → Sits k ByPlace
+  front-sits k h =
+      let x = there (flats ps) k (omega (arith, st .few)) in
+      record { param = x .0; there = x .1; kind = go (x .0) (st .front k h) (mode-at ps k (x .0) (x .1)) }
+    where
+      go : (q : FlatParam) → (getD (modes ps) k 0 ≡ modePosOnly) ⊎ (getD (modes ps) k 0 ≡ modePosOrName)
+          → q .mode ≡ getD (modes ps) k 0 → ByPlace q
+      go q (inl e) m = inl (m ∙ e)
+      go q (inr e) m = inr (m ∙ e)
+
+  pub args-sits : (i : ℕ) → placeOf (c .args) ≡ At i → Sits i (λ (q : FlatParam). q .mode ≡ modeArgs)
+  args-sits i e =
+      let k = st .args i e in
+      let x = there (flats ps) i (k .0) in
+      record { param = x .0; there = x .1; kind = mode-at ps i (x .0) (x .1) ∙ k .1 }
+
+  pub kwargs-sits : (i : ℕ) → placeOf (c .kwargs) ≡ At i → Sits i (λ (q : FlatParam). q .mode ≡ modeKwargs)
+  kwargs-sits i e =
+      let k = st .kwargs i e in
+      let x = there (flats ps) i (k .0) in
+      record { param = x .0; there = x .1; kind = mode-at ps i (x .0) (x .1) ∙ k .1 }
+
+  pub named-sits : (x : Name) (i : ℕ) → namedFrom 0 x (flats ps) ≡ At i → Found (flats ps) x i
+  named-sits x i e =
+      let k = name-found (flats ps) x 0 i e in
+      let same : k .0 ≡ i = omega (arith, k .1 .0) in
+      rw same at (k .1 .1)
+
+  -- LAW: what fills is ordinary, what joins is starred
+  pub fills-ordinary : (k : ℕ) (a : Argument) (i : ℕ) → reaches d (flats ps) k a ≡ Fills i → Sits i Ordinary
+  unfolding reaches
+  fills-ordinary k (positional r) i e =
+      let h = place-filled k i e in
+      let s = front-sits k (h .1) in
+      rw (h .0) (record { param = s .param; there = s .there; kind = go (s .param) (s .kind) })
+    where
+      go : (q : FlatParam) → ByPlace q → Ordinary q
+      go q (inl x) = inl x
+      go q (inr x) = inr (inl x)
+  fills-ordinary k (named r n) i e =
+      let f = named-sits n i (name-filled (namedFrom 0 n (flats ps)) i e) in
+      record { param = f .param; there = f .there; kind = inr (f .canBe) }
+  fills-ordinary k (args r) i e = never (cc)
+  fills-ordinary k (kwargs r) i e = never (cc)
+
+  pub joins-starred : (k : ℕ) (a : Argument) (i : ℕ) → reaches d (flats ps) k a ≡ Joins i → Sits i Starred
+  unfolding reaches
+  joins-starred k (positional r) i e = let s = args-sits i (place-joined k i e .1) in
+      record { param = s .param; there = s .there; kind = inl (s .kind) }
+  joins-starred k (named r n) i e = let s = kwargs-sits i (name-joined (namedFrom 0 n (flats ps)) i e .1) in
+      record { param = s .param; there = s .there; kind = inr (s .kind) }
+  joins-starred k (args r) i e = never (cc)
+  joins-starred k (kwargs r) i e = never (cc)
+
+  pub small : (k : ℕ) (a : Argument) (i : ℕ) → reaches d (flats ps) k a ≡ Fills i → i < countedOf c .flat
+  small k a i e = let s = fills-ordinary k a i e in omega (arith, flat-is, within (flats ps) i (s .param) (s .there))

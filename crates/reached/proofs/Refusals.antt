@@ -1,0 +1,140 @@
+-- What 82 and 83 say. Assumes nothing.
+use mathlib.Core.Path.{_≡_, refl, _∙_}
+use mathlib.Core.Bool.{Bool, true, false, not, _&&_}
+use mathlib.Core.Logic.{_⊎_, inl, inr}
+use mathlib.Core.List.{List, [], _∷_}
+use Prim.Native.Nat.{ℕ, _+_, _<_, _≤_}
+use native.Mathlib.Omega.{arith}
+use lib.ListN.{getD}
+use lib.Dec.{eqb}
+use Rattle.fields.proofs.Basics.{never}
+use Rattle.fields.specs.Choice.{if'}
+use Rattle.table.specs.Numbers.{emptyParameter}
+use Rattle.table.specs.Answer.{Answer, accepted, refused, andThen, refusedAt}
+use Rattle.deflist.specs.Unpack as outcome
+use Rattle.deflist.specs.Unpack.{unpack}
+use Rattle.deflist.specs.declared.Counts.{Counts}
+use Rattle.parameters.specs.Indices.{countedOf}
+use Rattle.parameters.specs.Params.{listOf}
+use Rattle.arguments.specs.Written.{Argument, positional, named, args, kwargs}
+use Rattle.arguments.specs.Call as calling
+use Rattle.arguments.specs.Job.{outcomeAnswer}
+use Rattle.bind.specs.FlatList.{FlatParam}
+use Rattle.bind.specs.Binding.{andWith, along}
+use Rattle.bind.specs.Binding.{starCheck, emptyCheck, binding}
+use Rattle.bind.specs.Job.{counting, noWords, listsBound, argumentsAt, entryOf, wordsOf, answeredAt, bindOf}
+use Rattle.reached.specs.Said.{flatsAt}
+use Rattle.reached.proofs.Early.{Early, early-entry, EarlyOutcome, early-list, early-call}
+
+-- a refusal of two checks in order is one of them
+either : (a : Answer) (next : Unit {0} → Answer) {n : ℕ} {vs : List ℕ} → andThen a next ≡ refused n vs
+    → (a ≡ refused n vs) ⊎ ((us : List ℕ) × ((a ≡ accepted us) × (next tt ≡ refused n vs)))
+either (accepted us) next e = inr (us, (refl, e))
+either (refused m us) next e = inl e
+
+not-early : (a : Answer) (n : ℕ) {vs : List ℕ} → Early a → a ≡ refused n vs → 80 ≤ n → ⊥
+not-early (accepted us) n e f h = never (cc)
+not-early (refused m us) n e f h = let same : m ≡ n = cc in absurd (omega arith)
+
+with-refused : (a : Answer) (next : List ℕ → Answer) {n : ℕ} {vs : List ℕ} → andWith a next ≡ refused n vs
+    → (a ≡ refused n vs) ⊎ ((us : List ℕ) × ((a ≡ accepted us) × (next us ≡ refused n vs)))
+with-refused (accepted us) next e = inr (us, (refl, e))
+with-refused (refused m us) next e = inl e
+
+-- 80 and 84 are other numbers
+star-number : (l : List Argument) (n : ℕ) {vs : List ℕ} → starCheck l ≡ refused n vs → n ≡ 80
+unfolding starCheck
+star-number [] n e = never (cc)
+star-number (positional r ∷ l) n e = star-number l n e
+star-number (named r x ∷ l) n e = star-number l n e
+star-number (args r ∷ l) n e = cc
+star-number (kwargs r ∷ l) n e = cc
+
+empty-number : (k : ℕ) (fs : List FlatParam) (us : List ℕ) (n : ℕ) {vs : List ℕ} → emptyCheck k fs us ≡ refused n vs
+    → n ≡ 84
+unfolding emptyCheck
+empty-number k [] us n e = never (cc)
+empty-number k (p ∷ fs) us n {vs} e = go (not (p .default) && eqb (getD us k 0) 0) e
+    (λ f. empty-number (k + 1) fs us n f)
+  where
+    go : (b : Bool) → if' b (λ _. refusedAt emptyParameter (p .node)) (λ _. emptyCheck (k + 1) fs us) ≡ refused n vs
+        → (emptyCheck (k + 1) fs us ≡ refused n vs → n ≡ 84) → n ≡ 84
+    go true e rest = cc
+    go false e rest = rest e
+
+-- a refusal 81 to 83 is the walk's
+pub record Walking (t ns : List ℕ) (call def : ℕ) (n : ℕ) (vs : List ℕ) : Type 0 where
+  pub counts : Counts
+  pub outcome : unpack (listOf t ns def) ≡ outcome.accepted counts
+  pub callValues : List ℕ
+  pub inOrder : outcomeAnswer (calling.unpack (argumentsAt t ns call)) ≡ accepted callValues
+  pub stops : along (countedOf counts .flat) (countedOf counts .indices) (flatsAt t ns def) 0
+      (noWords (countedOf counts) (argumentsAt t ns call)) (argumentsAt t ns call) ≡ refused n vs
+
+module _ (t ns : List ℕ) (call def : ℕ) where
+  abbrev qs : List Argument
+  qs = argumentsAt t ns call
+
+  abbrev fold : Counts → Answer
+  fold c = along (countedOf c .flat) (countedOf c .indices) (flatsAt t ns def) 0 (noWords (countedOf c) qs) qs
+
+  pub walking : (room n : ℕ) {vs : List ℕ} → bindOf t ns call def room ≡ refused n vs → 80 < n
+      → n < 84 → Walking t ns call def n vs
+  unfolding bindOf wordsOf listsBound binding
+  walking room n {vs} e low high = by-words (wordsOf t ns call def room) refl e
+    where
+      by-walk : (c : Counts) → unpack (listOf t ns def) ≡ outcome.accepted c → {cs : List ℕ}
+          → outcomeAnswer (calling.unpack qs) ≡ accepted cs
+          → binding (countedOf c) (flatsAt t ns def) (noWords (countedOf c) qs) qs ≡ refused n vs
+          → Walking t ns call def n vs
+      by-walk c u {cs} o b = first (either (starCheck qs) _ b)
+        where
+          third : (us : List ℕ) → andThen (emptyCheck 0 (flatsAt t ns def) us) (λ _. accepted us) ≡ refused n vs
+              → Walking t ns call def n vs
+          third us x = go (either (emptyCheck 0 (flatsAt t ns def) us) _ x)
+            where
+              go : (emptyCheck 0 (flatsAt t ns def) us ≡ refused n vs)
+                  ⊎ ((ws : List ℕ) × ((emptyCheck 0 (flatsAt t ns def) us ≡ accepted ws)
+                  × (accepted us ≡ refused n vs)))
+                  → Walking t ns call def n vs
+              go (inl y) = absurd (omega (arith, empty-number 0 (flatsAt t ns def) us n y))
+              go (inr y) = let z : accepted us ≡ refused n vs = y .1 .1 in never (cc)
+
+          second : (fold c ≡ refused n vs) ⊎ ((us : List ℕ) × ((fold c ≡ accepted us)
+              × (andThen (emptyCheck 0 (flatsAt t ns def) us) (λ _. accepted us) ≡ refused n vs)))
+              → Walking t ns call def n vs
+          second (inl y) = record { counts = c; outcome = u; callValues = cs; inOrder = o; stops = y }
+          second (inr y) = third (y .0) (y .1 .1)
+
+          first : (starCheck qs ≡ refused n vs) ⊎ ((us : List ℕ) × ((starCheck qs ≡ accepted us)
+              × (andWith (fold c) (λ us. andThen (emptyCheck 0 (flatsAt t ns def) us) (λ _. accepted us))
+              ≡ refused n vs)))
+              → Walking t ns call def n vs
+          first (inl y) = absurd (omega (arith, star-number qs n y))
+          first (inr y) = second (with-refused (fold c) _ (y .1 .1))
+
+      by-counts : (o : outcome.Outcome) → unpack (listOf t ns def) ≡ o → EarlyOutcome o
+          → counting o (λ c. andThen (outcomeAnswer (calling.unpack qs)) (λ _.
+          binding c (flatsAt t ns def) (noWords c qs) qs)) ≡ refused n vs → Walking t ns call def n vs
+      by-counts (outcome.accepted c) u early b = go (either (outcomeAnswer (calling.unpack qs)) _ b)
+        where
+          go : (outcomeAnswer (calling.unpack qs) ≡ refused n vs)
+              ⊎ ((us : List ℕ) × ((outcomeAnswer (calling.unpack qs) ≡ accepted us)
+              × (binding (countedOf c) (flatsAt t ns def) (noWords (countedOf c) qs) qs ≡ refused n vs)))
+              → Walking t ns call def n vs
+          go (inl y) = absurd (not-early (outcomeAnswer (calling.unpack qs)) n (early-call qs) y (omega arith))
+          go (inr y) = by-walk c u (y .1 .0) (y .1 .1)
+      by-counts (outcome.refused m r) u early b = let same : m ≡ n = cc in absurd (omega arith)
+      by-counts (outcome.internal x r) u early b = let same : n ≡ 0 = cc in absurd (omega arith)
+
+      by-words : (a : Answer) → wordsOf t ns call def room ≡ a → answeredAt a t ns call def ≡ refused n vs
+          → Walking t ns call def n vs
+      by-words (accepted ws) w e = never (cc)
+      by-words (refused m us) w e = go (either (entryOf t ns call def room) _ (w ∙ e))
+        where
+          go : (entryOf t ns call def room ≡ refused n vs)
+              ⊎ ((us : List ℕ) × ((entryOf t ns call def room ≡ accepted us)
+              × (listsBound (listOf t ns def) qs ≡ refused n vs))) → Walking t ns call def n vs
+          go (inl y) = absurd
+              (not-early (entryOf t ns call def room) n (early-entry t ns call def room) y (omega arith))
+          go (inr y) = by-counts (unpack (listOf t ns def)) refl (early-list (listOf t ns def)) (y .1 .1)

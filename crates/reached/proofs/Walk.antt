@@ -1,0 +1,264 @@
+-- The walk along the arguments: what an accepted one has written, word by word. Assumes nothing.
+use mathlib.Core.Path.{_≡_, refl, sym, ap, _∙_}
+use mathlib.Core.Bool.{Bool, true, false}
+use mathlib.Core.Logic.{_⊎_, inl, inr}
+use mathlib.Core.List.{List, [], _∷_}
+use Prim.Native.Nat.{ℕ, zero, suc, _+_, _<_, _≤_}
+use native.Mathlib.Omega.{arith}
+use lib.ListN.{length, getD, set, length-set}
+use lib.Seq.{getD-set-same, getD-set-other}
+use lib.Dec.{eqb, ltb}
+use borrow.Author.Tests.{ltb-false, eqb-true, eqb-false}
+use Rattle.fields.proofs.Basics.{never}
+use Rattle.fields.specs.Choice.{if'}
+use Rattle.table.specs.Numbers.{alreadyFilled}
+use Rattle.table.specs.Answer.{Answer, accepted, refused, refusedAt}
+use Rattle.table.proofs.Answers.{never-passed}
+use Rattle.parameters.specs.declared.DefParamIndices.{DefParamIndices}
+use Rattle.arguments.specs.Written.{Argument, nodeIn, kindIn}
+use Rattle.bind.specs.FlatList.{FlatParam}
+use Rattle.bind.specs.Binding.{reaches, turn, andWith, along}
+use Rattle.bind.specs.declared.Reach.{Reach}
+use Rattle.bind.specs.declared.Reach.the-variants.{Fills, Joins, Nowhere}
+use Rattle.reached.specs.Said.{IsAt}
+
+-- what an accepted turn has done
+abbrev pub Took : ℕ → Argument → List ℕ → List ℕ → Reach → Type 0
+Took place a ws vs (Fills i) = (getD ws i 0 ≡ 0) × (vs ≡ set (set ws i (nodeIn a .at)) place i)
+Took place a ws vs (Joins i) = vs ≡ set ws place i
+Took place a ws vs Nowhere = ⊥
+
+-- and what it has written of itself
+abbrev pub Index : Reach → ℕ → Type 0
+Index (Fills i) w = w ≡ i
+Index (Joins i) w = w ≡ i
+Index Nowhere w = ⊥
+
+pub took : (place : ℕ) (r : Reach) (a : Argument) (ws vs : List ℕ)
+    → turn place r (kindIn a) (nodeIn a) ws ≡ accepted vs → Took place a ws vs r
+unfolding turn
+took place (Fills i) a ws vs e = go (ltb 0 (getD ws i 0)) refl e
+  where
+    go : (b : Bool) → ltb 0 (getD ws i 0) ≡ b → if' b (λ _. refusedAt alreadyFilled (nodeIn a)) (λ _.
+        accepted (set (set ws i (nodeIn a .at)) place i)) ≡ accepted vs → Took place a ws vs (Fills i)
+    go true f e = never-passed e
+    go false f e = (omega (arith, ltb-false 0 (getD ws i 0) f), cc)
+took place (Joins i) a ws vs e = cc
+took place Nowhere a ws vs e = never-passed e
+
+-- the words that a turn leaves, and those that it writes
+module _ (place : ℕ) (a : Argument) (ws vs : List ℕ) where
+  took-long : (r : Reach) → Took place a ws vs r → length vs ≡ length ws
+  took-long (Fills i) (e, v) = ap length v ∙ length-set (set ws i (nodeIn a .at)) place i
+      ∙ length-set ws i (nodeIn a .at)
+  took-long (Joins i) v = ap length v ∙ length-set ws place i
+
+  pub took-other : (r : Reach) (j : ℕ) → Took place a ws vs r → (j ≡ place → ⊥) → (r ≡ Fills j → ⊥)
+      → getD vs j 0 ≡ getD ws j 0
+  took-other (Fills i) j (e, v) n m = ap (λ (l : List ℕ). getD l j 0) v
+      ∙ getD-set-other (set ws i (nodeIn a .at)) place j i 0 n
+      ∙ getD-set-other ws i j (nodeIn a .at) 0 (λ h. m (ap Fills (sym h)))
+  took-other (Joins i) j v n m = ap (λ (l : List ℕ). getD l j 0) v ∙ getD-set-other ws place j i 0 n
+
+  took-place : (r : Reach) → Took place a ws vs r → place < length ws → Index r (getD vs place 0)
+  took-place (Fills i) (e, v) h = ap (λ (l : List ℕ). getD l place 0) v
+      ∙ getD-set-same (set ws i (nodeIn a .at)) place i 0 (omega (arith, length-set ws i (nodeIn a .at)))
+  took-place (Joins i) v h = ap (λ (l : List ℕ). getD l place 0) v ∙ getD-set-same ws place i 0 h
+
+  took-filled : (i : ℕ) → Took place a ws vs (Fills i) → i < place → i < length ws → getD vs i 0 ≡ nodeIn a .at
+  took-filled i (e, v) n h = ap (λ (l : List ℕ). getD l i 0) v
+      ∙ getD-set-other (set ws i (nodeIn a .at)) place i i 0 (λ g. absurd (omega arith))
+      ∙ getD-set-same ws i (nodeIn a .at) 0 h
+
+-- every argument is a node behind the first
+abbrev pub Nodes : List Argument → Type 0
+Nodes qs = (j : ℕ) (a : Argument) → IsAt qs j a → 0 < nodeIn a .at
+
+-- a walk whose ordinary parameters lie below the flat count
+module _ (flat : ℕ) (d : DefParamIndices) (fs : List FlatParam)
+    (small : (k : ℕ) (a : Argument) (i : ℕ) → reaches d fs k a ≡ Fills i → i < flat) where
+  step : (k : ℕ) (ws : List ℕ) (a : Argument) (qs : List Argument) (us : List ℕ)
+      → along flat d fs k ws (a ∷ qs) ≡ accepted us
+      → (vs : List ℕ) × (Took (flat + k) a ws vs (reaches d fs k a) × (along flat d fs (k + 1) vs qs ≡ accepted us))
+  unfolding along
+  step k ws a qs us e = go (turn (flat + k) (reaches d fs k a) (kindIn a) (nodeIn a) ws) refl e
+    where
+      go : (x : Answer) → turn (flat + k) (reaches d fs k a) (kindIn a) (nodeIn a) ws ≡ x
+          → andWith x (λ vs. along flat d fs (k + 1) vs qs) ≡ accepted us
+          → (vs : List ℕ) × (Took (flat + k) a ws vs (reaches d fs k a) × (along flat d fs (k + 1) vs qs ≡ accepted us))
+      go (accepted vs) f e = (vs, (took (flat + k) (reaches d fs k a) a ws vs f, e))
+      go (refused n vs) f e = never-passed e
+
+  none-left : (k : ℕ) (ws us : List ℕ) → along flat d fs k ws [] ≡ accepted us → us ≡ ws
+  unfolding along
+  none-left k ws us e = cc
+
+  -- the number of words stays
+  pub along-long : (k : ℕ) (ws : List ℕ) (qs : List Argument) (us : List ℕ) → along flat d fs k ws qs ≡ accepted us
+      → length us ≡ length ws
+  along-long k ws [] us e = ap length (none-left k ws us e)
+  along-long k ws (a ∷ qs) us e =
+      let s = step k ws a qs us e in
+      along-long (k + 1) (s .0) qs us (s .1 .1) ∙ took-long (flat + k) a ws (s .0) (reaches d fs k a) (s .1 .0)
+
+  -- the words of earlier arguments stay, and so do those of filled parameters
+  stays : (k : ℕ) (ws : List ℕ) (qs : List Argument) (us : List ℕ) → along flat d fs k ws qs ≡ accepted us
+      → (j : ℕ) → j < k → getD us (flat + j) 0 ≡ getD ws (flat + j) 0
+  stays k ws [] us e j h = ap (λ (l : List ℕ). getD l (flat + j) 0) (none-left k ws us e)
+  stays k ws (a ∷ qs) us e j h =
+      let s = step k ws a qs us e in
+      stays (k + 1) (s .0) qs us (s .1 .1) j (omega arith)
+      ∙ took-other (flat + k) a ws (s .0) (reaches d fs k a) (flat + j) (s .1 .0) (λ g. absurd (omega arith))
+      (λ g. let n = small k a (flat + j) g in absurd (omega arith))
+
+  filled : (k : ℕ) (ws : List ℕ) (qs : List Argument) (us : List ℕ) → along flat d fs k ws qs ≡ accepted us
+      → (i : ℕ) → i < flat → 0 < getD ws i 0 → getD us i 0 ≡ getD ws i 0
+  filled k ws [] us e i h g = ap (λ (l : List ℕ). getD l i 0) (none-left k ws us e)
+  filled k ws (a ∷ qs) us e i h g =
+      let s = step k ws a qs us e in
+      let same : getD (s .0) i 0 ≡ getD ws i 0 = took-other (flat + k) a ws (s .0) (reaches d fs k a) i (s .1 .0)
+      (λ n. absurd (omega arith))
+      (λ n. let was : Took (flat + k) a ws (s .0) (Fills i) = rw n at (s .1 .0) in absurd (omega (arith, was .0))) in
+      filled (k + 1) (s .0) qs us (s .1 .1) i h (omega arith) ∙ same
+
+  -- LAW: each argument's own word is the index that it reaches
+  pub own-word : (k : ℕ) (ws : List ℕ) (qs : List Argument) (us : List ℕ) → along flat d fs k ws qs ≡ accepted us
+      → flat + k + length qs ≤ length ws → (j : ℕ) (a : Argument) → IsAt qs j a
+      → Index (reaches d fs (k + j) a) (getD us (flat + (k + j)) 0)
+  own-word k ws (b ∷ qs) us e long zero a at =
+      let s = step k ws b qs us e in
+      let here : k + 0 ≡ k = omega arith in
+      let mine = took-place (flat + k) b ws (s .0) (reaches d fs k b) (s .1 .0) (omega arith) in
+      let word : getD us (flat + k) 0 ≡ getD (s .0) (flat + k) 0 = stays (k + 1) (s .0) qs us (s .1 .1) k
+      (omega arith) in
+      rw (here, word, ← at) mine
+  own-word k ws (b ∷ qs) us e long (suc j) a at =
+      let s = step k ws b qs us e in
+      let next : k + 1 + j ≡ k + suc j = omega arith in
+      let same = took-long (flat + k) b ws (s .0) (reaches d fs k b) (s .1 .0) in
+      rw next at (own-word (k + 1) (s .0) qs us (s .1 .1) (omega arith) j a at)
+
+  -- LAW: a parameter that an argument fills was empty, and has the argument's node
+  pub was-empty : (k : ℕ) (ws : List ℕ) (qs : List Argument) (us : List ℕ) → along flat d fs k ws qs ≡ accepted us
+      → Nodes qs → flat + k + length qs ≤ length ws → (j : ℕ) (a : Argument) (i : ℕ) → IsAt qs j a
+      → reaches d fs (k + j) a ≡ Fills i → (getD ws i 0 ≡ 0) × (getD us i 0 ≡ nodeIn a .at)
+  was-empty k ws (b ∷ qs) us e nodes long zero a i at r =
+      let s = step k ws b qs us e in
+      let here : k + 0 ≡ k = omega arith in
+      let r′ : reaches d fs k b ≡ Fills i = rw (here, ← at) at r in
+      let t : Took (flat + k) b ws (s .0) (Fills i) = rw r′ at (s .1 .0) in
+      let inside : i < flat = small k b i r′ in
+      let now : getD (s .0) i 0 ≡ nodeIn b .at = took-filled (flat + k) b ws (s .0) i t (omega arith) (omega arith) in
+      let node : 0 < nodeIn b .at = nodes 0 b refl in
+      let stays-so = filled (k + 1) (s .0) qs us (s .1 .1) i inside (omega arith) in
+      (t .0, stays-so ∙ now ∙ ap (λ (x : Argument). nodeIn x .at) at)
+  was-empty k ws (b ∷ qs) us e nodes long (suc j) a i at r =
+      let s = step k ws b qs us e in
+      let next : k + suc j ≡ k + 1 + j = omega arith in
+      let same = took-long (flat + k) b ws (s .0) (reaches d fs k b) (s .1 .0) in
+      let rest = was-empty (k + 1) (s .0) qs us (s .1 .1) (λ l c p. nodes (suc l) c p) (omega arith) j a i at
+      (rw next at r) in
+      let inside : i < flat = small (k + suc j) a i r in
+      let other : reaches d fs k b ≡ Fills i → ⊥ = λ n.
+      let t : Took (flat + k) b ws (s .0) (Fills i) = rw n at (s .1 .0) in
+      let now : getD (s .0) i 0 ≡ nodeIn b .at = took-filled (flat + k) b ws (s .0) i t (omega arith) (omega arith) in
+      let node : 0 < nodeIn b .at = nodes 0 b refl in absurd (omega (arith, rest .0)) in (
+        sym (took-other (flat + k) b ws (s .0) (reaches d fs k b) i (s .1 .0) (λ n. absurd (omega arith)) other)
+            ∙ rest .0,
+        rest .1,
+      )
+
+  -- LAW: no two arguments fill one parameter
+  later : (k : ℕ) (ws : List ℕ) (c : Argument) (qs : List Argument) (us : List ℕ)
+      → along flat d fs k ws (c ∷ qs) ≡ accepted us → Nodes (c ∷ qs) → flat + k + suc (length qs) ≤ length ws
+      → (l : ℕ) (b : Argument) (i : ℕ) → IsAt qs l b → reaches d fs k c ≡ Fills i
+      → reaches d fs (k + 1 + l) b ≡ Fills i → ⊥
+  later k ws c qs us e nodes long l b i bt r q =
+      let s = step k ws c qs us e in
+      let t : Took (flat + k) c ws (s .0) (Fills i) = rw r at (s .1 .0) in
+      let inside : i < flat = small k c i r in
+      let now : getD (s .0) i 0 ≡ nodeIn c .at = took-filled (flat + k) c ws (s .0) i t (omega arith) (omega arith) in
+      let same = took-long (flat + k) c ws (s .0) (reaches d fs k c) (s .1 .0) in
+      let node : 0 < nodeIn c .at = nodes 0 c refl in
+      let was = was-empty (k + 1) (s .0) qs us (s .1 .1) (λ m x p. nodes (suc m) x p) (omega arith) l b i bt q in
+      absurd (omega (arith, was .0))
+
+  pub once : (k : ℕ) (ws : List ℕ) (qs : List Argument) (us : List ℕ) → along flat d fs k ws qs ≡ accepted us
+      → Nodes qs → flat + k + length qs ≤ length ws → (j l : ℕ) (a b : Argument) (i : ℕ) → IsAt qs j a → IsAt qs l b
+      → reaches d fs (k + j) a ≡ Fills i → reaches d fs (k + l) b ≡ Fills i → j ≡ l
+  once k ws (c ∷ qs) us e nodes long zero zero a b i at bt r q = refl
+  once k ws (c ∷ qs) us e nodes long zero (suc l) a b i at bt r q =
+      let here : k + 0 ≡ k = omega arith in
+      let next : k + suc l ≡ k + 1 + l = omega arith in
+      absurd (later k ws c qs us e nodes long l b i bt (rw (here, ← at) at r) (rw next at q))
+  once k ws (c ∷ qs) us e nodes long (suc j) zero a b i at bt r q =
+      let here : k + 0 ≡ k = omega arith in
+      let next : k + suc j ≡ k + 1 + j = omega arith in
+      absurd (later k ws c qs us e nodes long j a i at (rw (here, ← bt) at q) (rw next at r))
+  once k ws (c ∷ qs) us e nodes long (suc j) (suc l) a b i at bt r q =
+      let s = step k ws c qs us e in
+      let same = took-long (flat + k) c ws (s .0) (reaches d fs k c) (s .1 .0) in
+      let first : k + suc j ≡ k + 1 + j = omega arith in
+      let second : k + suc l ≡ k + 1 + l = omega arith in
+      ap suc (once (k + 1) (s .0) qs us (s .1 .1) (λ m x p. nodes (suc m) x p) (omega arith) j l a b i at bt
+      (rw first at r) (rw second at q))
+
+  -- the argument that fills a parameter
+  pub record Filler (k : ℕ) (qs : List Argument) (us : List ℕ) (i : ℕ) : Type 0 where
+    pub number : ℕ
+    pub argument : Argument
+    pub there : IsAt qs number argument
+    pub fills : reaches d fs (k + number) argument ≡ Fills i
+    pub word : getD us i 0 ≡ nodeIn argument .at
+
+  -- LAW: a parameter's word is as it was, or an argument fills it
+  pub comes-from : (k : ℕ) (ws : List ℕ) (qs : List Argument) (us : List ℕ) → along flat d fs k ws qs ≡ accepted us
+      → Nodes qs → flat + k + length qs ≤ length ws → (i : ℕ) → i < flat
+      → (getD us i 0 ≡ getD ws i 0) ⊎ Filler k qs us i
+  comes-from k ws [] us e nodes long i h = inl (ap (λ (l : List ℕ). getD l i 0) (none-left k ws us e))
+  comes-from k ws (a ∷ qs) us e nodes long i h =
+      let s = step k ws a qs us e in
+      let same = took-long (flat + k) a ws (s .0) (reaches d fs k a) (s .1 .0) in
+      by-first (reaches d fs k a) refl
+      (comes-from (k + 1) (s .0) qs us (s .1 .1) (λ m x p. nodes (suc m) x p) (omega arith) i h)
+    where
+      s : (vs : List ℕ) × (Took (flat + k) a ws vs (reaches d fs k a) × (along flat d fs (k + 1) vs qs ≡ accepted us))
+      s = step k ws a qs us e
+
+      further : (reaches d fs k a ≡ Fills i → ⊥) → (getD us i 0 ≡ getD (s .0) i 0) ⊎ Filler (k + 1) qs us i
+          → (getD us i 0 ≡ getD ws i 0) ⊎ Filler k (a ∷ qs) us i
+      further n (inl x) = inl (x ∙ took-other (flat + k) a ws (s .0) (reaches d fs k a) i (s .1 .0)
+          (λ m. absurd (omega arith)) n)
+      further n (inr x) =
+          let next : k + 1 + x .number ≡ k + suc (x .number) = omega arith in
+          inr (record {
+            number = suc (x .number);
+            argument = x .argument;
+            there = x .there;
+            fills = rw next at (x .fills);
+            word = x .word;
+          })
+
+      here : reaches d fs k a ≡ Fills i → Filler k (a ∷ qs) us i
+      here r =
+          let zero-more : k ≡ k + 0 = omega arith in
+          let r′ : reaches d fs (k + 0) a ≡ Fills i = rw (← zero-more) r in
+          record {
+            number = 0;
+            argument = a;
+            there = refl;
+            fills = r′;
+            word = was-empty k ws (a ∷ qs) us e nodes long 0 a i refl r′ .1;
+          }
+
+      by-first : (r : Reach) → reaches d fs k a ≡ r
+          → (getD us i 0 ≡ getD (s .0) i 0) ⊎ Filler (k + 1) qs us i
+          → (getD us i 0 ≡ getD ws i 0) ⊎ Filler k (a ∷ qs) us i
+      by-first (Fills j) r rest = by-index (eqb j i) refl
+        where
+          by-index : (b : Bool) → eqb j i ≡ b → (getD us i 0 ≡ getD ws i 0) ⊎ Filler k (a ∷ qs) us i
+          by-index true m = inr (here (r ∙ ap Fills (eqb-true j i m)))
+          by-index false m = further (λ n. let both : Fills j ≡ Fills i = sym r ∙ n in
+              let same : j ≡ i = cc in eqb-false j i m same) rest
+      by-first (Joins j) r rest = further (λ n. let both : Joins j ≡ Fills i = sym r ∙ n in never (cc)) rest
+      by-first Nowhere r rest = further (λ n. let both : Nowhere ≡ Fills i = sym r ∙ n in never (cc)) rest
