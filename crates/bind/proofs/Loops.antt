@@ -27,6 +27,7 @@ use Rattle.deflist.specs.declared.Kind.{Kind}
 use Rattle.deflist.specs.declared.Kind.the-variants.{Normal, NoArgs, Slash, Args, KwArgs}
 use Rattle.deflist.specs.declared.State.{State}
 use Rattle.deflist.proofs.Reading.{node-in, kind-in, listed-long, list-on, list-end}
+use Rattle.parameters.proofs.Lists.{Counting, count-end}
 use Rattle.parameters.specs.declared.DefParamIndices.{DefParamIndices}
 use Rattle.arguments.specs.Written as call
 use Rattle.arguments.specs.declared.Kind.{Kind as Form}
@@ -37,6 +38,11 @@ use Rattle.bind.specs.Reading.{nameable, flatsOf, isEmpty, flatsIn, stor
 use Rattle.bind.specs.declared.Reach.{Reach}
 use Rattle.bind.specs.declared.Reach.the-variants.{Fills, Joins, Nowhere}
 use Rattle.bind.proofs.Lists.{args-end, args-on, arg-node, arg-kind, name-test, named-one, empty-one}
+
+-- at the end of a list of parameters all are counted
+pub many-end : {params left : List ℕ} {n : ℕ} → Counting params left n → {l : Bool} → l ≡ isListed left → l ≡ false
+    → (names : List ℕ) (i : ℕ) → n ≡ length (paramsIn names (forest i params))
+many-end s l-is l-no = count-end s l-is l-no .many
 
 -- n arguments are counted, whatever the names and the index
 pub record Numbering (args left : List ℕ) (n : ℕ) : Type 0 where

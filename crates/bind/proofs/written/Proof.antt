@@ -2,7 +2,8 @@
 use lib.ListN.{length}
 use native.Mathlib.Omega.{arith}
 use Rattle.deflist.proofs.Reading.{rest-less}
-use Rattle.parameters.proofs.Lists.{Counting, count-start, count-on, count-end}
+use Rattle.parameters.proofs.Lists.{Counting, count-start, count-on}
+use Rattle.bind.proofs.Loops.{many-end}
 use borrow.Author.Needs.{needs}
 use Rattle.bind.proofs.written.Statement.{statement}
 use Rattle.bind.proofs.written.Tie as tie
@@ -28,4 +29,4 @@ written-spec =
     (λ c. search needs)
     (λ c. search rest-less)  -- loop-less
     (λ c. search count-on)  -- loop-again
-    (λ c. (search count-end, omega arith)))  -- returns
+    (λ c. (search many-end, omega arith)))  -- returns
