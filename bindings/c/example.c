@@ -9,6 +9,7 @@
  *     a, 1 += 1
  *     x[int]
  *     x.type
+ *     f(1, 2, c=3)
  */
 #include <stdio.h>
 #include <string.h>
@@ -101,6 +102,17 @@ static void call(const char *words, size_t at) {
     printf("\n");
 }
 
+/* A call bound to a def, in a list of `length` words, which hold 9. */
+static void binding(const char *words, size_t at, size_t def, size_t length) {
+    uint32_t out[STARLARK_WORDS];
+    uint32_t list[16];
+    for (size_t i = 0; i < length; i++) list[i] = 9;
+    if (accepted(words, starlark_bind(TABLE, at, def, list, length, out), out)) printf("%u parameters, %u arguments", out[0], out[1]);
+    printf(", list");
+    for (size_t i = 0; i < length; i++) printf(" %u", list[i]);
+    printf("\n");
+}
+
 static void target(const char *words, size_t at) {
     uint32_t out[STARLARK_WORDS];
     if (accepted(words, starlark_target(TABLE, at, out), out)) printf("%u leaves", out[0]);
@@ -151,7 +163,7 @@ static void write_file(const char *words, const uint8_t *dialect, size_t dialect
 }
 
 int main(int count, char **words) {
-    node(STATEMENTS, 0, 49, "");
+    node(STATEMENTS, 0, 58, "");
     size_t f = node(DEF, 0, 8, "");
     node(NORMAL, 0, 1, "a");
     node(SLASH, 0, 1, "");
@@ -200,6 +212,15 @@ int main(int count, char **words) {
     node(SIMPLE, 0, 3, "");
     size_t bad_type = node(DOT, 0, 2, "type");
     node(IDENTIFIER, 0, 1, "x");
+    node(SIMPLE, 0, 9, "");
+    size_t bound_call = node(CALL, 0, 8, "");
+    node(IDENTIFIER, 0, 1, "f");
+    node(POSITIONAL, 0, 2, "");
+    node(INT, 0, 1, "");
+    node(POSITIONAL, 0, 2, "");
+    node(INT, 0, 1, "");
+    node(NAMED, 0, 2, "c");
+    node(INT, 0, 1, "");
 
     check("the table", STARLARK_NODE_BYTES * nodes);
     check("a part of a record", 25);
@@ -212,6 +233,13 @@ int main(int count, char **words) {
     call("f(1, a=2, *x)", good_call);
     call("f(*x, a=2)", bad_call);
     call("no call", 0);
+    binding("f(1, 2, c=3) to (a, /, b, *, c, **k)", bound_call, f, 10);
+    binding("nine words for six parameters and three arguments", bound_call, f, 9);
+    binding("eight words", bound_call, f, 8);
+    binding("f(1, a=2, *x) to it", good_call, f, 10);
+    binding("f(*x, a=2) to it", bad_call, f, 10);
+    binding("f(1, 2, c=3) to (a, b=1, c)", bound_call, g, 10);
+    binding("no def", bound_call, 0, 4);
     target("a, b.c", good_target);
     target("a, 1", bad_target);
     target("no expression", 0);

@@ -139,6 +139,27 @@ fn calls() {
     println!("no call: {:?}", all.table().call(0));
 }
 
+/// `def f(a, b, /): break`, and behind it a call.
+fn with_def(arguments: Vec<(u8, &'static str)>) -> Script {
+    let parameters = vec![leaf(NORMAL, "a"), leaf(NORMAL, "b"), leaf(SLASH, ""), leaf(BREAK, "")];
+    let values = arguments.into_iter().map(|(kind, name)| Tree(kind, 0, name, vec![leaf(INT, "")]));
+    let called = tree(CALL, std::iter::once(leaf(IDENTIFIER, "f")).chain(values).collect());
+    Script::of(tree(STATEMENTS, vec![tree(DEF, parameters), tree(SIMPLE, vec![called])]))
+}
+
+fn bindings() {
+    let show = |words: &str, script: &Script, def: usize, room: usize| {
+        let mut list = vec![u32::from(BEFORE); room];
+        let answer = script.table().bind(7, def, &mut list);
+        println!("{words}: {answer:?}, list {list:?}");
+    };
+    let placed = with_def(vec![(POSITIONAL, ""), (POSITIONAL, "")]);
+    show("f(1, 2) to (a, b, /)", &placed, 1, 6);
+    show("four words for three parameters and two arguments", &placed, 1, 4);
+    show("no def", &placed, 0, 6);
+    show("f(b=1, a=2) to it", &with_def(vec![(NAMED, "b"), (NAMED, "a")]), 1, 6);
+}
+
 fn targets() {
     let target = simple(three_leaves());
     println!("a, (b.c, d[0]) as a target: {:?}", target.table().target(1));
@@ -209,6 +230,7 @@ fn main() {
     checks();
     parameter_lists();
     calls();
+    bindings();
     targets();
     assignments();
     types();

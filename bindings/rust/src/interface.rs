@@ -50,6 +50,17 @@ extern "C" {
         file_len: usize,
         out: *mut u32,
     ) -> u32;
+    fn starlark_bind(
+        table: *const u8,
+        table_len: usize,
+        names: *const u8,
+        names_len: usize,
+        call: usize,
+        def: usize,
+        list: *mut u32,
+        list_len: usize,
+        out: *mut u32,
+    ) -> u32;
     fn starlark_call(t: *const u8, tl: usize, n: *const u8, nl: usize, node: usize, out: *mut u32) -> u32;
     fn starlark_target(t: *const u8, tl: usize, n: *const u8, nl: usize, node: usize, out: *mut u32) -> u32;
     fn starlark_assignment(t: *const u8, tl: usize, n: *const u8, nl: usize, node: usize, out: *mut u32) -> u32;
@@ -70,6 +81,14 @@ pub fn params(table: Table, node: usize, modes: &mut [u8], out: &mut Words) -> u
 pub fn call(table: Table, node: usize, out: &mut Words) -> u32 {
     let Table { nodes, names } = table;
     unsafe { starlark_call(nodes.as_ptr(), nodes.len(), names.as_ptr(), names.len(), node, out.as_mut_ptr()) }
+}
+
+pub fn bind(table: Table, call: usize, def: usize, list: &mut [u32], out: &mut Words) -> u32 {
+    let Table { nodes, names } = table;
+    let (t, tl, n, nl) = (nodes.as_ptr(), nodes.len(), names.as_ptr(), names.len());
+    let (start, length) = (list.as_mut_ptr(), list.len());
+    let out = out.as_mut_ptr();
+    unsafe { starlark_bind(t, tl, n, nl, call, def, start, length, out) }
 }
 
 pub fn target(table: Table, node: usize, out: &mut Words) -> u32 {

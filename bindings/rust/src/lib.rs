@@ -52,6 +52,13 @@ pub struct Call {
 /// A buffer of so many bytes is never too short for a table file.
 pub const FILE_BYTES: usize = 59_904;
 
+/// An accepted binding: how many parameters, marks omitted, and how many arguments.
+#[derive(Clone, Copy, Debug, PartialEq, Eq)]
+pub struct Bound {
+    pub parameters: u32,
+    pub arguments: u32,
+}
+
 const NONE: u32 = u32::MAX;
 
 type Words = [u32; 12];
@@ -102,6 +109,14 @@ impl Table<'_> {
         let out = accepted(|out| interface::call(self, node, out))?;
         let place = |word: u32| (word != NONE).then_some(word);
         Ok(Call { positional: out[0], named: out[1], star: place(out[2]), star_star: place(out[3]) })
+    }
+
+    /// Which argument of a Call reaches which parameter of a Def. `list` gets a word for each parameter, the node of the argument that it
+    /// takes or 0, and then a word for each argument, the index of the parameter that it reached. It needs a word for each written
+    /// parameter, marks counted, and for each argument.
+    pub fn bind(self, call: usize, def: usize, list: &mut [u32]) -> Result<Bound, Refused> {
+        let out = accepted(|out| interface::bind(self, call, def, list, out))?;
+        Ok(Bound { parameters: out[0], arguments: out[1] })
     }
 
     /// How many leaves the target at a node has.
