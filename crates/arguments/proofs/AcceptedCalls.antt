@@ -35,7 +35,7 @@ answer-ordered l c e = go (unpack l) refl e
         let values : callValues a ≡ callValues c = cc in
         rw (args-injective a c values) at (unpacked-ordered l a h)
     go (refusedWith n r) h e = never (cc)
-    go (repeatedName r) h e = never (cc)
+    go (repeatedName i r) h e = never (cc)
     go internalError h e = never (cc)
 
 -- THEOREM: in a table that passes the check, a call whose arguments stand in order with distinct names is accepted,

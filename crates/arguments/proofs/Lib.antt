@@ -5,3 +5,4 @@ pub mod Steps
 pub mod Walking
 pub mod Promises
 pub mod AcceptedCalls
+pub mod Twice

@@ -162,7 +162,7 @@ run-last before w e = rw (eq-eqb (total (w .counts)) (length before) e) refl
 abbrev Ended : List Argument → Outcome → Type 0
 Ended l (unpacked a) = Ordered l a
 Ended l (refusedWith n r) = Unit {0}
-Ended l (repeatedName r) = Unit {0}
+Ended l (repeatedName i r) = Unit {0}
 Ended l internalError = ⊥
 
 run-ended : (before l : List Argument) (w : Walk) → Walked before w → Distinct (namesOf before)
@@ -182,7 +182,7 @@ run-ended before (p ∷ ps) w o d = go (check before (w .stage) p) refl
         → Ended (before ++ p ∷ ps) (run before w (p ∷ ps))
     go Fine e rest = rw (run-more before w p ps e o) (rest e)
     go (Broken n) e rest = rw e tt
-    go Repeated e rest = rw e tt
+    go (Repeated i) e rest = rw e tt
 
 ended : (l : List Argument) → Ended l (unpack l)
 unfolding unpack
@@ -195,7 +195,7 @@ no-internal-error l = go (unpack l) (ended l)
     go : (o : Outcome) → Ended l o → Expected o
     go (unpacked a) e = tt
     go (refusedWith n r) e = tt
-    go (repeatedName r) e = tt
+    go (repeatedName i r) e = tt
     go internalError e = e
 
 -- THEOREM: an accepted list is positional, then named, then at most one star, then at most one `**`, names distinct,

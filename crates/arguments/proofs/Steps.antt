@@ -1,7 +1,7 @@
 -- Laws of single functions, one for each return, in the terms of code. Assumes nothing.
 use mathlib.Core.Path.{_≡_, refl, ap, _∙_}
 use mathlib.Core.Bool.{Bool, true, false}
-use mathlib.Core.List.{List}
+use mathlib.Core.List.{List, [], _∷_}
 use Prim.Native.Nat.{ℕ, _+_, _-_, _/_, _<_}
 use native.Mathlib.Omega.{arith}
 use lib.ListN.{length, take, drop, length-take, length-drop}
@@ -13,17 +13,19 @@ use Rattle.forest.specs.Names.{nameOf, same}
 use Rattle.forest.proofs.Stretch.{forest-none, forest-tree, kids-part, rest-part, record-or-none}
 use Rattle.soundness.specs.KindNumbers.{kindPositional, kindNamed, kindArgsArg}
 use Rattle.forest.specs.declared.Found.{Found}
-use Rattle.forest.specs.declared.Found.the-variants.{Nothing}
-use Rattle.table.specs.Numbers.{namedAfterStar}
-use Rattle.table.specs.Answer.{Answer}
+use Rattle.forest.specs.declared.Found.the-variants.{At, Nothing}
+use Rattle.table.specs.Numbers.{namedAfterStar, repeatedNamed}
+use Rattle.table.specs.Answer.{Answer, refused}
+use Rattle.table.specs.declared.Span.{Span}
 use Rattle.arguments.specs.Written.{Name, Argument, kindAt, argument, argumentOf, argumentsIn}
 use Rattle.arguments.specs.Call.{pastNamed, hasName, firstSame, repeats, newName, namedRule, rule, unpack}
-use Rattle.arguments.specs.Job.{outcomeAnswer, callAnswer}
+use Rattle.arguments.specs.Job.{nameSpan, checkAnswer, outcomeAnswer, callAnswer}
+use Rattle.arguments.specs.Reading.{SmallCheck}
 use Rattle.arguments.specs.declared.Kind.{Kind}
 use Rattle.arguments.specs.declared.Kind.the-variants.{Positional, Named, Args, KwArgs}
 use Rattle.arguments.specs.declared.ArgsStage.{ArgsStage}
 use Rattle.arguments.specs.declared.Check.{Check}
-use Rattle.arguments.specs.declared.Check.the-variants.{Broken}
+use Rattle.arguments.specs.declared.Check.the-variants.{Broken, Repeated}
 
 -- the kind of the argument that a record's kind says
 module _ {k m : ℕ} (k-is : k ≡ m) where
@@ -76,6 +78,17 @@ module _ (ns : List ℕ) (before : List Argument) (t : List ℕ) {k : ℕ} (k-is
       → r ≡ repeats before (argumentOf ns (nodeOf 0 t))
   unfolding argumentOf repeats
   repeats-named h x-is r-is = r-is ∙ rw (← (kind-named k-is h), x-is) refl
+
+-- a name that is found is repeated, with what was found
+pub new-found : (f : Found) {i : ℕ} → f ≡ At i → Repeated i ≡ newName f
+new-found f h = rw h refl
+
+pub carried-small : (c : Check) {i : ℕ} → SmallCheck c → c ≡ Repeated i → i < 4294967296
+carried-small c small h = rw h at small
+
+pub refused-again : (c : Check) (r : Node) {i n : ℕ} {s : Span} {x : Answer} → c ≡ Repeated i
+    → x ≡ refused repeatedNamed (r .at ∷ s .begin ∷ s .end ∷ n ∷ []) → s ≡ nameSpan r → n ≡ i → x ≡ checkAnswer c r
+refused-again c r h x-is s-is n-is = x-is ∙ rw (h, s-is, n-is) refl
 
 -- the stage chooses 21, and the kind the rule
 pub named-late : (s : ArgsStage) (f : Found) {b : Bool} → b ≡ pastNamed s → b ≡ true

@@ -1,30 +1,41 @@
 -- The search among earlier arguments and the walk over all of them, in the terms of code. Assumes nothing.
 use mathlib.Core.Path.{_≡_, refl, sym, ap, _∙_}
-use mathlib.Core.Bool.{Bool, true, false}
+use mathlib.Core.Bool.{Bool, true, false, _&&_}
 use mathlib.Core.List.{List, [], _∷_, _++_}
-use Prim.Native.Nat.{ℕ, suc, _+_, _-_, _*_, _/_, _<_, _≤_}
+use Prim.Native.Nat.{ℕ, zero, suc, _+_, _-_, _*_, _/_, _<_, _≤_, _^_}
+use native.Mathlib.Nat.{add-zero}
 use native.Mathlib.Omega.{arith}
 use lib.ListN.{length, take, drop, length-take, length-drop, length-append}
-use lib.Seq.{append-snoc, take-append-seam}
+use lib.Seq.{append-snoc, take-append-seam, take-nil}
+use lib.Dec.{eqb}
+use borrow.Author.Tests.{eqb-true}
+use Rattle.fields.specs.Choice.{if'}
 use Rattle.fields.proofs.Basics.{never}
-use Rattle.forest.specs.Forest.{Node, nodeOf, spanOf, forest}
-use Rattle.forest.specs.Names.{nameOf}
+use Rattle.forest.specs.Forest.{Node, nodeOf, spanOf, Forest, none, node, _then_, forest, roots}
+use Rattle.forest.specs.Names.{nameOf, same}
 use Rattle.forest.specs.Marks.{mayStand, noted, Known}
 use Rattle.forest.proofs.Marked.{Searches, known-start, known-named, known-other, known-new}
 use Rattle.forest.specs.declared.Found.{Found}
 use Rattle.forest.specs.declared.Found.the-variants.{At, Nothing}
-use Rattle.forest.proofs.Stretch.{forest-none, forest-tree, rest-part, record-or-none}
+use Rattle.forest.proofs.Stretch.{forest-none, forest-tree, rest-part}
 use Rattle.table.specs.Answer.{accepted, refusal, checked}
 use Rattle.table.specs.declared.Refusal.{Refusal}
 use Rattle.table.specs.declared.Checked.{Checked}
 use Rattle.table.specs.declared.Checked.the-variants.{Sound, Refused}
 use Rattle.table.proofs.Answers.{never-accepted}
 use Rattle.arguments.specs.Written.{Name, Argument, nodeIn, kindIn, kindAt, argument, argumentOf, argumentsIn}
-use Rattle.soundness.specs.KindNumbers.{kindNamed}
+use Rattle.soundness.specs.KindNumbers.{kindPositional, kindNamed, kindArgsArg}
+use Rattle.table.specs.Numbers.{namedAfterStar}
+use Rattle.table.specs.Check.{Within}
+use Rattle.table.specs.Naming as entry
+use Rattle.table.specs.Naming.{bearsName, firstNamed, countedFrom}
+use Rattle.table.specs.declared.Entries.the-variants.{Arguments}
+use Rattle.table.proofs.Naming.{first-shifted, first-within}
 use Rattle.arguments.proofs.Steps.{name-none, name-tested, repeats-none, repeats-named}
 use Rattle.arguments.specs.Call.{hasName, firstSame, repeats, rule, check, advance, Outcome, unlessBroken, run}
-use Rattle.arguments.specs.Call.{start, unpack}
-use Rattle.arguments.specs.Reading.{Meets}
+use Rattle.arguments.specs.Call.{start, unpack, pastPositional, pastNamed, inKwargs, newName}
+use Rattle.arguments.specs.Reading.{SmallFound, SmallCheck, Earlier, Meets}
+use Rattle.arguments.specs.declared.ArgsStage.{ArgsStage}
 use Rattle.arguments.specs.Job.{callValues, checkAnswer, outcomeAnswer}
 use Rattle.arguments.specs.declared.Kind.{Kind}
 use Rattle.arguments.specs.declared.Kind.the-variants.{Positional, Named, Args, KwArgs}
@@ -34,28 +45,29 @@ use Rattle.arguments.specs.declared.Walk.{Walk}
 use Rattle.arguments.proofs.Order.{Walked, walked-start, order-total, kinds-long, walked-more, run-more}
 use Rattle.arguments.proofs.Order.{run-last}
 
+-- the record of the argument that a record is
+pub node-in : (ns : List ℕ) (r : Node) → nodeIn (argumentOf ns r) ≡ r
+unfolding argumentOf
+node-in ns r = go (kindAt (r .kind))
+  where
+    go : (k : Kind) → nodeIn (argument k r (nameOf ns r)) ≡ r
+    go Positional = refl
+    go Named = refl
+    go Args = refl
+    go KwArgs = refl
+
 -- a stretch has no argument, or one that is followed by those of the rest
 module _ (ns : List ℕ) (i : ℕ) (t : List ℕ) where
-  list-end : length t < 24 → argumentsIn ns (forest i t) ≡ []
+  pub list-end : length t < 24 → argumentsIn ns (forest i t) ≡ []
   unfolding argumentsIn
   list-end h = rw (forest-none i t h) refl
 
-  list-on : {e : ℕ} → 24 ≤ length t → e ≡ spanOf t → argumentsIn ns (forest i t) ≡ argumentOf ns (nodeOf i t)
+  pub list-on : {e : ℕ} → 24 ≤ length t → e ≡ spanOf t → argumentsIn ns (forest i t) ≡ argumentOf ns (nodeOf i t)
       ∷ argumentsIn ns (forest (i + e / 24) (take (length t - e) (drop e t)))
   unfolding argumentsIn
   list-on {e} big e-is = rw (forest-tree i t big, rest-part e t e-is, e-is) refl
 
-  -- the record and the kind of its argument; the tests do not read its index
-  node-in : nodeIn (argumentOf ns (nodeOf i t)) ≡ nodeOf i t
-  unfolding argumentOf
-  node-in = go (kindAt (nodeOf i t .kind))
-    where
-      go : (k : Kind) → nodeIn (argument k (nodeOf i t) (nameOf ns (nodeOf i t))) ≡ nodeOf i t
-      go Positional = refl
-      go Named = refl
-      go Args = refl
-      go KwArgs = refl
-
+  -- the kind of its argument; the tests do not read its index
   kind-in : kindIn (argumentOf ns (nodeOf i t)) ≡ kindAt (nodeOf 0 t .kind)
   unfolding argumentOf
   kind-in = go (kindAt (nodeOf 0 t .kind))
@@ -89,59 +101,56 @@ module _ (ns : List ℕ) (i : ℕ) (t : List ℕ) where
       go Args = refl
       go KwArgs = refl
 
--- The search for an earlier name: i of the first n arguments are looked at, and the node at comes next
-pub record Searching (ns x args : List ℕ) (first n : ℕ) (left : List ℕ) (at i : ℕ) : Type 0 where
-  pub upto : i ≤ n
-  pub most : n - i ≤ length (argumentsIn ns (forest at left))
-  pub room : 24 * at + length left ≤ 24 * first + length args
-  pub same : firstSame x (take (n - i) (argumentsIn ns (forest at left)))
-      ≡ firstSame x (take n (argumentsIn ns (forest first args)))
-
-pub search-start : (ns x args : List ℕ) (first n : ℕ) → n ≤ length (argumentsIn ns (forest first args))
-    → Searching ns x args first n args first 0
-search-start ns x args first n h =
-    let all : n - 0 ≡ n = omega arith in
-    record { upto = omega arith; most = omega arith; room = omega arith; same = rw all refl }
-
-module _ {ns x args : List ℕ} {first n : ℕ} {left : List ℕ} {at i : ℕ} (s : Searching ns x args first n left at i)
+-- an argument that bears a name is named, and the first n are searched as the first n entries
+named-kind : (k : ℕ) (r : Node) (n : Name) (x : Name)
+    → hasName x (argument (kindAt k) r n) ≡ (bearsName Arguments k && same n x)
+unfolding kindAt bearsName hasName
+named-kind k r n x = go (eqb k kindNamed) refl
   where
-    pub search-end : n ≤ i → Nothing ≡ firstSame x (take n (argumentsIn ns (forest first args)))
-    unfolding firstSame
-    search-end h = let k : n - i ≡ 0 = omega arith in rw k at (s .same)
+    other : (a b : Bool) → hasName x (argument (if' a (λ _. Positional) (λ _. if' b (λ _. Args) (λ _. KwArgs))) r n)
+        ≡ false
+    other true b = refl
+    other false true = refl
+    other false false = refl
 
-    pub search-long : i < n → 24 ≤ length left
-    search-long h = record-or-none left
-        (λ short. absurd (omega (arith, s .most, ap length (list-end ns at left short)))) (λ big. big)
+    go : (b : Bool) → eqb k kindNamed ≡ b
+        → hasName x (argument (if' (eqb k kindPositional) (λ _. Positional) (λ _.
+        if' b (λ _. Named) (λ _. if' (eqb k kindArgsArg) (λ _. Args) (λ _. KwArgs)))) r n) ≡ (b && same n x)
+    go true e = let k-is : k ≡ kindNamed = eqb-true k kindNamed e in rw k-is refl
+    go false e = other (eqb k kindPositional) (eqb k kindArgsArg)
 
-    module _ (h : i < n) {b : Bool} (b-is : b ≡ hasName x (argumentOf ns (nodeOf 0 left))) where
-      one : {e : ℕ} → e ≡ spanOf left → firstSame x (take (n - i) (argumentsIn ns (forest at left)))
-          ≡ firstSame x (argumentOf ns (nodeOf at left)
-          ∷ take (n - (i + 1)) (argumentsIn ns (forest (at + e / 24) (take (length left - e) (drop e left)))))
-      one e-is = let k : n - i ≡ suc (n - (i + 1)) = omega arith in
-          rw (k, list-on ns at left (search-long h) e-is) refl
+has-entry : (ns x : List ℕ) (r : Node) → hasName x (argumentOf ns r) ≡ entry.hasName Arguments ns x r
+unfolding argumentOf entry.hasName
+has-entry ns x r = named-kind (r .kind) r (nameOf ns r) x
 
-      pub search-here : b ≡ true → At at ≡ firstSame x (take n (argumentsIn ns (forest first args)))
-      unfolding firstSame
-      search-here b-yes =
-          let hit : hasName x (argumentOf ns (nodeOf at left)) ≡ true = sym (b-is ∙ has-anywhere ns at left x)
-          ∙ b-yes in
-          sym (sym (s .same) ∙ one refl ∙ rw (hit, node-in ns at left) refl)
+list-entries : (ns x : List ℕ) (f : Forest) (n : ℕ)
+    → firstSame x (take n (argumentsIn ns f)) ≡ firstNamed Arguments ns x (take n (roots f))
+unfolding argumentsIn roots firstSame firstNamed
+list-entries ns x none n = rw (take-nil n, take-nil n) refl
+list-entries ns x (node r ks then ts) zero = refl
+list-entries ns x (node r ks then ts) (suc n) = rw (has-entry ns x r, node-in ns r, list-entries ns x ts n) refl
 
-      pub search-on : {e : ℕ} → b ≡ false → e ≡ spanOf left
-          → Searching ns x args first n (take (length left - e) (drop e left)) (at + e / 24) (i + 1)
-      unfolding firstSame
-      search-on {e} b-no e-is =
-          let miss : hasName x (argumentOf ns (nodeOf at left)) ≡ false = sym (b-is ∙ has-anywhere ns at left x)
-          ∙ b-no in
-          record {
-            upto = omega arith;
-            most = omega (arith, s .most, ap length (list-on ns at left (search-long h) e-is));
-            room = simp (length-take, length-drop) (omega (arith, s .room, search-long h));
-            same = rw miss at (sym (one e-is) ∙ s .same);
-          }
+-- what is found behind the callee is an earlier argument
+module _ (ns x args : List ℕ) (first n : ℕ) (within : Within first args) {f : Found}
+    (f-is : f ≡ firstNamed Arguments ns x (take n (roots (forest 0 args)))) where
+  found-same : countedFrom first f ≡ firstSame x (take n (argumentsIn ns (forest first args)))
+  found-same = rw f-is (sym (list-entries ns x (forest first args) n
+      ∙ rw add-zero at (first-shifted Arguments ns x first 0 args n)))
+
+  earlier-small : {i : ℕ} → f ≡ At i → first + i < 4294967296
+  earlier-small h = omega (arith, first-within Arguments ns x 0 args n _ (sym f-is ∙ h))
+
+  pub earlier-room : {i : ℕ} → f ≡ At i → first + i < 2 ^ 64
+  earlier-room h = omega (arith, earlier-small h)
+
+  pub earlier-at : {i : ℕ} → f ≡ At i → Earlier x (take n (argumentsIn ns (forest first args))) (At (first + i))
+  earlier-at h = record { says = rw h at found-same; small = earlier-small h }
+
+  pub earlier-none : f ≡ Nothing → Earlier x (take n (argumentsIn ns (forest first args))) Nothing
+  earlier-none h = record { says = rw h at found-same; small = tt }
 
 -- the search for an earlier name goes by `hasName`
-searches : Searches firstSame hasName
+unfoldable pub searches : Searches firstSame hasName
 unfolding firstSame
 searches = record { node = λ p. nodeIn p .at; none = λ x. refl; first = λ x p l. refl }
 
@@ -151,20 +160,22 @@ module _ (ns : List ℕ) {marks : List ℕ} {before : List Argument} (known : Kn
   pub meets-none : (k ≡ kindNamed → ⊥) → Meets ns before left marks Nothing
   meets-none d = record {
     says = λ i. repeats-none ns before left k-is d ∙ repeats-anywhere ns i left before;
+    small = tt;
     known = λ i. known-other searches known _ (λ x. name-none ns x left k-is d ∙ has-anywhere ns i left x);
   }
 
   module _ (h : k ≡ kindNamed) {x : Name} (x-is : x ≡ nameOf ns (nodeOf 0 left)) {m : List ℕ} (m-is : m ≡ noted marks x)
     where
-      pub meets-searched : {r : Found} → r ≡ firstSame x before → Meets ns before left m r
+      pub meets-searched : {r : Found} → Earlier x before r → Meets ns before left m r
       meets-searched r-is = record {
-        says = λ i. repeats-named ns before left k-is h x-is r-is ∙ repeats-anywhere ns i left before;
+        says = λ i. repeats-named ns before left k-is h x-is (r-is .says) ∙ repeats-anywhere ns i left before;
+        small = r-is .small;
         known = λ i. rw m-is (known-named searches known _ x
             (λ y. name-tested ns y left k-is h x-is refl ∙ has-anywhere ns i left y));
       }
 
       pub meets-new : {t : Bool} → t ≡ mayStand marks x → t ≡ false → Meets ns before left m Nothing
-      meets-new t-is new = meets-searched (known-new known t-is new)
+      meets-new t-is new = meets-searched (record { says = known-new known t-is new; small = tt })
 
 -- The walk: n arguments are read, and the node at comes next
 pub record Walking (ns args : List ℕ) (first : ℕ) (marks₀ marks : List ℕ) (w : Walk) (left : List ℕ) (at n : ℕ) : Type 0
@@ -172,7 +183,7 @@ pub record Walking (ns args : List ℕ) (first : ℕ) (marks₀ marks : List ℕ
     pub before : List Argument
     pub many : length before ≡ n
     pub all : before ++ argumentsIn ns (forest at left) ≡ argumentsIn ns (forest first args)
-    pub fits : 24 * first + length args ≤ 50424
+    pub fits : Within first args
     pub room : 24 * at + length left ≤ 24 * first + length args
     pub from : first + n ≤ at
     pub walked : Walked before w
@@ -180,7 +191,7 @@ pub record Walking (ns args : List ℕ) (first : ℕ) (marks₀ marks : List ℕ
     pub long : length marks ≡ length marks₀
     pub rest : run before w (argumentsIn ns (forest at left)) ≡ unpack (argumentsIn ns (forest first args))
 
-pub walk-start : (ns args : List ℕ) (first : ℕ) (marks : List ℕ) → 24 * first + length args ≤ 50424
+pub walk-start : (ns args : List ℕ) (first : ℕ) (marks : List ℕ) → Within first args
     → Walking ns args first marks marks start args first 0
 unfolding unpack
 walk-start ns args first marks fits = record {
@@ -196,11 +207,28 @@ walk-start ns args first marks fits = record {
   rest = refl;
 }
 
+test-small : (b : Bool) (n : ℕ) → SmallCheck (if' b (λ _. Broken n) (λ _. Fine))
+test-small true n = tt
+test-small false n = tt
+
+-- the check of an argument carries no more than what was found
+check-small : (s : ArgsStage) (f : Found) (k : Kind) → SmallFound f → SmallCheck (rule s f k)
+check-small s f Positional h = test-small (pastPositional s) _
+check-small s f Named h = go (pastNamed s) f h
+  where
+    go : (b : Bool) (f : Found) → SmallFound f
+        → SmallCheck (if' b (λ _. Broken namedAfterStar) (λ _. newName f))
+    go true f h = tt
+    go false (At i) h = h
+    go false Nothing h = tt
+check-small s f Args h = test-small (pastNamed s) _
+check-small s f KwArgs h = test-small (inKwargs s) _
+
 -- an argument that is not refused is fine
 fine-told : (c : Check) (r : Node) → accepted [] ≡ checkAnswer c r → c ≡ Fine
 fine-told Fine r e = refl
 fine-told (Broken n) r e = never (cc)
-fine-told Repeated r e = never (cc)
+fine-told (Repeated i) r e = never (cc)
 
 module _ {ns args : List ℕ} {first : ℕ} {marks₀ marks : List ℕ} {w : Walk} {left : List ℕ} {at n : ℕ}
     (k : Walking ns args first marks₀ marks w left at n) where
@@ -227,6 +255,9 @@ module _ {ns args : List ℕ} {first : ℕ} {marks₀ marks : List ℕ} {w : Wal
   module _ (big : 24 ≤ length left) {m : List ℕ} {f : Found}
       (met : Meets ns (take n (argumentsIn ns (forest first args))) left m f) {q : Kind}
       (q-is : q ≡ kindAt (nodeOf 0 left .kind)) {c : Check} (c-is : c ≡ rule (w .stage) f q) where
+    pub walk-carried : SmallCheck c
+    walk-carried = rw c-is (check-small (w .stage) f q (met .small))
+
     check-here : check (k .before) (w .stage) (argumentOf ns (nodeOf at left)) ≡ c
     unfolding check
     check-here = sym (c-is ∙ rw (met .says at, q-is, read, ← (kind-in ns at left)) refl)
@@ -235,13 +266,13 @@ module _ {ns args : List ℕ} {first : ℕ} {marks₀ marks : List ℕ} {w : Wal
         → refusal why ≡ outcomeAnswer (unpack (argumentsIn ns (forest first args)))
     unfolding run
     walk-refused {j} {why} j-is h =
-        rw (← (k .rest), list-on ns at left big refl, check-here, node-in ns at left) (go c _ (rw h at j-is))
+        rw (← (k .rest), list-on ns at left big refl, check-here, node-in ns (nodeOf at left)) (go c _ (rw h at j-is))
       where
         go : (c : Check) (next : Unit {0} → Outcome) → refusal why ≡ checkAnswer c (nodeOf at left)
             → refusal why ≡ outcomeAnswer (unlessBroken c (nodeOf at left) next)
         go Fine next e = never-accepted why e
         go (Broken m) next e = e
-        go Repeated next e = e
+        go (Repeated i) next e = e
 
     pub walk-on : length m ≡ length marks → {j : Checked} {v : Walk} {e : ℕ}
         → checked j ≡ checkAnswer c (nodeOf at left) → j ≡ Sound → v ≡ advance w n q → e ≡ spanOf left

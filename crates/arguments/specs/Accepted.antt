@@ -54,5 +54,5 @@ pub record Ordered (l : List Argument) (c : CallArgs) : Type 0 where
 abbrev pub Expected : Outcome → Type 0
 Expected (unpacked a) = Unit {0}
 Expected (refusedWith n r) = Unit {0}
-Expected (repeatedName r) = Unit {0}
+Expected (repeatedName i r) = Unit {0}
 Expected internalError = ⊥

@@ -67,7 +67,7 @@ abbrev pub positionalRule : ArgsStage → Check
 positionalRule stage = if' (pastPositional stage) (λ _. Broken positionalAfterNonPositional) (λ _. Fine)
 
 abbrev pub newName : Found → Check
-newName (At i) = Repeated
+newName (At i) = Repeated i
 newName Nothing = Fine
 
 abbrev pub namedRule : ArgsStage → Found → Check
@@ -119,17 +119,18 @@ taken c Named = false
 taken c Args = given (c .star)
 taken c KwArgs = given (c .«star_star»)
 
--- the outcomes of unpack: what is counted; a refusal at an argument; 22, at an argument's name; an internal error
+-- the outcomes of unpack: what is counted; a refusal at an argument; 22, at an argument's name, with the earlier one's
+-- node; an internal error
 pub data Outcome : Type 0 where
   unpacked : CallArgs → Outcome
   refusedWith : ℕ → Node → Outcome
-  repeatedName : Node → Outcome
+  repeatedName : ℕ → Node → Outcome
   internalError : Outcome
 
 abbrev pub unlessBroken : Check → Node → (Unit {0} → Outcome) → Outcome
 unlessBroken Fine r next = next tt
 unlessBroken (Broken n) r next = refusedWith n r
-unlessBroken Repeated r next = repeatedName r
+unlessBroken (Repeated i) r next = repeatedName i r
 
 abbrev pub bit : Bool → ℕ
 bit true = 1

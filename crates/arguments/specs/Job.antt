@@ -33,21 +33,21 @@ nameStop r = min (r .source + r .nameLen) 4294967295
 abbrev pub nameSpan : Node → Span
 nameSpan r = record { begin = r .source; end = nameStop r }
 
--- 22 has the span of the name
-abbrev pub refusedAtName : ℕ → Node → Answer
-refusedAtName n r = refused n (r .at ∷ nameSpan r .begin ∷ nameSpan r .end ∷ [])
+-- 22 has the span of the name, and the node of the earlier argument
+abbrev pub refusedAtName : ℕ → Node → ℕ → Answer
+refusedAtName n r i = refused n (r .at ∷ nameSpan r .begin ∷ nameSpan r .end ∷ i ∷ [])
 
 -- what the check of an argument answers
 abbrev pub checkAnswer : Check → Node → Answer
 checkAnswer Fine r = accepted []
 checkAnswer (Broken n) r = refusedAt n r
-checkAnswer Repeated r = refusedAtName repeatedNamed r
+checkAnswer (Repeated i) r = refusedAtName repeatedNamed r i
 
 -- the answer to a list; an internal error has no number in document 01, and never arises
 abbrev pub outcomeAnswer : Outcome → Answer
 outcomeAnswer (unpacked a) = accepted (callValues a)
 outcomeAnswer (refusedWith n r) = refusedAt n r
-outcomeAnswer (repeatedName r) = refusedAtName repeatedNamed r
+outcomeAnswer (repeatedName i r) = refusedAtName repeatedNamed r i
 outcomeAnswer internalError = refused 0 []
 
 -- the answer to a call

@@ -3,3 +3,4 @@ pub mod Call
 pub mod Job
 pub mod Accepted
 pub mod Reading
+pub mod Twice

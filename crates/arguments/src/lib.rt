@@ -9,23 +9,25 @@ use forest::RECORD;
 use forest::marks;
 use soundness::kinds;
 use table::Checked;
+use table::Entries;
 use table::Place;
 use table::Refusal;
 use table::Span;
 use table::Wanted;
+use table::named;
 use table::numbers;
 ghost use mathlib.Core.Path.{_≡_};
-ghost use Prim.Native.Nat.{_+_, _*_, _<_, _≤_};
+ghost use Prim.Native.Nat.{_<_, _≤_};
 ghost use lib.ListN.{length, take};
 ghost use Rattle.forest.specs.Forest.{nodeOf, forest, treeOf};
 ghost use Rattle.forest.specs.Marks.{Known};
 ghost use Rattle.table.specs.Answer.{checked};
-ghost use Rattle.table.specs.Check.{Headed};
-ghost use Rattle.arguments.specs.Written.{kindAt, argumentOf, argumentsIn};
-ghost use Rattle.arguments.specs.Call.{pastPositional, pastNamed, inKwargs, hasName, firstSame, newName};
+ghost use Rattle.table.specs.Check.{Headed, Within};
+ghost use Rattle.arguments.specs.Written.{kindAt, argumentsIn};
+ghost use Rattle.arguments.specs.Call.{pastPositional, pastNamed, inKwargs, firstSame, newName};
 ghost use Rattle.arguments.specs.Call.{positionalRule, argsRule, kwargsRule, namedRule, rule as ruleOf};
 ghost use Rattle.arguments.specs.Call.{nextStage, count as countOf, advance as advanceOf, unpack as unpackOf};
-ghost use Rattle.arguments.specs.Reading.{Meets};
+ghost use Rattle.arguments.specs.Reading.{SmallCheck, Earlier, Meets};
 ghost use Rattle.arguments.specs.Job.{nameStop, nameSpan, checkAnswer, outcomeAnswer, callAnswer, called, callOf};
 
 // Where unpack stands among the arguments, in this order.
@@ -58,11 +60,12 @@ pub struct Walk {
     pub counts: CallArgs,
 }
 
-// What the check of one argument gives: nothing, the number of a refusal at it, or 22, at its name.
+// What the check of one argument gives: nothing, the number of a refusal at it, or 22, at its name, with the node of
+// the earlier argument.
 pub enum Check {
     Fine,
     Broken(u32),
-    Repeated,
+    Repeated(usize),
 }
 
 // The answer of the call job.
@@ -96,7 +99,7 @@ fn arguments(t: &[u8], names: &[u8], node: usize) -> Called
 // CallArgsUnpack::unpack of a list of arguments, the first of which is the node first, with as many marks as are worth
 // their place.
 fn unpack(args: &[u8], names: &[u8], first: usize) -> Called
-    requires { ⌜ 24 * first + length (now args) ≤ 50424 ⌝ }
+    requires { ⌜ Within first (now args) ⌝ }
     ensures { λ r. ⌜ called r ≡
         outcomeAnswer (unpackOf (argumentsIn (now (names .entry)) (forest first (now (args .entry))))) ⌝ }
 {
@@ -112,7 +115,7 @@ fn unpack(args: &[u8], names: &[u8], first: usize) -> Called
 
 // The same, with marks for many arguments, and for some.
 fn with_many(args: &[u8], names: &[u8], first: usize) -> Called
-    requires { ⌜ 24 * first + length (now args) ≤ 50424 ⌝ }
+    requires { ⌜ Within first (now args) ⌝ }
     ensures { λ r. ⌜ called r ≡
         outcomeAnswer (unpackOf (argumentsIn (now (names .entry)) (forest first (now (args .entry))))) ⌝ }
 {
@@ -121,7 +124,7 @@ fn with_many(args: &[u8], names: &[u8], first: usize) -> Called
 }
 
 fn with_some(args: &[u8], names: &[u8], first: usize) -> Called
-    requires { ⌜ 24 * first + length (now args) ≤ 50424 ⌝ }
+    requires { ⌜ Within first (now args) ⌝ }
     ensures { λ r. ⌜ called r ≡
         outcomeAnswer (unpackOf (argumentsIn (now (names .entry)) (forest first (now (args .entry))))) ⌝ }
 {
@@ -131,7 +134,7 @@ fn with_some(args: &[u8], names: &[u8], first: usize) -> Called
 
 // The arguments in turn; the names are noted in the lent marks.
 fn in_turn(args: &[u8], names: &[u8], first: usize, noted: &mut [u8]) -> Called
-    requires { ⌜ 24 * first + length (now args) ≤ 50424 ⌝ }
+    requires { ⌜ Within first (now args) ⌝ }
     ensures { λ r. ⌜ called r ≡
         outcomeAnswer (unpackOf (argumentsIn (now (names .entry)) (forest first (now (args .entry))))) ⌝ }
 {
@@ -165,18 +168,23 @@ fn in_turn(args: &[u8], names: &[u8], first: usize, noted: &mut [u8]) -> Called
     Called::Accepted(counts)
 }
 
-// A broken argument is refused, with its span; a repeated name with the name's.
+// A broken argument is refused, with its span; a repeated name with the name's, and with the earlier argument.
 fn refused(c: Check, at: u32, t: &[u8]) -> Checked
+    requires { ⌜ SmallCheck c ⌝ }
     ensures { λ r. ⌜ checked r ≡ checkAnswer c (nodeOf at (now (t .entry))) ⌝ }
 {
     match c {
         Check::Fine => Checked::Sound,
         Check::Broken(number) => Checked::Refused(table::refused_at(number, at, t)),
-        Check::Repeated => Checked::Refused(table::refused_in(
-            numbers::REPEATED_NAMED,
-            at,
-            name_span(t),
-        )),
+        Check::Repeated(i) => {
+            let earlier = i as u32;
+            Checked::Refused(table::refused_in(
+                numbers::REPEATED_NAMED,
+                at,
+                name_span(t),
+                Place::At(earlier),
+            ))
+        }
     }
 }
 
@@ -250,36 +258,17 @@ fn in_kwargs(stage: ArgsStage) -> bool
     }
 }
 
-// Whether the argument that a stretch begins with is named, and has this name.
-fn has_name(names: &[u8], name: &[u8], t: &[u8]) -> bool
-    ensures { λ r. ⌜ r ≡ hasName (now (name .entry)) (argumentOf (now (names .entry)) (nodeOf 0 (now (t .entry)))) ⌝ }
-{
-    if forest::kind(t) != kinds::NAMED {
-        return false;
-    }
-    forest::names::same_bytes(forest::names::name(names, t), name)
-}
-
 // The node of the first of n arguments that is named and has this name; first is the node of the first of them.
 fn earlier(names: &[u8], name: &[u8], args: &[u8], first: usize, n: usize) -> Found
-    requires { ⌜ (24 * first + length (now args) ≤ 50424) ×
-        (n ≤ length (argumentsIn (now names) (forest first (now args)))) ⌝ }
-    ensures { λ r. ⌜ r ≡
-        firstSame (now (name .entry)) (take n (argumentsIn (now (names .entry)) (forest first (now (args .entry))))) ⌝ }
+    requires { ⌜ Within first (now args) × (n ≤ length (argumentsIn (now names) (forest first (now args)))) ⌝ }
+    ensures { λ r. ⌜ Earlier (now (name .entry))
+        (take n (argumentsIn (now (names .entry)) (forest first (now (args .entry))))) r ⌝ }
 {
-    let mut left = args;
-    let mut at = first;
-    let mut i = 0;
-    while i < n {
-        if has_name(names, name, left) {
-            return Found::At(at);
-        }
-        let e = forest::span(left);
-        at += e / RECORD;
-        left = &left[e..];
-        i += 1;
+    let found = named::first_named(Entries::Arguments, names, name, args, n);
+    match found {
+        Found::At(i) => Found::At(first + i),
+        Found::Nothing => Found::Nothing,
     }
-    Found::Nothing
 }
 
 // The first of the n arguments before it whose name the argument that left begins with repeats. Its name is noted, and
@@ -292,7 +281,7 @@ fn repeated(
     left: &[u8],
     noted: &mut [u8],
 ) -> Found
-    requires { ⌜ (24 * first + length (now args) ≤ 50424) ×
+    requires { ⌜ Within first (now args) ×
         (n ≤ length (argumentsIn (now names) (forest first (now args)))) ×
         Known firstSame (now noted) (take n (argumentsIn (now names) (forest first (now args)))) ⌝ }
     ensures { λ r. ⌜ Meets (now (names .entry))
@@ -324,7 +313,7 @@ fn new_name(found: Found) -> Check
     ensures { λ r. ⌜ r ≡ newName found ⌝ }
 {
     match found {
-        Found::At(_) => Check::Repeated,
+        Found::At(i) => Check::Repeated(i),
         Found::Nothing => Check::Fine,
     }
 }

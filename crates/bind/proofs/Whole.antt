@@ -208,8 +208,10 @@ module _ (t ns : List ℕ) (call def room : ℕ) {e : Checked} (e-is : checked e
     unfolding continued both
     own (Unfit w) k (outcome.accepted c) e f x-is = never-accepted w e
     own (Unfit w) k (outcome.refused n r) e f x-is = (e, tt)
+    own (Unfit w) k (outcome.repeated i r) e f x-is = (e, tt)
     own (Unfit w) k (outcome.internal i r) e f x-is = (e, tt)
     own (Accepted d) k (outcome.refused n r) e f x-is = never-passed (sym e)
+    own (Accepted d) k (outcome.repeated i r) e f x-is = never-passed (sym e)
     own (Accepted d) k (outcome.internal i r) e f x-is = never-passed (sym e)
     own (Accepted d) (Disordered w) (outcome.accepted c) e f x-is = (rw (← f) refl, tt)
     own (Accepted d) (Ordered a) (outcome.accepted c) e f x-is =

@@ -8,14 +8,13 @@ use Rattle.fields.specs.Choice.{if'}
 use Rattle.forest.specs.Forest.{recordBytes, nodeOf, treeOf}
 use Rattle.soundness.specs.KindNumbers.{kindDef}
 use Rattle.table.specs.Numbers.{wrongNode, shortBuffer}
-use Rattle.table.specs.Answer.{Answer, accepted, refused, andThen, refusedAt, refusal}
+use Rattle.table.specs.Answer.{Answer, accepted, refused, andThen, refusal}
 use Rattle.table.specs.Check.{stretchOf, entryCheck}
 use Rattle.table.specs.declared.Wanted.the-variants.{Call}
 use Rattle.deflist.specs.Written.{Param}
 use Rattle.deflist.specs.Unpack as def
-use Rattle.deflist.specs.Told.{internalError}
 use Rattle.parameters.specs.Indices.{countedOf}
-use Rattle.parameters.specs.Params.{listOf}
+use Rattle.parameters.specs.Params.{answerOf, listOf}
 use Rattle.parameters.specs.declared.Counted.{Counted}
 use Rattle.arguments.specs.Written.{Argument, argumentsOf}
 use Rattle.arguments.specs.Call as call
@@ -36,11 +35,12 @@ defCheck t i = if' (isDef t i) (λ _. accepted []) (λ _. refused wrongNode [])
 abbrev pub roomCheck : ℕ → List Param → List Argument → Answer
 roomCheck room ps qs = if' (leb (length ps + length qs) room) (λ _. accepted []) (λ _. refused shortBuffer [])
 
--- 10 to 18, else by what is counted
+-- 10 to 18, as the job on the parameters answers them; else by what is counted
 abbrev pub counting : def.Outcome → (Counted → Answer) → Answer
 counting (def.accepted c) next = next (countedOf c)
-counting (def.refused n r) next = refusedAt n r
-counting (def.internal e r) next = refusedAt internalError r
+counting (def.refused n r) next = answerOf (def.refused n r)
+counting (def.repeated i r) next = answerOf (def.repeated i r)
+counting (def.internal e r) next = answerOf (def.internal e r)
 
 -- the words of a binding before the first argument
 abbrev pub noWords : Counted → List Argument → List ℕ

@@ -14,13 +14,13 @@ use Rattle.deflist.specs.Unpack.{firstSlash, positionalOnly, check}
 use Rattle.deflist.specs.Reading.{PlaceBelow, Bounded}
 use Rattle.deflist.specs.Reached.{onward, through, reached, AllAtMost}
 use Rattle.deflist.specs.declared.Check.{Check}
-use Rattle.deflist.specs.declared.Check.the-variants.{Fine, Broken}
+use Rattle.deflist.specs.declared.Check.the-variants.{Fine, Broken, Repeated}
 use Rattle.deflist.specs.declared.FlatPlace.{FlatPlace}
 use Rattle.deflist.specs.declared.FlatPlace.the-variants.{AtFlat, NoFlat}
 use Rattle.deflist.specs.declared.Flat.{Flat}
 use Rattle.deflist.specs.declared.Counts.{Counts}
 use Rattle.deflist.specs.declared.Unpacking.{Unpacking}
-use Rattle.deflist.proofs.Steps.{Cleared, step-on, step-stop, clear-on, clear-start, bounded-on}
+use Rattle.deflist.proofs.Steps.{Cleared, step-on, step-stop, step-again, clear-on, clear-start, bounded-on}
 use Rattle.deflist.proofs.Theorems.{slash-within, bounded-start}
 
 place-wider : {m n : ℕ} (p : FlatPlace) → m ≤ n → PlaceBelow m p → PlaceBelow n p
@@ -59,6 +59,7 @@ through-bounded n k g before u (p ∷ ps) clear b h = (
     go Fine f rest = rw (step-on before u p ps clear f)
         (rest _ _ (clear-on before u p ps clear f) more (omega (arith, long)))
     go (Broken m) f rest = rw (step-stop before u p ps f) tt
+    go (Repeated i) f rest = rw (step-again before u p ps f) tt
 
 -- THEOREM: in every list, accepted or refused, each number that unpack counts is at most the length of the list, in
 -- every state

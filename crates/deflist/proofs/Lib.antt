@@ -1,7 +1,9 @@
 pub mod Parts
 pub mod Reading
 pub mod Steps
+pub mod Entries
 pub mod Walking
 pub mod Theorems
 pub mod Counted
+pub mod Twice
 pub mod Promises

@@ -12,11 +12,10 @@ use Rattle.fields.proofs.Basics.{and-left, and-right, never}
 use Rattle.fields.proofs.Fields.{tail-part}
 use Rattle.forest.specs.Forest.{Node, sizeOf, nodeOf, spanOf, forest}
 use Rattle.forest.specs.Names.{nameOf}
-use Rattle.forest.specs.declared.Found.the-variants.{At, Nothing}
-use Rattle.forest.proofs.Stretch.{node-take, forest-none, forest-tree, rest-part, record-or-none}
+use Rattle.forest.proofs.Stretch.{forest-none, forest-tree, rest-part, record-or-none}
 use Rattle.soundness.specs.Kinds.{parameter, classOf}
 use Rattle.deflist.specs.Written.{Param, nodeIn, kindIn, param, paramOf, paramsIn, kindAt}
-use Rattle.deflist.specs.Unpack.{hasName, firstSame, isSlash, slashFrom, firstSlash, writtenAt}
+use Rattle.deflist.specs.Unpack.{isSlash, slashFrom, firstSlash, writtenAt}
 use Rattle.deflist.specs.Reading.{isListed, kindHere, SlashAt, Skips}
 use Rattle.deflist.specs.declared.Written.{Written}
 use Rattle.deflist.specs.declared.Kind.{Kind}
@@ -120,74 +119,6 @@ module _ {ns : List ℕ} {w : List Param} {n i : ℕ} {left : List ℕ} (r : Rea
       go : (b : Bool) → isListed left ≡ b → b ≡ true
       go true e = refl
       go false e = let z : length w - n ≡ 0 = sym (length-drop n w) ∙ ap length (read-end e) in absurd (omega arith)
-
--- The search for an earlier name: i of the first m parameters are looked at, and the node at comes next
-pub record Searching (ns x kids : List ℕ) (first m : ℕ) (left : List ℕ) (at i : ℕ) : Type 0 where
-  pub reads : Reading ns (paramsIn ns (forest first kids)) i at left
-  pub most : m ≤ length (paramsIn ns (forest first kids))
-  pub upto : i ≤ m
-  pub room : 24 * at + length left ≤ 24 * first + length kids
-  pub same : firstSame x (take (m - i) (drop i (paramsIn ns (forest first kids))))
-      ≡ firstSame x (take m (paramsIn ns (forest first kids)))
-
-pub search-start : (ns x kids : List ℕ) (first m : ℕ) → m ≤ length (paramsIn ns (forest first kids))
-    → Searching ns x kids first m kids first 0
-search-start ns x kids first m h = record {
-  reads = read-start ns first kids;
-  most = h;
-  upto = omega arith;
-  room = omega arith;
-  same =
-      let all : m - 0 ≡ m = omega arith in rw all refl;
-}
-
-module _ {ns x kids : List ℕ} {first m : ℕ} {left : List ℕ} {at i : ℕ} (s : Searching ns x kids first m left at i)
-  where
-    pub search-listed : i < m → isListed left ≡ true
-    search-listed h = read-listed (s .reads) (omega (arith, s .most))
-
-    pub search-long : i < m → 24 ≤ length left
-    search-long h = listed-long left (search-listed h)
-
-    one : {e : ℕ} → i < m → e ≡ spanOf left
-        → firstSame x (take (m - i) (drop i (paramsIn ns (forest first kids))))
-        ≡ firstSame x (paramOf ns (nodeOf at left)
-        ∷ take (m - (i + 1)) (paramsIn ns (forest (at + e / 24) (take (length left - e) (drop e left)))))
-    one h e-is =
-        let k : m - i ≡ suc (m - (i + 1)) = omega arith in
-        rw (k, s .reads .rest, list-on ns at left (search-listed h) e-is) refl
-
-    -- code looks at the first record alone
-    here : {b : Bool} → ((j : ℕ) → b ≡ hasName x (paramOf ns (nodeOf j (take 24 left))))
-        → b ≡ hasName x (paramOf ns (nodeOf at left))
-    here b-is = b-is at ∙ ap (λ (r : Node). hasName x (paramOf ns r)) (node-take at 24 left (omega arith))
-
-    pub search-here : i < m → {b : Bool} → ((j : ℕ) → b ≡ hasName x (paramOf ns (nodeOf j (take 24 left))))
-        → b ≡ true
-        → At at ≡ firstSame x (take m (paramsIn ns (forest first kids)))
-    unfolding firstSame
-    search-here h b-is b-yes =
-        let hit : hasName x (paramOf ns (nodeOf at left)) ≡ true = sym (here b-is) ∙ b-yes in
-        sym (sym (s .same) ∙ one h refl ∙ rw (hit, node-in ns (nodeOf at left)) refl)
-
-    pub search-on : i < m → {b : Bool} {e : ℕ} → ((j : ℕ) → b ≡ hasName x (paramOf ns (nodeOf j (take 24 left))))
-        → b ≡ false → e ≡ spanOf left
-        → Searching ns x kids first m (take (length left - e) (drop e left)) (at + e / 24) (i + 1)
-    unfolding firstSame
-    search-on h {b} {e} b-is b-no e-is =
-        let miss : hasName x (paramOf ns (nodeOf at left)) ≡ false = sym (here b-is) ∙ b-no in
-        let go = read-on (s .reads) (search-listed h) e-is in
-        record {
-          reads = go;
-          most = s .most;
-          upto = omega arith;
-          room = simp (length-take, length-drop) (omega (arith, s .room, search-long h));
-          same = rw (go .rest) (rw miss at (sym (one h e-is) ∙ s .same));
-        }
-
-    pub search-end : m ≤ i → Nothing ≡ firstSame x (take m (paramsIn ns (forest first kids)))
-    unfolding firstSame
-    search-end h = let k : m - i ≡ 0 = omega arith in rw k at (s .same)
 
 -- The search for the first `/`: n parameters are looked at, whatever the names and the index
 pub record Slashing (kids left : List ℕ) (n : ℕ) : Type 0 where

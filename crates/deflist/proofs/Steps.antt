@@ -13,14 +13,14 @@ use Rattle.forest.specs.declared.Found.the-variants.{At, Nothing}
 use Rattle.deflist.specs.Written.{Param, nodeIn, kindIn}
 use Rattle.deflist.specs.Unpack.{writtenAt, flatAt, counts, rule, firstly, repeats, check, start}
 use Rattle.deflist.specs.Unpack.{nextState, nextStar, morePositional, count, advance, on, stop}
-use Rattle.deflist.specs.Unpack.{broken, keep, step, refused, run}
+use Rattle.deflist.specs.Unpack.{broken, again, keep, step, refused, repeated, run}
 use Rattle.deflist.specs.Reading.{PlaceBelow, Bounded}
 use Rattle.deflist.specs.declared.Kind.{Kind}
 use Rattle.deflist.specs.declared.Kind.the-variants.{Normal, NoArgs, Slash, Args, KwArgs}
 use Rattle.deflist.specs.declared.State.{State}
 use Rattle.deflist.specs.declared.State.the-variants.{Normal as BeforeSlash, SeenSlash, SeenStar, SeenStarStar}
 use Rattle.deflist.specs.declared.Check.{Check}
-use Rattle.deflist.specs.declared.Check.the-variants.{Fine, Broken}
+use Rattle.deflist.specs.declared.Check.the-variants.{Fine, Broken, Repeated}
 use Rattle.deflist.specs.declared.Written.{Written}
 use Rattle.deflist.specs.declared.WrittenPlace.{WrittenPlace}
 use Rattle.deflist.specs.declared.WrittenPlace.the-variants.{NoWritten}
@@ -32,6 +32,9 @@ use Rattle.deflist.specs.declared.Unpacking.{Unpacking}
 
 pub broken≢fine : {P : Type 0} {n : ℕ} → Broken n ≡ Fine → P
 broken≢fine e = never (cc)
+
+pub repeated≢fine : {P : Type 0} {i : ℕ} → Repeated i ≡ Fine → P
+repeated≢fine e = never (cc)
 
 -- what cannot be there yet in a state
 abbrev pub Clear : State → WrittenPlace → Counts → Type 0
@@ -72,7 +75,7 @@ Cleared u = Clear (u .state) (u .«index_of_star») (u .counts)
 
 -- a fine check passes 11 and the rule of the kind
 check-rule : (f : Found) (c : Check) → firstly f c ≡ Fine → c ≡ Fine
-check-rule (At i) c e = broken≢fine e
+check-rule (At i) c e = repeated≢fine e
 check-rule Nothing c e = e
 
 module _ (before : List Param) (u : Unpacking) (p : Param) (ps : List Param) where
@@ -84,6 +87,15 @@ module _ (before : List Param) (u : Unpacking) (p : Param) (ps : List Param) whe
       → run before u (p ∷ ps) ≡ refused n (nodeIn p)
   unfolding run
   run-stop e = rw (step-stop e) refl
+
+  pub step-again : {i : ℕ} → check before (u .state) (u .«seen_optional») p ≡ Repeated i → step before u p ≡ again i
+  unfolding step
+  step-again e = rw e refl
+
+  pub run-again : {i : ℕ} → check before (u .state) (u .«seen_optional») p ≡ Repeated i
+      → run before u (p ∷ ps) ≡ repeated i (nodeIn p)
+  unfolding run
+  run-again e = rw (step-again e) refl
 
   module _ (clear : Cleared u) (fine : check before (u .state) (u .«seen_optional») p ≡ Fine) where
     kept : rule (u .state) (u .«seen_optional») (kindIn p) ≡ Fine

@@ -16,14 +16,14 @@ use Rattle.deflist.specs.Written.{Param, normal, noArgs, slash, args, kw
 use Rattle.deflist.specs.Written.{written}
 use Rattle.deflist.specs.Unpack.{writtenAt, flatAt, check, nextState, count, advance, modeOf, modesFrom, modes}
 use Rattle.deflist.specs.Unpack.{start, isSlash, slashFrom, firstSlash, positionalOnly, fromStar}
-use Rattle.deflist.specs.Unpack.{finish, Internal, Outcome, accepted, refused, internal, run, unpack}
+use Rattle.deflist.specs.Unpack.{finish, Internal, Outcome, accepted, refused, repeated, internal, run, unpack}
 use Rattle.deflist.specs.Told.{told}
 use Rattle.deflist.specs.Reading.{isListed, Bounded}
 use Rattle.deflist.specs.declared.Kind.{Kind}
 use Rattle.deflist.specs.declared.Kind.the-variants.{Normal, NoArgs, Slash, Args, KwArgs}
 use Rattle.deflist.specs.declared.State.{State}
 use Rattle.deflist.specs.declared.Check.{Check}
-use Rattle.deflist.specs.declared.Check.the-variants.{Fine, Broken}
+use Rattle.deflist.specs.declared.Check.the-variants.{Fine, Broken, Repeated}
 use Rattle.deflist.specs.declared.WrittenPlace.{WrittenPlace}
 use Rattle.deflist.specs.declared.WrittenPlace.the-variants.{AtWritten, NoWritten}
 use Rattle.deflist.specs.declared.Flat.{Flat}
@@ -31,7 +31,7 @@ use Rattle.deflist.specs.declared.Counts.{Counts}
 use Rattle.deflist.specs.declared.Unpacking.{Unpacking}
 use Rattle.deflist.specs.declared.Judged.the-variants.{Accepted}
 use Rattle.deflist.proofs.Reading.{list-end, list-on, listed-long}
-use Rattle.deflist.proofs.Steps.{Cleared, run-stop, run-on, clear-on, clear-start, bounded-on}
+use Rattle.deflist.proofs.Steps.{Cleared, run-stop, run-again, run-on, clear-on, clear-start, bounded-on}
 
 accepted≢internal : {P : Type 0} {c : Counts} {e : Internal} {r : Node} → accepted c ≡ internal e r → P
 accepted≢internal h = never (cc)
@@ -39,8 +39,14 @@ accepted≢internal h = never (cc)
 refused≢internal : {P : Type 0} {n : ℕ} {s : Node} {e : Internal} {r : Node} → refused n s ≡ internal e r → P
 refused≢internal h = never (cc)
 
+repeated≢internal : {P : Type 0} {i : ℕ} {s : Node} {e : Internal} {r : Node} → repeated i s ≡ internal e r → P
+repeated≢internal h = never (cc)
+
 pub refused≢accepted : {P : Type 0} {n : ℕ} {r : Node} {c : Counts} → refused n r ≡ accepted c → P
 refused≢accepted h = never (cc)
+
+pub repeated≢accepted : {P : Type 0} {i : ℕ} {r : Node} {c : Counts} → repeated i r ≡ accepted c → P
+repeated≢accepted h = never (cc)
 
 -- what the last rule can give: what it was told, or a refusal
 after-star : {P : Type 0} (l : List Param) (o : Outcome) {x : Outcome} → fromStar l o ≡ x → (o ≡ x → P)
@@ -53,7 +59,7 @@ after-star (p ∷ slash r ∷ l) o h f g = g _ _ h
 after-star (p ∷ args r n ∷ l) o h f g = g _ _ h
 after-star (p ∷ kwargs r n ∷ l) o h f g = g _ _ h
 
-at-end : {P : Type 0} (w : List Param) (star : WrittenPlace) (c : Counts) {x : Outcome} → finish w star c ≡ x
+pub at-end : {P : Type 0} (w : List Param) (star : WrittenPlace) (c : Counts) {x : Outcome} → finish w star c ≡ x
     → (accepted c ≡ x → P) → ((n : ℕ) (r : Node) → refused n r ≡ x → P) → P
 unfolding finish
 at-end w NoWritten c h f g = f h
@@ -71,6 +77,7 @@ run-internal before u (p ∷ ps) {e} {r} clear h = go (check before (u .state) (
         → ((v : Unpacking) (w : List Param) → Cleared v → run w v ps ≡ internal e r → ⊥) → ⊥
     go Fine f rest = rest _ _ (clear-on before u p ps clear f) (sym (run-on before u p ps clear f) ∙ h)
     go (Broken n) f rest = refused≢internal (sym (run-stop before u p ps f) ∙ h)
+    go (Repeated i) f rest = repeated≢internal (sym (run-again before u p ps f) ∙ h)
 
 -- THEOREM: no list gives an internal error of def.rs (246, 274, 299)
 pub no-internal-error : (l : List Param) {e : Internal} {r : Node} → unpack l ≡ internal e r → ⊥
@@ -107,6 +114,7 @@ run-bounded before u (p ∷ ps) k {c} clear b h = go (check before (u .state) (u
         let same : length (before ++ p ∷ []) + length ps ≡ length before + suc (length ps) = omega (arith, long) in
         rw same at (rest _ _ (clear-on before u p ps clear f) more (sym (run-on before u p ps clear f) ∙ h))
     go (Broken n) f rest = refused≢accepted (sym (run-stop before u p ps f) ∙ h)
+    go (Repeated i) f rest = repeated≢accepted (sym (run-again before u p ps f) ∙ h)
 
 -- the first `/` stands within the list
 pub slash-within : (i : ℕ) (l : List Param) → positionalOnly (slashFrom i l) .0 ≤ i + length l
@@ -154,7 +162,7 @@ accepted-bounded (p ∷ ps) {c} h = go (isSlash (kindIn p)) refl
         [] (start only) (p ∷ ps) (only .0) (clear-start only) (bounded-start only) (rw f at h)))
         (omega (arith, slash-within 0 (p ∷ ps)))
 
-short-end : (t : List ℕ) → length t < 24 → isListed t ≡ false
+pub short-end : (t : List ℕ) → length t < 24 → isListed t ≡ false
 unfolding isListed
 short-end t s = rw (lt-leb 24 (length t) s) refl
 
@@ -180,6 +188,7 @@ written-short ns i t = omega (arith, list-short ns (i + 1) (kidsOf t), length-ki
 pub told-accepted : (o : Outcome) {c : Counts} → told o ≡ Accepted c → o ≡ accepted c
 told-accepted (accepted c) e = cc
 told-accepted (refused n r) e = never (cc)
+told-accepted (repeated i r) e = never (cc)
 told-accepted (internal i r) e = never (cc)
 
 -- num_positional_only does not change on the way
@@ -207,6 +216,7 @@ run-only before u (p ∷ ps) {c} clear h = go (check before (u .state) (u .«see
     go Fine f rest = rest _ _ (clear-on before u p ps clear f) (sym (run-on before u p ps clear f) ∙ h)
         ∙ only-kept (u .state) (u .counts) (kindIn p)
     go (Broken n) f rest = refused≢accepted (sym (run-stop before u p ps f) ∙ h)
+    go (Repeated i) f rest = repeated≢accepted (sym (run-again before u p ps f) ∙ h)
 
 only-start : (only : Flat) → start only .counts .«num_positional_only» ≡ only
 unfolding start

@@ -6,29 +6,31 @@ use Prim.Native.Nat.{ℕ, _+_, _-_, _*_, _/_, _<_, _≤_, _^_}
 use native.Mathlib.Omega.{arith}
 use lib.ListN.{length, take, drop, length-take, length-drop, length-append, take-append-drop}
 use lib.Seq.{length-take-le}
-use Rattle.fields.proofs.Basics.{and-left, and-right, clash}
+use Rattle.fields.proofs.Basics.{and-left, and-right, clash, never}
 use Rattle.fields.proofs.Fields.{tail-part}
-use Rattle.forest.specs.Forest.{nodeOf, spanOf, kidsOf, forest}
+use Rattle.forest.specs.Forest.{Node, nodeOf, spanOf, kidsOf, forest}
+use Rattle.fields.specs.Choice.{if'}
 use Rattle.forest.proofs.Stretch.{length-kids}
 use Rattle.forest.specs.Names.{nameOf}
 use Rattle.forest.specs.Marks.{mayStand, noted, Known}
 use Rattle.forest.proofs.Marked.{Searches, known-start, known-named, known-other, known-new}
 use Rattle.forest.specs.declared.Found.{Found}
 use Rattle.forest.specs.declared.Found.the-variants.{At, Nothing}
-use Rattle.table.specs.Numbers.{slashFirst, duplicatedParameter, starLast, noNormalAfterStar}
+use Rattle.table.specs.Numbers.{slashFirst, duplicatedParameter, normalAfterKwargs, starLast, noNormalAfterStar}
 use Rattle.deflist.specs.Written.{Name, Param, normal, noArgs, slash, args, kwargs, nodeIn, kindIn, param}
 use Rattle.deflist.specs.Written.{paramOf, paramsIn, written}
+use Rattle.deflist.specs.Unpack.{seenSlash, seenStar, seenStarStar, defaultRule}
 use Rattle.deflist.specs.Unpack.{writtenAt, hasName, firstSame, repeats, rule, firstly, check, advance}
 use Rattle.deflist.specs.Unpack.{nextStar, start, slashFrom, firstSlash, positionalOnly, isSlash, normalNext}
 use Rattle.deflist.specs.Unpack.{fromStar, finish, Outcome, accepted, refused, run, unpack}
-use Rattle.deflist.specs.Told.{fault, told}
+use Rattle.deflist.specs.Told.{fault, turnOf, told}
 use Rattle.deflist.specs.Reading.{isListed, kindHere, beginsWithSlash, isNamed, isNormal, StarIn, Inside, Skips}
-use Rattle.deflist.specs.Reading.{Finishes}
-use Rattle.deflist.specs.Reading.{Meets, Says, SlashAt, Bounded}
+use Rattle.deflist.specs.Reading.{Finishes, NotPast, Earlier, Meets, Says, SlashAt, Bounded}
+use Rattle.deflist.specs.declared.State.{State}
 use Rattle.deflist.specs.declared.Kind.{Kind}
 use Rattle.deflist.specs.declared.Kind.the-variants.{Normal, NoArgs, Slash, Args, KwArgs}
 use Rattle.deflist.specs.declared.Check.{Check}
-use Rattle.deflist.specs.declared.Check.the-variants.{Fine, Broken}
+use Rattle.deflist.specs.declared.Check.the-variants.{Fine, Broken, Repeated}
 use Rattle.deflist.specs.declared.Written.{Written}
 use Rattle.deflist.specs.declared.WrittenPlace.{WrittenPlace}
 use Rattle.deflist.specs.declared.WrittenPlace.the-variants.{AtWritten, NoWritten}
@@ -36,12 +38,14 @@ use Rattle.deflist.specs.declared.Flat.{Flat}
 use Rattle.deflist.specs.declared.Counts.{Counts}
 use Rattle.deflist.specs.declared.Unpacking.{Unpacking}
 use Rattle.deflist.specs.declared.Fault.{Fault}
+use Rattle.deflist.specs.declared.Turn.{Turn}
+use Rattle.deflist.specs.declared.Turn.the-variants.{Passes, Stops}
 use Rattle.deflist.specs.declared.Judged.{Judged}
 use Rattle.deflist.specs.declared.Judged.the-variants.{Accepted, Refused}
 use Rattle.deflist.proofs.Reading.{node-in, kind-in, listed-long, list-end, list-on, Reading, read-start}
 use Rattle.deflist.proofs.Parts.{name-none, name-tested}
 use Rattle.deflist.proofs.Reading.{read-here, read-on, read-end}
-use Rattle.deflist.proofs.Steps.{Cleared, run-stop, run-on, clear-on, clear-start, bounded-on}
+use Rattle.deflist.proofs.Steps.{Cleared, run-stop, run-again, run-on, clear-on, clear-start, bounded-on}
 
 -- 11: marks repeat no name, others the first of theirs
 module _ (ns : List ℕ) (before : List Param) (left : List ℕ) {k : Kind} (k-is : k ≡ kindHere left) {b : Bool}
@@ -72,36 +76,85 @@ module _ (ns : List ℕ) (before : List Param) (left : List ℕ) {k : Kind} (k-i
       go KwArgs e = refl
 
 -- the search for an earlier name goes by `hasName`
-searches : Searches firstSame hasName
+unfoldable pub searches : Searches firstSame hasName
 unfolding firstSame
 searches = record { node = λ p. nodeIn p .at; none = λ x. refl; first = λ x p l. refl }
 
 -- the marks know a parameter more: `*` and `/` have no name, others are noted; one that may not stand is new
 module _ (ns : List ℕ) {marks : List ℕ} {before : List Param} (known : Known firstSame marks before) (left : List ℕ)
     {k : Kind} (k-is : k ≡ kindHere left) {b : Bool} (b-is : b ≡ isNamed k) where
-  pub meets-none : b ≡ false → Meets ns before left marks Nothing
-  meets-none h = record {
+  pub meets-none : (m : ℕ) → b ≡ false → Meets ns before left marks m Nothing
+  meets-none m h = record {
     says = repeats-none ns before left k-is b-is h;
+    inside = tt;
     known = λ i. known-other searches known _ (λ x. name-none ns x left k-is b-is h i);
   }
 
-  module _ (h : b ≡ true) {x : Name} (x-is : x ≡ nameOf ns (nodeOf 0 left)) {m : List ℕ} (m-is : m ≡ noted marks x)
-    where
-      pub meets-searched : {r : Found} → r ≡ firstSame x before → Meets ns before left m r
-      meets-searched r-is = record {
-        says = repeats-named ns before left k-is b-is h x-is r-is;
-        known = λ i. rw m-is (known-named searches known _ x (λ y. name-tested ns y left k-is b-is h x-is refl i));
-      }
+  module _ (h : b ≡ true) {x : Name} (x-is : x ≡ nameOf ns (nodeOf 0 left)) {ms : List ℕ} (ms-are : ms ≡ noted marks x)
+      {m : ℕ} where
+    pub meets-searched : {r : Found} → Earlier x before m r → Meets ns before left ms m r
+    meets-searched r-is = record {
+      says = repeats-named ns before left k-is b-is h x-is (r-is .says);
+      inside = r-is .inside;
+      known = λ i. rw ms-are (known-named searches known _ x (λ y. name-tested ns y left k-is b-is h x-is refl i));
+    }
 
-      pub meets-new : {t : Bool} → t ≡ mayStand marks x → t ≡ false → Meets ns before left m Nothing
-      meets-new t-is new = meets-searched (known-new known t-is new)
+    pub meets-new : {t : Bool} → t ≡ mayStand marks x → t ≡ false → Meets ns before left ms m Nothing
+    meets-new t-is new = meets-searched (record { says = known-new known t-is new; inside = tt })
 
 -- 11 before the rule of the kind
-pub check-found : (f : Found) (c : Check) {j : ℕ} → f ≡ At j → Broken duplicatedParameter ≡ firstly f c
+pub check-found : (f : Found) (c : Check) {j : ℕ} → f ≡ At j → Repeated j ≡ firstly f c
 check-found f c e = rw e refl
 
 pub check-rule : (f : Found) {c r : Check} → f ≡ Nothing → r ≡ c → r ≡ firstly f c
 check-rule f e r-is = rw e r-is
+
+-- a rule finds no repeated name, so one that is repeated was found
+test-new : (b : Bool) (n : ℕ) {i : ℕ} → if' b (λ _. Broken n) (λ _. Fine) ≡ Repeated i → ⊥
+test-new true n e = never (cc)
+test-new false n e = never (cc)
+
+default-new : (a b o d : Bool) {i : ℕ}
+    → if' a (λ _. Broken normalAfterKwargs) (λ _. if' b (λ _. Fine) (λ _. defaultRule o d)) ≡ Repeated i → ⊥
+default-new true b o d e = never (cc)
+default-new false true o d e = never (cc)
+default-new false false true true e = never (cc)
+default-new false false true false e = never (cc)
+default-new false false false d e = never (cc)
+
+rule-new : (s : State) (o : Bool) (k : Kind) {i : ℕ} → rule s o k ≡ Repeated i → ⊥
+rule-new s o (Normal d) e = default-new (seenStarStar s) (seenStar s) o d e
+rule-new s o NoArgs e = test-new (seenStar s) _ e
+rule-new s o Slash e = test-new (seenSlash s) _ e
+rule-new s o Args e = test-new (seenStar s) _ e
+rule-new s o KwArgs e = test-new (seenStarStar s) _ e
+
+pub found-repeated : (f : Found) (s : State) (o : Bool) (k : Kind) {i : ℕ} → firstly f (rule s o k) ≡ Repeated i
+    → f ≡ At i
+found-repeated (At j) s o k {i} e = let same : j ≡ i = cc in ap At same
+found-repeated Nothing s o k e = absurd (rule-new s o k e)
+
+-- what its check makes of a parameter's turn
+module _ (x : Check) (r : Node) {c : Check} (c-is : c ≡ x) where
+  pub turn-fine : c ≡ Fine → Passes ≡ turnOf x r
+  turn-fine h = rw (← c-is, h) refl
+
+  module _ {f : Fault} where
+    pub turn-broken : {n : ℕ} → c ≡ Broken n → f ≡ fault n r Nothing → Stops f ≡ turnOf x r
+    turn-broken h f-is = rw (← c-is, h, f-is) refl
+
+    pub turn-repeated : {i : ℕ} → c ≡ Repeated i → f ≡ fault duplicatedParameter r (At i) → Stops f ≡ turnOf x r
+    turn-repeated h f-is = rw (← c-is, h, f-is) refl
+
+-- what passes is fine
+fine-passes : (c : Check) (r : Node) → Passes ≡ turnOf c r → c ≡ Fine
+fine-passes Fine r e = refl
+fine-passes (Broken n) r e = never (cc)
+fine-passes (Repeated i) r e = never (cc)
+
+not-past-wider : (f : Found) {m n : ℕ} → NotPast m f → m ≤ n → NotPast n f
+not-past-wider (At i) h g = omega arith
+not-past-wider Nothing h g = tt
 
 -- 17 and 18
 normal-next : (p : Param) (o : Outcome) → isNormal (kindIn p) ≡ true → normalNext p o ≡ o
@@ -148,7 +201,7 @@ module _ (kids : List ℕ) (first : ℕ) (star : Written) (c : Counts) {at e : �
           ∙ ap length (from-star ns h ∙ list-end ns (first + at / 24) here l) in absurd (omega arith)
 
   module _ {l : Bool} (l-is : l ≡ isListed after) where
-    pub star-last : l ≡ false → {f : Fault} → f ≡ fault starLast (nodeOf (first + at / 24) here)
+    pub star-last : l ≡ false → {f : Fault} → f ≡ fault starLast (nodeOf (first + at / 24) here) Nothing
         → Finishes kids first (AtWritten star) c (Refused f)
     unfolding finish
     star-last l-no f-is = record {
@@ -157,7 +210,7 @@ module _ (kids : List ℕ) (first : ℕ) (star : Written) (c : Counts) {at e : �
           [] = star-then ns h ∙ ap (λ (ps : List Param). paramOf ns (nodeOf (first + at / 24) here) ∷ ps)
           (list-end ns _ after (sym l-is ∙ l-no)) in
           rw (f-is, w-is, node-in ns (nodeOf (first + at / 24) here)) refl;
-      inside = rw f-is (omega (arith, skips .within));
+      inside = rw f-is (omega (arith, skips .within), tt);
     }
 
     module _ (l-yes : l ≡ true) {k : Kind} (k-is : k ≡ kindHere after) {b : Bool} (b-is : b ≡ isNormal k) where
@@ -180,7 +233,7 @@ module _ (kids : List ℕ) (first : ℕ) (star : Written) (c : Counts) {at e : �
       }
 
       pub star-other : b ≡ false → {f : Fault}
-          → f ≡ fault noNormalAfterStar (nodeOf (first + at / 24 + e / 24) after)
+          → f ≡ fault noNormalAfterStar (nodeOf (first + at / 24 + e / 24) after) Nothing
           → Finishes kids first (AtWritten star) c (Refused f)
       unfolding finish
       star-other b-no f-is = record {
@@ -189,7 +242,7 @@ module _ (kids : List ℕ) (first : ℕ) (star : Written) (c : Counts) {at e : �
           next-is ns h ∙ other-next (follower ns) (accepted c) (kind-next ns ∙ b-no),
           node-in ns (nodeOf (first + at / 24 + e / 24) after),
         ) refl;
-        inside = rw f-is (omega (arith, long, skips .within));
+        inside = rw f-is (omega (arith, long, skips .within), tt);
       }
 
 -- The parameters in turn: n are read, u is known of them, and the node at comes next
@@ -251,36 +304,60 @@ module _ {ns kids : List ℕ} {first : ℕ} {marks₀ : List ℕ} {u₀ : Unpack
       here-then e-is = ap (run (take n (paramsIn ns (forest first kids))) u)
           (sym (j .reads .rest ∙ list-on ns at left listed e-is)) ∙ j .same
 
-      module _ {m : List ℕ} {f : Found} (met : Meets ns (take n (paramsIn ns (forest first kids))) left m f) {k : Kind}
-          (k-is : k ≡ kindHere left) {c : Check} (c-is : c ≡ firstly f (rule (u .state) (u .«seen_optional») k)) where
+      module _ {ms : List ℕ} {f : Found}
+          (met : Meets ns (take n (paramsIn ns (forest first kids))) left ms (first + length kids / 24) f)
+          {k : Kind} (k-is : k ≡ kindHere left) where
+        abbrev judged : Check
+        judged = firstly f (rule (u .state) (u .«seen_optional») k)
+
         checked : check (take n (paramsIn ns (forest first kids))) (u .state) (u .«seen_optional»)
-            (paramOf ns (nodeOf at left)) ≡ c
-        checked = sym (c-is ∙ rw (met .says at, k-is, ← (kind-in ns at left)) refl)
+            (paramOf ns (nodeOf at left)) ≡ judged
+        checked = sym (rw (met .says at, k-is, ← (kind-in ns at left)) refl)
 
-        pub judge-stop : (only : Flat) → u₀ ≡ start only → {m : ℕ} → c ≡ Broken m → {r : Fault}
-            → r ≡ fault m (nodeOf at left)
+        -- what a parameter that stops the walk says
+        stopped : (x : Check) → judged ≡ x → {o : Outcome}
+            → run (take n (paramsIn ns (forest first kids))) u (paramOf ns (nodeOf at left)
+            ∷ paramsIn ns (forest (at + spanOf left / 24) (take (length left - spanOf left) (drop (spanOf left) left))))
+            ≡ o → {r : Fault} → Stops r ≡ turnOf x (nodeOf at left) → Says o (first + length kids / 24) (Refused r)
+        stopped Fine x-is run-is e = never (cc)
+        stopped (Broken m) x-is run-is {r} e =
+            let r-is : r ≡ fault m (nodeOf at left) Nothing = cc in
+            record {
+              same = rw (
+                r-is,
+                ← run-is,
+                run-stop _ u (paramOf ns (nodeOf at left)) _ (checked ∙ x-is),
+                node-in ns (nodeOf at left),
+              ) refl;
+              inside = rw r-is (omega (arith, j .room), tt);
+            }
+        stopped (Repeated i) x-is run-is {r} e =
+            let r-is : r ≡ fault duplicatedParameter (nodeOf at left) (At i) = cc in
+            record {
+              same = rw (
+                r-is,
+                ← run-is,
+                run-again _ u (paramOf ns (nodeOf at left)) _ (checked ∙ x-is),
+                node-in ns (nodeOf at left),
+              ) refl;
+              inside = rw r-is (omega (arith, j .room), rw (found-repeated f _ _ k x-is) at (met .inside));
+            }
+
+        pub judge-stop : (only : Flat) → u₀ ≡ start only → {t : Turn} → t ≡ turnOf judged (nodeOf at left) → {r : Fault}
+            → t ≡ Stops r
             → Says (run [] (start only) (paramsIn ns (forest first kids))) (first + length kids / 24) (Refused r)
-        judge-stop only u₀-is e r-is = record {
-          same = rw (
-            r-is,
-            ← u₀-is,
-            ← here-then refl,
-            run-stop (take n (paramsIn ns (forest first kids))) u (paramOf ns (nodeOf at left)) _
-                (checked ∙ e),
-            node-in ns (nodeOf at left),
-          ) refl;
-          inside = rw r-is (omega (arith, j .room));
-        }
+        judge-stop only u₀-is t-is e = stopped judged refl (rw u₀-is at (here-then refl)) (sym e ∙ t-is)
 
-        pub judge-on : length m ≡ length marks → c ≡ Fine → {v : Unpacking} → v ≡ advance u (writtenAt n) k
+        pub judge-on : length ms ≡ length marks → {t : Turn} → t ≡ turnOf judged (nodeOf at left) → t ≡ Passes
+            → {v : Unpacking} → v ≡ advance u (writtenAt n) k
             → {e : ℕ} → e ≡ spanOf left → {i : Written} → i ≡ writtenAt (n + 1)
-            → Judging ns kids first marks₀ u₀ m v (take (length left - e) (drop e left)) (at + e / 24) (i .0)
+            → Judging ns kids first marks₀ u₀ ms v (take (length left - e) (drop e left)) (at + e / 24) (i .0)
         unfolding advance
-        judge-on same-long fine v-is {e} e-is i-is =
+        judge-on same-long t-is passes v-is {e} e-is i-is =
             let w = paramsIn ns (forest first kids) in
             let p = paramOf ns (nodeOf at left) in
             let x = read-here (j .reads) listed e-is in
-            let good = checked ∙ fine in
+            let good = checked ∙ fine-passes judged _ (sym passes ∙ t-is) in
             let long : length (take n w) ≡ n = length-take-le n w (j .reads .upto) in
             let kind : k ≡ kindIn p = k-is ∙ sym (kind-in ns at left) in
             rw (v-is, kind, i-is)
@@ -329,7 +406,7 @@ unpack-not-slash ns kids first h = go (isListed kids) refl
     go false e = rw (list-end ns first kids e) refl
 
 module _ (ns kids : List ℕ) (first : ℕ) {b : Bool} (b-is : b ≡ beginsWithSlash kids) where
-  pub unpack-slash : b ≡ true → {f : Fault} → f ≡ fault slashFirst (nodeOf first kids)
+  pub unpack-slash : b ≡ true → {f : Fault} → f ≡ fault slashFirst (nodeOf first kids) Nothing
       → Says (unpack (paramsIn ns (forest first kids))) (first + length kids / 24) (Refused f)
   unfolding unpack beginsWithSlash
   unpack-slash b-yes f-is =
@@ -338,7 +415,7 @@ module _ (ns kids : List ℕ) (first : ℕ) {b : Bool} (b-is : b ≡ beginsWithS
       ∙ and-right (isListed kids) _ yes in
       record {
         same = rw (f-is, list-on ns first kids (and-left _ _ yes) refl, hit, node-in ns (nodeOf first kids)) refl;
-        inside = rw f-is (omega arith);
+        inside = rw f-is (omega arith, tt);
       }
 
   pub unpack-run : b ≡ false → {s : WrittenPlace} → SlashAt kids s → {only : Flat} → only ≡ positionalOnly s
@@ -364,4 +441,5 @@ module _ (t : List ℕ) (node : ℕ) {kids : List ℕ} (kids-are : kids ≡ kids
     where
       wider : (r : Judged) → Inside (node + 1 + length kids / 24) r → Inside (node + 1 + length t / 24) r
       wider (Accepted c) h = tt
-      wider (Refused f) h = omega (arith, judge-room)
+      wider (Refused f) h =
+          (omega (arith, h .0, judge-room), not-past-wider (f .earlier) (h .1) (omega (arith, judge-room)))

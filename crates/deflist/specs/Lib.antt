@@ -3,3 +3,4 @@ pub mod Unpack
 pub mod Told
 pub mod Reading
 pub mod Reached
+pub mod Twice

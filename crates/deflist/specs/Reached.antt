@@ -3,13 +3,15 @@ use mathlib.Core.List.{List, [], _∷_, _++_}
 use Prim.Native.Nat.{ℕ}
 use Rattle.fields.specs.Choice.{if'}
 use Rattle.deflist.specs.Written.{Param, kindIn}
-use Rattle.deflist.specs.Unpack.{Step, on, stop, broken, step, flatAt, start, isSlash, firstSlash, positionalOnly}
+use Rattle.deflist.specs.Unpack.{Step, on, stop, again, broken, step, flatAt, start, isSlash, firstSlash}
+use Rattle.deflist.specs.Unpack.{positionalOnly}
 use Rattle.deflist.specs.Reading.{Bounded}
 use Rattle.deflist.specs.declared.Unpacking.{Unpacking}
 
 abbrev pub onward : Step → (Unpacking → List Unpacking) → List Unpacking
 onward (on u) next = next u
 onward (stop n) next = []
+onward (again i) next = []
 onward (broken e) next = []
 
 -- the states before each parameter that is read, and after the last

@@ -8,8 +8,9 @@ use lib.Dec.{eqb, leb}
 use Rattle.forest.specs.Forest.{recordBytes, nodeOf, forest}
 use Rattle.forest.specs.Marks.{Known}
 use Rattle.forest.specs.declared.Found.{Found}
+use Rattle.forest.specs.declared.Found.the-variants.{At, Nothing}
 use Rattle.soundness.specs.Kinds.{parameter, classOf}
-use Rattle.deflist.specs.Written.{Param, kindAt, paramOf, paramsIn}
+use Rattle.deflist.specs.Written.{Name, Param, kindAt, paramOf, paramsIn}
 use Rattle.deflist.specs.Unpack.{isSlash, firstSame, repeats, firstSlash, finish, Outcome}
 use Rattle.deflist.specs.Told.{told}
 use Rattle.deflist.specs.declared.Kind.{Kind}
@@ -54,10 +55,14 @@ abbrev pub StarIn : List Param → WrittenPlace → Type 0
 StarIn w NoWritten = Unit {0}
 StarIn w (AtWritten i) = i .0 < length w
 
--- a refusal's node comes no later than m
+-- a refusal's node comes no later than m, and so does the earlier one that it carries
+abbrev pub NotPast : ℕ → Found → Type 0
+NotPast m (At i) = i ≤ m
+NotPast m Nothing = Unit {0}
+
 abbrev pub Inside : ℕ → Judged → Type 0
 Inside m (Accepted c) = Unit {0}
-Inside m (Refused f) = f .node ≤ m
+Inside m (Refused f) = (f .node ≤ m) × NotPast m (f .earlier)
 
 -- what code says for an outcome, where a refusal's node comes no later than m
 pub record Says (o : Outcome) (m : ℕ) (r : Judged) : Type 0 where
@@ -80,10 +85,16 @@ pub record Finishes (kids : List ℕ) (first : ℕ) (star : WrittenPlace) (c : C
       → r ≡ told (finish (paramsIn names (forest first kids)) star c)
   pub inside : Inside (first + length kids / recordBytes) r
 
+-- the first of those before that has this name, no later than m
+pub record Earlier (x : Name) (before : List Param) (m : ℕ) (f : Found) : Type 0 where
+  pub says : f ≡ firstSame x before
+  pub inside : NotPast m f
+
 -- what is said of the name of the parameter that `left` begins with, whatever its index: the first of those before it
--- that has an equal one; and the marks then know it too
-pub record Meets (names : List ℕ) (before : List Param) (left marks : List ℕ) (f : Found) : Type 0 where
+-- that has an equal one, no later than m; and the marks then know it too
+pub record Meets (names : List ℕ) (before : List Param) (left marks : List ℕ) (m : ℕ) (f : Found) : Type 0 where
   pub says : (i : ℕ) → f ≡ repeats before (paramOf names (nodeOf i left))
+  pub inside : NotPast m f
   pub known : (i : ℕ) → Known firstSame marks (before ++ paramOf names (nodeOf i left) ∷ [])
 
 -- bounds of what is counted in the first m parameters, where `/` stands no further than k

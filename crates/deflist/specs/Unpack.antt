@@ -12,7 +12,7 @@ use Rattle.forest.specs.Forest.{Node}
 use Rattle.forest.specs.Names.{same}
 use Rattle.forest.specs.declared.Found.{Found}
 use Rattle.forest.specs.declared.Found.the-variants.{At, Nothing}
-use Rattle.table.specs.Numbers.{slashFirst, duplicatedParameter, normalAfterKwargs, noDefaultAfterDefault}
+use Rattle.table.specs.Numbers.{slashFirst, normalAfterKwargs, noDefaultAfterDefault}
 use Rattle.table.specs.Numbers.{starAfterStar, multipleSlash, multipleKwargs, starLast, noNormalAfterStar}
 use Rattle.deflist.specs.Written.{Name, Param, normal, noArgs, slash, args, kwargs, nodeIn, kindIn}
 use Rattle.deflist.specs.declared.Kind.{Kind}
@@ -20,7 +20,7 @@ use Rattle.deflist.specs.declared.Kind.the-variants.{Normal, NoArgs, Sla
 use Rattle.deflist.specs.declared.State.{State}
 use Rattle.deflist.specs.declared.State.the-variants.{Normal as BeforeSlash, SeenSlash, SeenStar, SeenStarStar}
 use Rattle.deflist.specs.declared.Check.{Check}
-use Rattle.deflist.specs.declared.Check.the-variants.{Fine, Broken}
+use Rattle.deflist.specs.declared.Check.the-variants.{Fine, Broken, Repeated}
 use Rattle.deflist.specs.declared.Written.{Written}
 use Rattle.deflist.specs.declared.WrittenPlace.{WrittenPlace}
 use Rattle.deflist.specs.declared.WrittenPlace.the-variants.{AtWritten, NoWritten}
@@ -104,9 +104,9 @@ rule s seen_optional Slash = slashRule s
 rule s seen_optional Args = starRule s
 rule s seen_optional KwArgs = kwargsRule s
 
--- 11 before the rule of the kind
+-- 11, with the earlier parameter's node, before the rule of the kind
 abbrev pub firstly : Found → Check → Check
-firstly (At i) c = Broken duplicatedParameter
+firstly (At i) c = Repeated i
 firstly Nothing c = c
 
 abbrev pub check : List Param → State → Bool → Param → Check
@@ -178,10 +178,11 @@ pub data Internal : Type 0 where
   multipleArgs : Internal
   multipleKwArgs : Internal
 
--- one step: the next state, a refusal by its number, or an internal error
+-- one step: the next state, a refusal by its number, 11 with the earlier parameter's node, or an internal error
 pub data Step : Type 0 where
   on : Unpacking → Step
   stop : ℕ → Step
+  again : ℕ → Step
   broken : Internal → Step
 
 abbrev pub unlessWritten : WrittenPlace → Internal → Unpacking → Step
@@ -203,16 +204,19 @@ keep u i KwArgs = unlessFlat (u .counts .kwargs) multipleKwArgs (advance u i KwA
 abbrev pub unlessBroken : Check → (Unit {0} → Step) → Step
 unlessBroken Fine next = next tt
 unlessBroken (Broken n) next = stop n
+unlessBroken (Repeated i) next = again i
 
 -- a parameter in its turn, after those before it
 unfoldable pub step : List Param → Unpacking → Param → Step
 step before u p =
     unlessBroken (check before (u .state) (u .«seen_optional») p) (λ _. keep u (writtenAt (length before)) (kindIn p))
 
--- the outcomes of unpack: what is counted, a refusal at a parameter's record, an internal error at a parameter's record
+-- the outcomes of unpack: what is counted, a refusal at a parameter's record, 11 at one with the earlier one's node, an
+-- internal error at a parameter's record
 pub data Outcome : Type 0 where
   accepted : Counts → Outcome
   refused : ℕ → Node → Outcome
+  repeated : ℕ → Node → Outcome
   internal : Internal → Node → Outcome
 
 -- what follows the `*`: 17 nothing, at the `*`; 18 no Normal, at what stands there
@@ -236,6 +240,7 @@ finish w (AtWritten i) c = fromStar (drop (i .0) w) (accepted c)
 abbrev pub after : Step → Node → (Unpacking → Outcome) → Outcome
 after (on u) r next = next u
 after (stop n) r next = refused n r
+after (again i) r next = repeated i r
 after (broken e) r next = internal e r
 
 -- the parameters in turn

@@ -10,6 +10,7 @@ mod rules;
 pub mod states;
 mod walk;
 
+use forest::Found;
 use forest::RECORD;
 use forest::marks;
 use table::Span;
@@ -72,17 +73,26 @@ pub struct Unpacking {
     pub counts: Counts,
 }
 
-// What the check of one parameter gives: nothing, or the number of a refusal.
+// What the check of one parameter gives: nothing, the number of a refusal, or 11 with the node of the earlier
+// parameter.
 pub enum Check {
     Fine,
     Broken(u32),
+    Repeated(usize),
 }
 
-// A refusal at a parameter: its number, its node and its span.
+// A refusal at a parameter: its number, its node and its span, and for 11 the node of the earlier parameter.
 pub struct Fault {
     pub number: u32,
     pub node: usize,
     pub span: Span,
+    pub earlier: Found,
+}
+
+// What becomes of a parameter in its turn.
+pub enum Turn {
+    Passes,
+    Stops(Fault),
 }
 
 // What unpack answers.

@@ -3,24 +3,10 @@
 use crate::Written;
 use crate::WrittenPlace;
 use crate::entry;
-use crate::rules;
 ghost use mathlib.Core.Path.{_≡_};
-ghost use Prim.Native.Nat.{ℕ, _+_, _<_, _^_};
-ghost use Rattle.forest.specs.Forest.{nodeOf, forest};
-ghost use Rattle.deflist.specs.Written.{paramOf};
-ghost use Rattle.deflist.specs.Unpack.{writtenAt, hasName};
+ghost use Prim.Native.Nat.{_+_, _<_, _^_};
+ghost use Rattle.deflist.specs.Unpack.{writtenAt};
 ghost use Rattle.deflist.specs.Reading.{SlashAt, Skips};
-
-// Whether the parameter that a stretch begins with has this name.
-pub(crate) fn has_name(names: &[u8], name: &[u8], t: &[u8]) -> bool
-    ensures { λ r. ⌜
-        ((i : ℕ) → r ≡ hasName (now (name .entry)) (paramOf (now (names .entry)) (nodeOf i (now (t .entry))))) ⌝ }
-{
-    if !rules::is_named(entry::kind_of(t)) {
-        return false;
-    }
-    forest::names::same_bytes(forest::names::name(names, t), name)
-}
 
 // The next position in the written list.
 pub(crate) fn next(n: Written) -> Written

@@ -12,6 +12,7 @@ use crate::FlatPlace;
 use crate::Judged;
 use crate::Kind;
 use crate::State;
+use crate::Turn;
 use crate::Unpacking;
 use crate::Written;
 use crate::WrittenPlace;
@@ -21,6 +22,8 @@ use crate::rules;
 use crate::states;
 use forest::Found;
 use forest::RECORD;
+use table::Entries;
+use table::named;
 use table::numbers;
 ghost use mathlib.Core.Path.{_≡_};
 ghost use mathlib.Core.List.{[]};
@@ -33,40 +36,33 @@ ghost use Rattle.deflist.specs.Unpack.{firstSame, firstly, rule as ruleO
 ghost use Rattle.deflist.specs.Unpack.{count as countOf, advance as advanceOf, run as runOf};
 ghost use Rattle.deflist.specs.Unpack.{start as startOf, unpack as unpackOf};
 ghost use Rattle.deflist.specs.declared.WrittenPlace.the-variants.{AtWritten};
-ghost use Rattle.deflist.specs.Told.{fault as faultOf};
-ghost use Rattle.deflist.specs.Reading.{kindHere, beginsWithSlash, Says, Finishes, Meets};
+ghost use Rattle.deflist.specs.Told.{fault as faultOf, turnOf};
+ghost use Rattle.deflist.specs.Reading.{kindHere, beginsWithSlash, Says, Finishes, Earlier, Meets};
 
 // The node of the first of n parameters that has this name; first is the node of the first record.
 fn earlier(names: &[u8], name: &[u8], kids: &[u8], first: usize, n: Written) -> Found
     requires { ⌜ (24 * first + length (now kids) < 2 ^ 64) ×
         (n .0 ≤ length (paramsIn (now names) (forest first (now kids)))) ⌝ }
-    ensures { λ r. ⌜ r ≡
-        firstSame (now (name .entry)) (take (n .0)
-        (paramsIn (now (names .entry)) (forest first (now (kids .entry))))) ⌝ }
+    ensures { λ r. ⌜ Earlier (now (name .entry))
+        (take (n .0) (paramsIn (now (names .entry)) (forest first (now (kids .entry)))))
+        (first + length (now (kids .entry)) / 24) r ⌝ }
 {
-    let mut left = kids;
-    let mut at = first;
-    let mut i = 0;
-    while i < n.0 {
-        if list::has_name(names, name, &left[0..RECORD]) {
-            return Found::At(at);
-        }
-        let e = forest::span(left);
-        at += e / RECORD;
-        left = &left[e..];
-        i += 1;
+    let found = named::first_named(Entries::Parameters, names, name, kids, n.0);
+    match found {
+        Found::At(i) => Found::At(first + i),
+        Found::Nothing => Found::Nothing,
     }
-    Found::Nothing
 }
 
-// A refusal at the record that a stretch begins with.
-fn fault(number: u32, node: usize, t: &[u8]) -> Fault
-    ensures { λ r. ⌜ r ≡ faultOf number (nodeOf node (now (t .entry))) ⌝ }
+// A refusal at the record that a stretch begins with, and the node of an earlier one.
+fn fault(number: u32, node: usize, t: &[u8], earlier: Found) -> Fault
+    ensures { λ r. ⌜ r ≡ faultOf number (nodeOf node (now (t .entry))) earlier ⌝ }
 {
     Fault {
         number,
         node,
         span: table::span_of(t),
+        earlier,
     }
 }
 
@@ -86,7 +82,7 @@ fn repeated(
         Known firstSame (now marks) (take (n .0) (paramsIn (now names) (forest first (now kids)))) ⌝ }
     ensures { λ r. ⌜ Meets (now (names .entry))
         (take (n .0) (paramsIn (now (names .entry)) (forest first (now (kids .entry))))) (now (left .entry))
-        (now (marks .exit)) r ⌝ }
+        (now (marks .exit)) (first + length (now (kids .entry)) / 24) r ⌝ }
 {
     if !rules::is_named(kind) {
         return Found::Nothing;
@@ -103,8 +99,22 @@ fn check(found: Found, state: State, optional: bool, kind: Kind) -> Check
     ensures { λ r. ⌜ r ≡ firstly found (ruleOf state optional kind) ⌝ }
 {
     match found {
-        Found::At(_) => Check::Broken(numbers::DUPLICATED_PARAMETER),
+        Found::At(i) => Check::Repeated(i),
         Found::Nothing => rules::rule(state, optional, kind),
+    }
+}
+
+// What becomes of the parameter that a stretch begins with: 11, then the rule of its kind.
+fn turn(found: Found, state: State, optional: bool, kind: Kind, node: usize, t: &[u8]) -> Turn
+    ensures { λ r. ⌜ r ≡ turnOf (firstly found (ruleOf state optional kind)) (nodeOf node (now (t .entry))) ⌝ }
+{
+    let c = check(found, state, optional, kind);
+    match c {
+        Check::Fine => Turn::Passes,
+        Check::Broken(number) => Turn::Stops(fault(number, node, t, Found::Nothing)),
+        Check::Repeated(i) => {
+            Turn::Stops(fault(numbers::DUPLICATED_PARAMETER, node, t, Found::At(i)))
+        }
     }
 }
 
@@ -193,12 +203,17 @@ fn after_star(kids: &[u8], first: usize, star: Written, counts: Counts) -> Judge
     let next = &here[e..];
     let node = first + at / RECORD;
     if !entry::listed(next) {
-        return Judged::Refused(fault(numbers::STAR_LAST, node, here));
+        return Judged::Refused(fault(numbers::STAR_LAST, node, here, Found::Nothing));
     }
     if rules::is_normal(entry::kind_of(next)) {
         return Judged::Accepted(counts);
     }
-    Judged::Refused(fault(numbers::NO_NORMAL_AFTER_STAR, node + e / RECORD, next))
+    Judged::Refused(fault(
+        numbers::NO_NORMAL_AFTER_STAR,
+        node + e / RECORD,
+        next,
+        Found::Nothing,
+    ))
 }
 
 // After the last parameter.
@@ -226,9 +241,9 @@ fn run(names: &[u8], kids: &[u8], first: usize, only: Flat, marks: &mut [u8]) ->
         let kind = entry::kind_of(left);
         let found = repeated(names, kids, first, n, left, kind, marks);
         let state = u.state;
-        let c = check(found, state, u.seen_optional, kind);
-        if let Check::Broken(number) = c {
-            return Judged::Refused(fault(number, at, left));
+        let turned = turn(found, state, u.seen_optional, kind, at, left);
+        if let Turn::Stops(f) = turned {
+            return Judged::Refused(f);
         }
         u = advance(u, n, kind);
         n = list::next(n);
@@ -255,7 +270,7 @@ fn unpack(names: &[u8], kids: &[u8], first: usize, marks: &mut [u8]) -> Judged
         (first + length (now (kids .entry)) / 24) r ⌝ }
 {
     if slash_first(kids) {
-        return Judged::Refused(fault(numbers::SLASH_FIRST, first, kids));
+        return Judged::Refused(fault(numbers::SLASH_FIRST, first, kids, Found::Nothing));
     }
     let slash = list::first_slash(kids);
     run(names, kids, first, rules::positional_only(slash), marks)

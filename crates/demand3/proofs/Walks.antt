@@ -11,12 +11,12 @@ use Rattle.deflist.specs.Unpack.{writtenAt, repeats, rule, firstly, check, next
 use Rattle.deflist.specs.Unpack.{advance, finish, accepted, refused, run}
 use Rattle.deflist.specs.declared.State.{State}
 use Rattle.deflist.specs.declared.Check.{Check}
-use Rattle.deflist.specs.declared.Check.the-variants.{Fine, Broken}
+use Rattle.deflist.specs.declared.Check.the-variants.{Fine, Broken, Repeated}
 use Rattle.deflist.specs.declared.WrittenPlace.{WrittenPlace}
 use Rattle.deflist.specs.declared.Counts.{Counts}
 use Rattle.deflist.specs.declared.Unpacking.{Unpacking}
-use Rattle.deflist.proofs.Steps.{broken≢fine, Cleared, run-stop, run-on, clear-on}
-use Rattle.deflist.proofs.Theorems.{refused≢accepted}
+use Rattle.deflist.proofs.Steps.{repeated≢fine, Cleared, run-stop, run-again, run-on, clear-on}
+use Rattle.deflist.proofs.Theorems.{refused≢accepted, repeated≢accepted}
 
 -- every parameter keeps the rule of its kind
 abbrev pub Rules : State → Bool → List Param → Type 0
@@ -38,7 +38,7 @@ starFrom star i [] = star
 starFrom star i (p ∷ ps) = starFrom (nextStar star (writtenAt i) (kindIn p)) (i + 1) ps
 
 check-parts : (f : Found) (k : Check) → firstly f k ≡ Fine → (f ≡ Nothing) × (k ≡ Fine)
-check-parts (At i) k e = broken≢fine e
+check-parts (At i) k e = repeated≢fine e
 check-parts Nothing k e = (refl, e)
 
 run-fine : (before : List Param) (u : Unpacking) (p : Param) (ps : List Param) {c : Counts}
@@ -48,6 +48,7 @@ run-fine before u p ps {c} h = go (check before (u .state) (u .«seen_optional»
     go : (k : Check) → check before (u .state) (u .«seen_optional») p ≡ k → k ≡ Fine
     go Fine e = refl
     go (Broken n) e = refused≢accepted (sym (run-stop before u p ps e) ∙ h)
+    go (Repeated i) e = repeated≢accepted (sym (run-again before u p ps e) ∙ h)
 
 -- the end of a walk over one more
 end-step : (before : List Param) (p : Param) (ps : List Param) (star : WrittenPlace) (c : Counts)

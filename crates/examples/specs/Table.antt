@@ -6,6 +6,7 @@ use Prim.Native.Nat.{ℕ}
 use Rattle.forest.specs.Forest.{Node, Tree, node, none, _then_}
 use Rattle.soundness.specs.KindNumbers.{kindIdentifier, kindDot, kindIndex, kindIndex2, kindNormal, kindNoArgs}
 use Rattle.soundness.specs.KindNumbers.{kindSlash, kindArgsParam, kindKwArgsParam, kindNamed, kindArgsArg}
+use Rattle.table.specs.Numbers.{duplicatedParameter}
 use Rattle.table.specs.Answer.{Answer, accepted, refused}
 use Rattle.deflist.specs.Written.{Param, normal, noArgs, slash, args, kwargs}
 use Rattle.deflist.specs.Unpack as def
@@ -124,6 +125,7 @@ ofCounted c = list (c .indices .«num_positional») (c .indices .«num_positiona
 abbrev pub ofOutcome : def.Outcome → Shown
 ofOutcome (def.accepted c) = ofCounted (countedOf c)
 ofOutcome (def.refused n r) = number n
+ofOutcome (def.repeated i r) = number duplicatedParameter
 ofOutcome (def.internal e r) = number internalError
 
 abbrev pub ofAnswer : Answer → Shown

@@ -6,6 +6,8 @@ use native.Mathlib.Omega.{arith}
 use lib.ListN.{set}
 use Rattle.table.specs.Answer.{Answer, accepted, refusal}
 use Rattle.table.specs.declared.Refusal.{Refusal}
+use Rattle.table.specs.declared.Refusal.the-variants.{Spanned}
+use Rattle.table.specs.declared.Span.{Span}
 use Rattle.table.specs.declared.Place.{Place}
 use Rattle.table.specs.declared.Place.the-variants.{At, Nothing}
 use Rattle.parameters.specs.declared.Range.{Range}
@@ -36,6 +38,20 @@ told-with put means u v a n xs ys (e, b) q p = let k = told put means u v a n xs
 pub refused-put : (r : Refusal) {n : ℕ} (xs : List ℕ) {ys : List ℕ} → Put words (refusal r) n xs ys
     → Put callWords (refusal r) n xs ys
 refused-put r xs p = p
+
+-- LAW: a refusal with a span has four words
+module _ (r : Refusal) {n k : ℕ} {s : Span} {p : Place} (h : r ≡ Spanned n k s p) where
+  pub spanned-number : n ≡ number (refusal r)
+  spanned-number = rw h refl
+
+  pub spanned-laid : (xs : List ℕ) {w : ℕ} → w ≡ placeIn (placeValues p)
+      → set (set (set (set xs 0 k) 1 (s .begin)) 2 (s .end)) 3 w ≡ laid (words (refusal r)) 0 xs
+  spanned-laid xs w-is = rw (h, w-is) (go p)
+    where
+      go : (p : Place) → set (set (set (set xs 0 k) 1 (s .begin)) 2 (s .end)) 3 (placeIn (placeValues p))
+          ≡ laid (words (refusal (Spanned n k s p))) 0 xs
+      go (At i) = refl
+      go Nothing = refl
 
 -- LAW: a range whose ends fit words
 pub range-fit : (r s : Range) → r ≡ s → s .from ≤ 4294967295 → s .upto ≤ 4294967295 → Fit (r .from ∷ r .upto ∷ [])

@@ -12,14 +12,22 @@ abbrev pub number : Answer → ℕ
 number (accepted vs) = 0
 number (refused n vs) = n
 
--- the words of an answer: the job's values, or what a refusal carries (nothing, the node, or the node and its span)
-abbrev pub words : Answer → List ℕ
-words (accepted vs) = vs
-words (refused n vs) = vs
-
 -- the word that stands for no place
 abbrev pub noPlace : ℕ
 noPlace = 4294967295
+
+-- the words of what a refusal carries: nothing, the node, or the node, its span and the earlier node, if there is one
+abbrev pub carriedWords : List ℕ → List ℕ
+carriedWords [] = []
+carriedWords (k ∷ []) = k ∷ []
+carriedWords (k ∷ b ∷ []) = k ∷ b ∷ []
+carriedWords (k ∷ b ∷ e ∷ []) = k ∷ b ∷ e ∷ noPlace ∷ []
+carriedWords (k ∷ b ∷ e ∷ i ∷ vs) = k ∷ b ∷ e ∷ i ∷ vs
+
+-- the words of an answer: the job's values, or what a refusal carries
+abbrev pub words : Answer → List ℕ
+words (accepted vs) = vs
+words (refused n vs) = carriedWords vs
 
 -- a place in one word, from the two values that the call job has for it: whether there is one, and which
 abbrev pub placeIn : List ℕ → ℕ
@@ -28,7 +36,7 @@ placeIn vs = if' (eqb (getD vs 0 0) 1) (λ _. getD vs 1 0) (λ _. noPlace)
 -- the words of the call job: positional, named, the place of star, the place of `**`
 abbrev pub callWords : Answer → List ℕ
 callWords (accepted vs) = take 2 vs ++ placeIn (drop 2 vs) ∷ placeIn (drop 4 vs) ∷ []
-callWords (refused n vs) = vs
+callWords (refused n vs) = carriedWords vs
 
 -- words written from place i on; what is not written stays
 abbrev pub laid : List ℕ → ℕ → List ℕ → List ℕ

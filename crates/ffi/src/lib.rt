@@ -40,10 +40,16 @@ fn put_refused(r: Refusal, out: &mut [u32; 12]) -> u32
             out[0] = node;
             number
         }
-        Refusal::Spanned { number, node, span } => {
+        Refusal::Spanned {
+            number,
+            node,
+            span,
+            earlier,
+        } => {
             out[0] = node;
             out[1] = span.begin;
             out[2] = span.end;
+            out[3] = place_word(earlier);
             number
         }
     }

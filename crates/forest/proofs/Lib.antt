@@ -1,4 +1,5 @@
 pub mod Stretch
 pub mod Named
 pub mod Marked
+pub mod Firsts
 pub mod Promises

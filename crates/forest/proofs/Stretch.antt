@@ -14,7 +14,7 @@ use borrow.Author.Tests.{le-leb, lt-leb, leb-true, leb-false}
 use Rattle.fields.proofs.Basics.{drop-take}
 use Rattle.fields.proofs.Fields.{tail-part, field-take}
 use Rattle.forest.specs.Forest.{Node, sizeOf, nodeOf, spanOf, kidsOf, restOf, Tree, node, Forest, none}
-use Rattle.forest.specs.Forest.{_then_, forestIn, forest, treeOf, count, nodes}
+use Rattle.forest.specs.Forest.{_then_, forestIn, forest, treeOf, count, roots, nodes}
 
 -- a node with its children and what follows
 abbrev pub tree : Node → Forest → Forest → Forest
@@ -124,6 +124,16 @@ module _ {A : Type 0} (all : Forest → A) (i e : ℕ) (bs : List ℕ) where
       → all (forest i bs) ≡ join (one (treeOf i bs)) (all (forest (i + e / 24) (take (length bs - e) (drop e bs))))
   each-cut one join then-is big h = rw (rest-part e bs h, h)
       (ap all (forest-tree i bs big) ∙ then-is (treeOf i bs) (forest (i + spanOf bs / 24) (restOf bs)))
+
+-- LAW: what stands side by side in a stretch is nothing, or its first node and what stands after it
+pub roots-none : (i : ℕ) (bs : List ℕ) → length bs < 24 → roots (forest i bs) ≡ []
+unfolding roots
+roots-none i bs h = rw (forest-none i bs h) refl
+
+pub roots-on : (i : ℕ) (bs : List ℕ) {e : ℕ} → 24 ≤ length bs → e ≡ spanOf bs
+    → roots (forest i bs) ≡ nodeOf i bs ∷ roots (forest (i + e / 24) (take (length bs - e) (drop e bs)))
+unfolding roots
+roots-on i bs {e} big e-is = rw (forest-tree i bs big, rest-part e bs e-is, e-is) refl
 
 -- n records of a stretch in order, the first with the index i
 abbrev pub records : ℕ → ℕ → List ℕ → List Node

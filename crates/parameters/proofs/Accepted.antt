@@ -69,6 +69,7 @@ accepted-passed t ns node room {vs} e =
       values = cc;
     }
     go s m (def.refused n r) u e = never-passed e
+    go s m (def.repeated i r) u e = never-passed e
     go s m (def.internal i r) u e = never-passed e
 
 place-below : (p : FlatPlace) (n m : ℕ) → PlaceBelow m p → n ≤ m

@@ -2,7 +2,7 @@
 use mathlib.Core.Path.{_≡_, refl, sym, ap, _∙_}
 use mathlib.Core.Bool.{Bool, true, false}
 use mathlib.Core.List.{List, [], _∷_, _++_}
-use Prim.Native.Nat.{ℕ, _+_, _-_, _/_, _<_, _≤_, _^_}
+use Prim.Native.Nat.{ℕ, _+_, _-_, _/_, _<_, _≤_}
 use native.Mathlib.Nat.{zero-add}
 use native.Mathlib.Omega.{arith}
 use lib.ListN.{length, drop}
@@ -11,8 +11,12 @@ use borrow.Author.Tests.{le-leb, lt-leb}
 use Rattle.fields.proofs.Basics.{clash}
 use Rattle.forest.specs.Forest.{kidsOf, forest}
 use Rattle.table.specs.Numbers.{shortBuffer}
-use Rattle.table.specs.Answer.{Answer, accepted, refused, refusal, checked}
+use Rattle.table.specs.Answer.{Answer, accepted, refused, refusal, checked, earlierValues}
 use Rattle.table.specs.Check.{Headed, stretchOf, entryCheck}
+use Rattle.forest.specs.declared.Found.{Found}
+use Rattle.forest.specs.declared.Found.the-variants.{At, Nothing}
+use Rattle.table.specs.declared.Place.{Place}
+use Rattle.table.specs.declared.Place.the-variants.{At as AtPlace}
 use Rattle.table.specs.declared.Refusal.{Refusal}
 use Rattle.table.specs.declared.Checked.{Checked}
 use Rattle.table.specs.declared.Checked.the-variants.{Sound, Refused as Unsound}
@@ -22,7 +26,7 @@ use Rattle.deflist.specs.Written.{paramsIn, writtenIn, written}
 use Rattle.deflist.specs.Unpack as def
 use Rattle.deflist.specs.Unpack.{modes}
 use Rattle.deflist.specs.Told.{told}
-use Rattle.deflist.specs.Reading.{Inside, PlaceBelow, Bounded}
+use Rattle.deflist.specs.Reading.{NotPast, Inside, PlaceBelow, Bounded}
 use Rattle.deflist.specs.declared.State.{State}
 use Rattle.deflist.specs.declared.FlatPlace.{FlatPlace}
 use Rattle.deflist.specs.declared.FlatPlace.the-variants.{AtFlat, NoFlat}
@@ -35,7 +39,7 @@ use Rattle.deflist.specs.declared.Fault.{Fault}
 use Rattle.parameters.specs.Indices.{valuesOf, countedOf}
 use Rattle.parameters.specs.Params.{answerOf, listAnswer, listOf, paramsOf, afterwards, modesAfter}
 use Rattle.parameters.specs.Writing.{isRefused, firstOf, judgedAnswer, Small, Listed, AtMost, Modes, Kept}
-use Rattle.parameters.specs.Writing.{Leaves}
+use Rattle.parameters.specs.Writing.{Leaves, earlierPlace, faultAnswer, SmallFault}
 
 -- wider bounds
 place-wider : {m n : ℕ} (p : FlatPlace) → PlaceBelow m p → m ≤ n → PlaceBelow n p
@@ -51,10 +55,27 @@ bounded-wider c b h = record {
   flat = omega (arith, b .flat);
 }
 
+not-past-wider : {m n : ℕ} (f : Found) → NotPast m f → m ≤ n → NotPast n f
+not-past-wider (At i) h g = omega arith
+not-past-wider Nothing h g = tt
+
+-- a refusal at a parameter, as the table has it
+module _ (found : Found) where
+  pub earlier-at : {i : ℕ} → found ≡ At i → AtPlace i ≡ earlierPlace found
+  earlier-at h = rw h refl
+
+  pub earlier-small : NotPast 4294967295 found → {i : ℕ} → found ≡ At i → i < 4294967296
+  earlier-small small h = omega (arith, rw h at small)
+
+pub fault-answer : (f : Fault) {p : Place} {u : Answer} → p ≡ earlierPlace (f .earlier)
+    → u ≡ refused (f .number) (f .node ∷ f .span .begin ∷ f .span .end ∷ earlierValues p) → u ≡ faultAnswer f
+fault-answer f p-is u-is = u-is ∙ rw p-is refl
+
 -- the job's answer for what unpack says
 judged-answer : (o : def.Outcome) → judgedAnswer (told o) ≡ answerOf o
 judged-answer (def.accepted c) = refl
 judged-answer (def.refused n r) = refl
+judged-answer (def.repeated i r) = refl
 judged-answer (def.internal e r) = refl
 
 -- an accepted answer of unpack, and a refused one
@@ -69,11 +90,10 @@ module _ {j : Judged} {c : Counts} (j-is : j ≡ Accepted c) where
   accepted-first s-is = s-is ∙ sym (ap firstOf j-is)
 
 module _ {j : Judged} {f : Fault} (j-is : j ≡ Refused f) where
-  pub refused-small : Small j → f .node < 2 ^ 32
+  pub refused-small : Small j → SmallFault f
   refused-small h = rw j-is at h
 
-  pub refused-answer : {u : Answer} → u ≡ refused (f .number) (f .node ∷ f .span .begin ∷ f .span .end ∷ [])
-      → u ≡ judgedAnswer j
+  pub refused-answer : {u : Answer} → u ≡ faultAnswer f → u ≡ judgedAnswer j
   refused-answer u-is = u-is ∙ sym (ap judgedAnswer j-is)
 
 -- the modes are kept by a refusal, and written where the list is accepted
@@ -96,7 +116,8 @@ told-small ns t node (Accepted c) j-is h short =
     bounded-wider c
     (accepted-bounded (written ns node t) (told-accepted (def.unpack (written ns node t)) (sym j-is)))
     (omega (arith, written-short ns node t))
-told-small ns t node (Refused f) j-is h short = omega (arith, h)
+told-small ns t node (Refused f) j-is h short =
+    (omega (arith, h .0), not-past-wider (f .earlier) (h .1) (omega arith))
 
 -- the list of a node: m parameters stand in its children
 module _ (ns t ms : List ℕ) (node : ℕ) {kids : List ℕ} (kids-are : kids ≡ kidsOf t) {m : ℕ} (m-is : Listed kids m)

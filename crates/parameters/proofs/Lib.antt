@@ -3,3 +3,4 @@ pub mod Job
 pub mod Accepted
 pub mod Promises
 pub mod Buffer
+pub mod Twice

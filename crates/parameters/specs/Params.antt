@@ -4,8 +4,8 @@ use Prim.Native.Nat.{ℕ, _≤_}
 use lib.ListN.{length, drop}
 use lib.Dec.{leb}
 use Rattle.fields.specs.Choice.{if'}
-use Rattle.table.specs.Numbers.{shortBuffer}
-use Rattle.table.specs.Answer.{Answer, accepted, refused, andThen, refusedAt, refusal}
+use Rattle.table.specs.Numbers.{shortBuffer, duplicatedParameter}
+use Rattle.table.specs.Answer.{Answer, accepted, refused, andThen, refusedAt, refusedAfter, refusal}
 use Rattle.table.specs.Check.{stretchOf, onNode}
 use Rattle.table.specs.declared.Wanted.the-variants.{Parameters}
 use Rattle.deflist.specs.Written.{Param, writtenIn, written}
@@ -24,6 +24,7 @@ unpacked (Refused r) = refusal r
 abbrev pub answerOf : def.Outcome → Answer
 answerOf (def.accepted c) = accepted (valuesOf (countedOf c))
 answerOf (def.refused n r) = refusedAt n r
+answerOf (def.repeated i r) = refusedAfter duplicatedParameter r i
 answerOf (def.internal e r) = refusedAt internalError r
 
 -- 7: the mode buffer has a byte for each written parameter

@@ -10,12 +10,17 @@ use Rattle.forest.specs.Forest.{forest}
 use Rattle.deflist.specs.Written.{Param, paramsIn}
 use Rattle.deflist.specs.Unpack.{firstState, modeOf, modesFrom, modes}
 use Rattle.deflist.specs.declared.Kind.{Kind}
-use Rattle.deflist.specs.Reading.{Bounded}
+use Rattle.deflist.specs.Reading.{NotPast, Bounded}
+use Rattle.deflist.specs.declared.Fault.{Fault}
 use Rattle.deflist.specs.declared.State.{State}
 use Rattle.deflist.specs.declared.State.the-variants.{SeenSlash}
 use Rattle.deflist.specs.declared.Judged.{Judged}
 use Rattle.deflist.specs.declared.Judged.the-variants.{Accepted, Refused}
-use Rattle.table.specs.Answer.{Answer, accepted, refused}
+use Rattle.forest.specs.declared.Found.{Found}
+use Rattle.forest.specs.declared.Found.the-variants.{At, Nothing}
+use Rattle.table.specs.Answer.{Answer, accepted, refused, earlierValues}
+use Rattle.table.specs.declared.Place.{Place}
+use Rattle.table.specs.declared.Place.the-variants.{At as AtPlace, Nothing as NoPlace}
 use Rattle.parameters.specs.Indices.{valuesOf, countedOf}
 use Rattle.parameters.specs.Params.{listAnswer, afterwards}
 
@@ -28,14 +33,27 @@ abbrev pub firstOf : Judged → State
 firstOf (Accepted c) = firstState (c .«num_positional_only»)
 firstOf (Refused f) = SeenSlash
 
--- what the job answers for it, and that its numbers fit 32 bits
+-- the earlier node of a refusal at a parameter, as the table has it
+abbrev pub earlierPlace : Found → Place
+earlierPlace (At i) = AtPlace i
+earlierPlace Nothing = NoPlace
+
+-- what the job answers for such a refusal, and that its numbers fit 32 bits
+abbrev pub faultAnswer : Fault → Answer
+faultAnswer f =
+    refused (f .number) (f .node ∷ f .span .begin ∷ f .span .end ∷ earlierValues (earlierPlace (f .earlier)))
+
+abbrev pub SmallFault : Fault → Type 0
+SmallFault f = (f .node < 2 ^ 32) × NotPast 4294967295 (f .earlier)
+
+-- the same for what unpack answers
 abbrev pub judgedAnswer : Judged → Answer
 judgedAnswer (Accepted c) = accepted (valuesOf (countedOf c))
-judgedAnswer (Refused f) = refused (f .number) (f .node ∷ f .span .begin ∷ f .span .end ∷ [])
+judgedAnswer (Refused f) = faultAnswer f
 
 abbrev pub Small : Judged → Type 0
 Small (Accepted c) = Bounded 4294967295 4294967295 c
-Small (Refused f) = f .node < 2 ^ 32
+Small (Refused f) = SmallFault f
 
 -- the mode of a parameter as a byte: 0 for a mark
 abbrev pub firstMode : List ℕ → ℕ

@@ -16,6 +16,7 @@ use deflist::Kind;
 use deflist::State;
 use deflist::entry;
 use deflist::states;
+use forest::Found;
 use table::Checked;
 use table::Place;
 use table::Refusal;
@@ -23,19 +24,20 @@ use table::Wanted;
 use table::numbers;
 ghost use mathlib.Core.Path.{_≡_};
 ghost use mathlib.Core.Bool.{true};
-ghost use mathlib.Core.List.{[], _∷_};
 ghost use Prim.Native.Nat.{_+_, _<_, _^_};
 ghost use lib.ListN.{length};
 ghost use lib.Seq.{sets};
 ghost use Rattle.forest.specs.Forest.{forest};
-ghost use Rattle.table.specs.Answer.{refused, refusal as refusalOf};
+ghost use Rattle.table.specs.Answer.{refusal as refusalOf};
 ghost use Rattle.table.specs.Check.{Headed};
 ghost use Rattle.deflist.specs.Written.{written};
-ghost use Rattle.deflist.specs.Reading.{PlaceBelow, Bounded};
+ghost use Rattle.deflist.specs.Reading.{NotPast, PlaceBelow, Bounded};
 ghost use Rattle.deflist.specs.declared.Kind.the-variants.{Normal};
 ghost use Rattle.parameters.specs.Indices.{placeOf, countedOf};
 ghost use Rattle.parameters.specs.Params.{unpacked, paramsOf, modesAfter};
-ghost use Rattle.parameters.specs.Writing.{isRefused, firstOf, judgedAnswer, Small, modeByte, modeIn};
+ghost use Rattle.parameters.specs.Writing.{isRefused, firstOf, earlierPlace, faultAnswer, SmallFault};
+ghost use Rattle.parameters.specs.Writing.{judgedAnswer, Small};
+ghost use Rattle.parameters.specs.Writing.{modeByte, modeIn};
 ghost use Rattle.parameters.specs.Writing.{Listed, AtMost, Modes, Kept, Leaves};
 
 // The sizes and indices that split the flat list into its parts, as the crate has them.
@@ -249,11 +251,23 @@ fn numbered(c: Counts) -> Counted
     }
 }
 
+// The earlier node of a refusal, as the table has it.
+fn earlier_place(found: Found) -> Place
+    requires { ⌜ NotPast 4294967295 found ⌝ }
+    ensures { λ r. ⌜ r ≡ earlierPlace found ⌝ }
+{
+    match found {
+        Found::At(i) => Place::At(i as u32),
+        Found::Nothing => Place::Nothing,
+    }
+}
+
 // A refusal at a parameter.
 fn refusal(f: Fault) -> Refusal
-    requires { ⌜ f .node < 2 ^ 32 ⌝ }
-    ensures { λ r. ⌜ refusalOf r ≡ refused (f .number) (f .node ∷ f .span .begin ∷ f .span .end ∷ []) ⌝ }
+    requires { ⌜ SmallFault f ⌝ }
+    ensures { λ r. ⌜ refusalOf r ≡ faultAnswer f ⌝ }
 {
     let span = f.span;
-    table::refused_in(f.number, f.node as u32, span)
+    let earlier = f.earlier;
+    table::refused_in(f.number, f.node as u32, span, earlier_place(earlier))
 }

@@ -19,7 +19,7 @@ use Rattle.deflist.specs.Written.{Param, normal, noArgs, slash, args, kwargs, n
 use Rattle.deflist.specs.Unpack as list
 use Rattle.deflist.specs.Unpack.{step, finish, run, unpack}
 use Rattle.deflist.specs.declared.Check as checks
-use Rattle.deflist.specs.declared.Check.the-variants.{Fine, Broken}
+use Rattle.deflist.specs.declared.Check.the-variants.{Fine, Broken, Repeated as Twice}
 use Rattle.deflist.specs.declared.Kind.{Kind}
 use Rattle.deflist.specs.declared.Kind.the-variants.{Normal, NoArgs, Slash, Args, KwArgs}
 use Rattle.deflist.specs.declared.State.{State}
@@ -85,10 +85,12 @@ early-entry t ns call def n =
 abbrev EarlyCheck : checks.Check → Type 0
 EarlyCheck Fine = Unit {0}
 EarlyCheck (Broken n) = n < 80
+EarlyCheck (Twice i) = Unit {0}
 
 abbrev pub EarlyOutcome : list.Outcome → Type 0
 EarlyOutcome (list.accepted c) = Unit {0}
 EarlyOutcome (list.refused n r) = n < 80
+EarlyOutcome (list.repeated i r) = Unit {0}
 EarlyOutcome (list.internal e r) = Unit {0}
 
 early-default : (a b : Bool) → EarlyCheck (list.defaultRule a b)
@@ -119,12 +121,13 @@ early-rule SeenStar o KwArgs = tt
 early-rule SeenStarStar o KwArgs = omega arith
 
 early-first : (f : Found) (x : checks.Check) → EarlyCheck x → EarlyCheck (list.firstly f x)
-early-first (At i) x e = omega arith
+early-first (At i) x e = tt
 early-first Nothing x e = e
 
 abbrev EarlyStep : list.Step → Type 0
 EarlyStep (list.on u) = Unit {0}
 EarlyStep (list.stop n) = n < 80
+EarlyStep (list.again i) = Unit {0}
 EarlyStep (list.broken e) = Unit {0}
 
 early-keep : (u : Unpacking) (i : Written) (k : Kind) → EarlyStep (list.keep u i k)
@@ -155,6 +158,7 @@ early-step before u p = go (list.check before (u .state) (u .«seen_optional») 
         → EarlyStep (list.unlessBroken x (λ _. list.keep u (list.writtenAt (length before)) (kindIn p)))
     go Fine e = early-keep u (list.writtenAt (length before)) (kindIn p)
     go (Broken n) e = e
+    go (Twice i) e = tt
 
 early-star : (l : List Param) (c : Counts) → EarlyOutcome (list.fromStar l (list.accepted c))
 early-star [] c = tt
@@ -180,6 +184,7 @@ early-run before u (p ∷ ps) = go (list.step before u p) (early-step before u p
         → EarlyOutcome (list.after x (nodeIn p) (λ v. list.run (before ++ p ∷ []) v ps))
     go (list.on v) e rest = rest v
     go (list.stop n) e rest = e
+    go (list.again i) e rest = tt
     go (list.broken x) e rest = tt
 
 pub early-list : (l : List Param) → EarlyOutcome (list.unpack l)
@@ -198,7 +203,7 @@ early-list (p ∷ ps) = go (list.isSlash (kindIn p))
 abbrev EarlyKept : callChecks.Check → Type 0
 EarlyKept Kept = Unit {0}
 EarlyKept (Stopped n) = n < 80
-EarlyKept Repeated = Unit {0}
+EarlyKept (Repeated i) = Unit {0}
 
 early-form : (s : ArgsStage) (f : Found) (k : forms.Kind) → EarlyKept (call.rule s f k)
 early-form AtPositional f Positional = tt
@@ -239,7 +244,7 @@ early-walk before w (p ∷ ps) = go (call.check before (w .stage) p) (call.taken
     go Kept true e rest = omega arith
     go Kept false e rest = rest
     go (Stopped n) b e rest = e
-    go Repeated b e rest = omega arith
+    go (Repeated i) b e rest = omega arith
 
 pub early-call : (l : List written.Argument) → Early (outcomeAnswer (call.unpack l))
 unfolding callUnpack

@@ -103,6 +103,7 @@ module _ (t ns : List ℕ) (call def : ℕ) (list : List ℕ) where
           let k = both-passed (outcomeAnswer (calling.unpack qs)) _ b in
           by-binding n c u (k .1 .0) (k .1 .1) x
       by-counts n (outcome.refused m r) u b x = never-passed b
+      by-counts n (outcome.repeated i r) u b x = never-passed b
       by-counts n (outcome.internal m r) u b x = never-passed b
 
       by-words : (a : Answer) → wordsOf t ns call def (length list) ≡ a → answeredAt a t ns call def ≡ accepted vs

@@ -125,6 +125,7 @@ module _ (t ns : List ℕ) (call def : ℕ) where
           go (inl y) = absurd (not-early (outcomeAnswer (calling.unpack qs)) n (early-call qs) y (omega arith))
           go (inr y) = by-walk c u (y .1 .0) (y .1 .1)
       by-counts (outcome.refused m r) u early b = let same : m ≡ n = cc in absurd (omega arith)
+      by-counts (outcome.repeated i r) u early b = let same : n ≡ 11 = cc in absurd (omega arith)
       by-counts (outcome.internal x r) u early b = let same : n ≡ 0 = cc in absurd (omega arith)
 
       by-words : (a : Answer) → wordsOf t ns call def room ≡ a → answeredAt a t ns call def ≡ refused n vs

@@ -209,7 +209,7 @@ call-ordered qs {cs} e = go (calling.unpack qs) refl e
     go : (o : Outcome) → calling.unpack qs ≡ o → outcomeAnswer o ≡ accepted cs → (c : CallArgs) × Ordered qs c
     go (calling.unpacked c) f e = (c, unpacked-ordered qs c f)
     go (calling.refusedWith n r) f e = never (cc)
-    go (calling.repeatedName r) f e = never (cc)
+    go (calling.repeatedName i r) f e = never (cc)
     go calling.internalError f e = never (cc)
 
 -- 82 and 83

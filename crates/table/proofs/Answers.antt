@@ -7,10 +7,11 @@ use Prim.Native.Nat.{ℕ}
 use Rattle.fields.proofs.Basics.{never}
 use Rattle.fields.specs.Choice.{if'}
 use Rattle.table.specs.Answer.{Answer, accepted, refused, andThen, numberOf, carried, refusal}
-use Rattle.table.specs.Answer.{checked, nodeIn, extentIn}
+use Rattle.table.specs.Answer.{checked, nodeIn, extentIn, earlierIn, earlierValues}
 use Rattle.table.specs.Check.{given}
 use Rattle.table.specs.declared.Span.{Span}
-use Rattle.table.specs.declared.Place.the-variants.{At}
+use Rattle.table.specs.declared.Place.{Place}
+use Rattle.table.specs.declared.Place.the-variants.{At, Nothing}
 use Rattle.table.specs.declared.Extent.the-variants.{Of}
 use Rattle.table.specs.declared.Given.{Given}
 use Rattle.table.specs.declared.Given.the-variants.{In, Refused as Away}
@@ -24,36 +25,51 @@ span-injective s u b e = λ i. record { begin = b i; end = e i }
 
 -- what a refusal carries, by its variant
 module _ (why : Refusal) {n k : ℕ} where
+  pub number-spanned : {s : Span} {e : Place} → why ≡ Spanned n k s e → n ≡ numberOf why
+  number-spanned h = rw h refl
+
   pub node-placed : why ≡ Placed n k → At k ≡ nodeIn why
   node-placed h = rw h refl
 
-  pub node-spanned : {s : Span} → why ≡ Spanned n k s → At k ≡ nodeIn why
+  pub node-spanned : {s : Span} {e : Place} → why ≡ Spanned n k s e → At k ≡ nodeIn why
   node-spanned h = rw h refl
 
-  pub extent-spanned : {s : Span} → why ≡ Spanned n k s → Of (s .begin) (s .end) ≡ extentIn why
+  pub extent-spanned : {s : Span} {e : Place} → why ≡ Spanned n k s e → Of (s .begin) (s .end) ≡ extentIn why
   extent-spanned h = rw h refl
+
+  pub earlier-spanned : {s : Span} {e : Place} → why ≡ Spanned n k s e → e ≡ earlierIn why
+  earlier-spanned h = rw h refl
+
+-- no two places have the same values
+earlier-injective : (p q : Place) → earlierValues p ≡ earlierValues q → p ≡ q
+earlier-injective (At i) (At j) e = let same : i ≡ j = cc in ap At same
+earlier-injective (At i) Nothing e = never (cc)
+earlier-injective Nothing (At j) e = never (cc)
+earlier-injective Nothing Nothing e = refl
 
 pub refusal-injective : (r s : Refusal) → refusal r ≡ refusal s → r ≡ s
 refusal-injective (Bare n) (Bare m) e = cc
 refusal-injective (Bare n) (Placed m l) e = never (cc)
-refusal-injective (Bare n) (Spanned m l u) e = never (cc)
+refusal-injective (Bare n) (Spanned m l u g) e = never (cc)
 refusal-injective (Placed n k) (Bare m) e = never (cc)
 refusal-injective (Placed n k) (Placed m l) e = cc
-refusal-injective (Placed n k) (Spanned m l u) e = never (cc)
-refusal-injective (Spanned n k s) (Bare m) e = never (cc)
-refusal-injective (Spanned n k s) (Placed m l) e = never (cc)
-refusal-injective (Spanned n k s) (Spanned m l u) e =
+refusal-injective (Placed n k) (Spanned m l u g) e = never (cc)
+refusal-injective (Spanned n k s f) (Bare m) e = never (cc)
+refusal-injective (Spanned n k s f) (Placed m l) e = never (cc)
+refusal-injective (Spanned n k s f) (Spanned m l u g) e =
     let begins : s .begin ≡ u .begin = cc in
     let ends : s .end ≡ u .end = cc in
     let spans : s ≡ u = span-injective s u begins ends in
     let numbers : n ≡ m = cc in
     let nodes : k ≡ l = cc in
-    λ i. Spanned (numbers i) (nodes i) (spans i)
+    let before : earlierValues f ≡ earlierValues g = cc in
+    let places : f ≡ g = earlier-injective f g before in
+    λ i. Spanned (numbers i) (nodes i) (spans i) (places i)
 
 -- a refusal with a span that is known
-pub refused-there : (n k : ℕ) {s u : Span} {x : Answer} → x ≡ refused n (k ∷ s .begin ∷ s .end ∷ []) → s ≡ u
-    → x ≡ refused n (k ∷ u .begin ∷ u .end ∷ [])
-refused-there n k x-is s-is = x-is ∙ ap (λ (u : Span). refused n (k ∷ u .begin ∷ u .end ∷ [])) s-is
+pub refused-there : (n k : ℕ) (vs : List ℕ) {s u : Span} {x : Answer} → x ≡ refused n (k ∷ s .begin ∷ s .end ∷ vs)
+    → s ≡ u → x ≡ refused n (k ∷ u .begin ∷ u .end ∷ vs)
+refused-there n k vs x-is s-is = x-is ∙ ap (λ (u : Span). refused n (k ∷ u .begin ∷ u .end ∷ vs)) s-is
 
 -- a refusal is no acceptance
 pub never-passed : {P : Type 0} {n : ℕ} {vs ws : List ℕ} → refused n vs ≡ accepted ws → P

@@ -6,4 +6,6 @@ pub mod Checking
 pub mod Theorems
 pub mod Handed
 pub mod Entering
+pub mod Carried
+pub mod Naming
 pub mod Promises

@@ -1,12 +1,17 @@
 -- Two answers that meet the promise of a public function coincide. Assumes nothing.
 use mathlib.Core.Path.{_≡_}
 use mathlib.Core.Bool.{Bool}
-use mathlib.Core.List.{List, [], _∷_}
+use mathlib.Core.List.{List, _∷_}
 use Prim.Native.Nat.{ℕ}
 use Rattle.fields.proofs.Coincide.{coincide, coincide-by}
-use Rattle.forest.specs.Forest.{nodeOf}
+use lib.ListN.{take}
+use Rattle.forest.specs.Forest.{nodeOf, forest, roots}
+use Rattle.forest.specs.declared.Found.{Found}
 use Rattle.soundness.specs.Kinds.{classOf}
 use Rattle.table.specs.Answer.{refused, refusedAt, numberOf, refusal, checked, spanAt, nodeIn, extentIn}
+use Rattle.table.specs.Answer.{earlierIn, earlierValues}
+use Rattle.table.specs.Naming.{bearsName, firstNamed}
+use Rattle.table.specs.declared.Entries.{Entries}
 use Rattle.table.specs.Check.{checkOf, given, givenOf, nodeFits, stretchOf, entryCheck}
 use Rattle.table.specs.declared.Span.{Span}
 use Rattle.table.specs.declared.Given.{Given}
@@ -53,15 +58,30 @@ node-of-one why = coincide
 pub extent-of-one : (why : Refusal) {r s : Extent} → r ≡ extentIn why → s ≡ extentIn why → r ≡ s
 extent-of-one why = coincide
 
+-- of `earlier_of`
+pub earlier-of-one : (why : Refusal) {r s : Place} → r ≡ earlierIn why → s ≡ earlierIn why → r ≡ s
+earlier-of-one why = coincide
+
+-- of `named::bears_name`
+pub bears-name-one : (entries : Entries) (kind : ℕ) {r s : Bool} → r ≡ bearsName entries kind
+    → s ≡ bearsName entries kind → r ≡ s
+bears-name-one entries kind = coincide
+
+-- of `named::first_named`
+pub first-named-one : (entries : Entries) (names name t : List ℕ) (n : ℕ) {r s : Found}
+    → r ≡ firstNamed entries names name (take n (roots (forest 0 t)))
+    → s ≡ firstNamed entries names name (take n (roots (forest 0 t))) → r ≡ s
+first-named-one entries names name t n = coincide
+
 -- of `span_of`
 pub span-of-one : (t : List ℕ) {r s : Span} → r ≡ spanAt (nodeOf 0 t) → s ≡ spanAt (nodeOf 0 t) → r ≡ s
 span-of-one t = coincide
 
 -- of `refused_in`
-pub refused-in-one : (number node : ℕ) (span : Span) {r s : Refusal}
-    → refusal r ≡ refused number (node ∷ span .begin ∷ span .end ∷ [])
-    → refusal s ≡ refused number (node ∷ span .begin ∷ span .end ∷ []) → r ≡ s
-refused-in-one number node span = coincide-by refusal refusal-injective
+pub refused-in-one : (number node : ℕ) (span : Span) (earlier : Place) {r s : Refusal}
+    → refusal r ≡ refused number (node ∷ span .begin ∷ span .end ∷ earlierValues earlier)
+    → refusal s ≡ refused number (node ∷ span .begin ∷ span .end ∷ earlierValues earlier) → r ≡ s
+refused-in-one number node span earlier = coincide-by refusal refusal-injective
 
 -- of `enter`
 pub enter-one : (table names : List ℕ) (node : ℕ) (wanted : Wanted) {r s : Checked}

@@ -1,6 +1,8 @@
 -- What an answer means: document 01's number and values. These are definitions.
+use mathlib.Core.Path.{_≡_}
 use mathlib.Core.List.{List, [], _∷_}
-use Prim.Native.Nat.{ℕ}
+use Prim.Native.Nat.{ℕ, _≤_}
+use lib.ListN.{length}
 use Rattle.forest.specs.Forest.{Node}
 use Rattle.table.specs.declared.Refusal.{Refusal}
 use Rattle.table.specs.declared.Refusal.the-variants.{Bare, Placed, Spanned}
@@ -13,7 +15,7 @@ use Rattle.table.specs.declared.Checked.{Checked}
 use Rattle.table.specs.declared.Checked.the-variants.{Sound, Refused}
 
 -- accepted, with the values of the job; or refused, with document 01's number and what it carries: nothing, the node,
--- or the node and its span
+-- the node and its span, or these and an earlier node
 pub data Answer : Type 0 where
   accepted : List ℕ → Answer
   refused : ℕ → List ℕ → Answer
@@ -27,28 +29,47 @@ andThen (refused n vs) next = refused n vs
 abbrev pub refusedAt : ℕ → Node → Answer
 refusedAt n r = refused n (r .at ∷ r .begin ∷ r .stop ∷ [])
 
+-- one that says besides which node was there before
+abbrev pub refusedAfter : ℕ → Node → ℕ → Answer
+refusedAfter n r i = refused n (r .at ∷ r .begin ∷ r .stop ∷ i ∷ [])
+
 -- a refusal of code: its number
 abbrev pub numberOf : Refusal → ℕ
 numberOf (Bare n) = n
 numberOf (Placed n k) = n
-numberOf (Spanned n k s) = n
+numberOf (Spanned n k s e) = n
 
 -- the node that it carries, and the span
 abbrev pub nodeIn : Refusal → Place
 nodeIn (Bare n) = NoPlace
 nodeIn (Placed n k) = AtPlace k
-nodeIn (Spanned n k s) = AtPlace k
+nodeIn (Spanned n k s e) = AtPlace k
 
 abbrev pub extentIn : Refusal → Extent
 extentIn (Bare n) = NoSpan
 extentIn (Placed n k) = NoSpan
-extentIn (Spanned n k s) = Of (s .begin) (s .end)
+extentIn (Spanned n k s e) = Of (s .begin) (s .end)
+
+-- the earlier node that it speaks of
+abbrev pub earlierIn : Refusal → Place
+earlierIn (Bare n) = NoPlace
+earlierIn (Placed n k) = NoPlace
+earlierIn (Spanned n k s e) = e
+
+abbrev pub earlierValues : Place → List ℕ
+earlierValues (AtPlace i) = i ∷ []
+earlierValues NoPlace = []
 
 -- all of that in numbers
 abbrev pub carried : Refusal → List ℕ
 carried (Bare n) = []
 carried (Placed n k) = k ∷ []
-carried (Spanned n k s) = k ∷ s .begin ∷ s .end ∷ []
+carried (Spanned n k s e) = k ∷ s .begin ∷ s .end ∷ earlierValues e
+
+-- of all refusals those with the number m alone carry an earlier node, as a fourth number
+abbrev pub OnlyCarries : ℕ → Answer → Type 0
+OnlyCarries m (accepted vs) = Unit {0}
+OnlyCarries m (refused n vs) = (n ≡ m → length vs ≡ 4) × ((n ≡ m → ⊥) → length vs ≤ 3)
 
 -- what the answers of code mean
 abbrev pub refusal : Refusal → Answer

@@ -2,3 +2,4 @@ pub mod Numbers
 pub mod Answer
 pub mod Depth
 pub mod Check
+pub mod Naming

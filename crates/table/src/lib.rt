@@ -1,6 +1,7 @@
 // The check of a node table (1 to 4), how a job on a node (6) or in a dialect (5) is let in, its stretch, and the one
 // type of refusals.
 mod depth;
+pub mod named;
 pub mod numbers;
 
 use dialect::Decoded;
@@ -12,8 +13,9 @@ use soundness::kinds;
 ghost use mathlib.Core.Path.{_≡_};
 ghost use Rattle.forest.specs.Forest.{nodeOf};
 ghost use Rattle.soundness.specs.Kinds.{classOf};
-ghost use mathlib.Core.List.{[], _∷_};
+ghost use mathlib.Core.List.{_∷_};
 ghost use Rattle.table.specs.Answer.{refused, refusedAt, numberOf, nodeIn, extentIn, refusal, checked, spanAt};
+ghost use Rattle.table.specs.Answer.{earlierIn, earlierValues};
 ghost use Rattle.table.specs.Check.{lengthSound, checkOf, given, givenOf, wants, nodeFits, stretchOf, entryCheck};
 
 // Where something stands in the script: from begin up to, but not with, end.
@@ -29,7 +31,7 @@ pub const MOST_BYTES: usize = RECORD * MOST_NODES;
 
 pub const MOST_NAMES: usize = 8064;
 
-// A place in a list, counted from 0, or none.
+// A place in a list, or a node of the table, counted from 0; or none.
 pub enum Place {
     At(u32),
     Nothing,
@@ -41,11 +43,20 @@ pub enum Extent {
     Nothing,
 }
 
-// Why a job refuses, with what document 01 lets the number carry: nothing, the node, or the node and its span.
+// Why a job refuses, with what the number carries: nothing, the node, or the node and its span and, for a name that
+// stood before, the earlier node.
 pub enum Refusal {
     Bare(u32),
-    Placed { number: u32, node: u32 },
-    Spanned { number: u32, node: u32, span: Span },
+    Placed {
+        number: u32,
+        node: u32,
+    },
+    Spanned {
+        number: u32,
+        node: u32,
+        span: Span,
+        earlier: Place,
+    },
 }
 
 // The answer of the table check.
@@ -66,6 +77,12 @@ pub enum Wanted {
     Call,
     Assignment,
     Expression,
+}
+
+// What a list has as its entries.
+pub enum Entries {
+    Parameters,
+    Arguments,
 }
 
 // Whether a table has 1 to 2,100 whole records.
@@ -116,7 +133,12 @@ pub fn number(why: Refusal) -> u32
     match why {
         Refusal::Bare(number) => number,
         Refusal::Placed { number, node } => number,
-        Refusal::Spanned { number, node, span } => number,
+        Refusal::Spanned {
+            number,
+            node,
+            span,
+            earlier,
+        } => number,
     }
 }
 
@@ -127,7 +149,12 @@ pub fn node_of(why: Refusal) -> Place
     match why {
         Refusal::Bare(number) => Place::Nothing,
         Refusal::Placed { number, node } => Place::At(node),
-        Refusal::Spanned { number, node, span } => Place::At(node),
+        Refusal::Spanned {
+            number,
+            node,
+            span,
+            earlier,
+        } => Place::At(node),
     }
 }
 
@@ -138,10 +165,31 @@ pub fn extent_of(why: Refusal) -> Extent
     match why {
         Refusal::Bare(number) => Extent::Nothing,
         Refusal::Placed { number, node } => Extent::Nothing,
-        Refusal::Spanned { number, node, span } => Extent::Of {
+        Refusal::Spanned {
+            number,
+            node,
+            span,
+            earlier,
+        } => Extent::Of {
             begin: span.begin,
             end: span.end,
         },
+    }
+}
+
+// The earlier node that a refusal speaks of.
+pub fn earlier_of(why: Refusal) -> Place
+    ensures { λ r. ⌜ r ≡ earlierIn why ⌝ }
+{
+    match why {
+        Refusal::Bare(number) => Place::Nothing,
+        Refusal::Placed { number, node } => Place::Nothing,
+        Refusal::Spanned {
+            number,
+            node,
+            span,
+            earlier,
+        } => earlier,
     }
 }
 
@@ -155,14 +203,15 @@ pub fn span_of(t: &[u8]) -> Span
     }
 }
 
-// A refusal at a node, with a span.
-pub fn refused_in(number: u32, node: u32, span: Span) -> Refusal
-    ensures { λ r. ⌜ refusal r ≡ refused number (node ∷ span .begin ∷ span .end ∷ []) ⌝ }
+// A refusal at a node, with a span, and with an earlier node if there is one.
+pub fn refused_in(number: u32, node: u32, span: Span, earlier: Place) -> Refusal
+    ensures { λ r. ⌜ refusal r ≡ refused number (node ∷ span .begin ∷ span .end ∷ earlierValues earlier) ⌝ }
 {
     Refusal::Spanned {
         number: number,
         node: node,
         span: span,
+        earlier: earlier,
     }
 }
 
@@ -170,7 +219,7 @@ pub fn refused_in(number: u32, node: u32, span: Span) -> Refusal
 pub fn refused_at(number: u32, node: u32, t: &[u8]) -> Refusal
     ensures { λ r. ⌜ refusal r ≡ refusedAt number (nodeOf node (now (t .entry))) ⌝ }
 {
-    refused_in(number, node, span_of(t))
+    refused_in(number, node, span_of(t), Place::Nothing)
 }
 
 // Whether a record of a kind is what a job wants.

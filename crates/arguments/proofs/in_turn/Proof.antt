@@ -2,7 +2,7 @@
 use native.Mathlib.Omega.{arith}
 use lib.ListN.{length}
 use Rattle.arguments.proofs.Walking.{Walking, walk-start, walk-upto, walk-known, walk-small}
-use Rattle.arguments.proofs.Walking.{walk-refused, walk-on, walk-end}
+use Rattle.arguments.proofs.Walking.{walk-carried, walk-refused, walk-on, walk-end}
 use borrow.Author.Needs.{needs}
 use Rattle.arguments.proofs.in_turn.Statement.{statement}
 use Rattle.arguments.proofs.in_turn.Tie as tie
@@ -24,7 +24,7 @@ in-turn-spec =
     (λ c κs. search needs)
     (λ c κs. search needs)
     (λ c. omega arith)  -- cast-refused
-    (λ c κs. search needs)
+    (λ c κs. search walk-carried)  -- refused-requires
     (λ c. search needs)
     (λ c. search needs)
     (λ c. search walk-refused)  -- returns

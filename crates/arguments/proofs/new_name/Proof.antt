@@ -1,5 +1,6 @@
 -- `arguments::new_name` meets its contract: a name that is found is repeated. Assumes nothing.
 use borrow.Author.Needs.{needs}
+use Rattle.arguments.proofs.Steps.{new-found}
 use Rattle.arguments.proofs.new_name.Statement.{statement}
 use Rattle.arguments.proofs.new_name.Tie as tie
 
@@ -9,5 +10,5 @@ new-name-spec =
     (tie.spec
     (λ c. search needs)
     (λ c. search needs)
-    (λ c. search needs)
+    (λ c. search new-found)  -- returns
     (λ c. search needs))

@@ -1,6 +1,7 @@
--- `arguments::refused` meets its contract: 22 has the name's span, the others the argument's. Assumes nothing.
-use Rattle.table.proofs.Answers.{refused-there}
+-- `arguments::refused` meets its contract: 22 has the name's span and the earlier argument, the others the argument's
+-- span. Assumes nothing.
 use borrow.Author.Needs.{needs}
+use Rattle.arguments.proofs.Steps.{carried-small, refused-again}
 use Rattle.arguments.proofs.refused.Statement.{statement}
 use Rattle.arguments.proofs.refused.Tie as tie
 
@@ -12,11 +13,9 @@ refused-spec =
     (λ c. search needs)
     (λ c κs. search needs)
     (λ c. search needs)
+    (λ c. record { fits = search carried-small })  -- cast-earlier
     (λ c κs. search needs)
     (λ c κs. search needs)
     (λ c. search needs)
     (λ c. rw (c .before .before .c .given .1) (c .refused-at .ensures))  -- returns-2
-    (λ c.  -- returns-3
-    let name-span = c .before .name-span in
-    let told = c .before .before .enum-told2 in
-    rw told.given.1 (refused-there _ _ (c .refused-in .ensures) name-span.ensures)))
+    (λ c. search refused-again))  -- returns-3

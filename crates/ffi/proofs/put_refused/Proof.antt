@@ -1,5 +1,6 @@
 -- `ffi::put_refused` meets its contract: each variant lays what it carries. Assumes nothing.
 use borrow.Author.Needs.{needs}
+use Rattle.ffi.proofs.Told.{spanned-number, spanned-laid}
 use Rattle.ffi.proofs.put_refused.Statement.{statement}
 use Rattle.ffi.proofs.put_refused.Tie as tie
 
@@ -14,6 +15,8 @@ put-refused-spec =
     (λ c. search needs)
     (λ c. search needs)
     (λ c. search needs)
+    (λ c κs. search needs)
+    (λ c. search needs)
     (λ c. search needs)
     (λ c. search (needs, c .before .r2 .given .1))  -- returns-2
-    (λ c. search (needs, c .before .r3 .given .1)))  -- returns-3
+    (λ c. search (spanned-number, spanned-laid)))  -- returns-3

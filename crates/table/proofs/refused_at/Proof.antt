@@ -10,4 +10,4 @@ refused-at-spec =
     (tie.spec
     (λ c κs. search needs)
     (λ c κs. search needs)
-    (λ c. refused-there _ _ (c .refused-in .ensures) (c .before .span-of .ensures)))  -- returns
+    (λ c. refused-there _ _ _ (c .refused-in .ensures) (c .before .span-of .ensures)))  -- returns

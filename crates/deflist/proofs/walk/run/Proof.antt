@@ -28,7 +28,6 @@ run-spec =
     (λ c κs. search)  -- repeated-requires
     (λ c κs. search needs)
     (λ c. search needs)
-    (λ c κs. search needs)
     (λ c. search needs)
     (λ c. search judge-stop)  -- returns
     (λ c. search needs)
@@ -50,7 +49,7 @@ run-spec =
     let back = there .before .before .before .before .before .before in
     let listed = back .before .listed in
     let loop = back .before .before .loop in
-    judge-on loop.inv listed.ensures back.if1.taken met.ensures kind-of.ensures there.check.ensures marks.given
+    judge-on loop.inv listed.ensures back.if1.taken met.ensures kind-of.ensures marks.given there.turn.ensures
     fine.given.1 advance.ensures (c .before .span .ensures) (c .before .before .next .ensures))
     (λ c κs. search needs)
     (λ c. search needs)

@@ -1,9 +1,9 @@
--- `deflist::list::has_name` meets its contract: marks have no name. Assumes nothing.
+-- `table::named::has_name` meets its contract: an entry that bears no name has none. Assumes nothing.
 use borrow.Author.Tests.{not-true, not-false}
-use Rattle.deflist.proofs.Parts.{name-none, name-tested}
 use borrow.Author.Needs.{needs}
-use Rattle.deflist.proofs.list.has_name.Statement.{statement}
-use Rattle.deflist.proofs.list.has_name.Tie as tie
+use Rattle.table.proofs.Naming.{name-none, name-tested}
+use Rattle.table.proofs.named.has_name.Statement.{statement}
+use Rattle.table.proofs.named.has_name.Tie as tie
 
 pub has-name-spec : {M : Type 1} → statement M
 has-name-spec =

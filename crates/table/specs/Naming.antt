@@ -1,0 +1,33 @@
+-- The entries of a list, parameters or arguments side by side: which of them bear a name, and the first that has one.
+-- These are definitions.
+use mathlib.Core.Bool.{Bool, not, _&&_, _||_}
+use mathlib.Core.List.{List, [], _∷_}
+use Prim.Native.Nat.{ℕ, _+_}
+use lib.Dec.{eqb}
+use Rattle.fields.specs.Choice.{if'}
+use Rattle.forest.specs.Forest.{Node}
+use Rattle.forest.specs.Names.{nameOf, same}
+use Rattle.forest.specs.declared.Found.{Found}
+use Rattle.forest.specs.declared.Found.the-variants.{At, Nothing}
+use Rattle.soundness.specs.KindNumbers.{kindNoArgs, kindSlash, kindNamed}
+use Rattle.table.specs.declared.Entries.{Entries}
+use Rattle.table.specs.declared.Entries.the-variants.{Parameters, Arguments}
+
+-- an entry of a kind bears a name: the parameters but `*` and `/`, and the named arguments
+unfoldable pub bearsName : Entries → ℕ → Bool
+bearsName Parameters k = not (eqb k kindNoArgs || eqb k kindSlash)
+bearsName Arguments k = eqb k kindNamed
+
+-- it has this name, by its bytes
+unfoldable pub hasName : Entries → List ℕ → List ℕ → Node → Bool
+hasName e names x r = bearsName e (r .kind) && same (nameOf names r) x
+
+-- the first that has it, by its index
+unfoldable pub firstNamed : Entries → List ℕ → List ℕ → List Node → Found
+firstNamed e names x [] = Nothing
+firstNamed e names x (r ∷ rs) = if' (hasName e names x r) (λ _. At (r .at)) (λ _. firstNamed e names x rs)
+
+-- an index counted from a stretch's first record, counted from the table's
+abbrev pub countedFrom : ℕ → Found → Found
+countedFrom first (At i) = At (first + i)
+countedFrom first Nothing = Nothing
