@@ -56,10 +56,10 @@ fn read(input: &Input) -> Table<'_> {
     Table::check(table, names).unwrap_or_else(|_| unreachable!())
 }
 
-/// A measured job on which port and crate do not agree would say nothing.
+/// A measured job on which port and crate do not agree would say nothing. The crate does not tell where an equal name was.
 fn must_agree(port: &Port, number: u32, answer: &Answer) {
-    assert_eq!(number, answer.number, "port and crate agree on what is measured");
-    assert_eq!(port.out[..answer.words.len()], answer.words[..], "port and crate agree on what is measured");
+    let told = Answer { number, words: port.out[..answer.words.len()].to_vec(), ..answer.clone() };
+    assert!(told.is_told_by_the_crate(answer), "port and crate agree on what is measured");
     assert_eq!(port.bytes[..answer.bytes.len()], answer.bytes[..], "port and crate agree on what is measured");
 }
 

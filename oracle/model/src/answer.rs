@@ -1,24 +1,37 @@
 //! What a job gives back.
 
-/// A refusal: its number, and the node and the span where document 01 gives them.
+use crate::numbers::number;
+use crate::planted::planted;
+use crate::planted::Fault;
+
+/// Stands in `out` for a place or a node that is none.
+pub const NONE: u32 = u32::MAX;
+
+/// A refusal: its number, and the node and the span where document 01 gives them. 11 and 22 carry the node of the first earlier
+/// parameter or argument with an equal name besides.
 #[derive(Clone, Debug, PartialEq, Eq)]
 pub struct Refusal {
     pub number: u32,
     pub node: Option<u32>,
     pub span: Option<(u32, u32)>,
+    pub earlier: Option<u32>,
 }
 
 impl Refusal {
     pub fn bare(number: u32) -> Refusal {
-        Refusal { number, node: None, span: None }
+        Refusal { number, node: None, span: None, earlier: None }
     }
 
     pub fn placed(number: u32, node: usize) -> Refusal {
-        Refusal { number, node: Some(node as u32), span: None }
+        Refusal { number, node: Some(node as u32), span: None, earlier: None }
     }
 
     pub fn spanned(number: u32, node: usize, span: (u32, u32)) -> Refusal {
-        Refusal { number, node: Some(node as u32), span: Some(span) }
+        Refusal { number, node: Some(node as u32), span: Some(span), earlier: None }
+    }
+
+    pub fn with_earlier(self, node: usize) -> Refusal {
+        Refusal { earlier: Some(node as u32).filter(|_| !planted(Fault::EarlierMissing)), ..self }
     }
 }
 
@@ -37,7 +50,9 @@ pub struct Answer {
 
 impl From<Refusal> for Answer {
     fn from(refusal: Refusal) -> Answer {
-        let span = refusal.span.map(|(begin, end)| [begin, end]);
+        let none = if planted(Fault::NoEarlierIsZero) { 0 } else { NONE };
+        let earlier = refusal.earlier.unwrap_or(none);
+        let span = refusal.span.map(|(begin, end)| [begin, end, earlier]);
         Answer {
             number: refusal.number,
             words: refusal.node.into_iter().chain(span.into_iter().flatten()).collect(),
@@ -47,6 +62,16 @@ impl From<Refusal> for Answer {
 }
 
 impl Answer {
+    /// Whether the crate's answer is this one, which may carry an earlier node: the crate has none.
+    pub fn is_told_by_the_crate(&self, judged: &Answer) -> bool {
+        match (self.number, self.words.as_slice()) {
+            (number::DUPLICATED_PARAMETER | number::REPEATED_NAMED, &[node, begin, end, _]) => {
+                *judged == Answer { words: vec![node, begin, end, NONE], ..self.clone() }
+            }
+            _ => judged == self,
+        }
+    }
+
     pub fn accepted(words: Vec<u32>) -> Answer {
         Answer { words, ..Answer::default() }
     }

@@ -2,6 +2,7 @@
 
 use crate::answer::Answer;
 use crate::answer::Refusal;
+pub use crate::answer::NONE;
 use crate::call;
 use crate::call::Argument;
 use crate::call::Called;
@@ -20,9 +21,6 @@ use crate::table::Class;
 use crate::table::Table;
 use crate::targets;
 use crate::types;
-
-/// Stands in `out` for a place that is none.
-pub const NONE: u32 = u32::MAX;
 
 fn answered(result: Result<Answer, Refusal>) -> Answer {
     result.unwrap_or_else(Answer::from)
@@ -52,13 +50,28 @@ fn params_of(table: &Table, owner: usize, modes: usize) -> Result<Answer, Refusa
     match params::unpack(&entries) {
         Ok(unpacked) => Ok(unpacked_answer(&unpacked, nodes.len())),
         Err((number, at)) => {
-            let mut refused = Answer::from(table.refuse(number, nodes[at]));
+            let mut refused = Answer::from(parameter_refusal(table, number, &nodes, at));
             if planted(Fault::RefusedListWritesModes) {
                 refused.bytes = vec![2; at];
             }
             Ok(refused)
         }
     }
+}
+
+/// 11 carries the first earlier parameter with an equal name.
+fn parameter_refusal(table: &Table, number: u32, nodes: &[usize], at: usize) -> Refusal {
+    let refusal = table.refuse(number, nodes[at]);
+    match first_equal(table, &nodes[..at], nodes[at]) {
+        Some(_) if planted(Fault::EarlierIsThePlace) => refusal.with_earlier(at),
+        Some(earlier) if number == number::DUPLICATED_PARAMETER => refusal.with_earlier(earlier),
+        _ => refusal,
+    }
+}
+
+/// The first of these nodes whose name is a node's.
+fn first_equal(table: &Table, before: &[usize], node: usize) -> Option<usize> {
+    before.iter().copied().find(|&earlier| table.name(earlier) == table.name(node))
 }
 
 fn unpacked_answer(unpacked: &params::Unpacked, written: usize) -> Answer {
@@ -81,16 +94,21 @@ pub fn call(table: &[u8], names: &[u8], node: usize) -> Answer {
         let arguments: Vec<Argument> = nodes.iter().map(argument).collect();
         match call::unpack(&arguments) {
             Ok(called) => Ok(called_answer(&called)),
-            Err((number, at)) => Err(argument_refusal(&table, number, nodes[at])),
+            Err((number, at)) => Err(argument_refusal(&table, number, &nodes, at)),
         }
     }))
 }
 
-fn argument_refusal(table: &Table, number: u32, node: usize) -> Refusal {
-    if number == number::REPEATED_NAMED && !planted(Fault::RepeatedAtArgumentSpan) {
-        Refusal::spanned(number, node, table.records[node].name_span())
-    } else {
-        table.refuse(number, node)
+/// 22 has the name's span, and carries the first earlier argument with an equal name.
+fn argument_refusal(table: &Table, number: u32, nodes: &[usize], at: usize) -> Refusal {
+    let node = nodes[at];
+    match first_equal(table, &nodes[..at], node) {
+        Some(earlier) if number == number::REPEATED_NAMED => {
+            let at_argument = planted(Fault::RepeatedAtArgumentSpan);
+            let span = if at_argument { table.span(node) } else { table.records[node].name_span() };
+            Refusal::spanned(number, node, span).with_earlier(earlier)
+        }
+        _ => table.refuse(number, node),
     }
 }
 

@@ -86,6 +86,9 @@ faults! {
     SevenOneBlockEarly
     RefusedWriteWrites
     BytePastFileWritten
+    EarlierMissing
+    EarlierIsThePlace
+    NoEarlierIsZero
 }
 
 #[cfg(feature = "faults")]

@@ -117,8 +117,8 @@ impl Checker {
         let Ok(mut of_crate) = or_stop(request, || with_own_spans(request)) else { return };
         let mut of_model = match (model.number, model.words.as_slice()) {
             (0, _) => model.errors.clone(),
-            (number, [_, begin, end]) => vec![[number, *begin, *end]],
-            (_, words) => panic!("a refusal of the crate has a node and a span, not {words:?}"),
+            (number, [_, begin, end, _]) => vec![[number, *begin, *end]],
+            (_, words) => panic!("a refusal of the crate has a node, a span and an earlier node or none, not {words:?}"),
         };
         of_crate.sort();
         of_model.sort();
@@ -191,7 +191,7 @@ impl Checker {
         differs |= model.errors.len() > request.table.len() / 12;
         if let Ok(judged) = &judged {
             self.tally.by_crate += 1;
-            differs |= judged != model;
+            differs |= !model.is_told_by_the_crate(judged);
             if self.tally.by_crate % OWN_SPANS_ONCE_IN == 0 {
                 self.check_own_spans(request, model);
             }

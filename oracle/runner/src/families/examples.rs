@@ -47,6 +47,7 @@ pub fn rows(checker: &mut Checker, plan: &Plan) {
     accepted_lists(checker);
     refused_lists(checker);
     call(checker);
+    repeated(checker);
     types(checker);
     program(checker, plan);
 }
@@ -84,7 +85,8 @@ fn refused_lists(checker: &mut Checker) {
     expect_list(checker, &[STAR, SLASH], 15, None);
     expect_list(checker, &[STAR], 17, None);
     expect_list(checker, &[STAR, kwargs(K)], 18, None);
-    expect_list(checker, &[kwargs(K), plain(K)], 11, None);
+    // The first name that is equal stands at node 1.
+    expect_list(checker, &[kwargs(K), plain(K)], 11, Some(&[2, 23, 26, 1]));
     expect_list(checker, &[STAR, kwargs(K), plain(X)], 12, None);
 }
 
@@ -106,6 +108,22 @@ fn call(checker: &mut Checker) {
             checker.expect(&request, number, words.as_ref().map(|words| words.as_slice()));
         });
     }
+}
+
+/// `f(1, a=2, b=3, a=4)`: 22 at the last argument, with its name's span, and the first `a=`.
+fn repeated(checker: &mut Checker) {
+    let mut cells = Cells::default();
+    cells.tree(kind::SIMPLE, 0, 0, |cells| {
+        cells.tree(kind::CALL, 0, 0, |cells| {
+            cells.leaf(kind::IDENTIFIER, 0, 5);
+            cells.tree(kind::POSITIONAL, 0, 0, |cells| cells.leaf(kind::INT, 0, 0));
+            [A, B, A].into_iter().for_each(|name| cells.tree(kind::NAMED, 0, name, |cells| cells.leaf(kind::INT, 0, 0)));
+        })
+    });
+    with_table(&cells, |table, names| {
+        let request = Request { table, names, job: Job::Call { node: 1 } };
+        checker.expect(&request, 22, Some(&[9, 1_002_700, 1_002_701, 5]));
+    });
 }
 
 fn expect_type(checker: &mut Checker, number: u32, build: impl FnOnce(&mut Cells)) {
