@@ -46,7 +46,7 @@ fn say_number(n: u64) {
     io::print_decimal(STDOUT_FILENO, n);
 }
 
-// A refusal as its number, the node that it carries, and its span.
+// A refusal as its number, the node that it carries, its span, and where its name stood first.
 fn say_refusal(r: Refusal) {
     say_number(table::number(r) as u64);
     let node = table::node_of(r);
@@ -60,6 +60,11 @@ fn say_refusal(r: Refusal) {
         say_number(begin as u64);
         say(b"-");
         say_number(end as u64);
+    }
+    let earlier = table::earlier_of(r);
+    if let Place::At(i) = earlier {
+        say(b", first at ");
+        say_number(i as u64);
     }
 }
 
