@@ -11,7 +11,8 @@
  *   accepted      as said at each function
  *   3, 4          out[0] the node
  *   1, 2, 5, 6, 7 nothing
- *   all others    out[0] the node, out[1] and out[2] begin and end of its span (22: the name's span)
+ *   all others    out[0] the node, out[1] and out[2] begin and end of its span (22: the name's span), out[3] STARLARK_NONE; but for 11 and 22,
+ *                 a name that stands twice, out[3] is the node of the first parameter (11) or argument (22) of the list that has it
  *   Every word that is not named keeps its value. So do all bytes and words of a lent buffer when a job refuses.
  *
  * What the caller must see to: nothing checks it
@@ -35,7 +36,7 @@ extern "C" {
 /* How many words `out` has. */
 #define STARLARK_WORDS 12
 
-/* The word for "no place". */
+/* The word for "no place", and for "no earlier node". */
 #define STARLARK_NONE UINT32_C(0xFFFFFFFF)
 
 /* The limits of a table: nodes, and so bytes of a mode or shape buffer that is never too short; name bytes; depth. */

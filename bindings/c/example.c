@@ -10,6 +10,7 @@
  *     x[int]
  *     x.type
  *     f(1, 2, c=3)
+ *     def h(a, *, a): break
  */
 #include <stdio.h>
 #include <string.h>
@@ -56,6 +57,7 @@ static int accepted(const char *job, uint32_t number, const uint32_t *out) {
         printf("refused with %u", number);
     } else if (number != 0) {
         printf("refused with %u at node %u, bytes %u to %u", number, out[0], out[1], out[2]);
+        if (out[3] != STARLARK_NONE) printf(", its name first at node %u", out[3]);
     }
     return number == 0;
 }
@@ -163,7 +165,7 @@ static void write_file(const char *words, const uint8_t *dialect, size_t dialect
 }
 
 int main(int count, char **words) {
-    node(STATEMENTS, 0, 58, "");
+    node(STATEMENTS, 0, 63, "");
     size_t f = node(DEF, 0, 8, "");
     node(NORMAL, 0, 1, "a");
     node(SLASH, 0, 1, "");
@@ -221,6 +223,11 @@ int main(int count, char **words) {
     node(INT, 0, 1, "");
     node(NAMED, 0, 2, "c");
     node(INT, 0, 1, "");
+    size_t h = node(DEF, 0, 5, "");
+    node(NORMAL, 0, 1, "a");
+    node(NO_ARGS, 0, 1, "");
+    node(NORMAL, 0, 1, "a");
+    node(BREAK, 0, 1, "");
 
     check("the table", STARLARK_NODE_BYTES * nodes);
     check("a part of a record", 25);
@@ -229,6 +236,7 @@ int main(int count, char **words) {
     params("six bytes for six parameters", f, 6);
     params("five bytes for six parameters", f, 5);
     params("(a, b=1, c)", g, 7);
+    params("(a, *, a)", h, 7);
     params("no def", 0, 7);
     call("f(1, a=2, *x)", good_call);
     call("f(*x, a=2)", bad_call);
@@ -239,6 +247,7 @@ int main(int count, char **words) {
     binding("f(1, a=2, *x) to it", good_call, f, 10);
     binding("f(*x, a=2) to it", bad_call, f, 10);
     binding("f(1, 2, c=3) to (a, b=1, c)", bound_call, g, 10);
+    binding("f(1, 2, c=3) to (a, *, a)", bound_call, h, 10);
     binding("no def", bound_call, 0, 4);
     target("a, b.c", good_target);
     target("a, 1", bad_target);

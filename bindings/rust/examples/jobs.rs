@@ -119,6 +119,7 @@ fn parameter_lists() {
     let behind = vec![leaf(ARGS_PARAM, "args"), leaf(NORMAL, "c"), leaf(KW_ARGS_PARAM, "k")];
     let list = def(before.into_iter().chain(behind).collect());
     let refused = def(vec![Tree(NORMAL, 2, "a", vec![leaf(INT, "")]), leaf(NORMAL, "b")]);
+    let repeated = def(vec![leaf(NORMAL, "a"), leaf(NO_ARGS, ""), leaf(NORMAL, "a")]);
     let show = |words: &str, list: &Script, node: usize, room: usize| {
         let mut modes = vec![BEFORE; room];
         let answer = list.table().params(node, &mut modes);
@@ -129,6 +130,7 @@ fn parameter_lists() {
     show("five bytes for six parameters", &list, 0, 5);
     show("no def", &list, 1, 7);
     show("(a=1, b)", &refused, 0, 7);
+    show("(a, *, a)", &repeated, 0, 7);
 }
 
 fn calls() {

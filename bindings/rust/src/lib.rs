@@ -21,12 +21,13 @@ pub struct Refused {
     pub at: At,
 }
 
-/// Where a refusal stands.
+/// Where a refusal stands: nowhere, at a node, or at a span of one. `earlier` is for 11 and 22, and None for every other: the node of the first
+/// parameter or argument of the list that has the same name.
 #[derive(Clone, Copy, Debug, PartialEq, Eq)]
 pub enum At {
     Nowhere,
     Node(u32),
-    Span { node: u32, begin: u32, end: u32 },
+    Span { node: u32, begin: u32, end: u32, earlier: Option<u32> },
 }
 
 /// An accepted parameter list: five ranges of the list without its marks, and its length.
@@ -63,12 +64,17 @@ const NONE: u32 = u32::MAX;
 
 type Words = [u32; 12];
 
+/// A place or a node, where the word says one.
+fn place(word: u32) -> Option<u32> {
+    (word != NONE).then_some(word)
+}
+
 impl Refused {
     fn new(number: u32, out: &Words) -> Refused {
         let at = match number {
             1 | 2 | 5 | 6 | 7 => At::Nowhere,
             3 | 4 => At::Node(out[0]),
-            _ => At::Span { node: out[0], begin: out[1], end: out[2] },
+            _ => At::Span { node: out[0], begin: out[1], end: out[2], earlier: place(out[3]) },
         };
         Refused { number, at }
     }
@@ -107,7 +113,6 @@ impl Table<'_> {
     /// The arguments of the Call at a node.
     pub fn call(self, node: usize) -> Result<Call, Refused> {
         let out = accepted(|out| interface::call(self, node, out))?;
-        let place = |word: u32| (word != NONE).then_some(word);
         Ok(Call { positional: out[0], named: out[1], star: place(out[2]), star_star: place(out[3]) })
     }
 
