@@ -1,4 +1,5 @@
--- `tablebind::say_all` ends: the pairs that are left fall, and no place passes the number of arguments. Assumes nothing.
+-- `tablebind::say_all` ends: the pairs that are left fall, and no place passes the number of arguments. Assumes
+-- nothing.
 use Prim.Native.Nat.{_+_, _*_, _-_, _≤_}
 use borrow.Author.Needs.{needs}
 use Rattle.tablebind.proofs.say_all.Statement.{statement}
