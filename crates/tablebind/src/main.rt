@@ -5,10 +5,9 @@
 //   words W...             the node that each flat parameter takes, then the flat index that each argument reached
 // or the one line `refused K`, behind K the node and the span that the refusal carries. A file that is refused gives
 // the one line `refused K`, and no `nodes` before it.
-// It only reads, calls and prints: what is answered is the libraries', tablefile, parameters and bind.
+// It only reads, calls and prints: what is answered to a file is the library's, filebind.
 use bind::Bound;
 use blocks::BLOCK_BYTES;
-use forest::RECORD;
 use libc::STDOUT_FILENO;
 use parameters::Unpacked;
 use table::Extent;
@@ -74,26 +73,17 @@ fn read_whole(fd: i32, buffer: &mut [u8]) -> usize {
 fn report(file: &[u8]) {
     let l = tablefile::read(file);
     let verdict = l.verdict;
-    if let Verdict::Refused(why) = verdict {
-        say_line(b"refused ", table::number(why) as u64);
-        return;
+    match verdict {
+        Verdict::Accepted => {
+            say_line(b"nodes ", tablefile::header(file).nodes as u64);
+            say_all(file);
+        }
+        Verdict::Refused(why) => say_line(b"refused ", table::number(why) as u64),
     }
-    let table = l.table;
-    let names = l.names;
-    say_line(b"nodes ", (l.table_len / RECORD) as u64);
-    say_all(front(&table, l.table_len), front(&names, l.names_len));
-}
-
-// The front of some bytes, as much of it as is there.
-fn front(s: &[u8], len: usize) -> &[u8] {
-    if s.len() <= len {
-        return s;
-    }
-    &s[0..len]
 }
 
 // The answer to each call and def that the arguments name.
-fn say_all(table: &[u8], names: &[u8]) {
+fn say_all(file: &[u8]) {
     let count = os::arg_count();
     if count < 2 {
         return;
@@ -102,7 +92,7 @@ fn say_all(table: &[u8], names: &[u8]) {
     let mut p = 0;
     while p < pairs {
         let at = 2 + 2 * p;
-        say_bound(table, names, node_at(at), node_at(at + 1));
+        say_bound(file, node_at(at), node_at(at + 1));
         p += 1;
     }
 }
@@ -150,15 +140,15 @@ fn digit(b: u8) -> usize {
 }
 
 // The answer to a call and a def.
-fn say_bound(table: &[u8], names: &[u8], call: usize, def: usize) {
+fn say_bound(file: &[u8], call: usize, def: usize) {
     let mut words = [0u32; ENOUGH_WORDS];
-    let bound = bind::bind(table, names, call, def, &mut words);
+    let bound = filebind::bind_file(file, call, def, &mut words);
     match bound {
         Bound::Accepted { flat, many } => {
             say(b"bound");
             say_word(flat);
             say_word(many);
-            say_modes(table, names, def);
+            say_modes(file, def);
             say(b"\nwords");
             say_words(&words, flat as usize + many as usize);
         }
@@ -168,9 +158,9 @@ fn say_bound(table: &[u8], names: &[u8], call: usize, def: usize) {
 }
 
 // The modes of a def's parameters, whose list the binding has accepted.
-fn say_modes(table: &[u8], names: &[u8], def: usize) {
+fn say_modes(file: &[u8], def: usize) {
     let mut modes = [0u8; MOST_NODES];
-    let unpacked = parameters::params(table, names, def, &mut modes);
+    let unpacked = filebind::modes_file(file, def, &mut modes);
     say(b"\nmodes");
     match unpacked {
         Unpacked::Accepted(c) => say_bytes(&modes, c.flat as usize),

@@ -6,10 +6,10 @@ use Rattle.tablebind.proofs.say_all.Statement.{statement}
 use Rattle.tablebind.proofs.say_all.Tie as tie
 
 abbrev Inv-loop : tie.InvT-loop
-Inv-loop table names count pairs p₀ p = (p ≤ pairs) × (2 + 2 * pairs ≤ count)
+Inv-loop file count pairs p₀ p = (p ≤ pairs) × (2 + 2 * pairs ≤ count)
 
 abbrev μ-loop : tie.MeasureT-loop
-μ-loop table names count pairs p₀ p = pairs - p
+μ-loop file count pairs p₀ p = pairs - p
 
 pub say-all-spec : {M : Type 1} → statement M
 say-all-spec =
