@@ -8,7 +8,7 @@ use lib.Seq.{take-all}
 use Rattle.table.specs.Answer.{Answer, accepted, refusal}
 use Rattle.table.specs.declared.Refusal.{Refusal}
 use Rattle.tablefile.specs.File.{Content}
-use Rattle.tablefile.specs.Reading.{contentAt, readCheck}
+use Rattle.tablefile.specs.Reading.{readCheck}
 use Rattle.tablefile.specs.Loading.{verdict, held}
 use Rattle.tablefile.specs.declared.Verdict.the-variants.{Accepted, Refused}
 use Rattle.tablefile.specs.declared.Loaded.{Loaded}

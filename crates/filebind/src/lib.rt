@@ -26,8 +26,8 @@ pub fn bind_file(file: &[u8], call: usize, def: usize, list: &mut [u32]) -> Boun
     bind::bind(t, n, call, def, list)
 }
 
-// The def or lambda at a node of a file: the reader's refusal, or the answer of the parameter job, with the modes at the
-// front of the buffer.
+// The def or lambda at a node of a file: the reader's refusal, or the answer of the parameter job, with the modes at
+// the front of the buffer.
 pub fn modes_file(file: &[u8], def: usize, modes: &mut [u8]) -> Unpacked
     ensures { λ r. ⌜ unpacked r ≡ paramsIn (now (file .entry)) def (length (now (modes .entry))) ⌝ }
     ensures { λ r. ⌜ now (modes .exit) ≡ modesIn (now (file .entry)) def (now (modes .entry)) ⌝ }

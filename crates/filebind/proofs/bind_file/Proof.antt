@@ -1,4 +1,5 @@
--- `filebind::bind_file` meets its contract: the reader's refusal, or the binding job over what it read. Assumes nothing.
+-- `filebind::bind_file` meets its contract: the reader's refusal, or the binding job over what it
+-- read. Assumes nothing.
 use Rattle.filebind.proofs.Held.{file-refused, file-held}
 use borrow.Author.Needs.{needs}
 use Rattle.filebind.proofs.bind_file.Statement.{statement}

@@ -1,4 +1,5 @@
--- `filebind::modes_file` meets its contract: the reader's refusal, or the parameter job over what it read. Assumes nothing.
+-- `filebind::modes_file` meets its contract: the reader's refusal, or the parameter job over what it
+-- read. Assumes nothing.
 use Rattle.filebind.proofs.Held.{file-refused, file-held}
 use borrow.Author.Needs.{needs}
 use Rattle.filebind.proofs.modes_file.Statement.{statement}
