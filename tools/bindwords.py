@@ -113,8 +113,9 @@ class Script:
             raise ValueError(f"{self.path} is not the table's script: at bytes {node.begin} to {node.end} stands not {what}")
 
     def text(self, node):
-        text = shown(self.bytes[node.begin:node.end].split(b"\n")[0])
-        return text if len(text) <= LONGEST else text[:LONGEST - 1] + "…"
+        first, more, _ = self.bytes[node.begin:node.end].partition(b"\n")
+        text = shown(first)
+        return text[:LONGEST - 1] + "…" if more or len(text) > LONGEST else text
 
     def place(self, node):
         before = self.bytes[:node.begin]
@@ -163,16 +164,19 @@ class Refused:
         yield said + (f": {meanings[self.number]}" if meanings else "")
 
 
-def answers(path):
-    """What the program has said of each call and def."""
-    lines = [line.split() for line in open(path).read().splitlines()]
-    said = iter([(words[0], [int(number) for number in words[1:]]) for words in lines[1:]])
-    for word, numbers in said:
+def answers(path, wanted):
+    """What the program has said of each call and def, of which there are so many."""
+    said, lines = [], iter([line.split() for line in open(path).read().splitlines()[1:]])
+    for word, *numbers in lines:
+        numbers = [int(number) for number in numbers]
         if word == "bound":
-            (modes, words) = next(said), next(said)
-            yield Accepted(*numbers, modes[1], words[1])
+            modes, words = ([int(number) for number in next(lines, [])[1:]] for _ in range(2))
+            said.append(Accepted(*numbers, modes, words))
         else:
-            yield Refused(*numbers)
+            said.append(Refused(*numbers))
+    if len(said) != wanted:
+        raise ValueError("the program's answer is not whole")
+    return said
 
 
 def counted(n, what):
@@ -211,7 +215,7 @@ def refused(meanings, answer):
 
 def bound(meanings, path, answer, call, definition):
     """A call and a def."""
-    table, said = Table(path), next(answers(answer))
+    table, (said,) = Table(path), answers(answer, 1)
     known = [table.nodes[int(node)] if said.status < 2 else None for node in (call, definition)]
     return said.lines(table, Bytes(table), *known, meanings), said.status
 
@@ -219,9 +223,11 @@ def bound(meanings, path, answer, call, definition):
 def of_script(meanings, path, answer, script):
     """All pairs of a script with their answers, the calls that have none, and how many there are."""
     table = Table(path)
-    script, said = Script(script, table), answers(answer)
+    script = Script(script, table)
+    calls = paired(table, script)
+    said = iter(answers(answer, sum(len(definitions) for _, definitions in calls)))
     lines, statuses, alone = [], [], 0
-    for call, definitions in paired(table, script):
+    for call, definitions in calls:
         head = f"{script.place(call)} {script.text(call)}"
         for definition in definitions:
             one = next(said)
