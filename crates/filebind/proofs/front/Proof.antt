@@ -1,0 +1,15 @@
+-- `filebind::front` meets its contract: all of the bytes, or the front of them. Assumes nothing.
+use Rattle.filebind.proofs.Held.{front-all, front-part}
+use borrow.Author.Needs.{needs}
+use Rattle.filebind.proofs.front.Statement.{statement}
+use Rattle.filebind.proofs.front.Tie as tie
+
+pub front-spec : {M : Type 1} → statement M
+front-spec =
+    tie.close
+    (tie.spec
+    (λ c. search front-all)  -- returns
+    (λ c. search needs)
+    (λ c. search needs)
+    (λ c. search needs)
+    (λ c. search front-part))  -- returns-2
