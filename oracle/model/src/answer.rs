@@ -46,6 +46,8 @@ pub struct Answer {
     pub errors: Vec<[u32; 3]>,
     /// A table file, which goes to the start of the lent buffer byte by byte.
     pub file: Vec<u8>,
+    /// A binding, which goes to the start of the lent list word by word.
+    pub list: Vec<u32>,
 }
 
 impl From<Refusal> for Answer {
@@ -86,8 +88,9 @@ impl Answer {
         }
     }
 
-    /// Writes the first errors that fit whole.
-    pub fn write_errors(&self, lent: &mut [u32]) {
+    /// Writes the words of a binding, or the first errors that fit whole.
+    pub fn write_list(&self, lent: &mut [u32]) {
+        lent[..self.list.len()].copy_from_slice(&self.list);
         for (place, error) in lent.chunks_exact_mut(3).zip(&self.errors) {
             place.copy_from_slice(error);
         }

@@ -3,6 +3,7 @@
 use crate::answer::Answer;
 use crate::answer::Refusal;
 pub use crate::answer::NONE;
+use crate::bind;
 use crate::call;
 use crate::call::Argument;
 use crate::call::Called;
@@ -89,12 +90,10 @@ fn unpacked_answer(unpacked: &params::Unpacked, written: usize) -> Answer {
 pub fn call(table: &[u8], names: &[u8], node: usize) -> Answer {
     answered(Table::check(table, names).and_then(|table| {
         table.wanted_node(node, |kind| kind == kind::CALL)?;
-        let nodes: Vec<usize> = table.children_of(node, Class::Argument).collect();
-        let argument = |&node: &usize| Argument { kind: table.kind(node), name: table.name(node) };
-        let arguments: Vec<Argument> = nodes.iter().map(argument).collect();
-        match call::unpack(&arguments) {
+        let written = Written::of(&table, node, Class::Argument);
+        match call::unpack(&written.arguments()) {
             Ok(called) => Ok(called_answer(&called)),
-            Err((number, at)) => Err(argument_refusal(&table, number, &nodes, at)),
+            Err((number, at)) => Err(argument_refusal(&table, number, &written.nodes, at)),
         }
     }))
 }
@@ -115,6 +114,66 @@ fn argument_refusal(table: &Table, number: u32, nodes: &[usize], at: usize) -> R
 fn called_answer(called: &Called) -> Answer {
     let place = |place: Option<u32>| place.unwrap_or(NONE);
     Answer::accepted(vec![called.positional, called.named, place(called.star), place(called.star_star)])
+}
+
+/// The binding of a Call's arguments to a Def's parameters, into a list of so many words.
+pub fn bind(table: &[u8], names: &[u8], call: usize, def: usize, room: usize) -> Answer {
+    answered(Table::check(table, names).and_then(|table| {
+        table.wanted_node(call, |kind| kind == kind::CALL)?;
+        table.wanted_node(def, |kind| kind == kind::DEF || kind == kind::LAMBDA && planted(Fault::LambdaBinds))?;
+        let called = Written::of(&table, call, Class::Argument);
+        let owned = Written::of(&table, def, Class::Parameter);
+        let marks = if planted(Fault::RoomByFlatCount) { owned.marks() } else { 0 };
+        long_enough(room, owned.nodes.len() - marks + called.nodes.len())?;
+        bound(&table, &owned, &called)
+    }))
+}
+
+/// The written children of one class, by their nodes.
+struct Written<'t, 'n> {
+    table: &'t Table<'n>,
+    nodes: Vec<usize>,
+}
+
+impl<'t, 'n> Written<'t, 'n> {
+    fn of(table: &'t Table<'n>, owner: usize, class: Class) -> Written<'t, 'n> {
+        Written { table, nodes: table.children_of(owner, class).collect() }
+    }
+
+    fn arguments(&self) -> Vec<Argument<'n>> {
+        let argument = |&node: &usize| Argument { kind: self.table.kind(node), name: self.table.name(node) };
+        self.nodes.iter().map(argument).collect()
+    }
+
+    fn marks(&self) -> usize {
+        entries(self.table, &self.nodes).iter().filter(|entry| entry.is_mark()).count()
+    }
+
+    /// The nodes without those of marks.
+    fn flat_nodes(&self) -> Vec<usize> {
+        let entries = entries(self.table, &self.nodes);
+        let flat = self.nodes.iter().zip(entries).filter(|(_, entry)| !entry.is_mark());
+        flat.map(|(&node, _)| node).collect()
+    }
+}
+
+/// The Def's 10 to 18, the call's 20 to 24, then 80 to 84.
+fn bound(table: &Table, owned: &Written, called: &Written) -> Result<Answer, Refusal> {
+    let entries = entries(table, &owned.nodes);
+    let arguments = called.arguments();
+    let of_list = |(number, at): params::At| parameter_refusal(table, number, &owned.nodes, at);
+    let of_call = |(number, at): (u32, usize)| argument_refusal(table, number, &called.nodes, at);
+    if planted(Fault::CallBeforeDef) {
+        call::unpack(&arguments).map_err(of_call)?;
+    }
+    let parameters = bind::flat(&entries, &params::unpack(&entries).map_err(of_list)?);
+    call::unpack(&arguments).map_err(of_call)?;
+    let reached = bind::bind(&parameters, &arguments).map_err(|(number, at)| match at {
+        bind::At::Argument(at) => table.refuse(number, called.nodes[at]),
+        bind::At::Parameter(at) => table.refuse(number, owned.flat_nodes()[at]),
+    })?;
+    let list = bind::words(&parameters, &reached, &called.nodes);
+    Ok(Answer { list, ..Answer::accepted(vec![parameters.len() as u32, arguments.len() as u32]) })
 }
 
 pub fn target(table: &[u8], names: &[u8], node: usize) -> Answer {

@@ -1,7 +1,9 @@
 //! Document 01 in Rust: its node table, its file, its limits, and what its definitions answer for every
 //! table. Written from the document, so that it can judge tables that no tree of the crate can be.
+//! And document 02's binding of arguments to parameters, which the crate does not have.
 
 pub mod answer;
+pub mod bind;
 pub mod call;
 pub mod dialect;
 pub mod file;

@@ -1,4 +1,4 @@
-//! Kinds of records and numbers of refusals, by name. The two overlap, so each has its own module.
+//! Kinds of records, modes of parameters and numbers of refusals, by name. They overlap, so each has its own module.
 
 pub mod kind {
     pub const STATEMENTS: u8 = 1;
@@ -59,6 +59,15 @@ pub mod kind {
     }
 }
 
+/// The modes of a flat parameter.
+pub mod mode {
+    pub const POS_ONLY: u8 = 1;
+    pub const POS_OR_NAME: u8 = 2;
+    pub const NAME_ONLY: u8 = 3;
+    pub const ARGS: u8 = 4;
+    pub const KWARGS: u8 = 5;
+}
+
 pub mod number {
     pub const TABLE_LENGTH: u32 = 1;
     pub const NAME_BYTES: u32 = 2;
@@ -115,4 +124,10 @@ pub mod number {
     pub const USED_BYTES: u32 = 73;
     pub const COUNTS: u32 = 74;
     pub const BYTES_LEFT_OVER: u32 = 75;
+
+    pub const STAR_IN_CALL: u32 = 80;
+    pub const TOO_MANY_POSITIONAL: u32 = 81;
+    pub const UNKNOWN_NAMED: u32 = 82;
+    pub const FILLED_ALREADY: u32 = 83;
+    pub const LEFT_EMPTY: u32 = 84;
 }

@@ -3,6 +3,7 @@
 use std::ops::Range;
 
 use crate::numbers::kind;
+use crate::numbers::mode;
 use crate::numbers::number;
 use crate::planted::planted;
 use crate::planted::Fault;
@@ -20,7 +21,7 @@ impl Entry<'_> {
         !self.is_mark()
     }
 
-    fn is_mark(&self) -> bool {
+    pub fn is_mark(&self) -> bool {
         self.kind == kind::NO_ARGS || self.kind == kind::SLASH
     }
 }
@@ -43,7 +44,7 @@ impl Unpacked {
 
     /// A mode for each flat parameter: that of the range it stands in.
     pub fn modes(&self) -> Vec<u8> {
-        const MODES: [u8; 5] = [1, 2, 4, 3, 5];
+        const MODES: [u8; 5] = [mode::POS_ONLY, mode::POS_OR_NAME, mode::ARGS, mode::NAME_ONLY, mode::KWARGS];
         let mut modes = vec![0; self.flat as usize];
         for (range, mode) in self.ranges().into_iter().zip(MODES) {
             modes[range.start as usize..range.end as usize].fill(mode);

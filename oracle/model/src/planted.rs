@@ -89,6 +89,19 @@ faults! {
     EarlierMissing
     EarlierIsThePlace
     NoEarlierIsZero
+    PosOnlyByName
+    StarByName
+    TooManyBeforeStar
+    EmptyBeforeUnknown
+    StarStarBinds
+    FilledTwice
+    HighestEmpty
+    StarTakesItsFirst
+    LambdaBinds
+    RoomByFlatCount
+    CallBeforeDef
+    RefusedBindWrites
+    WordPastBindingWritten
 }
 
 #[cfg(feature = "faults")]

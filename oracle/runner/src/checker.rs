@@ -28,7 +28,7 @@ use crate::record::Recorder;
 const OWN_SPANS_ONCE_IN: u64 = 16;
 
 /// One more than the greatest number.
-pub const NUMBERS: usize = 76;
+pub const NUMBERS: usize = 85;
 
 /// What has been run and seen.
 #[derive(Clone, Debug)]
@@ -303,6 +303,7 @@ fn model_answer(request: &Request) -> Answer {
         Job::Type { dialect, node, shapes } => jobs::type_shape(table, names, dialect, node, shapes),
         Job::Module { dialect, .. } => jobs::module(table, names, dialect),
         Job::Write { dialect, file } => jobs::write(table, names, dialect, file),
+        Job::Bind { call, def, list } => jobs::bind(table, names, call, def, list),
     }
 }
 
@@ -320,7 +321,16 @@ fn judged(request: &Request, model: &Answer) -> Built<Answer> {
         Job::Assignment { node } => run::assignment(&table, node),
         Job::Type { dialect, node, .. } => run::type_shape(&table, node, &dialects::from_bytes(dialect)),
         Job::Module { dialect, .. } => Ok(listed(&table, &run::Module::of(&table)?, dialect)),
+        Job::Bind { call, def, .. } => lists_of_binding(&table, call, def, model),
     }
+}
+
+/// The crate does not bind: it judges the two lists, and has no answer where it accepts both and the model does too.
+fn lists_of_binding(table: &Table, call: usize, def: usize, model: &Answer) -> Built<Answer> {
+    let lists = [run::params(table, def)?, run::call(table, call)?];
+    let refused = lists.into_iter().find(|answer| answer.number != 0);
+    let by_model = (number::SLASH_FIRST..=number::MULTIPLE_STAR_STAR).contains(&model.number);
+    refused.or(by_model.then(Answer::default)).ok_or(NotATree)
 }
 
 fn with_own_spans(request: &Request) -> Built<Vec<[u32; 3]>> {
@@ -335,6 +345,10 @@ fn with_own_spans(request: &Request) -> Built<Vec<[u32; 3]>> {
             own_spans::type_shape(&table, node, &dialects::from_bytes(dialect))
         }
         Job::Module { dialect, .. } => own_spans::module(&table, &dialects::from_bytes(dialect)),
+        Job::Bind { call, def, .. } => {
+            let of_list = own_spans::params(&table, def)?;
+            if of_list.is_empty() { own_spans::call(&table, call) } else { Ok(of_list) }
+        }
     }
 }
 

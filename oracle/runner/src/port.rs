@@ -15,17 +15,18 @@ pub enum Job<'a> {
     Type { dialect: &'a [u8], node: usize, shapes: usize },
     Module { dialect: &'a [u8], errors: usize },
     Write { dialect: &'a [u8], file: usize },
+    Bind { call: usize, def: usize, list: usize },
 }
 
 /// How many jobs there are: those of the interface, and the program's.
-pub const JOBS: usize = 9;
+pub const JOBS: usize = 10;
 
 /// The jobs by the names that the command line knows.
 pub const NAMES: [&str; JOBS] =
-    ["table", "params", "call", "target", "assignment", "type", "module", "write", "file"];
+    ["table", "params", "call", "target", "assignment", "type", "module", "write", "bind", "file"];
 
 /// The program's job, whose place in `NAMES` is last.
-pub const FILE: usize = 8;
+pub const FILE: usize = 9;
 
 impl Job<'_> {
     /// The job's place in `NAMES`.
@@ -39,6 +40,7 @@ impl Job<'_> {
             Job::Type { .. } => 5,
             Job::Module { .. } => 6,
             Job::Write { .. } => 7,
+            Job::Bind { .. } => 8,
         }
     }
 
@@ -110,6 +112,17 @@ extern "C" {
         file_len: usize,
         out: *mut Words,
     ) -> u32;
+    fn starlark_bind(
+        t: *const u8,
+        tl: usize,
+        n: *const u8,
+        nl: usize,
+        call: usize,
+        def: usize,
+        list: *mut u32,
+        list_len: usize,
+        out: *mut Words,
+    ) -> u32;
 }
 
 const GUARD: usize = 8;
@@ -149,6 +162,7 @@ impl Effect {
             Job::Type { shapes, .. } => (shapes, 0),
             Job::Module { errors, .. } => (0, errors),
             Job::Write { file, .. } => (file, 0),
+            Job::Bind { list, .. } => (0, list),
             _ => (0, 0),
         };
         Effect {
@@ -166,7 +180,7 @@ impl Effect {
         effect.number = answer.number;
         answer.write_words(effect.out());
         answer.write_bytes(effect.lent_bytes());
-        answer.write_errors(effect.lent_words());
+        answer.write_list(effect.lent_words());
         effect
     }
 
@@ -208,6 +222,7 @@ impl Effect {
                 Job::Type { node, .. } => starlark_type(t, tl, n, nl, d, dl, node, bytes, bytes_len, out),
                 Job::Module { .. } => starlark_module(t, tl, n, nl, d, dl, words, words_len, out),
                 Job::Write { .. } => starlark_write(t, tl, n, nl, d, dl, bytes, bytes_len, out),
+                Job::Bind { call, def, .. } => starlark_bind(t, tl, n, nl, call, def, words, words_len, out),
             }
         };
     }
@@ -231,7 +246,7 @@ impl fmt::Display for Effect {
         }
         if self.words.len() > 2 * GUARD {
             let shown = self.words.iter().enumerate().take(GUARD + 60).map(word).collect();
-            write!(f, ", errors [{}]", joined(shown))?;
+            write!(f, ", list [{}]", joined(shown))?;
         }
         if !self.dialect.is_empty() {
             write!(f, ", dialect [{}]", joined(self.dialect.iter().enumerate().map(byte).collect()))?;

@@ -35,11 +35,12 @@ pub struct Recorder {
 impl Recorder {
     /// Keeps the request if it is small and enough of its like are not kept yet.
     pub fn offer(&mut self, request: &Request, answer: &Answer, by_crate: bool) {
-        let Some((dialect, node, room)) = arguments(&request.job) else { return };
+        let Some(asked) = Asked::of(&request.job) else { return };
         let is_small = request.table.len() <= MOST_TABLE_BYTES
             && request.names.len() <= MOST_NAME_BYTES
-            && room <= MOST_ROOM
-            && u32::try_from(node).is_ok();
+            && asked.room <= MOST_ROOM
+            && u32::try_from(asked.node).is_ok()
+            && u16::try_from(asked.def).is_ok();
         if !is_small {
             return;
         }
@@ -49,19 +50,21 @@ impl Recorder {
         if *kept < OF_EACH {
             *kept += 1;
             self.requests[judge] += 1;
-            self.write(request, answer, judge, dialect, node as u32, room);
+            self.write(request, answer, judge, &asked);
         }
     }
 
-    fn write(&mut self, request: &Request, answer: &Answer, judge: usize, dialect: &[u8], node: u32, room: usize) {
+    fn write(&mut self, request: &Request, answer: &Answer, judge: usize, asked: &Asked) {
+        let &Asked { dialect, node, def, room } = asked;
         let bytes = &mut self.bytes;
         bytes.extend([request.job.index() as u8, dialect.len() as u8]);
         for short in [request.table.len(), request.names.len(), room] {
             bytes.extend((short as u16).to_le_bytes());
         }
-        bytes.extend(node.to_le_bytes());
+        bytes.extend((node as u32).to_le_bytes());
         bytes.extend(answer.number.to_le_bytes());
-        bytes.extend([answer.words.len() as u8, judge as u8, 0, 0]);
+        bytes.extend([answer.words.len() as u8, judge as u8]);
+        bytes.extend((def as u16).to_le_bytes());
         bytes.extend(request.table);
         bytes.extend(request.names);
         bytes.extend(dialect);
@@ -70,22 +73,34 @@ impl Recorder {
     }
 }
 
-/// A job's dialect, node and room. The smallest table file is too large for the sample, so the writer is not in it.
-fn arguments<'a>(job: &Job<'a>) -> Option<(&'a [u8], usize, usize)> {
-    Some(match *job {
-        Job::Table => (&[], 0, 0),
-        Job::Params { node, modes } => (&[], node, modes),
-        Job::Call { node } | Job::Target { node } | Job::Assignment { node } => (&[], node, 0),
-        Job::Type { dialect, node, shapes } => (dialect, node, shapes),
-        Job::Module { dialect, errors } => (dialect, 0, errors),
-        Job::Write { .. } => return None,
-    })
+/// A job's dialect, node and room; of a binding the node is the Call's, and the Def's stands beside it.
+struct Asked<'a> {
+    dialect: &'a [u8],
+    node: usize,
+    def: usize,
+    room: usize,
+}
+
+impl<'a> Asked<'a> {
+    /// The smallest table file is too large for the sample, so the writer is not in it.
+    fn of(job: &Job<'a>) -> Option<Asked<'a>> {
+        let asked = |dialect, node, room| Some(Asked { dialect, node, def: 0, room });
+        match *job {
+            Job::Table => asked(&[], 0, 0),
+            Job::Params { node, modes } => asked(&[], node, modes),
+            Job::Call { node } | Job::Target { node } | Job::Assignment { node } => asked(&[], node, 0),
+            Job::Type { dialect, node, shapes } => asked(dialect, node, shapes),
+            Job::Module { dialect, errors } => asked(dialect, 0, errors),
+            Job::Write { .. } => None,
+            Job::Bind { call, def, list } => Some(Asked { dialect: &[], node: call, def, room: list }),
+        }
+    }
 }
 
 fn buffer_after(job: &Job, room: usize, answer: &Answer) -> Vec<u8> {
-    if let Job::Module { .. } = job {
+    if let Job::Module { .. } | Job::Bind { .. } = job {
         let mut words = vec![FILL_WORD; room];
-        answer.write_errors(&mut words);
+        answer.write_list(&mut words);
         return words.iter().flat_map(|word| word.to_le_bytes()).collect();
     }
     let mut bytes = vec![FILL; room];

@@ -11,7 +11,7 @@ use crate::port::NAMES;
 
 /// What the whole comparison must run of each job at the least, in the order of `NAMES`: about 99 of 100 of what the quick run has at
 /// any seed.
-const LEAST: [u64; JOBS] = [1_345_000, 2_733_000, 659_000, 2_730_000, 752_000, 3_330_000, 1_282_000, 383_000, 3_400];
+const LEAST: [u64; JOBS] = [1_345_000, 2_733_000, 659_000, 2_730_000, 752_000, 3_330_000, 1_282_000, 383_000, 1_393_000, 3_400];
 
 pub fn print(options: &Options, tallies: &[Tally]) -> ExitCode {
     let run = families::ALL.iter().zip(tallies).filter(|(family, _)| options.asks(family));
@@ -69,7 +69,7 @@ fn too_few(options: &Options, all: &Tally) -> Vec<String> {
 fn never_given(options: &Options, all: &Tally) -> Vec<String> {
     let of_jobs = numbers_of_jobs().into_iter().zip(options.wanted).filter(|(_, wanted)| *wanted);
     let file_is_run = options.program.is_some();
-    let asked = of_jobs.flat_map(|(numbers, _)| numbers).filter(|&number| number < 70 || file_is_run);
+    let asked = of_jobs.flat_map(|(numbers, _)| numbers).filter(|number| !(70..=75).contains(number) || file_is_run);
     let mut never: Vec<usize> = asked.filter(|&number| all.given[number] == 0).collect();
     never.sort();
     never.dedup();
@@ -90,6 +90,7 @@ fn numbers_of_jobs() -> [Vec<usize>; JOBS] {
         with(&[5..=7, 40..=45]),
         with(&[5..=5, 10..=18, 50..=61]),
         with(&[5..=5, 7..=7]),
+        with(&[6..=7, 10..=18, 20..=24, 80..=84]),
         with(&[5..=5, 70..=75]).into_iter().filter(|number| !(1..=2).contains(number)).collect(),
     ]
 }

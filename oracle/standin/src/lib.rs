@@ -124,7 +124,7 @@ pub unsafe extern "C" fn starlark_module(
     let (table, names) = (lent(table, table_len), lent(names, names_len));
     let mut answer = jobs::module(table, names, lent(dialect, dialect_len));
     let list = lent_mut(errors, errors_len);
-    answer.write_errors(list);
+    answer.write_list(list);
     if planted(Fault::DialectByteChanged) {
         change(dialect, dialect_len);
     }
@@ -133,6 +133,30 @@ pub unsafe extern "C" fn starlark_module(
     }
     if planted(Fault::TotalCappedByList) && answer.number == 0 {
         answer.words[0] = answer.words[0].min(list.len() as u32 / 3);
+    }
+    give(answer, out)
+}
+
+#[no_mangle]
+pub unsafe extern "C" fn starlark_bind(
+    table: *const u8,
+    table_len: usize,
+    names: *const u8,
+    names_len: usize,
+    call: usize,
+    def: usize,
+    list: *mut u32,
+    list_len: usize,
+    out: Out,
+) -> u32 {
+    let answer = jobs::bind(lent(table, table_len), lent(names, names_len), call, def, list_len);
+    let list = lent_mut(list, list_len);
+    answer.write_list(list);
+    if planted(Fault::RefusedBindWrites) && answer.number != 0 && !list.is_empty() {
+        list[0] = 0;
+    }
+    if planted(Fault::WordPastBindingWritten) && answer.number == 0 && answer.list.len() < list.len() {
+        list[answer.list.len()] = 0;
     }
     give(answer, out)
 }

@@ -50,6 +50,8 @@ fn table_lengths(checker: &mut Checker) {
 
 /// Every job at one node, with buffers of one length.
 fn all_jobs_at(checker: &mut Checker, table: &[u8], names: &[u8], dialect: &[u8], node: usize, room: usize) {
+    // Where a job takes two nodes the other is one that it wants, if there is one.
+    let first = |kind: u8| table.chunks_exact(24).position(|record| record[0] == kind).unwrap_or(0);
     let jobs = [
         Job::Table,
         Job::Params { node, modes: room },
@@ -59,6 +61,8 @@ fn all_jobs_at(checker: &mut Checker, table: &[u8], names: &[u8], dialect: &[u8]
         Job::Type { dialect, node, shapes: room },
         Job::Module { dialect, errors: room },
         Job::Write { dialect, file: 512 * room.min(118) },
+        Job::Bind { call: node, def: first(kind::DEF), list: room },
+        Job::Bind { call: first(kind::CALL), def: node, list: room },
     ];
     for job in jobs {
         checker.check(&Request { table, names, job });

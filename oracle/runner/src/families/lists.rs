@@ -19,17 +19,20 @@ use crate::rng::Rng;
 
 /// An entry of a list: its kind, its detail, and whether it has a name.
 #[derive(Clone, Copy)]
-struct Form {
-    kind: u8,
-    detail: u8,
-    named: bool,
+pub struct Form {
+    pub kind: u8,
+    pub detail: u8,
+    pub named: bool,
 }
+
+/// An entry with its name.
+pub type Listed = (Form, u8);
 
 const fn form(kind: u8, detail: u8, named: bool) -> Form {
     Form { kind, detail, named }
 }
 
-const PARAMETERS: [Form; 6] = [
+pub const PARAMETERS: [Form; 6] = [
     form(kind::NORMAL, 0, true),
     form(kind::NORMAL, 2, true),
     form(kind::NO_ARGS, 0, false),
@@ -38,7 +41,7 @@ const PARAMETERS: [Form; 6] = [
     form(kind::KWARGS, 0, true),
 ];
 
-const ARGUMENTS: [Form; 4] = [
+pub const ARGUMENTS: [Form; 4] = [
     form(kind::POSITIONAL, 0, false),
     form(kind::NAMED, 0, true),
     form(kind::STAR_ARGUMENT, 0, false),
@@ -46,16 +49,21 @@ const ARGUMENTS: [Form; 4] = [
 ];
 
 /// Every list of so many forms, with every pattern of equal names.
-fn each_list(forms: &[Form], length: usize, see: &mut dyn FnMut(&[(Form, u8)])) {
-    extend_list(forms, length, 0, &mut Vec::with_capacity(length), see)
+pub fn each_list(forms: &[Form], length: usize, see: &mut dyn FnMut(&[Listed])) {
+    with_known_names(forms, length, 0, see)
+}
+
+/// The same where so many names are known before.
+pub fn with_known_names(forms: &[Form], length: usize, names: u8, see: &mut dyn FnMut(&[Listed])) {
+    extend_list(forms, length, names, &mut Vec::with_capacity(length), see)
 }
 
 fn extend_list(
     forms: &[Form],
     length: usize,
     names: u8,
-    list: &mut Vec<(Form, u8)>,
-    see: &mut dyn FnMut(&[(Form, u8)]),
+    list: &mut Vec<Listed>,
+    see: &mut dyn FnMut(&[Listed]),
 ) {
     if list.len() == length {
         return see(list);
@@ -73,7 +81,7 @@ fn extend_list(
 }
 
 /// A Def at node 0 for an even number, a Lambda at node 1 for an odd one, with these parameters.
-fn parameter_table(cells: &mut Cells, list: &[(Form, u8)], number: u64) {
+fn parameter_table(cells: &mut Cells, list: &[Listed], number: u64) {
     cells.clear();
     let in_lambda = number % 2 == 1;
     let add = |cells: &mut Cells| {
@@ -140,7 +148,8 @@ pub fn random_parameters(checker: &mut Checker, plan: &Plan) {
     let grow = |rng: &mut Rng, number: u64| {
         let most = if number % 400 == 0 { 600 } else { rng.pick(&[8, 8, 12, 20, 48]) };
         let mut cells = Cells::default();
-        parameter_table(&mut cells, &nearly_good_list(rng, most), number);
+        let disturbed = rng.below(3);
+        parameter_table(&mut cells, &nearly_good_list(rng, most, disturbed), number);
         cells
     };
     each_random(checker, plan, 1, 400_000, grow, |checker, _, random| {
@@ -150,13 +159,13 @@ pub fn random_parameters(checker: &mut Checker, plan: &Plan) {
     });
 }
 
-/// A good list with up to two entries put in, taken out or changed.
-fn nearly_good_list(rng: &mut Rng, most: usize) -> Vec<(Form, u8)> {
+/// A good list with so many entries put in, taken out or changed.
+pub fn nearly_good_list(rng: &mut Rng, most: usize, disturbed: usize) -> Vec<Listed> {
     let [plain, with_default, star, slash, args, kwargs] = PARAMETERS;
     let count = rng.within(0, most);
     let mut list = Vec::new();
     let mut next_name = 0u8;
-    let mut named = |list: &mut Vec<(Form, u8)>, form: Form| {
+    let mut named = |list: &mut Vec<Listed>, form: Form| {
         list.push((form, next_name));
         next_name = (next_name + 1) % 250;
     };
@@ -180,13 +189,13 @@ fn nearly_good_list(rng: &mut Rng, most: usize) -> Vec<(Form, u8)> {
     if rng.once_in(2) {
         named(&mut list, kwargs);
     }
-    for _ in 0..rng.below(3) {
+    for _ in 0..disturbed {
         disturb(rng, &mut list, &PARAMETERS);
     }
     list
 }
 
-fn disturb(rng: &mut Rng, list: &mut Vec<(Form, u8)>, forms: &[Form]) {
+pub fn disturb(rng: &mut Rng, list: &mut Vec<Listed>, forms: &[Form]) {
     let at = rng.below(list.len() + 1);
     let entry = (rng.pick(forms), rng.below(list.len().min(200) + 2) as u8);
     match rng.below(3) {
@@ -200,7 +209,7 @@ fn disturb(rng: &mut Rng, list: &mut Vec<(Form, u8)>, forms: &[Form]) {
 }
 
 /// A call at node 1 with these arguments.
-fn argument_table(cells: &mut Cells, list: &[(Form, u8)], number: u64) {
+fn argument_table(cells: &mut Cells, list: &[Listed], number: u64) {
     cells.clear();
     cells.tree(kind::SIMPLE, 0, 0, |cells| {
         cells.tree(kind::CALL, 0, 0, |cells| {
@@ -245,7 +254,7 @@ pub fn random_arguments(checker: &mut Checker, plan: &Plan) {
     });
 }
 
-fn nearly_good_arguments(rng: &mut Rng) -> Vec<(Form, u8)> {
+fn nearly_good_arguments(rng: &mut Rng) -> Vec<Listed> {
     let [positional, named, star, star_star] = ARGUMENTS;
     let mut list = vec![(positional, 0); rng.pick(&[0, 1, 3, 10, 40])];
     list.extend((0..rng.pick(&[0, 1, 3, 10, 40])).map(|name| (named, name)));

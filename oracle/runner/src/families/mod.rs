@@ -1,5 +1,6 @@
 //! Families of jobs. Each is cut into parts, so that threads can share them.
 
+pub mod bindings;
 pub mod boundaries;
 pub mod dialects;
 pub mod examples;
@@ -74,7 +75,8 @@ const ASSIGNMENT: u32 = 1 << 4;
 const TYPE: u32 = 1 << 5;
 const MODULE: u32 = 1 << 6;
 const WRITE: u32 = 1 << 7;
-const FILE: u32 = 1 << 8;
+const BIND: u32 = 1 << 8;
+const FILE: u32 = 1 << 9;
 const ARCHIVE: u32 = FILE - 1;
 
 pub const ALL: &[Family] = &[
@@ -84,7 +86,10 @@ pub const ALL: &[Family] = &[
     family("parameter lists, random", 2, PARAMS, lists::random_parameters),
     family("call lists, every order", 2, CALL, lists::argument_orders),
     family("call lists, random", 2, CALL, lists::random_arguments),
-    family("names, byte by byte", 2, PARAMS | CALL, names::byte_by_byte),
+    family("names, byte by byte", 2, PARAMS | CALL | BIND, names::byte_by_byte),
+    family("bindings, corner cases", 1, BIND, bindings::corners),
+    family("bindings, every order", 4, BIND, bindings::orders),
+    family("bindings, random", 2, BIND, bindings::random),
     family("types, every small tree", 4, TYPE, shapes::small_types),
     family("types, random", 2, TYPE, shapes::random_types),
     family("targets, every small tree", 4, TARGET, shapes::small_targets),
@@ -93,8 +98,8 @@ pub const ALL: &[Family] = &[
     family("assignments, random", 2, ASSIGNMENT, shapes::random_assignments),
     family("modules, every small tree", 2, MODULE, modules::small),
     family("modules, all dialects", 2, MODULE, modules::all_dialects),
-    family("modules, random", 2, MODULE | PARAMS | CALL, modules::random),
-    family("modules, large", 2, MODULE | PARAMS | CALL, modules::large),
+    family("modules, random", 2, MODULE | PARAMS | CALL | BIND, modules::random),
+    family("modules, large", 2, MODULE | PARAMS | CALL | BIND, modules::large),
     family("no tree of the crate", 2, ARCHIVE, modules::no_trees),
     family("tables, rules of children", 2, TABLE, tables::children),
     family("tables, every byte", 2, ARCHIVE, tables::every_byte),

@@ -6,6 +6,7 @@ use model::table::is_expression;
 use model::table::Class;
 use model::table::MOST_NODES;
 
+use super::bindings::bindings_of_module;
 use super::each_random;
 use super::lists::lists_of_module;
 use super::lists::random_list_tree;
@@ -99,6 +100,7 @@ pub fn random(checker: &mut Checker, plan: &Plan) {
         check_dialects(checker, rng, random, chosen.into_iter());
         if random.number % 4 == 0 {
             lists_of_module(checker, random);
+            bindings_of_module(checker, random);
         }
     });
 }
@@ -115,6 +117,7 @@ pub fn large(checker: &mut Checker, plan: &Plan) {
         check_dialects(checker, rng, random, chosen.into_iter());
         if random.number % 10 == 0 {
             lists_of_module(checker, random);
+            bindings_of_module(checker, random);
         }
     });
 }
@@ -158,6 +161,7 @@ pub fn every_job(checker: &mut Checker, rng: &mut Rng, table: &[u8], names: &[u8
         Job::Type { dialect, node: ty, shapes: rng.pick(&[0, 1, 2, 4, 8, 30, 100]) },
         Job::Module { dialect, errors: rng.pick(&[0, 1, 3, 5, 6, 20, 100]) },
         Job::Write { dialect, file: rng.pick(&[0, 1_023, 1_024, 1_535, 1_536, 2_048, 4_096]) },
+        Job::Bind { call, def: owner, list: rng.pick(&[0, 1, 2, 4, 8, 16, 64]) },
     ];
     for job in jobs {
         checker.check(&Request { table, names, job });

@@ -44,12 +44,16 @@ impl List {
     }
 
     fn record(&mut self, kind: u8, name: &[u8], size: usize) {
+        self.record_of(kind, 0, name, size)
+    }
+
+    fn record_of(&mut self, kind: u8, detail: u8, name: &[u8], size: usize) {
         let begin = 9 * self.node;
         let name_start = if name.is_empty() { 0 } else { self.names.len() as u32 };
         let source = if kind == kind::NAMED { 1_000_000 + 300 * self.node } else { 0 };
         let (name_len, size) = (name.len() as u16, size as u16);
         let record =
-            Record { kind, detail: 0, name_len, name_start, begin, end: begin + 4, size, reserved: 0, source };
+            Record { kind, detail, name_len, name_start, begin, end: begin + 4, size, reserved: 0, source };
         self.table.extend_from_slice(&record.write());
         self.names.extend_from_slice(name);
         self.node += 1;
@@ -76,7 +80,33 @@ impl List {
     }
 }
 
-/// Two names in lists of both kinds, the first of them in front and the second at the end.
+/// The Def of a binding; its Call stands behind it.
+const BOUND_DEF: usize = 1;
+
+impl List {
+    /// A def whose parameters have these names and defaults, and a call that names one; and the call's node.
+    fn binding(names: &[Vec<u8>], called: &[u8]) -> (List, usize) {
+        let mut list = List::new();
+        let def = 2 * names.len() + 2;
+        list.record(kind::STATEMENTS, b"", def + 6);
+        list.record(kind::DEF, b"", def);
+        for name in names {
+            list.record_of(kind::NORMAL, 2, name, 2);
+            list.record(kind::INT, b"", 1);
+        }
+        list.record(kind::SIMPLE, b"", 1);
+        list.record(kind::SIMPLE, b"", 5);
+        let call = list.node as usize;
+        list.record(kind::CALL, b"", 4);
+        list.record(kind::IDENTIFIER, b"f", 1);
+        list.record(kind::NAMED, called, 2);
+        list.record(kind::INT, b"", 1);
+        (list, call)
+    }
+}
+
+/// Two names in lists of both kinds, the first of them in front and the second at the end; and in a binding, the first a parameter's and the
+/// second an argument's.
 fn check_pair(checker: &mut Checker, entries: usize, first: &[u8], second: &[u8]) {
     let mut names = vec![first.to_vec()];
     names.extend((2..entries).map(filler));
@@ -85,6 +115,9 @@ fn check_pair(checker: &mut Checker, entries: usize, first: &[u8], second: &[u8]
     checker.check(&Request { table: &table, names: &bytes, job: Job::Params { node: 0, modes: entries } });
     let List { table, names: bytes, .. } = List::arguments(&names);
     checker.check(&Request { table: &table, names: &bytes, job: Job::Call { node: 1 } });
+    let (List { table, names: bytes, .. }, call) = List::binding(&names[..entries - 1], second);
+    let job = Job::Bind { call, def: BOUND_DEF, list: entries };
+    checker.check(&Request { table: &table, names: &bytes, job });
 }
 
 /// Every length, equal names, one byte more, and each byte that can differ. The longer lists take every length in the long run, and else those
