@@ -124,6 +124,11 @@ fn spelled(spelling: Spelling, name: u8) -> Vec<u8> {
     }
 }
 
+/// A name as letters.
+pub fn letters(name: u8) -> String {
+    String::from_utf8(spelled(Spelling::Letters, name)).expect("letters are text")
+}
+
 /// Where spans stand.
 #[derive(Clone, Copy, Debug, PartialEq, Eq)]
 pub enum Spans {

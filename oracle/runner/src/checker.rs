@@ -40,8 +40,10 @@ pub struct Tally {
     pub by_crate: u64,
     /// Jobs refused with 1 to 7, which the crate does not have.
     pub refused: u64,
-    /// Comparisons that are no jobs: of the model with the document, with demand 3, with the crate's constants.
+    /// Comparisons that are no jobs: of the model with the document, with demand 3, with the crate's constants, with Python.
     pub others: u64,
+    /// Of these, calls that Python has made.
+    pub by_python: u64,
     pub differences: u64,
     /// How often each number was given, as an answer or in a list of errors.
     pub given: [u64; NUMBERS],
@@ -52,7 +54,7 @@ pub struct Tally {
 impl Default for Tally {
     fn default() -> Tally {
         let (of_job, given) = ([0; JOBS], [0; NUMBERS]);
-        Tally { jobs: 0, of_job, by_crate: 0, refused: 0, others: 0, differences: 0, given, first: None }
+        Tally { jobs: 0, of_job, by_crate: 0, refused: 0, others: 0, by_python: 0, differences: 0, given, first: None }
     }
 }
 
@@ -63,6 +65,7 @@ impl Tally {
         self.by_crate += other.by_crate;
         self.refused += other.refused;
         self.others += other.others;
+        self.by_python += other.by_python;
         self.differences += other.differences;
         self.given.iter_mut().zip(other.given).for_each(|(given, more)| *given += more);
         if self.first.is_none() {
@@ -258,6 +261,12 @@ impl Checker {
         self.count_job(FILE);
         self.tally.given[number as usize] += 1;
         self.difference_unless(equal, what);
+    }
+
+    /// A call that Python has made.
+    pub fn python_call(&mut self, equal: bool, what: impl FnOnce() -> String) {
+        self.tally.by_python += 1;
+        self.note(equal, what);
     }
 
     /// A comparison that is no job.

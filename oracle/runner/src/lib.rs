@@ -45,6 +45,9 @@ pub fn main() -> ExitCode {
     if options.is_all() && options.program.is_none() {
         println!("compare: no program is named, so no files are compared");
     }
+    if options.is_all() && options.python.is_none() {
+        println!("compare: there is no python3, so no calls are put to Python");
+    }
     let done = run(&options);
     if let Some(path) = &options.record {
         write_sample(path, &done);
@@ -109,6 +112,7 @@ fn items(options: &Options) -> Vec<Item<'static>> {
         parts,
         program: options.program.clone(),
         rows: options.rows.clone(),
+        python: options.python.clone(),
     };
     let asked = families::ALL.iter().enumerate().filter(|(_, family)| options.asks(family));
     asked

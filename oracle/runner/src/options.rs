@@ -17,6 +17,8 @@ pub struct Options {
     pub program: Option<String>,
     /// A source text that holds the port's three dialect rows.
     pub rows: Option<String>,
+    /// The script that puts calls to Python.
+    pub python: Option<String>,
     /// Where a sample of the answers is written.
     pub record: Option<String>,
     /// Only families whose names hold this.
@@ -38,6 +40,7 @@ impl Options {
             stop: false,
             program: None,
             rows: None,
+            python: None,
             record: None,
             only: None,
             chosen: false,
@@ -57,6 +60,7 @@ impl Options {
                 "--stop" => options.stop = true,
                 "--program" => options.program = Some(value()?),
                 "--rows" => options.rows = Some(value()?),
+                "--python" => options.python = Some(value()?),
                 "--record" => options.record = Some(value()?),
                 "--only" => options.only = Some(value()?),
                 _ => return Err(format!("{word} is not known")),

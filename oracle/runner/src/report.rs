@@ -13,6 +13,9 @@ use crate::port::NAMES;
 /// any seed.
 const LEAST: [u64; JOBS] = [1_345_000, 2_733_000, 659_000, 2_730_000, 752_000, 3_330_000, 1_282_000, 383_000, 1_393_000, 3_400];
 
+/// What the whole comparison must put to Python at the least, where there is one.
+const LEAST_PYTHON: u64 = 54_500;
+
 pub fn print(options: &Options, tallies: &[Tally]) -> ExitCode {
     let run = families::ALL.iter().zip(tallies).filter(|(family, _)| options.asks(family));
     println!(
@@ -35,8 +38,15 @@ pub fn print(options: &Options, tallies: &[Tally]) -> ExitCode {
     }
     let mut few = too_few(options, &all);
     few.extend(empty(options, tallies));
+    let python_is_run = options.is_all() && options.python.is_some();
+    if python_is_run && all.by_python < LEAST_PYTHON {
+        few.push(format!("calls put to Python {} of {LEAST_PYTHON}", all.by_python));
+    }
     if !few.is_empty() {
         println!("too few jobs for the whole comparison: {}", few.join(", "));
+    }
+    if all.by_python > 0 {
+        println!("compare: {} calls were made by Python too", all.by_python);
     }
     println!("compare: {} jobs ({}), {} differences, seed {}", all.jobs, each_job(&all), all.differences, options.seed);
     if all.jobs == 0 {

@@ -161,7 +161,7 @@ impl Room {
 }
 
 /// Whether a list is accepted by itself.
-fn is_accepted(list: &[Listed]) -> bool {
+pub fn is_accepted(list: &[Listed]) -> bool {
     let names: Vec<[u8; 1]> = list.iter().map(|&(_, name)| [name]).collect();
     let entry = |(&(form, _), name): (&Listed, _)| Entry { kind: form.kind, name, has_default: form.detail == 2 };
     let entries: Vec<Entry> = list.iter().zip(names.iter().map(|name| name.as_slice())).map(entry).collect();

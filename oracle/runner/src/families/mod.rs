@@ -8,6 +8,7 @@ pub mod files;
 pub mod lists;
 pub mod modules;
 pub mod names;
+pub mod python;
 pub mod shapes;
 pub mod tables;
 pub mod written;
@@ -32,6 +33,8 @@ pub struct Plan {
     pub parts: u64,
     pub program: Option<String>,
     pub rows: Option<String>,
+    /// The script that puts calls to Python.
+    pub python: Option<String>,
 }
 
 impl Plan {
@@ -90,6 +93,7 @@ pub const ALL: &[Family] = &[
     family("bindings, corner cases", 1, BIND, bindings::corners),
     family("bindings, every order", 4, BIND, bindings::orders),
     family("bindings, random", 2, BIND, bindings::random),
+    family("bindings, as Python calls", 2, BIND, python::calls),
     family("types, every small tree", 4, TYPE, shapes::small_types),
     family("types, random", 2, TYPE, shapes::random_types),
     family("targets, every small tree", 4, TARGET, shapes::small_targets),
