@@ -17,7 +17,7 @@
 enum { MOST = 4 << 20, PAGE = 65536, STEP = 256 };
 enum { STATEMENTS = 1, DEF = 2, FOR = 3, IF = 4, BREAK = 6, SIMPLE = 10, ASSIGN = 11 };
 enum { TUPLE = 20, CALL = 22, INDEX = 23, INDEX2 = 24, IDENTIFIER = 26, LAMBDA = 27, ELLIPSIS = 31, NOT = 33, OP = 37, LIST = 39 };
-enum { NORMAL = 50, POSITIONAL = 60 };
+enum { NORMAL = 50, ARGS = 53, POSITIONAL = 60, NAMED = 61 };
 enum { WRONG_NODE = 6 };
 
 static uint8_t table[STARLARK_NODES * STARLARK_NODE_BYTES];
@@ -25,6 +25,7 @@ static size_t nodes;
 static uint8_t names[STARLARK_NAME_BYTES];
 static uint8_t buffer[STARLARK_NODES];
 static uint32_t errors[3 * STARLARK_ERRORS];
+static uint32_t list[2 * STARLARK_NODES];
 static uint8_t file[STARLARK_FILE_BYTES];
 static uint32_t out[STARLARK_WORDS];
 /* every switch on, so that types are read; every switch off, so that each error is given */
@@ -37,7 +38,7 @@ static size_t open_node(int kind, int detail) {
     memset(at, 0, STARLARK_NODE_BYTES);
     at[0] = kind;
     at[1] = detail;
-    if (kind == IDENTIFIER || kind == NORMAL) {
+    if (kind == IDENTIFIER || kind == NORMAL || kind == ARGS || kind == NAMED) {
         /* three bytes of a name of its own */
         at[2] = 3;
         at[4] = nodes * 3 & 255;
@@ -57,8 +58,16 @@ static void close_node(size_t at) {
 
 static void leaf(int kind) { close_node(open_node(kind, 0)); }
 
-/* A job on the table at hand, which leaves its number. */
-static size_t job_node;
+/* An argument; a named one has the name of another node. */
+static void argument(int kind, size_t name_of) {
+    size_t at = open_node(kind, 0);
+    if (kind == NAMED) memcpy(table + STARLARK_NODE_BYTES * at + 2, table + STARLARK_NODE_BYTES * name_of + 2, 6);
+    leaf(ELLIPSIS);
+    close_node(at);
+}
+
+/* A job on the table at hand, which leaves its number. The binding job has the Def's node beside it. */
+static size_t job_node, job_def;
 static uint32_t number;
 static void run_table(void) { number = starlark_table(table, STARLARK_NODE_BYTES * nodes, names, sizeof names, out); }
 static void run_params(void) {
@@ -81,12 +90,16 @@ static void run_write(void) {
     number = starlark_write(table, STARLARK_NODE_BYTES * nodes, names, sizeof names, all_on, 9, file, sizeof file, out);
 }
 
+static void run_bind(void) {
+    number = starlark_bind(table, STARLARK_NODE_BYTES * nodes, names, sizeof names, job_node, job_def, list, 2 * STARLARK_NODES, out);
+}
+
 struct job {
     const char *name;
     void (*run)(void);
     size_t most;
 } jobs[] = {{"table", run_table, 0}, {"params", run_params, 0}, {"call", run_call, 0}, {"target", run_target, 0}, {"assignment", run_assignment, 0}, {"type", run_type, 0},
-          {"module", run_module, 0}, {"module with all switches off", run_refusing, 0}, {"write", run_write, 0}};
+          {"module", run_module, 0}, {"module with all switches off", run_refusing, 0}, {"write", run_write, 0}, {"bind", run_bind, 0}};
 enum { JOBS = sizeof jobs / sizeof *jobs };
 
 /* Whether a job ends on a stack of so many bytes. */
@@ -139,6 +152,7 @@ static void measure(const char *shape, size_t node) {
     }
     printf("\n");
     nodes = 0;
+    job_def = 0;
 }
 
 /* An expression of `depth` nodes below each other. Each has the child last that goes on; before it stand as many leaves as its kind asks for,
@@ -235,6 +249,22 @@ static void many_arguments(void) {
     measure("1,048 arguments", 2);
 }
 
+/* A def with so many parameters, all of one kind, and a call behind it with so many arguments: by place, or by name from the last on. */
+static void binding(const char *shape, int parameter, size_t parameters, int kind, size_t arguments) {
+    size_t root = open_node(STATEMENTS, 0), def = open_node(DEF, 0);
+    for (size_t i = 0; i < parameters; i++) leaf(parameter);
+    leaf(BREAK);
+    close_node(def);
+    size_t simple = open_node(SIMPLE, 0), call = open_node(CALL, 0);
+    leaf(IDENTIFIER);
+    for (size_t i = 0; i < arguments; i++) argument(kind, def + parameters - i);
+    close_node(call);
+    close_node(simple);
+    close_node(root);
+    job_def = def;
+    measure(shape, call);
+}
+
 static void assignment_of_many(void) {
     size_t root = open_node(STATEMENTS, 0), assign = open_node(ASSIGN, 0), tuple = open_node(TUPLE, 0);
     while (nodes < STARLARK_NODES - 1) leaf(IDENTIFIER);
@@ -252,6 +282,10 @@ int main(void) {
     siblings("a tuple of 2,097 empty tuples", TUPLE, TUPLE);
     many_parameters();
     many_arguments();
+    binding("698 parameters bound by place", NORMAL, 698, POSITIONAL, 698);
+    binding("698 parameters bound by name", NORMAL, 698, NAMED, 698);
+    binding("2,094 parameters, none bound", NORMAL, 2094, POSITIONAL, 0);
+    binding("1,046 arguments for one star", ARGS, 1, POSITIONAL, 1046);
     assignment_of_many();
     in_depth("61 nested tuples of 34", TUPLE, IDENTIFIER, STARLARK_NODES);
     in_depth("61 nested lists of 34", LIST, IDENTIFIER, STARLARK_NODES);
