@@ -23,6 +23,7 @@ use crate::measure::Route;
 use crate::plain;
 use crate::port::Port;
 use crate::scripts::Input;
+use crate::scripts::BOUND_DEF;
 
 pub const PORT: &str = "port";
 pub const CHECK: &str = "port-check";
@@ -33,6 +34,7 @@ pub const TREE: &str = "tree";
 pub const READ: &str = "model-read";
 pub const PLAIN: &str = "plain-writer";
 pub const COPY: &str = "copy";
+pub const LISTS: &str = "params-and-call";
 
 type Routes = Vec<Route<'static>>;
 
@@ -103,6 +105,26 @@ pub fn arguments(input: &'static Input) -> Routes {
             let accepted = black_box(CallArgsUnpack::unpack(&list, codemap())).is_ok();
             accepted
         }),
+    ]
+}
+
+/// A binding, and the two jobs that are below it on the same table, one after the other.
+pub fn bind(input: &'static Input) -> Routes {
+    let (call, def) = (input.node, BOUND_DEF);
+    let mut port = Port::new();
+    let number = port.bind(&input.table, &input.names, call, def);
+    let answer = jobs::bind(&input.table, &input.names, call, def, port.errors.len());
+    must_agree(&port, number, &answer);
+    assert_eq!(number, 0, "what is measured is bound");
+    assert_eq!(port.errors[..answer.list.len()], answer.list[..], "port and model agree on what is measured");
+    let mut lists = Port::new();
+    vec![
+        Route::new(PORT, move || port.bind(&input.table, &input.names, call, def)),
+        Route::new(LISTS, move || {
+            let parameters = lists.params(&input.table, &input.names, def);
+            (parameters, lists.call(&input.table, &input.names, call))
+        }),
+        check_route(input),
     ]
 }
 

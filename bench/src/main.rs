@@ -19,6 +19,7 @@ use measure::Route;
 use measure::Spread;
 use measure::Times;
 use scripts::Input;
+use scripts::Written;
 
 /// How a case is printed.
 #[derive(Clone, Copy, PartialEq, Eq)]
@@ -27,6 +28,7 @@ enum Kind {
     Table,
     File,
     Write,
+    Bind,
 }
 
 struct Case {
@@ -126,6 +128,19 @@ fn all_cases() -> Vec<Case> {
         let name = format!("write, {nodes} nodes");
         all.push(case(name, Kind::Write, move || cases::write(kept(scripts::module(nodes)), &model::dialect::STANDARD)));
     }
+    all.extend(binding_cases());
+    all
+}
+
+/// As many arguments as parameters.
+fn binding_cases() -> Vec<Case> {
+    let mut all = Vec::new();
+    for (words, written) in [("place", Written::ByPlace), ("name", Written::ByName), ("name, in another order", Written::Shuffled)] {
+        for entries in [4, 16, 48, 384] {
+            let name = format!("bind, {entries} by {words}");
+            all.push(case(name, Kind::Bind, move || cases::bind(kept(scripts::binding(entries, written)))));
+        }
+    }
     all
 }
 
@@ -189,6 +204,7 @@ fn print_head(kind: Kind) {
         Kind::File => {
             "file to errors | port | the module job by itself | Rust route | port / Rust | reading and check | second check | tree | crate | port / (tree and crate alone)"
         }
+        Kind::Bind => "arguments bound | port | params and call on the same table | port / that | one table check",
         Kind::Write => {
             "file written | port | of it table check | Rust writer with the oracle's checks | port / that | Rust writer alone | port without its check / that | copying the bytes"
         }
@@ -230,6 +246,10 @@ fn print_row(case: &Case, times: &[Times]) {
             row.extend([cases::READ, cases::MODEL, cases::TREE, cases::CRATE].map(|label| middle(of(times, label))));
             let least = [cases::TREE, cases::CRATE].map(|label| of(times, label).spread().median);
             row.push(format!("{:.2}", port.spread().median / least.iter().sum::<f64>()));
+        }
+        Kind::Bind => {
+            let lists = of(times, cases::LISTS);
+            row.extend([micros(lists.spread()), ratio(port.part_of(lists)), middle(of(times, cases::CHECK))]);
         }
         Kind::Write => {
             let (front, check, plain) = (of(times, cases::FRONT), of(times, cases::CHECK), of(times, cases::PLAIN));

@@ -52,6 +52,17 @@ extern "C" {
         file_len: usize,
         out: *mut Words,
     ) -> u32;
+    fn starlark_bind(
+        t: *const u8,
+        tl: usize,
+        n: *const u8,
+        nl: usize,
+        call: usize,
+        def: usize,
+        list: *mut u32,
+        list_len: usize,
+        out: *mut Words,
+    ) -> u32;
     fn bench_file(file: *const u8, file_len: usize, errors: *mut u32, errors_len: usize, out: *mut Words) -> u32;
 }
 
@@ -94,6 +105,24 @@ impl Port {
     pub fn call(&mut self, table: &[u8], names: &[u8], node: usize) -> u32 {
         let (table, names) = black_box((table, names));
         unsafe { starlark_call(table.as_ptr(), table.len(), names.as_ptr(), names.len(), node, &mut self.out) }
+    }
+
+    pub fn bind(&mut self, table: &[u8], names: &[u8], call: usize, def: usize) -> u32 {
+        let (table, names) = black_box((table, names));
+        let (list, list_len) = (self.errors.as_mut_ptr(), self.errors.len());
+        unsafe {
+            starlark_bind(
+                table.as_ptr(),
+                table.len(),
+                names.as_ptr(),
+                names.len(),
+                call,
+                def,
+                list,
+                list_len,
+                &mut self.out,
+            )
+        }
     }
 
     pub fn target(&mut self, table: &[u8], names: &[u8], node: usize) -> u32 {

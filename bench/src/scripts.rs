@@ -151,6 +151,50 @@ pub fn named_arguments(family: Family, entries: usize) -> Input {
     input(tables, 1)
 }
 
+/// How a call's arguments are written.
+#[derive(Clone, Copy)]
+pub enum Written {
+    ByPlace,
+    ByName,
+    /// By name, in an order that has the names apart from their parameters: each third one, then the next.
+    Shuffled,
+}
+
+/// Where the Def of a binding stands; the Call is the input's node.
+pub const BOUND_DEF: usize = 1;
+
+/// `def f(a, b, c)` with so many parameters without default, and behind it `f(1, 2, 3)` or `f(a = 1, b = 2, c = 3)` with as many arguments.
+pub fn binding(entries: usize, written: Written) -> Input {
+    let mut tables = Tables::default();
+    let mut call = 0;
+    tables.node(kind::STATEMENTS, |t| {
+        t.node(kind::DEF, |t| {
+            (0..entries).for_each(|at| t.full(kind::NORMAL, 0, &long_name(at), |_| {}));
+            t.leaf(kind::SIMPLE);
+        });
+        t.node(kind::SIMPLE, |t| {
+            call = t.len();
+            t.node(kind::CALL, |t| {
+                t.ident("f");
+                for at in order(entries, written) {
+                    match written {
+                        Written::ByPlace => t.positional(|t| t.leaf(kind::INT)),
+                        _ => t.named(&long_name(at), |t| t.leaf(kind::INT)),
+                    }
+                }
+            })
+        });
+    });
+    input(tables, call)
+}
+
+fn order(entries: usize, written: Written) -> Vec<usize> {
+    match written {
+        Written::Shuffled => (0..3).flat_map(|first| (first..entries).step_by(3)).collect(),
+        _ => (0..entries).collect(),
+    }
+}
+
 /// Node 1 is the type.
 fn typed(build: impl FnOnce(&mut Tables)) -> Input {
     let mut tables = Tables::default();
