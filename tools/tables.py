@@ -39,7 +39,7 @@ KINDS = """1 Statements 2 Def 3 For 4 If 5 IfElse 6 Break 7 Continue 8 Return 9 
 33 Not 34 Minus 35 Plus 36 BitNot 37 Op 38 IfExpr 39 List 40 Dict 41 ListComprehension 42 DictComprehension 43 FString
 50 Normal 51 NoArgs 52 Slash 53 ArgsParam 54 KwArgsParam 60 Positional 61 Named 62 ArgsArg 63 KwArgsArg""".split()
 NUMBER = {name: int(number) for number, name in zip(KINDS[::2], KINDS[1::2])}
-JOBS = {"check": 1, "node": 2, "dialect": 3, "call": 4, "params": 5, "target": 6, "assignment": 7, "type": 8, "module": 9}
+JOBS = {"check": 1, "node": 2, "dialect": 3, "call": 4, "params": 5, "target": 6, "assignment": 7, "type": 8, "module": 9, "bind": 10}
 WANTED = {"parameters": 1, "call": 2, "assignment": 3, "expression": 4}
 DIALECTS = {"none": "", "Standard": "111000100", "Extended": "111102110", "AllOptionsInternal": "111112111"}
 TOKEN = re.compile(r"[()]|`[^`]*`|[^\s()]+")
@@ -136,7 +136,7 @@ def request(line):
     label, asked, *tree = [part.strip() for part in line.split("|")]
     job, *words = asked.split()
     table, names = table_of(trees(tree[0] if tree else ""))
-    dialect, wanted, node, room = b"", 0, 0, 0
+    dialect, wanted, node, room, owner = b"", 0, 0, 0, 0
     for word in words:
         key, mark, value = word.partition("=")
         if key == "names":
@@ -147,11 +147,13 @@ def request(line):
             dialect = bytes(int(c) for c in value)
         elif key == "room":
             room = int(value)
+        elif key == "def":
+            owner = int(value)
         elif word.isdigit():
             node = int(word)
         else:
             wanted = WANTED[word]
-    return pack(JOBS[job], label + ": ", table, names, dialect, wanted, room, node)
+    return pack(JOBS[job], label + ": ", table, names, dialect, wanted, room, node, owner)
 
 
 def found(text, script, begin, end):
@@ -257,9 +259,9 @@ def lines_of(one):
     return lambda path: b"".join(one(line) for line in open(path, encoding="utf-8").read().split("\n") if line.strip())
 
 
-def pack(job, label, table, names, dialect, wanted, room, node):
+def pack(job, label, table, names, dialect, wanted, room, node, owner=0):
     text = label.encode()
-    lengths = struct.pack("<HHHHHHHHI", job, len(text), len(table), len(names), len(dialect), wanted, room, 0, node)
+    lengths = struct.pack("<HHHHHHHHI", job, len(text), len(table), len(names), len(dialect), wanted, room, owner, node)
     return lengths + text + table + names + dialect
 
 

@@ -1,6 +1,7 @@
 // The answer to one case, printed behind its label.
 use arguments::CallArgs;
 use arguments::Called;
+use bind::Bound;
 use dialect::Decoded;
 use dialect::Dialect;
 use dialect::DialectTypes;
@@ -18,7 +19,7 @@ use targets::Targeted;
 use types::Shaped;
 use validate::Listed;
 
-// What a request asks: its job, how long its parts are, and the job's node.
+// What a request asks: its job, how long its parts are, and the job's node; of a binding the Def's beside the Call's.
 pub struct Asked {
     pub job: u16,
     pub label: usize,
@@ -27,6 +28,7 @@ pub struct Asked {
     pub dialect: usize,
     pub wanted: u16,
     pub room: usize,
+    pub def: usize,
     pub node: usize,
 }
 
@@ -285,8 +287,34 @@ fn say_module(table: &[u8], names: &[u8], dialect: &[u8], room: usize) {
     say_words(list);
 }
 
+fn say_bound(b: Bound) {
+    match b {
+        Bound::Accepted { flat, many } => {
+            say(b"parameters ");
+            say_number(flat as u64);
+            say(b", arguments ");
+            say_number(many as u64);
+        }
+        Bound::Refused(r) => say_refusal(r),
+    }
+}
+
+// The binding job, and its list of words afterwards: it holds 9 in every word, and is as long as the request says.
+fn say_bind(table: &[u8], names: &[u8], call: usize, def: usize, room: usize) {
+    let mut space = [9u32; 64];
+    let lent: &mut [u32] = &mut space;
+    if lent.len() < room {
+        return;
+    }
+    let list = &mut lent[0..room];
+    let b = bind::bind(table, names, call, def, list);
+    say_bound(b);
+    say(b", words");
+    say_words(list);
+}
+
 // 0 is a heading, 1 the table check, 2 a job's node, 3 the bytes of a dialect, 4 a call's arguments, 5 parameters, 6 a
-// target, 7 an assignment, 8 a type, 9 a module.
+// target, 7 an assignment, 8 a type, 9 a module, 10 a binding.
 pub(crate) fn answer(a: Asked, table: &[u8], names: &[u8], dialect: &[u8]) {
     let job = a.job;
     match job {
@@ -298,6 +326,7 @@ pub(crate) fn answer(a: Asked, table: &[u8], names: &[u8], dialect: &[u8]) {
         6 => say_targeted(targets::target(table, names, a.node)),
         7 => say_targeted(targets::assignment(table, names, a.node)),
         9 => say_module(table, names, dialect, a.room),
+        10 => say_bind(table, names, a.node, a.def, a.room),
         _ => say(b""),
     }
 }

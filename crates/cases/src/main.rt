@@ -17,6 +17,7 @@ fn head_of(head: &[u8]) -> Asked {
         dialect: fields::half(head, 8) as usize,
         wanted: fields::half(head, 10),
         room: fields::half(head, 12) as usize,
+        def: fields::half(head, 14) as usize,
         node: fields::word(head, 16) as usize,
     }
 }
