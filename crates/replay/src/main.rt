@@ -1,7 +1,7 @@
 // Replays recorded requests through the C interface, and prints for each job how many answers are the recorded ones:
-// those that the crate gave, and those that the model of document 01 gave, where the crate has none. data/requests.bin
-// was written by `oracle/compare --record`, on inputs on which all that judge them agreed; oracle/README.md has its
-// form.
+// those that the crate gave, and those that the model of the documents gave, where the crate has none.
+// data/requests.bin was written by `oracle/compare --record`, on inputs on which all that judge them agreed;
+// oracle/README.md has its form.
 mod requests;
 
 use libc::STDOUT_FILENO;
@@ -25,7 +25,7 @@ fn at(counts: &[u64], place: usize) -> u64 {
 }
 
 // How many answers by a judge agree, and the number of the first request whose answer does not, from 1.
-fn say_judged(place: usize, agree: &[u64; 14], differ: &[u64; 14], first: &[u64; 14]) {
+fn say_judged(place: usize, agree: &[u64; 18], differ: &[u64; 18], first: &[u64; 18]) {
     say_number(at(agree, place));
     say(b" agree, ");
     say_number(at(differ, place));
@@ -41,9 +41,9 @@ fn say_counts(
     name: &[u8],
     model: usize,
     of_crate: usize,
-    agree: &[u64; 14],
-    differ: &[u64; 14],
-    first: &[u64; 14],
+    agree: &[u64; 18],
+    differ: &[u64; 18],
+    first: &[u64; 18],
 ) {
     say(name);
     say(b": by the crate ");
@@ -110,9 +110,9 @@ fn main() {
         os::fail(b"requests.bin");
         return;
     }
-    let mut agree = [0u64; 14];
-    let mut differ = [0u64; 14];
-    let mut first = [0u64; 14];
+    let mut agree = [0u64; 18];
+    let mut differ = [0u64; 18];
+    let mut first = [0u64; 18];
     all(fd, &mut agree, &mut differ, &mut first);
     libc::close(fd);
     say_counts(b"table", 0, 1, &agree, &differ, &first);
@@ -122,4 +122,5 @@ fn main() {
     say_counts(b"assignment", 8, 9, &agree, &differ, &first);
     say_counts(b"type", 10, 11, &agree, &differ, &first);
     say_counts(b"module", 12, 13, &agree, &differ, &first);
+    say_counts(b"bind", 16, 17, &agree, &differ, &first);
 }

@@ -10,8 +10,8 @@ pub(crate) enum Replayed {
     Different(usize),
 }
 
-// The head of a request: the job, how long its parts are, the job's node, the number that it answers, how many words,
-// and whether the crate (1) or the model alone (0) has given the answer.
+// The head of a request: the job, how long its parts are, the job's node, and the Def's beside the Call's, the number
+// that it answers, how many words, and whether the crate (1) or the model alone (0) has given the answer.
 struct Asked {
     job: usize,
     dialect: usize,
@@ -19,13 +19,16 @@ struct Asked {
     names: usize,
     room: usize,
     node: usize,
+    def: usize,
     number: u32,
     words: usize,
     judge: usize,
 }
 
-// The job whose buffer is one of words.
+// The jobs whose buffers are of words.
 const MODULE: usize = 6;
+
+const BIND: usize = 8;
 
 // What each byte of the lent memory is before a job.
 const FILL: u8 = 0xEE;
@@ -43,6 +46,7 @@ fn head_of(head: &[u8]) -> Asked {
         number: fields::word(head, 12),
         words: fields::byte(head, 16) as usize,
         judge: fields::byte(head, 17) as usize,
+        def: fields::half(head, 18) as usize,
     }
 }
 
@@ -55,7 +59,7 @@ fn bytes_of(words: usize) -> usize {
 fn buffer_len(job: usize, room: usize) -> usize
     ensures { λ r. ⌜ r < 262144 ⌝ }
 {
-    if job == MODULE {
+    if (job == MODULE) | (job == BIND) {
         return 4 * (room % 65536);
     }
     room % 65536
@@ -90,7 +94,7 @@ fn behind(s: &[u8], len: usize) -> &[u8] {
     &s[0..0]
 }
 
-// A request's job, but for the module pass: the number that it answers.
+// A request's job, but for those with a buffer of words: the number that it answers.
 fn run(
     a: Asked,
     table: &[u8],
@@ -152,20 +156,35 @@ fn agrees(a: Asked, table: &[u8], names: &[u8], dialect: &[u8], answer: &[u8]) -
     names::same_bytes(front(whole, room), behind(answer, bytes_of(a.words)))
 }
 
-// The same for the module pass, whose buffer is one of words.
-fn module_agrees(a: Asked, table: &[u8], names: &[u8], dialect: &[u8], answer: &[u8]) -> bool {
+// The module pass or a binding: the number that it answers.
+fn run_listed(
+    a: Asked,
+    table: &[u8],
+    names: &[u8],
+    dialect: &[u8],
+    list: &mut [u32],
+    out: &mut [u32; 12],
+) -> u32 {
+    if a.job == MODULE {
+        return ffi::starlark_module(table, names, dialect, list, out);
+    }
+    ffi::starlark_bind(table, names, a.node, a.def, list, out)
+}
+
+// The same for those, whose buffers are of words.
+fn list_agrees(a: Asked, table: &[u8], names: &[u8], dialect: &[u8], answer: &[u8]) -> bool {
     let mut space = [FILL_WORD; 256];
     let mut out = [FILL_WORD; 12];
-    let errors: &mut [u32] = &mut space;
+    let list: &mut [u32] = &mut space;
     let room = a.room;
-    if errors.len() < room {
+    if list.len() < room {
         return false;
     }
-    let number = ffi::starlark_module(table, names, dialect, &mut errors[0..room], &mut out);
+    let number = run_listed(a, table, names, dialect, &mut list[0..room], &mut out);
     if !is_told(a, number, answer, &out) {
         return false;
     }
-    let whole = &errors[..];
+    let whole = &list[..];
     each_word(behind(answer, bytes_of(a.words)), room, whole)
 }
 
@@ -177,8 +196,8 @@ fn is_same(a: Asked, body: &[u8]) -> bool {
     let left = behind(left, a.names);
     let dialect = front(left, a.dialect);
     let answer = behind(left, a.dialect);
-    if a.job == MODULE {
-        return module_agrees(a, table, names, dialect, answer);
+    if (a.job == MODULE) | (a.job == BIND) {
+        return list_agrees(a, table, names, dialect, answer);
     }
     agrees(a, table, names, dialect, answer)
 }
