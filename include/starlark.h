@@ -21,7 +21,7 @@
  *   No pointer is NULL, not even one of length 0; words are aligned to four bytes.
  *   The thread has stack enough: STARLARK_STACK_BYTES is more than twice what any job was measured to need (bindings/c/stack.c, on aarch64):
  *   at 2,100 nodes of many shapes the table check needs 9 KB, the parameter job 18 KB, the call job 25 KB, the type job 30 KB, the module pass
- *   35 KB, the target, assignment and write jobs no more than 9 KB. starlark_bind, which has 19 KB of arrays of its own, is not measured yet.
+ *   and the binding job 35 KB, the target, assignment and write jobs no more than 9 KB.
  */
 #ifndef STARLARK_H
 #define STARLARK_H
