@@ -7,7 +7,6 @@ use lib.ListN.{length}
 use Rattle.fields.proofs.Basics.{never}
 use Rattle.fields.proofs.Coincide.{coincide, coincide-by}
 use Rattle.table.proofs.Answers.{refusal-injective}
-use Rattle.rescue.specs.declared.Kept.{Kept}
 use Rattle.rescue.specs.declared.Rescued.{Rescued}
 use Rattle.rescue.specs.declared.Rescued.the-variants.{Accepted, Refused}
 use Rattle.rescue.specs.Job.{rescueOf, fileAfter, rescued}
