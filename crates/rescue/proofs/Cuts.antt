@@ -226,23 +226,24 @@ module _ (t names : List ℕ) (m : ℕ) (room : 24 * m ≤ length t) (some : 1 �
     root-children = and-right (wholeTree (nodeOf 0 (cutTo m t)) row) _
         (and-right (fieldsSound (context (length names)) (nodeOf 0 t)) _ (sym root-is ∙ root-passed))
 
--- LAW: a record that is sound in a cut is sound in a longer one
-module _ (t names : List ℕ) (m n : ℕ) (room : 24 * n ≤ length t) (less : m ≤ n) (i : ℕ) (some : 1 ≤ i) (h : i < m) where
-  other : (k : ℕ) → i < k → 24 * k ≤ length t → recordSound (cutTo k t) names i
-      ≡ soundAt (context (length names)) i (take (24 * (k - i)) (drop (24 * i) t))
-  unfolding recordSound contextOf
-  other k g room =
-      let apart : i ≡ 0 → ⊥ = λ e. omega arith in
-      rw (ne-eqb i 0 apart, drop-cut t k room (omega arith) i some) refl
+-- LAW: the rule of a record behind the root looks at what is kept from there on
+pub record-other : (t names : List ℕ) (k i : ℕ) → 1 ≤ i → i < k → 24 * k ≤ length t
+    → recordSound (cutTo k t) names i ≡ soundAt (context (length names)) i (take (24 * (k - i)) (drop (24 * i) t))
+unfolding recordSound contextOf
+record-other t names k i some h room =
+    let apart : i ≡ 0 → ⊥ = λ e. omega arith in
+    rw (ne-eqb i 0 apart, drop-cut t k room (omega arith) i some) refl
 
-  pub record-longer : recordSound (cutTo m t) names i ≡ true → recordSound (cutTo n t) names i ≡ true
-  record-longer e =
-      let rest : List ℕ = take (24 * (n - i)) (drop (24 * i) t) in
-      let part : take (24 * (m - i)) rest ≡ take (24 * (m - i)) (drop (24 * i) t) =
-      take-take (24 * (m - i)) (24 * (n - i)) (drop (24 * i) t) (omega arith) in
-      let long : length rest ≡ 24 * (n - i) = length-take-le (24 * (n - i)) (drop (24 * i) t)
-      (simp length-drop (omega arith)) in
-      let shorter : soundAt (context (length names)) i (take (24 * (m - i)) rest) ≡ true =
-      rw part (sym (other m h (omega arith)) ∙ e) in
-      other n (omega arith) room
-      ∙ sound-longer (context (length names)) i (24 * (m - i)) rest (omega arith) (omega arith) shorter
+-- LAW: a record that is sound in a cut is sound in a longer one
+pub record-longer : (t names : List ℕ) (m n : ℕ) → 24 * n ≤ length t → m ≤ n → (i : ℕ) → 1 ≤ i → i < m
+    → recordSound (cutTo m t) names i ≡ true → recordSound (cutTo n t) names i ≡ true
+record-longer t names m n room less i some h e =
+    let rest : List ℕ = take (24 * (n - i)) (drop (24 * i) t) in
+    let part : take (24 * (m - i)) rest ≡ take (24 * (m - i)) (drop (24 * i) t) =
+    take-take (24 * (m - i)) (24 * (n - i)) (drop (24 * i) t) (omega arith) in
+    let long : length rest ≡ 24 * (n - i) = length-take-le (24 * (n - i)) (drop (24 * i) t)
+    (simp length-drop (omega arith)) in
+    let shorter : soundAt (context (length names)) i (take (24 * (m - i)) rest) ≡ true =
+    rw part (sym (record-other t names m i some h (omega arith)) ∙ e) in
+    record-other t names n i some (omega arith) room
+    ∙ sound-longer (context (length names)) i (24 * (m - i)) rest (omega arith) (omega arith) shorter

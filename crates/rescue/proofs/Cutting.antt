@@ -155,13 +155,13 @@ module _ {d names t : List ℕ} {m : ℕ} (c : Cutting d names t m) where
   pub cut-end : m < 2 → 0 ≡ largestCut d names
   cut-end h = largest-few d names m h ∙ sym (c .same)
 
+  pub cut-big : 24 * m ≤ length t
+  cut-big = omega (arith, cut-long, c .room)
+
+  pub cut-small : m < 65536
+  cut-small = omega (arith, c .room, c .few)
+
   module _ (some : 2 ≤ m) where
-    pub cut-big : 24 * m ≤ length t
-    cut-big = omega (arith, cut-long, c .room)
-
-    pub cut-small : m < 65536
-    cut-small = omega (arith, c .room, c .few)
-
     -- u is the table with the size m
     module _ {u : List ℕ} (u-is : u ≡ resized m t) where
       pub cut-same : length u ≡ length d

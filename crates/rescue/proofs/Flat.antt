@@ -1,24 +1,22 @@
 -- Laws of depth in cut tables: what is not too deep in a cut is not too deep in a longer one. Assumes nothing.
 use mathlib.Core.Path.{_≡_, refl, sym, ap, _∙_}
 use mathlib.Core.Bool.{Bool, true, false}
-use mathlib.Core.Logic.{⊎-elim}
 use mathlib.Core.List.{List, [], _∷_}
-use Prim.Native.Nat.{ℕ, zero, suc, _+_, _-_, _*_, _/_, _<_, _≤_}
+use Prim.Native.Nat.{ℕ, _+_, _-_, _*_, _≤_}
 use native.Mathlib.Omega.{arith}
 use lib.ListN.{length, take, drop, length-drop}
 use lib.Seq.{length-take-le, take-take}
 use lib.Dec.{ltb}
 use Rattle.fields.specs.Choice.{if'}
-use Rattle.fields.proofs.Basics.{never, le-or-lt}
-use Rattle.forest.specs.Forest.{sizeOf, nodeOf, spanOf, restOf, treeOf, forest}
+use Rattle.fields.proofs.Basics.{never}
+use Rattle.forest.specs.Forest.{nodeOf, Forest, none, _then_, forest}
 use Rattle.forest.specs.declared.Found.{Found}
 use Rattle.forest.specs.declared.Found.the-variants.{At, Nothing}
-use Rattle.forest.proofs.Stretch.{forest-tree, node-take}
 use Rattle.table.specs.Depth.{mostDepth, weight, orElse, firstDeep, deepIn}
 use Rattle.table.proofs.Depths.{firstOver, deep-is-over}
 use Rattle.rescue.specs.Cut.{cutTo}
 use Rattle.rescue.specs.Steps.{wholeStatements, Between}
-use Rattle.rescue.proofs.Rows.{span-front, span-all, kids-front, rest-front, rest-all, row-first}
+use Rattle.rescue.proofs.Rows.{joined, forest-joined}
 use Rattle.rescue.proofs.Cuts.{kind-cut, forest-cut}
 
 -- a node that is too deep is not before the stretch
@@ -35,64 +33,38 @@ over-from i (d ∷ ds) k e = go (ltb mostDepth d) (over-from (i + 1) ds k) e
 deep-from : (i : ℕ) (bs : List ℕ) (d k : ℕ) → firstDeep d (forest i bs) ≡ At k → i ≤ k
 deep-from i bs d k e = over-from i _ k (sym (deep-is-over i bs d) ∙ e)
 
--- the first node of a stretch, and what follows
-deep-tree : (d i : ℕ) (bs : List ℕ) → 24 ≤ length bs
-    → firstDeep d (forest i bs)
-    ≡ orElse (deepIn d (treeOf i bs)) (λ _. firstDeep d (forest (i + spanOf bs / 24) (restOf bs)))
-unfolding firstDeep
-deep-tree d i bs big = ap (firstDeep d) (forest-tree i bs big)
+-- the first of two rows that has a node too deep
+deep-joined : (d : ℕ) (f g : Forest) → firstDeep d (joined f g) ≡ orElse (firstDeep d f) (λ _. firstDeep d g)
+unfolding joined firstDeep
+deep-joined d none g = refl
+deep-joined d (t then ts) g = rw (deep-joined d ts g) (go (deepIn d t) (firstDeep d ts))
+  where
+    go : (x y : Found) → orElse x (λ _. orElse y (λ _. firstDeep d g)) ≡ orElse (orElse x (λ _. y)) (λ _. firstDeep d g)
+    go (At i) y = refl
+    go Nothing y = refl
 
--- of two that are found
-nothing-first : (x : Found) (y z : Unit {0} → Found) {k : ℕ} → orElse x y ≡ Nothing → orElse x z ≡ At k
-    → (y tt ≡ Nothing) × (z tt ≡ At k)
-nothing-first (At i) y z e f = never (cc)
-nothing-first Nothing y z e f = (e, f)
+-- LAW: n statements at the front of a stretch have no node too deep where the stretch has none, and where they have
+-- none, the first of the stretch is behind them
+module _ (d i n : ℕ) (bs : List ℕ) (there : 24 * n ≤ length bs)
+    (whole : wholeStatements (forest i (take (24 * n) bs)) ≡ true) where
+  both-deep : firstDeep d (forest i bs) ≡ orElse (firstDeep d (forest i (take (24 * n) bs)))
+      (λ _. firstDeep d (forest (i + n) (drop (24 * n) bs)))
+  both-deep = ap (firstDeep d) (forest-joined i n bs there whole) ∙ deep-joined d _ _
 
-left-there : (n s long : ℕ) → 24 * n ≤ long → s ≤ n → 24 * (n - s) ≤ long - 24 * s
-left-there n s long h k = omega arith
+  pub flat-shorter : firstDeep d (forest i bs) ≡ Nothing → firstDeep d (forest i (take (24 * n) bs)) ≡ Nothing
+  flat-shorter e = go (firstDeep d (forest i (take (24 * n) bs))) refl (sym both-deep ∙ e)
+    where
+      go : (x : Found) → firstDeep d (forest i (take (24 * n) bs)) ≡ x
+          → orElse x (λ _. firstDeep d (forest (i + n) (drop (24 * n) bs))) ≡ Nothing
+          → firstDeep d (forest i (take (24 * n) bs)) ≡ Nothing
+      go (At k) is e = never (cc)
+      go Nothing is e = is
 
-fewer-left : (n s f : ℕ) → n ≤ suc f → 1 ≤ s → n - s ≤ f
-fewer-left n s f h k = omega arith
-
-all-there : (i n s k : ℕ) → s ≤ n → i + s + (n - s) ≤ k → i + n ≤ k
-all-there i n s k h e = omega arith
-
--- LAW: where no node of n records is too deep, the first of more records is behind them
-flat-longer : (f d i n : ℕ) (bs : List ℕ) (k : ℕ) → n ≤ f → 24 * n ≤ length bs
-    → wholeStatements (forest i (take (24 * n) bs)) ≡ true → firstDeep d (forest i (take (24 * n) bs)) ≡ Nothing
-    → firstDeep d (forest i bs) ≡ At k → i + n ≤ k
-flat-longer zero d i n bs k hf there whole flat e = omega (arith, deep-from i bs d k e)
-flat-longer (suc f) d i n bs k hf there whole flat e =
-    ⊎-elim
-    (λ (z : n ≤ 0). omega (arith, deep-from i bs d k e))
-    (λ (some : 0 < n).
-    let b = row-first i n bs there some whole in
-    let s : ℕ = sizeOf bs in
-    let part : List ℕ = take (24 * n) bs in
-    let most : 24 * sizeOf bs ≤ 24 * n = omega (arith, b .most) in
-    let long : length part ≡ 24 * n = length-take-le (24 * n) bs there in
-    let span = span-front (24 * n) bs there (b .least) most in
-    let span′ = span-all (24 * n) bs there (b .least) most in
-    let at : i + spanOf part / 24 ≡ i + s = omega arith in
-    let at′ : i + spanOf bs / 24 ≡ i + s = omega arith in
-    let less : 24 * n - 24 * s ≡ 24 * (n - s) = omega arith in
-    let one : orElse (deepIn d (treeOf i bs))
-    (λ _. firstDeep d (forest (i + s) (take (24 * (n - s)) (drop (24 * s) bs)))) ≡ Nothing =
-    rw (
-      node-take i (24 * n) bs (omega arith),
-      kids-front (24 * n) bs there (b .least) most,
-      at,
-      rest-front (24 * n) bs there (b .least) most,
-      less,
-    ) at (sym (deep-tree d i part (omega arith)) ∙ flat) in
-    let two : orElse (deepIn d (treeOf i bs)) (λ _. firstDeep d (forest (i + s) (drop (24 * s) bs))) ≡ At k =
-    rw (at′, rest-all (24 * n) bs there (b .least) most) at (sym (deep-tree d i bs (omega arith)) ∙ e) in
-    let both = nothing-first (deepIn d (treeOf i bs)) _ _ one two in
-    let fewer : n - s ≤ f = fewer-left n s f hf (b .least) in
-    let on = flat-longer f d (i + s) (n - s) (drop (24 * s) bs) k fewer
-    (simp length-drop (left-there n s (length bs) there (b .most))) (b .rest) (both .0) (both .1) in
-    all-there i n s k (b .most) on)
-    (le-or-lt n 0)
+  flat-longer : (k : ℕ) → firstDeep d (forest i (take (24 * n) bs)) ≡ Nothing → firstDeep d (forest i bs) ≡ At k
+      → i + n ≤ k
+  flat-longer k flat e =
+      let later : firstDeep d (forest (i + n) (drop (24 * n) bs)) ≡ At k = sym (both-deep ∙ rw flat refl) ∙ e in
+      deep-from (i + n) (drop (24 * n) bs) d k later
 
 -- the depth of a cut is that of its children, under its root
 module _ (t : List ℕ) where
@@ -124,6 +96,27 @@ module _ (t : List ℕ) where
       take-take (24 * (m - 1)) (24 * (n - 1)) (drop 24 t) (omega arith) in
       let both = under (ltb mostDepth own) _ _ (sym (deep-cut m (omega arith) some) ∙ flat)
       (sym (deep-cut n room (omega arith)) ∙ deep) in
-      let on = flat-longer (m - 1) own 1 (m - 1) row k (omega arith) (omega arith) (rw part whole) (rw part (both .0))
-      (both .1) in
+      let on = flat-longer own 1 (m - 1) row (omega arith) (rw part whole) k (rw part (both .0)) (both .1) in
       omega (arith, on)
+
+  shallow : (b : Bool) (x y : Found) → (x ≡ Nothing → y ≡ Nothing)
+      → orElse (if' b (λ _. At 0) (λ _. x)) (λ _. Nothing) ≡ Nothing
+      → orElse (if' b (λ _. At 0) (λ _. y)) (λ _. Nothing) ≡ Nothing
+  shallow true x y f e = never (cc)
+  shallow false (At i) y f e = never (cc)
+  shallow false Nothing y f e = rw (f refl) refl
+
+  -- LAW: a cut in which no node is too deep has none in its first children
+  pub cut-flat-shorter : (m n : ℕ) → 24 * n ≤ length t → 1 ≤ m → m ≤ n → Between (drop 24 t) 1 m
+      → firstDeep 0 (forest 0 (cutTo n t)) ≡ Nothing → firstDeep 0 (forest 0 (cutTo m t)) ≡ Nothing
+  cut-flat-shorter m n room some less whole flat =
+      let row : List ℕ = take (24 * (n - 1)) (drop 24 t) in
+      let long : length row ≡ 24 * (n - 1) = length-take-le (24 * (n - 1)) (drop 24 t)
+      (simp length-drop (omega arith)) in
+      let part : take (24 * (m - 1)) row ≡ take (24 * (m - 1)) (drop 24 t) =
+      take-take (24 * (m - 1)) (24 * (n - 1)) (drop 24 t) (omega arith) in
+      let on = flat-shorter own 1 (m - 1) row (omega arith) (rw part whole) in
+      deep-cut m (omega arith) some
+      ∙ shallow (ltb mostDepth own) (firstDeep own (forest 1 row))
+      (firstDeep own (forest 1 (take (24 * (m - 1)) (drop 24 t)))) (λ e. rw part at (on e))
+      (sym (deep-cut n room (omega arith)) ∙ flat)

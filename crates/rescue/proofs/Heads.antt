@@ -106,9 +106,19 @@ module _ (bs : List ℕ) where
       let both = passed-both (zeroCheck bs) (λ _. judgeRun 1 (headerAt bs .names) (drop 512 bs)) e in
       record { zero = zero-says (ap passes (both .1)); names = both .2 }
 
-  head-is : Head → headCheck bs ≡ accepted []
+  pub head-is : Head → headCheck bs ≡ accepted []
   unfolding headCheck
   head-is h = rw (zero-is (h .zero)) (h .names)
+
+  pub head-accepted : passes (headCheck bs) ≡ true → headCheck bs ≡ accepted []
+  unfolding headCheck
+  head-accepted e =
+      let is = passes-is (headCheck bs) e in
+      let both = passed-both (zeroCheck bs) (λ _. judgeRun 1 (headerAt bs .names) (drop 512 bs)) (is .1) in
+      head-is record {
+        zero = zero-says (ap passes (both .1));
+        names = run-then 1 (headerAt bs .names) (drop 512 bs) (λ _. accepted []) (rw (both .2) refl) .0;
+      }
 
   -- lengths
   module _ (h : Head) where
@@ -228,8 +238,8 @@ module _ {bs : List ℕ} {h : Heading} {names : List ℕ} (r : Ready bs h names)
   pub ready-nine : h .dialect ≤ 9
   ready-nine = rw (r .heading) (dialect-few bs)
 
-  pub ready-dialect : 8 + h .dialect ≤ length bs
-  ready-dialect = omega (arith, ready-nine, head .zero .block .long)
+  pub ready-block : 512 ≤ length bs
+  ready-block = head .zero .block .long
 
   -- the records in good blocks, in the terms of code
   module _ {got : ℕ} {out : List ℕ} (z : List ℕ)

@@ -39,7 +39,7 @@ use Rattle.rescue.specs.declared.Kept.{Kept}
 use Rattle.rescue.proofs.Cuts.{passes-is, length-cut}
 use Rattle.rescue.proofs.Cutting.{within-says}
 use Rattle.rescue.proofs.Heads.{Head, head-says, ready-counts, ready-nodes, ready-names, ready-nine}
-use Rattle.rescue.proofs.Heads.{ready-dialect, table-few, whole-by}
+use Rattle.rescue.proofs.Heads.{ready-block, table-few, whole-by}
 
 -- a refusal leaves the buffer
 keeps : (bs file : List ℕ) {n : ℕ} {vs : List ℕ} → refused n vs ≡ rescueOf bs (length file) → file ≡ fileAfter bs file
@@ -129,7 +129,7 @@ module _ (bs : List ℕ) (w : passes (wholeCheck bs) ≡ false) where
         (is .1)))
 
 -- 1 to 5 of a table that passes 1 to 4, in a dialect that is valid
-given-accepted : (t names ds : List ℕ) {d : Dialect} → checkOf t names ≡ accepted [] → fromBytes ds ≡ Valid d
+pub given-accepted : (t names ds : List ℕ) {d : Dialect} → checkOf t names ≡ accepted [] → fromBytes ds ≡ Valid d
     → givenCheck t names ds ≡ accepted []
 unfolding givenOf
 given-accepted t names ds sound valid = rw (sound, valid) refl
@@ -150,8 +150,11 @@ module _ {bs : List ℕ} {h : Heading} {names t : List ℕ} (k : Keeping bs h na
   pub kept-nine : h .dialect ≤ 9
   kept-nine = ready-nine (k .ready)
 
-  pub kept-dialect : 8 + h .dialect ≤ length bs
-  kept-dialect = ready-dialect (k .ready)
+  pub kept-seventeen : 8 + h .dialect ≤ 17
+  kept-seventeen = omega (arith, kept-nine)
+
+  pub kept-upto : (n : ℕ) → n ≤ 17 → n ≤ length bs
+  kept-upto n h = omega (arith, ready-block (k .ready))
 
   short : (room : ℕ) → room < bytesKept bs → refused shortBuffer [] ≡ rescueOf bs room
   short room less = sym (answer-is room ∙ rw (lt-leb (bytesKept bs) room less) refl)

@@ -36,8 +36,8 @@ module _ {t left : List ℕ} {n : ℕ} (s : Counting t left n) where
   count-few = omega (arith, s .room)
 
 -- the second byte of the size
-pub resize-fits : (t : List ℕ) (v : ℕ) → 24 ≤ length t → 17 < length (set t 16 v)
-resize-fits t v h = omega (arith, length-set t 16 v)
+pub resize-fits : (t : List ℕ) (i v : ℕ) → 24 ≤ length t → 17 < length (set t i v)
+resize-fits t i v h = omega (arith, length-set t i v)
 
 -- the statements of a table
 module _ (t : List ℕ) {k : ℕ} (k-is : k ≡ nodeOf 0 t .kind) where

@@ -8,4 +8,6 @@ pub mod Cutting
 pub mod Gathering
 pub mod Heads
 pub mod Jobs
+pub mod Greedy
+pub mod Outputs
 pub mod Promises

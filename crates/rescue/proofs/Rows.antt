@@ -2,18 +2,19 @@
 -- statements side by side, each as long as its record says. Assumes nothing.
 use mathlib.Core.Path.{_≡_, refl, sym, ap, _∙_}
 use mathlib.Core.Bool.{Bool, true, false, _&&_}
-use mathlib.Core.List.{List, append-nil}
-use Prim.Native.Nat.{ℕ, _+_, _-_, _*_, _/_, _<_, _≤_}
-use native.Mathlib.Nat.{sub-zero}
+use mathlib.Core.Logic.{⊎-elim}
+use mathlib.Core.List.{List, [], append-nil}
+use Prim.Native.Nat.{ℕ, zero, suc, _+_, _-_, _*_, _/_, _<_, _≤_}
+use native.Mathlib.Nat.{sub-zero, add-zero}
 use native.Mathlib.Omega.{arith}
-use lib.ListN.{length, getD, take, drop, replicate}
-use lib.Seq.{length-take-le, getD-take, take-take}
+use lib.ListN.{length, getD, take, drop, replicate, length-drop}
+use lib.Seq.{length-take-le, getD-take, take-take, drop-drop}
 use lib.Dec.{eqb}
 use borrow.Author.Tests.{eqb-true, eq-eqb}
-use Rattle.fields.proofs.Basics.{and-left, and-right, and-both, drop-take}
+use Rattle.fields.proofs.Basics.{and-left, and-right, and-both, drop-take, le-or-lt}
 use Rattle.forest.specs.Forest.{sizeOf, nodeOf, spanOf, kidsOf, restOf, node, Forest, none, _then_, forest, count}
 use Rattle.forest.specs.Names.{same}
-use Rattle.forest.proofs.Stretch.{forest-none, forest-tree, node-take, size-take}
+use Rattle.forest.proofs.Stretch.{tree, forest-none, forest-tree, node-take, size-take}
 use Rattle.soundness.specs.KindNumbers.{kindStatements}
 use Rattle.soundness.specs.Kinds.{statement, any, kindOf, kindIn, classOf}
 use Rattle.soundness.specs.Sound.{Context, wholeTree, wholeTrees, classes, permitted, wanted, permits, kidsSound}
@@ -128,6 +129,83 @@ module _ (i m : ℕ) (bs : List ℕ) (there : 24 * m ≤ length bs) (some : 1 �
       let later : wholeStatements (forest (i + spanOf part / 24) (restOf part)) ≡ true =
       rw (after (b .least) (b .most), behind (b .least) (b .most)) (b .rest) in
       statements-tree i part (omega (arith, long)) ∙ and-both _ _ here later
+
+-- two rows of trees, one after the other
+unfoldable pub joined : Forest → Forest → Forest
+joined none g = g
+joined (t then ts) g = t then joined ts g
+
+fewer-left : (n s f : ℕ) → n ≤ suc f → 1 ≤ s → n - s ≤ f
+fewer-left n s f h k = omega arith
+
+left-there : (n s long : ℕ) → 24 * n ≤ long → s ≤ n → 24 * (n - s) ≤ long - 24 * s
+left-there n s long h k = omega arith
+
+-- the first of n such records, in the part and in the whole
+module _ (i n : ℕ) (bs : List ℕ) (there : 24 * n ≤ length bs) (b : Begins i n bs) where
+  most-bytes : 24 * sizeOf bs ≤ 24 * n
+  most-bytes = omega (arith, b .most)
+
+  abbrev kids : Forest
+  kids = forest (i + 1) (kidsOf bs)
+
+  whole-first : forest i bs ≡ tree (nodeOf i bs) kids (forest (i + sizeOf bs) (drop (24 * sizeOf bs) bs))
+  whole-first =
+      let at : i + spanOf bs / 24 ≡ i + sizeOf bs = omega (arith, span-all (24 * n) bs there (b .least) most-bytes) in
+      forest-tree i bs (omega (arith, b .least, b .most))
+      ∙ rw (at, rest-all (24 * n) bs there (b .least) most-bytes) refl
+
+  part-first : forest i (take (24 * n) bs)
+      ≡ tree (nodeOf i bs) kids (forest (i + sizeOf bs) (take (24 * (n - sizeOf bs)) (drop (24 * sizeOf bs) bs)))
+  part-first =
+      let at : i + spanOf (take (24 * n) bs) / 24 ≡ i + sizeOf bs = omega
+      (arith, span-front (24 * n) bs there (b .least) most-bytes) in
+      let less : 24 * n - 24 * sizeOf bs ≡ 24 * (n - sizeOf bs) = omega arith in
+      forest-tree i (take (24 * n) bs) (omega (arith, length-take-le (24 * n) bs there, b .least, b .most))
+      ∙ rw (
+        node-take i (24 * n) bs (omega (arith, b .least, b .most)),
+        kids-front (24 * n) bs there (b .least) most-bytes,
+        at,
+        rest-front (24 * n) bs there (b .least) most-bytes,
+        less,
+      ) refl
+
+  joined-first : (g : Forest)
+      → forest (i + sizeOf bs) (drop (24 * sizeOf bs) bs)
+      ≡ joined (forest (i + sizeOf bs) (take (24 * (n - sizeOf bs)) (drop (24 * sizeOf bs) bs))) g
+      → forest i bs ≡ joined (forest i (take (24 * n) bs)) g
+  unfolding joined
+  joined-first g later = whole-first ∙ ap (tree (nodeOf i bs) kids) later
+      ∙ sym (ap (λ (x : Forest). joined x g) part-first)
+
+joined-none : (i n : ℕ) (bs : List ℕ) → n ≤ 0
+    → forest i bs ≡ joined (forest i (take (24 * n) bs)) (forest (i + n) (drop (24 * n) bs))
+unfolding joined
+joined-none i n bs h = let z : n ≡ 0 = omega arith in rw (z, forest-none i [] (omega arith), add-zero i) refl
+
+-- LAW: n records that are statements at the front of a stretch, and what follows them
+joined-in : (f i n : ℕ) (bs : List ℕ) → n ≤ f → 24 * n ≤ length bs
+    → wholeStatements (forest i (take (24 * n) bs)) ≡ true
+    → forest i bs ≡ joined (forest i (take (24 * n) bs)) (forest (i + n) (drop (24 * n) bs))
+joined-in zero i n bs h there whole = joined-none i n bs h
+joined-in (suc f) i n bs h there whole =
+    ⊎-elim
+    (λ (few : n ≤ 0). joined-none i n bs few)
+    (λ (some : 0 < n).
+    let b = row-first i n bs there some whole in
+    let s : ℕ = sizeOf bs in
+    let on = joined-in f (i + s) (n - s) (drop (24 * s) bs) (fewer-left n s f h (b .least))
+    (simp length-drop (left-there n s (length bs) there (b .most))) (b .rest) in
+    let index : i + s + (n - s) ≡ i + n = omega (arith, b .most) in
+    let place : 24 * s + 24 * (n - s) ≡ 24 * n = omega (arith, b .most) in
+    joined-first i n bs there b (forest (i + n) (drop (24 * n) bs))
+    (rw (index, drop-drop (24 * (n - s)) (24 * s) bs, place) at on))
+    (le-or-lt n 0)
+
+pub forest-joined : (i n : ℕ) (bs : List ℕ) → 24 * n ≤ length bs
+    → wholeStatements (forest i (take (24 * n) bs)) ≡ true
+    → forest i bs ≡ joined (forest i (take (24 * n) bs)) (forest (i + n) (drop (24 * n) bs))
+forest-joined i n bs there whole = joined-in n i n bs (omega arith) there whole
 
 -- LAW: the children of a Statements are such statements
 pub class-statements : classOf kindStatements ≡ statement

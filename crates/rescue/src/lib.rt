@@ -58,7 +58,7 @@ pub fn rescue(input: &[u8], file: &mut [u8]) -> Rescued
     let mut space = [0u8; MOST_NAMES];
     let got = gather(&input[BLOCK_BYTES..], 1, h.names, &mut space);
     if got < h.names {
-        return Rescued::Refused(Refusal::Bare(numbers::BAD_HEADER));
+        return Rescued::Refused(Refusal::Bare(numbers::BAD_HEADER)); // a name block
     }
     rescue_nodes(input, h, &space[0..got], file)
 }
@@ -75,8 +75,8 @@ fn zero_sound(input: &[u8], h: Heading) -> bool
     if !counts_fit(h.nodes, h.names) {
         return false;
     }
-    let end = 8 + h.dialect;
-    let read = dialect::from_bytes(&input[8..end]);
+    let last = 8 + h.dialect;
+    let read = dialect::from_bytes(&input[8..last]);
     match read {
         Decoded::Valid(_) => true,
         Decoded::Invalid => false,
