@@ -1,7 +1,7 @@
 -- Where a cut passes, so does each shorter one that is a row of whole children: fewer children are sound where more
 -- are. Assumes nothing.
 use mathlib.Core.Path.{_≡_, refl, sym, ap, _∙_}
-use mathlib.Core.Bool.{Bool, true, false, _&&_}
+use mathlib.Core.Bool.{Bool, true, false}
 use mathlib.Core.Logic.{⊎-elim}
 use mathlib.Core.List.{List}
 use Prim.Native.Nat.{ℕ, zero, suc, _+_, _-_, _*_, _/_, _<_, _≤_}
@@ -9,20 +9,18 @@ use native.Mathlib.Nat.{add-zero}
 use native.Mathlib.Omega.{arith}
 use lib.ListN.{length, take, drop, length-drop}
 use lib.Seq.{length-take-le, take-take, drop-drop}
-use lib.Dec.{eqb, leb}
+use lib.Dec.{eqb}
 use borrow.Author.Tests.{eqb-true, eqb-false, le-leb}
-use Rattle.fields.specs.Choice.{if'}
 use Rattle.fields.proofs.Basics.{and-left, and-right, and-both, drop-take, le-or-lt}
 use Rattle.forest.specs.Forest.{nodeOf, spanOf, kidsOf, restOf, Forest, none, _then_, forest}
 use Rattle.forest.specs.declared.Found.the-variants.{Nothing}
 use Rattle.forest.proofs.Stretch.{forest-induction, length-kids, length-rest}
 use Rattle.soundness.specs.KindNumbers.{kindStatements}
-use Rattle.soundness.specs.Sound.{Context, context, contextOf, soundAt, recordSound, firstFalse, firstUnsound}
-use Rattle.soundness.proofs.SoundTables.{allSound, treeSound, Sound, sound-table, sound-first, sound-kids, sound-rest, sound-size}
-use Rattle.table.specs.Depth.{firstDeep}
+use Rattle.soundness.specs.Sound.{Context, contextOf, soundAt, recordSound, firstFalse, firstUnsound}
+use Rattle.soundness.proofs.SoundTables.{allSound, treeSound, Sound, sound-table, sound-first, sound-kids}
+use Rattle.soundness.proofs.SoundTables.{sound-rest, sound-size}
 use Rattle.table.proofs.Checking.{Clean}
 use Rattle.table.proofs.Theorems.{clean-accepted}
-use Rattle.rescue.specs.Good.{passes}
 use Rattle.rescue.specs.Cut.{cutTo, cutPasses}
 use Rattle.rescue.specs.Steps.{wholeStatements, Between}
 use Rattle.rescue.proofs.Rows.{joined, forest-joined, sound-longer}
@@ -155,7 +153,8 @@ module _ (t names : List ℕ) (m n : ℕ) (room : 24 * n ≤ length t) (less : m
   unfolding contextOf
   other-sound j h k =
       let row : List ℕ = take (24 * (m - 1)) (drop 24 t) in
-      let size : length row ≡ 24 * (m - 1) = length-take-le (24 * (m - 1)) (drop 24 t) (simp length-drop (omega arith)) in
+      let size : length row ≡ 24 * (m - 1) = length-take-le (24 * (m - 1)) (drop 24 t)
+      (simp length-drop (omega arith)) in
       let index : 1 + (j - 1) ≡ j = omega arith in
       let left : 24 * (m - 1) - 24 * (j - 1) ≡ 24 * (m - j) = omega arith in
       let place : 24 + 24 * (j - 1) ≡ 24 * j = omega arith in

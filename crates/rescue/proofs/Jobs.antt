@@ -108,14 +108,14 @@ module _ (bs : List ℕ) (w : passes (wholeCheck bs) ≡ false) where
   cut-file = rw w refl
 
   module _ (some : 1 ≤ nodesKept bs) where
-    says : (cutPasses (goodTable bs) (contentAt bs .names) (nodesKept bs) ≡ true)
+    pub cut-says : (cutPasses (goodTable bs) (contentAt bs .names) (nodesKept bs) ≡ true)
         × (nodesKept bs ≤ within (goodTable bs))
     unfolding largestCut
-    says = rw cut-nodes (largest-says (cutPasses (goodTable bs) (contentAt bs .names)) (within (goodTable bs))
+    cut-says = rw cut-nodes (largest-says (cutPasses (goodTable bs) (contentAt bs .names)) (within (goodTable bs))
         (rw cut-nodes at some))
 
     pub cut-room : 24 * nodesKept bs ≤ length (goodTable bs)
-    cut-room = omega (arith, says .1, within-says (goodTable bs) (omega (arith, says .1)) .1)
+    cut-room = omega (arith, cut-says .1, within-says (goodTable bs) (omega (arith, cut-says .1)) .1)
 
     pub cut-length : length (tableKept bs) ≡ 24 * nodesKept bs
     cut-length = ap length cut-table ∙ length-cut (goodTable bs) (nodesKept bs) cut-room some
@@ -124,7 +124,7 @@ module _ (bs : List ℕ) (w : passes (wholeCheck bs) ≡ false) where
     unfolding cutPasses
     cut-checked =
         let is = passes-is (checkOf (cutTo (nodesKept bs) (goodTable bs)) (contentAt bs .names))
-        (and-right (leb 2 (nodesKept bs)) _ (says .0)) in
+        (and-right (leb 2 (nodesKept bs)) _ (cut-says .0)) in
         rw cut-table (is .1 ∙ ap accepted (check-values (cutTo (nodesKept bs) (goodTable bs)) (contentAt bs .names)
         (is .1)))
 

@@ -11,3 +11,4 @@ pub mod Jobs
 pub mod Greedy
 pub mod Outputs
 pub mod Promises
+pub mod Theorems

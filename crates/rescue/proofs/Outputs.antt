@@ -1,11 +1,12 @@
--- The output is the file of what is kept, which is sound; a file that the reader accepts is kept whole. Assumes nothing.
+-- The output is the file of what is kept, which is sound; a file that the reader accepts is kept whole. Assumes
+-- nothing.
 use mathlib.Core.Path.{_≡_, refl, sym, ap, _∙_}
 use mathlib.Core.Bool.{Bool, true, false}
 use mathlib.Core.List.{List, [], _∷_, _++_}
 use Prim.Native.Nat.{ℕ, zero, suc, _+_, _*_, _-_, _/_, _%_, _<_, _≤_, min}
 use native.Mathlib.Omega.{arith}
-use lib.ListN.{length, take, drop, set}
-use lib.Seq.{take-all}
+use lib.ListN.{length, take, drop, set, length-take}
+use lib.Seq.{take-all, length-take-le}
 use lib.Dec.{leb}
 use borrow.Author.Tests.{leb-true, le-leb}
 use Rattle.fields.specs.Choice.{if'}
@@ -18,7 +19,8 @@ use Rattle.blocks.specs.Block.{demand, judge}
 use Rattle.blocks.specs.Run.{blocksFor, contents, contentOf}
 use Rattle.tablefile.specs.File.{fileOf}
 use Rattle.tablefile.specs.Reading.{headerAt, contentAt, countsFit, frontCheck, soundCheck, readCheck}
-use Rattle.tablefile.proofs.Fronts.{Fronted, table-length}
+use Rattle.tablefile.proofs.Fronts.{Fronted, dialect-few, taken-there, table-length}
+use Rattle.writer.proofs.Building.{length-file}
 use Rattle.tablefile.proofs.Files.{front-is-file}
 use Rattle.tablefile.proofs.Accepted.{SoundContent, read-fronted, read-whole, read-is-sound, back-accepted, back-holds}
 use Rattle.rescue.specs.Good.{passes, headCheck, wholeCheck, goodBlocks, goodRun, goodTable}
@@ -27,7 +29,7 @@ use Rattle.rescue.specs.Job.{nodesKept, tableKept, contentKept, fileKept
 use Rattle.rescue.specs.Job.{rescueOf}
 use Rattle.rescue.specs.Steps.{Ready}
 use Rattle.rescue.proofs.Cuts.{passes-is}
-use Rattle.rescue.proofs.Heads.{Head, head-says, head-accepted, head-is, counts-are, table-few}
+use Rattle.rescue.proofs.Heads.{Head, head-says, head-accepted, head-is, counts-are, names-long, table-few}
 use Rattle.rescue.proofs.Jobs.{whole-nodes, whole-table, whole-file, whole-fronted, whole-bytes, cut-file}
 use Rattle.rescue.proofs.Jobs.{cut-table, cut-room, cut-length, cut-checked, given-accepted}
 
@@ -78,7 +80,8 @@ pub record Says (bs : List ℕ) (room : ℕ) (vs : List ℕ) : Type 0 where
 
 pub rescued-says : (bs : List ℕ) (room : ℕ) {vs : List ℕ} → rescueOf bs room ≡ accepted vs → Says bs room vs
 unfolding rescueOf
-rescued-says bs room {vs} e = go (passes (headCheck bs)) (leb 1 (nodesKept bs)) (leb (bytesKept bs) room) refl refl refl e
+rescued-says bs room {vs} e = go (passes (headCheck bs)) (leb 1 (nodesKept bs)) (leb (bytesKept bs) room) refl refl refl
+    e
   where
     go : (a b c : Bool) → passes (headCheck bs) ≡ a → leb 1 (nodesKept bs) ≡ b → leb (bytesKept bs) room ≡ c
         → andThen (demand a badHeader) (λ _. andThen (demand b nothingKept) (λ _. andThen (demand c shortBuffer) (λ _.
@@ -133,6 +136,10 @@ module _ (bs : List ℕ) (head : headCheck bs ≡ accepted []) (some : 1 ≤ nod
       go false w = given-accepted (tableKept bs) (contentAt bs .names) (contentAt bs .dialect) (cut-checked bs w some)
           (parts .zero .dialect .1)
 
+  nine : length (contentAt bs .dialect) ≤ 9
+  unfolding contentAt
+  nine = simp length-take (omega (arith, dialect-few bs))
+
   -- LAW: its table has as many records as are kept, and no more than the header counts
   pub kept-length : length (tableKept bs) ≡ 24 * nodesKept bs
   kept-length = go (passes (wholeCheck bs)) refl
@@ -147,6 +154,17 @@ module _ (bs : List ℕ) (head : headCheck bs ≡ accepted []) (some : 1 ≤ nod
       go : (b : Bool) → passes (wholeCheck bs) ≡ b → nodesKept bs ≤ headerAt bs .nodes
       go true w = omega (arith, whole-nodes bs w)
       go false w = omega (arith, cut-room bs w some, table-few ready)
+
+  -- LAW: the output has as many bytes as are told
+  pub kept-bytes : length (fileKept bs) ≡ bytesKept bs
+  kept-bytes = go (passes (wholeCheck bs)) refl
+    where
+      go : (b : Bool) → passes (wholeCheck bs) ≡ b → length (fileKept bs) ≡ bytesKept bs
+      go true w = ap length (whole-file bs w)
+          ∙ length-take-le (headerAt bs .taken) bs (taken-there bs (whole-fronted bs w)) ∙ sym (whole-bytes bs w)
+      go false w = ap length (cut-file bs w)
+          ∙ length-file (tableKept bs) (contentAt bs .names) (contentAt bs .dialect) nine
+          ∙ rw (kept-length, names-long bs parts) refl
 
   module _ (small : Bytes bs) where
     -- LAW: the output is its file
@@ -221,7 +239,10 @@ module _ (bs : List ℕ) (e : readCheck bs ≡ accepted []) where
         zero = record {
           block = fronted .header;
           counts = counts-fit;
-          dialect = (given .0, given-known (contentAt bs .table) (contentAt bs .names) (contentAt bs .dialect) (given .1) .1);
+          dialect = (
+            given .0,
+            given-known (contentAt bs .table) (contentAt bs .names) (contentAt bs .dialect) (given .1) .1,
+          );
         };
         names = fronted .names;
       }
