@@ -217,3 +217,11 @@ alreadyFilled = 83
 -- an ordinary parameter left empty, without default
 abbrev pub emptyParameter : ℕ
 emptyParameter = 84
+
+-- block 0 or a name block of a file to be rescued is bad
+abbrev pub badHeader : ℕ
+badHeader = 90
+
+-- the blocks of such a file do not pass, and no child of the root can be kept
+abbrev pub nothingKept : ℕ
+nothingKept = 91

@@ -106,3 +106,7 @@ pub const UNKNOWN_NAMED: u32 = 82; // a named argument that no parameter takes, 
 pub const ALREADY_FILLED: u32 = 83; // a named argument for a parameter that is filled already
 
 pub const EMPTY_PARAMETER: u32 = 84; // an ordinary parameter left empty, without default
+
+pub const BAD_HEADER: u32 = 90; // block 0 or a name block of a file to be rescued is bad
+
+pub const NOTHING_KEPT: u32 = 91; // the blocks of such a file do not pass, and no child of the root can be kept

@@ -1,0 +1,14 @@
+pub mod Leaves
+pub mod Rows
+pub mod Cuts
+pub mod Flat
+pub mod Reaching
+pub mod Walking
+pub mod Cutting
+pub mod Gathering
+pub mod Heads
+pub mod Jobs
+pub mod Greedy
+pub mod Outputs
+pub mod Promises
+pub mod Theorems

@@ -1,0 +1,4 @@
+pub mod Good
+pub mod Cut
+pub mod Job
+pub mod Steps
