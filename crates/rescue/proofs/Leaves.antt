@@ -75,4 +75,4 @@ module _ (t names : List ℕ) {f : Checked} (f-is : checked f ≡ checkOf t name
       go : (w : Refusal) → placeOf (nodeIn w) ≡ reachOf (refusal w) (length t / 24)
       go (Bare n) = refl
       go (Placed n k) = refl
-      go (Spanned n k s) = refl
+      go (Spanned n k s e) = refl
