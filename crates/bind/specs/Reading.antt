@@ -3,10 +3,10 @@
 use mathlib.Core.Path.{_≡_}
 use mathlib.Core.Bool.{Bool, true, false, not, _&&_}
 use mathlib.Core.List.{List, []}
-use Prim.Native.Nat.{ℕ, _+_, _≤_}
+use Prim.Native.Nat.{ℕ, _+_, _*_, _≤_}
 use lib.ListN.{length}
 use lib.Dec.{eqb}
-use Rattle.forest.specs.Forest.{kidsOf, restOf, forest}
+use Rattle.forest.specs.Forest.{recordBytes, kidsOf, restOf, forest}
 use Rattle.table.specs.Answer.{Answer, accepted, refused, refusal}
 use Rattle.table.specs.Check.{mostNodes, mostBytes, Within, stretchOf}
 use Rattle.table.specs.declared.Checked.{Checked}
@@ -26,6 +26,10 @@ use Rattle.arguments.specs.declared.Called.the-variants.{Accepted as Ordered, R
 use Rattle.bind.specs.FlatList.{FlatParam, flatsFrom, flats}
 use Rattle.bind.specs.Binding.{binding}
 use Rattle.bind.specs.Job.{noWords, argumentsAt}
+
+-- what stands behind a node's head lies within the largest table and a record
+abbrev pub Behind : ℕ → List ℕ → Type 0
+Behind i t = recordBytes * i + length t ≤ mostBytes + recordBytes
 
 -- the arguments of the call that a stretch begins with: what stands behind its first child
 unfoldable pub behindCallee : List ℕ → List ℕ

@@ -22,10 +22,10 @@ ghost use mathlib.Core.Bool.{_&&_};
 ghost use mathlib.Core.List.{List, _++_};
 ghost use Prim.Native.Nat.{ℕ, _+_, _*_, _/_, _<_, _≤_};
 ghost use lib.ListN.{length, getD, set, drop, replicate};
-ghost use Rattle.forest.specs.Forest.{nodeOf, spanOf, kidsOf, forest};
+ghost use Rattle.forest.specs.Forest.{recordBytes, nodeOf, spanOf, kidsOf, forest};
 ghost use Rattle.forest.specs.Names.{nameOf, same};
 ghost use Rattle.table.specs.Answer.{andThen, checked};
-ghost use Rattle.table.specs.Check.{Within};
+ghost use Rattle.table.specs.Check.{Within, mostBytes, mostNodes};
 ghost use Rattle.deflist.specs.Written.{paramsIn};
 ghost use Rattle.deflist.specs.Unpack.{seenSlash};
 ghost use Rattle.deflist.specs.declared.State.{State as StateType};
@@ -38,7 +38,8 @@ ghost use Rattle.bind.specs.Binding.{unreached as unreachedOf, turn as t
 ghost use Rattle.bind.specs.Binding.{starCheck, emptyCheck, binding};
 ghost use Rattle.bind.specs.Job.{isDef, argumentsAt, entryOf, wordsOf, answered, answeredAt, bindOf, laid};
 ghost use Rattle.bind.specs.Job.{listAfter, bound};
-ghost use Rattle.bind.specs.Reading.{behindCallee, nameable as nameableOf, flatsOf, isEmpty, flatsIn, stored};
+ghost use Rattle.bind.specs.Reading.{Behind, behindCallee, nameable as nameableOf, flatsOf, isEmpty};
+ghost use Rattle.bind.specs.Reading.{flatsIn, stored};
 ghost use Rattle.bind.specs.Reading.{without, isRefused, bindingAt, continued, Kept, Roomy, IfKept};
 ghost use Rattle.bind.specs.Reading.{both as bothOf, OwnRules};
 ghost use Rattle.bind.specs.declared.Reach.the-variants.{Fills};
@@ -98,7 +99,7 @@ fn behind_callee(t: &[u8]) -> &[u8]
 // The node of the first of them.
 fn first_argument(t: &[u8], call: usize) -> usize
     requires { ⌜ Within call (now t) ⌝ }
-    ensures { λ r. ⌜ r ≡ call + 1 + spanOf (kidsOf (now (t .entry))) / 24 ⌝ }
+    ensures { λ r. ⌜ r ≡ call + 1 + spanOf (kidsOf (now (t .entry))) / recordBytes ⌝ }
 {
     call + 1 + forest::span(deflist::children(t)) / RECORD
 }
@@ -106,7 +107,7 @@ fn first_argument(t: &[u8], call: usize) -> usize
 // How many parameters a list has, marks counted.
 fn written(params: &[u8]) -> usize
     ensures { λ r. ⌜ ((names : List ℕ) (i : ℕ) → r ≡ length (paramsIn names (forest i (now (params .entry))))) ⌝ }
-    ensures { λ r. ⌜ 24 * r ≤ length (now (params .entry)) ⌝ }
+    ensures { λ r. ⌜ recordBytes * r ≤ length (now (params .entry)) ⌝ }
 {
     let mut left = params;
     let mut n = 0;
@@ -121,7 +122,7 @@ fn written(params: &[u8]) -> usize
 // How many arguments there are.
 fn count(args: &[u8]) -> usize
     ensures { λ r. ⌜ ((names : List ℕ) (i : ℕ) → r ≡ length (argumentsIn names (forest i (now (args .entry))))) ⌝ }
-    ensures { λ r. ⌜ 24 * r ≤ length (now (args .entry)) ⌝ }
+    ensures { λ r. ⌜ recordBytes * r ≤ length (now (args .entry)) ⌝ }
 {
     let mut left = args;
     let mut n = 0;
@@ -147,7 +148,7 @@ fn is_star(t: &[u8]) -> bool
 
 // 80, where first is the node of the first argument.
 fn first_star(args: &[u8], first: usize) -> Checked
-    requires { ⌜ 24 * first + length (now args) ≤ 50424 ⌝ }
+    requires { ⌜ Behind first (now args) ⌝ }
     ensures { λ r. ⌜ ((names : List ℕ) → checked r ≡
         starCheck (argumentsIn names (forest first (now (args .entry))))) ⌝ }
 {
@@ -216,7 +217,7 @@ fn takes(names: &[u8], name: &[u8], t: &[u8], state: State, kind: Kind) -> bool
 
 // The flat index of the parameter that is called by this name, where so many are positional only.
 fn find(names: &[u8], name: &[u8], params: &[u8], only: u32) -> Place
-    requires { ⌜ length (now params) ≤ 50400 ⌝ }
+    requires { ⌜ length (now params) ≤ mostBytes ⌝ }
     ensures { λ r. ⌜ ((i : ℕ) → r ≡
         namedFrom 0 (now (name .entry)) (flatsIn only (now (names .entry)) i (now (params .entry)))) ⌝ }
 {
@@ -269,7 +270,7 @@ fn by_name(found: Place, kwargs: Place) -> Reach
 
 // What argument k reaches, which a stretch begins with.
 fn reaches(names: &[u8], params: &[u8], d: DefParamIndices, k: u32, t: &[u8]) -> Reach
-    requires { ⌜ length (now params) ≤ 50400 ⌝ }
+    requires { ⌜ length (now params) ≤ mostBytes ⌝ }
     ensures { λ r. ⌜ ((i j : ℕ) → r ≡
         reachesOf d (flatsIn (d .«num_positional_only») (now (names .entry)) i (now (params .entry))) k
         (argumentOf (now (names .entry)) (nodeOf j (now (t .entry))))) ⌝ }
@@ -358,7 +359,7 @@ fn along(
     d: DefParamIndices,
     words: &mut [u32],
 ) -> Checked
-    requires { ⌜ (24 * first + length (now args) ≤ 50424) × (length (now params) ≤ 50400) ⌝ }
+    requires { ⌜ Behind first (now args) × (length (now params) ≤ mostBytes) ⌝ }
     ensures { λ r. ⌜ ((i : ℕ) → stored r (now (words .exit)) ≡
         alongOf flat d (flatsIn (d .«num_positional_only») (now (names .entry)) i (now (params .entry))) 0
         (now (words .entry)) (argumentsIn (now (names .entry)) (forest first (now (args .entry))))) ⌝ }
@@ -395,7 +396,7 @@ fn is_empty(kind: Kind, w: u32) -> bool
 
 // 84, where first is the node of the first parameter.
 fn first_empty(params: &[u8], first: usize, words: &[u32]) -> Checked
-    requires { ⌜ 24 * first + length (now params) ≤ 50424 ⌝ }
+    requires { ⌜ Behind first (now params) ⌝ }
     ensures { λ r. ⌜ ((names : List ℕ) (s : StateType) → checked r ≡
         emptyCheck 0 (flatsFrom s (paramsIn names (forest first (now (params .entry))))) (now (words .entry))) ⌝ }
 {
@@ -435,7 +436,7 @@ fn fill(
     c: Counted,
     words: &mut [u32],
 ) -> Checked
-    requires { ⌜ (24 * first + length (now args) ≤ 50424) × (24 * param + length (now params) ≤ 50424) × (1 ≤ param) ⌝ }
+    requires { ⌜ Behind first (now args) × Behind param (now params) × (1 ≤ param) ⌝ }
     ensures { λ r. ⌜ stored r (now (words .exit)) ≡
         binding c (flatsIn (c .indices .«num_positional_only») (now (names .entry)) param (now (params .entry)))
         (now (words .entry)) (argumentsIn (now (names .entry)) (forest first (now (args .entry)))) ⌝ }
@@ -463,7 +464,7 @@ fn write(words: &[u32], list: &mut [u32])
 // How many parameters the def at a node has, marks counted.
 fn parameter_count(table: &[u8], def: usize) -> usize
     ensures { λ r. ⌜ ((names : List ℕ) → r ≡ length (listOf (now (table .entry)) names def)) ⌝ }
-    ensures { λ r. ⌜ 24 * r ≤ length (now (table .entry)) ⌝ }
+    ensures { λ r. ⌜ recordBytes * r ≤ length (now (table .entry)) ⌝ }
 {
     written(deflist::children(table::stretch(table, def)))
 }
@@ -471,7 +472,7 @@ fn parameter_count(table: &[u8], def: usize) -> usize
 // How many arguments the call at a node has.
 fn argument_count(table: &[u8], call: usize) -> usize
     ensures { λ r. ⌜ ((names : List ℕ) → r ≡ length (argumentsAt (now (table .entry)) names call)) ⌝ }
-    ensures { λ r. ⌜ 24 * r ≤ length (now (table .entry)) ⌝ }
+    ensures { λ r. ⌜ recordBytes * r ≤ length (now (table .entry)) ⌝ }
 {
     count(behind_callee(table::stretch(table, call)))
 }
@@ -573,7 +574,7 @@ fn bind_in(
 ) -> Bound
     requires { ⌜ Kept (now table) (now names) call def c ⌝ }
     requires { ⌜ Roomy (now table) (now names) call def (length (now list)) ⌝ }
-    requires { ⌜ 4200 ≤ length (now space) ⌝ }
+    requires { ⌜ 2 * mostNodes ≤ length (now space) ⌝ }
     ensures { λ r. ⌜ bound r ≡
         answeredAt (continued (Accepted c) (now (table .entry)) (now (names .entry)) call def)
         (now (table .entry)) (now (names .entry)) call def ⌝ }

@@ -5,7 +5,7 @@ use mathlib.Core.List.{List}
 use Prim.Native.Nat.{ℕ, _+_, _/_}
 use lib.ListN.{length}
 use Rattle.fields.proofs.Coincide.{coincide}
-use Rattle.forest.specs.Forest.{kidsOf}
+use Rattle.forest.specs.Forest.{recordBytes, kidsOf}
 use Rattle.deflist.specs.Written.{written}
 use Rattle.deflist.specs.Unpack.{nextState, isSlash, firstState, unpack}
 use Rattle.deflist.specs.Told.{told}
@@ -17,8 +17,8 @@ use Rattle.deflist.specs.declared.Judged.{Judged}
 
 -- of `judge`; its second promise only bounds what the first determines
 pub judge-one : (names t : List ℕ) (node : ℕ) {r s : Judged} → r ≡ told (unpack (written names node t))
-    → Inside (node + 1 + length t / 24) r → s ≡ told (unpack (written names node t))
-    → Inside (node + 1 + length t / 24) s → r ≡ s
+    → Inside (node + 1 + length t / recordBytes) r → s ≡ told (unpack (written names node t))
+    → Inside (node + 1 + length t / recordBytes) s → r ≡ s
 judge-one names t node p _ q _ = coincide p q
 
 -- of `children`, `entry::listed`, `entry::kind_of`

@@ -17,7 +17,7 @@ use table::Span;
 ghost use mathlib.Core.Path.{_≡_};
 ghost use Prim.Native.Nat.{_+_, _/_};
 ghost use lib.ListN.{length};
-ghost use Rattle.forest.specs.Forest.{kidsOf};
+ghost use Rattle.forest.specs.Forest.{recordBytes, kidsOf};
 ghost use Rattle.deflist.specs.Written.{written};
 ghost use Rattle.deflist.specs.Unpack.{unpack};
 ghost use Rattle.deflist.specs.Told.{told};
@@ -115,7 +115,7 @@ pub fn children(t: &[u8]) -> &[u8]
 // DefParams::unpack of the written list of a node, whose stretch is lent: what is counted, or the first refusal.
 pub fn judge(names: &[u8], t: &[u8], node: u32) -> Judged
     ensures { λ r. ⌜ r ≡ told (unpack (written (now (names .entry)) node (now (t .entry)))) ⌝ }
-    ensures { λ r. ⌜ Inside (node + 1 + length (now (t .entry)) / 24) r ⌝ }
+    ensures { λ r. ⌜ Inside (node + 1 + length (now (t .entry)) / recordBytes) r ⌝ }
 {
     let n = forest::span(t);
     if marks::LONG <= n {
@@ -131,7 +131,7 @@ pub fn judge(names: &[u8], t: &[u8], node: u32) -> Judged
 // With marks for many parameters, and for some.
 fn with_many(names: &[u8], t: &[u8], node: u32) -> Judged
     ensures { λ r. ⌜ Says (unpack (written (now (names .entry)) node (now (t .entry))))
-        (node + 1 + length (now (t .entry)) / 24) r ⌝ }
+        (node + 1 + length (now (t .entry)) / recordBytes) r ⌝ }
 {
     let mut noted = [0u8; marks::MANY];
     walk::judge(names, t, node, &mut noted)
@@ -139,7 +139,7 @@ fn with_many(names: &[u8], t: &[u8], node: u32) -> Judged
 
 fn with_some(names: &[u8], t: &[u8], node: u32) -> Judged
     ensures { λ r. ⌜ Says (unpack (written (now (names .entry)) node (now (t .entry))))
-        (node + 1 + length (now (t .entry)) / 24) r ⌝ }
+        (node + 1 + length (now (t .entry)) / recordBytes) r ⌝ }
 {
     let mut noted = [0u8; marks::SOME];
     walk::judge(names, t, node, &mut noted)

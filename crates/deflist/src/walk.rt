@@ -29,7 +29,7 @@ ghost use mathlib.Core.Path.{_≡_};
 ghost use mathlib.Core.List.{[]};
 ghost use Prim.Native.Nat.{_+_, _*_, _/_, _≤_, _<_, _^_};
 ghost use lib.ListN.{length, take};
-ghost use Rattle.forest.specs.Forest.{nodeOf, forest};
+ghost use Rattle.forest.specs.Forest.{recordBytes, nodeOf, forest};
 ghost use Rattle.forest.specs.Marks.{Known};
 ghost use Rattle.deflist.specs.Written.{paramsIn, written};
 ghost use Rattle.deflist.specs.Unpack.{firstSame, firstly, rule as ruleOf, oneMore, morePositional};
@@ -41,11 +41,11 @@ ghost use Rattle.deflist.specs.Reading.{kindHere, beginsWithSlash, Says,
 
 // The node of the first of n parameters that has this name; first is the node of the first record.
 fn earlier(names: &[u8], name: &[u8], kids: &[u8], first: usize, n: Written) -> Found
-    requires { ⌜ (24 * first + length (now kids) < 2 ^ 64) ×
+    requires { ⌜ (recordBytes * first + length (now kids) < 2 ^ 64) ×
         (n .0 ≤ length (paramsIn (now names) (forest first (now kids)))) ⌝ }
     ensures { λ r. ⌜ Earlier (now (name .entry))
         (take (n .0) (paramsIn (now (names .entry)) (forest first (now (kids .entry)))))
-        (first + length (now (kids .entry)) / 24) r ⌝ }
+        (first + length (now (kids .entry)) / recordBytes) r ⌝ }
 {
     let found = named::first_named(Entries::Parameters, names, name, kids, n.0);
     match found {
@@ -77,12 +77,12 @@ fn repeated(
     kind: Kind,
     marks: &mut [u8],
 ) -> Found
-    requires { ⌜ (24 * first + length (now kids) < 2 ^ 64) ×
+    requires { ⌜ (recordBytes * first + length (now kids) < 2 ^ 64) ×
         (n .0 ≤ length (paramsIn (now names) (forest first (now kids)))) × (kind ≡ kindHere (now left)) ×
         Known firstSame (now marks) (take (n .0) (paramsIn (now names) (forest first (now kids)))) ⌝ }
     ensures { λ r. ⌜ Meets (now (names .entry))
         (take (n .0) (paramsIn (now (names .entry)) (forest first (now (kids .entry))))) (now (left .entry))
-        (now (marks .exit)) (first + length (now (kids .entry)) / 24) r ⌝ }
+        (now (marks .exit)) (first + length (now (kids .entry)) / recordBytes) r ⌝ }
 {
     if !rules::is_named(kind) {
         return Found::Nothing;
@@ -194,7 +194,7 @@ fn advance(u: Unpacking, i: Written, kind: Kind) -> Unpacking
 
 // 17 and 18, for the bare `*` at a written position.
 fn after_star(kids: &[u8], first: usize, star: Written, counts: Counts) -> Judged
-    requires { ⌜ 24 * first + length (now kids) < 2 ^ 64 ⌝ }
+    requires { ⌜ recordBytes * first + length (now kids) < 2 ^ 64 ⌝ }
     ensures { λ r. ⌜ Finishes (now (kids .entry)) first (AtWritten star) counts r ⌝ }
 {
     let at = list::skip(kids, star);
@@ -218,7 +218,7 @@ fn after_star(kids: &[u8], first: usize, star: Written, counts: Counts) -> Judge
 
 // After the last parameter.
 fn finish(kids: &[u8], first: usize, star: WrittenPlace, counts: Counts) -> Judged
-    requires { ⌜ 24 * first + length (now kids) < 2 ^ 64 ⌝ }
+    requires { ⌜ recordBytes * first + length (now kids) < 2 ^ 64 ⌝ }
     ensures { λ r. ⌜ Finishes (now (kids .entry)) first star counts r ⌝ }
 {
     match star {
@@ -229,9 +229,9 @@ fn finish(kids: &[u8], first: usize, star: WrittenPlace, counts: Counts) -> Judg
 
 // The parameters in turn, where only are positional only; their names are noted in the lent marks.
 fn run(names: &[u8], kids: &[u8], first: usize, only: Flat, marks: &mut [u8]) -> Judged
-    requires { ⌜ 24 * first + length (now kids) < 2 ^ 64 ⌝ }
+    requires { ⌜ recordBytes * first + length (now kids) < 2 ^ 64 ⌝ }
     ensures { λ r. ⌜ Says (runOf [] (startOf only) (paramsIn (now (names .entry)) (forest first (now (kids .entry)))))
-        (first + length (now (kids .entry)) / 24) r ⌝ }
+        (first + length (now (kids .entry)) / recordBytes) r ⌝ }
 {
     let mut u = rules::start(only);
     let mut left = kids;
@@ -265,9 +265,9 @@ fn slash_first(kids: &[u8]) -> bool
 
 // 10 first, then the parameters in turn; first is the node of the first record.
 fn unpack(names: &[u8], kids: &[u8], first: usize, marks: &mut [u8]) -> Judged
-    requires { ⌜ 24 * first + length (now kids) < 2 ^ 64 ⌝ }
+    requires { ⌜ recordBytes * first + length (now kids) < 2 ^ 64 ⌝ }
     ensures { λ r. ⌜ Says (unpackOf (paramsIn (now (names .entry)) (forest first (now (kids .entry)))))
-        (first + length (now (kids .entry)) / 24) r ⌝ }
+        (first + length (now (kids .entry)) / recordBytes) r ⌝ }
 {
     if slash_first(kids) {
         return Judged::Refused(fault(numbers::SLASH_FIRST, first, kids, Found::Nothing));
@@ -280,7 +280,7 @@ fn unpack(names: &[u8], kids: &[u8], first: usize, marks: &mut [u8]) -> Judged
 // are noted in the lent marks, whatever stands there.
 pub(crate) fn judge(names: &[u8], t: &[u8], node: u32, marks: &mut [u8]) -> Judged
     ensures { λ r. ⌜ Says (unpackOf (written (now (names .entry)) node (now (t .entry))))
-        (node + 1 + length (now (t .entry)) / 24) r ⌝ }
+        (node + 1 + length (now (t .entry)) / recordBytes) r ⌝ }
 {
     let kids = crate::children(t);
     let first = (node as usize) + 1;

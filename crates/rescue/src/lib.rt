@@ -21,8 +21,8 @@ ghost use mathlib.Core.List.{[], _∷_, _++_};
 ghost use Prim.Native.Nat.{_*_, _-_, _/_, _≤_, _<_};
 ghost use lib.Dec.{leb};
 ghost use lib.ListN.{length, take, drop};
-ghost use Rattle.forest.specs.Forest.{forest, roots};
-ghost use Rattle.table.specs.Check.{mostBytes, mostNames, checkOf};
+ghost use Rattle.forest.specs.Forest.{recordBytes, forest, roots};
+ghost use Rattle.table.specs.Check.{mostBytes, mostNames, checkOf, mostNodes};
 ghost use Rattle.tablefile.specs.Reading.{headerAt, countsFit};
 ghost use Rattle.rescue.specs.Good.{passes, zeroCheck, wholeCheck, goodRun, goodTable};
 ghost use Rattle.rescue.specs.Cut.{resized, cutTo, within, largestCut};
@@ -168,9 +168,9 @@ fn rescue_cut(input: &[u8], h: Heading, names: &[u8], table: &mut [u8], file: &m
 
 // Whether the good records are so many nodes, and pass 1 to 4.
 fn all_sound(table: &[u8], names: &[u8], nodes: usize) -> bool
-    requires { ⌜ nodes ≤ 2100 ⌝ }
+    requires { ⌜ nodes ≤ mostNodes ⌝ }
     ensures { λ r. ⌜ r ≡
-        (leb (24 * nodes) (length (now (table .entry)))
+        (leb (recordBytes * nodes) (length (now (table .entry)))
         && passes (checkOf (now (table .entry)) (now (names .entry)))) ⌝ }
 {
     if table.len() < RECORD * nodes {
@@ -214,10 +214,11 @@ fn write_cut(input: &[u8], h: Heading, names: &[u8], table: &[u8], file: &mut [u
 
 // What is told of a table that is kept, and of so many bytes that are written.
 fn tell(input: &[u8], h: Heading, table: &[u8], bytes: u32) -> Kept
-    requires { ⌜ (h .nodes ≤ 2100) × (24 ≤ length (now table)) × (length (now table) ≤ 24 * h .nodes) ⌝ }
+    requires { ⌜ (h .nodes ≤ mostNodes) × (recordBytes ≤ length (now table)) ×
+        (length (now table) ≤ recordBytes * h .nodes) ⌝ }
     ensures { λ r. ⌜ told r ≡
-        bytes ∷ statementsOf (now (table .entry)) ∷ length (now (table .entry)) / 24
-        ∷ (h .nodes - length (now (table .entry)) / 24) ∷ (length (now (input .entry)) - h .taken) ∷ [] ⌝ }
+        bytes ∷ statementsOf (now (table .entry)) ∷ length (now (table .entry)) / recordBytes
+        ∷ (h .nodes - length (now (table .entry)) / recordBytes) ∷ (length (now (input .entry)) - h .taken) ∷ [] ⌝ }
 {
     let nodes = table.len() / RECORD;
     Kept {
@@ -241,7 +242,7 @@ fn past(len: usize, taken: usize) -> usize
 
 // The statements of a table: the root's children, 1 for a root that is no Statements.
 fn statements(table: &[u8]) -> u32
-    requires { ⌜ (24 ≤ length (now table)) × (length (now table) ≤ mostBytes) ⌝ }
+    requires { ⌜ (recordBytes ≤ length (now table)) × (length (now table) ≤ mostBytes) ⌝ }
     ensures { λ r. ⌜ r ≡ statementsOf (now (table .entry)) ⌝ }
 {
     if forest::kind(table) != kinds::STATEMENTS {
@@ -253,7 +254,8 @@ fn statements(table: &[u8]) -> u32
 
 // How many nodes of a stretch stand side by side.
 fn count(row: &[u8]) -> usize
-    ensures { λ r. ⌜ (r ≡ length (roots (forest 1 (now (row .entry))))) × (24 * r ≤ length (now (row .entry))) ⌝ }
+    ensures { λ r. ⌜ (r ≡ length (roots (forest 1 (now (row .entry))))) ×
+        (recordBytes * r ≤ length (now (row .entry))) ⌝ }
 {
     let mut left = row;
     let mut n = 0;
@@ -270,7 +272,7 @@ fn count(row: &[u8]) -> usize
 fn cut(table: &mut [u8], names: &[u8]) -> usize
     requires { ⌜ (length (now table) ≤ mostBytes) × (length (now names) ≤ mostNames) ⌝ }
     ensures { λ r. ⌜ r ≡ largestCut (now (table .entry)) (now (names .entry)) ⌝ }
-    ensures { λ r. ⌜ take (24 * r) (now (table .exit)) ≡ cutTo r (now (table .entry)) ⌝ }
+    ensures { λ r. ⌜ take (recordBytes * r) (now (table .exit)) ≡ cutTo r (now (table .entry)) ⌝ }
 {
     let most = within(table);
     if most < 2 {
@@ -289,9 +291,9 @@ fn cut(table: &mut [u8], names: &[u8]) -> usize
 
 // Writes a number of records into the root, and answers how many of them pass.
 fn try_cut(table: &mut [u8], names: &[u8], m: usize) -> usize
-    requires { ⌜ (24 * m ≤ length (now table)) × (1 ≤ m) × (m < 65536) ⌝ }
+    requires { ⌜ (recordBytes * m ≤ length (now table)) × (1 ≤ m) × (m < 65536) ⌝ }
     ensures { λ r. ⌜ now (table .exit) ≡ resized m (now (table .entry)) ⌝ }
-    ensures { λ r. ⌜ r ≡ reachOf (checkOf (take (24 * m) (now (table .exit))) (now (names .entry))) m ⌝ }
+    ensures { λ r. ⌜ r ≡ reachOf (checkOf (take (recordBytes * m) (now (table .exit))) (now (names .entry))) m ⌝ }
 {
     resize(table, m);
     let e = RECORD * m;
@@ -315,8 +317,8 @@ fn within(table: &[u8]) -> usize
 
 // How many records the root and its first children have: as many whole statements as there are up to a limit.
 fn ending(table: &[u8], limit: usize) -> usize
-    requires { ⌜ 24 * limit ≤ length (now table) ⌝ }
-    ensures { λ r. ⌜ Ending (drop 24 (now (table .entry))) limit r ⌝ }
+    requires { ⌜ recordBytes * limit ≤ length (now table) ⌝ }
+    ensures { λ r. ⌜ Ending (drop recordBytes (now (table .entry))) limit r ⌝ }
 {
     let mut at = 1;
     while at < limit {
@@ -348,7 +350,7 @@ fn step(t: &[u8], left: usize) -> usize
 
 // Writes a subtree size into the root.
 fn resize(table: &mut [u8], m: usize)
-    requires { ⌜ (24 ≤ length (now table)) × (m < 65536) ⌝ }
+    requires { ⌜ (recordBytes ≤ length (now table)) × (m < 65536) ⌝ }
     ensures { λ r. ⌜ now (table .exit) ≡ resized m (now (table .entry)) ⌝ }
 {
     table[16] = (m % 256) as u8;
@@ -358,7 +360,7 @@ fn resize(table: &mut [u8], m: usize)
 // How many records of a table pass 1 to 4: all, or those before the node that it is refused at.
 fn reach(table: &[u8], names: &[u8]) -> usize
     ensures { λ r. ⌜ r ≡
-        reachOf (checkOf (now (table .entry)) (now (names .entry))) (length (now (table .entry)) / 24) ⌝ }
+        reachOf (checkOf (now (table .entry)) (now (names .entry))) (length (now (table .entry)) / recordBytes) ⌝ }
 {
     let found = table::check(table, names);
     match found {

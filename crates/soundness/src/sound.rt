@@ -9,7 +9,7 @@ ghost use mathlib.Core.Bool.{_&&_};
 ghost use Prim.Native.Nat.{_*_, _≤_};
 ghost use lib.Dec.{leb};
 ghost use lib.ListN.{length};
-ghost use Rattle.forest.specs.Forest.{nodeOf, forest};
+ghost use Rattle.forest.specs.Forest.{recordBytes, nodeOf, forest};
 ghost use Rattle.soundness.specs.Sound.{context, nameSound, spanSound, sourceSound, fieldsSound, classes};
 ghost use Rattle.soundness.specs.Sound.{kidsSound, soundAt, rootSound, firstUnsound};
 ghost use Rattle.soundness.specs.Packed.{backsIn, childrenOf, ruleOf, numberSound, LastFrom, classAt, childOf};
@@ -59,7 +59,7 @@ fn fields_sound(t: &[u8], names: usize) -> bool
 
 // Whether a subtree of so many records stands whole within so many bytes.
 fn whole(size: u16, len: usize) -> bool
-    ensures { λ r. ⌜ r ≡ (leb 1 size && leb (24 * size) len) ⌝ }
+    ensures { λ r. ⌜ r ≡ (leb 1 size && leb (recordBytes * size) len) ⌝ }
 {
     let end = RECORD * (size as usize);
     (1 <= size) & (end <= len)
@@ -128,7 +128,7 @@ fn class_wanted(rule: u64, m: usize, j: usize) -> u8
 
 // How many bytes the node takes that a stretch begins with, if it is whole and of the class wanted; else zero.
 fn child(t: &[u8], want: u8) -> usize
-    requires { ⌜ 24 ≤ length (now t) ⌝ }
+    requires { ⌜ recordBytes ≤ length (now t) ⌝ }
     ensures { λ r. ⌜ r ≡ childOf want (now (t .entry)) ⌝ }
 {
     let head = &t[0..RECORD];
@@ -173,7 +173,7 @@ fn kids_sound(t: &[u8], kind: u8, detail: u8) -> bool
 // Whether the record that the rest of a table begins with is sound. Its fields are read from 24 bytes, where compiled
 // code needs no test of lengths.
 fn record_sound(t: &[u8], names: usize) -> bool
-    requires { ⌜ 24 ≤ length (now t) ⌝ }
+    requires { ⌜ recordBytes ≤ length (now t) ⌝ }
     ensures { λ r. ⌜ r ≡ soundAt (context names) 0 (now (t .entry)) ⌝ }
 {
     let head = &t[0..RECORD];

@@ -4,7 +4,7 @@ use forest::RECORD;
 ghost use mathlib.Core.Path.{_≡_};
 ghost use Prim.Native.Nat.{_+_, _*_, _≤_, _<_, _^_};
 ghost use lib.ListN.{length};
-ghost use Rattle.forest.specs.Forest.{nodeOf, forest};
+ghost use Rattle.forest.specs.Forest.{recordBytes, nodeOf, forest};
 ghost use Rattle.table.specs.Depth.{weight, firstDeep};
 
 // The largest depth.
@@ -21,7 +21,7 @@ fn weight_of(t: &[u8]) -> usize
 // The nodes of a stretch whose first record has the index at; depth is their parent's. Children by recursion, which the
 // depth limit ends; siblings in a loop.
 fn deep_from(t: &[u8], at: usize, depth: usize) -> Found
-    requires { ⌜ (24 * at + length (now t) < 2 ^ 63) × (depth ≤ 64) ⌝ }
+    requires { ⌜ (recordBytes * at + length (now t) < 2 ^ 63) × (depth ≤ 64) ⌝ }
     ensures { λ r. ⌜ r ≡ firstDeep depth (forest at (now (t .entry))) ⌝ }
 {
     let mut left = t;

@@ -10,17 +10,18 @@ use forest::RECORD;
 use soundness::kinds;
 use table::numbers;
 ghost use mathlib.Core.Path.{_≡_};
-ghost use Prim.Native.Nat.{_+_, _*_, _/_, _≤_};
+ghost use Prim.Native.Nat.{_+_, _*_, _/_};
 ghost use lib.ListN.{length};
-ghost use Rattle.forest.specs.Forest.{nodeOf, spanOf, kidsOf, treeOf, forest};
+ghost use Rattle.forest.specs.Forest.{recordBytes, nodeOf, spanOf, kidsOf, treeOf, forest};
 ghost use Rattle.errors.specs.Errors.{Stores};
 ghost use Rattle.validate.specs.Inner.{StoresFew};
 ghost use Rattle.validate.specs.Module.{exprErrors, expr, «visit_expr»};
+ghost use Rattle.table.specs.Check.{Headed, Within, mostNodes};
 
 // What the record that a stretch begins with is told by itself: `...`, or a lambda and its parameters.
 fn expr_errors(d: Dialect, names: &[u8], t: &[u8], at: usize, errors: &mut [u32]) -> usize
-    requires { ⌜ 24 * at + length (now t) ≤ 50400 ⌝ }
-    ensures { λ r. ⌜ StoresFew (2 + length (now (t .entry)) / 24)
+    requires { ⌜ Within at (now t) ⌝ }
+    ensures { λ r. ⌜ StoresFew (2 + length (now (t .entry)) / recordBytes)
         (exprErrors d (now (names .entry)) (nodeOf at (now (t .entry))) (forest (at + 1) (kidsOf (now (t .entry)))))
         (now (errors .entry)) r (now (errors .exit)) ⌝ }
 {
@@ -47,7 +48,7 @@ fn check_expression(
     at: usize,
     errors: &mut [u32],
 ) -> usize
-    requires { ⌜ (24 ≤ length (now t)) × (24 * at + length (now t) ≤ 50400) ⌝ }
+    requires { ⌜ Headed at (now t) ⌝ }
     requires { ⌜ e ≡ spanOf (now t) ⌝ }
     ensures { λ r. ⌜ Stores (expr d (now (names .entry)) (treeOf at (now (t .entry)))) (now (errors .entry)) r
         (now (errors .exit)) ⌝ }
@@ -63,8 +64,8 @@ fn check_expression(
 
 // The expressions of the nodes side by side in a stretch whose first record has the index at, in turn.
 pub(crate) fn visit_expr(d: Dialect, names: &[u8], t: &[u8], at: usize, errors: &mut [u32]) -> usize
-    requires { ⌜ 24 * at + length (now t) ≤ 50400 ⌝ }
-    ensures { λ r. ⌜ StoresFew 4200 («visit_expr» d (now (names .entry)) (forest at (now (t .entry))))
+    requires { ⌜ Within at (now t) ⌝ }
+    ensures { λ r. ⌜ StoresFew (2 * mostNodes) («visit_expr» d (now (names .entry)) (forest at (now (t .entry))))
         (now (errors .entry)) r (now (errors .exit)) ⌝ }
 {
     let mut left = t;

@@ -20,6 +20,7 @@ ghost use Rattle.forest.specs.Forest.{forest};
 ghost use Rattle.errors.specs.Errors.{stored, Stores};
 ghost use Rattle.validate.specs.Module.{«validate_module»};
 ghost use Rattle.validate.specs.Job.{listed, passErrors, moduleOf, errorsAfter};
+ghost use Rattle.table.specs.Check.{mostBytes};
 
 // What the module job answers: how many errors there are, or why it refuses.
 pub enum Listed {
@@ -74,7 +75,7 @@ pub fn pass(table: &[u8], names: &[u8], d: Dialect, errors: &mut [u32]) -> u32
 
 // As much of some bytes as a table has at most: 2,100 records.
 fn within(t: &[u8]) -> &[u8]
-    ensures { λ r. ⌜ now r ≡ take 50400 (now (t .entry)) ⌝ }
+    ensures { λ r. ⌜ now r ≡ take mostBytes (now (t .entry)) ⌝ }
 {
     if t.len() <= MOST_BYTES {
         return t;
@@ -84,7 +85,7 @@ fn within(t: &[u8]) -> &[u8]
 
 // The statements, then the expressions, which are lent what the statements leave free.
 fn validate_module(d: Dialect, names: &[u8], table: &[u8], errors: &mut [u32]) -> usize
-    requires { ⌜ length (now table) ≤ 50400 ⌝ }
+    requires { ⌜ length (now table) ≤ mostBytes ⌝ }
     ensures { λ r. ⌜ Stores («validate_module» d (now (names .entry)) (forest 0 (now (table .entry))))
         (now (errors .entry)) r (now (errors .exit)) ⌝ }
 {

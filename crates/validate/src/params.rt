@@ -16,7 +16,7 @@ ghost use mathlib.Core.Path.{_≡_};
 ghost use mathlib.Core.List.{[]};
 ghost use Prim.Native.Nat.{_+_, _/_};
 ghost use lib.ListN.{length};
-ghost use Rattle.forest.specs.Forest.{nodeOf, kidsOf, forest};
+ghost use Rattle.forest.specs.Forest.{recordBytes, nodeOf, kidsOf, forest};
 ghost use Rattle.deflist.specs.Written.{paramsIn, written};
 ghost use Rattle.deflist.specs.Unpack.{unpack};
 ghost use Rattle.deflist.specs.Told.{told};
@@ -35,7 +35,7 @@ pub(crate) fn with_params(
     at: u32,
     errors: &mut [u32],
 ) -> usize
-    ensures { λ r. ⌜ StoresFew (2 + length (now (t .entry)) / 24)
+    ensures { λ r. ⌜ StoresFew (2 + length (now (t .entry)) / recordBytes)
         (withParams d (now (names .entry)) permitted number (nodeOf at (now (t .entry)))
         (forest (at + 1) (kidsOf (now (t .entry))))) (now (errors .entry)) r (now (errors .exit)) ⌝ }
 {
@@ -47,7 +47,7 @@ pub(crate) fn with_params(
 
 // Every `*` and then every `/` that is not permitted, then unpack's one error.
 fn validate_params(d: Dialect, names: &[u8], t: &[u8], at: u32, errors: &mut [u32]) -> usize
-    ensures { λ r. ⌜ StoresFew (1 + length (now (t .entry)) / 24)
+    ensures { λ r. ⌜ StoresFew (1 + length (now (t .entry)) / recordBytes)
         («validate_params» d (written (now (names .entry)) at (now (t .entry)))) (now (errors .entry)) r
         (now (errors .exit)) ⌝ }
 {
@@ -85,7 +85,7 @@ fn error_of(f: Fault) -> Err
 
 // Every mark of a sort in a list, unless the dialect permits it. Names and indices do not matter to it.
 fn marks_of(d: Dialect, mark: Mark, list: &[u8], errors: &mut [u32]) -> usize
-    ensures { λ r. ⌜ StoresFew (length (now (list .entry)) / 24)
+    ensures { λ r. ⌜ StoresFew (length (now (list .entry)) / recordBytes)
         (marks d mark (paramsIn [] (forest 0 (now (list .entry))))) (now (errors .entry)) r (now (errors .exit)) ⌝ }
 {
     if permitted(d, mark) {

@@ -12,14 +12,14 @@ use forest::RECORD;
 use soundness::kinds;
 use table::numbers;
 ghost use mathlib.Core.Path.{_≡_};
-ghost use Prim.Native.Nat.{_+_, _*_, _≤_};
+ghost use Prim.Native.Nat.{_+_, _*_};
 ghost use lib.Dec.{eqb};
-ghost use lib.ListN.{length};
 ghost use Rattle.forest.specs.Forest.{nodeOf, spanOf, treeOf, forest};
 ghost use Rattle.soundness.specs.Kinds.{statement, classOf};
 ghost use Rattle.errors.specs.Errors.{Stores};
 ghost use Rattle.validate.specs.Inner.{StoresFew};
 ghost use Rattle.validate.specs.Module.{isBanned, toldIf, armOf, loadErrors, f, «visit_stmt»};
+ghost use Rattle.table.specs.Check.{Headed, Within, mostNodes};
 
 // Whether a kind is a statement's: these are numbered in turn.
 fn is_statement(kind: u8) -> bool
@@ -95,7 +95,7 @@ fn check_statement(
     s: Standing,
     errors: &mut [u32],
 ) -> usize
-    requires { ⌜ (24 ≤ length (now t)) × (24 * at + length (now t) ≤ 50400) ⌝ }
+    requires { ⌜ Headed at (now t) ⌝ }
     requires { ⌜ e ≡ spanOf (now t) ⌝ }
     ensures { λ r. ⌜ Stores (f d (now (names .entry)) s (treeOf at (now (t .entry)))) (now (errors .entry)) r
         (now (errors .exit)) ⌝ }
@@ -140,8 +140,8 @@ pub(crate) fn visit_stmt(
     s: Standing,
     errors: &mut [u32],
 ) -> usize
-    requires { ⌜ 24 * at + length (now t) ≤ 50400 ⌝ }
-    ensures { λ r. ⌜ StoresFew 4200 («visit_stmt» d (now (names .entry)) s (forest at (now (t .entry))))
+    requires { ⌜ Within at (now t) ⌝ }
+    ensures { λ r. ⌜ StoresFew (2 * mostNodes) («visit_stmt» d (now (names .entry)) s (forest at (now (t .entry))))
         (now (errors .entry)) r (now (errors .exit)) ⌝ }
 {
     let mut left = t;
