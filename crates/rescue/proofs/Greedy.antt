@@ -12,9 +12,9 @@ use lib.Seq.{length-take-le, take-take, drop-drop}
 use lib.Dec.{eqb}
 use borrow.Author.Tests.{eqb-true, eqb-false, le-leb}
 use Rattle.fields.proofs.Basics.{and-left, and-right, and-both, drop-take, le-or-lt}
-use Rattle.forest.specs.Forest.{nodeOf, spanOf, kidsOf, restOf, Forest, none, _then_, forest}
+use Rattle.forest.specs.Forest.{nodeOf, spanOf, kidsOf, restOf, node, Forest, none, _then_, forest, roots}
 use Rattle.forest.specs.declared.Found.the-variants.{Nothing}
-use Rattle.forest.proofs.Stretch.{forest-induction, length-kids, length-rest}
+use Rattle.forest.proofs.Stretch.{forest-tree, forest-induction, length-kids, length-rest}
 use Rattle.soundness.specs.KindNumbers.{kindStatements}
 use Rattle.soundness.specs.Sound.{Context, contextOf, soundAt, recordSound, firstFalse, firstUnsound}
 use Rattle.soundness.proofs.SoundTables.{allSound, treeSound, Sound, sound-table, sound-first, sound-kids}
@@ -126,6 +126,30 @@ each-sound x =
             (λ (k : spanOf bs / 24 ≤ j). rest-sound x i bs s big j k h (rs (j - spanOf bs / 24)))
             (λ (k : j < spanOf bs / 24). kid-sound x i bs s big j (eqb-false j 0 e) k (ks (j - 1)))
             (le-or-lt (spanOf bs / 24) j)
+
+-- LAW: more records of whole statements are more statements
+roots-joined : (f g : Forest) → length (roots (joined f g)) ≡ length (roots f) + length (roots g)
+unfolding joined roots
+roots-joined none g = omega arith
+roots-joined (node r ks then ts) g = omega (arith, roots-joined ts g)
+
+some-root : (i : ℕ) (bs : List ℕ) → 24 ≤ length bs → 1 ≤ length (roots (forest i bs))
+unfolding roots
+some-root i bs big = rw (forest-tree i bs big) (omega arith)
+
+pub more-statements : (row : List ℕ) (m n : ℕ) → 1 ≤ m → m < n → 24 * (n - 1) ≤ length row → Between row 1 m
+    → length (roots (forest 1 (take (24 * (m - 1)) row))) < length (roots (forest 1 (take (24 * (n - 1)) row)))
+more-statements row m n some less there whole =
+    let all : List ℕ = take (24 * (n - 1)) row in
+    let rest : List ℕ = drop (24 * (m - 1)) all in
+    let long : length all ≡ 24 * (n - 1) = length-take-le (24 * (n - 1)) row there in
+    let part : take (24 * (m - 1)) all ≡ take (24 * (m - 1)) row = take-take (24 * (m - 1)) (24 * (n - 1)) row
+    (omega arith) in
+    let front : wholeStatements (forest 1 (take (24 * (m - 1)) all)) ≡ true = rw part whole in
+    let both = ap (λ (f : Forest). length (roots f)) (forest-joined 1 (m - 1) all (omega arith) front)
+    ∙ roots-joined (forest 1 (take (24 * (m - 1)) all)) (forest (1 + (m - 1)) rest) in
+    let same = ap (λ (l : List ℕ). length (roots (forest 1 l))) part in
+    omega (arith, both, same, some-root (1 + (m - 1)) rest (simp length-drop (omega arith)))
 
 -- a cut that passes, and a shorter row of its children
 module _ (t names : List ℕ) (m n : ℕ) (room : 24 * n ≤ length t) (less : m ≤ n) (some : 2 ≤ m)

@@ -73,7 +73,7 @@ pub record Zero (bs : List ℕ) : Type 0 where
   pub dialect : (d : Dialect) × (fromBytes (contentAt bs .dialect) ≡ Valid d)
 
 module _ (bs : List ℕ) where
-  zero-says : passes (zeroCheck bs) ≡ true → Zero bs
+  pub zero-says : passes (zeroCheck bs) ≡ true → Zero bs
   unfolding zeroCheck
   zero-says e = go (judge 0 (4 + headerAt bs .dialect) bs) (countsFit (headerAt bs .nodes) (headerAt bs .names))
       (fromBytes (contentAt bs .dialect)) refl refl refl e

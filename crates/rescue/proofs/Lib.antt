@@ -10,5 +10,6 @@ pub mod Heads
 pub mod Jobs
 pub mod Greedy
 pub mod Outputs
+pub mod Enough
 pub mod Promises
 pub mod Theorems

@@ -9,13 +9,16 @@ use mathlib.Core.Path.{_≡_, refl, sym, ap, _∙_}
 use mathlib.Core.Bool.{Bool, true, false}
 use mathlib.Core.Logic.{⊎-elim}
 use mathlib.Core.List.{List, [], _++_}
-use Prim.Native.Nat.{ℕ, zero, suc, _-_, _/_, _<_, _≤_}
+use Prim.Native.Nat.{ℕ, zero, suc, _*_, _-_, _/_, _<_, _≤_}
 use native.Mathlib.Omega.{arith}
-use lib.ListN.{length, getD, take, drop}
+use lib.ListN.{length, getD, take, drop, length-drop}
 use lib.Seq.{take-at, drop-at}
+use borrow.Author.Tests.{eq-eqb}
 use Rattle.fields.specs.Choice.{if'}
 use Rattle.fields.proofs.Basics.{le-or-lt}
 use Rattle.fields.proofs.Spelling.{Bytes}
+use Rattle.forest.specs.Forest.{nodeOf, forest, roots}
+use Rattle.soundness.specs.KindNumbers.{kindStatements}
 use Rattle.table.specs.Answer.{accepted, refusal}
 use Rattle.table.specs.declared.Refusal.{Refusal}
 use Rattle.tablefile.specs.Reading.{headerAt, contentAt, readCheck}
@@ -30,13 +33,14 @@ use Rattle.rescue.specs.declared.Kept.{Kept}
 use Rattle.rescue.specs.declared.Rescued.{Rescued}
 use Rattle.rescue.specs.declared.Rescued.the-variants.{Accepted, Refused}
 use Rattle.rescue.specs.Good.{passes, wholeCheck, goodTable}
-use Rattle.rescue.specs.Cut.{cutPasses, within, largest, largestCut}
+use Rattle.rescue.specs.Cut.{cutTo, cutPasses, within, largest, largestCut}
 use Rattle.rescue.specs.Job.{nodesKept, tableKept, contentKept, fileKept, statementsOf}
 use Rattle.rescue.specs.Job.{rescueOf, fileAfter, told, rescued}
 use Rattle.rescue.specs.Steps.{Between}
+use Rattle.rescue.proofs.Cuts.{kind-cut, kids-cut, cut-clean, root-children}
 use Rattle.rescue.proofs.Cutting.{within-says}
 use Rattle.rescue.proofs.Jobs.{whole-nodes, whole-file, cut-nodes, cut-says}
-use Rattle.rescue.proofs.Greedy.{fewer-pass}
+use Rattle.rescue.proofs.Greedy.{fewer-pass, more-statements}
 use Rattle.rescue.proofs.Outputs.{Says, rescued-says, says-rescued, kept-length, kept-bytes, kept-file}
 use Rattle.rescue.proofs.Outputs.{kept-content, kept-read, kept-held, read-head, read-some, read-file}
 use Rattle.rescue.proofs.Outputs.{read-bytes, read-told}
@@ -148,6 +152,27 @@ pub fewer-children : (t names : List ℕ) (m n : ℕ) → m ≤ n → n ≤ with
 fewer-children t names m n less upto passed some whole =
     let says = within-says t (omega arith) in
     fewer-pass t names m n (omega (arith, says .1)) less some (says .0) whole passed
+
+-- THEOREM: the most records are the most children: a cut of more records has more statements
+module _ (t : List ℕ) (k : ℕ) (room : 24 * k ≤ length t) (some : 1 ≤ k) (kind : nodeOf 0 t .kind ≡ kindStatements) where
+  statements-cut : statementsOf (cutTo k t) ≡ length (roots (forest 1 (take (24 * (k - 1)) (drop 24 t))))
+  unfolding statementsOf
+  statements-cut = rw (
+    eq-eqb (nodeOf 0 (cutTo k t) .kind) kindStatements (kind-cut t k room some ∙ kind),
+    kids-cut t k room some,
+  ) refl
+
+pub more-children : (t names : List ℕ) (m n : ℕ) → m < n → n ≤ within t → cutPasses t names m ≡ true
+    → statementsOf (cutTo m t) < statementsOf (cutTo n t)
+more-children t names m n less upto passed =
+    let says = within-says t (omega arith) in
+    let clean = cut-clean t names m passed in
+    let there : 24 * (n - 1) ≤ length (drop 24 t) = simp length-drop (omega (arith, says .1)) in
+    let row = root-children t names m (omega (arith, says .1)) (omega (arith, clean .0)) (says .0) (clean .1) in
+    rw (
+      statements-cut t m (omega (arith, says .1)) (omega (arith, clean .0)) (says .0),
+      statements-cut t n (omega (arith, says .1)) (omega arith) (says .0),
+    ) (more-statements (drop 24 t) m n (omega (arith, clean .0)) less there row)
 
 -- THEOREM: a file that the reader accepts is given back as it is, and nothing is dropped
 module _ (file : List ℕ) (e : readCheck file ≡ accepted []) (buffer : List ℕ) (r : Rescued) (after : List ℕ)
