@@ -129,9 +129,8 @@ fn put_call(a: CallArgs, out: &mut [u32; 12]) -> u32
 }
 
 // What is told of a rescue; the bytes after the last block in two words, the low one first.
-fn put_kept(k: Kept, out: &mut [u32; 12]) -> u32
-    ensures { λ r. ⌜ r ≡ number (accepted (told k)) ⌝ }
-    ensures { λ r. ⌜ now (out .exit) ≡ laid (rescueWords (accepted (told k))) 0 (now (out .entry)) ⌝ }
+fn put_kept(k: Kept, out: &mut [u32; 12])
+    ensures { λ u. ⌜ now (out .exit) ≡ laid (rescueWords (accepted (told k))) 0 (now (out .entry)) ⌝ }
 {
     out[0] = k.bytes;
     out[1] = k.statements;
@@ -139,7 +138,6 @@ fn put_kept(k: Kept, out: &mut [u32; 12]) -> u32
     out[3] = k.dropped;
     out[4] = (k.after % 4_294_967_296) as u32;
     out[5] = (k.after / 4_294_967_296) as u32;
-    0
 }
 
 // The table check.
@@ -342,7 +340,10 @@ pub extern "C" fn starlark_rescue(input: &[u8], file: &mut [u8], out: &mut [u32;
 {
     let answer = rescue::rescue(input, file);
     match answer {
-        Rescued::Accepted(k) => put_kept(k, out),
+        Rescued::Accepted(k) => {
+            put_kept(k, out);
+            0
+        }
         Rescued::Refused(r) => put_refused(r, out),
     }
 }

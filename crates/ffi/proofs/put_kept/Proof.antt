@@ -16,4 +16,4 @@ put-kept-spec =
     (λ c. search needs)
     (λ c. search needs)
     (λ c. search needs)
-    (λ c. (refl, refl)))  -- returns
+    (λ c. refl))  -- returns

@@ -1,5 +1,6 @@
 -- `ffi::starlark_rescue` meets its contract: the answer of the job, arm by arm, and the file as the job leaves it.
 -- Assumes nothing.
+use mathlib.Core.Path.{refl}
 use Rattle.ffi.proofs.Told.{told-with, rescue-refused}
 use Rattle.ffi.specs.Words.{rescueWords}
 use Rattle.rescue.specs.Job.{rescued}
@@ -21,7 +22,7 @@ starlark-rescue-spec =
     let answer = c .before .before .before .answer in
     let back = c .before .before .before .before .before .before in
     let rescue = back .before .rescue in
-    told-with rescueWords rescued _ _ _ _ _ _ rescue.ensures answer.given.1 (c .put-kept .ensures))
+    told-with rescueWords rescued _ _ _ _ _ _ rescue.ensures answer.given.1 (refl, c .put-kept .ensures))
     (λ c. search needs)
     (λ c.  -- returns-2
     let answer2 = c .before .before .before .answer2 in
