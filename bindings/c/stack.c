@@ -94,12 +94,26 @@ static void run_bind(void) {
     number = starlark_bind(table, STARLARK_NODE_BYTES * nodes, names, sizeof names, job_node, job_def, list, 2 * STARLARK_NODES, out);
 }
 
+/* The table's file without its last byte: the largest cut of its records, if there is one. The file is made before, in space that is not lent. */
+static uint8_t damaged[STARLARK_FILE_BYTES];
+static size_t damaged_bytes;
+static void damage(void) {
+    uint32_t words[STARLARK_WORDS];
+    damaged_bytes = 0;
+    if (starlark_write(table, STARLARK_NODE_BYTES * nodes, names, sizeof names, all_on, 9, damaged, sizeof damaged, words) == 0) {
+        damaged_bytes = words[0] - 1;
+    }
+}
+static void run_rescue(void) { number = starlark_rescue(damaged, damaged_bytes, file, sizeof file, out); }
+static void run_rescue_whole(void) { number = starlark_rescue(damaged, damaged_bytes + 1, file, sizeof file, out); }
+
 struct job {
     const char *name;
     void (*run)(void);
     size_t most;
 } jobs[] = {{"table", run_table, 0}, {"params", run_params, 0}, {"call", run_call, 0}, {"target", run_target, 0}, {"assignment", run_assignment, 0}, {"type", run_type, 0},
-          {"module", run_module, 0}, {"module with all switches off", run_refusing, 0}, {"write", run_write, 0}, {"bind", run_bind, 0}};
+          {"module", run_module, 0}, {"module with all switches off", run_refusing, 0}, {"write", run_write, 0}, {"bind", run_bind, 0},
+          {"rescue of a cut file", run_rescue, 0}, {"rescue of a whole file", run_rescue_whole, 0}};
 enum { JOBS = sizeof jobs / sizeof *jobs };
 
 /* Whether a job ends on a stack of so many bytes. */
@@ -144,6 +158,7 @@ static size_t smallest(void (*run)(void)) {
 static void measure(const char *shape, size_t node) {
     printf("%-34s %4zu nodes:", shape, nodes);
     job_node = node;
+    damage();
     for (size_t i = 0; i < JOBS; i++) {
         size_t bytes = smallest(jobs[i].run);
         if (bytes > jobs[i].most) jobs[i].most = bytes;
