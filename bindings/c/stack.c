@@ -202,6 +202,16 @@ static void in_depth(const char *shape, int kind, int leaf_kind, size_t limit) {
     measure(shape, 2);
 }
 
+/* A deep expression, and behind it statements that a cut leaves out in part: what is kept of the cut file is deep, too. */
+static void deep_and_cut(const char *shape) {
+    size_t root = open_node(STATEMENTS, 0), simple = open_node(SIMPLE, 0);
+    nested(TUPLE, IDENTIFIER, STARLARK_DEPTH - 3, STARLARK_NODES - 50);
+    close_node(simple);
+    while (nodes < STARLARK_NODES) leaf(BREAK);
+    close_node(root);
+    measure(shape, 2);
+}
+
 /* Lists as the argument of an Index2, where they may be of any length. */
 static void argument_lists(const char *shape, int depth) {
     size_t root = open_node(STATEMENTS, 0), simple = open_node(SIMPLE, 0), index = open_node(INDEX2, 0);
@@ -307,6 +317,7 @@ int main(void) {
     in_depth("61 nested tuples", TUPLE, IDENTIFIER, STARLARK_DEPTH);
     in_depth("61 nested unions", OP, IDENTIFIER, STARLARK_NODES);
     in_depth("61 nested Index2", INDEX2, IDENTIFIER, STARLARK_NODES);
+    deep_and_cut("61 nested tuples, 50 statements");
     argument_lists("Index2 with a list of 2,094", 1);
     argument_lists("Index2 with 60 nested lists of 33", STARLARK_DEPTH - 4);
     nested_statements("31 nested def", DEF, STARLARK_NODES);
