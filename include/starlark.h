@@ -10,18 +10,18 @@
  * `out`, twelve words
  *   accepted      as said at each function
  *   3, 4          out[0] the node
- *   1, 2, 5, 6, 7 nothing
+ *   1, 2, 5, 6, 7 nothing; so for 90 and 91
  *   all others    out[0] the node, out[1] and out[2] begin and end of its span (22: the name's span), out[3] STARLARK_NONE; but for 11 and 22,
  *                 a name that stands twice, out[3] is the node of the first parameter (11) or argument (22) of the list that has it
  *   Every word that is not named keeps its value. So do all bytes and words of a lent buffer when a job refuses.
  *
  * What the caller must see to: nothing checks it
  *   Each pointer points to as many elements as the length beside it says, and `out` to twelve words.
- *   No two of the buffers that one call is lent overlap: not the table, the names, the dialect, the written buffer, `out`.
+ *   No two of the buffers that one call is lent overlap: not the table, the names, the dialect, the input, the written buffer, `out`.
  *   No pointer is NULL, not even one of length 0; words are aligned to four bytes.
  *   The thread has stack enough: STARLARK_STACK_BYTES is more than twice what any job was measured to need (bindings/c/stack.c, on aarch64):
  *   at 2,100 nodes of many shapes the table check needs 9 KB, the parameter job 18 KB, the call job 25 KB, the type job 30 KB, the module pass
- *   and the binding job 35 KB, the target, assignment and write jobs no more than 9 KB.
+ *   and the binding job 35 KB, the target, assignment and write jobs no more than 9 KB, the rescue of a file of 2,100 nodes 68 KB.
  */
 #ifndef STARLARK_H
 #define STARLARK_H
@@ -103,6 +103,14 @@ uint32_t starlark_module(const uint8_t *table, size_t table_len, const uint8_t *
  * 504 name bytes and for each 21 nodes that are begun. What is written reads back as the same table, names and dialect. */
 uint32_t starlark_write(const uint8_t *table, size_t table_len, const uint8_t *names, size_t names_len, const uint8_t *dialect,
                         size_t dialect_len, uint8_t *file, size_t file_len, uint32_t *out);
+
+/* What can be kept of a damaged table file of `input_len` bytes, as a sound table file in `file`: 90, 91, 7.
+ * Accepted: out[0] how many bytes are written, at most STARLARK_FILE_BYTES; bytes past them stay. out[1] the statements and out[2] the nodes that
+ * are kept, out[3] the nodes dropped by the header's count, out[4] and out[5] the bytes after the header's last block, low and high word.
+ * A file that passes is given back block for block; else the most of the root's first children that stand whole in good blocks and pass are kept,
+ * with names and dialect whole. 90 is a bad block 0 or name block; 91 says that the blocks do not pass and no child of the root can be kept; 7 comes
+ * exactly where `file_len` is less than what would be written. */
+uint32_t starlark_rescue(const uint8_t *input, size_t input_len, uint8_t *file, size_t file_len, uint32_t *out);
 
 #ifdef __cplusplus
 }

@@ -53,7 +53,7 @@ static int accepted(const char *job, uint32_t number, const uint32_t *out) {
     printf("%s: ", job);
     if (number == 3 || number == 4) {
         printf("refused with %u at node %u", number, out[0]);
-    } else if (number != 0 && number < 10) {
+    } else if (number != 0 && (number < 10 || number >= 90)) {
         printf("refused with %u", number);
     } else if (number != 0) {
         printf("refused with %u at node %u, bytes %u to %u", number, out[0], out[1], out[2]);
@@ -164,6 +164,23 @@ static void write_file(const char *words, const uint8_t *dialect, size_t dialect
     bytes("the first", file, 18);
 }
 
+/* What is kept of the first `input_length` bytes of the script's file, in a buffer of `length` bytes, which hold 9: what is told, and how many
+ * bytes are no longer so. The byte at `damaged` of the file is changed, where there is one. */
+static void rescue(const char *words, size_t input_length, size_t damaged, size_t length) {
+    uint32_t out[STARLARK_WORDS];
+    static uint8_t input[STARLARK_FILE_BYTES], file[STARLARK_FILE_BYTES];
+    size_t changed = STARLARK_FILE_BYTES;
+    memset(input, 0, sizeof input);
+    memset(file, 9, sizeof file);
+    starlark_write(TABLE, extended, 9, input, sizeof input, out);
+    if (damaged < sizeof input) input[damaged] ^= 1;
+    if (accepted(words, starlark_rescue(input, input_length, file, length, out), out)) {
+        printf("%u bytes, %u statements, %u nodes, %u dropped, %u and %u after", out[0], out[1], out[2], out[3], out[4], out[5]);
+    }
+    while (changed > 0 && file[changed - 1] == 9) changed--;
+    printf(", %zu changed\n", changed);
+}
+
 int main(int count, char **words) {
     node(STATEMENTS, 0, 63, "");
     size_t f = node(DEF, 0, 8, "");
@@ -270,5 +287,14 @@ int main(int count, char **words) {
     write_file("2,560 bytes for five blocks", extended, 0, 2560, NULL);
     write_file("2,559 bytes for five blocks", extended, 0, 2559, NULL);
     write_file("eight bytes of dialect", extended, 8, STARLARK_FILE_BYTES, NULL);
+    size_t none = STARLARK_FILE_BYTES;
+    rescue("the file, rescued", 2560, none, STARLARK_FILE_BYTES);
+    rescue("with seven bytes behind it", 2567, none, STARLARK_FILE_BYTES);
+    rescue("without its last byte", 2559, none, STARLARK_FILE_BYTES);
+    rescue("with a changed byte in its second node block", 2560, 1600, STARLARK_FILE_BYTES);
+    rescue("1,536 bytes for three blocks", 2560, 1600, 1536);
+    rescue("1,535 bytes for three blocks", 2560, 1600, 1535);
+    rescue("with a changed byte in its first node block", 2560, 1100, STARLARK_FILE_BYTES);
+    rescue("with a changed byte in its names", 2560, 600, STARLARK_FILE_BYTES);
     return 0;
 }

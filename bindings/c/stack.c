@@ -94,12 +94,26 @@ static void run_bind(void) {
     number = starlark_bind(table, STARLARK_NODE_BYTES * nodes, names, sizeof names, job_node, job_def, list, 2 * STARLARK_NODES, out);
 }
 
+/* The table's file without its last byte: the largest cut of its records, if there is one. The file is made before, in space that is not lent. */
+static uint8_t damaged[STARLARK_FILE_BYTES];
+static size_t damaged_bytes;
+static void damage(void) {
+    uint32_t words[STARLARK_WORDS];
+    damaged_bytes = 0;
+    if (starlark_write(table, STARLARK_NODE_BYTES * nodes, names, sizeof names, all_on, 9, damaged, sizeof damaged, words) == 0) {
+        damaged_bytes = words[0] - 1;
+    }
+}
+static void run_rescue(void) { number = starlark_rescue(damaged, damaged_bytes, file, sizeof file, out); }
+static void run_rescue_whole(void) { number = starlark_rescue(damaged, damaged_bytes + 1, file, sizeof file, out); }
+
 struct job {
     const char *name;
     void (*run)(void);
     size_t most;
 } jobs[] = {{"table", run_table, 0}, {"params", run_params, 0}, {"call", run_call, 0}, {"target", run_target, 0}, {"assignment", run_assignment, 0}, {"type", run_type, 0},
-          {"module", run_module, 0}, {"module with all switches off", run_refusing, 0}, {"write", run_write, 0}, {"bind", run_bind, 0}};
+          {"module", run_module, 0}, {"module with all switches off", run_refusing, 0}, {"write", run_write, 0}, {"bind", run_bind, 0},
+          {"rescue of a cut file", run_rescue, 0}, {"rescue of a whole file", run_rescue_whole, 0}};
 enum { JOBS = sizeof jobs / sizeof *jobs };
 
 /* Whether a job ends on a stack of so many bytes. */
@@ -144,6 +158,7 @@ static size_t smallest(void (*run)(void)) {
 static void measure(const char *shape, size_t node) {
     printf("%-34s %4zu nodes:", shape, nodes);
     job_node = node;
+    damage();
     for (size_t i = 0; i < JOBS; i++) {
         size_t bytes = smallest(jobs[i].run);
         if (bytes > jobs[i].most) jobs[i].most = bytes;
@@ -183,6 +198,16 @@ static void in_depth(const char *shape, int kind, int leaf_kind, size_t limit) {
     size_t root = open_node(STATEMENTS, 0), simple = open_node(SIMPLE, 0);
     nested(kind, leaf_kind, STARLARK_DEPTH - 3, limit);
     close_node(simple);
+    close_node(root);
+    measure(shape, 2);
+}
+
+/* A deep expression, and behind it statements that a cut leaves out in part: what is kept of the cut file is deep, too. */
+static void deep_and_cut(const char *shape) {
+    size_t root = open_node(STATEMENTS, 0), simple = open_node(SIMPLE, 0);
+    nested(TUPLE, IDENTIFIER, STARLARK_DEPTH - 3, STARLARK_NODES - 50);
+    close_node(simple);
+    while (nodes < STARLARK_NODES) leaf(BREAK);
     close_node(root);
     measure(shape, 2);
 }
@@ -292,6 +317,7 @@ int main(void) {
     in_depth("61 nested tuples", TUPLE, IDENTIFIER, STARLARK_DEPTH);
     in_depth("61 nested unions", OP, IDENTIFIER, STARLARK_NODES);
     in_depth("61 nested Index2", INDEX2, IDENTIFIER, STARLARK_NODES);
+    deep_and_cut("61 nested tuples, 50 statements");
     argument_lists("Index2 with a list of 2,094", 1);
     argument_lists("Index2 with 60 nested lists of 33", STARLARK_DEPTH - 4);
     nested_statements("31 nested def", DEF, STARLARK_NODES);

@@ -1,6 +1,7 @@
 //! Every job from Rust, accepted and refused, with what it makes of the buffer that it is lent. Each line is a small script. A word behind its name
 //! is where a table file is put.
 
+use starlark_checks::rescue;
 use starlark_checks::Table;
 use starlark_checks::FILE_BYTES;
 
@@ -228,6 +229,28 @@ fn files() {
     show_file("eight bytes of dialect", &script, &EXTENDED[..8], FILE_BYTES, None);
 }
 
+/// What is kept of a file in `room` bytes, and how many of them are no longer what they were.
+fn show_rescue(words: &str, input: &[u8], room: usize) {
+    let mut file = vec![BEFORE; room];
+    let answer = rescue(input, &mut file);
+    let changed = file.iter().rposition(|&byte| byte != BEFORE).map_or(0, |last| last + 1);
+    println!("{words}: {answer:?}, {changed} changed");
+}
+
+fn rescues() {
+    let script = Script::of(tree(STATEMENTS, (0..30).map(|_| tree(SIMPLE, vec![x("a")])).collect()));
+    let mut file = vec![BEFORE; FILE_BYTES];
+    let size = script.table().write(&[], &mut file).expect("the file is written");
+    file.truncate(size);
+    show_rescue("a file of 61 nodes, rescued", &file, FILE_BYTES);
+    show_rescue("with seven bytes behind it", &[&file[..], &[0; 7]].concat(), FILE_BYTES);
+    show_rescue("one byte short", &file[..size - 1], FILE_BYTES);
+    show_rescue("cut behind its first node block", &file[..1536], 1536);
+    show_rescue("in one byte too few", &file[..1536], 1535);
+    show_rescue("cut in its first node block", &file[..1535], FILE_BYTES);
+    show_rescue("cut in its name block", &file[..1023], FILE_BYTES);
+}
+
 fn main() {
     checks();
     parameter_lists();
@@ -238,4 +261,5 @@ fn main() {
     types();
     modules();
     files();
+    rescues();
 }

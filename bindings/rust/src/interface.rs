@@ -50,6 +50,7 @@ extern "C" {
         file_len: usize,
         out: *mut u32,
     ) -> u32;
+    fn starlark_rescue(input: *const u8, input_len: usize, file: *mut u8, file_len: usize, out: *mut u32) -> u32;
     fn starlark_bind(
         table: *const u8,
         table_len: usize,
@@ -123,4 +124,8 @@ pub fn write(table: Table, dialect: &[u8], file: &mut [u8], out: &mut Words) -> 
     let (start, length) = (file.as_mut_ptr(), file.len());
     let out = out.as_mut_ptr();
     unsafe { starlark_write(t, tl, n, nl, dialect.as_ptr(), dialect.len(), start, length, out) }
+}
+
+pub fn rescue(input: &[u8], file: &mut [u8], out: &mut Words) -> u32 {
+    unsafe { starlark_rescue(input.as_ptr(), input.len(), file.as_mut_ptr(), file.len(), out.as_mut_ptr()) }
 }

@@ -60,6 +60,17 @@ pub struct Bound {
     pub arguments: u32,
 }
 
+/// What is kept of a damaged table file: the bytes written, the statements and the nodes, how many nodes are dropped by the header's count, and
+/// how many bytes stand after the header's last block.
+#[derive(Clone, Copy, Debug, PartialEq, Eq)]
+pub struct Rescued {
+    pub bytes: usize,
+    pub statements: u32,
+    pub nodes: u32,
+    pub dropped: u32,
+    pub after: u64,
+}
+
 const NONE: u32 = u32::MAX;
 
 type Words = [u32; 12];
@@ -72,7 +83,7 @@ fn place(word: u32) -> Option<u32> {
 impl Refused {
     fn new(number: u32, out: &Words) -> Refused {
         let at = match number {
-            1 | 2 | 5 | 6 | 7 => At::Nowhere,
+            1 | 2 | 5 | 6 | 7 | 90 | 91 => At::Nowhere,
             3 | 4 => At::Node(out[0]),
             _ => At::Span { node: out[0], begin: out[1], end: out[2], earlier: place(out[3]) },
         };
@@ -151,4 +162,11 @@ impl Table<'_> {
     pub fn write(self, dialect: &[u8], file: &mut [u8]) -> Result<usize, Refused> {
         accepted(|out| interface::write(self, dialect, file, out)).map(|out| out[0] as usize)
     }
+}
+
+/// What can be kept of a damaged table file, as a sound one at the front of `file`: 90, 91, 7. `FILE_BYTES` are never too few.
+pub fn rescue(input: &[u8], file: &mut [u8]) -> Result<Rescued, Refused> {
+    let out = accepted(|out| interface::rescue(input, file, out))?;
+    let after = u64::from(out[5]) << 32 | u64::from(out[4]);
+    Ok(Rescued { bytes: out[0] as usize, statements: out[1], nodes: out[2], dropped: out[3], after })
 }

@@ -14,7 +14,8 @@ use Rattle.types.specs.Jobs.{typeShapeOf}
 use Rattle.shapes.specs.Jobs.{shapesAfter}
 use Rattle.validate.specs.Job.{moduleOf, errorsAfter}
 use Rattle.writer.specs.Writing.{writeOf, fileAfter}
-use Rattle.ffi.specs.Words.{number, words, callWords, laid}
+use Rattle.rescue.specs.Job.{rescueOf, fileAfter as rescuedAfter}
+use Rattle.ffi.specs.Words.{number, words, callWords, rescueWords, laid}
 
 -- of `starlark_table`
 pub starlark-table-one : (table names out : List ℕ) {r s : ℕ} {out-r out-s : List ℕ}
@@ -93,4 +94,13 @@ pub starlark-write-one : (table names dialect file out : List ℕ) {r s : ℕ} {
     → out-s ≡ laid (words (writeOf table names dialect (length file))) 0 out
     → file-s ≡ fileAfter table names dialect file → (r ≡ s) × (file-r ≡ file-s) × (out-r ≡ out-s)
 starlark-write-one table names dialect file out r-is out-is file-is s-is out-are file-are =
+    (coincide r-is s-is, coincide file-is file-are, coincide out-is out-are)
+
+-- of `starlark_rescue`
+pub starlark-rescue-one : (input file out : List ℕ) {r s : ℕ} {file-r file-s : List ℕ} {out-r out-s : List ℕ}
+    → r ≡ number (rescueOf input (length file)) → out-r ≡ laid (rescueWords (rescueOf input (length file))) 0 out
+    → file-r ≡ rescuedAfter input file → s ≡ number (rescueOf input (length file))
+    → out-s ≡ laid (rescueWords (rescueOf input (length file))) 0 out → file-s ≡ rescuedAfter input file
+    → (r ≡ s) × (file-r ≡ file-s) × (out-r ≡ out-s)
+starlark-rescue-one input file out r-is out-is file-is s-is out-are file-are =
     (coincide r-is s-is, coincide file-is file-are, coincide out-is out-are)

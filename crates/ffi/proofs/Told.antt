@@ -15,7 +15,7 @@ use Rattle.parameters.specs.Params.{paramsOf, AllBelow}
 use Rattle.parameters.proofs.Accepted.{accepted-small}
 use Rattle.arguments.specs.Job.{placeValues, callValues}
 use Rattle.arguments.specs.declared.CallArgs.{CallArgs}
-use Rattle.ffi.specs.Words.{number, words, placeIn, callWords, laid, Fit}
+use Rattle.ffi.specs.Words.{number, words, placeIn, callWords, rescueWords, laid, Fit}
 
 -- a number and words put for an answer
 abbrev pub Put : (Answer → List ℕ) → Answer → ℕ → List ℕ → List ℕ → Type 0
@@ -38,6 +38,10 @@ told-with put means u v a n xs ys (e, b) q p = let k = told put means u v a n xs
 pub refused-put : (r : Refusal) {n : ℕ} (xs : List ℕ) {ys : List ℕ} → Put words (refusal r) n xs ys
     → Put callWords (refusal r) n xs ys
 refused-put r xs p = p
+
+pub rescue-refused : (r : Refusal) {n : ℕ} (xs : List ℕ) {ys : List ℕ} → Put words (refusal r) n xs ys
+    → Put rescueWords (refusal r) n xs ys
+rescue-refused r xs p = p
 
 -- LAW: a refusal with a span has four words
 module _ (r : Refusal) {n k : ℕ} {s : Span} {p : Place} (h : r ≡ Spanned n k s p) where

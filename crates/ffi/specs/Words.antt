@@ -1,7 +1,7 @@
 -- What a caller in C gets: the number that is returned, and the twelve words afterwards, from a job's answer. These are
 -- definitions.
 use mathlib.Core.List.{List, [], _∷_, _++_}
-use Prim.Native.Nat.{ℕ, _+_, _≤_}
+use Prim.Native.Nat.{ℕ, _+_, _/_, _%_, _≤_}
 use lib.Dec.{eqb}
 use lib.ListN.{set, getD, take, drop}
 use Rattle.fields.specs.Choice.{if'}
@@ -37,6 +37,12 @@ placeIn vs = if' (eqb (getD vs 0 0) 1) (λ _. getD vs 1 0) (λ _. noPlace)
 abbrev pub callWords : Answer → List ℕ
 callWords (accepted vs) = take 2 vs ++ placeIn (drop 2 vs) ∷ placeIn (drop 4 vs) ∷ []
 callWords (refused n vs) = carriedWords vs
+
+-- the words of the rescue: its first four values as they are, and the bytes after the last block in two words, the low
+-- one first
+abbrev pub rescueWords : Answer → List ℕ
+rescueWords (accepted vs) = take 4 vs ++ (getD vs 4 0 % 4294967296) ∷ (getD vs 4 0 / 4294967296) ∷ []
+rescueWords (refused n vs) = carriedWords vs
 
 -- words written from place i on; what is not written stays
 abbrev pub laid : List ℕ → ℕ → List ℕ → List ℕ

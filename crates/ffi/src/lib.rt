@@ -5,6 +5,8 @@ use bind::Bound;
 use parameters::Counted;
 use parameters::Range;
 use parameters::Unpacked;
+use rescue::Kept;
+use rescue::Rescued;
 use table::Checked;
 use table::Place;
 use table::Refusal;
@@ -27,7 +29,8 @@ ghost use Rattle.types.specs.Jobs.{typeShapeOf};
 ghost use Rattle.shapes.specs.Jobs.{shapesAfter};
 ghost use Rattle.validate.specs.Job.{moduleOf, errorsAfter};
 ghost use Rattle.writer.specs.Writing.{writeOf, fileAfter};
-ghost use Rattle.ffi.specs.Words.{number, words, callWords, laid, Fit, placeIn};
+ghost use Rattle.rescue.specs.Job.{rescueOf, fileAfter as rescuedAfter, told};
+ghost use Rattle.ffi.specs.Words.{number, words, callWords, rescueWords, laid, Fit, placeIn};
 
 // A refusal: what it carries, and its number.
 fn put_refused(r: Refusal, out: &mut [u32; 12]) -> u32
@@ -123,6 +126,18 @@ fn put_call(a: CallArgs, out: &mut [u32; 12]) -> u32
     out[2] = place_word(star);
     out[3] = place_word(star_star);
     0
+}
+
+// What is told of a rescue; the bytes after the last block in two words, the low one first.
+fn put_kept(k: Kept, out: &mut [u32; 12])
+    ensures { λ u. ⌜ now (out .exit) ≡ laid (rescueWords (accepted (told k))) 0 (now (out .entry)) ⌝ }
+{
+    out[0] = k.bytes;
+    out[1] = k.statements;
+    out[2] = k.nodes;
+    out[3] = k.dropped;
+    out[4] = (k.after % 4_294_967_296) as u32;
+    out[5] = (k.after / 4_294_967_296) as u32;
 }
 
 // The table check.
@@ -311,5 +326,24 @@ pub extern "C" fn starlark_write(
     match answer {
         Written::Accepted(n) => put_count(n, out),
         Written::Refused(r) => put_refused(r, out),
+    }
+}
+
+// The rescue: the bytes written, the statements and the nodes kept, the nodes dropped, and the bytes after the last
+// block, low and high word; the output at the front of the buffer.
+#[no_mangle]
+pub extern "C" fn starlark_rescue(input: &[u8], file: &mut [u8], out: &mut [u32; 12]) -> u32
+    ensures { λ r. ⌜ r ≡ number (rescueOf (now (input .entry)) (length (now (file .entry)))) ⌝ }
+    ensures { λ r. ⌜ now (out .exit) ≡
+        laid (rescueWords (rescueOf (now (input .entry)) (length (now (file .entry))))) 0 (now (out .entry)) ⌝ }
+    ensures { λ r. ⌜ now (file .exit) ≡ rescuedAfter (now (input .entry)) (now (file .entry)) ⌝ }
+{
+    let answer = rescue::rescue(input, file);
+    match answer {
+        Rescued::Accepted(k) => {
+            put_kept(k, out);
+            0
+        }
+        Rescued::Refused(r) => put_refused(r, out),
     }
 }
