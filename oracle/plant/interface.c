@@ -48,3 +48,8 @@ uint32_t inner_write(struct slice *, struct slice *, struct slice *, struct slic
 uint32_t starlark_write(TABLE, const uint8_t *d, size_t dl, uint8_t *file, size_t file_len, uint32_t *out) {
     return inner_write(SLICE(t, tl), SLICE(n, nl), SLICE(d, dl), SLICE(file, file_len), out);
 }
+
+uint32_t inner_rescue(struct slice *, struct slice *, uint32_t *);
+uint32_t starlark_rescue(const uint8_t *i, size_t il, uint8_t *file, size_t file_len, uint32_t *out) {
+    return inner_rescue(SLICE(i, il), SLICE(file, file_len), out);
+}

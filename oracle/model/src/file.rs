@@ -81,19 +81,13 @@ pub fn written(mut contents: Contents) -> Vec<u8> {
 
 /// The file's contents, or the first refusal: block by block, then what is left over, then 1 to 5.
 pub fn read(file: &[u8]) -> Result<Contents, Refusal> {
-    let mut blocks = Blocks { rest: file, number: 0 };
-    let header = blocks.next(&[COUNTS, COUNTS + dialect::BYTES])?;
-    let count = |at: usize| usize::from(u16::from_le_bytes([header[at], header[at + 1]]));
-    let (nodes, names) = (count(0), count(2));
-    if nodes == 0 || nodes > MOST_NODES || names > MOST_NAME_BYTES {
-        return Err(Refusal::bare(number::COUNTS));
-    }
+    let mut blocks = Blocks::of(file);
+    let (nodes, names, dialect) = blocks.header()?;
     let names = blocks.stretch(names, CONTENT)?;
     let table = blocks.stretch(nodes * RECORD_BYTES, NODE_CONTENT)?;
     if !blocks.rest.is_empty() && !planted(Fault::LeftOverAllowed) {
         return Err(Refusal::bare(number::BYTES_LEFT_OVER));
     }
-    let dialect = header[COUNTS..].to_vec();
     if planted(Fault::DialectBeforeTable) {
         dialect::from_bytes(&dialect)?;
     }
@@ -102,12 +96,34 @@ pub fn read(file: &[u8]) -> Result<Contents, Refusal> {
     Ok(Contents { table, names, dialect })
 }
 
-struct Blocks<'a> {
+/// The blocks of a file, one after another.
+pub struct Blocks<'a> {
     rest: &'a [u8],
     number: u16,
 }
 
 impl<'a> Blocks<'a> {
+    pub fn of(file: &'a [u8]) -> Blocks<'a> {
+        Blocks { rest: file, number: 0 }
+    }
+
+    /// Block 0: the count of nodes, the length of the names (74), and the dialect's bytes, whatever they are.
+    pub fn header(&mut self) -> Result<(usize, usize, Vec<u8>), Refusal> {
+        let header = self.next(&[COUNTS, COUNTS + dialect::BYTES])?;
+        let count = |at: usize| usize::from(u16::from_le_bytes([header[at], header[at + 1]]));
+        let (nodes, names) = (count(0), count(2));
+        if nodes == 0 || nodes > MOST_NODES || names > MOST_NAME_BYTES {
+            return Err(Refusal::bare(number::COUNTS));
+        }
+        Ok((nodes, names, header[COUNTS..].to_vec()))
+    }
+
+    /// Passes over a block, for a planted fault.
+    pub fn skip(&mut self) -> bool {
+        self.number += 1;
+        self.rest.split_at_checked(BLOCK).map(|(_, rest)| self.rest = rest).is_some()
+    }
+
     /// The used part of the next block, which must be of one of the lengths given.
     fn next(&mut self, lengths: &[usize]) -> Result<&'a [u8], Refusal> {
         if self.rest.len() < BLOCK {
@@ -135,7 +151,7 @@ impl<'a> Blocks<'a> {
     }
 
     /// So many bytes, from blocks that are all full but the last.
-    fn stretch(&mut self, length: usize, full: usize) -> Result<Vec<u8>, Refusal> {
+    pub fn stretch(&mut self, length: usize, full: usize) -> Result<Vec<u8>, Refusal> {
         let mut bytes = Vec::with_capacity(length);
         if length == 0 && planted(Fault::NoNameStillBlock) {
             self.next(&[0])?;

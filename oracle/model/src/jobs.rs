@@ -17,6 +17,7 @@ use crate::numbers::number;
 use crate::params;
 use crate::planted::planted;
 use crate::planted::Fault;
+use crate::rescue;
 use crate::table::is_expression;
 use crate::table::Class;
 use crate::table::Table;
@@ -228,6 +229,20 @@ pub fn write(table: &[u8], names: &[u8], dialect: &[u8], room: usize) -> Answer 
         let early = if planted(Fault::SevenOneBlockEarly) { file::BLOCK } else { 0 };
         long_enough(room, file.len() + early)?;
         Ok(Answer { words: vec![file.len() as u32], file, ..Answer::default() })
+    }))
+}
+
+/// The rescue of a damaged file, into a buffer of so many bytes: 90, 91, then 7.
+pub fn rescue(input: &[u8], room: usize) -> Answer {
+    if planted(Fault::ShortBeforeNothingKept) && room < file::BLOCK {
+        return Answer::from(Refusal::bare(number::SHORT_BUFFER));
+    }
+    answered(rescue::rescue(input).and_then(|kept| {
+        let early = if planted(Fault::RescueOneBlockEarly) { file::BLOCK } else { 0 };
+        long_enough(room, kept.file.len() + early)?;
+        let counts = [kept.file.len(), kept.statements, kept.nodes, kept.dropped].map(|count| count as u32);
+        let after = [kept.bytes_after as u32, (kept.bytes_after >> 32) as u32];
+        Ok(Answer { words: [&counts[..], &after].concat(), file: kept.file, ..Answer::default() })
     }))
 }
 

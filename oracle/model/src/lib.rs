@@ -1,6 +1,6 @@
 //! Document 01 in Rust: its node table, its file, its limits, and what its definitions answer for every
 //! table. Written from the document, so that it can judge tables that no tree of the crate can be.
-//! And document 02's binding of arguments to parameters, which the crate does not have.
+//! And document 02's binding of arguments to parameters and its rescue of files, which the crate does not have.
 
 pub mod answer;
 pub mod bind;
@@ -12,6 +12,7 @@ pub mod module;
 pub mod numbers;
 pub mod params;
 pub mod planted;
+pub mod rescue;
 pub mod table;
 pub mod targets;
 pub mod types;

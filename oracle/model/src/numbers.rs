@@ -130,4 +130,7 @@ pub mod number {
     pub const UNKNOWN_NAMED: u32 = 82;
     pub const FILLED_ALREADY: u32 = 83;
     pub const LEFT_EMPTY: u32 = 84;
+
+    pub const BAD_HEADER: u32 = 90;
+    pub const NOTHING_KEPT: u32 = 91;
 }

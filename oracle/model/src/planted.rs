@@ -102,6 +102,24 @@ faults! {
     CallBeforeDef
     RefusedBindWrites
     WordPastBindingWritten
+    BadDialectRescued
+    BadNamesAre91
+    LaterBlocksUsed
+    OtherRootHasChildren
+    RootAloneKept
+    OneChildTooFew
+    RootSizeNotRenewed
+    RescuedRowForNone
+    DroppedByWrittenSize
+    PastTheWrittenSize
+    AfterTheOutput
+    AfterIn32Bits
+    RescueGives75
+    ShortBeforeNothingKept
+    RescueOneBlockEarly
+    RefusedRescueWrites
+    BytePastRescuedWritten
+    RescuedFileChanged
 }
 
 #[cfg(feature = "faults")]

@@ -28,7 +28,7 @@ use crate::record::Recorder;
 const OWN_SPANS_ONCE_IN: u64 = 16;
 
 /// One more than the greatest number.
-pub const NUMBERS: usize = 85;
+pub const NUMBERS: usize = 92;
 
 /// What has been run and seen.
 #[derive(Clone, Debug)]
@@ -83,7 +83,7 @@ pub struct Checker {
     pub tally: Tally,
     wanted: [bool; JOBS],
     stop_at_first: bool,
-    /// The table and the names as they were before the job.
+    /// The table and the names as they were before the job, of a file of gigabytes the front.
     kept: Vec<u8>,
     pub recorder: Option<Recorder>,
 }
@@ -208,14 +208,14 @@ impl Checker {
 
     fn keep_inputs(&mut self, request: &Request) {
         self.kept.clear();
-        self.kept.extend_from_slice(request.table);
+        self.kept.extend_from_slice(front(request.table));
         self.kept.extend_from_slice(request.names);
     }
 
     /// What is only lent to be read must be as it was.
     fn inputs_are_kept(&self, request: &Request) -> bool {
-        let (table, names) = self.kept.split_at(request.table.len());
-        table == request.table && names == request.names
+        let (table, names) = self.kept.split_at(front(request.table).len());
+        table == front(request.table) && names == request.names
     }
 
     fn difference(&mut self, request: &Request, effect: &Effect, expected: &Effect, judged: Built<Answer>) {
@@ -232,11 +232,11 @@ impl Checker {
             writeln!(text, "    {what}: {value}").expect("a String can be written");
         };
         line("job", &format_args!("{} {:?}", NAMES[request.job.index()], request.job));
-        let (table, names) = self.kept.split_at(request.table.len());
+        let (table, names) = self.kept.split_at(front(request.table).len());
         line("table", &hex(table));
         line("names", &hex(names));
         if !self.inputs_are_kept(request) || effect.dialect != expected.dialect {
-            let (table, names, dialect) = (hex(request.table), hex(request.names), hex(&effect.dialect));
+            let (table, names, dialect) = (hex(front(request.table)), hex(request.names), hex(&effect.dialect));
             line("changed by the archive", &format_args!("{table} {names} {dialect}"));
         }
         line("archive", effect);
@@ -250,7 +250,7 @@ impl Checker {
         if self.wants(&request.job) {
             let answer = model_answer(request);
             let equal = answer.number == number && words.is_none_or(|words| answer.words == words);
-            let table = hex(request.table);
+            let table = hex(front(request.table));
             self.note(equal, || format!("the model answers {answer:?}, the document {number} {words:?}: {table}"));
             self.check(request);
         }
@@ -297,6 +297,11 @@ fn is_ours(number: u32) -> bool {
     (number::TABLE_LENGTH..=number::SHORT_BUFFER).contains(&number)
 }
 
+/// What is kept of an input, and shown. Only a file to rescue can be longer.
+fn front(input: &[u8]) -> &[u8] {
+    &input[..input.len().min(1 << 20)]
+}
+
 fn hex(bytes: &[u8]) -> String {
     bytes.iter().map(|byte| format!("{byte:02x}")).collect()
 }
@@ -313,17 +318,18 @@ fn model_answer(request: &Request) -> Answer {
         Job::Module { dialect, .. } => jobs::module(table, names, dialect),
         Job::Write { dialect, file } => jobs::write(table, names, dialect, file),
         Job::Bind { call, def, list } => jobs::bind(table, names, call, def, list),
+        Job::Rescue { file } => jobs::rescue(table, file),
     }
 }
 
 /// The crate's answer, where the model has not refused with a number that the crate does not have.
 fn judged(request: &Request, model: &Answer) -> Built<Answer> {
-    if is_ours(model.number) {
+    if is_ours(model.number) || matches!(request.job, Job::Rescue { .. }) {
         return Err(NotATree);
     }
     let table = Table::check(request.table, request.names).map_err(|_| NotATree)?;
     match request.job {
-        Job::Table | Job::Write { .. } => Err(NotATree),
+        Job::Table | Job::Write { .. } | Job::Rescue { .. } => Err(NotATree),
         Job::Params { node, .. } => run::params(&table, node),
         Job::Call { node } => run::call(&table, node),
         Job::Target { node } => run::target(&table, node),
@@ -345,7 +351,7 @@ fn lists_of_binding(table: &Table, call: usize, def: usize, model: &Answer) -> B
 fn with_own_spans(request: &Request) -> Built<Vec<[u32; 3]>> {
     let table = Table::check(request.table, request.names).map_err(|_| NotATree)?;
     match request.job {
-        Job::Table | Job::Write { .. } => Err(NotATree),
+        Job::Table | Job::Write { .. } | Job::Rescue { .. } => Err(NotATree),
         Job::Params { node, .. } => own_spans::params(&table, node),
         Job::Call { node } => own_spans::call(&table, node),
         Job::Target { node } => own_spans::target(&table, node),

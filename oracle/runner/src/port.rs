@@ -16,17 +16,19 @@ pub enum Job<'a> {
     Module { dialect: &'a [u8], errors: usize },
     Write { dialect: &'a [u8], file: usize },
     Bind { call: usize, def: usize, list: usize },
+    /// The request's table is the file to rescue, and its names are none.
+    Rescue { file: usize },
 }
 
 /// How many jobs there are: those of the interface, and the program's.
-pub const JOBS: usize = 10;
+pub const JOBS: usize = 11;
 
 /// The jobs by the names that the command line knows.
 pub const NAMES: [&str; JOBS] =
-    ["table", "params", "call", "target", "assignment", "type", "module", "write", "bind", "file"];
+    ["table", "params", "call", "target", "assignment", "type", "module", "write", "bind", "rescue", "file"];
 
 /// The program's job, whose place in `NAMES` is last.
-pub const FILE: usize = 9;
+pub const FILE: usize = 10;
 
 impl Job<'_> {
     /// The job's place in `NAMES`.
@@ -41,6 +43,7 @@ impl Job<'_> {
             Job::Module { .. } => 6,
             Job::Write { .. } => 7,
             Job::Bind { .. } => 8,
+            Job::Rescue { .. } => 9,
         }
     }
 
@@ -123,6 +126,7 @@ extern "C" {
         list_len: usize,
         out: *mut Words,
     ) -> u32;
+    fn starlark_rescue(i: *const u8, il: usize, file: *mut u8, file_len: usize, out: *mut Words) -> u32;
 }
 
 const GUARD: usize = 8;
@@ -161,7 +165,7 @@ impl Effect {
             Job::Params { modes, .. } => (modes, 0),
             Job::Type { shapes, .. } => (shapes, 0),
             Job::Module { errors, .. } => (0, errors),
-            Job::Write { file, .. } => (file, 0),
+            Job::Write { file, .. } | Job::Rescue { file } => (file, 0),
             Job::Bind { list, .. } => (0, list),
             _ => (0, 0),
         };
@@ -223,6 +227,7 @@ impl Effect {
                 Job::Module { .. } => starlark_module(t, tl, n, nl, d, dl, words, words_len, out),
                 Job::Write { .. } => starlark_write(t, tl, n, nl, d, dl, bytes, bytes_len, out),
                 Job::Bind { call, def, .. } => starlark_bind(t, tl, n, nl, call, def, words, words_len, out),
+                Job::Rescue { .. } => starlark_rescue(t, tl, bytes, bytes_len, out),
             }
         };
     }

@@ -185,6 +185,28 @@ pub unsafe extern "C" fn starlark_write(
     give_bytes(answer, buffer, out)
 }
 
+#[no_mangle]
+pub unsafe extern "C" fn starlark_rescue(
+    input: *const u8,
+    input_len: usize,
+    file: *mut u8,
+    file_len: usize,
+    out: Out,
+) -> u32 {
+    let answer = jobs::rescue(lent(input, input_len), file_len);
+    let buffer = lent_mut(file, file_len);
+    if planted(Fault::RefusedRescueWrites) && answer.number != 0 && !buffer.is_empty() {
+        buffer[0] = 0;
+    }
+    if planted(Fault::BytePastRescuedWritten) && answer.number == 0 && answer.file.len() < buffer.len() {
+        buffer[answer.file.len()] = 0;
+    }
+    if planted(Fault::RescuedFileChanged) {
+        change(input, input_len);
+    }
+    give_bytes(answer, buffer, out)
+}
+
 /// The number of the error that does not fit whole, in the words that are left.
 fn store_half_error(answer: &Answer, list: &mut [u32]) {
     let whole = list.len() / 3;

@@ -198,7 +198,8 @@ fn damaged(checker: &mut Checker, plan: &Plan) {
     });
 }
 
-fn damage(rng: &mut Rng, bytes: &mut Vec<u8>) {
+/// One change of a file: a bit, with or without its sum put right; a block lost or doubled; an end that is missing.
+pub fn damage(rng: &mut Rng, bytes: &mut Vec<u8>) {
     let blocks = bytes.len() / BLOCK;
     if blocks == 0 {
         return;

@@ -9,6 +9,7 @@ pub mod lists;
 pub mod modules;
 pub mod names;
 pub mod python;
+pub mod rescues;
 pub mod shapes;
 pub mod tables;
 pub mod written;
@@ -79,8 +80,10 @@ const TYPE: u32 = 1 << 5;
 const MODULE: u32 = 1 << 6;
 const WRITE: u32 = 1 << 7;
 const BIND: u32 = 1 << 8;
-const FILE: u32 = 1 << 9;
-const ARCHIVE: u32 = FILE - 1;
+const RESCUE: u32 = 1 << 9;
+const FILE: u32 = 1 << 10;
+/// Those that take a table.
+const ARCHIVE: u32 = RESCUE - 1;
 
 pub const ALL: &[Family] = &[
     family("document 01's examples", 1, ARCHIVE | FILE, examples::rows),
@@ -111,6 +114,11 @@ pub const ALL: &[Family] = &[
     family("tables, depth", 2, ARCHIVE, tables::depth),
     family("dialect rows and bytes", 1, MODULE | TYPE, dialects::rows_and_bytes),
     family("files, written", 2, WRITE, written::written),
+    family("rescues, corner cases", 1, RESCUE, rescues::corners),
+    family("rescues, every cut", 2, RESCUE, rescues::cuts),
+    family("rescues, each block", 2, RESCUE, rescues::blocks),
+    family("rescues, each record", 2, RESCUE, rescues::records),
+    family("rescues, random", 2, RESCUE, rescues::random),
     family("files, through the program", 1, FILE, files::files),
 ];
 
