@@ -245,6 +245,9 @@ fn sizes(checker: &mut Checker, good: &Damaged) {
     expect(checker, &good.size(0, 43).bytes, 3_072, &[3_072, 42, 43, 1, 0, 0]);
     expect(checker, &good.size(0, 30).cut(2_100).bytes, 2_048, &[2_048, 20, 21, 23, 0, 0]);
     expect(checker, &good.size(0, 10).cut(2_100).bytes, 2_048, &[2_048, 9, 10, 34, 0, 0]);
+    // The good records are a sound table by themselves, and the header counts more.
+    expect(checker, &good.size(0, 21).cut(2_100).bytes, 2_048, &[2_048, 20, 21, 23, 0, 0]);
+    expect(checker, &good.size(0, 42).spoilt(5, 9).bytes, 2_560, &[2_560, 41, 42, 2, 0, 0]);
 }
 
 /// All blocks are good and 3 or 4 fails: the cut is before that child, and none is skipped.
