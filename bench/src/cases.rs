@@ -35,6 +35,7 @@ pub const READ: &str = "model-read";
 pub const PLAIN: &str = "plain-writer";
 pub const COPY: &str = "copy";
 pub const LISTS: &str = "params-and-call";
+pub const READER: &str = "port-read";
 
 type Routes = Vec<Route<'static>>;
 
@@ -244,6 +245,30 @@ pub fn write(input: &'static Input, dialect: &'static [u8]) -> Routes {
         check_route(input),
         Route::new(PLAIN, move || plain::write(black_box(&input.table), &input.names, dialect, black_box(&mut alone))),
         Route::new(COPY, move || black_box(&mut copied)[..size].copy_from_slice(black_box(&answer.file))),
+    ]
+}
+
+/// A rescue, and the port's reading of the whole file that was damaged, both from the file to an answer.
+pub fn rescue(input: &'static Input, damage: fn(&mut Vec<u8>)) -> Routes {
+    let dialect = model::dialect::STANDARD.to_vec();
+    let contents = Contents { table: input.table.clone(), names: input.names.clone(), dialect };
+    let whole: &'static [u8] = Vec::leak(file::write(&contents));
+    let mut damaged = whole.to_vec();
+    damage(&mut damaged);
+    let mut port = Port::new();
+    let number = port.rescue(&damaged);
+    let answer = jobs::rescue(&damaged, port.file.len());
+    must_agree(&port, number, &answer);
+    assert_eq!(number, 0, "something is kept");
+    assert_eq!(port.file[..answer.file.len()], answer.file[..], "port and model agree on what is measured");
+    let (mut reader, mut copied) = (Port::new(), port.file.clone());
+    assert_eq!(reader.read(whole), 0, "the whole file reads");
+    assert_eq!(reader.out[0] as usize, input.table.len(), "and all of it is read");
+    vec![
+        Route::new(PORT, move || port.rescue(&damaged)),
+        Route::new(READER, move || reader.read(whole)),
+        check_route(input),
+        Route::new(COPY, move || black_box(&mut copied)[..answer.file.len()].copy_from_slice(black_box(&answer.file))),
     ]
 }
 

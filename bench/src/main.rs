@@ -29,6 +29,7 @@ enum Kind {
     File,
     Write,
     Bind,
+    Rescue,
 }
 
 struct Case {
@@ -129,6 +130,29 @@ fn all_cases() -> Vec<Case> {
         all.push(case(name, Kind::Write, move || cases::write(kept(scripts::module(nodes)), &model::dialect::STANDARD)));
     }
     all.extend(binding_cases());
+    all.extend(rescue_cases());
+    all
+}
+
+/// Files whole and damaged: cut in the middle and in the last block, with a bad block in the middle, with bytes behind it.
+fn rescue_cases() -> Vec<Case> {
+    let damages: [(&str, fn(&mut Vec<u8>)); 5] = [
+        ("whole", |_| {}),
+        ("cut in the middle", |bytes| bytes.truncate(bytes.len() / 2)),
+        ("cut by a byte", |bytes| bytes.truncate(bytes.len() - 1)),
+        ("a bad block in the middle", |bytes| {
+            let at = bytes.len() / 2;
+            bytes[at] ^= 1;
+        }),
+        ("100 bytes more", |bytes| bytes.extend([7; 100])),
+    ];
+    let mut all = Vec::new();
+    for nodes in MODULES {
+        for (words, damage) in damages {
+            let name = format!("rescue, {nodes} nodes, {words}");
+            all.push(case(name, Kind::Rescue, move || cases::rescue(kept(scripts::module(nodes)), damage)));
+        }
+    }
     all
 }
 
@@ -205,6 +229,7 @@ fn print_head(kind: Kind) {
             "file to errors | port | the module job by itself | Rust route | port / Rust | reading and check | second check | tree | crate | port / (tree and crate alone)"
         }
         Kind::Bind => "arguments bound | port | params and call on the same table | port / that | one table check",
+        Kind::Rescue => "file rescued | port | the port reads the whole file | port / that | of it table check | copying what is kept",
         Kind::Write => {
             "file written | port | of it table check | Rust writer with the oracle's checks | port / that | Rust writer alone | port without its check / that | copying the bytes"
         }
@@ -250,6 +275,11 @@ fn print_row(case: &Case, times: &[Times]) {
         Kind::Bind => {
             let lists = of(times, cases::LISTS);
             row.extend([micros(lists.spread()), ratio(port.part_of(lists)), middle(of(times, cases::CHECK))]);
+        }
+        Kind::Rescue => {
+            let reader = of(times, cases::READER);
+            row.extend([micros(reader.spread()), ratio(port.part_of(reader))]);
+            row.extend([cases::CHECK, cases::COPY].map(|label| middle(of(times, label))));
         }
         Kind::Write => {
             let (front, check, plain) = (of(times, cases::FRONT), of(times, cases::CHECK), of(times, cases::PLAIN));

@@ -63,6 +63,8 @@ extern "C" {
         list_len: usize,
         out: *mut Words,
     ) -> u32;
+    fn starlark_rescue(i: *const u8, il: usize, file: *mut u8, file_len: usize, out: *mut Words) -> u32;
+    fn bench_read(file: *const u8, file_len: usize, out: *mut Words) -> u32;
     fn bench_file(file: *const u8, file_len: usize, errors: *mut u32, errors_len: usize, out: *mut Words) -> u32;
 }
 
@@ -183,6 +185,17 @@ impl Port {
                 &mut self.out,
             )
         }
+    }
+
+    pub fn rescue(&mut self, input: &[u8]) -> u32 {
+        let input = black_box(input);
+        let (file, file_len) = (self.file.as_mut_ptr(), self.file.len());
+        unsafe { starlark_rescue(input.as_ptr(), input.len(), file, file_len, &mut self.out) }
+    }
+
+    pub fn read(&mut self, file: &[u8]) -> u32 {
+        let file = black_box(file);
+        unsafe { bench_read(file.as_ptr(), file.len(), &mut self.out) }
     }
 
     pub fn file(&mut self, file: &[u8]) -> u32 {
