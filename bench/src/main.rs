@@ -229,7 +229,7 @@ fn print_head(kind: Kind) {
             "file to errors | port | the module job by itself | Rust route | port / Rust | reading and check | second check | tree | crate | port / (tree and crate alone)"
         }
         Kind::Bind => "arguments bound | port | params and call on the same table | port / that | one table check",
-        Kind::Rescue => "file rescued | port | the port reads the whole file | port / that | of it table check | copying what is kept",
+        Kind::Rescue => "file rescued | port | the port reads the whole file | port / that | one table check of the whole | copying what is kept",
         Kind::Write => {
             "file written | port | of it table check | Rust writer with the oracle's checks | port / that | Rust writer alone | port without its check / that | copying the bytes"
         }
