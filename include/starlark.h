@@ -1,4 +1,4 @@
-/* The C interface of the proved checks: link libffi.a (`tools/native-lib ffi` makes target/native/libffi.a).
+/* The C interface of the proved checks: link libstarlark_checks.a (`tools/native-lib starlark_checks` makes target/native/libstarlark_checks.a).
  *
  * A table is `table_len` bytes, 24 for each node, in preorder; `names` are the bytes that its names lie in. Any bytes may
  * come in: a table that is not sound is refused, and no input makes a function read or write outside what it is lent.

@@ -105,12 +105,12 @@ fn run(
 ) -> u32 {
     let job = a.job;
     match job {
-        0 => ffi::starlark_table(table, names, out),
-        1 => ffi::starlark_params(table, names, a.node, buffer, out),
-        2 => ffi::starlark_call(table, names, a.node, out),
-        3 => ffi::starlark_target(table, names, a.node, out),
-        4 => ffi::starlark_assignment(table, names, a.node, out),
-        _ => ffi::starlark_type(table, names, dialect, a.node, buffer, out),
+        0 => starlark_checks::starlark_table(table, names, out),
+        1 => starlark_checks::starlark_params(table, names, a.node, buffer, out),
+        2 => starlark_checks::starlark_call(table, names, a.node, out),
+        3 => starlark_checks::starlark_target(table, names, a.node, out),
+        4 => starlark_checks::starlark_assignment(table, names, a.node, out),
+        _ => starlark_checks::starlark_type(table, names, dialect, a.node, buffer, out),
     }
 }
 
@@ -166,9 +166,9 @@ fn run_listed(
     out: &mut [u32; 12],
 ) -> u32 {
     if a.job == MODULE {
-        return ffi::starlark_module(table, names, dialect, list, out);
+        return starlark_checks::starlark_module(table, names, dialect, list, out);
     }
-    ffi::starlark_bind(table, names, a.node, a.def, list, out)
+    starlark_checks::starlark_bind(table, names, a.node, a.def, list, out)
 }
 
 // The same for those, whose buffers are of words.

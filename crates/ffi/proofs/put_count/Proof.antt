@@ -1,8 +1,0 @@
--- `ffi::put_count` meets its contract: the one word is laid first. Assumes nothing.
-use mathlib.Core.Path.{refl}
-use borrow.Author.Needs.{needs}
-use Rattle.ffi.proofs.put_count.Statement.{statement}
-use Rattle.ffi.proofs.put_count.Tie as tie
-
-pub put-count-spec : {M : Type 1} → statement M
-put-count-spec = tie.close (tie.spec (λ c. search needs) (λ c. (refl, refl)))  -- returns

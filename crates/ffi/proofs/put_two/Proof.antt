@@ -1,8 +1,0 @@
--- `ffi::put_two` meets its contract: the two words are laid first. Assumes nothing.
-use mathlib.Core.Path.{refl}
-use borrow.Author.Needs.{needs}
-use Rattle.ffi.proofs.put_two.Statement.{statement}
-use Rattle.ffi.proofs.put_two.Tie as tie
-
-pub put-two-spec : {M : Type 1} → statement M
-put-two-spec = tie.close (tie.spec (λ c. search needs) (λ c. search needs) (λ c. (refl, refl)))  -- returns

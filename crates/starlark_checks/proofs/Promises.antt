@@ -1,0 +1,106 @@
+-- Two answers that meet the promise of a public function coincide: the number, the twelve words, and the lent buffer,
+-- for every input. Assumes nothing.
+use mathlib.Core.Path.{_≡_}
+use mathlib.Core.List.{List}
+use Prim.Native.Nat.{ℕ}
+use lib.ListN.{length}
+use Rattle.fields.proofs.Coincide.{coincide}
+use Rattle.table.specs.Check.{checkOf}
+use Rattle.parameters.specs.Params.{paramsOf, modesAfter}
+use Rattle.arguments.specs.Job.{callOf}
+use Rattle.bind.specs.Job.{bindOf, listAfter}
+use Rattle.targets.specs.Jobs.{targetOf, assignmentOf}
+use Rattle.types.specs.Jobs.{typeShapeOf}
+use Rattle.shapes.specs.Jobs.{shapesAfter}
+use Rattle.validate.specs.Job.{moduleOf, errorsAfter}
+use Rattle.writer.specs.Writing.{writeOf, fileAfter}
+use Rattle.rescue.specs.Job.{rescueOf, fileAfter as rescuedAfter}
+use Rattle.starlark_checks.specs.Words.{number, words, callWords, rescueWords, laid}
+
+-- of `starlark_table`
+pub starlark-table-one : (table names out : List ℕ) {r s : ℕ} {out-r out-s : List ℕ}
+    → r ≡ number (checkOf table names) → out-r ≡ laid (words (checkOf table names)) 0 out
+    → s ≡ number (checkOf table names) → out-s ≡ laid (words (checkOf table names)) 0 out → (r ≡ s) × (out-r ≡ out-s)
+starlark-table-one table names out r-is out-is s-is out-are = (coincide r-is s-is, coincide out-is out-are)
+
+-- of `starlark_params`
+pub starlark-params-one : (table names : List ℕ) (node : ℕ) (modes out : List ℕ) {r s : ℕ} {modes-r modes-s : List ℕ}
+    {out-r out-s : List ℕ} → r ≡ number (paramsOf table names node (length modes))
+    → out-r ≡ laid (words (paramsOf table names node (length modes))) 0 out
+    → modes-r ≡ modesAfter table names node modes → s ≡ number (paramsOf table names node (length modes))
+    → out-s ≡ laid (words (paramsOf table names node (length modes))) 0 out
+    → modes-s ≡ modesAfter table names node modes → (r ≡ s) × (modes-r ≡ modes-s) × (out-r ≡ out-s)
+starlark-params-one table names node modes out r-is out-is modes-is s-is out-are modes-are =
+    (coincide r-is s-is, coincide modes-is modes-are, coincide out-is out-are)
+
+-- of `starlark_call`
+pub starlark-call-one : (table names : List ℕ) (node : ℕ) (out : List ℕ) {r s : ℕ} {out-r out-s : List ℕ}
+    → r ≡ number (callOf table names node) → out-r ≡ laid (callWords (callOf table names node)) 0 out
+    → s ≡ number (callOf table names node) → out-s ≡ laid (callWords (callOf table names node)) 0 out
+    → (r ≡ s) × (out-r ≡ out-s)
+starlark-call-one table names node out r-is out-is s-is out-are = (coincide r-is s-is, coincide out-is out-are)
+
+-- of `starlark_bind`
+pub starlark-bind-one : (table names : List ℕ) (call def : ℕ) (list out : List ℕ) {r s : ℕ} {list-r list-s : List ℕ}
+    {out-r out-s : List ℕ} → r ≡ number (bindOf table names call def (length list))
+    → out-r ≡ laid (words (bindOf table names call def (length list))) 0 out
+    → list-r ≡ listAfter table names call def list → s ≡ number (bindOf table names call def (length list))
+    → out-s ≡ laid (words (bindOf table names call def (length list))) 0 out
+    → list-s ≡ listAfter table names call def list → (r ≡ s) × (list-r ≡ list-s) × (out-r ≡ out-s)
+starlark-bind-one table names call def list out r-is out-is list-is s-is out-are list-are =
+    (coincide r-is s-is, coincide list-is list-are, coincide out-is out-are)
+
+-- of `starlark_target`
+pub starlark-target-one : (table names : List ℕ) (node : ℕ) (out : List ℕ) {r s : ℕ} {out-r out-s : List ℕ}
+    → r ≡ number (targetOf table names node) → out-r ≡ laid (words (targetOf table names node)) 0 out
+    → s ≡ number (targetOf table names node) → out-s ≡ laid (words (targetOf table names node)) 0 out
+    → (r ≡ s) × (out-r ≡ out-s)
+starlark-target-one table names node out r-is out-is s-is out-are = (coincide r-is s-is, coincide out-is out-are)
+
+-- of `starlark_assignment`
+pub starlark-assignment-one : (table names : List ℕ) (node : ℕ) (out : List ℕ) {r s : ℕ} {out-r out-s : List ℕ}
+    → r ≡ number (assignmentOf table names node) → out-r ≡ laid (words (assignmentOf table names node)) 0 out
+    → s ≡ number (assignmentOf table names node) → out-s ≡ laid (words (assignmentOf table names node)) 0 out
+    → (r ≡ s) × (out-r ≡ out-s)
+starlark-assignment-one table names node out r-is out-is s-is out-are = (coincide r-is s-is, coincide out-is out-are)
+
+-- of `starlark_type`
+pub starlark-type-one : (table names dialect : List ℕ) (node : ℕ) (shapes out : List ℕ) {r s : ℕ}
+    {shapes-r shapes-s : List ℕ} {out-r out-s : List ℕ}
+    → r ≡ number (typeShapeOf table names dialect node (length shapes))
+    → out-r ≡ laid (words (typeShapeOf table names dialect node (length shapes))) 0 out
+    → shapes-r ≡ shapesAfter table names dialect node shapes
+    → s ≡ number (typeShapeOf table names dialect node (length shapes))
+    → out-s ≡ laid (words (typeShapeOf table names dialect node (length shapes))) 0 out
+    → shapes-s ≡ shapesAfter table names dialect node shapes → (r ≡ s) × (shapes-r ≡ shapes-s) × (out-r ≡ out-s)
+starlark-type-one table names dialect node shapes out r-is out-is shapes-is s-is out-are shapes-are =
+    (coincide r-is s-is, coincide shapes-is shapes-are, coincide out-is out-are)
+
+-- of `starlark_module`
+pub starlark-module-one : (table names dialect errors out : List ℕ) {r s : ℕ} {errors-r errors-s : List ℕ}
+    {out-r out-s : List ℕ} → r ≡ number (moduleOf table names dialect)
+    → out-r ≡ laid (words (moduleOf table names dialect)) 0 out → errors-r ≡ errorsAfter table names dialect errors
+    → s ≡ number (moduleOf table names dialect) → out-s ≡ laid (words (moduleOf table names dialect)) 0 out
+    → errors-s ≡ errorsAfter table names dialect errors → (r ≡ s) × (errors-r ≡ errors-s) × (out-r ≡ out-s)
+starlark-module-one table names dialect errors out r-is out-is errors-is s-is out-are errors-are =
+    (coincide r-is s-is, coincide errors-is errors-are, coincide out-is out-are)
+
+-- of `starlark_write`
+pub starlark-write-one : (table names dialect file out : List ℕ) {r s : ℕ} {file-r file-s : List ℕ}
+    {out-r out-s : List ℕ} → r ≡ number (writeOf table names dialect (length file))
+    → out-r ≡ laid (words (writeOf table names dialect (length file))) 0 out
+    → file-r ≡ fileAfter table names dialect file
+    → s ≡ number (writeOf table names dialect (length file))
+    → out-s ≡ laid (words (writeOf table names dialect (length file))) 0 out
+    → file-s ≡ fileAfter table names dialect file → (r ≡ s) × (file-r ≡ file-s) × (out-r ≡ out-s)
+starlark-write-one table names dialect file out r-is out-is file-is s-is out-are file-are =
+    (coincide r-is s-is, coincide file-is file-are, coincide out-is out-are)
+
+-- of `starlark_rescue`
+pub starlark-rescue-one : (input file out : List ℕ) {r s : ℕ} {file-r file-s : List ℕ} {out-r out-s : List ℕ}
+    → r ≡ number (rescueOf input (length file)) → out-r ≡ laid (rescueWords (rescueOf input (length file))) 0 out
+    → file-r ≡ rescuedAfter input file → s ≡ number (rescueOf input (length file))
+    → out-s ≡ laid (rescueWords (rescueOf input (length file))) 0 out → file-s ≡ rescuedAfter input file
+    → (r ≡ s) × (file-r ≡ file-s) × (out-r ≡ out-s)
+starlark-rescue-one input file out r-is out-is file-is s-is out-are file-are =
+    (coincide r-is s-is, coincide file-is file-are, coincide out-is out-are)

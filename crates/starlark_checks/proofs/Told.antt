@@ -1,0 +1,93 @@
+-- A job's answer, told in C: what an arm of a match has put is what the definition says. Assumes nothing.
+use mathlib.Core.Path.{_≡_, refl, sym, ap, _∙_}
+use mathlib.Core.List.{List, [], _∷_, _++_}
+use Prim.Native.Nat.{ℕ, _≤_}
+use native.Mathlib.Omega.{arith}
+use lib.ListN.{set}
+use Rattle.table.specs.Answer.{Answer, accepted, refusal}
+use Rattle.table.specs.declared.Refusal.{Refusal}
+use Rattle.table.specs.declared.Refusal.the-variants.{Spanned}
+use Rattle.table.specs.declared.Span.{Span}
+use Rattle.table.specs.declared.Place.{Place}
+use Rattle.table.specs.declared.Place.the-variants.{At, Nothing}
+use Rattle.parameters.specs.declared.Range.{Range}
+use Rattle.parameters.specs.Params.{paramsOf, AllBelow}
+use Rattle.parameters.proofs.Accepted.{accepted-small}
+use Rattle.arguments.specs.Job.{placeValues, callValues}
+use Rattle.arguments.specs.declared.CallArgs.{CallArgs}
+use Rattle.starlark_checks.specs.Words.{number, words, placeIn, callWords, rescueWords, laid, Fit}
+
+-- a number and words put for an answer
+abbrev pub Put : (Answer → List ℕ) → Answer → ℕ → List ℕ → List ℕ → Type 0
+Put put a n xs ys = (n ≡ number a) × (ys ≡ laid (put a) 0 xs)
+
+-- LAW: what is put for the value of an arm is put for the job's answer
+pub told : {U : Type 0} (put : Answer → List ℕ) (means : U → Answer) (u v : U) (a : Answer) (n : ℕ) (xs ys : List ℕ)
+    → means u ≡ a → u ≡ v → Put put (means v) n xs ys → Put put a n xs ys
+told put means u v a n xs ys e q (i, w) =
+    let k : means v ≡ a = rw q at e in
+    (i ∙ ap number k, w ∙ ap (λ (b : Answer). laid (put b) 0 xs) k)
+
+-- LAW: the same, with what the job promises of a lent buffer
+pub told-with : {U B : Type 0} (put : Answer → List ℕ) (means : U → Answer) (u v : U) (a : Answer) (n : ℕ)
+    (xs ys : List ℕ) → (means u ≡ a) × B → u ≡ v → Put put (means v) n xs ys
+    → (n ≡ number a) × ((ys ≡ laid (put a) 0 xs) × B)
+told-with put means u v a n xs ys (e, b) q p = let k = told put means u v a n xs ys e q p in (k .0, (k .1, b))
+
+-- LAW: a refusal has the same words in every job
+pub refused-put : (r : Refusal) {n : ℕ} (xs : List ℕ) {ys : List ℕ} → Put words (refusal r) n xs ys
+    → Put callWords (refusal r) n xs ys
+refused-put r xs p = p
+
+pub rescue-refused : (r : Refusal) {n : ℕ} (xs : List ℕ) {ys : List ℕ} → Put words (refusal r) n xs ys
+    → Put rescueWords (refusal r) n xs ys
+rescue-refused r xs p = p
+
+-- LAW: a refusal with a span has four words
+module _ (r : Refusal) {n k : ℕ} {s : Span} {p : Place} (h : r ≡ Spanned n k s p) where
+  pub spanned-number : n ≡ number (refusal r)
+  spanned-number = rw h refl
+
+  pub spanned-laid : (xs : List ℕ) {w : ℕ} → w ≡ placeIn (placeValues p)
+      → set (set (set (set xs 0 k) 1 (s .begin)) 2 (s .end)) 3 w ≡ laid (words (refusal r)) 0 xs
+  spanned-laid xs w-is = rw (h, w-is) (go p)
+    where
+      go : (p : Place) → set (set (set (set xs 0 k) 1 (s .begin)) 2 (s .end)) 3 (placeIn (placeValues p))
+          ≡ laid (words (refusal (Spanned n k s p))) 0 xs
+      go (At i) = refl
+      go Nothing = refl
+
+-- LAW: a range whose ends fit words
+pub range-fit : (r s : Range) → r ≡ s → s .from ≤ 4294967295 → s .upto ≤ 4294967295 → Fit (r .from ∷ r .upto ∷ [])
+range-fit r s e h k = rw e (h, (k, tt))
+
+-- numbers that are small fit words
+small-fit : (vs : List ℕ) → AllBelow 2100 vs → Fit vs
+small-fit [] h = tt
+small-fit (v ∷ vs) (h, hs) = (omega (arith, h), small-fit vs hs)
+
+-- LAW: the values of an accepted parameter list fit words
+pub params-fit : {U : Type 0} (means : U → Answer) (u v : U) (t names : List ℕ) (node room : ℕ) (vs : List ℕ)
+    → means u ≡ paramsOf t names node room → u ≡ v → means v ≡ accepted vs → Fit vs
+params-fit means u v t names node room vs e q m =
+    let k : means v ≡ paramsOf t names node room = rw q at e in
+    small-fit vs (accepted-small t names node room (sym k ∙ m))
+
+-- the words of an accepted call
+call-words : (a : CallArgs) → callWords (accepted (callValues a)) ≡ a .«num_pos» ∷ a .«num_named»
+    ∷ placeIn (placeValues (a .star)) ∷ placeIn (placeValues (a .«star_star»)) ∷ []
+call-words a = go (a .star) (a .«star_star»)
+  where
+    go : (p q : Place) → callWords (accepted (a .«num_pos» ∷ a .«num_named» ∷ placeValues p ++ placeValues q))
+        ≡ a .«num_pos» ∷ a .«num_named» ∷ placeIn (placeValues p) ∷ placeIn (placeValues q) ∷ []
+    go (At i) (At j) = refl
+    go (At i) Nothing = refl
+    go Nothing (At j) = refl
+    go Nothing Nothing = refl
+
+-- LAW: four words, laid one after the other
+pub call-laid : (a : CallArgs) (s k : ℕ) (xs : List ℕ) → s ≡ placeIn (placeValues (a .star))
+    → k ≡ placeIn (placeValues (a .«star_star»))
+    → set (set (set (set xs 0 (a .«num_pos»)) 1 (a .«num_named»)) 2 s) 3 k
+    ≡ laid (callWords (accepted (callValues a))) 0 xs
+call-laid a s k xs e f = rw (e, f) (ap (λ (ws : List ℕ). laid ws 0 xs) (sym (call-words a)))

@@ -1,0 +1,349 @@
+// The C interface: each job's number, and its values in twelve words that the caller lends.
+use arguments::CallArgs;
+use arguments::Called;
+use bind::Bound;
+use parameters::Counted;
+use parameters::Range;
+use parameters::Unpacked;
+use rescue::Kept;
+use rescue::Rescued;
+use table::Checked;
+use table::Place;
+use table::Refusal;
+use targets::Targeted;
+use types::Shaped;
+use validate::Listed;
+use writer::Written;
+ghost use mathlib.Core.Path.{_≡_};
+ghost use mathlib.Core.List.{[], _∷_};
+ghost use Prim.Native.Nat.{_+_, _<_};
+ghost use lib.ListN.{length};
+ghost use Rattle.table.specs.Answer.{accepted, refusal};
+ghost use Rattle.table.specs.Check.{checkOf};
+ghost use Rattle.parameters.specs.Indices.{valuesOf};
+ghost use Rattle.parameters.specs.Params.{paramsOf, modesAfter};
+ghost use Rattle.arguments.specs.Job.{placeValues, callValues, callOf};
+ghost use Rattle.bind.specs.Job.{bindOf, listAfter};
+ghost use Rattle.targets.specs.Jobs.{targetOf, assignmentOf};
+ghost use Rattle.types.specs.Jobs.{typeShapeOf};
+ghost use Rattle.shapes.specs.Jobs.{shapesAfter};
+ghost use Rattle.validate.specs.Job.{moduleOf, errorsAfter};
+ghost use Rattle.writer.specs.Writing.{writeOf, fileAfter};
+ghost use Rattle.rescue.specs.Job.{rescueOf, fileAfter as rescuedAfter, told};
+ghost use Rattle.starlark_checks.specs.Words.{number, words, callWords, rescueWords, laid, Fit, placeIn};
+
+// A refusal: what it carries, and its number.
+fn put_refused(r: Refusal, out: &mut [u32; 12]) -> u32
+    ensures { λ n. ⌜ n ≡ number (refusal r) ⌝ }
+    ensures { λ n. ⌜ now (out .exit) ≡ laid (words (refusal r)) 0 (now (out .entry)) ⌝ }
+{
+    match r {
+        Refusal::Bare(n) => n,
+        Refusal::Placed { number, node } => {
+            out[0] = node;
+            number
+        }
+        Refusal::Spanned {
+            number,
+            node,
+            span,
+            earlier,
+        } => {
+            out[0] = node;
+            out[1] = span.begin;
+            out[2] = span.end;
+            out[3] = place_word(earlier);
+            number
+        }
+    }
+}
+
+// An answer of one value, accepted.
+fn put_count(n: u32, out: &mut [u32; 12]) -> u32
+    ensures { λ r. ⌜ r ≡ number (accepted (n ∷ [])) ⌝ }
+    ensures { λ r. ⌜ now (out .exit) ≡ laid (words (accepted (n ∷ []))) 0 (now (out .entry)) ⌝ }
+{
+    out[0] = n;
+    0
+}
+
+// An answer of two values, accepted.
+fn put_two(a: u32, b: u32, out: &mut [u32; 12]) -> u32
+    ensures { λ r. ⌜ r ≡ number (accepted (a ∷ b ∷ [])) ⌝ }
+    ensures { λ r. ⌜ now (out .exit) ≡ laid (words (accepted (a ∷ b ∷ []))) 0 (now (out .entry)) ⌝ }
+{
+    out[0] = a;
+    out[1] = b;
+    0
+}
+
+// Begin and end of a range.
+fn put_range(r: Range, at: usize, out: &mut [u32; 12])
+    requires { ⌜ at < 11 ⌝ }
+    requires { ⌜ Fit (r .from ∷ r .upto ∷ []) ⌝ }
+    ensures { λ u. ⌜ now (out .exit) ≡ laid (r .from ∷ r .upto ∷ []) at (now (out .entry)) ⌝ }
+{
+    out[at] = r.from as u32;
+    out[at + 1] = r.upto as u32;
+}
+
+// The five ranges and the flat count.
+fn put_ranges(c: Counted, out: &mut [u32; 12]) -> u32
+    requires { ⌜ Fit (valuesOf c) ⌝ }
+    ensures { λ r. ⌜ r ≡ number (accepted (valuesOf c)) ⌝ }
+    ensures { λ r. ⌜ now (out .exit) ≡ laid (words (accepted (valuesOf c))) 0 (now (out .entry)) ⌝ }
+{
+    let indices = c.indices;
+    let flat = c.flat as usize;
+    put_range(indices.pos_only(), 0, out);
+    put_range(indices.pos_or_named(), 2, out);
+    put_range(indices.args_range(), 4, out);
+    put_range(indices.named_only(flat), 6, out);
+    put_range(indices.kwargs_range(flat), 8, out);
+    out[10] = c.flat;
+    0
+}
+
+// A place among the arguments, in one word.
+fn place_word(p: Place) -> u32
+    ensures { λ r. ⌜ r ≡ placeIn (placeValues p) ⌝ }
+{
+    match p {
+        Place::At(i) => i,
+        Place::Nothing => 0xFFFF_FFFF,
+    }
+}
+
+// How many positional and named, and the places of star and `**`.
+fn put_call(a: CallArgs, out: &mut [u32; 12]) -> u32
+    ensures { λ r. ⌜ r ≡ number (accepted (callValues a)) ⌝ }
+    ensures { λ r. ⌜ now (out .exit) ≡ laid (callWords (accepted (callValues a))) 0 (now (out .entry)) ⌝ }
+{
+    let star = a.star;
+    let star_star = a.star_star;
+    out[0] = a.num_pos;
+    out[1] = a.num_named;
+    out[2] = place_word(star);
+    out[3] = place_word(star_star);
+    0
+}
+
+// What is told of a rescue; the bytes after the last block in two words, the low one first.
+fn put_kept(k: Kept, out: &mut [u32; 12])
+    ensures { λ u. ⌜ now (out .exit) ≡ laid (rescueWords (accepted (told k))) 0 (now (out .entry)) ⌝ }
+{
+    out[0] = k.bytes;
+    out[1] = k.statements;
+    out[2] = k.nodes;
+    out[3] = k.dropped;
+    out[4] = (k.after % 4_294_967_296) as u32;
+    out[5] = (k.after / 4_294_967_296) as u32;
+}
+
+// The table check.
+#[no_mangle]
+pub extern "C" fn starlark_table(table: &[u8], names: &[u8], out: &mut [u32; 12]) -> u32
+    ensures { λ r. ⌜ r ≡ number (checkOf (now (table .entry)) (now (names .entry))) ⌝ }
+    ensures { λ r. ⌜ now (out .exit) ≡
+        laid (words (checkOf (now (table .entry)) (now (names .entry)))) 0 (now (out .entry)) ⌝ }
+{
+    let answer = table::check(table, names);
+    match answer {
+        Checked::Sound => 0,
+        Checked::Refused(r) => put_refused(r, out),
+    }
+}
+
+// The parameter job: begin and end of the five ranges, then the flat count.
+#[no_mangle]
+pub extern "C" fn starlark_params(
+    table: &[u8],
+    names: &[u8],
+    node: usize,
+    modes: &mut [u8],
+    out: &mut [u32; 12],
+) -> u32
+    ensures { λ r. ⌜ r ≡
+        number (paramsOf (now (table .entry)) (now (names .entry)) node (length (now (modes .entry)))) ⌝ }
+    ensures { λ r. ⌜ now (out .exit) ≡
+        laid (words (paramsOf (now (table .entry)) (now (names .entry)) node (length (now (modes .entry))))) 0
+        (now (out .entry)) ⌝ }
+    ensures { λ r. ⌜ now (modes .exit) ≡
+        modesAfter (now (table .entry)) (now (names .entry)) node (now (modes .entry)) ⌝ }
+{
+    let answer = parameters::params(table, names, node, modes);
+    match answer {
+        Unpacked::Accepted(c) => put_ranges(c, out),
+        Unpacked::Refused(r) => put_refused(r, out),
+    }
+}
+
+// The call job: positional, named, the place of star and the place of `**`, where 0xFFFFFFFF is none.
+#[no_mangle]
+pub extern "C" fn starlark_call(table: &[u8], names: &[u8], node: usize, out: &mut [u32; 12]) -> u32
+    ensures { λ r. ⌜ r ≡ number (callOf (now (table .entry)) (now (names .entry)) node) ⌝ }
+    ensures { λ r. ⌜ now (out .exit) ≡
+        laid (callWords (callOf (now (table .entry)) (now (names .entry)) node)) 0 (now (out .entry)) ⌝ }
+{
+    let answer = arguments::call(table, names, node);
+    match answer {
+        Called::Accepted(a) => put_call(a, out),
+        Called::Refused(r) => put_refused(r, out),
+    }
+}
+
+// The binding job: the flat count and the number of arguments, and a word for each of them in the list.
+#[no_mangle]
+pub extern "C" fn starlark_bind(
+    table: &[u8],
+    names: &[u8],
+    call: usize,
+    def: usize,
+    list: &mut [u32],
+    out: &mut [u32; 12],
+) -> u32
+    ensures { λ r. ⌜ r ≡
+        number (bindOf (now (table .entry)) (now (names .entry)) call def (length (now (list .entry)))) ⌝ }
+    ensures { λ r. ⌜ now (out .exit) ≡
+        laid (words (bindOf (now (table .entry)) (now (names .entry)) call def (length (now (list .entry))))) 0
+        (now (out .entry)) ⌝ }
+    ensures { λ r. ⌜ now (list .exit) ≡
+        listAfter (now (table .entry)) (now (names .entry)) call def (now (list .entry)) ⌝ }
+{
+    let answer = bind::bind(table, names, call, def, list);
+    match answer {
+        Bound::Accepted { flat, many } => put_two(flat, many, out),
+        Bound::Refused(r) => put_refused(r, out),
+    }
+}
+
+// The target job: the leaves.
+#[no_mangle]
+pub extern "C" fn starlark_target(
+    table: &[u8],
+    names: &[u8],
+    node: usize,
+    out: &mut [u32; 12],
+) -> u32
+    ensures { λ r. ⌜ r ≡ number (targetOf (now (table .entry)) (now (names .entry)) node) ⌝ }
+    ensures { λ r. ⌜ now (out .exit) ≡
+        laid (words (targetOf (now (table .entry)) (now (names .entry)) node)) 0 (now (out .entry)) ⌝ }
+{
+    let answer = targets::target(table, names, node);
+    match answer {
+        Targeted::Leaves(n) => put_count(n, out),
+        Targeted::Refused(r) => put_refused(r, out),
+    }
+}
+
+// The assignment job: the leaves.
+#[no_mangle]
+pub extern "C" fn starlark_assignment(
+    table: &[u8],
+    names: &[u8],
+    node: usize,
+    out: &mut [u32; 12],
+) -> u32
+    ensures { λ r. ⌜ r ≡ number (assignmentOf (now (table .entry)) (now (names .entry)) node) ⌝ }
+    ensures { λ r. ⌜ now (out .exit) ≡
+        laid (words (assignmentOf (now (table .entry)) (now (names .entry)) node)) 0 (now (out .entry)) ⌝ }
+{
+    let answer = targets::assignment(table, names, node);
+    match answer {
+        Targeted::Leaves(n) => put_count(n, out),
+        Targeted::Refused(r) => put_refused(r, out),
+    }
+}
+
+// The type job: nothing but the shapes.
+#[no_mangle]
+pub extern "C" fn starlark_type(
+    table: &[u8],
+    names: &[u8],
+    dialect: &[u8],
+    node: usize,
+    shapes: &mut [u8],
+    out: &mut [u32; 12],
+) -> u32
+    ensures { λ r. ⌜ r ≡
+        number (typeShapeOf (now (table .entry)) (now (names .entry)) (now (dialect .entry)) node
+        (length (now (shapes .entry)))) ⌝ }
+    ensures { λ r. ⌜ now (out .exit) ≡
+        laid (words (typeShapeOf (now (table .entry)) (now (names .entry)) (now (dialect .entry)) node
+        (length (now (shapes .entry))))) 0 (now (out .entry)) ⌝ }
+    ensures { λ r. ⌜ now (shapes .exit) ≡
+        shapesAfter (now (table .entry)) (now (names .entry)) (now (dialect .entry)) node (now (shapes .entry)) ⌝ }
+{
+    let answer = shapes::type_shape(table, names, dialect, node, shapes);
+    match answer {
+        Shaped::Accepted => 0,
+        Shaped::Refused(r) => put_refused(r, out),
+    }
+}
+
+// The module pass: the total, and the first errors that fit.
+#[no_mangle]
+pub extern "C" fn starlark_module(
+    table: &[u8],
+    names: &[u8],
+    dialect: &[u8],
+    errors: &mut [u32],
+    out: &mut [u32; 12],
+) -> u32
+    ensures { λ r. ⌜ r ≡ number (moduleOf (now (table .entry)) (now (names .entry)) (now (dialect .entry))) ⌝ }
+    ensures { λ r. ⌜ now (out .exit) ≡
+        laid (words (moduleOf (now (table .entry)) (now (names .entry)) (now (dialect .entry)))) 0
+        (now (out .entry)) ⌝ }
+    ensures { λ r. ⌜ now (errors .exit) ≡
+        errorsAfter (now (table .entry)) (now (names .entry)) (now (dialect .entry)) (now (errors .entry)) ⌝ }
+{
+    let answer = validate::module(table, names, dialect, errors);
+    match answer {
+        Listed::Total(n) => put_count(n, out),
+        Listed::Refused(r) => put_refused(r, out),
+    }
+}
+
+// The writer: how many bytes are written, and the file at the front of the buffer.
+#[no_mangle]
+pub extern "C" fn starlark_write(
+    table: &[u8],
+    names: &[u8],
+    dialect: &[u8],
+    file: &mut [u8],
+    out: &mut [u32; 12],
+) -> u32
+    ensures { λ r. ⌜ r ≡
+        number (writeOf (now (table .entry)) (now (names .entry)) (now (dialect .entry))
+        (length (now (file .entry)))) ⌝ }
+    ensures { λ r. ⌜ now (out .exit) ≡
+        laid (words (writeOf (now (table .entry)) (now (names .entry)) (now (dialect .entry))
+        (length (now (file .entry))))) 0 (now (out .entry)) ⌝ }
+    ensures { λ r. ⌜ now (file .exit) ≡
+        fileAfter (now (table .entry)) (now (names .entry)) (now (dialect .entry)) (now (file .entry)) ⌝ }
+{
+    let answer = writer::write(table, names, dialect, file);
+    match answer {
+        Written::Accepted(n) => put_count(n, out),
+        Written::Refused(r) => put_refused(r, out),
+    }
+}
+
+// The rescue: the bytes written, the statements and the nodes kept, the nodes dropped, and the bytes after the last
+// block, low and high word; the output at the front of the buffer.
+#[no_mangle]
+pub extern "C" fn starlark_rescue(input: &[u8], file: &mut [u8], out: &mut [u32; 12]) -> u32
+    ensures { λ r. ⌜ r ≡ number (rescueOf (now (input .entry)) (length (now (file .entry)))) ⌝ }
+    ensures { λ r. ⌜ now (out .exit) ≡
+        laid (rescueWords (rescueOf (now (input .entry)) (length (now (file .entry))))) 0 (now (out .entry)) ⌝ }
+    ensures { λ r. ⌜ now (file .exit) ≡ rescuedAfter (now (input .entry)) (now (file .entry)) ⌝ }
+{
+    let answer = rescue::rescue(input, file);
+    match answer {
+        Rescued::Accepted(k) => {
+            put_kept(k, out);
+            0
+        }
+        Rescued::Refused(r) => put_refused(r, out),
+    }
+}
