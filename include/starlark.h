@@ -1,5 +1,14 @@
 /* The C interface of the proved checks: link libstarlark_checks.a (`tools/native-lib starlark_checks` makes target/native/libstarlark_checks.a).
  *
+ * How it is linked
+ *   in the repository                 cc program.c -Iinclude -Ltarget/native -lstarlark_checks
+ *   after `tools/install PREFIX`      cc program.c $(pkg-config --cflags --libs starlark_checks)
+ *                                     with PREFIX/lib/pkgconfig in PKG_CONFIG_PATH, where pkg-config does not look there by itself;
+ *                                     or cc program.c -IPREFIX/include -LPREFIX/lib -lstarlark_checks
+ *   The archive stands behind what calls it. It needs no other library.
+ *
+ * docs/FORMAT.md has the format of tables and table files, docs/numbers.tsv all numbers, starlark_names.h both in words.
+ *
  * A table is `table_len` bytes, 24 for each node, in preorder; `names` are the bytes that its names lie in. Any bytes may
  * come in: a table that is not sound is refused, and no input makes a function read or write outside what it is lent.
  *
