@@ -35,7 +35,18 @@ pub use words::UnknownNumber;
 /// The version of the interface, which the header's is.
 pub const VERSION: &str = env!("CARGO_PKG_VERSION");
 
-/// A node table, and the bytes that its names lie in.
+/// A node table, and the bytes that its names lie in. The two may be parts of one slice, and may overlap:
+///
+/// ```
+/// use starlark_checks::{Kind, Table};
+///
+/// // an OtherSimple with an Identifier, whose name is byte 0 of the table itself
+/// let mut bytes = [0; 48];
+/// (bytes[0], bytes[16]) = (Kind::OtherSimple.into(), 2);
+/// (bytes[24], bytes[26], bytes[40]) = (Kind::Identifier.into(), 1, 1);
+/// assert_eq!(Table { nodes: &bytes, names: &bytes[..1] }.check(), Ok(()));
+/// assert_eq!(Table { nodes: &bytes, names: &bytes }.target(1), Ok(1));
+/// ```
 #[derive(Clone, Copy, Debug)]
 pub struct Table<'a> {
     pub nodes: &'a [u8],
