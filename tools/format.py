@@ -5,7 +5,8 @@ format.py           says whether the page is true where a tool can tell (exit st
 format.py --write   first writes the example anew
 
 Held: the kinds with their children, details and names, to document 01's sentences as tools/kinds.py reads them; the switches and rows of the
-dialects, to crates/dialect/src/lib.rt and tools/tables.py; the limits, to the constants of include/starlark.h; the example.
+dialects, to crates/dialect/src/lib.rt and tools/tables.py; the limits, to the constants of include/starlark.h; whether every record counts in
+the depth, to crates/table/specs/Depth.antt; the example.
 """
 import re
 import struct
@@ -111,6 +112,13 @@ def of_limits(text):
     return [f"the limit of {what} is {most:,}" for what, most in wanted.items() if found.get(what) != most]
 
 
+def of_depth(text):
+    """The faults of what is said of the depth."""
+    counted = re.search(r"^weight kind = 1$", (CRATES / "table" / "specs" / "Depth.antt").read_text(), re.M) is not None
+    said = "each child one more than its parent, parameters and arguments too" in text
+    return [] if counted == said else ["what counts in the depth is not what the definition of weight says"]
+
+
 def hexed(part):
     return " ".join(f"{byte:02x}" for byte in part)
 
@@ -173,7 +181,7 @@ def main():
     if "--write" in sys.argv:
         made = example()
         PAGE.write_text(above + FIRST + made + LAST + below)
-    faults = of_kinds(text) + of_dialects(text) + of_limits(text)
+    faults = of_kinds(text) + of_dialects(text) + of_limits(text) + of_depth(text)
     faults += [] if made == example() else ["the example is not samples/example.table (tools/format.py --write makes it)"]
     told = "docs/FORMAT.md: its kinds, dialects, limits and example are those of the repository"
     print("\n".join(f"docs/FORMAT.md: {fault}" for fault in faults) or told)
