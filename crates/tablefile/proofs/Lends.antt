@@ -290,3 +290,24 @@ module _ (bs : List ℕ) (v : Verdict) (v-is : verdict v ≡ readCheck bs) where
                 handed-is _ ns ns-long told (ns-is ∙ rw its-names refl),
               ),
             )
+
+-- LAW: a file that the reader accepts is handed over exactly where table and names fit
+module _ (bs : List ℕ) (passed : readCheck bs ≡ accepted []) (a b : ℕ) where
+  pub into-passed : length (contentAt bs .table) ≤ a → length (contentAt bs .names) ≤ b
+      → intoCheck bs a b ≡ accepted []
+  unfolding intoCheck
+  into-passed h k =
+      let f = read-fronted bs passed in
+      let t : 24 * headerAt bs .nodes ≤ a = omega (arith, table-length bs f, h) in
+      let n : headerAt bs .names ≤ b = omega (arith, names-length bs f, k) in
+      rw (passed, le-leb (24 * headerAt bs .nodes) a t, le-leb (headerAt bs .names) b n) refl
+
+-- LAW: what is handed over comes from a file whose blocks pass
+pub into-fronted : (bs : List ℕ) (a b : ℕ) → intoCheck bs a b ≡ accepted [] → Fronted bs
+unfolding intoCheck readCheck
+into-fronted bs a b e =
+    let rest : Unit {0} → Answer = λ _. andThen (demand (leb (length bs) (headerAt bs .taken)) bytesLeftOver)
+    (λ _. soundCheck (contentAt bs)) in
+    let room : Unit {0} → Answer = λ _. demand (leb (24 * headerAt bs .nodes) a && leb (headerAt bs .names) b)
+    shortBuffer in
+    fronted-then bs (λ _. andThen (rest tt) room) (sym (after-both (frontCheck bs) rest room) ∙ e) .0
