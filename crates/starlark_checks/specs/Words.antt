@@ -47,8 +47,8 @@ abbrev pub rescueWords : Answer → List ℕ
 rescueWords (accepted vs) = take 4 vs ++ (getD vs 4 0 % 4294967296) ∷ (getD vs 4 0 / 4294967296) ∷ []
 rescueWords (refused n vs) = carriedWords vs
 
--- what is told of a file that is read: its nodes and name bytes, 1 where it has a dialect, and the dialect's nine bytes,
--- four a word, the low one first; none are zeros
+-- what is told of a file that is read: its nodes and name bytes, 1 where it has a dialect, and the dialect's nine
+-- bytes, four a word, the low one first; none are zeros
 abbrev pub heldValues : List ℕ → List ℕ
 heldValues file =
     let h = headerAt file in

@@ -1,4 +1,4 @@
--- `filepass::check_file` meets its contract: the reader's refusal, or the pass over what the file holds. Assumes nothing.
+-- `filepass::check_file` meets its contract: the reader's refusal, or the pass over what a file holds. Assumes nothing.
 use borrow.Author.Needs.{needs}
 use Rattle.tablefile.proofs.Lends.{into-fits, into-table-long, into-names-long}
 use Rattle.filepass.proofs.Listing.{file-refused, file-sound, file-listed}
