@@ -1,0 +1,15 @@
+-- `errors::push_own` meets its contract: nothing, or the error in four words. Assumes nothing.
+use Rattle.errors.proofs.Storing.{push-left, push-own}
+use borrow.Author.Needs.{needs}
+use Rattle.errors.proofs.push_own.Statement.{statement}
+use Rattle.errors.proofs.push_own.Tie as tie
+
+pub push-own-spec : {M : Type 1} → statement M
+push-own-spec =
+    tie.close
+    (tie.spec
+    (λ c κs. search needs)
+    (λ c. search push-left)  -- returns
+    (λ c κs. search needs)
+    (λ c. search needs)
+    (λ c. search push-own))  -- returns-2
