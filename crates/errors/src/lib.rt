@@ -71,10 +71,10 @@ fn push_long(e: Err, errors: &mut [u32]) -> usize
 fn push_own(e: Err, errors: &mut [u32]) -> usize
     ensures { λ r. ⌜ Stores Own (only e) (now (errors .entry)) r (now (errors .exit)) ⌝ }
 {
-    if is_list_error(e.number) {
-        return 0;
+    if !is_list_error(e.number) {
+        return push_long(e, errors);
     }
-    push_long(e, errors)
+    0
 }
 
 // Whether a number is one of parameter lists.

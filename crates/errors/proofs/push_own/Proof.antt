@@ -1,4 +1,5 @@
--- `errors::push_own` meets its contract: nothing, or the error in four words. Assumes nothing.
+-- `errors::push_own` meets its contract: the error in four words, or nothing. Assumes nothing.
+use borrow.Author.Tests.{not-true, not-false}
 use Rattle.errors.proofs.Storing.{push-left, push-own}
 use borrow.Author.Needs.{needs}
 use Rattle.errors.proofs.push_own.Statement.{statement}
@@ -9,7 +10,7 @@ push-own-spec =
     tie.close
     (tie.spec
     (λ c κs. search needs)
-    (λ c. search push-left)  -- returns
     (λ c κs. search needs)
     (λ c. search needs)
-    (λ c. search push-own))  -- returns-2
+    (λ c. search (push-own, not-true))  -- returns
+    (λ c. search (push-left, not-false)))  -- returns-2
