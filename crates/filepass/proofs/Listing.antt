@@ -59,7 +59,7 @@ module _ (t names bytes : List ℕ) (sound : givenCheck t names bytes ≡ accept
     list-never e = let bad = sym (given-known t names bytes (known .1) .1) ∙ sym x-is ∙ e in never (cc)
 
     pub list-total : (xs : List ℕ) {d : Dialect} {n : ℕ} {ys : List ℕ} → x ≡ Valid d
-        → n ≡ length (passErrors d names t) → ys ≡ stored (passErrors d names t) xs
+        → n ≡ length (passErrors d names t) → ys ≡ stored Module (passErrors d names t) xs
         → (accepted (length t / 24 ∷ n ∷ []) ≡ heldAnswer t names bytes) × (ys ≡ errorsAfter t names bytes xs)
     list-total xs e n-is ys-is =
         let all = held-errors (sym x-is ∙ e) in

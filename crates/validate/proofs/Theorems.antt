@@ -11,6 +11,7 @@ use Rattle.fields.proofs.Basics.{never}
 use Rattle.table.specs.Answer.{accepted, refused}
 use Rattle.table.specs.Check.{Handing, inDialect, turnedAway, givenOf, inGiven}
 use Rattle.errors.specs.Errors.{width, stored}
+use Rattle.errors.specs.declared.Listing.the-variants.{Module}
 use Rattle.errors.proofs.Storing.{allWords, stored-all, stored-none}
 use Rattle.validate.specs.declared.Listed.the-variants.{Total}
 use Rattle.validate.specs.Job.{listed, errorsIn, errorsOf, moduleOf, errorsAfter}
@@ -24,9 +25,9 @@ module _ (t names bytes : List ℕ) where
   refusal-keeps {n} {vs} xs e = go (givenOf t names bytes) e
     where
       go : (h : Handing) → inGiven h (λ _. accepted (length (errorsIn h names t) ∷ [])) ≡ refused n vs
-          → stored (errorsIn h names t) xs ≡ xs
+          → stored Module (errorsIn h names t) xs ≡ xs
       go (inDialect d) h = never (cc)
-      go (turnedAway m ws) h = stored-none xs
+      go (turnedAway m ws) h = stored-none Module xs
 
   -- THEOREM: there are at most twice as many errors as nodes
   pub errors-few : length (errorsOf t names bytes) ≤ 2 * (length t / 24)
@@ -48,7 +49,7 @@ module _ (t names bytes : List ℕ) where
 
   -- THEOREM: a list of words with room for twice the node count holds all errors, one after the other, and its other
   -- words stay
-  pub list-holds-all : (xs : List ℕ) → width * (2 * (length t / 24)) ≤ length xs
-      → errorsAfter t names bytes xs ≡ allWords (errorsOf t names bytes)
-      ++ drop (width * length (errorsOf t names bytes)) xs
-  list-holds-all xs room = stored-all (errorsOf t names bytes) xs (omega (arith, errors-few))
+  pub list-holds-all : (xs : List ℕ) → width Module * (2 * (length t / 24)) ≤ length xs
+      → errorsAfter t names bytes xs ≡ allWords Module (errorsOf t names bytes)
+      ++ drop (width Module * length (errorsOf t names bytes)) xs
+  list-holds-all xs room = stored-all Module (errorsOf t names bytes) xs (omega (arith, errors-few))
