@@ -21,6 +21,7 @@ use Rattle.tablefile.specs.declared.Verdict.the-variants.{Accepted, Refused}
 use Rattle.tablefile.specs.declared.Loaded.{Loaded}
 use Rattle.tablefile.proofs.Theorems.{Read, holds, accepted-is-sound}
 use Rattle.errors.specs.Errors.{stored}
+use Rattle.errors.specs.declared.Listing.the-variants.{Module}
 use Rattle.validate.specs.Job.{passErrors, errorsOf, errorsAfter}
 use Rattle.validate.proofs.Jobs.{pass-is}
 use Rattle.filepass.specs.Passing.{heldAnswer, answerOf, wordsAfter}

@@ -203,7 +203,8 @@ module _ {l : Listing} (d : Dialect) (names : List ℕ) (i : ℕ) (t : List ℕ)
         record { few = omega (arith, unless-one b (errAt ellipsisNotPermitted (nodeOf i t)) s); stores = s }
 
     pub own-lambda : k ≡ kindLambda → {most m : ℕ} {xs ys : List ℕ}
-        → StoresFew l most (withParams d names (d .«enable_lambda») lambdaNotPermitted (nodeOf i t) (children i t)) xs m ys
+        → StoresFew l most (withParams d names (d .«enable_lambda») lambdaNotPermitted (nodeOf i t) (children i t)) xs
+        m ys
         → StoresFew l most (exprErrors d names (nodeOf i t) (children i t)) xs m ys
     unfolding exprErrors withParams
     own-lambda h s = rw (← k-is, h) s

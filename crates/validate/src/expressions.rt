@@ -89,7 +89,8 @@ pub(crate) fn visit_expr(
     errors: &mut [u32],
 ) -> usize
     requires { ⌜ Within at (now t) ⌝ }
-    ensures { λ r. ⌜ StoresFew listing (2 * mostNodes) («visit_expr» d (now (names .entry)) (forest at (now (t .entry))))
+    ensures { λ r. ⌜ StoresFew listing (2 * mostNodes)
+        («visit_expr» d (now (names .entry)) (forest at (now (t .entry))))
         (now (errors .entry)) r (now (errors .exit)) ⌝ }
 {
     let mut left = t;

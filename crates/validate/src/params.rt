@@ -45,7 +45,8 @@ pub(crate) fn with_params(
         (withParams d (now (names .entry)) permitted number (nodeOf at (now (t .entry)))
         (forest (at + 1) (kidsOf (now (t .entry))))) (now (errors .entry)) r (now (errors .exit)) ⌝ }
 {
-    let first = errors::push_unless(listing, permitted, number, t, at as u32, errors);
+    let node = at as u32;
+    let first = errors::push_unless(listing, permitted, number, t, node, errors);
     let free = errors::free(listing, errors.len(), first);
     let rest = validate_params(listing, d, names, t, at, &mut errors[free..]);
     first + rest
@@ -78,14 +79,29 @@ fn validate_params(
         &mut errors[after_stars..],
     );
     let after_marks = errors::free(listing, errors.len(), stars + slashes);
-    let last = unpack_error(listing, names, t, at, &mut errors[after_marks..]);
+    let last = list_error(listing, names, t, at, &mut errors[after_marks..]);
     stars + slashes + last
+}
+
+// unpack's one error. It is one of 10 to 18, so a list is not judged for a form that leaves these out.
+fn list_error(listing: Listing, names: &[u8], t: &[u8], at: usize, errors: &mut [u32]) -> usize
+    requires { ⌜ Headed at (now t) ⌝ }
+    ensures { λ r. ⌜ StoresFew listing 1
+        (unpackError (told (unpack (written (now (names .entry)) at (now (t .entry))))))
+        (now (errors .entry)) r (now (errors .exit)) ⌝ }
+{
+    match listing {
+        Listing::Module => unpack_error(listing, names, t, at, errors),
+        Listing::Own => 0,
+        Listing::Audit => unpack_error(listing, names, t, at, errors),
+    }
 }
 
 // unpack's one error, if it has one.
 fn unpack_error(listing: Listing, names: &[u8], t: &[u8], at: usize, errors: &mut [u32]) -> usize
     requires { ⌜ Headed at (now t) ⌝ }
-    ensures { λ r. ⌜ StoresFew listing 1 (unpackError (told (unpack (written (now (names .entry)) at (now (t .entry))))))
+    ensures { λ r. ⌜ StoresFew listing 1
+        (unpackError (told (unpack (written (now (names .entry)) at (now (t .entry))))))
         (now (errors .entry)) r (now (errors .exit)) ⌝ }
 {
     let judged = deflist::judge(names, t, at as u32);

@@ -155,7 +155,8 @@ pub(crate) fn visit_stmt(
     errors: &mut [u32],
 ) -> usize
     requires { ⌜ Within at (now t) ⌝ }
-    ensures { λ r. ⌜ StoresFew listing (2 * mostNodes) («visit_stmt» d (now (names .entry)) s (forest at (now (t .entry))))
+    ensures { λ r. ⌜ StoresFew listing (2 * mostNodes)
+        («visit_stmt» d (now (names .entry)) s (forest at (now (t .entry))))
         (now (errors .entry)) r (now (errors .exit)) ⌝ }
 {
     let mut left = t;

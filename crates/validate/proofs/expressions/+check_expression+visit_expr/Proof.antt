@@ -43,8 +43,8 @@ each-below t = and 3 each-kinds.ps (falls 3 each-kinds.ps _<_ μ-each t) each.Pr
 
 abbrev each-Inv-loop : each-lts.InvT-loop
 each-Inv-loop listing d names t at errors₀ left₀ place₀ total₀ errors left place total =
-    Visiting listing («visit_expr» d names) (expr d names) («visit_expr» d names (forest at t)) t errors₀ left place total
-    errors
+    Visiting listing («visit_expr» d names) (expr d names) («visit_expr» d names (forest at t)) t errors₀ left place
+    total errors
 
 abbrev each-μ-loop : each-lts.MeasureT-loop
 each-μ-loop listing d names t at errors₀ left₀ place₀ total₀ errors left place total = length left
