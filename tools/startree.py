@@ -7,6 +7,7 @@ arguments in a wrong order are refused by Python itself.
 import ast
 import io
 import re
+import sys
 import tokenize
 import warnings
 
@@ -164,6 +165,7 @@ def statements_of(script):
     text = Text(script, len(MARK) if script.startswith(MARK) else 0, len(script))
     module = parsed(ast.parse, text.source, refused_by_python)
     text.read_tokens()
+    sys.setrecursionlimit(50000)  # the parser has its own limit, which is far below this one
     return [Maker(text).statement(statement) for statement in module.body]
 
 
@@ -341,34 +343,45 @@ class Maker:
 
     def f_string(self, node):
         found = self.string("FString", node)
-        values = [value for value in node.values if isinstance(value, ast.FormattedValue)]
+        values = [value.value for value in node.values if isinstance(value, ast.FormattedValue)]
         fields = list(self.fields(node, *found.fields["span"]))
-        if len(fields) != len(values) or any(value.format_spec or value.conversion == ord("a") for value in values):
+        if len(fields) != len(values):
             self.refuse(node, FIELDS)
-        found.children = [self.field(node, value, *field) for value, field in zip(values, fields)]
+        found.children = [self.field(*pair) for pair in zip(values, fields)]
         return found
 
     def fields(self, node, begin, end):
         """The spans of the expressions in an f-string."""
         script = self.text.script
         if re.search(rb"\\(N?\{|\})", script[begin:end]):
-            self.refuse(node, "a `\\` before a bracket in an f-string is not read here")
+            self.refuse(node, "a `\\` before a bracket of an f-string is not read here")
         at = BETWEEN.match(script, begin, end).end()
         while at < end:
-            first, depth, at = at + 1, 0, at + 1
-            while at < end and (depth or script[at:at + 1] not in (b"}", b"!", b":") or script[at:at + 2] == b"!="):
-                step = STEP.match(script, at, end)
-                depth += (step[0] in (b"(", b"[", b"{")) - (step[0] in (b")", b"]", b"}"))
-                at = step.end()
-            yield first, at
-            at = BETWEEN.match(script, script.find(b"}", at) + 1, end).end()
+            first, last = at + 1, self.field_end(at + 1, end)
+            closed = re.compile(rb"(![sr])?\}").match(script, last, end)
+            if not closed:
+                self.refuse(node, FIELDS)
+            yield first, last
+            at = BETWEEN.match(script, closed.end(), end).end()
 
-    def field(self, node, value, begin, end):
+    def field_end(self, at, end):
+        """Where the expression of a field ends: before the first `}`, `!` or `:` that is in no bracket and no string."""
+        depth = 0
+        while at < end:
+            step = STEP.match(self.text.script, at, end)
+            if not depth and step[0] in (b"}", b"!", b":"):
+                break
+            depth += (step[0] in (b"(", b"[", b"{")) - (step[0] in (b")", b"]", b"}"))
+            at = step.end()
+        return at
+
+    def field(self, value, span):
         """The expression of a field, parsed by itself, so that its positions are known in every version of Python."""
-        text = Text(self.text.script, begin, end, (b"(", b")"))
-        alone = parsed(lambda source: ast.parse(source, mode="eval").body, text.source, lambda error: Refused(FIELDS, begin))
-        if ast.dump(alone) != ast.dump(value.value):
-            self.refuse(node, FIELDS)
+        text = Text(self.text.script, *span, (b"(", b")"))
+        refused = Refused(FIELDS, span[0])
+        alone = parsed(lambda source: ast.parse(source, mode="eval").body, text.source, lambda error: refused)
+        if ast.dump(alone) != ast.dump(value) or text.span(alone)[0] < span[0]:  # a tuple would take the brackets put around it
+            raise refused
         text.read_tokens()
         return Maker(text).expression(alone)
 
