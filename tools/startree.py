@@ -177,6 +177,10 @@ def joined(statements):
     return made("Statements", (spans[0][0], spans[-1][1]), statements)
 
 
+def is_load(node):
+    return isinstance(node, ast.Name) and node.id == "load"
+
+
 def made(kind, span, children=(), detail=0, name=b""):
     node = Node(NUMBER[kind], detail)
     node.name, node.children, node.fields["span"] = name, list(children), span
@@ -224,10 +228,10 @@ class Maker:
         return made("Return", self.text.span(node), [self.expression(node.value)] if node.value else [])
 
     def expression_statement(self, node):
-        call, span = node.value, self.text.span(node)
-        if isinstance(call, ast.Call) and isinstance(call.func, ast.Name) and call.func.id == "load" and self.text.span(call.func)[0] == span[0]:
-            return self.load(node, call)
-        return made("OtherSimple", span, [self.expression(call)])
+        span = begin, _ = self.text.span(node)
+        if isinstance(node.value, ast.Call) and self.text.word(self.text.begins[begin]) == b"load" and is_load(node.value.func):
+            return self.load(node, node.value)
+        return made("OtherSimple", span, [self.expression(node.value)])
 
     def load(self, node, call):
         given = call.args + [keyword.value for keyword in call.keywords]
@@ -403,7 +407,8 @@ class Maker:
         return made("ListComprehension", self.text.span(node), [self.expression(node.elt)] + self.clauses(node))
 
     def dict_comprehension(self, node):
-        return made("DictComprehension", self.text.span(node), [self.expression(node.key), self.expression(node.value)] + self.clauses(node))
+        pair = [self.expression(node.key), self.expression(node.value)]
+        return made("DictComprehension", self.text.span(node), pair + self.clauses(node))
 
     def clauses(self, node):
         """Target and over of each `for`, and the condition of each `if`, in the order in which they stand."""
