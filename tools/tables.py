@@ -42,12 +42,18 @@ NUMBER = {name: int(number) for number, name in zip(KINDS[::2], KINDS[1::2])}
 JOBS = {"check": 1, "node": 2, "dialect": 3, "call": 4, "params": 5, "target": 6, "assignment": 7, "type": 8, "module": 9, "bind": 10}
 WANTED = {"parameters": 1, "call": 2, "assignment": 3, "expression": 4}
 DIALECTS = {"none": "", "Standard": "111000100", "Extended": "111102110", "AllOptionsInternal": "111112111"}
+MOST_NODES, MOST_NAMES, MOST_DEPTH = 2100, 8064, 64
 TOKEN = re.compile(r"[()]|`[^`]*`|[^\s()]+")
 
 
 class Node:
     def __init__(self, kind, detail):
         self.kind, self.detail, self.name, self.quote, self.fields, self.children = kind, detail, b"", None, {}, []
+
+
+def weight(kind):
+    """What a record adds to the depth."""
+    return 1
 
 
 def demand(met, words):
@@ -106,15 +112,16 @@ def trees(text):
     return roots.children
 
 
-def table_of(roots):
-    """The records of trees side by side, and their name bytes."""
-    records, names = [], bytearray()
+def table_of(roots, shared=False):
+    """The records of trees side by side, and their name bytes, where equal names may share theirs."""
+    records, names, known = [], bytearray(), {}
 
     def lay(node):
         at = len(records)
         records.append(None)
-        start = len(names)
-        names.extend(node.name)
+        start = known.setdefault(node.name, len(names)) if shared else len(names)
+        if start == len(names):
+            names.extend(node.name)
         for child in node.children:
             lay(child)
         f = node.fields
