@@ -89,10 +89,8 @@ class Source:
         """The line of a span that is not beyond, a caret under each column of it, and what is not seen from that."""
         stop = self.bytes.find(b"\n", begin)
         stop = len(self.bytes) if stop < 0 else stop
-        before = self.line_before(begin)
-        within = self.bytes[begin:min(end, stop)].decode("utf-8", "replace").removesuffix("\r")
-        after = self.bytes[min(end, stop):stop].decode("utf-8", "replace").removesuffix("\r")
-        line, carets = drawn(before, within, after)
+        within, after = (self.bytes[a:b].decode("utf-8", "replace") for a, b in ((begin, min(end, stop)), (min(end, stop), stop)))
+        line, carets = drawn(self.line_before(begin), within, after)
         return [line, carets + self.unseen(begin, end)]
 
     def unseen(self, begin, end):
@@ -105,7 +103,9 @@ class Source:
 
 
 def cell(c, column):
-    """How a character is shown in a column, and how many columns that takes."""
+    """How a character is shown in a column, and how many columns that takes. A carriage return belongs to the line's end."""
+    if c == "\r":
+        return "", 0
     if c == "\t":
         return " " * (TAB - column % TAB), TAB - column % TAB
     width = 2 if unicodedata.east_asian_width(c) in "WF" else 1
