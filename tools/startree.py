@@ -7,6 +7,7 @@ arguments in a wrong order are refused by Python itself.
 import ast
 import io
 import re
+import sys
 import tokenize
 import warnings
 
@@ -59,7 +60,7 @@ class Text:
     def __init__(self, script, begin, end, brackets=(b"", b"")):
         before, after = brackets
         lines = (before + script[begin:end] + after).split(b"\n")
-        self.script, self.starts = script, [begin - len(before)]
+        self.script, self.end, self.starts = script, end, [begin - len(before)]
         for line in lines[:-1]:
             self.starts.append(self.starts[-1] + len(line) + 1)
         self.lines = [line.removesuffix(b"\r").decode() for line in lines]
@@ -92,6 +93,7 @@ class Text:
             elif self.word(index) in (b")", b"]", b"}"):
                 self.partner[index] = opened.pop()
                 self.partner[self.partner[index]] = index
+        refuse_blanks(self.script, last, last + len(self.script[last:self.end].partition(b"\n")[0]))
 
     def found_tokens(self):
         """The spans of the tokens that are no layout; an f-string is one, also where Python takes it apart."""
@@ -118,12 +120,13 @@ class Text:
 
 
 def refuse_blanks(script, begin, end):
-    """Refuses what the crate does not take between tokens. Lines of blanks alone may have tabs."""
+    """Refuses what the crate does not take between tokens. A line of blanks alone may have tabs."""
     lines = script[begin:end].split(b"\n")
-    for line in lines:
-        for blank, words in ((b"\t", "a tab"), (b"\f", "a form feed")):
-            if blank in line and (blank != b"\t" or line is lines[0] or line is lines[-1]):
-                raise Refused(f"Starlark has no such blank: {words} outside strings and comments", begin + line.find(blank))
+    for number, line in enumerate(lines):
+        found = re.search(rb"[\t\f]" if number in (0, len(lines) - 1) else rb"\f", line)
+        if found:
+            words = "a tab" if found[0] == b"\t" else "a form feed"
+            raise Refused(f"Starlark has no such blank outside strings and comments: {words}", begin + found.start())
         begin += len(line) + 1
 
 
@@ -164,6 +167,7 @@ def statements_of(script):
     text = Text(script, len(MARK) if script.startswith(MARK) else 0, len(script))
     module = parsed(ast.parse, text.source, refused_by_python)
     text.read_tokens()
+    sys.setrecursionlimit(50000)  # the parser has its own limit, which is far below this one
     return [Maker(text).statement(statement) for statement in module.body]
 
 
@@ -182,7 +186,7 @@ def made(kind, span, children=(), detail=0, name=b""):
 
 
 class Maker:
-    """Makes nodes of what Python's parser found in a text."""
+    """Makes nodes of what Python's parser found in a text. STATEMENTS and EXPRESSIONS say by what each is made."""
 
     def __init__(self, text):
         self.text = text
@@ -203,29 +207,30 @@ class Maker:
             self.refuse(node, f"a name of {len(name)} bytes, and a table has names of 255 at most")
         return name.encode()
 
-    # ---- statements
+    def node(self, kind, node, *parts, **others):
+        """A node with the expressions that its parts are."""
+        return made(kind, self.text.span(node), [self.expression(part) for part in parts if part], **others)
 
     def statement(self, node):
-        make = STATEMENTS.get(type(node))
-        if make is None:
-            self.has_not(node, node)
-        return make(self, node)
+        return STATEMENTS.get(type(node), Maker.unknown)(self, node)
+
+    def expression(self, node):
+        return EXPRESSIONS.get(type(node), Maker.unknown)(self, node)
+
+    def unknown(self, node):
+        self.has_not(node, node)
+
+    # ---- statements
 
     def body(self, statements):
         return joined([self.statement(statement) for statement in statements])
 
-    def word_statement(self, node):
-        kinds = {ast.Break: "Break", ast.Continue: "Continue", ast.Pass: "OtherSimple"}
-        return made(kinds[type(node)], self.text.span(node))
-
-    def return_statement(self, node):
-        return made("Return", self.text.span(node), [self.expression(node.value)] if node.value else [])
-
     def expression_statement(self, node):
-        call, span = node.value, self.text.span(node)
-        if isinstance(call, ast.Call) and isinstance(call.func, ast.Name) and call.func.id == "load" and self.text.span(call.func)[0] == span[0]:
-            return self.load(node, call)
-        return made("OtherSimple", span, [self.expression(call)])
+        call = node.value
+        if isinstance(call, ast.Call) and isinstance(call.func, ast.Name) and self.text.span(call.func)[0] == self.text.span(node)[0]:
+            if call.func.id == "load":
+                return self.load(node, call)
+        return self.node("OtherSimple", node, call)
 
     def load(self, node, call):
         given = call.args + [keyword.value for keyword in call.keywords]
@@ -234,7 +239,7 @@ class Maker:
             self.refuse(node, "a load statement names a file and then one thing of it or more, all as strings")
         for value in given:
             self.expression(value)
-        return made("Load", self.text.span(node))
+        return self.node("Load", node)
 
     def definition(self, node):
         if node.decorator_list:
@@ -249,27 +254,29 @@ class Maker:
     def for_statement(self, node):
         if node.orelse:
             self.refuse(node.orelse[0], "Starlark has no `else` of a `for`")
-        return made("For", self.text.span(node), [self.expression(node.target), self.expression(node.iter), self.body(node.body)])
+        found = self.node("For", node, node.target, node.iter)
+        found.children.append(self.body(node.body))
+        return found
 
     def if_statement(self, node):
-        bodies = [self.body(part) for part in (node.body, node.orelse) if part]
-        return made("IfElse" if node.orelse else "If", self.text.span(node), [self.expression(node.test)] + bodies)
+        found = self.node("IfElse" if node.orelse else "If", node, node.test)
+        found.children += [self.body(part) for part in (node.body, node.orelse) if part]
+        return found
 
     def assign(self, node):
         if len(node.targets) > 1:
             self.refuse(node.targets[1], "Starlark has no assignment to several targets one after the other")
-        return made("Assign", self.text.span(node), [self.expression(node.targets[0]), self.expression(node.value)])
+        return self.node("Assign", node, node.targets[0], node.value)
 
     def typed_assign(self, node):
         if node.value is None:
             self.refuse(node, "Starlark has no type without a value: `x: t = v` is the form")
-        children = [self.expression(part) for part in (node.target, node.annotation, node.value)]
-        return made("Assign", self.text.span(node), children, detail=1)
+        return self.node("Assign", node, node.target, node.annotation, node.value, detail=1)
 
     def modify(self, node):
         if not isinstance(node.op, OPERATORS):
             self.has_not(node, node.op)
-        return made("AssignModify", self.text.span(node), [self.expression(node.target), self.expression(node.value)])
+        return self.node("AssignModify", node, node.target, node.value)
 
     # ---- parameters
 
@@ -309,15 +316,6 @@ class Maker:
 
     # ---- expressions
 
-    def expression(self, node):
-        make = EXPRESSIONS.get(type(node))
-        if make is None:
-            self.has_not(node, node)
-        return make(self, node)
-
-    def identifier(self, node):
-        return made("Identifier", self.text.span(node), name=self.name(node, node.id))
-
     def constant(self, node):
         span, value = self.text.span(node), node.value
         if value is None or isinstance(value, bool):  # names like others in Starlark
@@ -341,34 +339,45 @@ class Maker:
 
     def f_string(self, node):
         found = self.string("FString", node)
-        values = [value for value in node.values if isinstance(value, ast.FormattedValue)]
+        values = [value.value for value in node.values if isinstance(value, ast.FormattedValue)]
         fields = list(self.fields(node, *found.fields["span"]))
-        if len(fields) != len(values) or any(value.format_spec or value.conversion == ord("a") for value in values):
+        if len(fields) != len(values):
             self.refuse(node, FIELDS)
-        found.children = [self.field(node, value, *field) for value, field in zip(values, fields)]
+        found.children = [self.field(*pair) for pair in zip(values, fields)]
         return found
 
     def fields(self, node, begin, end):
         """The spans of the expressions in an f-string."""
         script = self.text.script
         if re.search(rb"\\(N?\{|\})", script[begin:end]):
-            self.refuse(node, "a `\\` before a bracket in an f-string is not read here")
+            self.refuse(node, "a `\\` before a bracket of an f-string is not read here")
         at = BETWEEN.match(script, begin, end).end()
         while at < end:
-            first, depth, at = at + 1, 0, at + 1
-            while at < end and (depth or script[at:at + 1] not in (b"}", b"!", b":") or script[at:at + 2] == b"!="):
-                step = STEP.match(script, at, end)
-                depth += (step[0] in (b"(", b"[", b"{")) - (step[0] in (b")", b"]", b"}"))
-                at = step.end()
-            yield first, at
-            at = BETWEEN.match(script, script.find(b"}", at) + 1, end).end()
+            first, last = at + 1, self.field_end(at + 1, end)
+            closed = re.compile(rb"(![sr])?\}").match(script, last, end)
+            if not closed:
+                self.refuse(node, FIELDS)
+            yield first, last
+            at = BETWEEN.match(script, closed.end(), end).end()
 
-    def field(self, node, value, begin, end):
+    def field_end(self, at, end):
+        """Where the expression of a field ends: before the first `}`, `!` or `:` that is in no bracket and no string."""
+        depth = 0
+        while at < end:
+            step = STEP.match(self.text.script, at, end)
+            if not depth and step[0] in (b"}", b"!", b":"):
+                break
+            depth += (step[0] in (b"(", b"[", b"{")) - (step[0] in (b")", b"]", b"}"))
+            at = step.end()
+        return at
+
+    def field(self, value, span):
         """The expression of a field, parsed by itself, so that its positions are known in every version of Python."""
-        text = Text(self.text.script, begin, end, (b"(", b")"))
-        alone = parsed(lambda source: ast.parse(source, mode="eval").body, text.source, lambda error: Refused(FIELDS, begin))
-        if ast.dump(alone) != ast.dump(value.value):
-            self.refuse(node, FIELDS)
+        text = Text(self.text.script, *span, (b"(", b")"))
+        refused = Refused(FIELDS, span[0])
+        alone = parsed(lambda source: ast.parse(source, mode="eval").body, text.source, lambda error: refused)
+        if ast.dump(alone) != ast.dump(value) or text.span(alone)[0] < span[0]:  # a tuple would take the brackets put around it
+            raise refused
         text.read_tokens()
         return Maker(text).expression(alone)
 
@@ -376,78 +385,60 @@ class Maker:
         span = self.text.span(node)
         if not self.text.is_bracketed(span) and self.text.word(self.text.ends[span[1]]) == b",":
             self.refuse(node, "Starlark has no tuple without brackets that ends with a comma")
-        return made("Tuple", span, map(self.expression, node.elts))
-
-    def list(self, node):
-        return made("List", self.text.span(node), map(self.expression, node.elts))
+        return self.node("Tuple", node, *node.elts)
 
     def dict(self, node):
         if None in node.keys:
             self.refuse(node, "Starlark has no `**` in a dict")
-        return made("Dict", self.text.span(node), [self.expression(part) for pair in zip(node.keys, node.values) for part in pair])
-
-    def list_comprehension(self, node):
-        return made("ListComprehension", self.text.span(node), [self.expression(node.elt)] + self.clauses(node))
-
-    def dict_comprehension(self, node):
-        return made("DictComprehension", self.text.span(node), [self.expression(node.key), self.expression(node.value)] + self.clauses(node))
+        return self.node("Dict", node, *(part for pair in zip(node.keys, node.values) for part in pair))
 
     def clauses(self, node):
         """Target and over of each `for`, and the condition of each `if`, in the order in which they stand."""
         if any(clause.is_async for clause in node.generators):
             self.refuse(node, "Starlark has no `async`")
-        return [self.expression(part) for clause in node.generators for part in (clause.target, clause.iter, *clause.ifs)]
-
-    def dot(self, node):
-        return made("Dot", self.text.span(node), [self.expression(node.value)], name=self.name(node, node.attr))
+        return [part for clause in node.generators for part in (clause.target, clause.iter, *clause.ifs)]
 
     def call(self, node):
-        span = self.text.span(node)
-        opening = self.text.partner[self.text.ends[span[1]]]
-        given = sorted(node.args + node.keywords, key=self.text.span)
-        return made("Call", span, [self.expression(node.func)] + [self.argument(one, opening) for one in given])
+        found = self.node("Call", node, node.func)
+        opening = self.text.partner[self.text.ends[found.fields["span"][1]]]
+        found.children += [self.argument(one, opening) for one in sorted(node.args + node.keywords, key=self.text.span)]
+        return found
 
     def argument(self, node, opening):
-        span = self.text.span(node)
         if isinstance(node, ast.Starred):
-            return made("ArgsArg", span, [self.expression(node.value)])
+            return self.node("ArgsArg", node, node.value)
         if not isinstance(node, ast.keyword):
-            return made("Positional", self.text.widened(span, opening), [self.expression(node)])
+            return made("Positional", self.text.widened(self.text.span(node), opening), [self.expression(node)])
         if node.arg is None:
-            return made("KwArgsArg", span, [self.expression(node.value)])
-        found = made("Named", span, [self.expression(node.value)], name=self.name(node, node.arg))
-        found.fields["pos"] = span[0]
+            return self.node("KwArgsArg", node, node.value)
+        found = self.node("Named", node, node.value, name=self.name(node, node.arg))
+        found.fields["pos"] = found.fields["span"][0]
         return found
 
     def subscript(self, node):
-        span, index = self.text.span(node), node.slice
+        index = node.slice
         if isinstance(index, ast.Slice):
-            parts = [part for part in (index.lower, index.upper, index.step) if part]
-            return made("Slice", span, map(self.expression, [node.value] + parts))
+            return self.node("Slice", node, node.value, index.lower, index.upper, index.step)
         if not isinstance(index, ast.Tuple) or self.text.is_bracketed(self.text.span(index)):
-            return made("Index", span, [self.expression(node.value), self.expression(index)])
+            return self.node("Index", node, node.value, index)
         if len(index.elts) != 2 or self.text.word(self.text.ends[self.text.span(index)[1]]) == b",":
             self.refuse(index, "Starlark has one index or two, and no comma behind them")
-        return made("Index2", span, map(self.expression, [node.value] + index.elts))
+        return self.node("Index2", node, node.value, *index.elts)
 
     def lambda_expression(self, node):
         return made("Lambda", self.text.span(node), self.parameters(node.args) + [self.expression(node.body)])
 
-    def unary(self, node):
-        return made(UNARY[type(node.op)], self.text.span(node), [self.expression(node.operand)])
-
     def operation(self, node):
         if not isinstance(node.op, OPERATORS):
             self.has_not(node, node.op)
-        children = [self.expression(node.left), self.expression(node.right)]
-        return made("Op", self.text.span(node), children, detail=int(isinstance(node.op, ast.BitOr)))
+        return self.node("Op", node, node.left, node.right, detail=int(isinstance(node.op, ast.BitOr)))
 
     def comparison(self, node):
         if len(node.ops) > 1:
             self.refuse(node, "Starlark has no chain of comparisons: put `and` or brackets")
         if not isinstance(node.ops[0], OPERATORS):
             self.has_not(node, node.ops[0])
-        return made("Op", self.text.span(node), [self.expression(node.left), self.expression(node.comparators[0])])
+        return self.node("Op", node, node.left, *node.comparators)
 
     def both(self, node):
         """`a and b and c` is (a and b) and c, each with its span."""
@@ -458,18 +449,22 @@ class Maker:
             found = made("Op", (begin, to), [found, self.expression(value)])
         return found
 
-    def if_expression(self, node):
-        return made("IfExpr", self.text.span(node), map(self.expression, (node.test, node.body, node.orelse)))
-
 
 STATEMENTS = {
-    ast.Break: Maker.word_statement, ast.Continue: Maker.word_statement, ast.Pass: Maker.word_statement,
-    ast.Return: Maker.return_statement, ast.Expr: Maker.expression_statement, ast.FunctionDef: Maker.definition,
-    ast.For: Maker.for_statement, ast.If: Maker.if_statement, ast.Assign: Maker.assign, ast.AnnAssign: Maker.typed_assign,
-    ast.AugAssign: Maker.modify}
+    ast.Break: lambda maker, node: maker.node("Break", node),
+    ast.Continue: lambda maker, node: maker.node("Continue", node),
+    ast.Pass: lambda maker, node: maker.node("OtherSimple", node),
+    ast.Return: lambda maker, node: maker.node("Return", node, node.value),
+    ast.Expr: Maker.expression_statement, ast.FunctionDef: Maker.definition, ast.For: Maker.for_statement, ast.If: Maker.if_statement,
+    ast.Assign: Maker.assign, ast.AnnAssign: Maker.typed_assign, ast.AugAssign: Maker.modify}
 EXPRESSIONS = {
-    ast.Name: Maker.identifier, ast.Constant: Maker.constant, ast.JoinedStr: Maker.f_string, ast.Tuple: Maker.tuple,
-    ast.List: Maker.list, ast.Dict: Maker.dict, ast.ListComp: Maker.list_comprehension, ast.DictComp: Maker.dict_comprehension,
-    ast.Attribute: Maker.dot, ast.Call: Maker.call, ast.Subscript: Maker.subscript, ast.Lambda: Maker.lambda_expression,
-    ast.UnaryOp: Maker.unary, ast.BinOp: Maker.operation, ast.Compare: Maker.comparison, ast.BoolOp: Maker.both,
-    ast.IfExp: Maker.if_expression}
+    ast.Name: lambda maker, node: maker.node("Identifier", node, name=maker.name(node, node.id)),
+    ast.Attribute: lambda maker, node: maker.node("Dot", node, node.value, name=maker.name(node, node.attr)),
+    ast.List: lambda maker, node: maker.node("List", node, *node.elts),
+    ast.UnaryOp: lambda maker, node: maker.node(UNARY[type(node.op)], node, node.operand),
+    ast.IfExp: lambda maker, node: maker.node("IfExpr", node, node.test, node.body, node.orelse),
+    ast.ListComp: lambda maker, node: maker.node("ListComprehension", node, node.elt, *maker.clauses(node)),
+    ast.DictComp: lambda maker, node: maker.node("DictComprehension", node, node.key, node.value, *maker.clauses(node)),
+    ast.Constant: Maker.constant, ast.JoinedStr: Maker.f_string, ast.Tuple: Maker.tuple, ast.Dict: Maker.dict, ast.Call: Maker.call,
+    ast.Subscript: Maker.subscript, ast.Lambda: Maker.lambda_expression, ast.BinOp: Maker.operation, ast.Compare: Maker.comparison,
+    ast.BoolOp: Maker.both}

@@ -1,6 +1,7 @@
 // A table file to its answer: the reader, then the module pass over what it holds, with the errors in a lent list.
 use blocks::BLOCK_BYTES;
 use dialect::Decoded;
+use errors::Listing;
 use errors::WIDTH;
 use forest::RECORD;
 use table::MOST_NODES;
@@ -75,7 +76,7 @@ fn list(table: &[u8], names: &[u8], dialect: &[u8], errors: &mut [u32]) -> Passe
     match decoded {
         Decoded::Valid(d) => Passed::Listed {
             nodes: (table.len() / RECORD) as u32,
-            total: validate::pass(table, names, d, errors),
+            total: validate::pass(Listing::Module, table, names, d, errors),
         },
         Decoded::Invalid => Passed::Refused(Refusal::Bare(numbers::BAD_DIALECT)),
     }
