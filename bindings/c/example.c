@@ -161,6 +161,17 @@ static void in_words(const uint8_t *dialect, size_t dialect_length) {
     }
 }
 
+/* The audit in a list of `length` words, which hold 9. */
+static void audit(const char *words, const uint8_t *dialect, size_t dialect_length, size_t length) {
+    uint32_t out[STARLARK_WORDS];
+    uint32_t errors[48];
+    for (size_t i = 0; i < length; i++) errors[i] = 9;
+    if (accepted(words, starlark_audit(TABLE, dialect, dialect_length, errors, length, out), out)) printf("%u errors", out[0]);
+    printf(", list");
+    for (size_t i = 0; i < length; i++) printf(" %u", errors[i]);
+    printf("\n");
+}
+
 /* The file in a buffer of `length` bytes, which hold 9: its first bytes, and how many are no longer so. An accepted one is put under the name
  * `path`, where there is one. */
 static void write_file(const char *words, const uint8_t *dialect, size_t dialect_length, size_t length, const char *path) {
@@ -336,6 +347,9 @@ int main(int count, char **words) {
     module("in the Extended dialect", extended, 9, 16);
     module("eight bytes of dialect", extended, 8, 4);
     in_words(extended, 9);
+    audit("the audit in the Extended dialect", extended, 9, 48);
+    audit("a list of seven words", extended, 9, 7);
+    audit("eight bytes of dialect", extended, 8, 4);
     write_file("the file in the Extended dialect", extended, 9, STARLARK_FILE_BYTES, count > 1 ? words[1] : NULL);
     write_file("with no dialect", extended, 0, STARLARK_FILE_BYTES, NULL);
     write_file("2,560 bytes for five blocks", extended, 0, 2560, NULL);

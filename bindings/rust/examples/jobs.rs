@@ -222,6 +222,19 @@ fn modules() {
     }
 }
 
+fn audits() {
+    let call = tree(CALL, vec![x("f"), Tree(NAMED, 0, "b", vec![x("a")]), tree(POSITIONAL, vec![x("a")])]);
+    let script = Script::of(tree(STATEMENTS, vec![tree(SIMPLE, vec![call]), leaf(BREAK, "")]));
+    let show = |words: &str, dialect: &[u8], room: usize| {
+        let mut errors = vec![u32::from(BEFORE); room];
+        let answer = script.table().audit(dialect, &mut errors);
+        println!("{words}: {answer:?}, errors {errors:?}");
+    };
+    show("f(b=a, a), then break, audited", &[], 9);
+    show("a list one word short of two", &[], 7);
+    show("eight bytes of dialect", &EXTENDED[..8], 9);
+}
+
 /// The file in `room` bytes: its first bytes, and how many are no longer what they were. An accepted one is put under the name `path`.
 fn show_file(words: &str, script: &Script, dialect: &[u8], room: usize, path: Option<String>) {
     let mut file = vec![BEFORE; room];
@@ -307,6 +320,7 @@ fn main() {
     assignments();
     types();
     modules();
+    audits();
     files();
     rescues();
     reads();

@@ -110,6 +110,9 @@ pub const FILE_BYTES: usize = 59_904;
 /// No module has more errors: two for each node.
 pub const ERRORS: usize = 4_200;
 
+/// No audit has more errors: four for each node.
+pub const AUDIT_ERRORS: usize = 8_400;
+
 /// Stack enough for every job, twice over.
 pub const STACK_BYTES: usize = 1 << 18;
 
@@ -231,6 +234,12 @@ impl Table<'_> {
     /// end; the first that fit whole are stored.
     pub fn module(self, dialect: &[u8], errors: &mut [u32]) -> Result<u32, Refused> {
         accepted(|out| interface::module(self, dialect, errors, out)).map(|out| out[0])
+    }
+
+    /// How many errors every job on every node that it fits has under a dialect (nine bytes, or none for Standard). Four words of `errors` for
+    /// each: number, node, begin and end; the first that fit whole are stored.
+    pub fn audit(self, dialect: &[u8], errors: &mut [u32]) -> Result<u32, Refused> {
+        accepted(|out| interface::audit(self, dialect, errors, out)).map(|out| out[0])
     }
 
     /// The table file of the table, its names and a dialect (nine bytes, or none, which stays none), at the front of `file`: how many bytes
