@@ -4,6 +4,8 @@ use dialect::Decoded;
 use errors::Listing;
 use errors::WIDTH;
 use forest::RECORD;
+use table::MOST_BYTES;
+use table::MOST_NAMES;
 use table::MOST_NODES;
 use table::Refusal;
 use table::numbers;
@@ -35,18 +37,17 @@ pub fn check_file(file: &[u8], errors: &mut [u32]) -> Passed
     ensures { λ r. ⌜ passed r ≡ answerOf (now (file .entry)) ⌝ }
     ensures { λ r. ⌜ now (errors .exit) ≡ wordsAfter (now (file .entry)) (now (errors .entry)) ⌝ }
 {
-    let l = tablefile::read(file);
-    let verdict = l.verdict;
-    if let Verdict::Refused(why) = verdict {
+    let mut table = [0u8; MOST_BYTES];
+    let mut names = [0u8; MOST_NAMES];
+    let found = tablefile::unpack(file, &mut table, &mut names);
+    if let Verdict::Refused(why) = found {
         return Passed::Refused(why);
     }
-    let table = l.table;
-    let names = l.names;
-    let dialect = l.dialect;
+    let h = tablefile::header(file);
     list(
-        front(&table, l.table_len),
-        front(&names, l.names_len),
-        front(&dialect, l.dialect_len),
+        front(&table, RECORD * h.nodes),
+        front(&names, h.names),
+        tablefile::dialect_bytes(file),
         errors,
     )
 }
@@ -83,11 +84,11 @@ fn list(table: &[u8], names: &[u8], dialect: &[u8], errors: &mut [u32]) -> Passe
 }
 
 // The front of some bytes, as much of it as is there.
-fn front(s: &[u8], len: usize) -> &[u8]
-    ensures { λ r. ⌜ now r ≡ take len (now (s .entry)) ⌝ }
+pub fn front(bytes: &[u8], len: usize) -> &[u8]
+    ensures { λ r. ⌜ now r ≡ take len (now (bytes .entry)) ⌝ }
 {
-    if s.len() <= len {
-        return s;
+    if bytes.len() <= len {
+        return bytes;
     }
-    &s[0..len]
+    &bytes[0..len]
 }
