@@ -80,12 +80,13 @@ fn too_few(options: &Options, all: &Tally) -> Vec<String> {
 fn never_given(options: &Options, all: &Tally) -> Vec<String> {
     let is_asked = |job: usize| options.wanted[job] && (job != FILE || options.program.is_some());
     let numbers = numbers_of_jobs();
-    let never = |job: usize| {
+    let told = |job: usize| {
         let never = numbers[job].iter().filter(|&&number| all.given[job][number] == 0);
-        never.map(|number| number.to_string()).collect::<Vec<_>>().join(" ")
+        let never: Vec<String> = never.map(|number| number.to_string()).collect();
+        (!never.is_empty()).then(|| format!("{} {}", NAMES[job], never.join(" ")))
     };
     let asked = (0..JOBS).filter(|&job| is_asked(job) && (options.is_whole() || all.of_job[job] > 0));
-    asked.map(|job| (job, never(job))).filter(|(_, never)| !never.is_empty()).map(|(job, never)| format!("{} {never}", NAMES[job])).collect()
+    asked.filter_map(told).collect()
 }
 
 /// What each job can answer, 0 among it.
