@@ -6,17 +6,20 @@ numbers.py          says whether they agree, number by number and name by name (
 - docs/numbers.tsv, the constants of crates/table/src/numbers.rt and the definitions of its specs/Numbers.antt
 - the column "given by" of docs/numbers.tsv and what include/starlark.h says of each job; a file gives what reader and module pass do
 - the constants of crates/soundness/src/kinds.rt, the definitions of its specs/KindNumbers.antt, and the words of tools/tables.py
+- docs/kinds.tsv, those words, and the classes by document 01's sentences; then what tools/interfaces.py makes for C and Rust
 """
 import re
 import sys
 
+import interfaces
+import kinds
 from repository import CRATES, ROOT
 from tables import NUMBER as WORDS
 
 # document 01, "Numbers given back" and "The file and the program"; document 02
 GIVEN = [*range(1, 8), *range(10, 19), *range(20, 25), *range(30, 34), *range(40, 46), *range(50, 62), *range(70, 76), *range(80, 85), 90, 91]
 HEAD = ["number", "name", "meaning", "given by"]
-JOBS = ["table", "params", "call", "bind", "target", "assignment", "type", "module", "write", "rescue", "file"]
+JOBS = ["table", "params", "call", "bind", "target", "assignment", "type", "module", "write", "rescue", "read", "file"]
 
 
 def capitals(name):
@@ -51,8 +54,10 @@ def given_by_jobs():
         words = words.rpartition("/*")[2]
         listed = re.findall(r": ([\d, to]+)\.\s+(?:\* )?Accepted", words) + re.findall(r"number \(([\d, to]+)\)", words)
         given[job] = set(ranges(", ".join(listed)))
-    # the reader refuses with 74 what 1 and 2 would refuse
+    # a file is checked by the program and by starlark_check_file; the reader refuses with 74 what 1 and 2 would refuse
     given["file"] = given["module"] - {1, 2} | set(range(70, 76))
+    if given.pop("check_file", None) != given["file"]:
+        given["check_file, which does not give what the program does,"] = set()
     return given
 
 
@@ -84,14 +89,19 @@ def of_kinds():
     specs = said_of("soundness/specs/KindNumbers.antt", r"^kind(\w+) = (\d+)$")
     words = [(number, word) for word, number in WORDS.items()]
     faults = differing("crates/soundness/specs/KindNumbers.antt", words, specs)
+    classes = {number: kind.own for number, kind in kinds.read((kinds.FOLDER / "document01.txt").read_text()).items()}
+    table = [tuple(line.split("\t")) for line in (ROOT / "docs" / "kinds.tsv").read_text().splitlines()]
+    faults += differing("docs/kinds.tsv", [("number", "name", "class")] + [(str(n), word, classes[n]) for n, word in words], table)
     return faults + differing("crates/soundness/src/kinds.rt", words, [(number, capitals(name)) for number, name in code]), len(words)
 
 
 def main():
-    (faults, count), (more, kinds) = of_numbers(), of_kinds()
-    told = f"docs/numbers.tsv: its {count} numbers, names and jobs, and the {kinds} kinds, are those of code, definitions and header"
-    print("\n".join(faults + more) or told)
-    return 1 if faults + more else 0
+    (faults, count), (more, known) = of_numbers(), of_kinds()
+    faults += more
+    faults += [] if faults else interfaces.faults()
+    told = f"docs/numbers.tsv: its {count} numbers, names and jobs, and the {known} kinds, are those of code, definitions, header and wrapper"
+    print("\n".join(faults) or told)
+    return 1 if faults else 0
 
 
 if __name__ == "__main__":

@@ -16,9 +16,14 @@
 #include <string.h>
 
 #include "starlark.h"
+#include "starlark_names.h"
 
-enum { STATEMENTS = 1, DEF = 2, BREAK = 6, SIMPLE = 10, ASSIGN = 11, MODIFY = 12, TUPLE = 20, DOT = 21, CALL = 22, INDEX = 23 };
-enum { IDENTIFIER = 26, INT = 29, NORMAL = 50, NO_ARGS = 51, SLASH = 52, KW_ARGS_PARAM = 54, POSITIONAL = 60, NAMED = 61, ARGS = 62 };
+enum { STATEMENTS = STARLARK_KIND_STATEMENTS, DEF = STARLARK_KIND_DEF, BREAK = STARLARK_KIND_BREAK };
+enum { SIMPLE = STARLARK_KIND_OTHER_SIMPLE, ASSIGN = STARLARK_KIND_ASSIGN, MODIFY = STARLARK_KIND_ASSIGN_MODIFY };
+enum { TUPLE = STARLARK_KIND_TUPLE, DOT = STARLARK_KIND_DOT, CALL = STARLARK_KIND_CALL, INDEX = STARLARK_KIND_INDEX };
+enum { IDENTIFIER = STARLARK_KIND_IDENTIFIER, INT = STARLARK_KIND_INT, NORMAL = STARLARK_KIND_NORMAL };
+enum { NO_ARGS = STARLARK_KIND_NO_ARGS, SLASH = STARLARK_KIND_SLASH, KW_ARGS_PARAM = STARLARK_KIND_KW_ARGS_PARAM };
+enum { POSITIONAL = STARLARK_KIND_POSITIONAL, NAMED = STARLARK_KIND_NAMED, ARGS = STARLARK_KIND_ARGS_ARG };
 
 static uint8_t table[64 * STARLARK_NODE_BYTES];
 static size_t nodes;
@@ -51,15 +56,14 @@ static size_t node(int kind, int detail, size_t size, const char *name) {
 /* The begin of a job's line; whether it is accepted. `number` is what the job answers, `out` what it has written there. */
 static int accepted(const char *job, uint32_t number, const uint32_t *out) {
     printf("%s: ", job);
-    if (number == 3 || number == 4) {
-        printf("refused with %u at node %u", number, out[0]);
-    } else if (number != 0 && (number < 10 || number >= 90)) {
-        printf("refused with %u", number);
-    } else if (number != 0) {
-        printf("refused with %u at node %u, bytes %u to %u", number, out[0], out[1], out[2]);
+    if (number != STARLARK_ACCEPTED) printf("refused with %u %s", number, starlark_number_name(number));
+    if (number == STARLARK_NUMBER_UNSOUND_RECORD || number == STARLARK_NUMBER_TOO_DEEP) {
+        printf(" at node %u", out[0]);
+    } else if ((number >= 10 && number < 70) || (number >= 80 && number < 90)) {
+        printf(" at node %u, bytes %u to %u", out[0], out[1], out[2]);
         if (out[3] != STARLARK_NONE) printf(", its name first at node %u", out[3]);
     }
-    return number == 0;
+    return number == STARLARK_ACCEPTED;
 }
 
 static void bytes(const char *what, const uint8_t *buffer, size_t length) {
@@ -147,6 +151,16 @@ static void module(const char *words, const uint8_t *dialect, size_t dialect_len
     printf("\n");
 }
 
+/* The first errors of the module, in words. */
+static void in_words(const uint8_t *dialect, size_t dialect_length) {
+    uint32_t out[STARLARK_WORDS];
+    uint32_t errors[6];
+    starlark_module(TABLE, dialect, dialect_length, errors, 6, out);
+    for (size_t i = 0; i < 6; i += 3) {
+        printf("in words: %s at bytes %u to %u: %s\n", starlark_number_name(errors[i]), errors[i + 1], errors[i + 2], starlark_number_words(errors[i]));
+    }
+}
+
 /* The file in a buffer of `length` bytes, which hold 9: its first bytes, and how many are no longer so. An accepted one is put under the name
  * `path`, where there is one. */
 static void write_file(const char *words, const uint8_t *dialect, size_t dialect_length, size_t length, const char *path) {
@@ -179,6 +193,45 @@ static void rescue(const char *words, size_t input_length, size_t damaged, size_
     }
     while (changed > 0 && file[changed - 1] == 9) changed--;
     printf(", %zu changed\n", changed);
+}
+
+/* The script's file with the byte at `damaged` changed, where there is one; its length. */
+static size_t script_file(uint8_t *file, const uint8_t *dialect, size_t dialect_length, size_t damaged) {
+    uint32_t out[STARLARK_WORDS];
+    starlark_write(TABLE, dialect, dialect_length, file, STARLARK_FILE_BYTES, out);
+    if (damaged < STARLARK_FILE_BYTES) file[damaged] ^= 1;
+    return out[0];
+}
+
+/* What the script's file holds, in buffers of `table_length` and `names_length` bytes, which hold 9: whether it is the script's table and names,
+ * and how many bytes are no longer 9. */
+static void read_file(const char *words, const uint8_t *dialect, size_t dialect_length, size_t damaged, size_t table_length, size_t names_length) {
+    uint32_t out[STARLARK_WORDS];
+    static uint8_t file[STARLARK_FILE_BYTES], read[STARLARK_NODES * STARLARK_NODE_BYTES], read_names[STARLARK_NAME_BYTES];
+    size_t length = script_file(file, dialect, dialect_length, damaged), changed = sizeof read, named = sizeof read_names;
+    memset(read, 9, sizeof read);
+    memset(read_names, 9, sizeof read_names);
+    if (accepted(words, starlark_read(file, length, read, table_length, read_names, names_length, out), out)) {
+        int same = memcmp(read, table, STARLARK_NODE_BYTES * nodes) == 0 && memcmp(read_names, names, strlen(names)) == 0;
+        printf("%u nodes, %u name bytes, %s, dialect %u", out[0], out[1], same ? "the same" : "others", out[2]);
+        for (int i = 0; i < 9; i++) printf(" %u", out[3 + i / 4] >> 8 * (i % 4) & 255);
+    }
+    while (changed > 0 && read[changed - 1] == 9) changed--;
+    while (named > 0 && read_names[named - 1] == 9) named--;
+    printf(", %zu and %zu changed\n", changed, named);
+}
+
+/* The errors of the script's file in a list of `length` words, which hold 9. */
+static void check_file(const char *words, const uint8_t *dialect, size_t dialect_length, size_t damaged, size_t length) {
+    uint32_t out[STARLARK_WORDS];
+    uint32_t errors[20];
+    static uint8_t file[STARLARK_FILE_BYTES];
+    size_t bytes_there = script_file(file, dialect, dialect_length, damaged);
+    for (size_t i = 0; i < length; i++) errors[i] = 9;
+    if (accepted(words, starlark_check_file(file, bytes_there, errors, length, out), out)) printf("%u errors, %u nodes", out[0], out[1]);
+    printf(", list");
+    for (size_t i = 0; i < length; i++) printf(" %u", errors[i]);
+    printf("\n");
 }
 
 int main(int count, char **words) {
@@ -282,6 +335,7 @@ int main(int count, char **words) {
     module("a list of four words", extended, 0, 4);
     module("in the Extended dialect", extended, 9, 16);
     module("eight bytes of dialect", extended, 8, 4);
+    in_words(extended, 9);
     write_file("the file in the Extended dialect", extended, 9, STARLARK_FILE_BYTES, count > 1 ? words[1] : NULL);
     write_file("with no dialect", extended, 0, STARLARK_FILE_BYTES, NULL);
     write_file("2,560 bytes for five blocks", extended, 0, 2560, NULL);
@@ -296,5 +350,13 @@ int main(int count, char **words) {
     rescue("1,535 bytes for three blocks", 2560, 1600, 1535);
     rescue("with a changed byte in its first node block", 2560, 1100, STARLARK_FILE_BYTES);
     rescue("with a changed byte in its names", 2560, 600, STARLARK_FILE_BYTES);
+    read_file("the file in the Extended dialect, read", extended, 9, none, STARLARK_NODES * STARLARK_NODE_BYTES, STARLARK_NAME_BYTES);
+    read_file("with no dialect, 1,512 bytes for 63 nodes", extended, 0, none, 1512, 13);
+    read_file("1,511 bytes", extended, 0, none, 1511, 13);
+    read_file("12 bytes for 13 of names", extended, 0, none, 1512, 12);
+    read_file("with a changed byte", extended, 9, 1600, 1512, 13);
+    check_file("the file in the Extended dialect, checked", extended, 9, none, 20);
+    check_file("with no dialect, a list of four words", extended, 0, none, 4);
+    check_file("with a changed byte", extended, 9, 600, 4);
     return 0;
 }

@@ -15,10 +15,12 @@
 #include "starlark.h"
 
 enum { MOST = 4 << 20, PAGE = 65536, STEP = 256 };
-enum { STATEMENTS = 1, DEF = 2, FOR = 3, IF = 4, BREAK = 6, SIMPLE = 10, ASSIGN = 11 };
-enum { TUPLE = 20, CALL = 22, INDEX = 23, INDEX2 = 24, IDENTIFIER = 26, LAMBDA = 27, ELLIPSIS = 31, NOT = 33, OP = 37, LIST = 39 };
-enum { NORMAL = 50, ARGS = 53, POSITIONAL = 60, NAMED = 61 };
-enum { WRONG_NODE = 6 };
+enum { STATEMENTS = STARLARK_KIND_STATEMENTS, DEF = STARLARK_KIND_DEF, FOR = STARLARK_KIND_FOR, IF = STARLARK_KIND_IF };
+enum { BREAK = STARLARK_KIND_BREAK, SIMPLE = STARLARK_KIND_OTHER_SIMPLE, ASSIGN = STARLARK_KIND_ASSIGN, TUPLE = STARLARK_KIND_TUPLE };
+enum { CALL = STARLARK_KIND_CALL, INDEX = STARLARK_KIND_INDEX, INDEX2 = STARLARK_KIND_INDEX2, IDENTIFIER = STARLARK_KIND_IDENTIFIER };
+enum { LAMBDA = STARLARK_KIND_LAMBDA, ELLIPSIS = STARLARK_KIND_ELLIPSIS, NOT = STARLARK_KIND_NOT, OP = STARLARK_KIND_OP };
+enum { LIST = STARLARK_KIND_LIST, NORMAL = STARLARK_KIND_NORMAL, ARGS = STARLARK_KIND_ARGS_PARAM };
+enum { POSITIONAL = STARLARK_KIND_POSITIONAL, NAMED = STARLARK_KIND_NAMED };
 
 static uint8_t table[STARLARK_NODES * STARLARK_NODE_BYTES];
 static size_t nodes;
@@ -106,6 +108,10 @@ static void damage(void) {
 }
 static void run_rescue(void) { number = starlark_rescue(damaged, damaged_bytes, file, sizeof file, out); }
 static void run_rescue_whole(void) { number = starlark_rescue(damaged, damaged_bytes + 1, file, sizeof file, out); }
+/* The whole file, into buffers of their own. */
+static uint8_t read_table[STARLARK_NODES * STARLARK_NODE_BYTES], read_names[STARLARK_NAME_BYTES];
+static void run_read(void) { number = starlark_read(damaged, damaged_bytes + 1, read_table, sizeof read_table, read_names, sizeof read_names, out); }
+static void run_check_file(void) { number = starlark_check_file(damaged, damaged_bytes + 1, errors, 3 * STARLARK_ERRORS, out); }
 
 struct job {
     const char *name;
@@ -113,7 +119,8 @@ struct job {
     size_t most;
 } jobs[] = {{"table", run_table, 0}, {"params", run_params, 0}, {"call", run_call, 0}, {"target", run_target, 0}, {"assignment", run_assignment, 0}, {"type", run_type, 0},
           {"module", run_module, 0}, {"module with all switches off", run_refusing, 0}, {"write", run_write, 0}, {"bind", run_bind, 0},
-          {"rescue of a cut file", run_rescue, 0}, {"rescue of a whole file", run_rescue_whole, 0}};
+          {"rescue of a cut file", run_rescue, 0}, {"rescue of a whole file", run_rescue_whole, 0}, {"read of a file", run_read, 0},
+          {"check of a file", run_check_file, 0}};
 enum { JOBS = sizeof jobs / sizeof *jobs };
 
 /* Whether a job ends on a stack of so many bytes. */
@@ -163,7 +170,7 @@ static void measure(const char *shape, size_t node) {
         size_t bytes = smallest(jobs[i].run);
         if (bytes > jobs[i].most) jobs[i].most = bytes;
         jobs[i].run();
-        if (number != WRONG_NODE) printf(" %s %zu (%u)", jobs[i].name, bytes, number);
+        if (number != STARLARK_NUMBER_WRONG_NODE) printf(" %s %zu (%u)", jobs[i].name, bytes, number);
     }
     printf("\n");
     nodes = 0;
