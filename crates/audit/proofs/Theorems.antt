@@ -13,10 +13,10 @@ use Rattle.table.specs.Answer.{accepted, refused}
 use Rattle.table.specs.Check.{Handing, inDialect, turnedAway, givenOf, inGiven}
 use Rattle.errors.specs.declared.Listing.the-variants.{Own, Audit}
 use Rattle.errors.specs.Errors.{kept, width, stored}
-use Rattle.errors.proofs.Storing.{kept-few, allWords, stored-all, stored-none}
+use Rattle.errors.proofs.Storing.{allWords, stored-all, stored-none}
 use Rattle.validate.specs.Job.{listed, passErrors}
 use Rattle.validate.specs.declared.Listed.the-variants.{Total}
-use Rattle.validate.proofs.Bounds.{module-few}
+use Rattle.validate.proofs.Theorems.{pass-few}
 use Rattle.audit.specs.declared.Roles.the-variants.{Nowhere}
 use Rattle.audit.specs.Roles.{placed}
 use Rattle.audit.specs.Job.{refusalsIn, auditErrors, auditIn, allErrors, auditOf, auditAfter}
@@ -24,14 +24,13 @@ use Rattle.audit.proofs.Bounds.{refusals-few, count-placed}
 
 -- LAW: any bytes have at most four times as many errors as records: two of the module pass, and two refusals
 pub audit-few : (d : Dialect) (names t : List ℕ) → length (auditErrors d names t) ≤ 4 * (length t / 24)
-unfolding auditErrors passErrors
+unfolding auditErrors
 audit-few d names t =
     let w : List ℕ = take 50400 t in
     omega (
       arith,
       length-append (kept Own (passErrors d names t)) (refusalsIn d names (forest 0 w)),
-      kept-few Own (passErrors d names t),
-      module-few d names (forest 0 w),
+      pass-few Own d names t,
       count-forest 0 w,
       refusals-few d names (placed Nowhere (forest 0 w)),
       count-placed Nowhere (forest 0 w),

@@ -152,7 +152,8 @@ module _ {d : Dialect} {names : List ℕ} where
     unfolding placed refusals
     each-end h = record { few = v .few; stores = turns-end (v .turns) (rw (forest-none place left h) refl) }
 
-    pub each-on : 24 ≤ length left → {role : Role} → role ≡ roleOf roles (nodeOf 0 left .kind) → {n free : ℕ} {zs : List ℕ} → free ≡ freeAt Audit total xs
+    pub each-on : 24 ≤ length left → {role : Role} → role ≡ roleOf roles (nodeOf 0 left .kind)
+        → {n free : ℕ} {zs : List ℕ} → free ≡ freeAt Audit total xs
         → Stores Audit (refusals d names (placedTree role (treeOf place left))) (after free xs) n zs → {e : ℕ}
         → e ≡ spanOf left → {next : Roles} → next ≡ rolesAfter roles
         → Auditing d names whole t xs₀ (after e left) (place + e / 24) next (total + n) (back free xs zs)

@@ -18,9 +18,9 @@ use Rattle.audit.specs.declared.Roles.the-variants.{Nowhere, TargetFirst
 abbrev pub ifTyped : Bool → Roles → Roles
 ifTyped typed roles = if' typed (λ _. roles) (λ _. Nowhere)
 
--- which children of a record of a kind, with a detail, have a role: the target of a For stands first; the return type of
--- a Def is its child that is an expression; the type of an Assign or AssignModify stands second, that of a Normal, an
--- Args or a KwArgs first
+-- which children of a record of a kind, with a detail, have a role: the target of a For stands first; the return type
+-- of a Def is its child that is an expression; the type of an Assign or AssignModify stands second, that of a Normal,
+-- an Args or a KwArgs first
 unfoldable pub rolesOf : ℕ → ℕ → Roles
 rolesOf k d =
     if' (eqb k kindFor) (λ _. TargetFirst) (λ _.

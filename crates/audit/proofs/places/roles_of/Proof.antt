@@ -1,6 +1,6 @@
 -- `audit::places::roles_of` meets its contract: each kind has its roles. Assumes nothing.
-use Rattle.audit.proofs.Walks.{roles-for, roles-def, roles-assign, roles-modify, roles-normal, roles-args, roles-kwargs}
-use Rattle.audit.proofs.Walks.{roles-other}
+use Rattle.audit.proofs.Walks.{roles-for, roles-def, roles-assign, roles-modify, roles-normal, roles-args}
+use Rattle.audit.proofs.Walks.{roles-kwargs, roles-other}
 use borrow.Author.Needs.{needs}
 use Rattle.audit.proofs.places.roles_of.Statement.{statement}
 use Rattle.audit.proofs.places.roles_of.Tie as tie
