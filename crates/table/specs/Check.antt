@@ -40,8 +40,8 @@ Within i t = recordBytes * i + length t ≤ mostBytes
 abbrev pub Headed : ℕ → List ℕ → Type 0
 Headed i t = (recordBytes ≤ length t) × Within i t
 
--- the same as a test; and what a check of one stretch reads of any bytes: all of them, or nothing where they are no such
--- stretch
+-- the same as a test; and what a check of one stretch reads of any bytes: all of them, or nothing where they are none
+-- such
 abbrev pub isHeaded : ℕ → List ℕ → Bool
 isHeaded i t = leb (recordBytes * i + length t) mostBytes && leb recordBytes (length t)
 
