@@ -2,11 +2,12 @@
 use mathlib.Core.Path.{_≡_, refl, sym, ap, _∙_}
 use mathlib.Core.Bool.{Bool, true, false}
 use mathlib.Core.List.{List}
+use mathlib.Core.Logic.{_⊎_, inl, inr}
 use Prim.Native.Nat.{ℕ, _+_, _-_, _*_, _/_, _<_, _≤_, _^_}
 use native.Mathlib.Omega.{arith}
 use lib.ListN.{length, take, drop, length-take, length-drop}
 use lib.Dec.{ltb, eqb}
-use borrow.Author.Tests.{lt-ltb, le-ltb, ne-eqb}
+use borrow.Author.Tests.{lt-ltb, le-ltb, ne-eqb, eqb-true}
 use Rattle.fields.proofs.Basics.{never}
 use Rattle.fields.specs.Choice.{if'}
 use Rattle.forest.specs.Forest.{nodeOf, spanOf, kidsOf, restOf, forest, count, countTree, Tree, node, Forest, none}
@@ -44,6 +45,17 @@ pub weighed : (kind : ℕ) {class w : ℕ} → class ≡ classOf kind → (w ≡
 unfolding weight
 weighed kind c w = (rw c at (w .0), w .1)
 
+-- a record with a weight is a statement or an expression
+pub counted-class : (kind : ℕ) → weight kind ≡ 1 → (classOf kind ≡ statement) ⊎ (classOf kind ≡ expression)
+unfolding weight classWeight
+counted-class kind = go (classOf kind) (eqb (classOf kind) statement) (eqb (classOf kind) expression) refl refl
+  where
+    go : (class : ℕ) (s e : Bool) → eqb class statement ≡ s → eqb class expression ≡ e
+        → if' {A = ℕ} s (λ _. 1) (λ _. if' e (λ _. 1) (λ _. 0)) ≡ 1 → (class ≡ statement) ⊎ (class ≡ expression)
+    go class true e s-is e-is w = inl (eqb-true class statement s-is)
+    go class false true s-is e-is w = inr (eqb-true class expression e-is)
+    go class false false s-is e-is w = absurd (omega arith)
+
 -- a record adds at most one to the depth
 class-little : (class : ℕ) → classWeight class ≤ 1
 unfolding classWeight
@@ -54,7 +66,7 @@ class-little class = go (eqb class 1) (eqb class 2)
     go false true = omega arith
     go false false = omega arith
 
-weight-little : (kind : ℕ) → weight kind ≤ 1
+pub weight-little : (kind : ℕ) → weight kind ≤ 1
 unfolding weight
 weight-little kind = class-little (classOf kind)
 
