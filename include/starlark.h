@@ -39,7 +39,8 @@ extern "C" {
 /* The word for "no place", and for "no earlier node". */
 #define STARLARK_NONE UINT32_C(0xFFFFFFFF)
 
-/* The limits of a table: nodes, and so bytes of a mode or shape buffer that is never too short; name bytes; depth. */
+/* The limits of a table: nodes, and so bytes of a mode or shape buffer that is never too short; name bytes; depth, in which statements and
+ * expressions count, and a parameter or an argument has its parent's: of 64, so a chain has up to 127 records. */
 #define STARLARK_NODES 2100
 #define STARLARK_NODE_BYTES 24
 #define STARLARK_NAME_BYTES 8064
