@@ -1,5 +1,14 @@
 /* The C interface of the proved checks: link libstarlark_checks.a (`tools/native-lib starlark_checks` makes target/native/libstarlark_checks.a).
  *
+ * How it is linked
+ *   in the repository                 cc program.c -Iinclude -Ltarget/native -lstarlark_checks
+ *   after `tools/install PREFIX`      cc program.c $(pkg-config --cflags --libs starlark_checks)
+ *                                     with PREFIX/lib/pkgconfig in PKG_CONFIG_PATH, where pkg-config does not look there by itself;
+ *                                     or cc program.c -IPREFIX/include -LPREFIX/lib -lstarlark_checks
+ *   The archive stands behind what calls it. It needs no other library.
+ *
+ * docs/FORMAT.md has the format of tables and table files, docs/numbers.tsv all numbers, starlark_names.h both in words.
+ *
  * A table is `table_len` bytes, 24 for each node, in preorder; `names` are the bytes that its names lie in. Any bytes may
  * come in: a table that is not sound is refused, and no input makes a function read or write outside what it is lent.
  *
@@ -32,6 +41,124 @@
 #ifdef __cplusplus
 extern "C" {
 #endif
+
+/* The version of this interface. */
+#define STARLARK_VERSION_MAJOR 0
+#define STARLARK_VERSION_MINOR 1
+#define STARLARK_VERSION_PATCH 0
+#define STARLARK_VERSION "0.1.0"
+
+/* What a function returns that accepts. */
+#define STARLARK_ACCEPTED 0
+
+/* The numbers given back: what a function returns that refuses, and the numbers in a list of errors. */
+enum starlark_number {
+    STARLARK_NUMBER_TABLE_LENGTH = 1, /* the table has no record, more than 2,100, or a part of one */
+    STARLARK_NUMBER_NAME_BYTES = 2, /* there are more than 8,064 name bytes */
+    STARLARK_NUMBER_UNSOUND_RECORD = 3, /* a record of the table is unsound */
+    STARLARK_NUMBER_TOO_DEEP = 4, /* a node is more than 64 deep */
+    STARLARK_NUMBER_BAD_DIALECT = 5, /* the dialect bytes give no dialect */
+    STARLARK_NUMBER_WRONG_NODE = 6, /* the node asked for is beyond the table, or of the wrong kind */
+    STARLARK_NUMBER_SHORT_BUFFER = 7, /* the buffer for modes, shapes, words of a binding or a file is too short */
+    STARLARK_NUMBER_SLASH_FIRST = 10, /* `/` is the first parameter */
+    STARLARK_NUMBER_DUPLICATED_PARAMETER = 11, /* a parameter has the name of an earlier one */
+    STARLARK_NUMBER_NORMAL_AFTER_KWARGS = 12, /* an ordinary parameter stands after `**kwargs` */
+    STARLARK_NUMBER_NO_DEFAULT_AFTER_DEFAULT = 13, /* a parameter without a default stands after one that has a default */
+    STARLARK_NUMBER_STAR_AFTER_STAR = 14, /* `*` or `*args` stands after another star or after `**kwargs` */
+    STARLARK_NUMBER_MULTIPLE_SLASH = 15, /* `/` stands after another `/`, after a star or after `**kwargs` */
+    STARLARK_NUMBER_MULTIPLE_KWARGS = 16, /* there is a second `**kwargs` */
+    STARLARK_NUMBER_STAR_LAST = 17, /* `*` is the last parameter */
+    STARLARK_NUMBER_NO_NORMAL_AFTER_STAR = 18, /* `*` is followed by something other than an ordinary parameter */
+    STARLARK_NUMBER_POSITIONAL_AFTER_NON_POSITIONAL = 20, /* a positional argument stands after one that is not positional */
+    STARLARK_NUMBER_NAMED_AFTER_STAR = 21, /* a named argument stands after a star argument or after `**` */
+    STARLARK_NUMBER_REPEATED_NAMED = 22, /* a named argument has the name of an earlier one */
+    STARLARK_NUMBER_SECOND_STAR = 23, /* a star argument stands after another one or after `**` */
+    STARLARK_NUMBER_SECOND_KWARGS = 24, /* there is a second `**` argument */
+    STARLARK_NUMBER_INVALID_LHS = 30, /* this cannot be assigned to */
+    STARLARK_NUMBER_INVALID_MODIFY_LHS = 31, /* a tuple or a list cannot stand on the left of an augmented assignment */
+    STARLARK_NUMBER_TYPE_ON_AUGMENTED = 32, /* an augmented assignment has a type */
+    STARLARK_NUMBER_TYPE_ON_TUPLE = 33, /* an assignment to a tuple or a list has a type */
+    STARLARK_NUMBER_INVALID_TYPE = 40, /* this is no type */
+    STARLARK_NUMBER_EMPTY_LIST_IN_TYPE = 41, /* an empty list stands in a type */
+    STARLARK_NUMBER_DOT_IN_TYPE = 42, /* a dot in a type stands on something other than a path */
+    STARLARK_NUMBER_EXPECTING_PATH = 43, /* a path is expected before the brackets of a type */
+    STARLARK_NUMBER_DOT_TYPE_BAN = 44, /* a path in a type ends in `.type` */
+    STARLARK_NUMBER_TYPES_DISABLED = 45, /* the dialect has no types */
+    STARLARK_NUMBER_STAR_NOT_PERMITTED = 50, /* the dialect has no `*` in parameter lists */
+    STARLARK_NUMBER_SLASH_NOT_PERMITTED = 51, /* the dialect has no `/` in parameter lists */
+    STARLARK_NUMBER_DEF_NOT_PERMITTED = 52, /* the dialect has no `def` */
+    STARLARK_NUMBER_TOP_LEVEL_FOR = 53, /* the dialect has no `for` at top level */
+    STARLARK_NUMBER_TOP_LEVEL_IF = 54, /* the dialect has no `if` at top level */
+    STARLARK_NUMBER_BREAK_MISPLACED = 55, /* `break` stands outside a `for` loop */
+    STARLARK_NUMBER_CONTINUE_MISPLACED = 56, /* `continue` stands outside a `for` loop */
+    STARLARK_NUMBER_RETURN_MISPLACED = 57, /* `return` stands outside a `def` */
+    STARLARK_NUMBER_LOAD_NOT_AT_TOP = 58, /* `load` stands below the top level */
+    STARLARK_NUMBER_LOAD_NOT_PERMITTED = 59, /* the dialect has no `load` */
+    STARLARK_NUMBER_ELLIPSIS_NOT_PERMITTED = 60, /* `...` stands in a dialect that has no types */
+    STARLARK_NUMBER_LAMBDA_NOT_PERMITTED = 61, /* the dialect has no `lambda` */
+    STARLARK_NUMBER_BLOCK_SHORT = 70, /* the file ends before a block is whole */
+    STARLARK_NUMBER_BLOCK_NUMBER = 71, /* a block has the wrong number */
+    STARLARK_NUMBER_BLOCK_CHECK = 72, /* the sum of a block is wrong, so a byte is damaged */
+    STARLARK_NUMBER_BLOCK_USED = 73, /* a block has the wrong number of used bytes, or a byte past them that is not zero */
+    STARLARK_NUMBER_BLOCK_COUNTS = 74, /* block 0 counts no node, more than 2,100 nodes, or more than 8,064 name bytes */
+    STARLARK_NUMBER_BYTES_LEFT_OVER = 75, /* bytes stand behind the last block */
+    STARLARK_NUMBER_STAR_ARGUMENT = 80, /* the call that is bound has a `*` or `**` argument */
+    STARLARK_NUMBER_TOO_MANY_POSITIONAL = 81, /* a positional argument is one too many, and there is no `*args` */
+    STARLARK_NUMBER_UNKNOWN_NAMED = 82, /* no parameter takes a named argument, and there is no `**kwargs` */
+    STARLARK_NUMBER_ALREADY_FILLED = 83, /* a named argument is for a parameter that is filled already */
+    STARLARK_NUMBER_EMPTY_PARAMETER = 84, /* an ordinary parameter without default is left empty */
+    STARLARK_NUMBER_BAD_HEADER = 90, /* block 0 or a name block of a file to be rescued is bad */
+    STARLARK_NUMBER_NOTHING_KEPT = 91, /* the blocks of a file to be rescued do not pass, and no child of its root can be kept */
+};
+
+/* The kinds of records: byte 0 of each. */
+enum starlark_kind {
+    STARLARK_KIND_STATEMENTS = 1, /* statement */
+    STARLARK_KIND_DEF = 2, /* statement */
+    STARLARK_KIND_FOR = 3, /* statement */
+    STARLARK_KIND_IF = 4, /* statement */
+    STARLARK_KIND_IF_ELSE = 5, /* statement */
+    STARLARK_KIND_BREAK = 6, /* statement */
+    STARLARK_KIND_CONTINUE = 7, /* statement */
+    STARLARK_KIND_RETURN = 8, /* statement */
+    STARLARK_KIND_LOAD = 9, /* statement */
+    STARLARK_KIND_OTHER_SIMPLE = 10, /* statement */
+    STARLARK_KIND_ASSIGN = 11, /* statement */
+    STARLARK_KIND_ASSIGN_MODIFY = 12, /* statement */
+    STARLARK_KIND_TUPLE = 20, /* expression */
+    STARLARK_KIND_DOT = 21, /* expression */
+    STARLARK_KIND_CALL = 22, /* expression */
+    STARLARK_KIND_INDEX = 23, /* expression */
+    STARLARK_KIND_INDEX2 = 24, /* expression */
+    STARLARK_KIND_SLICE = 25, /* expression */
+    STARLARK_KIND_IDENTIFIER = 26, /* expression */
+    STARLARK_KIND_LAMBDA = 27, /* expression */
+    STARLARK_KIND_STRING = 28, /* expression */
+    STARLARK_KIND_INT = 29, /* expression */
+    STARLARK_KIND_FLOAT = 30, /* expression */
+    STARLARK_KIND_ELLIPSIS = 31, /* expression */
+    STARLARK_KIND_BYTES = 32, /* expression */
+    STARLARK_KIND_NOT = 33, /* expression */
+    STARLARK_KIND_MINUS = 34, /* expression */
+    STARLARK_KIND_PLUS = 35, /* expression */
+    STARLARK_KIND_BIT_NOT = 36, /* expression */
+    STARLARK_KIND_OP = 37, /* expression */
+    STARLARK_KIND_IF_EXPR = 38, /* expression */
+    STARLARK_KIND_LIST = 39, /* expression */
+    STARLARK_KIND_DICT = 40, /* expression */
+    STARLARK_KIND_LIST_COMPREHENSION = 41, /* expression */
+    STARLARK_KIND_DICT_COMPREHENSION = 42, /* expression */
+    STARLARK_KIND_F_STRING = 43, /* expression */
+    STARLARK_KIND_NORMAL = 50, /* parameter */
+    STARLARK_KIND_NO_ARGS = 51, /* parameter */
+    STARLARK_KIND_SLASH = 52, /* parameter */
+    STARLARK_KIND_ARGS_PARAM = 53, /* parameter */
+    STARLARK_KIND_KW_ARGS_PARAM = 54, /* parameter */
+    STARLARK_KIND_POSITIONAL = 60, /* argument */
+    STARLARK_KIND_NAMED = 61, /* argument */
+    STARLARK_KIND_ARGS_ARG = 62, /* argument */
+    STARLARK_KIND_KW_ARGS_ARG = 63, /* argument */
+};
 
 /* How many words `out` has. */
 #define STARLARK_WORDS 12

@@ -9,7 +9,7 @@ import sys
 
 import repository
 
-DOCUMENTS = ["README.md", "docs/PROOFS.md", "docs/DECISIONS.md", "docs/DIFFERENCES.md", "samples/README.md"]
+DOCUMENTS = ["README.md", "docs/PROOFS.md", "docs/DECISIONS.md", "docs/DIFFERENCES.md", "docs/FORMAT.md", "samples/README.md"]
 PATH = re.compile(r"^[\w./+-]+\.(?:antt|rt|py|txt|tsv|md|h|c|rs|list|sha256)$")
 
 

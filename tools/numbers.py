@@ -6,10 +6,13 @@ numbers.py          says whether they agree, number by number and name by name (
 - docs/numbers.tsv, the constants of crates/table/src/numbers.rt and the definitions of its specs/Numbers.antt
 - the column "given by" of docs/numbers.tsv and what include/starlark.h says of each job; a file gives what reader and module pass do
 - the constants of crates/soundness/src/kinds.rt, the definitions of its specs/KindNumbers.antt, and the words of tools/tables.py
+- docs/kinds.tsv, those words, and the classes by document 01's sentences; then what tools/interfaces.py makes for C and Rust
 """
 import re
 import sys
 
+import interfaces
+import kinds
 from repository import CRATES, ROOT
 from tables import NUMBER as WORDS
 
@@ -84,14 +87,19 @@ def of_kinds():
     specs = said_of("soundness/specs/KindNumbers.antt", r"^kind(\w+) = (\d+)$")
     words = [(number, word) for word, number in WORDS.items()]
     faults = differing("crates/soundness/specs/KindNumbers.antt", words, specs)
+    classes = {number: kind.own for number, kind in kinds.read((kinds.FOLDER / "document01.txt").read_text()).items()}
+    table = [tuple(line.split("\t")) for line in (ROOT / "docs" / "kinds.tsv").read_text().splitlines()]
+    faults += differing("docs/kinds.tsv", [("number", "name", "class")] + [(str(n), word, classes[n]) for n, word in words], table)
     return faults + differing("crates/soundness/src/kinds.rt", words, [(number, capitals(name)) for number, name in code]), len(words)
 
 
 def main():
-    (faults, count), (more, kinds) = of_numbers(), of_kinds()
-    told = f"docs/numbers.tsv: its {count} numbers, names and jobs, and the {kinds} kinds, are those of code, definitions and header"
-    print("\n".join(faults + more) or told)
-    return 1 if faults + more else 0
+    (faults, count), (more, known) = of_numbers(), of_kinds()
+    faults += more
+    faults += [] if faults else interfaces.faults()
+    told = f"docs/numbers.tsv: its {count} numbers, names and jobs, and the {known} kinds, are those of code, definitions, header and wrapper"
+    print("\n".join(faults) or told)
+    return 1 if faults else 0
 
 
 if __name__ == "__main__":

@@ -3,8 +3,11 @@
 
 A trial takes seconds, where rt's own, of the edits of must-fail, takes a whole check of the crate:
 - The modules that an edit leaves as they are come from the crate's proved library (target/rlib), in the kit's folder of checked modules.
-- Edits of different functions share a check, since a function's proof rests on the promises of those that it calls and not on their code.
-  Where the prover says that an edited function calls one that is not proved, which may be another edit's work, the edit is tried again
+- An edit of a function by itself makes a twin of it: the wrong function stands under a name of its own beside the right one, with the same
+  contract and a copy of the proof. So all such edits of a crate share one check, in which every other function must be proved. What is not
+  refused as a twin is tried again in place.
+- An edit of a constant, of a method or of functions that call one another is done in place. Edits of different functions share a check,
+  since a function's proof rests on the promises of those that it calls and not on their code. Where the prover says that an edited function calls one that is not proved, which may be another edit's work, the edit is tried again
   without the edits that are settled, in the end alone. Every other function must be proved, or be refused for a function that it calls.
 
 A refusal counts only for the right reason. An edit is bad, and the run fails, where
@@ -31,6 +34,7 @@ import repository
 from repository import CRATES, HEAD, ROOT, BadEdit, Edit, function_at
 
 TARGET = ROOT / "target"
+TWIN = "wrong"  # what the name of a wrong function has that stands beside the right one
 WORK = TARGET / "wrong"
 KIT = repository.Kit()
 
@@ -135,10 +139,42 @@ class Trial(Edit):
             parts[at] = parts[at].replace(old, new)
             (folder / file).write_text("".join(parts))
 
-    def judge_code(self, before, after):
-        """Sees that the edit changes what each function meant does, and no step that its proof is asked about."""
+    @property
+    def alone(self):
+        """The one function that the edit changes, where a twin of it can stand beside it: no method, and none that calls itself."""
+        if len(self.functions) != 1 or None in self.functions or self.meant != self.functions:
+            return None
+        [function] = self.functions
+        return None if function.split("::")[-2][0].isupper() or self.is_in_cycle(function) else function
+
+    def is_in_cycle(self, function):
+        """Whether a function has its proof in a folder for functions that call one another."""
+        return any(function.rpartition("::")[2] in path.name.split("+")[1:] for path in (CRATES / self.crate / "proofs").rglob("+*"))
+
+    def twin(self):
+        """The name of the wrong function, as the prover gives it."""
+        return f"{self.alone}_{TWIN}_{self.label}"
+
+    def add_twin(self, folder):
+        """Puts the wrong function at the end of its file, and a copy of the right one's proof beside it."""
+        (_, *modules, name), new = self.alone.split("::"), self.twin().rpartition("::")[2]
+        file = self.pairs[0][0]
+        head = rf"(?m)^((?:#\[no_mangle\]\n)?{HEAD}){name}\b(?s:(.*?^}}\n))"
+        start, rest = re.search(head, (CRATES / self.crate / file).read_text()).groups()
+        for _, old, text in self.pairs:
+            rest = rest.replace(old, text)
+        with (folder / file).open("a") as code:
+            code.write(f"\n{start}{new}{rest}")
+        right = folder.joinpath("proofs", *modules, name)
+        if right.is_dir():
+            proof = (shutil.copytree(right, right.with_name(new)) / "Proof.antt")
+            text = proof.read_text().replace(f"proofs.{'.'.join([*modules, name])}.", f"proofs.{'.'.join([*modules, new])}.")
+            proof.write_text(re.sub(rf"(?<![\w-]){name.replace('_', '-')}-spec\b", f"{new.replace('_', '-')}-spec", text))
+
+    def judge_code(self, before, after, name=lambda function: function):
+        """Sees that the edit changes what each function meant does, and no step that its proof is asked about; name gives that of the wrong one."""
         for function in sorted(self.meant):
-            old, new = before.get(function), after.get(function)
+            old, new = before.get(function), after.get(name(function))
             if not new or mir.ordered(old) == mir.ordered(new):
                 raise BadEdit(f"the code of {function} stays the same")
             if mir.steps(old) != mir.steps(new):
@@ -181,11 +217,11 @@ def build_folder():
     return next(p.name for p in kept.iterdir() if p.name.startswith("antt-checked"))
 
 
-def trial(name, label, edits, build):
+def trial(name, label, edits, build, apply=Trial.apply):
     """A check of the crate with these edits, over the modules of its proved library: its code, and what the prover says."""
     folder, kept = copy_of(name, label), WORK / name / (label + ".kept")
     for edit in edits:
-        edit.apply(folder)
+        apply(edit, folder)
     code = code_of(name, folder)
     shutil.rmtree(kept, ignore_errors=True)
     shutil.copytree(TARGET / "rlib" / f"{name}.rlib" / "toolchain" / "checked", kept / build)
@@ -244,6 +280,27 @@ def shared(edits):
     return chosen
 
 
+def settle_twin(edit, before, after, said, refused):
+    """The same of a wrong function that stands beside the right one; refused are the functions that the prover does not prove."""
+    edit.judge_code(before, after, lambda function: edit.twin())
+    if edit.twin() not in refused:
+        return False, f"NOT REFUSED in {edit.twin()}"
+    return True, f"refused, as it must be, at {edit.alone}: {reason(said, edit.twin(), CRATES / edit.crate)}"
+
+
+def as_twins(name, edits, before, build):
+    """Tries edits as twins in one check: the verdicts of those that are refused as they must be. Any other is to be tried in place."""
+    try:
+        after, said = trial(name, "twins", edits, build, Trial.add_twin)
+    except BadEdit:
+        return {}
+    refused = refused_themselves(said, CRATES / name)
+    if refused - {edit.twin() for edit in edits}:
+        return {}
+    verdicts = {edit: or_bad(settle_twin, edit, before, after, said, refused) for edit in edits}
+    return {edit: verdict for edit, verdict in verdicts.items() if verdict[0]}
+
+
 def settle(edit, before, after, said, refused):
     """Whether an edit is refused for the right reason, and the verdict in words."""
     edit.judge_code(before, after)
@@ -270,6 +327,10 @@ def of_crate(name, edits, build):
     began, checks, alone = time.time(), 0, False
     before = code_of(name, copy_of(name, "before"))
     verdicts = {edit: or_bad(edit.find) for edit in edits}
+    twins = [edit for edit in edits if not verdicts[edit] and edit.alone]
+    if twins:
+        checks += 1
+        verdicts |= as_twins(name, twins, before, build)
     left = [edit for edit in edits if not verdicts[edit]]
     while left:
         some = left[:1] if alone else shared(left)

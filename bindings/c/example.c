@@ -16,9 +16,14 @@
 #include <string.h>
 
 #include "starlark.h"
+#include "starlark_names.h"
 
-enum { STATEMENTS = 1, DEF = 2, BREAK = 6, SIMPLE = 10, ASSIGN = 11, MODIFY = 12, TUPLE = 20, DOT = 21, CALL = 22, INDEX = 23 };
-enum { IDENTIFIER = 26, INT = 29, NORMAL = 50, NO_ARGS = 51, SLASH = 52, KW_ARGS_PARAM = 54, POSITIONAL = 60, NAMED = 61, ARGS = 62 };
+enum { STATEMENTS = STARLARK_KIND_STATEMENTS, DEF = STARLARK_KIND_DEF, BREAK = STARLARK_KIND_BREAK };
+enum { SIMPLE = STARLARK_KIND_OTHER_SIMPLE, ASSIGN = STARLARK_KIND_ASSIGN, MODIFY = STARLARK_KIND_ASSIGN_MODIFY };
+enum { TUPLE = STARLARK_KIND_TUPLE, DOT = STARLARK_KIND_DOT, CALL = STARLARK_KIND_CALL, INDEX = STARLARK_KIND_INDEX };
+enum { IDENTIFIER = STARLARK_KIND_IDENTIFIER, INT = STARLARK_KIND_INT, NORMAL = STARLARK_KIND_NORMAL };
+enum { NO_ARGS = STARLARK_KIND_NO_ARGS, SLASH = STARLARK_KIND_SLASH, KW_ARGS_PARAM = STARLARK_KIND_KW_ARGS_PARAM };
+enum { POSITIONAL = STARLARK_KIND_POSITIONAL, NAMED = STARLARK_KIND_NAMED, ARGS = STARLARK_KIND_ARGS_ARG };
 
 static uint8_t table[64 * STARLARK_NODE_BYTES];
 static size_t nodes;
@@ -51,15 +56,14 @@ static size_t node(int kind, int detail, size_t size, const char *name) {
 /* The begin of a job's line; whether it is accepted. `number` is what the job answers, `out` what it has written there. */
 static int accepted(const char *job, uint32_t number, const uint32_t *out) {
     printf("%s: ", job);
-    if (number == 3 || number == 4) {
-        printf("refused with %u at node %u", number, out[0]);
-    } else if (number != 0 && (number < 10 || number >= 90)) {
-        printf("refused with %u", number);
-    } else if (number != 0) {
-        printf("refused with %u at node %u, bytes %u to %u", number, out[0], out[1], out[2]);
+    if (number != STARLARK_ACCEPTED) printf("refused with %u %s", number, starlark_number_name(number));
+    if (number == STARLARK_NUMBER_UNSOUND_RECORD || number == STARLARK_NUMBER_TOO_DEEP) {
+        printf(" at node %u", out[0]);
+    } else if ((number >= 10 && number < 70) || (number >= 80 && number < 90)) {
+        printf(" at node %u, bytes %u to %u", out[0], out[1], out[2]);
         if (out[3] != STARLARK_NONE) printf(", its name first at node %u", out[3]);
     }
-    return number == 0;
+    return number == STARLARK_ACCEPTED;
 }
 
 static void bytes(const char *what, const uint8_t *buffer, size_t length) {
@@ -145,6 +149,16 @@ static void module(const char *words, const uint8_t *dialect, size_t dialect_len
     printf(", list");
     for (size_t i = 0; i < length; i++) printf(" %u", errors[i]);
     printf("\n");
+}
+
+/* The first errors of the module, in words. */
+static void in_words(const uint8_t *dialect, size_t dialect_length) {
+    uint32_t out[STARLARK_WORDS];
+    uint32_t errors[6];
+    starlark_module(TABLE, dialect, dialect_length, errors, 6, out);
+    for (size_t i = 0; i < 6; i += 3) {
+        printf("in words: %s at bytes %u to %u: %s\n", starlark_number_name(errors[i]), errors[i + 1], errors[i + 2], starlark_number_words(errors[i]));
+    }
 }
 
 /* The file in a buffer of `length` bytes, which hold 9: its first bytes, and how many are no longer so. An accepted one is put under the name
@@ -282,6 +296,7 @@ int main(int count, char **words) {
     module("a list of four words", extended, 0, 4);
     module("in the Extended dialect", extended, 9, 16);
     module("eight bytes of dialect", extended, 8, 4);
+    in_words(extended, 9);
     write_file("the file in the Extended dialect", extended, 9, STARLARK_FILE_BYTES, count > 1 ? words[1] : NULL);
     write_file("with no dialect", extended, 0, STARLARK_FILE_BYTES, NULL);
     write_file("2,560 bytes for five blocks", extended, 0, 2560, NULL);

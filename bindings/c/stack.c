@@ -15,10 +15,12 @@
 #include "starlark.h"
 
 enum { MOST = 4 << 20, PAGE = 65536, STEP = 256 };
-enum { STATEMENTS = 1, DEF = 2, FOR = 3, IF = 4, BREAK = 6, SIMPLE = 10, ASSIGN = 11 };
-enum { TUPLE = 20, CALL = 22, INDEX = 23, INDEX2 = 24, IDENTIFIER = 26, LAMBDA = 27, ELLIPSIS = 31, NOT = 33, OP = 37, LIST = 39 };
-enum { NORMAL = 50, ARGS = 53, POSITIONAL = 60, NAMED = 61, KWARGS_ARGUMENT = 63 };
-enum { WRONG_NODE = 6 };
+enum { STATEMENTS = STARLARK_KIND_STATEMENTS, DEF = STARLARK_KIND_DEF, FOR = STARLARK_KIND_FOR, IF = STARLARK_KIND_IF };
+enum { BREAK = STARLARK_KIND_BREAK, SIMPLE = STARLARK_KIND_OTHER_SIMPLE, ASSIGN = STARLARK_KIND_ASSIGN, TUPLE = STARLARK_KIND_TUPLE };
+enum { CALL = STARLARK_KIND_CALL, INDEX = STARLARK_KIND_INDEX, INDEX2 = STARLARK_KIND_INDEX2, IDENTIFIER = STARLARK_KIND_IDENTIFIER };
+enum { LAMBDA = STARLARK_KIND_LAMBDA, ELLIPSIS = STARLARK_KIND_ELLIPSIS, NOT = STARLARK_KIND_NOT, OP = STARLARK_KIND_OP };
+enum { LIST = STARLARK_KIND_LIST, NORMAL = STARLARK_KIND_NORMAL, ARGS = STARLARK_KIND_ARGS_PARAM };
+enum { POSITIONAL = STARLARK_KIND_POSITIONAL, NAMED = STARLARK_KIND_NAMED, KW_ARGS = STARLARK_KIND_KW_ARGS_ARG };
 
 static uint8_t table[STARLARK_NODES * STARLARK_NODE_BYTES];
 static size_t nodes;
@@ -163,7 +165,7 @@ static void measure(const char *shape, size_t node) {
         size_t bytes = smallest(jobs[i].run);
         if (bytes > jobs[i].most) jobs[i].most = bytes;
         jobs[i].run();
-        if (number != WRONG_NODE) printf(" %s %zu (%u)", jobs[i].name, bytes, number);
+        if (number != STARLARK_NUMBER_WRONG_NODE) printf(" %s %zu (%u)", jobs[i].name, bytes, number);
     }
     printf("\n");
     nodes = 0;
@@ -388,7 +390,7 @@ int main(void) {
     calls_in_arguments("62 calls in arguments", POSITIONAL, 0);
     calls_in_arguments("62 calls in arguments, wide", POSITIONAL, STARLARK_NODES);
     calls_in_arguments("62 calls by name, wide", NAMED, STARLARK_NODES);
-    calls_in_arguments("62 calls by `**`, wide", KWARGS_ARGUMENT, STARLARK_NODES);
+    calls_in_arguments("62 calls by `**`, wide", KW_ARGS, STARLARK_NODES);
     size_t most = 0;
     printf("most:");
     for (size_t i = 0; i < JOBS; i++) {

@@ -2,32 +2,34 @@
 //! is where a table file is put.
 
 use starlark_checks::rescue;
+use starlark_checks::Kind;
+use starlark_checks::Number;
 use starlark_checks::Table;
 use starlark_checks::FILE_BYTES;
 
-const STATEMENTS: u8 = 1;
-const DEF: u8 = 2;
-const BREAK: u8 = 6;
-const SIMPLE: u8 = 10;
-const ASSIGN: u8 = 11;
-const MODIFY: u8 = 12;
-const TUPLE: u8 = 20;
-const DOT: u8 = 21;
-const CALL: u8 = 22;
-const INDEX: u8 = 23;
-const INDEX2: u8 = 24;
-const IDENTIFIER: u8 = 26;
-const INT: u8 = 29;
-const NOT: u8 = 33;
-const NORMAL: u8 = 50;
-const NO_ARGS: u8 = 51;
-const SLASH: u8 = 52;
-const ARGS_PARAM: u8 = 53;
-const KW_ARGS_PARAM: u8 = 54;
-const POSITIONAL: u8 = 60;
-const NAMED: u8 = 61;
-const ARGS: u8 = 62;
-const KW_ARGS: u8 = 63;
+const STATEMENTS: u8 = Kind::Statements as u8;
+const DEF: u8 = Kind::Def as u8;
+const BREAK: u8 = Kind::Break as u8;
+const SIMPLE: u8 = Kind::OtherSimple as u8;
+const ASSIGN: u8 = Kind::Assign as u8;
+const MODIFY: u8 = Kind::AssignModify as u8;
+const TUPLE: u8 = Kind::Tuple as u8;
+const DOT: u8 = Kind::Dot as u8;
+const CALL: u8 = Kind::Call as u8;
+const INDEX: u8 = Kind::Index as u8;
+const INDEX2: u8 = Kind::Index2 as u8;
+const IDENTIFIER: u8 = Kind::Identifier as u8;
+const INT: u8 = Kind::Int as u8;
+const NOT: u8 = Kind::Not as u8;
+const NORMAL: u8 = Kind::Normal as u8;
+const NO_ARGS: u8 = Kind::NoArgs as u8;
+const SLASH: u8 = Kind::Slash as u8;
+const ARGS_PARAM: u8 = Kind::ArgsParam as u8;
+const KW_ARGS_PARAM: u8 = Kind::KwArgsParam as u8;
+const POSITIONAL: u8 = Kind::Positional as u8;
+const NAMED: u8 = Kind::Named as u8;
+const ARGS: u8 = Kind::ArgsArg as u8;
+const KW_ARGS: u8 = Kind::KwArgsArg as u8;
 
 /// Extended: types are on, and `*` may stand in a parameter list.
 const EXTENDED: [u8; 9] = [1, 1, 1, 1, 0, 2, 1, 1, 0];
@@ -132,6 +134,9 @@ fn parameter_lists() {
     show("no def", &list, 1, 7);
     show("(a=1, b)", &refused, 0, 7);
     show("(a, *, a)", &repeated, 0, 7);
+    if let Err(refused) = repeated.table().params(0, &mut [BEFORE; 7]) {
+        println!("in words: {refused}");
+    }
 }
 
 fn calls() {
@@ -207,6 +212,12 @@ fn modules() {
     show("a list one word short", &[], 5);
     show("in the Extended dialect", &EXTENDED, 6);
     show("eight bytes of dialect", &EXTENDED[..8], 6);
+    let mut errors = [0; 6];
+    let count = module.table().module(&[], &mut errors).expect("the table is sound");
+    for error in errors.chunks(3).take(count as usize) {
+        let number = Number::try_from(error[0]).expect("the module pass gives no other numbers");
+        println!("in words: {} at bytes {} to {}: {}", number.name(), error[1], error[2], number.words());
+    }
 }
 
 /// The file in `room` bytes: its first bytes, and how many are no longer what they were. An accepted one is put under the name `path`.

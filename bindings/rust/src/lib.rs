@@ -1,23 +1,62 @@
 //! A safe wrapper of the proved checks: each job takes slices, and answers a value or why it refuses.
 //!
 //! Any bytes may come in. A job keeps nothing between calls and allocates nothing. A job that refuses leaves the lent buffer as it was.
-//! The C header says what a job needs of the stack; the thread that Rust starts by default has more.
+//!
+//! What a job only reads may overlap: table, names, dialect and input may be parts of one slice. What it writes is borrowed `&mut`, so that
+//! the compiler rules out that it overlaps anything else.
+//!
+//! A job needs stack: the header says how much each was measured to need, and [`STACK_BYTES`] is more than twice the most. The threads that
+//! Rust starts by default have more. A thread with a stack of its own size is to have as much:
+//!
+//! ```
+//! use starlark_checks::{Kind, Table, STACK_BYTES};
+//!
+//! // one record: a break
+//! let mut nodes = [0; 24];
+//! nodes[0] = Kind::Break.into();
+//! nodes[16] = 1;
+//! let job = move || Table { nodes: &nodes, names: &[] }.check();
+//! let thread = std::thread::Builder::new().stack_size(STACK_BYTES).spawn(job).expect("a thread");
+//! assert_eq!(thread.join().expect("an answer"), Ok(()));
+//! ```
 
 use std::ops::Range;
 
 mod interface;
+mod made;
+mod words;
 
-/// A node table, and the bytes that its names lie in.
+pub use made::Kind;
+pub use made::Number;
+pub use words::Class;
+pub use words::UnknownKind;
+pub use words::UnknownNumber;
+
+/// The version of the interface, which the header's is.
+pub const VERSION: &str = env!("CARGO_PKG_VERSION");
+
+/// A node table, and the bytes that its names lie in. The two may be parts of one slice, and may overlap:
+///
+/// ```
+/// use starlark_checks::{Kind, Table};
+///
+/// // an OtherSimple with an Identifier, whose name is byte 0 of the table itself
+/// let mut bytes = [0; 48];
+/// (bytes[0], bytes[16]) = (Kind::OtherSimple.into(), 2);
+/// (bytes[24], bytes[26], bytes[40]) = (Kind::Identifier.into(), 1, 1);
+/// assert_eq!(Table { nodes: &bytes, names: &bytes[..1] }.check(), Ok(()));
+/// assert_eq!(Table { nodes: &bytes, names: &bytes }.target(1), Ok(1));
+/// ```
 #[derive(Clone, Copy, Debug)]
 pub struct Table<'a> {
     pub nodes: &'a [u8],
     pub names: &'a [u8],
 }
 
-/// Why a job refuses: document 01's number, and what it carries.
+/// Why a job refuses: document 01's number, and what it carries. In words (`Display`) it is the number, what it means, and where it stands.
 #[derive(Clone, Copy, Debug, PartialEq, Eq)]
 pub struct Refused {
-    pub number: u32,
+    pub number: Number,
     pub at: At,
 }
 
@@ -50,8 +89,29 @@ pub struct Call {
     pub star_star: Option<u32>,
 }
 
+/// The words that a job of the C interface answers in.
+pub const WORDS: usize = 12;
+
+/// The most nodes of a table, and so a mode or shape buffer of so many bytes is never too short.
+pub const NODES: usize = 2_100;
+
+/// The bytes of a node.
+pub const NODE_BYTES: usize = 24;
+
+/// The most name bytes of a table.
+pub const NAME_BYTES: usize = 8_064;
+
+/// The largest depth of a node.
+pub const DEPTH: usize = 64;
+
 /// A buffer of so many bytes is never too short for a table file.
 pub const FILE_BYTES: usize = 59_904;
+
+/// No module has more errors: two for each node.
+pub const ERRORS: usize = 4_200;
+
+/// Stack enough for every job, twice over.
+pub const STACK_BYTES: usize = 1 << 18;
 
 /// An accepted binding: how many parameters, marks omitted, and how many arguments.
 #[derive(Clone, Copy, Debug, PartialEq, Eq)]
@@ -73,7 +133,7 @@ pub struct Rescued {
 
 const NONE: u32 = u32::MAX;
 
-type Words = [u32; 12];
+type Words = [u32; WORDS];
 
 /// A place or a node, where the word says one.
 fn place(word: u32) -> Option<u32> {
@@ -87,13 +147,14 @@ impl Refused {
             3 | 4 => At::Node(out[0]),
             _ => At::Span { node: out[0], begin: out[1], end: out[2], earlier: place(out[3]) },
         };
+        let number = Number::try_from(number).expect("a job gives no other numbers");
         Refused { number, at }
     }
 }
 
 /// The words of a job that accepts.
 fn accepted(job: impl FnOnce(&mut Words) -> u32) -> Result<Words, Refused> {
-    let mut out = [0; 12];
+    let mut out = [0; WORDS];
     match job(&mut out) {
         0 => Ok(out),
         number => Err(Refused::new(number, &out)),

@@ -1,0 +1,328 @@
+//! The numbers and kinds, with their names and words. Made by tools/interfaces.py from docs/numbers.tsv and docs/kinds.tsv.
+
+use crate::Class;
+
+/// A number given back: why a job refuses, or an error of a module.
+#[derive(Clone, Copy, Debug, PartialEq, Eq, PartialOrd, Ord, Hash)]
+#[repr(u32)]
+#[non_exhaustive]
+pub enum Number {
+    /// the table has no record, more than 2,100, or a part of one
+    TableLength = 1,
+    /// there are more than 8,064 name bytes
+    NameBytes = 2,
+    /// a record of the table is unsound
+    UnsoundRecord = 3,
+    /// a node is more than 64 deep
+    TooDeep = 4,
+    /// the dialect bytes give no dialect
+    BadDialect = 5,
+    /// the node asked for is beyond the table, or of the wrong kind
+    WrongNode = 6,
+    /// the buffer for modes, shapes, words of a binding or a file is too short
+    ShortBuffer = 7,
+    /// `/` is the first parameter
+    SlashFirst = 10,
+    /// a parameter has the name of an earlier one
+    DuplicatedParameter = 11,
+    /// an ordinary parameter stands after `**kwargs`
+    NormalAfterKwargs = 12,
+    /// a parameter without a default stands after one that has a default
+    NoDefaultAfterDefault = 13,
+    /// `*` or `*args` stands after another star or after `**kwargs`
+    StarAfterStar = 14,
+    /// `/` stands after another `/`, after a star or after `**kwargs`
+    MultipleSlash = 15,
+    /// there is a second `**kwargs`
+    MultipleKwargs = 16,
+    /// `*` is the last parameter
+    StarLast = 17,
+    /// `*` is followed by something other than an ordinary parameter
+    NoNormalAfterStar = 18,
+    /// a positional argument stands after one that is not positional
+    PositionalAfterNonPositional = 20,
+    /// a named argument stands after a star argument or after `**`
+    NamedAfterStar = 21,
+    /// a named argument has the name of an earlier one
+    RepeatedNamed = 22,
+    /// a star argument stands after another one or after `**`
+    SecondStar = 23,
+    /// there is a second `**` argument
+    SecondKwargs = 24,
+    /// this cannot be assigned to
+    InvalidLhs = 30,
+    /// a tuple or a list cannot stand on the left of an augmented assignment
+    InvalidModifyLhs = 31,
+    /// an augmented assignment has a type
+    TypeOnAugmented = 32,
+    /// an assignment to a tuple or a list has a type
+    TypeOnTuple = 33,
+    /// this is no type
+    InvalidType = 40,
+    /// an empty list stands in a type
+    EmptyListInType = 41,
+    /// a dot in a type stands on something other than a path
+    DotInType = 42,
+    /// a path is expected before the brackets of a type
+    ExpectingPath = 43,
+    /// a path in a type ends in `.type`
+    DotTypeBan = 44,
+    /// the dialect has no types
+    TypesDisabled = 45,
+    /// the dialect has no `*` in parameter lists
+    StarNotPermitted = 50,
+    /// the dialect has no `/` in parameter lists
+    SlashNotPermitted = 51,
+    /// the dialect has no `def`
+    DefNotPermitted = 52,
+    /// the dialect has no `for` at top level
+    TopLevelFor = 53,
+    /// the dialect has no `if` at top level
+    TopLevelIf = 54,
+    /// `break` stands outside a `for` loop
+    BreakMisplaced = 55,
+    /// `continue` stands outside a `for` loop
+    ContinueMisplaced = 56,
+    /// `return` stands outside a `def`
+    ReturnMisplaced = 57,
+    /// `load` stands below the top level
+    LoadNotAtTop = 58,
+    /// the dialect has no `load`
+    LoadNotPermitted = 59,
+    /// `...` stands in a dialect that has no types
+    EllipsisNotPermitted = 60,
+    /// the dialect has no `lambda`
+    LambdaNotPermitted = 61,
+    /// the file ends before a block is whole
+    BlockShort = 70,
+    /// a block has the wrong number
+    BlockNumber = 71,
+    /// the sum of a block is wrong, so a byte is damaged
+    BlockCheck = 72,
+    /// a block has the wrong number of used bytes, or a byte past them that is not zero
+    BlockUsed = 73,
+    /// block 0 counts no node, more than 2,100 nodes, or more than 8,064 name bytes
+    BlockCounts = 74,
+    /// bytes stand behind the last block
+    BytesLeftOver = 75,
+    /// the call that is bound has a `*` or `**` argument
+    StarArgument = 80,
+    /// a positional argument is one too many, and there is no `*args`
+    TooManyPositional = 81,
+    /// no parameter takes a named argument, and there is no `**kwargs`
+    UnknownNamed = 82,
+    /// a named argument is for a parameter that is filled already
+    AlreadyFilled = 83,
+    /// an ordinary parameter without default is left empty
+    EmptyParameter = 84,
+    /// block 0 or a name block of a file to be rescued is bad
+    BadHeader = 90,
+    /// the blocks of a file to be rescued do not pass, and no child of its root can be kept
+    NothingKept = 91,
+}
+
+/// The kind of a record: its byte 0. docs/FORMAT.md has what each takes below it.
+#[derive(Clone, Copy, Debug, PartialEq, Eq, PartialOrd, Ord, Hash)]
+#[repr(u8)]
+#[non_exhaustive]
+pub enum Kind {
+    /// Statement 1.
+    Statements = 1,
+    /// Statement 2.
+    Def = 2,
+    /// Statement 3.
+    For = 3,
+    /// Statement 4.
+    If = 4,
+    /// Statement 5.
+    IfElse = 5,
+    /// Statement 6.
+    Break = 6,
+    /// Statement 7.
+    Continue = 7,
+    /// Statement 8.
+    Return = 8,
+    /// Statement 9.
+    Load = 9,
+    /// Statement 10.
+    OtherSimple = 10,
+    /// Statement 11.
+    Assign = 11,
+    /// Statement 12.
+    AssignModify = 12,
+    /// Expression 20.
+    Tuple = 20,
+    /// Expression 21.
+    Dot = 21,
+    /// Expression 22.
+    Call = 22,
+    /// Expression 23.
+    Index = 23,
+    /// Expression 24.
+    Index2 = 24,
+    /// Expression 25.
+    Slice = 25,
+    /// Expression 26.
+    Identifier = 26,
+    /// Expression 27.
+    Lambda = 27,
+    /// Expression 28.
+    String = 28,
+    /// Expression 29.
+    Int = 29,
+    /// Expression 30.
+    Float = 30,
+    /// Expression 31.
+    Ellipsis = 31,
+    /// Expression 32.
+    Bytes = 32,
+    /// Expression 33.
+    Not = 33,
+    /// Expression 34.
+    Minus = 34,
+    /// Expression 35.
+    Plus = 35,
+    /// Expression 36.
+    BitNot = 36,
+    /// Expression 37.
+    Op = 37,
+    /// Expression 38.
+    IfExpr = 38,
+    /// Expression 39.
+    List = 39,
+    /// Expression 40.
+    Dict = 40,
+    /// Expression 41.
+    ListComprehension = 41,
+    /// Expression 42.
+    DictComprehension = 42,
+    /// Expression 43.
+    FString = 43,
+    /// Parameter 50.
+    Normal = 50,
+    /// Parameter 51.
+    NoArgs = 51,
+    /// Parameter 52.
+    Slash = 52,
+    /// Parameter 53.
+    ArgsParam = 53,
+    /// Parameter 54.
+    KwArgsParam = 54,
+    /// Argument 60.
+    Positional = 60,
+    /// Argument 61.
+    Named = 61,
+    /// Argument 62.
+    ArgsArg = 62,
+    /// Argument 63.
+    KwArgsArg = 63,
+}
+
+/// Each number, its name and what it means.
+pub const NUMBERS: [(Number, &str, &str); 56] = [
+    (Number::TableLength, "TABLE_LENGTH", "the table has no record, more than 2,100, or a part of one"),
+    (Number::NameBytes, "NAME_BYTES", "there are more than 8,064 name bytes"),
+    (Number::UnsoundRecord, "UNSOUND_RECORD", "a record of the table is unsound"),
+    (Number::TooDeep, "TOO_DEEP", "a node is more than 64 deep"),
+    (Number::BadDialect, "BAD_DIALECT", "the dialect bytes give no dialect"),
+    (Number::WrongNode, "WRONG_NODE", "the node asked for is beyond the table, or of the wrong kind"),
+    (Number::ShortBuffer, "SHORT_BUFFER", "the buffer for modes, shapes, words of a binding or a file is too short"),
+    (Number::SlashFirst, "SLASH_FIRST", "`/` is the first parameter"),
+    (Number::DuplicatedParameter, "DUPLICATED_PARAMETER", "a parameter has the name of an earlier one"),
+    (Number::NormalAfterKwargs, "NORMAL_AFTER_KWARGS", "an ordinary parameter stands after `**kwargs`"),
+    (Number::NoDefaultAfterDefault, "NO_DEFAULT_AFTER_DEFAULT", "a parameter without a default stands after one that has a default"),
+    (Number::StarAfterStar, "STAR_AFTER_STAR", "`*` or `*args` stands after another star or after `**kwargs`"),
+    (Number::MultipleSlash, "MULTIPLE_SLASH", "`/` stands after another `/`, after a star or after `**kwargs`"),
+    (Number::MultipleKwargs, "MULTIPLE_KWARGS", "there is a second `**kwargs`"),
+    (Number::StarLast, "STAR_LAST", "`*` is the last parameter"),
+    (Number::NoNormalAfterStar, "NO_NORMAL_AFTER_STAR", "`*` is followed by something other than an ordinary parameter"),
+    (Number::PositionalAfterNonPositional, "POSITIONAL_AFTER_NON_POSITIONAL", "a positional argument stands after one that is not positional"),
+    (Number::NamedAfterStar, "NAMED_AFTER_STAR", "a named argument stands after a star argument or after `**`"),
+    (Number::RepeatedNamed, "REPEATED_NAMED", "a named argument has the name of an earlier one"),
+    (Number::SecondStar, "SECOND_STAR", "a star argument stands after another one or after `**`"),
+    (Number::SecondKwargs, "SECOND_KWARGS", "there is a second `**` argument"),
+    (Number::InvalidLhs, "INVALID_LHS", "this cannot be assigned to"),
+    (Number::InvalidModifyLhs, "INVALID_MODIFY_LHS", "a tuple or a list cannot stand on the left of an augmented assignment"),
+    (Number::TypeOnAugmented, "TYPE_ON_AUGMENTED", "an augmented assignment has a type"),
+    (Number::TypeOnTuple, "TYPE_ON_TUPLE", "an assignment to a tuple or a list has a type"),
+    (Number::InvalidType, "INVALID_TYPE", "this is no type"),
+    (Number::EmptyListInType, "EMPTY_LIST_IN_TYPE", "an empty list stands in a type"),
+    (Number::DotInType, "DOT_IN_TYPE", "a dot in a type stands on something other than a path"),
+    (Number::ExpectingPath, "EXPECTING_PATH", "a path is expected before the brackets of a type"),
+    (Number::DotTypeBan, "DOT_TYPE_BAN", "a path in a type ends in `.type`"),
+    (Number::TypesDisabled, "TYPES_DISABLED", "the dialect has no types"),
+    (Number::StarNotPermitted, "STAR_NOT_PERMITTED", "the dialect has no `*` in parameter lists"),
+    (Number::SlashNotPermitted, "SLASH_NOT_PERMITTED", "the dialect has no `/` in parameter lists"),
+    (Number::DefNotPermitted, "DEF_NOT_PERMITTED", "the dialect has no `def`"),
+    (Number::TopLevelFor, "TOP_LEVEL_FOR", "the dialect has no `for` at top level"),
+    (Number::TopLevelIf, "TOP_LEVEL_IF", "the dialect has no `if` at top level"),
+    (Number::BreakMisplaced, "BREAK_MISPLACED", "`break` stands outside a `for` loop"),
+    (Number::ContinueMisplaced, "CONTINUE_MISPLACED", "`continue` stands outside a `for` loop"),
+    (Number::ReturnMisplaced, "RETURN_MISPLACED", "`return` stands outside a `def`"),
+    (Number::LoadNotAtTop, "LOAD_NOT_AT_TOP", "`load` stands below the top level"),
+    (Number::LoadNotPermitted, "LOAD_NOT_PERMITTED", "the dialect has no `load`"),
+    (Number::EllipsisNotPermitted, "ELLIPSIS_NOT_PERMITTED", "`...` stands in a dialect that has no types"),
+    (Number::LambdaNotPermitted, "LAMBDA_NOT_PERMITTED", "the dialect has no `lambda`"),
+    (Number::BlockShort, "BLOCK_SHORT", "the file ends before a block is whole"),
+    (Number::BlockNumber, "BLOCK_NUMBER", "a block has the wrong number"),
+    (Number::BlockCheck, "BLOCK_CHECK", "the sum of a block is wrong, so a byte is damaged"),
+    (Number::BlockUsed, "BLOCK_USED", "a block has the wrong number of used bytes, or a byte past them that is not zero"),
+    (Number::BlockCounts, "BLOCK_COUNTS", "block 0 counts no node, more than 2,100 nodes, or more than 8,064 name bytes"),
+    (Number::BytesLeftOver, "BYTES_LEFT_OVER", "bytes stand behind the last block"),
+    (Number::StarArgument, "STAR_ARGUMENT", "the call that is bound has a `*` or `**` argument"),
+    (Number::TooManyPositional, "TOO_MANY_POSITIONAL", "a positional argument is one too many, and there is no `*args`"),
+    (Number::UnknownNamed, "UNKNOWN_NAMED", "no parameter takes a named argument, and there is no `**kwargs`"),
+    (Number::AlreadyFilled, "ALREADY_FILLED", "a named argument is for a parameter that is filled already"),
+    (Number::EmptyParameter, "EMPTY_PARAMETER", "an ordinary parameter without default is left empty"),
+    (Number::BadHeader, "BAD_HEADER", "block 0 or a name block of a file to be rescued is bad"),
+    (Number::NothingKept, "NOTHING_KEPT", "the blocks of a file to be rescued do not pass, and no child of its root can be kept"),
+];
+
+/// Each kind, its name and its class.
+pub const KINDS: [(Kind, &str, Class); 45] = [
+    (Kind::Statements, "Statements", Class::Statement),
+    (Kind::Def, "Def", Class::Statement),
+    (Kind::For, "For", Class::Statement),
+    (Kind::If, "If", Class::Statement),
+    (Kind::IfElse, "IfElse", Class::Statement),
+    (Kind::Break, "Break", Class::Statement),
+    (Kind::Continue, "Continue", Class::Statement),
+    (Kind::Return, "Return", Class::Statement),
+    (Kind::Load, "Load", Class::Statement),
+    (Kind::OtherSimple, "OtherSimple", Class::Statement),
+    (Kind::Assign, "Assign", Class::Statement),
+    (Kind::AssignModify, "AssignModify", Class::Statement),
+    (Kind::Tuple, "Tuple", Class::Expression),
+    (Kind::Dot, "Dot", Class::Expression),
+    (Kind::Call, "Call", Class::Expression),
+    (Kind::Index, "Index", Class::Expression),
+    (Kind::Index2, "Index2", Class::Expression),
+    (Kind::Slice, "Slice", Class::Expression),
+    (Kind::Identifier, "Identifier", Class::Expression),
+    (Kind::Lambda, "Lambda", Class::Expression),
+    (Kind::String, "String", Class::Expression),
+    (Kind::Int, "Int", Class::Expression),
+    (Kind::Float, "Float", Class::Expression),
+    (Kind::Ellipsis, "Ellipsis", Class::Expression),
+    (Kind::Bytes, "Bytes", Class::Expression),
+    (Kind::Not, "Not", Class::Expression),
+    (Kind::Minus, "Minus", Class::Expression),
+    (Kind::Plus, "Plus", Class::Expression),
+    (Kind::BitNot, "BitNot", Class::Expression),
+    (Kind::Op, "Op", Class::Expression),
+    (Kind::IfExpr, "IfExpr", Class::Expression),
+    (Kind::List, "List", Class::Expression),
+    (Kind::Dict, "Dict", Class::Expression),
+    (Kind::ListComprehension, "ListComprehension", Class::Expression),
+    (Kind::DictComprehension, "DictComprehension", Class::Expression),
+    (Kind::FString, "FString", Class::Expression),
+    (Kind::Normal, "Normal", Class::Parameter),
+    (Kind::NoArgs, "NoArgs", Class::Parameter),
+    (Kind::Slash, "Slash", Class::Parameter),
+    (Kind::ArgsParam, "ArgsParam", Class::Parameter),
+    (Kind::KwArgsParam, "KwArgsParam", Class::Parameter),
+    (Kind::Positional, "Positional", Class::Argument),
+    (Kind::Named, "Named", Class::Argument),
+    (Kind::ArgsArg, "ArgsArg", Class::Argument),
+    (Kind::KwArgsArg, "KwArgsArg", Class::Argument),
+];

@@ -1,0 +1,153 @@
+//! Numbers and kinds as Rust has them: from and to what stands in a table or a list, and in words.
+
+use std::error::Error;
+use std::fmt;
+
+use crate::made::KINDS;
+use crate::made::NUMBERS;
+use crate::At;
+use crate::Kind;
+use crate::Number;
+use crate::Refused;
+
+/// What a record stands for.
+#[derive(Clone, Copy, Debug, PartialEq, Eq, PartialOrd, Ord, Hash)]
+pub enum Class {
+    Statement,
+    Expression,
+    Parameter,
+    Argument,
+}
+
+/// A word that is none of the numbers given back.
+#[derive(Clone, Copy, Debug, PartialEq, Eq)]
+pub struct UnknownNumber(pub u32);
+
+/// A byte that is no kind of records.
+#[derive(Clone, Copy, Debug, PartialEq, Eq)]
+pub struct UnknownKind(pub u8);
+
+impl Number {
+    fn row(self) -> (&'static str, &'static str) {
+        let row = NUMBERS.iter().find(|row| row.0 == self).expect("every number has a row");
+        (row.1, row.2)
+    }
+
+    /// The name that docs/numbers.tsv has.
+    pub fn name(self) -> &'static str {
+        self.row().0
+    }
+
+    /// What it means, in the words of docs/numbers.tsv.
+    pub fn words(self) -> &'static str {
+        self.row().1
+    }
+}
+
+impl From<Number> for u32 {
+    fn from(number: Number) -> u32 {
+        number as u32
+    }
+}
+
+/// A word of a list of errors, or what a job of the C interface returns. 0 is no number: it is no refusal.
+///
+/// ```
+/// use starlark_checks::{Number, UnknownNumber};
+/// assert_eq!(Number::try_from(55), Ok(Number::BreakMisplaced));
+/// assert_eq!(u32::from(Number::BreakMisplaced), 55);
+/// assert_eq!(Number::BreakMisplaced.to_string(), "55: `break` stands outside a `for` loop");
+/// assert_eq!(Number::try_from(0), Err(UnknownNumber(0)));
+/// ```
+impl TryFrom<u32> for Number {
+    type Error = UnknownNumber;
+
+    fn try_from(word: u32) -> Result<Number, UnknownNumber> {
+        NUMBERS.iter().map(|row| row.0).find(|&number| number as u32 == word).ok_or(UnknownNumber(word))
+    }
+}
+
+/// The number and what it means.
+impl fmt::Display for Number {
+    fn fmt(&self, f: &mut fmt::Formatter) -> fmt::Result {
+        write!(f, "{}: {}", *self as u32, self.words())
+    }
+}
+
+impl Kind {
+    fn row(self) -> (&'static str, Class) {
+        let row = KINDS.iter().find(|row| row.0 == self).expect("every kind has a row");
+        (row.1, row.2)
+    }
+
+    /// The name that docs/kinds.tsv has.
+    pub fn name(self) -> &'static str {
+        self.row().0
+    }
+
+    /// Whether it is a statement, an expression, a parameter or an argument.
+    pub fn class(self) -> Class {
+        self.row().1
+    }
+}
+
+impl From<Kind> for u8 {
+    fn from(kind: Kind) -> u8 {
+        kind as u8
+    }
+}
+
+/// Byte 0 of a record.
+///
+/// ```
+/// use starlark_checks::{Class, Kind, UnknownKind};
+/// assert_eq!(Kind::try_from(2), Ok(Kind::Def));
+/// assert_eq!(Kind::Def.class(), Class::Statement);
+/// assert_eq!(Kind::try_from(13), Err(UnknownKind(13)));
+/// ```
+impl TryFrom<u8> for Kind {
+    type Error = UnknownKind;
+
+    fn try_from(byte: u8) -> Result<Kind, UnknownKind> {
+        KINDS.iter().map(|row| row.0).find(|&kind| kind as u8 == byte).ok_or(UnknownKind(byte))
+    }
+}
+
+impl fmt::Display for Kind {
+    fn fmt(&self, f: &mut fmt::Formatter) -> fmt::Result {
+        f.write_str(self.name())
+    }
+}
+
+impl fmt::Display for UnknownNumber {
+    fn fmt(&self, f: &mut fmt::Formatter) -> fmt::Result {
+        write!(f, "{} is none of the numbers given back", self.0)
+    }
+}
+
+impl fmt::Display for UnknownKind {
+    fn fmt(&self, f: &mut fmt::Formatter) -> fmt::Result {
+        write!(f, "{} is no kind of records", self.0)
+    }
+}
+
+/// As `11: a parameter has the name of an earlier one (node 3, bytes 30 to 37; the name stands first at node 1)`.
+impl fmt::Display for Refused {
+    fn fmt(&self, f: &mut fmt::Formatter) -> fmt::Result {
+        write!(f, "{}", self.number)?;
+        match self.at {
+            At::Nowhere => Ok(()),
+            At::Node(node) => write!(f, " (node {node})"),
+            At::Span { node, begin, end, earlier: None } => write!(f, " (node {node}, bytes {begin} to {end})"),
+            At::Span { node, begin, end, earlier: Some(first) } => {
+                write!(f, " (node {node}, bytes {begin} to {end}; the name stands first at node {first})")
+            }
+        }
+    }
+}
+
+impl Error for Refused {}
+
+impl Error for UnknownNumber {}
+
+impl Error for UnknownKind {}

@@ -1,0 +1,163 @@
+#!/usr/bin/env python3
+"""Makes what C and Rust see of the numbers and kinds, from docs/numbers.tsv and docs/kinds.tsv, and holds the two interfaces to each other.
+
+interfaces.py           says whether all is as it must be (exit status 1 if not)
+interfaces.py --write   first writes anew what is made
+
+Made: the enums in include/starlark.h, from "enum starlark_number {" and "enum starlark_kind {" to their ends; include/starlark_names.h; and
+bindings/rust/src/made.rs. Held: the version of the header in one string and in bindings/rust/Cargo.toml, and the header's constants, which
+are the code's and those of bindings/rust/src/lib.rs. tools/numbers.py holds the two lists to the code.
+"""
+import re
+import sys
+
+from repository import CRATES, ROOT
+
+HEADER, NAMES = ROOT / "include" / "starlark.h", ROOT / "include" / "starlark_names.h"
+RUST = ROOT / "bindings" / "rust"
+# the header's constants that the wrapper has too, and where the code has them
+SHARED = ["WORDS", "NODES", "NODE_BYTES", "NAME_BYTES", "DEPTH", "FILE_BYTES", "ERRORS", "STACK_BYTES"]
+IN_CODE = {"NODES": "table/src/lib.rt: MOST_NODES", "NAME_BYTES": "table/src/lib.rt: MOST_NAMES", "DEPTH": "table/src/depth.rt: MOST_DEPTH",
+           "NODE_BYTES": "forest/src/lib.rt: RECORD"}
+
+
+def rows(name):
+    """The rows of a list in docs/, without its head."""
+    return [line.split("\t") for line in (ROOT / "docs" / name).read_text().splitlines()[1:]]
+
+
+def capitals(name):
+    """IF_ELSE as IfElse; a name that has small letters stays."""
+    return "".join(word.capitalize() for word in name.split("_")) if name.isupper() else name
+
+
+def constant(name):
+    """IfElse as IF_ELSE; Index2 as INDEX2."""
+    return re.sub(r"(?<!^)([A-Z])", r"_\1", name).upper()
+
+
+def in_c(words):
+    """Words as a comment or a string of C may hold them."""
+    assert "*/" not in words and "/*" not in words and '"' not in words and "\\" not in words, words
+    return words
+
+
+def c_enum(name, lines):
+    return f"enum starlark_{name} {{\n" + "".join(f"    {line}\n" for line in lines) + "};\n"
+
+
+def number_enum():
+    return c_enum("number", [f"STARLARK_NUMBER_{name} = {number}, /* {in_c(words)} */" for number, name, words, _ in rows("numbers.tsv")])
+
+
+def kind_enum():
+    return c_enum("kind", [f"STARLARK_KIND_{constant(name)} = {number}, /* {own} */" for number, name, own in rows("kinds.tsv")])
+
+
+def c_switch(name, what, cases):
+    """A function of C from a number to a text."""
+    lines = "".join(f'    case {case}: return "{in_c(text)}";\n' for case, text in cases)
+    return f'/* {what} */\nstatic inline const char *starlark_{name}(uint32_t {name.split("_")[0]}) {{\n' \
+           f"    switch ({name.split('_')[0]}) {{\n{lines}    default: return \"unknown\";\n    }}\n}}\n"
+
+
+def names_header():
+    numbers, kinds = rows("numbers.tsv"), rows("kinds.tsv")
+    parts = [
+        c_switch("number_name", "The name of a number, as docs/numbers.tsv has it; \"ACCEPTED\" for 0, \"unknown\" for what is no number.",
+                 [("STARLARK_ACCEPTED", "ACCEPTED")] + [(f"STARLARK_NUMBER_{name}", name) for _, name, _, _ in numbers]),
+        c_switch("number_words", "What a number means, in words.",
+                 [("STARLARK_ACCEPTED", "accepted")] + [(f"STARLARK_NUMBER_{name}", words) for _, name, words, _ in numbers]),
+        c_switch("kind_name", "The name of a kind of records, as docs/kinds.tsv has it; \"unknown\" for what is no kind.",
+                 [(f"STARLARK_KIND_{constant(name)}", name) for _, name, _ in kinds]),
+    ]
+    return "/* Numbers and kinds in words, for who prints them: starlark.h alone is enough to call the checks.\n" \
+           " * Made by tools/interfaces.py from docs/numbers.tsv and docs/kinds.tsv. */\n" \
+           "#ifndef STARLARK_NAMES_H\n#define STARLARK_NAMES_H\n\n#include \"starlark.h\"\n\n" + "\n".join(parts) + "\n#endif\n"
+
+
+def rust_enum(name, words, of, cases):
+    """An enum of Rust: its words, the type of its numbers, and its cases, each with its words."""
+    lines = "".join(f"    /// {said}\n    {capitals(case)} = {number},\n" for number, case, said in cases)
+    return f"/// {words}\n#[derive(Clone, Copy, Debug, PartialEq, Eq, PartialOrd, Ord, Hash)]\n#[repr({of})]\n#[non_exhaustive]\n" \
+           f"pub enum {name} {{\n{lines}}}\n"
+
+
+def rust():
+    numbers, kinds = rows("numbers.tsv"), rows("kinds.tsv")
+    number = rust_enum("Number", "A number given back: why a job refuses, or an error of a module.", "u32",
+                       [(number, name, words) for number, name, words, _ in numbers])
+    kind = rust_enum("Kind", "The kind of a record: its byte 0. docs/FORMAT.md has what each takes below it.", "u8",
+                     [(number, name, f"{own.capitalize()} {number}.") for number, name, own in kinds])
+    said = "".join(f'    (Number::{capitals(name)}, "{name}", "{in_c(words)}"),\n' for _, name, words, _ in numbers)
+    named = "".join(f'    (Kind::{name}, "{name}", Class::{own.capitalize()}),\n' for _, name, own in kinds)
+    return "//! The numbers and kinds, with their names and words. Made by tools/interfaces.py from docs/numbers.tsv and docs/kinds.tsv.\n\n" \
+           f"use crate::Class;\n\n{number}\n{kind}\n" \
+           f"/// Each number, its name and what it means.\npub const NUMBERS: [(Number, &str, &str); {len(numbers)}] = [\n{said}];\n\n" \
+           f"/// Each kind, its name and its class.\npub const KINDS: [(Kind, &str, Class); {len(kinds)}] = [\n{named}];\n"
+
+
+def with_enum(text, name, made):
+    """The header's text with this enum in the place of the one of its name."""
+    found, count = re.subn(rf"^enum starlark_{name} \{{\n.*?^\}};\n", lambda _: made, text, flags=re.M | re.S)
+    assert count == 1, f"include/starlark.h has not one enum starlark_{name}"
+    return found
+
+
+def made():
+    """What is made: each file's text as it must be."""
+    header = with_enum(with_enum(HEADER.read_text(), "number", number_enum()), "kind", kind_enum())
+    return {HEADER: header, NAMES: names_header(), RUST / "src" / "made.rs": rust()}
+
+
+def value(text):
+    """A constant's number: 2_100, 1 << 18, (1 << 18)."""
+    factors = re.fullmatch(r"\(?([\d_]+)(?: << (\d+))?\)?", text.strip())
+    return int(factors[1].replace("_", "")) << int(factors[2] or 0) if factors else None
+
+
+def versions():
+    """The faults of the version: it stands in the header, as three numbers and as a string."""
+    header = HEADER.read_text()
+    parts = [re.search(rf"^#define STARLARK_VERSION_{part} (\d+)$", header, re.M) for part in ("MAJOR", "MINOR", "PATCH")]
+    if not all(parts):
+        return ["include/starlark.h: the version is not there as three numbers"]
+    version = ".".join(part[1] for part in parts)
+    held = {"include/starlark.h": re.search(r'^#define STARLARK_VERSION "(.*)"$', header, re.M),
+            "bindings/rust/Cargo.toml": re.search(r'^version = "(.*)"$', (RUST / "Cargo.toml").read_text(), re.M)}
+    return [f"{path}: the version is not {version}" for path, found in held.items() if not found or found[1] != version]
+
+
+def constants():
+    """The faults of the header's constants: the code and the wrapper have the same."""
+    faults, wrapper = [], (RUST / "src" / "lib.rs").read_text()
+    said = dict(re.findall(r"^#define STARLARK_(\w+) (.*)$", HEADER.read_text(), re.M))
+    for name in SHARED:
+        found = re.search(rf"^pub const {name}: usize = (.*);$", wrapper, re.M)
+        if not found or value(found[1]) is None or value(found[1]) != value(said.get(name, "")):
+            faults.append(f"bindings/rust/src/lib.rs: {name} is not the header's STARLARK_{name}")
+    for name, (path, of) in {name: place.split(": ") for name, place in IN_CODE.items()}.items():
+        found = re.search(rf"^(?:pub )?const {of}: \w+ = (.*);", (CRATES / path).read_text(), re.M)
+        if not found or value(found[1]) != value(said.get(name, "")):
+            faults.append(f"include/starlark.h: STARLARK_{name} is not {of} of crates/{path}")
+    return faults
+
+
+def faults():
+    """All that is not as it must be."""
+    wrong = [path for path, text in made().items() if not path.exists() or path.read_text() != text]
+    told = [f"{path.relative_to(ROOT)} is not what the lists give (tools/interfaces.py --write makes it)" for path in wrong]
+    return told + versions() + constants()
+
+
+def main():
+    if "--write" in sys.argv:
+        for path, text in made().items():
+            path.write_text(text)
+    found = faults()
+    print("\n".join(found) or "interfaces.py: the enums, names, constants and version of C and Rust are those of the lists and the header")
+    return 1 if found else 0
+
+
+if __name__ == "__main__":
+    sys.exit(main())
