@@ -56,7 +56,7 @@ enum starlark_number {
     STARLARK_NUMBER_TABLE_LENGTH = 1, /* the table has no record, more than 2,100, or a part of one */
     STARLARK_NUMBER_NAME_BYTES = 2, /* there are more than 8,064 name bytes */
     STARLARK_NUMBER_UNSOUND_RECORD = 3, /* a record of the table is unsound */
-    STARLARK_NUMBER_TOO_DEEP = 4, /* a node is more than 64 deep */
+    STARLARK_NUMBER_TOO_DEEP = 4, /* a statement or expression is more than 64 deep */
     STARLARK_NUMBER_BAD_DIALECT = 5, /* the dialect bytes give no dialect */
     STARLARK_NUMBER_WRONG_NODE = 6, /* the node asked for is beyond the table, or of the wrong kind */
     STARLARK_NUMBER_SHORT_BUFFER = 7, /* the buffer for modes, shapes, words of a binding or a file is too short */
