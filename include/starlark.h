@@ -29,8 +29,8 @@
  *   No two of the buffers that one call is lent overlap: not the table, the names, the dialect, the input, the written buffer, `out`.
  *   No pointer is NULL, not even one of length 0; words are aligned to four bytes.
  *   The thread has stack enough: STARLARK_STACK_BYTES is more than twice what any job was measured to need (bindings/c/stack.c, on aarch64):
- *   at 2,100 nodes of many shapes the table check needs 9 KB, the parameter job 18 KB, the call job 25 KB, the type job 30 KB, the module pass
- *   and the binding job 35 KB, the target, assignment and write jobs no more than 9 KB, the rescue of a file of 2,100 nodes 68 KB.
+ *   at 2,100 nodes of many shapes the table check needs 17 KB, the parameter job 17 KB, the call job 33 KB, the type job 30 KB, the module pass
+ *   39 KB, the binding job 50 KB, the target, assignment and write jobs no more than 17 KB, the rescue of a file of 2,100 nodes 76 KB.
  */
 #ifndef STARLARK_H
 #define STARLARK_H
