@@ -166,8 +166,8 @@ enum starlark_kind {
 /* The word for "no place", and for "no earlier node". */
 #define STARLARK_NONE UINT32_C(0xFFFFFFFF)
 
-/* The limits of a table: nodes, and so bytes of a mode or shape buffer that is never too short; name bytes; depth, in which statements and
- * expressions count, and a parameter or an argument has its parent's: of 64, so a chain has up to 127 records. */
+/* The limits of a table: nodes, and so bytes of a mode or shape buffer that is never too short; name bytes; depth: statements
+ * and expressions count, a parameter or an argument has its parent's, so that up to 127 records may stand below each other. */
 #define STARLARK_NODES 2100
 #define STARLARK_NODE_BYTES 24
 #define STARLARK_NAME_BYTES 8064
