@@ -19,18 +19,19 @@
  * `out`, twelve words
  *   accepted      as said at each function
  *   3, 4          out[0] the node
- *   1, 2, 5, 6, 7 nothing; so for 90 and 91
+ *   1, 2, 5, 6, 7 nothing; so for 70 to 75, 90 and 91
  *   all others    out[0] the node, out[1] and out[2] begin and end of its span (22: the name's span), out[3] STARLARK_NONE; but for 11 and 22,
  *                 a name that stands twice, out[3] is the node of the first parameter (11) or argument (22) of the list that has it
  *   Every word that is not named keeps its value. So do all bytes and words of a lent buffer when a job refuses.
  *
  * What the caller must see to: nothing checks it
- *   Each pointer points to as many elements as the length beside it says, and `out` to twelve words.
- *   No two of the buffers that one call is lent overlap: not the table, the names, the dialect, the input, the written buffer, `out`.
- *   No pointer is NULL, not even one of length 0; words are aligned to four bytes.
+ *   Each pointer points to as many elements as the length beside it says, and `out` to twelve words. A pointer of length 0 may be NULL.
+ *   Buffers that are only read may overlap each other; a written buffer (modes, shapes, list, errors, the file that is written, table and names of
+ *   starlark_read, `out`) overlaps none. Words are aligned to four bytes.
  *   The thread has stack enough: STARLARK_STACK_BYTES is more than twice what any job was measured to need (bindings/c/stack.c, on aarch64):
  *   at 2,100 nodes of many shapes the table check needs 17 KB, the parameter job 17 KB, the call job 33 KB, the type job 30 KB, the module pass
- *   39 KB, the binding job 50 KB, the target, assignment and write jobs no more than 17 KB, the rescue of a file of 2,100 nodes 76 KB.
+ *   43 KB, the binding job 50 KB, the target, assignment and write jobs no more than 17 KB; of a file of 2,100 nodes the rescue and
+ *   starlark_read need 76 KB, starlark_check_file 100 KB.
  */
 #ifndef STARLARK_H
 #define STARLARK_H
@@ -59,7 +60,7 @@ enum starlark_number {
     STARLARK_NUMBER_TOO_DEEP = 4, /* a statement or expression is more than 64 deep */
     STARLARK_NUMBER_BAD_DIALECT = 5, /* the dialect bytes give no dialect */
     STARLARK_NUMBER_WRONG_NODE = 6, /* the node asked for is beyond the table, or of the wrong kind */
-    STARLARK_NUMBER_SHORT_BUFFER = 7, /* the buffer for modes, shapes, words of a binding or a file is too short */
+    STARLARK_NUMBER_SHORT_BUFFER = 7, /* the buffer for modes, shapes, words of a binding, a file or what a file holds is too short */
     STARLARK_NUMBER_SLASH_FIRST = 10, /* `/` is the first parameter */
     STARLARK_NUMBER_DUPLICATED_PARAMETER = 11, /* a parameter has the name of an earlier one */
     STARLARK_NUMBER_NORMAL_AFTER_KWARGS = 12, /* an ordinary parameter stands after `**kwargs` */
@@ -239,6 +240,18 @@ uint32_t starlark_write(const uint8_t *table, size_t table_len, const uint8_t *n
  * with names and dialect whole. 90 is a bad block 0 or name block; 91 says that the blocks do not pass and no child of the root can be kept; 7 comes
  * exactly where `file_len` is less than what would be written. */
 uint32_t starlark_rescue(const uint8_t *input, size_t input_len, uint8_t *file, size_t file_len, uint32_t *out);
+
+/* What a table file of `file_len` bytes holds: its table at the front of `table`, its names at the front of `names`: 70 to 75, 3 to 5, 7.
+ * Accepted: out[0] the nodes, 24 bytes each, out[1] the name bytes, out[2] 1 if there is a dialect, else 0, out[3] to out[5] the dialect's nine
+ * bytes, four a word, the low one first, or zeros. Bytes past table and names stay. 7 exactly where `table_len` is less than 24 for each node or
+ * `names_len` less than the name bytes; STARLARK_NODES * STARLARK_NODE_BYTES and STARLARK_NAME_BYTES are never too few. A file's counts are
+ * judged by 74, so 1 and 2 do not arise. What starlark_write has written gives back the same table, names and dialect. */
+uint32_t starlark_read(const uint8_t *file, size_t file_len, uint8_t *table, size_t table_len, uint8_t *names, size_t names_len,
+                       uint32_t *out);
+
+/* The module pass over a table file of `file_len` bytes, under the dialect that it holds: 70 to 75, 3 to 5. Accepted: out[0] how many errors the
+ * module has, out[1] the nodes. Three words of `errors` for each, as starlark_module has them: number (10 to 18, 50 to 61), begin and end. */
+uint32_t starlark_check_file(const uint8_t *file, size_t file_len, uint32_t *errors, size_t errors_len, uint32_t *out);
 
 #ifdef __cplusplus
 }

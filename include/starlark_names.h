@@ -79,7 +79,7 @@ static inline const char *starlark_number_words(uint32_t number) {
     case STARLARK_NUMBER_TOO_DEEP: return "a statement or expression is more than 64 deep";
     case STARLARK_NUMBER_BAD_DIALECT: return "the dialect bytes give no dialect";
     case STARLARK_NUMBER_WRONG_NODE: return "the node asked for is beyond the table, or of the wrong kind";
-    case STARLARK_NUMBER_SHORT_BUFFER: return "the buffer for modes, shapes, words of a binding or a file is too short";
+    case STARLARK_NUMBER_SHORT_BUFFER: return "the buffer for modes, shapes, words of a binding, a file or what a file holds is too short";
     case STARLARK_NUMBER_SLASH_FIRST: return "`/` is the first parameter";
     case STARLARK_NUMBER_DUPLICATED_PARAMETER: return "a parameter has the name of an earlier one";
     case STARLARK_NUMBER_NORMAL_AFTER_KWARGS: return "an ordinary parameter stands after `**kwargs`";

@@ -12,11 +12,10 @@ TABLE is a file that the program has accepted. Status 0 where each call is accep
 or no Def, and, with a sentence on standard error, for a script that is not the table's.
 """
 import re
-import struct
 import sys
 
-import repository
 from tables import NUMBER
+from tablewords import Source, Table, meanings_of, shown
 
 KIND = {number: word for word, number in NUMBER.items()}
 DEF, CALL, IDENTIFIER, NAMED = NUMBER["Def"], NUMBER["Call"], NUMBER["Identifier"], NUMBER["Named"]
@@ -27,35 +26,8 @@ MODES = {1: "by place only", 2: "by place or name", 3: "by name only", 4: "colle
 LONGEST = 60  # characters of a script's text in a line
 
 
-class Node:
-    """A record of a table, with its name."""
-
-    def __init__(self, at, record, names):
-        self.at = at
-        self.kind, _, length, start, self.begin, self.end, self.size, _, _ = record
-        self.name = names[start:start + length]
-
-
-class Table:
-    """What an accepted table file holds."""
-
-    def __init__(self, path):
-        file = open(path, "rb").read()
-        nodes, names = struct.unpack_from("<HH", file, 4)
-        content = [file[at + 4:at + 508] for at in range(0, len(file), 512)]
-        first = 1 + -(-names // 504)
-        names = b"".join(content[1:first])[:names]
-        records = struct.iter_unpack("<BBHIIIHHI", b"".join(content[first:])[:24 * nodes])
-        self.nodes = [Node(at, record, names) for at, record in enumerate(records)]
-
-    def of_kind(self, kind):
-        return [node for node in self.nodes if node.kind == kind]
-
-    def children(self, node):
-        at, end = node.at + 1, node.at + node.size
-        while at < end:
-            yield self.nodes[at]
-            at += self.nodes[at].size
+class Calls(Table):
+    """A table by its Defs and Calls."""
 
     def parameters(self, node):
         """A Def's parameters, marks too."""
@@ -73,11 +45,6 @@ class Table:
         return list(self.children(node))[1:]
 
 
-def shown(text):
-    """Bytes of a name or of a script in a line: what is no character, or a control character, is ?."""
-    return "".join(c if c.isprintable() else "?" for c in text.decode("utf-8", "replace"))
-
-
 class Bytes:
     """Places by their bytes, where there is no script: an argument's text is told by its table."""
 
@@ -93,11 +60,11 @@ class Bytes:
         return f"node {node.at}, bytes {node.begin} to {node.end}"
 
 
-class Script:
-    """Places by line and column of a script, from 1, and its texts."""
+class Script(Source):
+    """Places by line and column of a script, and its texts."""
 
     def __init__(self, path, table):
-        self.path, self.bytes = path, open(path, "rb").read()
+        super().__init__(path)
         self.defs = {}
         for node in table.of_kind(DEF):
             head = re.match(rb"def[\s\\]+([\w\x80-\xff]+)", self.bytes[node.begin:node.end])
@@ -118,9 +85,7 @@ class Script:
         return text[:LONGEST - 1] + "…" if more or len(text) > LONGEST else text
 
     def place(self, node):
-        before = self.bytes[:node.begin]
-        line = before.rpartition(b"\n")[2]
-        return f"{before.count(10) + 1}:{len(line.decode('utf-8', 'replace')) + 1}"
+        return "{}:{}".format(*self.line_column(node.begin))
 
 
 class Accepted:
@@ -185,7 +150,7 @@ def counted(n, what):
 
 def listed(meanings, path):
     """The Defs and Calls of a table, in its order."""
-    table, lines = Table(path), []
+    table, lines = Calls(path), []
     for node in table.nodes:
         where = f"{node.at}, bytes {node.begin} to {node.end}"
         if node.kind == DEF:
@@ -203,7 +168,7 @@ def paired(table, script):
 
 def pairs(meanings, path, script):
     """The nodes of all pairs, a pair in a line."""
-    table = Table(path)
+    table = Calls(path)
     return [f"{call.at} {definition.at}" for call, defs in paired(table, Script(script, table)) for definition in defs], 0
 
 
@@ -215,14 +180,14 @@ def refused(meanings, answer):
 
 def bound(meanings, path, answer, call, definition):
     """A call and a def."""
-    table, (said,) = Table(path), answers(answer, 1)
+    table, (said,) = Calls(path), answers(answer, 1)
     known = [table.nodes[int(node)] if said.status < 2 else None for node in (call, definition)]
     return said.lines(table, Bytes(table), *known, meanings), said.status
 
 
 def of_script(meanings, path, answer, script):
     """All pairs of a script with their answers, the calls that have none, and how many there are."""
-    table = Table(path)
+    table = Calls(path)
     script = Script(script, table)
     calls = paired(table, script)
     said = iter(answers(answer, sum(len(definitions) for _, definitions in calls)))
@@ -243,11 +208,6 @@ def of_script(meanings, path, answer, script):
 
 
 MAKERS = {"list": listed, "pairs": pairs, "refused": refused, "bound": bound, "script": of_script}
-
-
-def meanings_of():
-    rows = [line.split("\t") for line in open(repository.ROOT / "docs" / "numbers.tsv", encoding="utf-8").read().splitlines()[1:]]
-    return {int(row[0]): row[2] for row in rows}
 
 
 def main(words):

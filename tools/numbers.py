@@ -19,7 +19,7 @@ from tables import NUMBER as WORDS
 # document 01, "Numbers given back" and "The file and the program"; document 02
 GIVEN = [*range(1, 8), *range(10, 19), *range(20, 25), *range(30, 34), *range(40, 46), *range(50, 62), *range(70, 76), *range(80, 85), 90, 91]
 HEAD = ["number", "name", "meaning", "given by"]
-JOBS = ["table", "params", "call", "bind", "target", "assignment", "type", "module", "write", "rescue", "file"]
+JOBS = ["table", "params", "call", "bind", "target", "assignment", "type", "module", "write", "rescue", "read", "file"]
 
 
 def capitals(name):
@@ -54,8 +54,10 @@ def given_by_jobs():
         words = words.rpartition("/*")[2]
         listed = re.findall(r": ([\d, to]+)\.\s+(?:\* )?Accepted", words) + re.findall(r"number \(([\d, to]+)\)", words)
         given[job] = set(ranges(", ".join(listed)))
-    # the reader refuses with 74 what 1 and 2 would refuse
+    # a file is checked by the program and by starlark_check_file; the reader refuses with 74 what 1 and 2 would refuse
     given["file"] = given["module"] - {1, 2} | set(range(70, 76))
+    if given.pop("check_file", None) != given["file"]:
+        given["check_file, which does not give what the program does,"] = set()
     return given
 
 

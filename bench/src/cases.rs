@@ -7,6 +7,9 @@ use judge::run;
 use judge::trees::Spans;
 use judge::trees::Trees;
 use model::answer::Answer;
+use model::audit;
+use model::audit::Job;
+use model::audit::Place;
 use model::file;
 use model::file::Contents;
 use model::jobs;
@@ -36,6 +39,8 @@ pub const PLAIN: &str = "plain-writer";
 pub const COPY: &str = "copy";
 pub const LISTS: &str = "params-and-call";
 pub const READER: &str = "port-read";
+pub const EACH: &str = "each-job";
+pub const MODULE: &str = "port-module";
 
 type Routes = Vec<Route<'static>>;
 
@@ -199,6 +204,41 @@ pub fn module(input: &'static Input, dialect: &'static [u8]) -> Routes {
             black_box(validate_module(&tree, &again, codemap())).len()
         }),
     ]
+}
+
+/// The audit, and what it does at once as single jobs: the module pass, and each job on each node that it fits.
+pub fn audit(input: &'static Input, dialect: &'static [u8]) -> Routes {
+    let (table, names) = (&input.table, &input.names);
+    let mut port = Port::new();
+    let number = port.audit(table, names, dialect);
+    let answer = jobs::audit(table, names, dialect);
+    must_agree(&port, number, &answer);
+    assert_eq!(port.errors[..4 * answer.audited.len()], answer.audited.concat()[..]);
+    let judged = run::Audit::of(checked(input)).answer(&dialects::from_bytes(dialect));
+    assert!(judged == Ok(answer), "the crate agrees on what is measured");
+    let places = audit::places(checked(input));
+    let (mut each, mut module) = (Port::new(), Port::new());
+    vec![
+        Route::new(PORT, move || port.audit(table, names, dialect)),
+        Route::new(EACH, move || {
+            let own = each.module(table, names, dialect);
+            let at = |place: &Place| match place.job {
+                Job::Params => each.params(table, names, place.node),
+                Job::Call => each.call(table, names, place.node),
+                Job::Assignment => each.assignment(table, names, place.node),
+                Job::Target => each.target(table, names, place.node),
+                Job::Type => each.type_shape(table, names, dialect, place.node),
+            };
+            own + places.iter().map(at).sum::<u32>()
+        }),
+        Route::new(MODULE, move || module.module(table, names, dialect)),
+        check_route(input),
+    ]
+}
+
+/// How many jobs the audit does at once, the module pass among them.
+pub fn jobs_at_once(input: &Input) -> usize {
+    1 + audit::places(&read(input)).len()
 }
 
 /// A file to its errors, and the parts of the Rust route.

@@ -30,6 +30,7 @@ enum Kind {
     Write,
     Bind,
     Rescue,
+    Audit,
 }
 
 struct Case {
@@ -131,6 +132,22 @@ fn all_cases() -> Vec<Case> {
     }
     all.extend(binding_cases());
     all.extend(rescue_cases());
+    all.extend(audit_cases());
+    all
+}
+
+/// Whole modules by every job, in a dialect with types and in one without.
+fn audit_cases() -> Vec<Case> {
+    let mut all = Vec::new();
+    for (dialect, bytes) in &DIALECTS {
+        for nodes in MODULES {
+            let input = scripts::module(nodes);
+            let errors = model::jobs::audit(&input.table, &input.names, bytes).audited.len();
+            let jobs = cases::jobs_at_once(&input);
+            let name = format!("audit, {nodes} nodes, {dialect}, {jobs} jobs, {errors} errors");
+            all.push(case(name, Kind::Audit, move || cases::audit(kept(scripts::module(nodes)), bytes)));
+        }
+    }
     all
 }
 
@@ -229,6 +246,7 @@ fn print_head(kind: Kind) {
             "file to errors | port | the module job by itself | Rust route | port / Rust | reading and check | second check | tree | crate | port / (tree and crate alone)"
         }
         Kind::Bind => "arguments bound | port | params and call on the same table | port / that | one table check",
+        Kind::Audit => "audit | port | the same jobs one by one | port / that | the module pass | port / that | one table check",
         Kind::Rescue => "file rescued | port | the port reads the whole file | port / that | one table check of the whole | copying what is kept",
         Kind::Write => {
             "file written | port | of it table check | Rust writer with the oracle's checks | port / that | Rust writer alone | port without its check / that | copying the bytes"
@@ -275,6 +293,11 @@ fn print_row(case: &Case, times: &[Times]) {
         Kind::Bind => {
             let lists = of(times, cases::LISTS);
             row.extend([micros(lists.spread()), ratio(port.part_of(lists)), middle(of(times, cases::CHECK))]);
+        }
+        Kind::Audit => {
+            let (each, module) = (of(times, cases::EACH), of(times, cases::MODULE));
+            row.extend([micros(each.spread()), ratio(port.part_of(each))]);
+            row.extend([micros(module.spread()), ratio(port.part_of(module)), middle(of(times, cases::CHECK))]);
         }
         Kind::Rescue => {
             let reader = of(times, cases::READER);

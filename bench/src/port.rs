@@ -18,6 +18,8 @@ extern "C" {
     ) -> u32;
     fn starlark_call(t: *const u8, tl: usize, n: *const u8, nl: usize, node: usize, out: *mut Words) -> u32;
     fn starlark_target(t: *const u8, tl: usize, n: *const u8, nl: usize, node: usize, out: *mut Words) -> u32;
+    fn starlark_assignment(t: *const u8, tl: usize, n: *const u8, nl: usize, node: usize, out: *mut Words)
+        -> u32;
     fn starlark_type(
         t: *const u8,
         tl: usize,
@@ -61,6 +63,17 @@ extern "C" {
         def: usize,
         list: *mut u32,
         list_len: usize,
+        out: *mut Words,
+    ) -> u32;
+    fn starlark_audit(
+        t: *const u8,
+        tl: usize,
+        n: *const u8,
+        nl: usize,
+        dialect: *const u8,
+        dialect_len: usize,
+        errors: *mut u32,
+        errors_len: usize,
         out: *mut Words,
     ) -> u32;
     fn starlark_rescue(i: *const u8, il: usize, file: *mut u8, file_len: usize, out: *mut Words) -> u32;
@@ -132,6 +145,11 @@ impl Port {
         unsafe { starlark_target(table.as_ptr(), table.len(), names.as_ptr(), names.len(), node, &mut self.out) }
     }
 
+    pub fn assignment(&mut self, table: &[u8], names: &[u8], node: usize) -> u32 {
+        let (table, names) = black_box((table, names));
+        unsafe { starlark_assignment(table.as_ptr(), table.len(), names.as_ptr(), names.len(), node, &mut self.out) }
+    }
+
     pub fn type_shape(&mut self, table: &[u8], names: &[u8], dialect: &[u8], node: usize) -> u32 {
         let (table, names) = black_box((table, names));
         let (shapes, shapes_len) = (self.bytes.as_mut_ptr(), self.bytes.len());
@@ -156,6 +174,24 @@ impl Port {
         let (errors, errors_len) = (self.errors.as_mut_ptr(), self.errors.len());
         unsafe {
             starlark_module(
+                table.as_ptr(),
+                table.len(),
+                names.as_ptr(),
+                names.len(),
+                dialect.as_ptr(),
+                dialect.len(),
+                errors,
+                errors_len,
+                &mut self.out,
+            )
+        }
+    }
+
+    pub fn audit(&mut self, table: &[u8], names: &[u8], dialect: &[u8]) -> u32 {
+        let (table, names) = black_box((table, names));
+        let (errors, errors_len) = (self.errors.as_mut_ptr(), self.errors.len());
+        unsafe {
+            starlark_audit(
                 table.as_ptr(),
                 table.len(),
                 names.as_ptr(),

@@ -195,6 +195,45 @@ static void rescue(const char *words, size_t input_length, size_t damaged, size_
     printf(", %zu changed\n", changed);
 }
 
+/* The script's file with the byte at `damaged` changed, where there is one; its length. */
+static size_t script_file(uint8_t *file, const uint8_t *dialect, size_t dialect_length, size_t damaged) {
+    uint32_t out[STARLARK_WORDS];
+    starlark_write(TABLE, dialect, dialect_length, file, STARLARK_FILE_BYTES, out);
+    if (damaged < STARLARK_FILE_BYTES) file[damaged] ^= 1;
+    return out[0];
+}
+
+/* What the script's file holds, in buffers of `table_length` and `names_length` bytes, which hold 9: whether it is the script's table and names,
+ * and how many bytes are no longer 9. */
+static void read_file(const char *words, const uint8_t *dialect, size_t dialect_length, size_t damaged, size_t table_length, size_t names_length) {
+    uint32_t out[STARLARK_WORDS];
+    static uint8_t file[STARLARK_FILE_BYTES], read[STARLARK_NODES * STARLARK_NODE_BYTES], read_names[STARLARK_NAME_BYTES];
+    size_t length = script_file(file, dialect, dialect_length, damaged), changed = sizeof read, named = sizeof read_names;
+    memset(read, 9, sizeof read);
+    memset(read_names, 9, sizeof read_names);
+    if (accepted(words, starlark_read(file, length, read, table_length, read_names, names_length, out), out)) {
+        int same = memcmp(read, table, STARLARK_NODE_BYTES * nodes) == 0 && memcmp(read_names, names, strlen(names)) == 0;
+        printf("%u nodes, %u name bytes, %s, dialect %u", out[0], out[1], same ? "the same" : "others", out[2]);
+        for (int i = 0; i < 9; i++) printf(" %u", out[3 + i / 4] >> 8 * (i % 4) & 255);
+    }
+    while (changed > 0 && read[changed - 1] == 9) changed--;
+    while (named > 0 && read_names[named - 1] == 9) named--;
+    printf(", %zu and %zu changed\n", changed, named);
+}
+
+/* The errors of the script's file in a list of `length` words, which hold 9. */
+static void check_file(const char *words, const uint8_t *dialect, size_t dialect_length, size_t damaged, size_t length) {
+    uint32_t out[STARLARK_WORDS];
+    uint32_t errors[20];
+    static uint8_t file[STARLARK_FILE_BYTES];
+    size_t bytes_there = script_file(file, dialect, dialect_length, damaged);
+    for (size_t i = 0; i < length; i++) errors[i] = 9;
+    if (accepted(words, starlark_check_file(file, bytes_there, errors, length, out), out)) printf("%u errors, %u nodes", out[0], out[1]);
+    printf(", list");
+    for (size_t i = 0; i < length; i++) printf(" %u", errors[i]);
+    printf("\n");
+}
+
 int main(int count, char **words) {
     node(STATEMENTS, 0, 63, "");
     size_t f = node(DEF, 0, 8, "");
@@ -311,5 +350,13 @@ int main(int count, char **words) {
     rescue("1,535 bytes for three blocks", 2560, 1600, 1535);
     rescue("with a changed byte in its first node block", 2560, 1100, STARLARK_FILE_BYTES);
     rescue("with a changed byte in its names", 2560, 600, STARLARK_FILE_BYTES);
+    read_file("the file in the Extended dialect, read", extended, 9, none, STARLARK_NODES * STARLARK_NODE_BYTES, STARLARK_NAME_BYTES);
+    read_file("with no dialect, 1,512 bytes for 63 nodes", extended, 0, none, 1512, 13);
+    read_file("1,511 bytes", extended, 0, none, 1511, 13);
+    read_file("12 bytes for 13 of names", extended, 0, none, 1512, 12);
+    read_file("with a changed byte", extended, 9, 1600, 1512, 13);
+    check_file("the file in the Extended dialect, checked", extended, 9, none, 20);
+    check_file("with no dialect, a list of four words", extended, 0, none, 4);
+    check_file("with a changed byte", extended, 9, 600, 4);
     return 0;
 }

@@ -108,6 +108,10 @@ static void damage(void) {
 }
 static void run_rescue(void) { number = starlark_rescue(damaged, damaged_bytes, file, sizeof file, out); }
 static void run_rescue_whole(void) { number = starlark_rescue(damaged, damaged_bytes + 1, file, sizeof file, out); }
+/* The whole file, into buffers of their own. */
+static uint8_t read_table[STARLARK_NODES * STARLARK_NODE_BYTES], read_names[STARLARK_NAME_BYTES];
+static void run_read(void) { number = starlark_read(damaged, damaged_bytes + 1, read_table, sizeof read_table, read_names, sizeof read_names, out); }
+static void run_check_file(void) { number = starlark_check_file(damaged, damaged_bytes + 1, errors, 3 * STARLARK_ERRORS, out); }
 
 struct job {
     const char *name;
@@ -115,7 +119,8 @@ struct job {
     size_t most;
 } jobs[] = {{"table", run_table, 0}, {"params", run_params, 0}, {"call", run_call, 0}, {"target", run_target, 0}, {"assignment", run_assignment, 0}, {"type", run_type, 0},
           {"module", run_module, 0}, {"module with all switches off", run_refusing, 0}, {"write", run_write, 0}, {"bind", run_bind, 0},
-          {"rescue of a cut file", run_rescue, 0}, {"rescue of a whole file", run_rescue_whole, 0}};
+          {"rescue of a cut file", run_rescue, 0}, {"rescue of a whole file", run_rescue_whole, 0}, {"read of a file", run_read, 0},
+          {"check of a file", run_check_file, 0}};
 enum { JOBS = sizeof jobs / sizeof *jobs };
 
 /* Whether a job ends on a stack of so many bytes. */

@@ -53,3 +53,18 @@ uint32_t inner_rescue(struct slice *, struct slice *, uint32_t *);
 uint32_t starlark_rescue(const uint8_t *i, size_t il, uint8_t *file, size_t file_len, uint32_t *out) {
     return inner_rescue(SLICE(i, il), SLICE(file, file_len), out);
 }
+
+uint32_t inner_audit(struct slice *, struct slice *, struct slice *, struct slice *, uint32_t *);
+uint32_t starlark_audit(TABLE, const uint8_t *d, size_t dl, uint32_t *errors, size_t errors_len, uint32_t *out) {
+    return inner_audit(SLICE(t, tl), SLICE(n, nl), SLICE(d, dl), SLICE(errors, errors_len), out);
+}
+
+uint32_t inner_read(struct slice *, struct slice *, struct slice *, uint32_t *);
+uint32_t starlark_read(const uint8_t *f, size_t fl, uint8_t *table, size_t table_len, uint8_t *names, size_t names_len, uint32_t *out) {
+    return inner_read(SLICE(f, fl), SLICE(table, table_len), SLICE(names, names_len), out);
+}
+
+uint32_t inner_check_file(struct slice *, struct slice *, uint32_t *);
+uint32_t starlark_check_file(const uint8_t *f, size_t fl, uint32_t *errors, size_t errors_len, uint32_t *out) {
+    return inner_check_file(SLICE(f, fl), SLICE(errors, errors_len), out);
+}

@@ -1,6 +1,8 @@
 //! Every job from Rust, accepted and refused, with what it makes of the buffer that it is lent. Each line is a small script. A word behind its name
 //! is where a table file is put.
 
+use starlark_checks::check_file;
+use starlark_checks::read;
 use starlark_checks::rescue;
 use starlark_checks::Kind;
 use starlark_checks::Number;
@@ -262,6 +264,40 @@ fn rescues() {
     show_rescue("cut in its name block", &file[..1023], FILE_BYTES);
 }
 
+/// What a file holds in so many bytes for table and names, and how many of them are no longer what they were.
+fn show_read(words: &str, file: &[u8], table_room: usize, names_room: usize) {
+    let (mut table, mut names) = (vec![BEFORE; table_room], vec![BEFORE; names_room]);
+    let answer = read(file, &mut table, &mut names);
+    let changed = |bytes: &[u8]| bytes.iter().rposition(|&byte| byte != BEFORE).map_or(0, |last| last + 1);
+    println!("{words}: {answer:?}, {} and {} changed", changed(&table), changed(&names));
+}
+
+fn show_checked(words: &str, file: &[u8], room: usize) {
+    let mut errors = vec![u32::from(BEFORE); room];
+    let answer = check_file(file, &mut errors);
+    println!("{words}: {answer:?}, errors {errors:?}");
+}
+
+fn reads() {
+    let script = def(vec![leaf(NORMAL, "a"), leaf(NO_ARGS, ""), leaf(NORMAL, "b")]);
+    let file = |dialect: &[u8]| {
+        let mut file = vec![BEFORE; FILE_BYTES];
+        let size = script.table().write(dialect, &mut file).expect("the file is written");
+        file.truncate(size);
+        file
+    };
+    let (none, extended) = (file(&[]), file(&EXTENDED));
+    show_read("a file of five nodes, read", &none, 120, 2);
+    show_read("in the Extended dialect", &extended, 120, 2);
+    show_read("119 bytes for five nodes", &none, 119, 2);
+    show_read("one byte for two of names", &none, 120, 1);
+    show_read("a file cut short", &none[..1535], 120, 2);
+    show_checked("the file, checked", &none, 6);
+    show_checked("in the Extended dialect", &extended, 6);
+    show_checked("a list of five words", &none, 5);
+    show_checked("a file with a byte behind it", &[&none[..], &[0]].concat(), 6);
+}
+
 fn main() {
     checks();
     parameter_lists();
@@ -273,4 +309,5 @@ fn main() {
     modules();
     files();
     rescues();
+    reads();
 }

@@ -51,6 +51,16 @@ extern "C" {
         out: *mut u32,
     ) -> u32;
     fn starlark_rescue(input: *const u8, input_len: usize, file: *mut u8, file_len: usize, out: *mut u32) -> u32;
+    fn starlark_read(
+        file: *const u8,
+        file_len: usize,
+        table: *mut u8,
+        table_len: usize,
+        names: *mut u8,
+        names_len: usize,
+        out: *mut u32,
+    ) -> u32;
+    fn starlark_check_file(file: *const u8, file_len: usize, errors: *mut u32, errors_len: usize, out: *mut u32) -> u32;
     fn starlark_bind(
         table: *const u8,
         table_len: usize,
@@ -128,4 +138,13 @@ pub fn write(table: Table, dialect: &[u8], file: &mut [u8], out: &mut Words) -> 
 
 pub fn rescue(input: &[u8], file: &mut [u8], out: &mut Words) -> u32 {
     unsafe { starlark_rescue(input.as_ptr(), input.len(), file.as_mut_ptr(), file.len(), out.as_mut_ptr()) }
+}
+
+pub fn read(file: &[u8], table: &mut [u8], names: &mut [u8], out: &mut Words) -> u32 {
+    let (t, tl, n, nl) = (table.as_mut_ptr(), table.len(), names.as_mut_ptr(), names.len());
+    unsafe { starlark_read(file.as_ptr(), file.len(), t, tl, n, nl, out.as_mut_ptr()) }
+}
+
+pub fn check_file(file: &[u8], errors: &mut [u32], out: &mut Words) -> u32 {
+    unsafe { starlark_check_file(file.as_ptr(), file.len(), errors.as_mut_ptr(), errors.len(), out.as_mut_ptr()) }
 }

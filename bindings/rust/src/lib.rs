@@ -131,6 +131,21 @@ pub struct Rescued {
     pub after: u64,
 }
 
+/// What a table file holds: so many nodes, `NODE_BYTES` each, so many name bytes, and the dialect, if it has one.
+#[derive(Clone, Copy, Debug, PartialEq, Eq)]
+pub struct Held {
+    pub nodes: usize,
+    pub name_bytes: usize,
+    pub dialect: Option<[u8; 9]>,
+}
+
+/// The answer to a table file: how many errors its module has, and how many nodes.
+#[derive(Clone, Copy, Debug, PartialEq, Eq)]
+pub struct Listed {
+    pub errors: u32,
+    pub nodes: u32,
+}
+
 const NONE: u32 = u32::MAX;
 
 type Words = [u32; WORDS];
@@ -143,7 +158,7 @@ fn place(word: u32) -> Option<u32> {
 impl Refused {
     fn new(number: u32, out: &Words) -> Refused {
         let at = match number {
-            1 | 2 | 5 | 6 | 7 | 90 | 91 => At::Nowhere,
+            1 | 2 | 5 | 6 | 7 | 70..=75 | 90 | 91 => At::Nowhere,
             3 | 4 => At::Node(out[0]),
             _ => At::Span { node: out[0], begin: out[1], end: out[2], earlier: place(out[3]) },
         };
@@ -230,4 +245,19 @@ pub fn rescue(input: &[u8], file: &mut [u8]) -> Result<Rescued, Refused> {
     let out = accepted(|out| interface::rescue(input, file, out))?;
     let after = u64::from(out[5]) << 32 | u64::from(out[4]);
     Ok(Rescued { bytes: out[0] as usize, statements: out[1], nodes: out[2], dropped: out[3], after })
+}
+
+/// What a table file holds, its table at the front of `table` and its names at the front of `names`: 70 to 75, 3 to 5, 7. `NODES * NODE_BYTES`
+/// and `NAME_BYTES` are never too few.
+pub fn read(file: &[u8], table: &mut [u8], names: &mut [u8]) -> Result<Held, Refused> {
+    let out = accepted(|out| interface::read(file, table, names, out))?;
+    let byte = |at: usize| out[3 + at / 4].to_le_bytes()[at % 4];
+    let dialect = (out[2] == 1).then(|| std::array::from_fn(byte));
+    Ok(Held { nodes: out[0] as usize, name_bytes: out[1] as usize, dialect })
+}
+
+/// How many errors the module of a table file has, under the dialect that it holds: 70 to 75, 3 to 5. `errors` is filled as by `module`.
+pub fn check_file(file: &[u8], errors: &mut [u32]) -> Result<Listed, Refused> {
+    let out = accepted(|out| interface::check_file(file, errors, out))?;
+    Ok(Listed { errors: out[0], nodes: out[1] })
 }

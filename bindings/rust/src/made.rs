@@ -19,7 +19,7 @@ pub enum Number {
     BadDialect = 5,
     /// the node asked for is beyond the table, or of the wrong kind
     WrongNode = 6,
-    /// the buffer for modes, shapes, words of a binding or a file is too short
+    /// the buffer for modes, shapes, words of a binding, a file or what a file holds is too short
     ShortBuffer = 7,
     /// `/` is the first parameter
     SlashFirst = 10,
@@ -226,7 +226,7 @@ pub const NUMBERS: [(Number, &str, &str); 56] = [
     (Number::TooDeep, "TOO_DEEP", "a statement or expression is more than 64 deep"),
     (Number::BadDialect, "BAD_DIALECT", "the dialect bytes give no dialect"),
     (Number::WrongNode, "WRONG_NODE", "the node asked for is beyond the table, or of the wrong kind"),
-    (Number::ShortBuffer, "SHORT_BUFFER", "the buffer for modes, shapes, words of a binding or a file is too short"),
+    (Number::ShortBuffer, "SHORT_BUFFER", "the buffer for modes, shapes, words of a binding, a file or what a file holds is too short"),
     (Number::SlashFirst, "SLASH_FIRST", "`/` is the first parameter"),
     (Number::DuplicatedParameter, "DUPLICATED_PARAMETER", "a parameter has the name of an earlier one"),
     (Number::NormalAfterKwargs, "NORMAL_AFTER_KWARGS", "an ordinary parameter stands after `**kwargs`"),

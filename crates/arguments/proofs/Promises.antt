@@ -1,13 +1,15 @@
--- The call job's promise has one answer. Assumes nothing.
+-- The promises of the call job and of its rule have one answer. Assumes nothing.
 use mathlib.Core.Path.{_≡_, refl, ap}
 use mathlib.Core.List.{List, [], _++_}
 use Prim.Native.Nat.{ℕ}
 use Rattle.fields.proofs.Basics.{never}
 use Rattle.fields.proofs.Coincide.{coincide-by}
+use Rattle.forest.specs.Forest.{treeOf}
+use Rattle.table.specs.Check.{headedOf}
 use Rattle.table.specs.declared.Place.{Place}
 use Rattle.table.specs.declared.Place.the-variants.{At, Nothing}
 use Rattle.table.proofs.Answers.{refusal-injective, never-accepted}
-use Rattle.arguments.specs.Job.{placeValues, callValues, called, callOf}
+use Rattle.arguments.specs.Job.{placeValues, callValues, callAnswer, called, callOf}
 use Rattle.arguments.specs.declared.CallArgs.{CallArgs}
 use Rattle.arguments.specs.declared.Called.{Called}
 use Rattle.arguments.specs.declared.Called.the-variants.{Accepted, Refused}
@@ -40,3 +42,9 @@ called-injective (Refused r) (Refused s) e = ap Refused (refusal-injective r s e
 pub call-one : (table names : List ℕ) (node : ℕ) {r s : Called} → called r ≡ callOf table names node
     → called s ≡ callOf table names node → r ≡ s
 call-one table names node = coincide-by called called-injective
+
+-- of `judge`
+pub judge-one : (names t : List ℕ) (node : ℕ) {r s : Called}
+    → called r ≡ callAnswer names (treeOf node (headedOf node t))
+    → called s ≡ callAnswer names (treeOf node (headedOf node t)) → r ≡ s
+judge-one names t node = coincide-by called called-injective

@@ -1,5 +1,5 @@
 -- Laws of single functions, one for each return, in the terms of code. Assumes nothing.
-use mathlib.Core.Path.{_≡_, refl, ap, _∙_}
+use mathlib.Core.Path.{_≡_, refl, sym, ap, _∙_}
 use mathlib.Core.Bool.{Bool, true, false}
 use mathlib.Core.List.{List, [], _∷_}
 use Prim.Native.Nat.{ℕ, _+_, _-_, _/_, _<_}
@@ -15,10 +15,12 @@ use Rattle.soundness.specs.KindNumbers.{kindPositional, kindNamed, kindArgsArg}
 use Rattle.forest.specs.declared.Found.{Found}
 use Rattle.forest.specs.declared.Found.the-variants.{At, Nothing}
 use Rattle.table.specs.Numbers.{namedAfterStar, repeatedNamed}
-use Rattle.table.specs.Answer.{Answer, refused}
+use Rattle.table.specs.Answer.{Answer, accepted, refused}
+use Rattle.table.specs.Check.{isHeaded, headedOf}
+use Rattle.table.proofs.Heads.{headed-leaf, headed-is}
 use Rattle.table.specs.declared.Span.{Span}
 use Rattle.arguments.specs.Written.{Name, Argument, kindAt, argument, argumentOf, argumentsIn}
-use Rattle.arguments.specs.Call.{pastNamed, hasName, firstSame, repeats, newName, namedRule, rule, unpack}
+use Rattle.arguments.specs.Call.{pastNamed, hasName, firstSame, repeats, newName, namedRule, rule, run, unpack}
 use Rattle.arguments.specs.Job.{nameSpan, checkAnswer, outcomeAnswer, callAnswer}
 use Rattle.arguments.specs.Reading.{SmallCheck}
 use Rattle.arguments.specs.declared.Kind.{Kind}
@@ -123,3 +125,13 @@ call-answer ns i t {e} {c} {a} e-is c-is a-is =
   where
     kids : List ℕ
     kids = take (e - 24) (drop 24 t)
+
+-- a call that a stretch of any bytes begins with, in the terms of code: b is what `is_headed` answered
+module _ (ns : List ℕ) (i : ℕ) (t : List ℕ) {b : Bool} (b-is : b ≡ isHeaded i t) where
+  pub judge-none : b ≡ false → accepted (0 ∷ 0 ∷ 0 ∷ 0 ∷ 0 ∷ 0 ∷ []) ≡ callAnswer ns (treeOf i (headedOf i t))
+  unfolding callAnswer unpack run
+  judge-none h = rw (headed-leaf i t b-is h) refl
+
+  pub judge-call : b ≡ true → {a : Answer} → a ≡ callAnswer ns (treeOf i t)
+      → a ≡ callAnswer ns (treeOf i (headedOf i t))
+  judge-call h a-is = a-is ∙ ap (λ (l : List ℕ). callAnswer ns (treeOf i l)) (sym (headed-is i t b-is h))

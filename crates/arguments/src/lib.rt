@@ -22,7 +22,7 @@ ghost use lib.ListN.{length, take};
 ghost use Rattle.forest.specs.Forest.{nodeOf, forest, treeOf};
 ghost use Rattle.forest.specs.Marks.{Known};
 ghost use Rattle.table.specs.Answer.{checked};
-ghost use Rattle.table.specs.Check.{Headed, Within};
+ghost use Rattle.table.specs.Check.{Headed, Within, headedOf};
 ghost use Rattle.arguments.specs.Written.{kindAt, argumentsIn};
 ghost use Rattle.arguments.specs.Call.{pastPositional, pastNamed, inKwargs, firstSame, newName};
 ghost use Rattle.arguments.specs.Call.{positionalRule, argsRule, kwargsRule, namedRule, rule as ruleOf};
@@ -83,6 +83,22 @@ pub fn call(table: &[u8], names: &[u8], node: usize) -> Called
         return Called::Refused(why);
     }
     arguments(table::stretch(table, node), names, node)
+}
+
+// The call that a stretch begins with, for who has checked the table before: 20 to 24, or what the arguments are. Its
+// first record has the index node. It takes any bytes, and reads none where they are no part of a table.
+pub fn judge(names: &[u8], t: &[u8], node: u32) -> Called
+    ensures { λ r. ⌜ called r ≡ callAnswer (now (names .entry)) (treeOf node (headedOf node (now (t .entry)))) ⌝ }
+{
+    if !table::is_headed(t, node) {
+        return Called::Accepted(CallArgs {
+            num_pos: 0,
+            num_named: 0,
+            star: Place::Nothing,
+            star_star: Place::Nothing,
+        });
+    }
+    arguments(t, names, node as usize)
 }
 
 // The arguments of the call that a stretch begins with: what stands behind its callee.

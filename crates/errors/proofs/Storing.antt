@@ -1,4 +1,4 @@
--- Laws of errors stored in a list of words: what a check leaves, and checks of which each is lent the words
+-- Laws of errors stored in a list of words of any form: what a check leaves, and checks of which each is lent the words
 -- that are still free. Assumes nothing.
 use mathlib.Core.Path.{_≡_, refl, sym, ap, _∙_}
 use mathlib.Core.Bool.{Bool, true, false}
@@ -10,89 +10,150 @@ use lib.Seq.{sets, sets-eq, drop-drop, take-length, drop-length, take-append-add
 use borrow.Author.Tests.{le-leb, lt-leb}
 use borrow.Rule.Slice.PartMut.{putMid}
 use mathlib.Core.Logic.{_⊎_, inl, inr}
+use Rattle.fields.specs.Choice.{if'}
 use Rattle.fields.proofs.Basics.{le-or-lt}
 use Rattle.fields.proofs.Fields.{tail-part}
-use Rattle.table.specs.declared.Span.{Span}
-use Rattle.errors.specs.Errors.{err, unlessIn, width, wordsOf, stored, Stores}
+use Rattle.errors.specs.Errors.{only, unlessIn, isListError, withoutLists, kept, width, wordsOf, stored, Stores}
 use Rattle.errors.specs.declared.Err.{Err}
+use Rattle.errors.specs.declared.Listing.{Listing}
+use Rattle.errors.specs.declared.Listing.the-variants.{Module, Own, Audit}
 
--- an error has as many words as it says
-words-width : (e : Err) → length (wordsOf e) ≡ width
-words-width e = refl
-
--- there is room for an error, or none
-room : {P : Type 0} (xs : List ℕ) → (width ≤ length xs → P) → (length xs < width → P) → P
-room {P} xs fits full = go (le-or-lt width (length xs))
+-- LAW: what is kept of errors and others: what is kept of each; and it is no more than there are
+without-append : (es fs : List Err) → withoutLists (es ++ fs) ≡ withoutLists es ++ withoutLists fs
+unfolding withoutLists
+without-append [] fs = refl
+without-append (e ∷ es) fs = go (isListError (e .number)) (without-append es fs)
   where
-    go : (width ≤ length xs) ⊎ (length xs < width) → P
-    go (inl h) = fits h
-    go (inr h) = full h
+    go : (b : Bool) → withoutLists (es ++ fs) ≡ withoutLists es ++ withoutLists fs
+        → if' b (λ _. withoutLists (es ++ fs)) (λ _. e ∷ withoutLists (es ++ fs))
+        ≡ if' b (λ _. withoutLists es) (λ _. e ∷ withoutLists es) ++ withoutLists fs
+    go true h = h
+    go false h = ap (λ (xs : List Err). e ∷ xs) h
+
+without-few : (es : List Err) → length (withoutLists es) ≤ length es
+unfolding withoutLists
+without-few [] = omega arith
+without-few (e ∷ es) = go (isListError (e .number)) (without-few es)
+  where
+    go : (b : Bool) → length (withoutLists es) ≤ length es
+        → length (if' b (λ _. withoutLists es) (λ _. e ∷ withoutLists es)) ≤ suc (length es)
+    go true h = omega (arith, h)
+    go false h = omega (arith, h)
+
+pub kept-append : (l : Listing) (es fs : List Err) → kept l (es ++ fs) ≡ kept l es ++ kept l fs
+kept-append Module es fs = refl
+kept-append Own es fs = without-append es fs
+kept-append Audit es fs = refl
+
+pub kept-few : (l : Listing) (es : List Err) → length (kept l es) ≤ length es
+kept-few Module es = omega arith
+kept-few Own es = without-few es
+kept-few Audit es = omega arith
+
+pub kept-none : (l : Listing) → kept l [] ≡ []
+unfolding withoutLists
+kept-none Module = refl
+kept-none Own = refl
+kept-none Audit = refl
+
+-- LAW: an error of a parameter list is not kept among the module pass's own, any other is
+module _ (e : Err) {b : Bool} (b-is : b ≡ isListError (e .number)) where
+  pub own-left : b ≡ true → kept Own (only e) ≡ []
+  unfolding withoutLists
+  own-left h = rw (← b-is, h) refl
+
+  pub own-kept : b ≡ false → kept Own (only e) ≡ only e
+  unfolding withoutLists
+  own-kept h = rw (← b-is, h) refl
 
 -- storing one error and then others
-module _ (e : Err) (es : List Err) (xs : List ℕ) where
-  stored-fits : width ≤ length xs → stored (e ∷ es) xs ≡ wordsOf e ++ stored es (drop width xs)
+module _ (l : Listing) where
+  -- an error has as many words as it says
+  words-width : (e : Err) → length (wordsOf l e) ≡ width l
+  words-width e = go l
+    where
+      go : (l : Listing) → length (wordsOf l e) ≡ width l
+      go Module = refl
+      go Own = refl
+      go Audit = refl
+
+  -- there is room for an error, or none
+  room : {P : Type 0} (xs : List ℕ) → (width l ≤ length xs → P) → (length xs < width l → P) → P
+  room {P} xs fits full = go (le-or-lt (width l) (length xs))
+    where
+      go : (width l ≤ length xs) ⊎ (length xs < width l) → P
+      go (inl h) = fits h
+      go (inr h) = full h
+
+  module _ (e : Err) (es : List Err) (xs : List ℕ) where
+    stored-fits : width l ≤ length xs → stored l (e ∷ es) xs ≡ wordsOf l e ++ stored l es (drop (width l) xs)
+    unfolding stored
+    stored-fits h = rw (le-leb (width l) (length xs) h) refl
+
+    stored-full : length xs < width l → stored l (e ∷ es) xs ≡ xs
+    unfolding stored
+    stored-full h = rw (lt-leb (width l) (length xs) h) refl
+
+  -- LAW: nothing is stored of no errors, and no word is added or taken
+  pub stored-none : (xs : List ℕ) → stored l [] xs ≡ xs
   unfolding stored
-  stored-fits h = rw (le-leb width (length xs) h) refl
+  stored-none xs = refl
 
-  stored-full : length xs < width → stored (e ∷ es) xs ≡ xs
-  unfolding stored
-  stored-full h = rw (lt-leb width (length xs) h) refl
+  pub stored-length : (es : List Err) (xs : List ℕ) → length (stored l es xs) ≡ length xs
+  stored-length [] xs = ap length (stored-none xs)
+  stored-length (e ∷ es) xs =
+      room xs
+      (λ h. ap length (stored-fits e es xs h)
+      ∙ length-append (wordsOf l e) (stored l es (drop (width l) xs))
+      ∙ (let n = stored-length es (drop (width l) xs) in omega
+      (arith, n, words-width e, length-drop (width l) xs)))
+      (λ h. ap length (stored-full e es xs h))
 
--- LAW: nothing is stored of no errors, and no word is added or taken
-pub stored-none : (xs : List ℕ) → stored [] xs ≡ xs
-unfolding stored
-stored-none xs = refl
+  stored-nil : (es : List Err) → stored l es [] ≡ []
+  stored-nil [] = stored-none []
+  stored-nil (e ∷ es) = stored-full e es [] (some l)
+    where
+      some : (l : Listing) → 0 < width l
+      some Module = omega arith
+      some Own = omega arith
+      some Audit = omega arith
 
-pub stored-length : (es : List Err) (xs : List ℕ) → length (stored es xs) ≡ length xs
-stored-length [] xs = ap length (stored-none xs)
-stored-length (e ∷ es) xs =
-    room xs
-    (λ h. ap length (stored-fits e es xs h)
-    ∙ length-append (wordsOf e) (stored es (drop width xs))
-    ∙ (let n = stored-length es (drop width xs) in omega (arith, n, words-width e, length-drop width xs)))
-    (λ h. ap length (stored-full e es xs h))
-
-stored-nil : (es : List Err) → stored es [] ≡ []
-unfolding stored
-stored-nil [] = refl
-stored-nil (e ∷ es) = refl
-
--- LAW: where the first errors are stored, the next begin at the first free word, or at the end
-pub stored-append : (es fs : List Err) (xs : List ℕ) →
-    stored (es ++ fs) xs ≡ take (min (width * length es) (length xs)) (stored es xs)
-    ++ stored fs (drop (min (width * length es) (length xs)) (stored es xs))
-stored-append [] fs xs = let z : min 0 (length xs) ≡ 0 = omega arith in rw (z, stored-none xs) refl
-stored-append (e ∷ es) fs xs =
-    room xs
-    (λ h.
-    let rest = stored es (drop width xs) in
-    let k : ℕ = min (width * length es) (length (drop width xs)) in
-    let m : min (width * suc (length es)) (length xs) ≡ length (wordsOf e) + k = omega
-    (arith, words-width e, length-drop width xs) in
-    rw (
-      stored-fits e (es ++ fs) xs h,
-      stored-append es fs (drop width xs),
-      m,
-      stored-fits e es xs h,
-      take-append-add (wordsOf e) rest k,
-      drop-append-add (wordsOf e) rest k,
-    ) refl)
-    (λ h.
-    let m : min (width * suc (length es)) (length xs) ≡ length xs = omega arith in
-    rw (
-      stored-full e (es ++ fs) xs h,
-      stored-full e es xs h,
-      m,
-      take-length xs,
-      drop-length xs,
-      stored-nil fs,
-      append-nil xs,
-    ) refl)
+  -- LAW: where the first errors are stored, the next begin at the first free word, or at the end
+  pub stored-append : (es fs : List Err) (xs : List ℕ) →
+      stored l (es ++ fs) xs ≡ take (min (width l * length es) (length xs)) (stored l es xs)
+      ++ stored l fs (drop (min (width l * length es) (length xs)) (stored l es xs))
+  stored-append [] fs xs = let z : min (width l * 0) (length xs) ≡ 0 = omega arith in rw (z, stored-none xs) refl
+  stored-append (e ∷ es) fs xs =
+      room xs
+      (λ h.
+      let rest = stored l es (drop (width l) xs) in
+      let k : ℕ = min (width l * length es) (length (drop (width l) xs)) in
+      let m : min (width l * suc (length es)) (length xs) ≡ length (wordsOf l e) + k = omega
+      (arith, words-width e, length-drop (width l) xs) in
+      rw (
+        stored-fits e (es ++ fs) xs h,
+        stored-append es fs (drop (width l) xs),
+        m,
+        stored-fits e es xs h,
+        take-append-add (wordsOf l e) rest k,
+        drop-append-add (wordsOf l e) rest k,
+      ) (sym (append-assoc (wordsOf l e) (take k rest) (stored l fs (drop k rest)))))
+      (λ h.
+      let m : min (width l * suc (length es)) (length xs) ≡ length xs = omega arith in
+      rw (
+        stored-full e (es ++ fs) xs h,
+        stored-full e es xs h,
+        m,
+        take-length xs,
+        drop-length xs,
+        stored-nil fs,
+        append-nil xs,
+      ) refl)
 
 -- in the terms of code: where the free words begin after so many errors, a list from a place on, and a list that was
 -- lent from a place on and has come back
-abbrev pub freeAt : ℕ → List ℕ → ℕ
-freeAt count xs = min (width * count) (length xs)
+abbrev pub freeAt : Listing → ℕ → List ℕ → ℕ
+freeAt l count xs = min (width l * count) (length xs)
 
 abbrev pub after : ℕ → List ℕ → List ℕ
 after at xs = take (length xs - at) (drop at xs)
@@ -106,94 +167,137 @@ put-tail a s ys = simp (
   append-nil,
 )
 
--- LAW: a check that finds nothing leaves every word
-pub stores-none : (xs : List ℕ) → Stores [] xs 0 xs
-stores-none xs = record { count = refl; words = sym (stored-none xs) }
+-- LAW: errors of which none is kept leave every word; so does a check that finds nothing
+pub stores-nothing : {l : Listing} (es : List Err) (xs : List ℕ) → kept l es ≡ [] → Stores l es xs 0 xs
+stores-nothing {l} es xs nothing =
+    record { count = rw nothing refl; words = rw nothing (sym (stored-none l xs)) }
+
+pub stores-none : {l : Listing} (xs : List ℕ) → Stores l [] xs 0 xs
+stores-none {l} xs = stores-nothing [] xs (kept-none l)
 
 -- LAW: two checks, of which the second is lent the words that the first leaves free
-pub stores-both : (es fs : List Err) {xs ys zs : List ℕ} {m n at : ℕ} → Stores es xs m ys
-    → at ≡ freeAt m ys → Stores fs (after at ys) n zs
-    → Stores (es ++ fs) xs (m + n) (back at ys zs)
-stores-both es fs {xs} {ys} {zs} {m} {n} {at} s at-is q =
-    let a : at ≡ min (width * length es) (length xs) = omega
-    (arith, s .count, stored-length es xs, ap length (s .words)) in
-    let z : zs ≡ stored fs (drop at ys) = q .words ∙ ap (stored fs) (tail-part at ys) in
+pub stores-both : {l : Listing} (es fs : List Err) {xs ys zs : List ℕ} {m n at : ℕ} → Stores l es xs m ys
+    → at ≡ freeAt l m ys → Stores l fs (after at ys) n zs
+    → Stores l (es ++ fs) xs (m + n) (back at ys zs)
+stores-both {l} es fs {xs} {ys} {zs} {m} {n} {at} s at-is q =
+    let both = kept-append l es fs in
+    let long : length ys ≡ length xs = ap length (s .words) ∙ stored-length l (kept l es) xs in
+    let a : at ≡ min (width l * length (kept l es)) (length xs) = rw (at-is, s .count, long) refl in
+    let z : zs ≡ stored l (kept l fs) (drop at ys) = q .words ∙ ap (stored l (kept l fs)) (tail-part at ys) in
     record {
-      count = omega (arith, s .count, q .count, length-append es fs);
-      words = put-tail at ys zs ∙ rw (z, s .words, a) (sym (stored-append es fs xs));
+      count = omega (arith, s .count, q .count, ap length both, length-append (kept l es) (kept l fs));
+      words = put-tail at ys zs ∙ rw (z, s .words, a, both) (sym (stored-append l (kept l es) (kept l fs) xs));
     }
 
--- LAW: one error is its words, as code stores them one by one, where they fit, and nothing else
+-- LAW: one error that is kept is its words, as code stores them one by one, where they fit, and nothing else
+module _ {l : Listing} (xs : List ℕ) (e : Err) (whole : kept l (only e) ≡ only e) where
+  push-fits : width l ≤ length xs → Stores l (only e) xs 1 (sets xs 0 (wordsOf l e))
+  push-fits h =
+      let skip : 0 + length (wordsOf l e) ≡ width l = omega (arith, words-width l e) in
+      record {
+        count = rw whole refl;
+        words = sets-eq (wordsOf l e) xs 0 (omega (arith, words-width l e))
+            ∙ ap (λ (n : ℕ). wordsOf l e ++ drop n xs) skip
+            ∙ sym (rw whole (stored-fits l e [] xs h ∙ rw (stored-none l) refl));
+      }
+
+  push-full : length xs < width l → Stores l (only e) xs 1 xs
+  push-full h = record { count = rw whole refl; words = rw whole (sym (stored-full l e [] xs h)) }
+
 module _ (xs : List ℕ) (e : Err) where
-  pub push-fits : width ≤ length xs → Stores (e ∷ []) xs 1 (sets xs 0 (wordsOf e))
-  push-fits h = record {
-    count = refl;
-    words = sets-eq (wordsOf e) xs 0 h ∙ sym (stored-fits e [] xs h ∙ rw stored-none refl);
-  }
+  pub short-fits : 3 ≤ length xs → Stores Module (only e) xs 1 (sets xs 0 (wordsOf Module e))
+  short-fits = push-fits xs e refl
 
-  pub push-full : length xs < width → Stores (e ∷ []) xs 1 xs
-  push-full h = record { count = refl; words = sym (stored-full e [] xs h) }
+  pub short-full : length xs < 3 → Stores Module (only e) xs 1 xs
+  short-full = push-full xs e refl
 
--- LAW: an error that is known is stored as such
-pub push-known : {e f : Err} {m : ℕ} {xs ys : List ℕ} → e ≡ f → Stores (e ∷ []) xs m ys → Stores (f ∷ []) xs m ys
+  pub long-fits : 4 ≤ length xs → Stores Audit (only e) xs 1 (sets xs 0 (wordsOf Audit e))
+  long-fits = push-fits xs e refl
+
+  pub long-full : length xs < 4 → Stores Audit (only e) xs 1 xs
+  long-full = push-full xs e refl
+
+-- LAW: an error of a parameter list leaves every word of the module pass's own; any other is stored as the audit stores
+-- it
+module _ (e : Err) {b : Bool} (b-is : b ≡ isListError (e .number)) {xs : List ℕ} where
+  pub push-left : b ≡ true → Stores Own (only e) xs 0 xs
+  push-left h = stores-nothing (only e) xs (own-left e b-is h)
+
+  pub push-own : b ≡ false → {m : ℕ} {ys : List ℕ} → Stores Audit (only e) xs m ys → Stores Own (only e) xs m ys
+  unfolding stored
+  push-own h s = let whole = own-kept e b-is h in record { count = rw whole (s .count); words = rw whole (s .words) }
+
+-- LAW: an error that is known is stored as such, and in a form that is known
+pub push-known : {l : Listing} {e f : Err} {m : ℕ} {xs ys : List ℕ} → e ≡ f → Stores l (only e) xs m ys
+    → Stores l (only f) xs m ys
 push-known known s = rw (← known) s
 
+pub push-form : {l k : Listing} {e : Err} {m : ℕ} {xs ys : List ℕ} → l ≡ k → Stores k (only e) xs m ys
+    → Stores l (only e) xs m ys
+push-form form s = rw form s
+
 -- LAW: an error unless something is permitted
-module _ (n : ℕ) (s : Span) {b : Bool} {xs : List ℕ} where
-  pub unless-permitted : b ≡ true → Stores (unlessIn b n s) xs 0 xs
+module _ {l : Listing} (e : Err) {b : Bool} {xs : List ℕ} where
+  pub unless-permitted : b ≡ true → Stores l (unlessIn b e) xs 0 xs
   unless-permitted h = rw h (stores-none xs)
 
-  pub unless-not : {ys : List ℕ} {m : ℕ} → b ≡ false → Stores (err n s ∷ []) xs m ys → Stores (unlessIn b n s) xs m ys
+  pub unless-not : {ys : List ℕ} {m : ℕ} → b ≡ false → Stores l (only e) xs m ys → Stores l (unlessIn b e) xs m ys
   unless-not h q = rw h q
 
-pub unless-few : (b : Bool) (n : ℕ) (s : Span) → length (unlessIn b n s) ≤ 1
-unless-few true n s = omega arith
-unless-few false n s = omega arith
+pub unless-few : (b : Bool) (e : Err) → length (unlessIn b e) ≤ 1
+unless-few true e = omega arith
+unless-few false e = omega arith
 
-pub unless-one : (b : Bool) (n : ℕ) (s : Span) {xs ys : List ℕ} {m : ℕ} → Stores (unlessIn b n s) xs m ys → m ≤ 1
-unless-one b n s q = omega (arith, q .count, unless-few b n s)
+-- LAW: a check counts no more than it finds
+pub stores-few : {l : Listing} (es : List Err) {xs ys : List ℕ} {m : ℕ} → Stores l es xs m ys → m ≤ length es
+stores-few {l} es q = omega (arith, q .count, kept-few l es)
+
+pub unless-one : {l : Listing} (b : Bool) (e : Err) {xs ys : List ℕ} {m : ℕ} → Stores l (unlessIn b e) xs m ys → m ≤ 1
+unless-one b e q = omega (arith, stores-few _ q, unless-few b e)
 
 -- LAW: a list with room for all errors holds the words of each, and its other words stay
-abbrev pub allWords : List Err → List ℕ
-allWords [] = []
-allWords (e ∷ es) = wordsOf e ++ allWords es
+abbrev pub allWords : Listing → List Err → List ℕ
+allWords l [] = []
+allWords l (e ∷ es) = wordsOf l e ++ allWords l es
 
-pub stored-all : (es : List Err) (xs : List ℕ) → width * length es ≤ length xs
-    → stored es xs ≡ allWords es ++ drop (width * length es) xs
-stored-all [] xs h = stored-none xs
-stored-all (e ∷ es) xs h =
-    let next = stored-all es (drop width xs) (omega (arith, length-drop width xs)) in
-    let more : width + width * length es ≡ width * suc (length es) = omega arith in
-    let skip : drop (width * length es) (drop width xs)
-    ≡ drop (width * suc (length es)) xs = drop-drop (width * length es) width xs
+pub stored-all : (l : Listing) (es : List Err) (xs : List ℕ) → width l * length es ≤ length xs
+    → stored l es xs ≡ allWords l es ++ drop (width l * length es) xs
+stored-all l [] xs h = let z : width l * 0 ≡ 0 = omega arith in rw z (stored-none l xs)
+stored-all l (e ∷ es) xs h =
+    let next = stored-all l es (drop (width l) xs) (omega (arith, length-drop (width l) xs)) in
+    let more : width l + width l * length es ≡ width l * suc (length es) = omega arith in
+    let skip : drop (width l * length es) (drop (width l) xs)
+    ≡ drop (width l * suc (length es)) xs = drop-drop (width l * length es) (width l) xs
     ∙ ap (λ (n : ℕ). drop n xs) more in
-    rw (stored-fits e es xs (omega arith), next, skip) refl
+    rw (stored-fits l e es xs (omega arith), next, skip)
+    (sym (append-assoc (wordsOf l e) (allWords l es) (drop (width l * suc (length es)) xs)))
 
 -- checks in a loop, each lent the words that those before it leave free: of all errors some are stored in the words
 -- xs₀, which are now xs, and the rest is left
-pub record Turns (all : List Err) (xs₀ : List ℕ) (rest : List Err) (total : ℕ) (xs : List ℕ) : Type 0 where
+pub record Turns (l : Listing) (all : List Err) (xs₀ : List ℕ) (rest : List Err) (total : ℕ)
+    (xs : List ℕ) : Type 0 where
   pub done : List Err
   pub same : done ++ rest ≡ all
-  pub stores : Stores done xs₀ total xs
+  pub stores : Stores l done xs₀ total xs
 
-pub turns-start : (all : List Err) (xs : List ℕ) → Turns all xs all 0 xs
+pub turns-start : {l : Listing} (all : List Err) (xs : List ℕ) → Turns l all xs all 0 xs
 turns-start all xs = record { done = []; same = refl; stores = stores-none xs }
 
-module _ {all : List Err} {xs₀ : List ℕ} {rest : List Err} {total : ℕ} {xs : List ℕ}
-    (t : Turns all xs₀ rest total xs) where
-  pub turns-end : rest ≡ [] → Stores all xs₀ total xs
+module _ {l : Listing} {all : List Err} {xs₀ : List ℕ} {rest : List Err} {total : ℕ} {xs : List ℕ}
+    (t : Turns l all xs₀ rest total xs) where
+  pub turns-end : rest ≡ [] → Stores l all xs₀ total xs
   turns-end h = rw (← t .same, h, append-nil) (t .stores)
 
   pub turns-long : length xs ≡ length xs₀
-  turns-long = ap length (t .stores .words) ∙ stored-length (t .done) xs₀
+  turns-long = ap length (t .stores .words) ∙ stored-length l (kept l (t .done)) xs₀
 
   pub turns-few : total ≤ length all
-  turns-few = omega (arith, t .stores .count, simp length-append at (ap length (t .same)))
+  turns-few = omega (arith, stores-few _ (t .stores), simp length-append at (ap length (t .same)))
 
   -- LAW: the next check, which is told the first of what is left
   pub turns-on : {one more : List Err} → rest ≡ one ++ more → {at n : ℕ} {zs : List ℕ}
-      → at ≡ freeAt total xs → Stores one (after at xs) n zs
-      → Turns all xs₀ more (total + n) (back at xs zs)
+      → at ≡ freeAt l total xs → Stores l one (after at xs) n zs
+      → Turns l all xs₀ more (total + n) (back at xs zs)
   turns-on {one} {more} cut at-is s = record {
     done = t .done ++ one;
     same = append-assoc (t .done) one more ∙ rw (← cut) (t .same);

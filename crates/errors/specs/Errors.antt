@@ -1,6 +1,7 @@
--- Errors of the module pass, and how they lie in a lent list of words. These are definitions.
+-- Errors that stand at records, and how they lie in a lent list of words: its form says which errors are kept and which
+-- words each has. These are definitions.
 use mathlib.Core.Path.{_≡_}
-use mathlib.Core.Bool.{Bool, true, false}
+use mathlib.Core.Bool.{Bool, true, false, _&&_}
 use mathlib.Core.List.{List, [], _∷_, _++_}
 use Prim.Native.Nat.{ℕ}
 use lib.Dec.{leb}
@@ -8,43 +9,66 @@ use lib.ListN.{length, drop}
 use Rattle.fields.specs.Choice.{if'}
 use Rattle.forest.specs.Forest.{Node}
 use Rattle.table.specs.Answer.{spanAt}
+use Rattle.table.specs.Numbers.{slashFirst, noNormalAfterStar}
 use Rattle.table.specs.declared.Span.{Span}
 use Rattle.errors.specs.declared.Err.{Err}
+use Rattle.errors.specs.declared.Listing.{Listing}
+use Rattle.errors.specs.declared.Listing.the-variants.{Module, Own, Audit}
 
--- an error: document 01's number and a span
-abbrev pub err : ℕ → Span → Err
-err n s = record { number = n; span = s }
+-- an error: document 01's number, the index of a record, and a span
+abbrev pub err : ℕ → ℕ → Span → Err
+err n i s = record { number = n; node = i; span = s }
 
 -- an error at a record
 abbrev pub errAt : ℕ → Node → Err
-errAt n r = err n (spanAt r)
+errAt n r = err n (r .at) (spanAt r)
 
 -- one error alone
 abbrev pub only : Err → List Err
 only e = e ∷ []
 
--- an error unless something is permitted: at a span, and at a record
-abbrev pub unlessIn : Bool → ℕ → Span → List Err
-unlessIn true n s = []
-unlessIn false n s = err n s ∷ []
+-- an error unless something is permitted, and one at a record
+abbrev pub unlessIn : Bool → Err → List Err
+unlessIn true e = []
+unlessIn false e = e ∷ []
 
 abbrev pub unless : Bool → ℕ → Node → List Err
-unless permitted n r = unlessIn permitted n (spanAt r)
+unless permitted n r = unlessIn permitted (errAt n r)
+
+-- the numbers of parameter lists, 10 to 18
+abbrev pub isListError : ℕ → Bool
+isListError n = leb slashFirst n && leb n noNormalAfterStar
+
+-- all errors but those of parameter lists
+unfoldable pub withoutLists : List Err → List Err
+withoutLists [] = []
+withoutLists (e ∷ es) = if' (isListError (e .number)) (λ _. withoutLists es) (λ _. e ∷ withoutLists es)
+
+-- which errors a form keeps: the others are neither counted nor stored
+abbrev pub kept : Listing → List Err → List Err
+kept Module es = es
+kept Own es = withoutLists es
+kept Audit es = es
 
 -- the words of an error, and how many they are
-abbrev pub width : ℕ
-width = 3
+abbrev pub width : Listing → ℕ
+width Module = 3
+width Own = 4
+width Audit = 4
 
-abbrev pub wordsOf : Err → List ℕ
-wordsOf e = e .number ∷ e .span .begin ∷ e .span .end ∷ []
+abbrev pub wordsOf : Listing → Err → List ℕ
+wordsOf Module e = e .number ∷ e .span .begin ∷ e .span .end ∷ []
+wordsOf Own e = e .number ∷ e .node ∷ e .span .begin ∷ e .span .end ∷ []
+wordsOf Audit e = e .number ∷ e .node ∷ e .span .begin ∷ e .span .end ∷ []
 
 -- a list of words after errors were stored in it: the first that fit whole, and every other word as it was
-unfoldable pub stored : List Err → List ℕ → List ℕ
-stored [] xs = xs
-stored (e ∷ es) xs = if' (leb width (length xs)) (λ _. wordsOf e ++ stored es (drop width xs)) (λ _. xs)
+unfoldable pub stored : Listing → List Err → List ℕ → List ℕ
+stored l [] xs = xs
+stored l (e ∷ es) xs =
+    if' (leb (width l) (length xs)) (λ _. wordsOf l e ++ stored l es (drop (width l) xs)) (λ _. xs)
 
--- what a check does that finds the errors es: it counts them all, and stores those that fit into the words xs, which
--- become ys
-pub record Stores (es : List Err) (xs : List ℕ) (total : ℕ) (ys : List ℕ) : Type 0 where
-  pub count : total ≡ length es
-  pub words : ys ≡ stored es xs
+-- what a check does that finds the errors es: it counts all that the form keeps, and stores those of them that fit into
+-- the words xs, which become ys
+pub record Stores (l : Listing) (es : List Err) (xs : List ℕ) (total : ℕ) (ys : List ℕ) : Type 0 where
+  pub count : total ≡ length (kept l es)
+  pub words : ys ≡ stored l (kept l es) xs

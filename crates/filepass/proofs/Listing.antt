@@ -1,9 +1,9 @@
 -- Laws of a file's answer, in the terms of code: the module pass over what the reader accepted. Assumes nothing.
 use mathlib.Core.Path.{_≡_, refl, sym, ap, _∙_}
 use mathlib.Core.List.{List, [], _∷_}
-use Prim.Native.Nat.{ℕ, _-_, _/_, _≤_}
+use Prim.Native.Nat.{ℕ, _*_, _-_, _/_, _≤_}
 use native.Mathlib.Omega.{arith}
-use lib.ListN.{length, take}
+use lib.ListN.{length, take, replicate}
 use lib.Seq.{take-all}
 use Rattle.dialect.specs.Bytes.{fromBytes}
 use Rattle.dialect.specs.declared.Dialect.{Dialect}
@@ -14,13 +14,16 @@ use Rattle.table.specs.Answer.{Answer, accepted, refusal}
 use Rattle.table.specs.Check.{inDialect, givenOf, givenCheck}
 use Rattle.table.specs.declared.Refusal.{Refusal}
 use Rattle.table.proofs.Entering.{given-known, given-passed}
-use Rattle.tablefile.specs.File.{Content}
-use Rattle.tablefile.specs.Reading.{readCheck}
-use Rattle.tablefile.specs.Loading.{verdict, held}
+use Rattle.tablefile.specs.Reading.{headerAt, contentAt, readCheck}
+use Rattle.tablefile.specs.Loading.{verdict}
+use Rattle.tablefile.specs.Lending.{fileCheck, handed}
+use Rattle.tablefile.specs.declared.Heading.{Heading}
+use Rattle.tablefile.specs.declared.Verdict.{Verdict}
 use Rattle.tablefile.specs.declared.Verdict.the-variants.{Accepted, Refused}
-use Rattle.tablefile.specs.declared.Loaded.{Loaded}
-use Rattle.tablefile.proofs.Theorems.{Read, holds, accepted-is-sound}
+use Rattle.tablefile.proofs.Accepted.{read-is-sound}
+use Rattle.tablefile.proofs.Lends.{into-table, into-names}
 use Rattle.errors.specs.Errors.{stored}
+use Rattle.errors.specs.declared.Listing.the-variants.{Module}
 use Rattle.validate.specs.Job.{passErrors, errorsOf, errorsAfter}
 use Rattle.validate.proofs.Jobs.{pass-is}
 use Rattle.filepass.specs.Passing.{heldAnswer, answerOf, wordsAfter}
@@ -59,39 +62,42 @@ module _ (t names bytes : List ℕ) (sound : givenCheck t names bytes ≡ accept
     list-never e = let bad = sym (given-known t names bytes (known .1) .1) ∙ sym x-is ∙ e in never (cc)
 
     pub list-total : (xs : List ℕ) {d : Dialect} {n : ℕ} {ys : List ℕ} → x ≡ Valid d
-        → n ≡ length (passErrors d names t) → ys ≡ stored (passErrors d names t) xs
+        → n ≡ length (passErrors d names t) → ys ≡ stored Module (passErrors d names t) xs
         → (accepted (length t / 24 ∷ n ∷ []) ≡ heldAnswer t names bytes) × (ys ≡ errorsAfter t names bytes xs)
     list-total xs e n-is ys-is =
         let all = held-errors (sym x-is ∙ e) in
         (rw (held-listed, all, n-is) refl, rw (all, ys-is) refl)
 
--- what is answered to a file, step by step: l is what the reader gave
-module _ (file : List ℕ) {l : Loaded} (p : Read file l) where
-  pub file-refused : (xs : List ℕ) {why : Refusal} → l .verdict ≡ Refused why
+-- what is answered to a file, step by step: v is what `tablefile::unpack` found
+module _ (file : List ℕ) (v : Verdict) (v-is : verdict v ≡ readCheck file) where
+  pub file-refused : (xs : List ℕ) {why : Refusal} → v ≡ Refused why
       → (refusal why ≡ answerOf file) × (xs ≡ wordsAfter file xs)
   unfolding answerOf wordsAfter
-  file-refused xs {why} e = let told : readCheck file ≡ refusal why = sym (p .0) ∙ ap verdict e in
+  file-refused xs {why} e = let told : readCheck file ≡ refusal why = sym v-is ∙ ap verdict e in
       (rw told refl, rw told refl)
 
-  -- t, names and bytes are the fronts of its arrays
-  module _ (good : l .verdict ≡ Accepted) {t names bytes : List ℕ} (t-is : t ≡ take (l .«table_len») (l .table))
-      (names-is : names ≡ take (l .«names_len») (l .names))
-      (bytes-is : bytes ≡ take (l .«dialect_len») (l .dialect)) where
+  -- w and wn are the arrays that it left; t, names and bytes are what the file holds in them
+  module _ (good : v ≡ Accepted) {h : Heading} (h-is : h ≡ headerAt file) {w wn t names bytes : List ℕ}
+      (w-is : w ≡ handed (fileCheck file) (contentAt file .table) (replicate 50400 0))
+      (wn-is : wn ≡ handed (fileCheck file) (contentAt file .names) (replicate 8064 0))
+      (t-is : t ≡ take (24 * h .nodes) w) (names-is : names ≡ take (h .names) wn)
+      (bytes-is : bytes ≡ contentAt file .dialect) where
+    its : (t ≡ contentAt file .table) × (names ≡ contentAt file .names)
+    its = (t-is ∙ into-table file v v-is good h-is w-is, names-is ∙ into-names file v v-is good h-is wn-is)
+
+    told : readCheck file ≡ accepted []
+    told = sym v-is ∙ ap verdict good
+
     pub file-sound : givenCheck t names bytes ≡ accepted []
-    unfolding held
-    file-sound = rw (t-is, names-is, bytes-is) (accepted-is-sound file l p good)
+    file-sound = rw (its .0, its .1, bytes-is) (read-is-sound file told)
 
     pub file-listed : (xs : List ℕ) {a : Answer} {ys : List ℕ} → a ≡ heldAnswer t names bytes
         → ys ≡ errorsAfter t names bytes xs → (a ≡ answerOf file) × (ys ≡ wordsAfter file xs)
-    unfolding answerOf wordsAfter held
-    file-listed xs a-is ys-is =
-        let told : readCheck file ≡ accepted [] = sym (p .0) ∙ ap verdict good in
-        let c-is = holds file l (p .1) good in (
-          a-is ∙ rw (told, t-is, names-is, bytes-is)
-              (ap (λ (c : Content). heldAnswer (c .table) (c .names) (c .dialect)) c-is),
-          ys-is ∙ rw (told, t-is, names-is, bytes-is)
-              (ap (λ (c : Content). errorsAfter (c .table) (c .names) (c .dialect) xs) c-is),
-        )
+    unfolding answerOf wordsAfter
+    file-listed xs a-is ys-is = (
+      a-is ∙ rw (told, its .0, its .1, bytes-is) refl,
+      ys-is ∙ rw (told, its .0, its .1, bytes-is) refl,
+    )
 
 -- and to so many bytes of a buffer: p is their front
 pub read-so : (file xs : List ℕ) {p ys : List ℕ} {a : Answer} → p ≡ file → a ≡ answerOf p → ys ≡ wordsAfter p xs

@@ -13,6 +13,7 @@ use Rattle.tablefile.proofs.Fronts.{table-length}
 use Rattle.tablefile.proofs.Accepted.{read-fronted, read-is-sound}
 use Rattle.errors.specs.declared.Err.{Err}
 use Rattle.errors.specs.Errors.{width}
+use Rattle.errors.specs.declared.Listing.the-variants.{Module}
 use Rattle.errors.proofs.Storing.{allWords}
 use Rattle.validate.specs.Job.{errorsOf}
 use Rattle.validate.proofs.Theorems.{list-holds-all}
@@ -47,7 +48,7 @@ module _ (file : List ℕ) (good : readCheck file ≡ accepted []) where
 
   -- THEOREM: a list of `enoughWords` words has room for all of them
   pub list-has-room : (xs : List ℕ) → length xs ≡ enoughWords
-      → wordsAfter file xs ≡ allWords errors ++ drop (width * length errors) xs
+      → wordsAfter file xs ≡ allWords Module errors ++ drop (width Module * length errors) xs
   unfolding wordsAfter
   list-has-room xs long = rw good (list-holds-all (c .table) (c .names) (c .dialect) xs
       (omega (arith, held-few _ _ _ sound)))

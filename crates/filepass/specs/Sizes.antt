@@ -4,6 +4,7 @@ use Rattle.table.specs.Check.{mostNodes}
 use Rattle.blocks.specs.Block.{blockBytes}
 use Rattle.tablefile.specs.File.{mostBlocks}
 use Rattle.errors.specs.Errors.{width}
+use Rattle.errors.specs.declared.Listing.the-variants.{Module}
 
 -- the most blocks that a file has, and one byte, by which a file is seen to be longer
 abbrev pub enoughBytes : ℕ
@@ -11,4 +12,4 @@ enoughBytes = blockBytes * mostBlocks + 1
 
 -- the words of the most errors that a file has: two for each of 2,100 nodes
 abbrev pub enoughWords : ℕ
-enoughWords = width * (2 * mostNodes)
+enoughWords = width Module * (2 * mostNodes)

@@ -1,8 +1,11 @@
 // A table file to its answer: the reader, then the module pass over what it holds, with the errors in a lent list.
 use blocks::BLOCK_BYTES;
 use dialect::Decoded;
+use errors::Listing;
 use errors::WIDTH;
 use forest::RECORD;
+use table::MOST_BYTES;
+use table::MOST_NAMES;
 use table::MOST_NODES;
 use table::Refusal;
 use table::numbers;
@@ -34,18 +37,17 @@ pub fn check_file(file: &[u8], errors: &mut [u32]) -> Passed
     ensures { λ r. ⌜ passed r ≡ answerOf (now (file .entry)) ⌝ }
     ensures { λ r. ⌜ now (errors .exit) ≡ wordsAfter (now (file .entry)) (now (errors .entry)) ⌝ }
 {
-    let l = tablefile::read(file);
-    let verdict = l.verdict;
-    if let Verdict::Refused(why) = verdict {
+    let mut table = [0u8; MOST_BYTES];
+    let mut names = [0u8; MOST_NAMES];
+    let found = tablefile::unpack(file, &mut table, &mut names);
+    if let Verdict::Refused(why) = found {
         return Passed::Refused(why);
     }
-    let table = l.table;
-    let names = l.names;
-    let dialect = l.dialect;
+    let h = tablefile::header(file);
     list(
-        front(&table, l.table_len),
-        front(&names, l.names_len),
-        front(&dialect, l.dialect_len),
+        front(&table, RECORD * h.nodes),
+        front(&names, h.names),
+        tablefile::dialect_bytes(file),
         errors,
     )
 }
@@ -75,7 +77,7 @@ fn list(table: &[u8], names: &[u8], dialect: &[u8], errors: &mut [u32]) -> Passe
     match decoded {
         Decoded::Valid(d) => Passed::Listed {
             nodes: (table.len() / RECORD) as u32,
-            total: validate::pass(table, names, d, errors),
+            total: validate::pass(Listing::Module, table, names, d, errors),
         },
         Decoded::Invalid => Passed::Refused(Refusal::Bare(numbers::BAD_DIALECT)),
     }

@@ -1,2 +1,3 @@
 mod Told
 pub mod Promises
+pub mod ReadBack

@@ -13,9 +13,13 @@ use Rattle.targets.specs.Jobs.{targetOf, assignmentOf}
 use Rattle.types.specs.Jobs.{typeShapeOf}
 use Rattle.shapes.specs.Jobs.{shapesAfter}
 use Rattle.validate.specs.Job.{moduleOf, errorsAfter}
+use Rattle.tablefile.specs.Reading.{contentAt}
+use Rattle.tablefile.specs.Lending.{intoCheck, handed}
+use Rattle.filepass.specs.Passing.{answerOf, wordsAfter}
 use Rattle.writer.specs.Writing.{writeOf, fileAfter}
 use Rattle.rescue.specs.Job.{rescueOf, fileAfter as rescuedAfter}
 use Rattle.starlark_checks.specs.Words.{number, words, callWords, rescueWords, laid}
+use Rattle.starlark_checks.specs.Words.{readOf, passWords}
 
 -- of `starlark_table`
 pub starlark-table-one : (table names out : List ℕ) {r s : ℕ} {out-r out-s : List ℕ}
@@ -104,3 +108,25 @@ pub starlark-rescue-one : (input file out : List ℕ) {r s : ℕ} {file-r file-s
     → (r ≡ s) × (file-r ≡ file-s) × (out-r ≡ out-s)
 starlark-rescue-one input file out r-is out-is file-is s-is out-are file-are =
     (coincide r-is s-is, coincide file-is file-are, coincide out-is out-are)
+
+-- of `starlark_read`
+pub starlark-read-one : (file table names out : List ℕ) {r s : ℕ} {table-r table-s : List ℕ}
+    {names-r names-s : List ℕ} {out-r out-s : List ℕ} → r ≡ number (readOf file (length table) (length names))
+    → out-r ≡ laid (words (readOf file (length table) (length names))) 0 out
+    → table-r ≡ handed (intoCheck file (length table) (length names)) (contentAt file .table) table
+    → names-r ≡ handed (intoCheck file (length table) (length names)) (contentAt file .names) names
+    → s ≡ number (readOf file (length table) (length names))
+    → out-s ≡ laid (words (readOf file (length table) (length names))) 0 out
+    → table-s ≡ handed (intoCheck file (length table) (length names)) (contentAt file .table) table
+    → names-s ≡ handed (intoCheck file (length table) (length names)) (contentAt file .names) names
+    → (r ≡ s) × (table-r ≡ table-s) × (names-r ≡ names-s) × (out-r ≡ out-s)
+starlark-read-one file table names out r-is out-is table-is names-is s-is out-are table-are names-are =
+    (coincide r-is s-is, coincide table-is table-are, coincide names-is names-are, coincide out-is out-are)
+
+-- of `starlark_check_file`
+pub starlark-check-file-one : (file errors out : List ℕ) {r s : ℕ} {errors-r errors-s : List ℕ} {out-r out-s : List ℕ}
+    → r ≡ number (answerOf file) → out-r ≡ laid (passWords (answerOf file)) 0 out → errors-r ≡ wordsAfter file errors
+    → s ≡ number (answerOf file) → out-s ≡ laid (passWords (answerOf file)) 0 out → errors-s ≡ wordsAfter file errors
+    → (r ≡ s) × (errors-r ≡ errors-s) × (out-r ≡ out-s)
+starlark-check-file-one file errors out r-is out-is errors-is s-is out-are errors-are =
+    (coincide r-is s-is, coincide errors-is errors-are, coincide out-is out-are)

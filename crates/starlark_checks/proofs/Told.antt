@@ -1,10 +1,11 @@
 -- A job's answer, told in C: what an arm of a match has put is what the definition says. Assumes nothing.
 use mathlib.Core.Path.{_≡_, refl, sym, ap, _∙_}
 use mathlib.Core.List.{List, [], _∷_, _++_}
-use Prim.Native.Nat.{ℕ, _≤_}
+use Prim.Native.Nat.{ℕ, _/_, _^_, _<_, _≤_}
 use native.Mathlib.Omega.{arith}
 use lib.ListN.{set}
-use Rattle.table.specs.Answer.{Answer, accepted, refusal}
+use Rattle.fields.specs.Field.{field}
+use Rattle.table.specs.Answer.{Answer, accepted, andThen, refusal}
 use Rattle.table.specs.declared.Refusal.{Refusal}
 use Rattle.table.specs.declared.Refusal.the-variants.{Spanned}
 use Rattle.table.specs.declared.Span.{Span}
@@ -15,7 +16,16 @@ use Rattle.parameters.specs.Params.{paramsOf, AllBelow}
 use Rattle.parameters.proofs.Accepted.{accepted-small}
 use Rattle.arguments.specs.Job.{placeValues, callValues}
 use Rattle.arguments.specs.declared.CallArgs.{CallArgs}
+use Rattle.tablefile.specs.Reading.{headerAt, contentAt}
+use Rattle.tablefile.specs.Loading.{verdict}
+use Rattle.tablefile.specs.Lending.{intoCheck}
+use Rattle.tablefile.specs.declared.Heading.{Heading}
+use Rattle.tablefile.specs.declared.Verdict.{Verdict}
+use Rattle.tablefile.specs.declared.Verdict.the-variants.{Accepted}
+use Rattle.tablefile.proofs.Fronts.{dialect-few}
+use Rattle.tablefile.proofs.Lends.{into-fronted}
 use Rattle.starlark_checks.specs.Words.{number, words, placeIn, callWords, rescueWords, laid, Fit}
+use Rattle.starlark_checks.specs.Words.{heldValues, readOf, passWords}
 
 -- a number and words put for an answer
 abbrev pub Put : (Answer → List ℕ) → Answer → ℕ → List ℕ → List ℕ → Type 0
@@ -42,6 +52,48 @@ refused-put r xs p = p
 pub rescue-refused : (r : Refusal) {n : ℕ} (xs : List ℕ) {ys : List ℕ} → Put words (refusal r) n xs ys
     → Put rescueWords (refusal r) n xs ys
 rescue-refused r xs p = p
+
+pub pass-refused : (r : Refusal) {n : ℕ} (xs : List ℕ) {ys : List ℕ} → Put words (refusal r) n xs ys
+    → Put passWords (refusal r) n xs ys
+pass-refused r xs p = p
+
+-- reading a file: v is what `tablefile::read_into` answers
+module _ (file : List ℕ) (a b : ℕ) (v : Verdict) {B : Type 0} (p : (verdict v ≡ intoCheck file a b) × B) where
+  -- LAW: the counts of a file that is handed over fit words
+  pub held-fit : v ≡ Accepted → Fit (headerAt file .nodes ∷ headerAt file .names ∷ [])
+  held-fit e =
+      let f = into-fronted file a b (sym (p .0) ∙ ap verdict e) in
+      (omega (arith, f .counts), (omega (arith, f .counts), tt))
+
+  -- LAW: what is put for an arm is put for the answer
+  pub read-told : (w : Verdict) (n : ℕ) (xs ys : List ℕ) → v ≡ w
+      → Put words (andThen (verdict w) (λ _. accepted (heldValues file))) n xs ys
+      → (n ≡ number (readOf file a b)) × ((ys ≡ laid (words (readOf file a b)) 0 xs) × B)
+  unfolding readOf
+  read-told w n xs ys e put =
+      let k : andThen (verdict w) (λ _. accepted (heldValues file)) ≡ readOf file a b =
+      ap (λ (x : Answer). andThen x (λ _. accepted (heldValues file))) (sym (ap verdict e) ∙ p .0) in
+      (put .0 ∙ ap number k, (put .1 ∙ ap (λ (x : Answer). laid (words x) 0 xs) k, p .1))
+
+-- LAW: what block 0 says fits words, where the counts do
+module _ (file : List ℕ) {h : Heading} (h-is : h ≡ headerAt file) where
+  pub dialect-fits : h .dialect / 9 < 2 ^ 32
+  dialect-fits = rw h-is (omega (arith, dialect-few file))
+
+  module _ (fit : Fit (headerAt file .nodes ∷ headerAt file .names ∷ [])) where
+    pub nodes-fit : h .nodes < 2 ^ 32
+    nodes-fit = rw h-is (omega (arith, fit .0))
+
+    pub names-fit : h .names < 2 ^ 32
+    names-fit = rw h-is (omega (arith, fit .1 .0))
+
+-- LAW: six words, laid one after the other
+pub held-laid : (file : List ℕ) {h : Heading} (xs : List ℕ) {d : List ℕ} {x y z : ℕ} → h ≡ headerAt file
+    → d ≡ contentAt file .dialect → x ≡ field 4 d 0 → y ≡ field 4 d 4 → z ≡ field 4 d 8
+    → (0 ≡ number (accepted (heldValues file)))
+    × (set (set (set (set (set (set xs 0 (h .nodes)) 1 (h .names)) 2 (h .dialect / 9)) 3 x) 4 y) 5 z
+    ≡ laid (words (accepted (heldValues file))) 0 xs)
+held-laid file xs h-is d-is x-is y-is z-is = (refl, rw (x-is, y-is, z-is, d-is, h-is) refl)
 
 -- LAW: a refusal with a span has four words
 module _ (r : Refusal) {n k : ℕ} {s : Span} {p : Place} (h : r ≡ Spanned n k s p) where

@@ -5,7 +5,10 @@ use Prim.Native.Nat.{ℕ, _+_, _/_, _%_, _≤_}
 use lib.Dec.{eqb}
 use lib.ListN.{set, getD, take, drop}
 use Rattle.fields.specs.Choice.{if'}
-use Rattle.table.specs.Answer.{Answer, accepted, refused}
+use Rattle.fields.specs.Field.{field}
+use Rattle.table.specs.Answer.{Answer, accepted, refused, andThen}
+use Rattle.tablefile.specs.Reading.{headerAt, contentAt}
+use Rattle.tablefile.specs.Lending.{intoCheck}
 
 -- the number that is returned: 0 for accepted
 abbrev pub number : Answer → ℕ
@@ -43,6 +46,23 @@ callWords (refused n vs) = carriedWords vs
 abbrev pub rescueWords : Answer → List ℕ
 rescueWords (accepted vs) = take 4 vs ++ (getD vs 4 0 % 4294967296) ∷ (getD vs 4 0 / 4294967296) ∷ []
 rescueWords (refused n vs) = carriedWords vs
+
+-- what is told of a file that is read: its nodes and name bytes, 1 where it has a dialect, and the dialect's nine
+-- bytes, four a word, the low one first; none are zeros
+abbrev pub heldValues : List ℕ → List ℕ
+heldValues file =
+    let h = headerAt file in
+    let d = contentAt file .dialect in
+    h .nodes ∷ h .names ∷ (h .dialect / 9) ∷ field 4 d 0 ∷ field 4 d 4 ∷ field 4 d 8 ∷ []
+
+-- reading a file into buffers of so many bytes
+unfoldable pub readOf : List ℕ → ℕ → ℕ → Answer
+readOf file table names = andThen (intoCheck file table names) (λ _. accepted (heldValues file))
+
+-- the words of a file's answer: how many errors, then how many nodes
+abbrev pub passWords : Answer → List ℕ
+passWords (accepted vs) = getD vs 1 0 ∷ getD vs 0 0 ∷ []
+passWords (refused n vs) = carriedWords vs
 
 -- words written from place i on; what is not written stays
 abbrev pub laid : List ℕ → ℕ → List ℕ → List ℕ

@@ -2,6 +2,7 @@
 use arguments::CallArgs;
 use arguments::Called;
 use bind::Bound;
+use filepass::Passed;
 use parameters::Counted;
 use parameters::Range;
 use parameters::Unpacked;
@@ -10,6 +11,7 @@ use rescue::Rescued;
 use table::Checked;
 use table::Place;
 use table::Refusal;
+use tablefile::Verdict;
 use targets::Targeted;
 use types::Shaped;
 use validate::Listed;
@@ -28,9 +30,13 @@ ghost use Rattle.targets.specs.Jobs.{targetOf, assignmentOf};
 ghost use Rattle.types.specs.Jobs.{typeShapeOf};
 ghost use Rattle.shapes.specs.Jobs.{shapesAfter};
 ghost use Rattle.validate.specs.Job.{moduleOf, errorsAfter};
+ghost use Rattle.tablefile.specs.Reading.{headerAt, contentAt};
+ghost use Rattle.tablefile.specs.Lending.{intoCheck, handed};
+ghost use Rattle.filepass.specs.Passing.{answerOf, wordsAfter};
 ghost use Rattle.writer.specs.Writing.{writeOf, fileAfter};
 ghost use Rattle.rescue.specs.Job.{rescueOf, fileAfter as rescuedAfter, told};
 ghost use Rattle.starlark_checks.specs.Words.{number, words, callWords, rescueWords, laid, Fit, placeIn};
+ghost use Rattle.starlark_checks.specs.Words.{heldValues, readOf, passWords};
 
 // A refusal: what it carries, and its number.
 fn put_refused(r: Refusal, out: &mut [u32; 12]) -> u32
@@ -138,6 +144,24 @@ fn put_kept(k: Kept, out: &mut [u32; 12])
     out[3] = k.dropped;
     out[4] = (k.after % 4_294_967_296) as u32;
     out[5] = (k.after / 4_294_967_296) as u32;
+}
+
+// What a file holds: its nodes and name bytes, whether it has a dialect, and the dialect's bytes, four a word.
+fn put_held(file: &[u8], out: &mut [u32; 12]) -> u32
+    requires { ⌜ Fit (headerAt (now file) .nodes ∷ headerAt (now file) .names ∷ []) ⌝ }
+    ensures { λ r. ⌜ r ≡ number (accepted (heldValues (now (file .entry)))) ⌝ }
+    ensures { λ r. ⌜ now (out .exit) ≡
+        laid (words (accepted (heldValues (now (file .entry))))) 0 (now (out .entry)) ⌝ }
+{
+    let h = tablefile::header(file);
+    let dialect = tablefile::dialect_bytes(file);
+    out[0] = h.nodes as u32;
+    out[1] = h.names as u32;
+    out[2] = (h.dialect / 9) as u32;
+    out[3] = fields::word(dialect, 0);
+    out[4] = fields::word(dialect, 4);
+    out[5] = fields::word(dialect, 8);
+    0
 }
 
 // The table check.
@@ -345,5 +369,47 @@ pub extern "C" fn starlark_rescue(input: &[u8], file: &mut [u8], out: &mut [u32;
             0
         }
         Rescued::Refused(r) => put_refused(r, out),
+    }
+}
+
+// The reader: table and names at the fronts of two buffers; nodes, name bytes, whether there is a dialect, and its
+// nine bytes, four a word, the low one first.
+#[no_mangle]
+pub extern "C" fn starlark_read(
+    file: &[u8],
+    table: &mut [u8],
+    names: &mut [u8],
+    out: &mut [u32; 12],
+) -> u32
+    ensures { λ r. ⌜ r ≡
+        number (readOf (now (file .entry)) (length (now (table .entry))) (length (now (names .entry)))) ⌝ }
+    ensures { λ r. ⌜ now (out .exit) ≡
+        laid (words (readOf (now (file .entry)) (length (now (table .entry))) (length (now (names .entry))))) 0
+        (now (out .entry)) ⌝ }
+    ensures { λ r. ⌜ now (table .exit) ≡
+        handed (intoCheck (now (file .entry)) (length (now (table .entry))) (length (now (names .entry))))
+        (contentAt (now (file .entry)) .table) (now (table .entry)) ⌝ }
+    ensures { λ r. ⌜ now (names .exit) ≡
+        handed (intoCheck (now (file .entry)) (length (now (table .entry))) (length (now (names .entry))))
+        (contentAt (now (file .entry)) .names) (now (names .entry)) ⌝ }
+{
+    let answer = tablefile::read_into(file, table, names);
+    match answer {
+        Verdict::Accepted => put_held(file, out),
+        Verdict::Refused(r) => put_refused(r, out),
+    }
+}
+
+// A file's answer: how many errors, how many nodes, and the first errors that fit.
+#[no_mangle]
+pub extern "C" fn starlark_check_file(file: &[u8], errors: &mut [u32], out: &mut [u32; 12]) -> u32
+    ensures { λ r. ⌜ r ≡ number (answerOf (now (file .entry))) ⌝ }
+    ensures { λ r. ⌜ now (out .exit) ≡ laid (passWords (answerOf (now (file .entry)))) 0 (now (out .entry)) ⌝ }
+    ensures { λ r. ⌜ now (errors .exit) ≡ wordsAfter (now (file .entry)) (now (errors .entry)) ⌝ }
+{
+    let answer = filepass::check_file(file, errors);
+    match answer {
+        Passed::Listed { nodes, total } => put_two(total, nodes, out),
+        Passed::Refused(r) => put_refused(r, out),
     }
 }

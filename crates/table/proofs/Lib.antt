@@ -8,4 +8,5 @@ pub mod Handed
 pub mod Entering
 pub mod Carried
 pub mod Naming
+pub mod Heads
 pub mod Promises

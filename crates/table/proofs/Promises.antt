@@ -13,6 +13,7 @@ use Rattle.table.specs.Answer.{earlierIn, earlierValues}
 use Rattle.table.specs.Naming.{bearsName, firstNamed}
 use Rattle.table.specs.declared.Entries.{Entries}
 use Rattle.table.specs.Check.{checkOf, given, givenOf, nodeFits, stretchOf, entryCheck}
+use Rattle.table.specs.Check.{mostBytes, isHeaded}
 use Rattle.table.specs.declared.Span.{Span}
 use Rattle.table.specs.declared.Given.{Given}
 use Rattle.table.specs.declared.Refusal.{Refusal}
@@ -45,6 +46,14 @@ node-fits-one table node wanted = coincide
 pub stretch-one : (table : List ℕ) (node : ℕ) {r s : List ℕ} → r ≡ stretchOf table node → s ≡ stretchOf table node
     → r ≡ s
 stretch-one table node = coincide
+
+-- of `within`, whose answer is a part of the lent bytes
+pub within-one : (t : List ℕ) {r s : List ℕ} → r ≡ take mostBytes t → s ≡ take mostBytes t → r ≡ s
+within-one t = coincide
+
+-- of `is_headed`
+pub is-headed-one : (t : List ℕ) (node : ℕ) {r s : Bool} → r ≡ isHeaded node t → s ≡ isHeaded node t → r ≡ s
+is-headed-one t node = coincide
 
 -- of `number`
 pub number-one : (why : Refusal) {r s : ℕ} → r ≡ numberOf why → s ≡ numberOf why → r ≡ s

@@ -40,6 +40,14 @@ Within i t = recordBytes * i + length t ≤ mostBytes
 abbrev pub Headed : ℕ → List ℕ → Type 0
 Headed i t = (recordBytes ≤ length t) × Within i t
 
+-- the same as a test; and what a check of one stretch reads of any bytes: all of them, or nothing where they are none
+-- such
+abbrev pub isHeaded : ℕ → List ℕ → Bool
+isHeaded i t = leb (recordBytes * i + length t) mostBytes && leb recordBytes (length t)
+
+unfoldable pub headedOf : ℕ → List ℕ → List ℕ
+headedOf i t = if' (isHeaded i t) (λ _. t) (λ _. [])
+
 -- 1: the table has 1 to 2,100 records of 24 bytes
 unfoldable pub lengthSound : ℕ → Bool
 lengthSound n = leb recordBytes n && (leb n mostBytes && eqb (n % recordBytes) 0)

@@ -14,9 +14,11 @@ ghost use mathlib.Core.Path.{_≡_};
 ghost use Rattle.forest.specs.Forest.{nodeOf};
 ghost use Rattle.soundness.specs.Kinds.{classOf};
 ghost use mathlib.Core.List.{_∷_};
+ghost use lib.ListN.{take};
 ghost use Rattle.table.specs.Answer.{refused, refusedAt, numberOf, nodeIn, extentIn, refusal, checked, spanAt};
 ghost use Rattle.table.specs.Answer.{earlierIn, earlierValues};
 ghost use Rattle.table.specs.Check.{lengthSound, checkOf, given, givenOf, wants, nodeFits, stretchOf, entryCheck};
+ghost use Rattle.table.specs.Check.{mostBytes, isHeaded};
 
 // Where something stands in the script: from begin up to, but not with, end.
 pub struct Span {
@@ -259,6 +261,27 @@ pub fn stretch(table: &[u8], node: usize) -> &[u8]
         return &table[a..];
     }
     &table[a..e]
+}
+
+// As much of some bytes as a table has at most: 2,100 records.
+pub fn within(t: &[u8]) -> &[u8]
+    ensures { λ r. ⌜ now r ≡ take mostBytes (now (t .entry)) ⌝ }
+{
+    if t.len() <= MOST_BYTES {
+        return t;
+    }
+    &t[0..MOST_BYTES]
+}
+
+// Whether a stretch begins with a record and lies within the largest table, where its first record has this index.
+pub fn is_headed(t: &[u8], node: u32) -> bool
+    ensures { λ r. ⌜ r ≡ isHeaded node (now (t .entry)) ⌝ }
+{
+    if MOST_BYTES < t.len() {
+        return false;
+    }
+    let before = RECORD * (node as usize);
+    (before + t.len() <= MOST_BYTES) & (RECORD <= t.len())
 }
 
 // Lets a job on a node in: 1 to 4, then 6. Its stretch is then `stretch`.

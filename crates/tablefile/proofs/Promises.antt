@@ -2,11 +2,13 @@
 use mathlib.Core.Path.{_≡_, sym, ap, _∙_}
 use mathlib.Core.List.{List}
 use Prim.Native.Nat.{ℕ}
-use Rattle.fields.proofs.Coincide.{coincide}
+use lib.ListN.{length}
+use Rattle.fields.proofs.Coincide.{coincide, coincide-by}
 use Rattle.table.specs.Answer.{Answer}
 use Rattle.tablefile.specs.File.{Content}
 use Rattle.tablefile.specs.Reading.{headerAt, contentAt, frontCheck, readCheck}
 use Rattle.tablefile.specs.Loading.{verdict, loadedOf}
+use Rattle.tablefile.specs.Lending.{fileCheck, intoCheck, handed}
 use Rattle.tablefile.specs.declared.Verdict.{Verdict}
 use Rattle.tablefile.specs.declared.Loaded.{Loaded}
 use Rattle.tablefile.specs.declared.Heading.{Heading}
@@ -33,3 +35,30 @@ pub read-one : (file : List ℕ) {r s : Loaded} → verdict (r .verdict) ≡ rea
     → r ≡ loadedOf (r .verdict) (contentAt file) (headerAt file .taken) → verdict (s .verdict) ≡ readCheck file
     → s ≡ loadedOf (s .verdict) (contentAt file) (headerAt file .taken) → r ≡ s
 read-one file {r} {s} = one _ _ _ r s
+
+-- of `unpack`, the file and the arrays as lent
+pub unpack-one : (file table names : List ℕ) {r s : Verdict} {table-r table-s : List ℕ} {names-r names-s : List ℕ}
+    → verdict r ≡ readCheck file → table-r ≡ handed (fileCheck file) (contentAt file .table) table
+    → names-r ≡ handed (fileCheck file) (contentAt file .names) names → verdict s ≡ readCheck file
+    → table-s ≡ handed (fileCheck file) (contentAt file .table) table
+    → names-s ≡ handed (fileCheck file) (contentAt file .names) names
+    → (r ≡ s) × (table-r ≡ table-s) × (names-r ≡ names-s)
+unpack-one file table names r-is t-is n-is s-is t-are n-are =
+    (coincide-by verdict verdict-injective r-is s-is, coincide t-is t-are, coincide n-is n-are)
+
+-- of `read_into`, the file and the buffers as lent
+pub read-into-one : (file table names : List ℕ) {r s : Verdict} {table-r table-s : List ℕ} {names-r names-s : List ℕ}
+    → verdict r ≡ intoCheck file (length table) (length names)
+    → table-r ≡ handed (intoCheck file (length table) (length names)) (contentAt file .table) table
+    → names-r ≡ handed (intoCheck file (length table) (length names)) (contentAt file .names) names
+    → verdict s ≡ intoCheck file (length table) (length names)
+    → table-s ≡ handed (intoCheck file (length table) (length names)) (contentAt file .table) table
+    → names-s ≡ handed (intoCheck file (length table) (length names)) (contentAt file .names) names
+    → (r ≡ s) × (table-r ≡ table-s) × (names-r ≡ names-s)
+read-into-one file table names r-is t-is n-is s-is t-are n-are =
+    (coincide-by verdict verdict-injective r-is s-is, coincide t-is t-are, coincide n-is n-are)
+
+-- of `dialect_bytes`, the file as lent
+pub dialect-bytes-one : (file : List ℕ) {r s : List ℕ} → r ≡ contentAt file .dialect → s ≡ contentAt file .dialect
+    → r ≡ s
+dialect-bytes-one file = coincide

@@ -1,3 +1,4 @@
 pub mod File
 pub mod Reading
 pub mod Loading
+pub mod Lending

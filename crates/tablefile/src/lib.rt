@@ -19,6 +19,7 @@ ghost use Rattle.blocks.specs.Run.{blocksFor, contentOf};
 ghost use Rattle.tablefile.specs.Reading.{dialectIn, headerAt, contentAt, countsFit, blocksCheck, frontCheck};
 ghost use Rattle.tablefile.specs.Reading.{soundCheck, readCheck};
 ghost use Rattle.tablefile.specs.Loading.{verdict, laid, loadedOf, none};
+ghost use Rattle.tablefile.specs.Lending.{fileCheck, intoCheck, handed};
 ghost use Rattle.tablefile.specs.declared.Verdict.the-variants.{Accepted, Refused};
 
 // The most blocks that a file has: block 0, 16 with 8,064 name bytes, 100 with 2,100 nodes.
@@ -114,6 +115,88 @@ pub fn read(file: &[u8]) -> Loaded
         return refused(r);
     }
     l
+}
+
+// A file into two arrays that are large enough for every file, with the judgement of `read`. Where 70 to 75 are passed,
+// table and names stand at their fronts, also if 1 to 5 then refuse them; else the arrays are as they were.
+pub fn unpack(file: &[u8], table: &mut [u8; MOST_BYTES], names: &mut [u8; MOST_NAMES]) -> Verdict
+    ensures { λ r. ⌜ verdict r ≡ readCheck (now (file .entry)) ⌝ }
+    ensures { λ r. ⌜ now (table .exit) ≡
+        handed (fileCheck (now (file .entry))) (contentAt (now (file .entry)) .table) (now (table .entry)) ⌝ }
+    ensures { λ r. ⌜ now (names .exit) ≡
+        handed (fileCheck (now (file .entry))) (contentAt (now (file .entry)) .names) (now (names .entry)) ⌝ }
+{
+    let h = header(file);
+    let first = judge_file(file, h);
+    if let Judged::Refused(n) = first {
+        return Verdict::Refused(Refusal::Bare(n));
+    }
+    let len = RECORD * h.nodes;
+    copy(file, h.first, len, table);
+    copy(file, 1, h.names, names);
+    let dialect = dialect_bytes(file);
+    check(table, len, names, h.names, dialect, dialect.len())
+}
+
+// A file into lent buffers: the refusals of `read`, then 7 for a buffer that is shorter than the table or the names. A
+// refusal changes no byte, and bytes past table and names stay.
+pub fn read_into(file: &[u8], table: &mut [u8], names: &mut [u8]) -> Verdict
+    ensures { λ r. ⌜ verdict r ≡
+        intoCheck (now (file .entry)) (length (now (table .entry))) (length (now (names .entry))) ⌝ }
+    ensures { λ r. ⌜ now (table .exit) ≡
+        handed (intoCheck (now (file .entry)) (length (now (table .entry))) (length (now (names .entry))))
+        (contentAt (now (file .entry)) .table) (now (table .entry)) ⌝ }
+    ensures { λ r. ⌜ now (names .exit) ≡
+        handed (intoCheck (now (file .entry)) (length (now (table .entry))) (length (now (names .entry))))
+        (contentAt (now (file .entry)) .names) (now (names .entry)) ⌝ }
+{
+    let mut whole_table = [0u8; MOST_BYTES];
+    let mut whole_names = [0u8; MOST_NAMES];
+    let found = unpack(file, &mut whole_table, &mut whole_names);
+    if let Verdict::Refused(why) = found {
+        return Verdict::Refused(why);
+    }
+    let h = header(file);
+    let len = RECORD * h.nodes;
+    if table.len() < len {
+        return Verdict::Refused(Refusal::Bare(numbers::SHORT_BUFFER));
+    }
+    if names.len() < h.names {
+        return Verdict::Refused(Refusal::Bare(numbers::SHORT_BUFFER));
+    }
+    put(&whole_table, len, table);
+    put(&whole_names, h.names, names);
+    Verdict::Accepted
+}
+
+// The dialect bytes of a file, were its first bytes its block 0: nine or none, or as many as are there.
+pub fn dialect_bytes(file: &[u8]) -> &[u8]
+    ensures { λ r. ⌜ now r ≡ contentAt (now (file .entry)) .dialect ⌝ }
+{
+    if file.len() < 8 {
+        return &file[0..0];
+    }
+    let len = dialect_in(fields::half(file, 2));
+    let rest = &file[8..];
+    if rest.len() < len {
+        return rest;
+    }
+    &rest[0..len]
+}
+
+// 70 to 75: the blocks of the file at the front, then bytes left over.
+fn judge_file(file: &[u8], h: Heading) -> Judged
+    requires { ⌜ h ≡ headerAt (now file) ⌝ }
+    ensures { λ r. ⌜ judged r ≡ fileCheck (now (file .entry)) ⌝ }
+{
+    let first = judge_front(file, h);
+    if let Judged::Refused(n) = first {
+        return Judged::Refused(n);
+    }
+    if h.taken < file.len() {
+        return Judged::Refused(numbers::BYTES_LEFT_OVER);
+    }
+    Judged::Passed
 }
 
 // The blocks of the file at the front, each in its turn.

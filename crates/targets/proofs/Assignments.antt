@@ -1,6 +1,6 @@
 -- Laws of assignments over a stretch, in the terms of code: one for each return of check_type and check_assignment.
 -- Assumes nothing.
-use mathlib.Core.Path.{_≡_, refl, sym, _∙_}
+use mathlib.Core.Path.{_≡_, refl, sym, ap, _∙_}
 use mathlib.Core.Bool.{Bool, true, false, _&&_}
 use mathlib.Core.List.{List, [], _∷_}
 use Prim.Native.Nat.{ℕ, _+_, _-_, _/_, _<_, _≤_}
@@ -8,10 +8,12 @@ use native.Mathlib.Nat.{zero-add}
 use lib.ListN.{length, take, drop}
 use lib.Dec.{eqb}
 use borrow.Author.Tests.{ne-eqb}
-use Rattle.forest.specs.Forest.{Node, nodeOf, spanOf, restOf, Forest, forest, treeOf}
+use Rattle.forest.specs.Forest.{Node, nodeOf, spanOf, restOf, node, Forest, none, forest, treeOf}
 use Rattle.forest.proofs.Stretch.{forest-none, forest-tree, kids-part, rest-part}
-use Rattle.table.specs.Numbers.{invalidModifyLhs, typeOnAugmented, typeOnTuple}
+use Rattle.table.specs.Numbers.{invalidLhs, invalidModifyLhs, typeOnAugmented, typeOnTuple}
 use Rattle.table.specs.Answer.{Answer, accepted, andThen, refusedAt, refusal}
+use Rattle.table.specs.Check.{isHeaded, headedOf}
+use Rattle.table.proofs.Heads.{headed-leaf, headed-is}
 use Rattle.table.specs.declared.Refusal.{Refusal}
 use Rattle.targets.specs.Targets.{isGroup, «check_assign», leaves, counted, modifyCheck, typeCheck}
 use Rattle.targets.specs.Targets.{«check_assignment»}
@@ -94,3 +96,24 @@ module _ (i : ℕ) (t : List ℕ) {e : ℕ} (e-is : e ≡ spanOf t) where
             let m-is : m ≡ leaves (treeOf (i + 1) lhs) = cc in
             r-is ∙ rw (rest-part a lhs a-is, a-is, m-is)
             (sym (plain ∙ first-accepted («check_assign» (treeOf (i + 1) lhs)) _ _ accepts))
+
+leaf-none : (i : ℕ) → counted 0 (node (nodeOf i []) none) ≡ refusedAt invalidLhs (nodeOf i [])
+unfolding counted «check_assign»
+leaf-none i = refl
+
+-- what a stretch of any bytes begins with, in the terms of code: b is what `is_headed` answered
+module _ (i : ℕ) (t : List ℕ) {b : Bool} (b-is : b ≡ isHeaded i t) where
+  module _ (no : b ≡ false) where
+    pub target-none : {r : Answer} → r ≡ refusedAt invalidLhs (nodeOf i []) → r ≡ counted 0 (treeOf i (headedOf i t))
+    target-none r-is = r-is ∙ sym (ap (counted 0) (headed-leaf i t b-is no) ∙ leaf-none i)
+
+    pub assign-none : accepted (0 ∷ []) ≡ «check_assignment» (treeOf i (headedOf i t))
+    unfolding «check_assignment»
+    assign-none = rw (headed-leaf i t b-is no) refl
+
+  module _ (good : b ≡ true) {r : Answer} where
+    pub target-here : r ≡ counted 0 (treeOf i t) → r ≡ counted 0 (treeOf i (headedOf i t))
+    target-here r-is = r-is ∙ ap (λ (l : List ℕ). counted 0 (treeOf i l)) (sym (headed-is i t b-is good))
+
+    pub assign-here : r ≡ «check_assignment» (treeOf i t) → r ≡ «check_assignment» (treeOf i (headedOf i t))
+    assign-here r-is = r-is ∙ ap (λ (l : List ℕ). «check_assignment» (treeOf i l)) (sym (headed-is i t b-is good))

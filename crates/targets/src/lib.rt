@@ -15,7 +15,7 @@ ghost use mathlib.Core.List.{[], _∷_};
 ghost use Prim.Native.Nat.{_+_, _≤_};
 ghost use Rattle.forest.specs.Forest.{nodeOf, treeOf, forest};
 ghost use Rattle.table.specs.Answer.{accepted, andThen};
-ghost use Rattle.table.specs.Check.{Within, Headed};
+ghost use Rattle.table.specs.Check.{Within, Headed, headedOf};
 ghost use Rattle.targets.specs.Targets.{isLeaf, isGroup, counted, countedEach, typeCheck, «check_assignment»};
 ghost use Rattle.targets.specs.Jobs.{targeted, targetOf, assignmentOf};
 
@@ -46,6 +46,27 @@ pub fn assignment(table: &[u8], names: &[u8], node: usize) -> Targeted
         return Targeted::Refused(why);
     }
     check_assignment(table::stretch(table, node), node)
+}
+
+// The target that a stretch begins with, for who has checked the table before. Its first record has the index node. It
+// takes any bytes, and reads none where they are no part of a table.
+pub fn judge_target(t: &[u8], node: u32) -> Targeted
+    ensures { λ r. ⌜ targeted r ≡ counted 0 (treeOf node (headedOf node (now (t .entry)))) ⌝ }
+{
+    if !table::is_headed(t, node) {
+        return Targeted::Refused(table::refused_at(numbers::INVALID_LHS, node, &t[0..0]));
+    }
+    check_assign(t, node as usize, 0)
+}
+
+// The assignment that a stretch begins with, in the same way.
+pub fn judge_assignment(t: &[u8], node: u32) -> Targeted
+    ensures { λ r. ⌜ targeted r ≡ «check_assignment» (treeOf node (headedOf node (now (t .entry)))) ⌝ }
+{
+    if !table::is_headed(t, node) {
+        return Targeted::Leaves(0);
+    }
+    check_assignment(t, node as usize)
 }
 
 // Whether a kind is a leaf of targets: Identifier, Dot or Index.

@@ -6,24 +6,31 @@ use Prim.Native.Nat.{ℕ, _+_, _*_, _/_, _<_, _≤_}
 use lib.ListN.{length}
 use borrow.Author.Tests.{le-leb, lt-leb}
 use Rattle.fields.proofs.Basics.{never}
-use Rattle.forest.specs.Forest.{nodeOf, treeOf}
+use Rattle.forest.specs.Forest.{Node, nodeOf, node, none, treeOf}
 use Rattle.dialect.specs.Rows.{permitsTypes}
 use Rattle.dialect.specs.Bytes.{fromBytes}
 use Rattle.dialect.specs.declared.Dialect.{Dialect}
 use Rattle.dialect.specs.declared.DialectTypes.{DialectTypes}
 use Rattle.dialect.specs.declared.Decoded.{Decoded}
 use Rattle.dialect.specs.declared.Decoded.the-variants.{Valid, Invalid}
-use Rattle.table.specs.Numbers.{wrongNode, shortBuffer, typesDisabled}
-use Rattle.table.specs.Answer.{Answer, accepted, refused, refusedAt, refusal}
+use Rattle.table.specs.Numbers.{wrongNode, shortBuffer, invalidType, typesDisabled}
+use Rattle.table.specs.Answer.{Answer, accepted, refused, andThen, refusedAt, refusal}
 use Rattle.table.specs.Check.{checkOf, inDialect, given, handing, givenOf, nodeFits, stretchOf}
+use Rattle.table.specs.Check.{isHeaded, headedOf}
+use Rattle.table.proofs.Heads.{headed-leaf, headed-is}
 use Rattle.table.specs.declared.Refusal.{Refusal}
 use Rattle.table.specs.declared.Given.{Given}
 use Rattle.table.specs.declared.Given.the-variants.{In, Refused}
 use Rattle.table.specs.declared.Wanted.the-variants.{Expression}
 use Rattle.table.proofs.Checking.{check-values}
 use Rattle.table.proofs.Handed.{passed, stretch-within}
-use Rattle.types.specs.Types.{«unpack», «dialect_check_type»}
+use Rattle.types.specs.Forms.{formOf}
+use Rattle.types.specs.Types.{atNode, «unpack», typesCheck, «dialect_check_type»}
 use Rattle.types.specs.Jobs.{typeAt, typeShapeOf}
+
+-- what is refused where no type can be read
+abbrev pub noType : DialectTypes → Node → Answer
+noType types r = andThen (typesCheck types r) (λ _. refusedAt invalidType r)
 
 -- a type in a dialect
 module _ (names : List ℕ) (types : DialectTypes) (i : ℕ) (t : List ℕ) {p : Bool} (p-is : p ≡ permitsTypes types)
@@ -90,3 +97,29 @@ module _ (t names bytes : List ℕ) {g : Given} (g-is : given g ≡ givenOf t na
 
     pub job-sound : accepted [] ≡ checkOf t names
     job-sound = given-sound t names bytes (sym (ap given h) ∙ g-is)
+
+-- no type: 45, else 40
+module _ (types : DialectTypes) (r : Node) {p : Bool} (p-is : p ≡ permitsTypes types) {a : Answer} where
+  pub none-disabled : p ≡ false → a ≡ refusedAt typesDisabled r → a ≡ noType types r
+  none-disabled h a-is = a-is ∙ rw (← p-is, h) refl
+
+  pub none-invalid : p ≡ true → a ≡ refusedAt invalidType r → a ≡ noType types r
+  none-invalid h a-is = a-is ∙ rw (← p-is, h) refl
+
+leaf-none : (names : List ℕ) (types : DialectTypes) (i : ℕ)
+    → «dialect_check_type» names types (node (nodeOf i []) none) ≡ noType types (nodeOf i [])
+unfolding «dialect_check_type» «unpack» atNode formOf
+leaf-none names types i = refl
+
+-- the type that a stretch of any bytes begins with, in the terms of code: b is what `is_headed` answered
+module _ (names : List ℕ) (types : DialectTypes) (i : ℕ) (t : List ℕ) {b : Bool} (b-is : b ≡ isHeaded i t)
+    {r : Answer} where
+  pub judge-none : b ≡ false → r ≡ noType types (nodeOf i [])
+      → r ≡ «dialect_check_type» names types (treeOf i (headedOf i t))
+  judge-none h r-is =
+      r-is ∙ sym (ap («dialect_check_type» names types) (headed-leaf i t b-is h) ∙ leaf-none names types i)
+
+  pub judge-here : b ≡ true → r ≡ «dialect_check_type» names types (treeOf i t)
+      → r ≡ «dialect_check_type» names types (treeOf i (headedOf i t))
+  judge-here h r-is =
+      r-is ∙ ap (λ (l : List ℕ). «dialect_check_type» names types (treeOf i l)) (sym (headed-is i t b-is h))

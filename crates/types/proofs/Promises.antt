@@ -3,9 +3,12 @@ use mathlib.Core.Path.{_≡_, sym, ap}
 use mathlib.Core.List.{List}
 use Prim.Native.Nat.{ℕ}
 use Rattle.fields.proofs.Coincide.{coincide, coincide-by}
-use Rattle.forest.specs.Forest.{nodeOf}
+use Rattle.forest.specs.Forest.{nodeOf, treeOf}
+use Rattle.dialect.specs.declared.Dialect.{Dialect}
+use Rattle.table.specs.Check.{headedOf}
 use Rattle.table.proofs.Answers.{refusal-injective, never-accepted}
 use Rattle.types.specs.Forms.{formOf, shapeOf, readsOf}
+use Rattle.types.specs.Types.{«dialect_check_type»}
 use Rattle.types.specs.Jobs.{shaped, typeShapeOf}
 use Rattle.types.specs.declared.Form.{Form}
 use Rattle.types.specs.declared.Reads.{Reads}
@@ -24,6 +27,12 @@ pub judge-one : (table names dialect : List ℕ) (node room : ℕ) {r s : Shaped
     → shaped r ≡ typeShapeOf table names dialect node room → shaped s ≡ typeShapeOf table names dialect node room
     → r ≡ s
 judge-one table names dialect node room = coincide-by shaped shaped-injective
+
+-- of `judge_type`
+pub judge-type-one : (names : List ℕ) (d : Dialect) (t : List ℕ) (node : ℕ) {r s : Shaped}
+    → shaped r ≡ «dialect_check_type» names (d .«enable_types») (treeOf node (headedOf node t))
+    → shaped s ≡ «dialect_check_type» names (d .«enable_types») (treeOf node (headedOf node t)) → r ≡ s
+judge-type-one names d t node = coincide-by shaped shaped-injective
 
 -- of `forms::form`, `forms::shape_of` and `forms::reads_of`
 pub form-one : (t : List ℕ) {r s : Form} → r ≡ formOf (nodeOf 0 t .kind) (nodeOf 0 t .detail)

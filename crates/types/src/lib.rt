@@ -8,6 +8,7 @@ pub mod forms;
 mod judging;
 mod paths;
 
+use dialect::Dialect;
 use dialect::DialectTypes;
 use forest::RECORD;
 use table::Given;
@@ -16,11 +17,12 @@ use table::Wanted;
 use table::numbers;
 ghost use mathlib.Core.Path.{_≡_};
 ghost use mathlib.Core.List.{[]};
-ghost use Rattle.forest.specs.Forest.{treeOf};
-ghost use Rattle.table.specs.Answer.{accepted};
+ghost use Rattle.forest.specs.Forest.{nodeOf, treeOf};
+ghost use Rattle.table.specs.Numbers.{invalidType};
+ghost use Rattle.table.specs.Answer.{accepted, andThen, refusedAt};
 ghost use Rattle.table.specs.Check.{checkOf};
-ghost use Rattle.table.specs.Check.{Headed};
-ghost use Rattle.types.specs.Types.{«dialect_check_type»};
+ghost use Rattle.table.specs.Check.{Headed, headedOf};
+ghost use Rattle.types.specs.Types.{typesCheck, «dialect_check_type»};
 ghost use Rattle.types.specs.Jobs.{shaped, typeAt, typeShapeOf};
 
 // What a type may be by the kind of its node.
@@ -67,6 +69,30 @@ pub fn judge(table: &[u8], names: &[u8], dialect: &[u8], node: usize, room: usiz
         }
         Given::Refused(why) => Shaped::Refused(why),
     }
+}
+
+// The type that a stretch begins with, in a dialect, for who has checked the table before. Its first record has the
+// index node. It takes any bytes, and reads none where they are no part of a table.
+pub fn judge_type(names: &[u8], d: Dialect, t: &[u8], node: u32) -> Shaped
+    ensures { λ r. ⌜ shaped r ≡ «dialect_check_type» (now (names .entry)) (d .«enable_types»)
+        (treeOf node (headedOf node (now (t .entry)))) ⌝ }
+{
+    let types = d.enable_types;
+    if !table::is_headed(t, node) {
+        return no_type(types, &t[0..0], node);
+    }
+    dialect_check_type(names, types, t, node as usize)
+}
+
+// What stands where no type can be read: 45, else 40, at the node.
+fn no_type(types: DialectTypes, none: &[u8], node: u32) -> Shaped
+    ensures { λ r. ⌜ shaped r ≡ andThen (typesCheck types (nodeOf node (now (none .entry))))
+        (λ _. refusedAt invalidType (nodeOf node (now (none .entry)))) ⌝ }
+{
+    if !dialect::permits_types(types) {
+        return Shaped::Refused(table::refused_at(numbers::TYPES_DISABLED, node, none));
+    }
+    Shaped::Refused(table::refused_at(numbers::INVALID_TYPE, node, none))
 }
 
 // The same for a table that is sound, in a dialect with these types.

@@ -21,12 +21,12 @@ use Rattle.deflist.specs.Unpack.{unpack}
 use Rattle.deflist.specs.Told.{told}
 use Rattle.deflist.specs.declared.Judged.{Judged}
 use Rattle.deflist.specs.declared.Judged.the-variants.{Accepted, Refused}
-use Rattle.table.specs.Answer.{spanAt}
 use Rattle.errors.proofs.Storing.{unless-few}
 use Rattle.deflist.specs.declared.Kind.{Kind}
 use Rattle.deflist.specs.declared.Kind.the-variants.{Normal, NoArgs, Slash, Args, KwArgs}
 use Rattle.deflist.proofs.Theorems.{list-short}
 use Rattle.errors.specs.declared.Err.{Err}
+use Rattle.errors.specs.Errors.{errAt}
 use Rattle.validate.specs.Params.{markError, everyMark, marks, permits, unpackError, «validate_params»}
 use Rattle.validate.specs.Params.{withParams}
 use Rattle.validate.specs.Module.{atTop, inDef, armOf, defErrors, onArm, f, «visit_stmt», exprErrors, expr}
@@ -82,7 +82,7 @@ pub with-few : (d : Dialect) (names : List ℕ) (b : Bool) (n : ℕ) (r : Node) 
     → length (withParams d names b n r ks) ≤ length (paramsIn names ks) + 2
 unfolding withParams
 with-few d names b n r ks =
-    simp length-append (omega (arith, unless-few b n (spanAt r), params-few d (paramsIn names ks)))
+    simp length-append (omega (arith, unless-few b (errAt n r), params-few d (paramsIn names ks)))
 
 -- a statement by itself: two, and its parameters, and what is below it
 arm-few : (d : Dialect) (names : List ℕ) (s : Standing) (r : Node) (ks : Forest) (visit : Standing → List Err) (n : ℕ)
@@ -96,8 +96,8 @@ arm-few d names s r ks visit n h Def = omega (
 )
 arm-few d names s r ks visit n h Load = simp length-append (omega (
   arith,
-  unless-few (s .«top_level») 58 (spanAt r),
-  unless-few (d .«enable_load») 59 (spanAt r),
+  unless-few (s .«top_level») (errAt 58 r),
+  unless-few (d .«enable_load») (errAt 59 r),
 ))
 arm-few d names s r ks visit n h (Told m) = omega arith
 arm-few d names s r ks visit n h (Below p) = omega (arith, h p)
@@ -119,7 +119,7 @@ own-few : (d : Dialect) (names : List ℕ) (r : Node) (ks : Forest)
 unfolding exprErrors kindOf rowIn
 own-few d names r ks =
     kind-few (r .kind) kindEllipsis _ _ _ refl
-    (omega (arith, unless-few (permitsTypes (d .«enable_types»)) 60 (spanAt r)))
+    (omega (arith, unless-few (permitsTypes (d .«enable_types»)) (errAt 60 r)))
     (kind-few (r .kind) kindLambda _ _ _ refl (omega (arith, with-few d names (d .«enable_lambda») 61 r ks))
     (omega arith))
 

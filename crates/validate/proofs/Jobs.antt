@@ -14,16 +14,18 @@ use Rattle.table.specs.declared.Refusal.{Refusal}
 use Rattle.table.specs.declared.Given.{Given}
 use Rattle.table.specs.declared.Given.the-variants.{In, Refused as Away}
 use Rattle.table.proofs.Entering.{given-known, away-is, in-is}
-use Rattle.errors.specs.Errors.{stored, Stores}
+use Rattle.errors.specs.Errors.{kept, stored, Stores}
+use Rattle.errors.specs.declared.Listing.{Listing}
+use Rattle.errors.specs.declared.Listing.the-variants.{Module}
 use Rattle.validate.specs.Module.{«validate_module»}
 use Rattle.validate.specs.Job.{passErrors, errorsOf, moduleOf, errorsAfter}
-use Rattle.errors.proofs.Storing.{stored-none}
+use Rattle.errors.proofs.Storing.{stored-none, stores-few}
 use Rattle.validate.proofs.Bounds.{module-few}
 
 -- a total is little
-pub total-short : (d : Dialect) (names t : List ℕ) {xs ys : List ℕ} {n : ℕ}
-    → Stores («validate_module» d names (forest 0 t)) xs n ys → 12 * n ≤ length t
-total-short d names t s = omega (arith, s .count, module-few d names (forest 0 t), count-forest 0 t)
+pub total-short : {l : Listing} (d : Dialect) (names t : List ℕ) {xs ys : List ℕ} {n : ℕ}
+    → Stores l («validate_module» d names (forest 0 t)) xs n ys → 12 * n ≤ length t
+total-short d names t s = omega (arith, stores-few _ s, module-few d names (forest 0 t), count-forest 0 t)
 
 -- as much of some bytes as a table has at most
 module _ (t : List ℕ) where
@@ -34,9 +36,9 @@ module _ (t : List ℕ) where
   within-short w-is = rw w-is (simp length-take (omega arith))
 
 -- the pass alone, over so much
-pub pass-all : (d : Dialect) (names t : List ℕ) {w xs ys : List ℕ} {n : ℕ} → w ≡ take 50400 t
-    → Stores («validate_module» d names (forest 0 w)) xs n ys
-    → (n ≡ length (passErrors d names t)) × (ys ≡ stored (passErrors d names t) xs)
+pub pass-all : {l : Listing} (d : Dialect) (names t : List ℕ) {w xs ys : List ℕ} {n : ℕ} → w ≡ take 50400 t
+    → Stores l («validate_module» d names (forest 0 w)) xs n ys
+    → (n ≡ length (kept l (passErrors d names t))) × (ys ≡ stored l (kept l (passErrors d names t)) xs)
 unfolding passErrors
 pass-all d names t w-is s = (rw (← w-is) (s .count), rw (← w-is) (s .words))
 
@@ -53,10 +55,10 @@ Promised t names bytes xs r ys = (r ≡ moduleOf t names bytes) × (ys ≡ error
 module _ (t names bytes xs : List ℕ) {g : Given} (g-is : given g ≡ givenOf t names bytes) where
   pub job-refused : {why : Refusal} → g ≡ Away why → Promised t names bytes xs (refusal why) xs
   unfolding errorsOf
-  job-refused h = let told = away-is t names bytes g-is h in (rw told refl, rw told (sym (stored-none xs)))
+  job-refused h = let told = away-is t names bytes g-is h in (rw told refl, rw told (sym (stored-none Module xs)))
 
   pub job-total : {d : Dialect} {n : ℕ} {ys : List ℕ} → g ≡ In d → n ≡ length (passErrors d names t)
-      → ys ≡ stored (passErrors d names t) xs → Promised t names bytes xs (accepted (n ∷ [])) ys
+      → ys ≡ stored Module (passErrors d names t) xs → Promised t names bytes xs (accepted (n ∷ [])) ys
   unfolding errorsOf
   job-total {d} h count words =
       let told = in-is t names bytes g-is h in

@@ -1,4 +1,5 @@
 pub mod Bounds
+pub mod Refusals
 pub mod Lists
 pub mod Walks
 pub mod Jobs

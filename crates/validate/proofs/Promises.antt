@@ -4,7 +4,8 @@ use mathlib.Core.List.{List}
 use Prim.Native.Nat.{ℕ}
 use lib.ListN.{length}
 use Rattle.dialect.specs.declared.Dialect.{Dialect}
-use Rattle.errors.specs.Errors.{stored}
+use Rattle.errors.specs.Errors.{kept, stored}
+use Rattle.errors.specs.declared.Listing.{Listing}
 use Rattle.fields.proofs.Coincide.{coincide, coincide-by}
 use Rattle.table.proofs.Answers.{refusal-injective, never-accepted}
 use Rattle.validate.specs.Job.{listed, passErrors, moduleOf, errorsAfter}
@@ -26,8 +27,10 @@ module-one table names dialect errors r-is errors-is s-is errors-are =
     (coincide-by listed listed-injective r-is s-is, coincide errors-is errors-are)
 
 -- of `pass`
-pub pass-one : (table names : List ℕ) (d : Dialect) (errors : List ℕ) {r s : ℕ} {errors-r errors-s : List ℕ}
-    → r ≡ length (passErrors d names table) → errors-r ≡ stored (passErrors d names table) errors
-    → s ≡ length (passErrors d names table) → errors-s ≡ stored (passErrors d names table) errors
-    → (r ≡ s) × (errors-r ≡ errors-s)
-pass-one table names d errors r-is errors-is s-is errors-are = (coincide r-is s-is, coincide errors-is errors-are)
+pub pass-one : (listing : Listing) (table names : List ℕ) (d : Dialect) (errors : List ℕ) {r s : ℕ}
+    {errors-r errors-s : List ℕ} → r ≡ length (kept listing (passErrors d names table))
+    → errors-r ≡ stored listing (kept listing (passErrors d names table)) errors
+    → s ≡ length (kept listing (passErrors d names table))
+    → errors-s ≡ stored listing (kept listing (passErrors d names table)) errors → (r ≡ s) × (errors-r ≡ errors-s)
+pass-one listing table names d errors r-is errors-is s-is errors-are =
+    (coincide r-is s-is, coincide errors-is errors-are)

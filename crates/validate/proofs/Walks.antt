@@ -16,11 +16,11 @@ use Rattle.forest.proofs.Stretch.{forest-none, kids-part, rest-part, length-kid
 use Rattle.soundness.specs.KindNumbers.{kindDef, kindFor, kindIf, kindIfElse, kindBreak, kindContinue, kindReturn}
 use Rattle.soundness.specs.KindNumbers.{kindLoad, kindEllipsis, kindLambda}
 use Rattle.soundness.specs.Kinds.{statement, kindIn, kindOf, classOf}
-use Rattle.table.specs.Answer.{spanAt}
 use Rattle.table.specs.Numbers.{defNotPermitted, ellipsisNotPermitted, lambdaNotPermitted}
 use Rattle.errors.specs.declared.Err.{Err}
+use Rattle.errors.specs.declared.Listing.{Listing}
 use Rattle.errors.specs.Errors.{errAt, unless, Stores}
-use Rattle.errors.proofs.Storing.{freeAt, after, back, stores-none, stores-both, unless-one}
+use Rattle.errors.proofs.Storing.{freeAt, after, back, stores-none, stores-both, stores-few, unless-one}
 use Rattle.errors.proofs.Storing.{Turns, turns-start, turns-on, turns-end, turns-few, turns-long}
 use Rattle.validate.specs.Inner.{StoresFew}
 use Rattle.validate.specs.Params.{withParams}
@@ -92,26 +92,26 @@ unfolding expr
 expressions d names = record { empty = refl; first = λ t ts. refl; short = λ i t. exprs-few d names i t }
 
 -- a tree is told little
-module _ (d : Dialect) (names : List ℕ) (i : ℕ) (t : List ℕ) {xs ys : List ℕ} {n : ℕ} where
-  pub f-short : (s : Standing) → Stores (f d names s (treeOf i t)) xs n ys → 12 * n ≤ 24 + length t
-  f-short s q = omega (arith, q .count, first-few d names i t s)
+module _ {l : Listing} (d : Dialect) (names : List ℕ) (i : ℕ) (t : List ℕ) {xs ys : List ℕ} {n : ℕ} where
+  pub f-short : (s : Standing) → Stores l (f d names s (treeOf i t)) xs n ys → 12 * n ≤ 24 + length t
+  f-short s q = omega (arith, stores-few _ q, first-few d names i t s)
 
-  pub expr-short : Stores (expr d names (treeOf i t)) xs n ys → 12 * n ≤ 24 + length t
-  expr-short q = omega (arith, q .count, first-few d names i t inDef)
+  pub expr-short : Stores l (expr d names (treeOf i t)) xs n ys → 12 * n ≤ 24 + length t
+  expr-short q = omega (arith, stores-few _ q, first-few d names i t inDef)
 
 -- nodes side by side in a loop: of the whole, those of what is left of t come next
-pub record Visiting (all : Forest → List Err) (one : Tree → List Err) (whole : List Err) (t xs₀ left : List ℕ)
-    (place total : ℕ) (xs : List ℕ) : Type 0 where
+pub record Visiting (l : Listing) (all : Forest → List Err) (one : Tree → List Err) (whole : List Err)
+    (t xs₀ left : List ℕ) (place total : ℕ) (xs : List ℕ) : Type 0 where
   pub walk : Walk all one
   pub within : 24 * place + length left ≤ 50400
   pub part : length left ≤ length t
   pub most : length whole ≤ 4200
   pub few : total ≤ 4200
-  pub turns : Turns whole xs₀ (all (forest place left)) total xs
+  pub turns : Turns l whole xs₀ (all (forest place left)) total xs
 
-module _ {all : Forest → List Err} {one : Tree → List Err} where
+module _ {l : Listing} {all : Forest → List Err} {one : Tree → List Err} where
   pub each-start : Walk all one → {at : ℕ} {t xs : List ℕ} → 24 * at + length t ≤ 50400
-      → Visiting all one (all (forest at t)) t xs t at 0 xs
+      → Visiting l all one (all (forest at t)) t xs t at 0 xs
   each-start w {at} {t} {xs} h = record {
     walk = w;
     within = h;
@@ -122,19 +122,19 @@ module _ {all : Forest → List Err} {one : Tree → List Err} where
   }
 
   module _ {whole : List Err} {t xs₀ left : List ℕ} {place total : ℕ} {xs : List ℕ}
-      (v : Visiting all one whole t xs₀ left place total xs) where
+      (v : Visiting l all one whole t xs₀ left place total xs) where
     pub each-long : length xs ≡ length xs₀
     each-long = turns-long (v .turns)
 
-    pub each-end : length left < 24 → StoresFew 4200 whole xs₀ total xs
+    pub each-end : length left < 24 → StoresFew l 4200 whole xs₀ total xs
     each-end h = record {
       few = v .few;
       stores = turns-end (v .turns) (rw (forest-none place left h) (v .walk .empty));
     }
 
-    pub each-on : 24 ≤ length left → {n free : ℕ} {zs : List ℕ} → free ≡ freeAt total xs
-        → Stores (one (treeOf place left)) (after free xs) n zs → {e : ℕ} → e ≡ spanOf left
-        → Visiting all one whole t xs₀ (after e left) (place + e / 24) (total + n)
+    pub each-on : 24 ≤ length left → {n free : ℕ} {zs : List ℕ} → free ≡ freeAt l total xs
+        → Stores l (one (treeOf place left)) (after free xs) n zs → {e : ℕ} → e ≡ spanOf left
+        → Visiting l all one whole t xs₀ (after e left) (place + e / 24) (total + n)
         (back free xs zs)
     each-on big free-is s {e} e-is =
         let next = turns-on (v .turns) (each-cut all place e left one _++_ (v .walk .first) big e-is) free-is s in
@@ -157,9 +157,9 @@ made e t = take (e - 24) (drop 24 t)
 -- the first node of a stretch, if it is a statement: by its arm
 module _ (d : Dialect) (names : List ℕ) (s : Standing) (i : ℕ) (t : List ℕ) {k : ℕ} (k-is : k ≡ nodeOf 0 t .kind)
     {b : Bool} (b-is : b ≡ eqb (classOf k) statement) where
-  pub f-none : b ≡ false → {xs : List ℕ} → Stores (f d names s (treeOf i t)) xs 0 xs
+  pub f-none : b ≡ false → {l : Listing} {xs : List ℕ} → Stores l (f d names s (treeOf i t)) xs 0 xs
   unfolding f
-  f-none h {xs} = rw (← k-is, ← b-is, h) (stores-none xs)
+  f-none h {l} {xs} = rw (← k-is, ← b-is, h) (stores-none xs)
 
   module _ (is-one : b ≡ true) {a : Arm} (a-is : a ≡ armOf d s k) where
     opened : f d names s (treeOf i t)
@@ -167,64 +167,67 @@ module _ (d : Dialect) (names : List ℕ) (s : Standing) (i : ℕ) (t : List ℕ
     unfolding f
     opened = rw (← k-is, ← b-is, is-one, a-is) refl
 
-    module _ {m : ℕ} {xs ys : List ℕ} where
-      pub f-load : a ≡ Load → Stores (loadErrors d s (nodeOf 0 t)) xs m ys → Stores (f d names s (treeOf i t)) xs m ys
+    module _ {l : Listing} {m : ℕ} {xs ys : List ℕ} where
+      pub f-load : a ≡ Load → Stores l (loadErrors d s (nodeOf i t)) xs m ys
+          → Stores l (f d names s (treeOf i t)) xs m ys
       f-load h q = rw (opened, h) q
 
-      pub f-told : {n : ℕ} → a ≡ Told n → Stores (errAt n (nodeOf 0 t) ∷ []) xs m ys
-          → Stores (f d names s (treeOf i t)) xs m ys
+      pub f-told : {n : ℕ} → a ≡ Told n → Stores l (errAt n (nodeOf i t) ∷ []) xs m ys
+          → Stores l (f d names s (treeOf i t)) xs m ys
       f-told h q = rw (opened, h) q
 
       module _ {e : ℕ} (e-is : e ≡ spanOf t) where
         pub f-below : {p : Standing} → a ≡ Below p
-            → Stores («visit_stmt» d names p (forest (i + 1) (made e t))) xs m ys
-            → Stores (f d names s (treeOf i t)) xs m ys
+            → Stores l («visit_stmt» d names p (forest (i + 1) (made e t))) xs m ys
+            → Stores l (f d names s (treeOf i t)) xs m ys
         f-below h q = rw (opened, h, ← kids-part e t e-is) q
 
         pub f-def : a ≡ Def → {n at : ℕ} {zs : List ℕ}
-            → Stores (withParams d names (d .«enable_def») defNotPermitted (nodeOf i t) (children i t)) xs m ys
-            → at ≡ freeAt m ys
-            → Stores («visit_stmt» d names inDef (forest (i + 1) (made e t)))
+            → Stores l (withParams d names (d .«enable_def») defNotPermitted (nodeOf i t) (children i t)) xs m ys
+            → at ≡ freeAt l m ys
+            → Stores l («visit_stmt» d names inDef (forest (i + 1) (made e t)))
             (after at ys) n zs
-            → Stores (f d names s (treeOf i t)) xs (m + n) (back at ys zs)
+            → Stores l (f d names s (treeOf i t)) xs (m + n) (back at ys zs)
         f-def h q at-is z =
             rw (opened, h) (stores-both _ _ q at-is (rw (kids-part e t e-is) at z))
 
 -- the first record of a stretch by itself, as an expression
-module _ (d : Dialect) (names : List ℕ) (i : ℕ) (t : List ℕ) {k : ℕ} (k-is : k ≡ nodeOf 0 t .kind) where
-  pub own-ellipsis : k ≡ kindEllipsis → {b : Bool} → b ≡ permitsTypes (d .«enable_types») → {m : ℕ} {xs ys : List ℕ}
-      → Stores (unless b ellipsisNotPermitted (nodeOf 0 t)) xs m ys
-      → StoresFew (2 + length t / 24) (exprErrors d names (nodeOf i t) (children i t)) xs m ys
-  unfolding exprErrors
-  own-ellipsis h {b} b-is s =
-      rw (← k-is, eq-eqb k kindEllipsis h, ← b-is)
-      record { few = omega (arith, unless-one b ellipsisNotPermitted (spanAt (nodeOf 0 t)) s); stores = s }
+module _ {l : Listing} (d : Dialect) (names : List ℕ) (i : ℕ) (t : List ℕ) {k : ℕ} (k-is : k ≡ nodeOf 0 t .kind)
+  where
+    pub own-ellipsis : k ≡ kindEllipsis → {b : Bool} → b ≡ permitsTypes (d .«enable_types») → {m : ℕ} {xs ys : List ℕ}
+        → Stores l (unless b ellipsisNotPermitted (nodeOf i t)) xs m ys
+        → StoresFew l (2 + length t / 24) (exprErrors d names (nodeOf i t) (children i t)) xs m ys
+    unfolding exprErrors
+    own-ellipsis h {b} b-is s =
+        rw (← k-is, eq-eqb k kindEllipsis h, ← b-is)
+        record { few = omega (arith, unless-one b (errAt ellipsisNotPermitted (nodeOf i t)) s); stores = s }
 
-  pub own-lambda : k ≡ kindLambda → {most m : ℕ} {xs ys : List ℕ}
-      → StoresFew most (withParams d names (d .«enable_lambda») lambdaNotPermitted (nodeOf i t) (children i t)) xs m ys
-      → StoresFew most (exprErrors d names (nodeOf i t) (children i t)) xs m ys
-  unfolding exprErrors withParams
-  own-lambda h s = rw (← k-is, h) s
+    pub own-lambda : k ≡ kindLambda → {most m : ℕ} {xs ys : List ℕ}
+        → StoresFew l most (withParams d names (d .«enable_lambda») lambdaNotPermitted (nodeOf i t) (children i t)) xs
+        m ys
+        → StoresFew l most (exprErrors d names (nodeOf i t) (children i t)) xs m ys
+    unfolding exprErrors withParams
+    own-lambda h s = rw (← k-is, h) s
 
-  pub own-other : (k ≡ kindEllipsis → ⊥) → (k ≡ kindLambda → ⊥) → {xs : List ℕ}
-      → StoresFew (2 + length t / 24) (exprErrors d names (nodeOf i t) (children i t)) xs 0 xs
-  unfolding exprErrors
-  own-other no-ellipsis no-lambda {xs} =
-      rw (← k-is, ne-eqb k kindEllipsis no-ellipsis, ne-eqb k kindLambda no-lambda)
-      record { few = omega arith; stores = stores-none xs }
+    pub own-other : (k ≡ kindEllipsis → ⊥) → (k ≡ kindLambda → ⊥) → {xs : List ℕ}
+        → StoresFew l (2 + length t / 24) (exprErrors d names (nodeOf i t) (children i t)) xs 0 xs
+    unfolding exprErrors
+    own-other no-ellipsis no-lambda {xs} =
+        rw (← k-is, ne-eqb k kindEllipsis no-ellipsis, ne-eqb k kindLambda no-lambda)
+        record { few = omega arith; stores = stores-none xs }
 
 -- and then all below it, if there is any
-module _ (d : Dialect) (names : List ℕ) (i : ℕ) (t : List ℕ) {e : ℕ} (e-is : e ≡ spanOf t) {m : ℕ}
-    {xs ys : List ℕ} (own : Stores (exprErrors d names (nodeOf i t) (children i t)) xs m ys) where
-  pub expr-leaf : e ≤ 24 → Stores (expr d names (treeOf i t)) xs m ys
+module _ {l : Listing} (d : Dialect) (names : List ℕ) (i : ℕ) (t : List ℕ) {e : ℕ} (e-is : e ≡ spanOf t) {m : ℕ}
+    {xs ys : List ℕ} (own : Stores l (exprErrors d names (nodeOf i t) (children i t)) xs m ys) where
+  pub expr-leaf : e ≤ 24 → Stores l (expr d names (treeOf i t)) xs m ys
   unfolding expr
   expr-leaf h =
       let no : length (kidsOf t) < 24 = omega (arith, length-kids t) in
       let nothing : «visit_expr» d names (children i t) ≡ [] = rw (forest-none (i + 1) (kidsOf t) no) refl in
       rw (nothing, append-nil) own
 
-  pub expr-on : {n at : ℕ} {zs : List ℕ} → at ≡ freeAt m ys
-      → Stores («visit_expr» d names (forest (i + 1) (made e t))) (after at ys) n zs
-      → Stores (expr d names (treeOf i t)) xs (m + n) (back at ys zs)
+  pub expr-on : {n at : ℕ} {zs : List ℕ} → at ≡ freeAt l m ys
+      → Stores l («visit_expr» d names (forest (i + 1) (made e t))) (after at ys) n zs
+      → Stores l (expr d names (treeOf i t)) xs (m + n) (back at ys zs)
   unfolding expr
   expr-on at-is z = stores-both _ _ own at-is (rw (kids-part e t e-is) at z)

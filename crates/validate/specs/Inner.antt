@@ -2,9 +2,10 @@
 use mathlib.Core.List.{List}
 use Prim.Native.Nat.{ℕ, _≤_}
 use Rattle.errors.specs.declared.Err.{Err}
+use Rattle.errors.specs.declared.Listing.{Listing}
 use Rattle.errors.specs.Errors.{Stores}
 
--- a check that finds the errors es, and these are no more than most
-pub record StoresFew (most : ℕ) (es : List Err) (xs : List ℕ) (total : ℕ) (ys : List ℕ) : Type 0 where
+-- a check that finds the errors es, and counts no more than most
+pub record StoresFew (l : Listing) (most : ℕ) (es : List Err) (xs : List ℕ) (total : ℕ) (ys : List ℕ) : Type 0 where
   pub few : total ≤ most
-  pub stores : Stores es xs total ys
+  pub stores : Stores l es xs total ys

@@ -8,6 +8,7 @@ use Rattle.table.specs.Answer.{Answer, accepted, refusal}
 use Rattle.table.specs.Check.{mostBytes, Handing, inDialect, turnedAway, givenOf, inGiven}
 use Rattle.errors.specs.declared.Err.{Err}
 use Rattle.errors.specs.Errors.{stored}
+use Rattle.errors.specs.declared.Listing.the-variants.{Module}
 use Rattle.validate.specs.Module.{«validate_module»}
 use Rattle.validate.specs.declared.Listed.{Listed}
 use Rattle.validate.specs.declared.Listed.the-variants.{Total, Refused}
@@ -33,6 +34,6 @@ errorsOf t names bytes = errorsIn (givenOf t names bytes) names t
 abbrev pub moduleOf : List ℕ → List ℕ → List ℕ → Answer
 moduleOf t names bytes = inGiven (givenOf t names bytes) (λ _. accepted (length (errorsOf t names bytes) ∷ []))
 
--- the list of words at exit
+-- the list of words at exit, three an error
 abbrev pub errorsAfter : List ℕ → List ℕ → List ℕ → List ℕ → List ℕ
-errorsAfter t names bytes words = stored (errorsOf t names bytes) words
+errorsAfter t names bytes words = stored Module (errorsOf t names bytes) words

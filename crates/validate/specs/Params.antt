@@ -56,7 +56,7 @@ marks d m ps = if' (permits d m) (λ _. []) (λ _. everyMark m ps)
 -- unpack's one error, if it has one
 abbrev pub unpackError : Judged → List Err
 unpackError (Accepted c) = []
-unpackError (Refused f) = err (f .number) (f .span) ∷ []
+unpackError (Refused f) = err (f .number) (f .node) (f .span) ∷ []
 
 -- every 50, then every 51, then unpack's one error
 unfoldable pub «validate_params» : Dialect → List Param → List Err

@@ -6,6 +6,7 @@
 // Licensed under Apache-2.0.
 use crate::params;
 use dialect::Dialect;
+use errors::Listing;
 use forest::RECORD;
 use soundness::kinds;
 use table::numbers;
@@ -19,9 +20,16 @@ ghost use Rattle.validate.specs.Module.{exprErrors, expr, «visit_expr»
 ghost use Rattle.table.specs.Check.{Headed, Within, mostNodes};
 
 // What the record that a stretch begins with is told by itself: `...`, or a lambda and its parameters.
-fn expr_errors(d: Dialect, names: &[u8], t: &[u8], at: usize, errors: &mut [u32]) -> usize
-    requires { ⌜ Within at (now t) ⌝ }
-    ensures { λ r. ⌜ StoresFew (2 + length (now (t .entry)) / recordBytes)
+fn expr_errors(
+    listing: Listing,
+    d: Dialect,
+    names: &[u8],
+    t: &[u8],
+    at: usize,
+    errors: &mut [u32],
+) -> usize
+    requires { ⌜ Headed at (now t) ⌝ }
+    ensures { λ r. ⌜ StoresFew listing (2 + length (now (t .entry)) / recordBytes)
         (exprErrors d (now (names .entry)) (nodeOf at (now (t .entry))) (forest (at + 1) (kidsOf (now (t .entry)))))
         (now (errors .entry)) r (now (errors .exit)) ⌝ }
 {
@@ -29,11 +37,12 @@ fn expr_errors(d: Dialect, names: &[u8], t: &[u8], at: usize, errors: &mut [u32]
         kinds::ELLIPSIS => {
             let types = d.enable_types;
             let permitted = dialect::permits_types(types);
-            errors::push_unless(permitted, numbers::ELLIPSIS_NOT_PERMITTED, t, errors)
+            let number = numbers::ELLIPSIS_NOT_PERMITTED;
+            errors::push_unless(listing, permitted, number, t, at as u32, errors)
         }
         kinds::LAMBDA => {
             let number = numbers::LAMBDA_NOT_PERMITTED;
-            params::with_params(d.enable_lambda, number, d, names, t, at as u32, errors)
+            params::with_params(listing, d.enable_lambda, number, d, names, t, at, errors)
         }
         _ => 0,
     }
@@ -41,6 +50,7 @@ fn expr_errors(d: Dialect, names: &[u8], t: &[u8], at: usize, errors: &mut [u32]
 
 // The record that a stretch begins with, and then all below it: the inner expr. Its tree takes e bytes.
 fn check_expression(
+    listing: Listing,
     d: Dialect,
     names: &[u8],
     t: &[u8],
@@ -50,31 +60,46 @@ fn check_expression(
 ) -> usize
     requires { ⌜ Headed at (now t) ⌝ }
     requires { ⌜ e ≡ spanOf (now t) ⌝ }
-    ensures { λ r. ⌜ Stores (expr d (now (names .entry)) (treeOf at (now (t .entry)))) (now (errors .entry)) r
+    ensures { λ r. ⌜ Stores listing (expr d (now (names .entry)) (treeOf at (now (t .entry)))) (now (errors .entry)) r
         (now (errors .exit)) ⌝ }
 {
-    let own = expr_errors(d, names, t, at, errors);
+    let own = expr_errors(listing, d, names, t, at, errors);
     if e <= RECORD {
         return own;
     }
-    let free = errors::free(errors.len(), own);
-    let below = visit_expr(d, names, &t[RECORD..e], at + 1, &mut errors[free..]);
+    let free = errors::free(listing, errors.len(), own);
+    let below = visit_expr(
+        listing,
+        d,
+        names,
+        &t[RECORD..e],
+        at + 1,
+        &mut errors[free..],
+    );
     own + below
 }
 
 // The expressions of the nodes side by side in a stretch whose first record has the index at, in turn.
-pub(crate) fn visit_expr(d: Dialect, names: &[u8], t: &[u8], at: usize, errors: &mut [u32]) -> usize
+pub(crate) fn visit_expr(
+    listing: Listing,
+    d: Dialect,
+    names: &[u8],
+    t: &[u8],
+    at: usize,
+    errors: &mut [u32],
+) -> usize
     requires { ⌜ Within at (now t) ⌝ }
-    ensures { λ r. ⌜ StoresFew (2 * mostNodes) («visit_expr» d (now (names .entry)) (forest at (now (t .entry))))
+    ensures { λ r. ⌜ StoresFew listing (2 * mostNodes)
+        («visit_expr» d (now (names .entry)) (forest at (now (t .entry))))
         (now (errors .entry)) r (now (errors .exit)) ⌝ }
 {
     let mut left = t;
     let mut place = at;
     let mut total = 0;
     while RECORD <= left.len() {
-        let free = errors::free(errors.len(), total);
+        let free = errors::free(listing, errors.len(), total);
         let e = forest::span(left);
-        total += check_expression(d, names, left, e, place, &mut errors[free..]);
+        total += check_expression(listing, d, names, left, e, place, &mut errors[free..]);
         left = &left[e..];
         place += e / RECORD;
     }

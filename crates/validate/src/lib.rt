@@ -10,6 +10,7 @@ mod params;
 mod statements;
 
 use dialect::Dialect;
+use errors::Listing;
 use table::Given;
 use table::MOST_BYTES;
 use table::Refusal;
@@ -17,7 +18,7 @@ ghost use mathlib.Core.Path.{_≡_};
 ghost use Prim.Native.Nat.{_≤_};
 ghost use lib.ListN.{length, take};
 ghost use Rattle.forest.specs.Forest.{forest};
-ghost use Rattle.errors.specs.Errors.{stored, Stores};
+ghost use Rattle.errors.specs.Errors.{kept, stored, Stores};
 ghost use Rattle.validate.specs.Module.{«validate_module»};
 ghost use Rattle.validate.specs.Job.{listed, passErrors, moduleOf, errorsAfter};
 ghost use Rattle.table.specs.Check.{mostBytes};
@@ -57,19 +58,19 @@ pub fn module(table: &[u8], names: &[u8], dialect: &[u8], errors: &mut [u32]) ->
 {
     let entered = table::enter_dialect(table, names, dialect);
     match entered {
-        Given::In(d) => Listed::Total(pass(table, names, d, errors)),
+        Given::In(d) => Listed::Total(pass(Listing::Module, table, names, d, errors)),
         Given::Refused(why) => Listed::Refused(why),
     }
 }
 
-// The module pass alone, for who has checked 1 to 5 before: how many errors there are. It takes any bytes, and looks at
-// no more of them than a table has at most.
-pub fn pass(table: &[u8], names: &[u8], d: Dialect, errors: &mut [u32]) -> u32
-    ensures { λ r. ⌜ r ≡ length (passErrors d (now (names .entry)) (now (table .entry))) ⌝ }
+// The module pass alone, for who has checked 1 to 5 before: how many errors there are that the form of the list keeps.
+// It takes any bytes, and looks at no more of them than a table has at most.
+pub fn pass(listing: Listing, table: &[u8], names: &[u8], d: Dialect, errors: &mut [u32]) -> u32
+    ensures { λ r. ⌜ r ≡ length (kept listing (passErrors d (now (names .entry)) (now (table .entry)))) ⌝ }
     ensures { λ r. ⌜ now (errors .exit) ≡
-        stored (passErrors d (now (names .entry)) (now (table .entry))) (now (errors .entry)) ⌝ }
+        stored listing (kept listing (passErrors d (now (names .entry)) (now (table .entry)))) (now (errors .entry)) ⌝ }
 {
-    let total = validate_module(d, names, within(table), errors);
+    let total = validate_module(listing, d, names, within(table), errors);
     total as u32
 }
 
@@ -84,9 +85,15 @@ fn within(t: &[u8]) -> &[u8]
 }
 
 // The statements, then the expressions, which are lent what the statements leave free.
-fn validate_module(d: Dialect, names: &[u8], table: &[u8], errors: &mut [u32]) -> usize
+fn validate_module(
+    listing: Listing,
+    d: Dialect,
+    names: &[u8],
+    table: &[u8],
+    errors: &mut [u32],
+) -> usize
     requires { ⌜ length (now table) ≤ mostBytes ⌝ }
-    ensures { λ r. ⌜ Stores («validate_module» d (now (names .entry)) (forest 0 (now (table .entry))))
+    ensures { λ r. ⌜ Stores listing («validate_module» d (now (names .entry)) (forest 0 (now (table .entry))))
         (now (errors .entry)) r (now (errors .exit)) ⌝ }
 {
     let top = Standing {
@@ -94,8 +101,8 @@ fn validate_module(d: Dialect, names: &[u8], table: &[u8], errors: &mut [u32]) -
         inside_for: false,
         inside_def: false,
     };
-    let first = statements::visit_stmt(d, names, table, 0, top, errors);
-    let at = errors::free(errors.len(), first);
-    let rest = expressions::visit_expr(d, names, table, 0, &mut errors[at..]);
+    let first = statements::visit_stmt(listing, d, names, table, 0, top, errors);
+    let at = errors::free(listing, errors.len(), first);
+    let rest = expressions::visit_expr(listing, d, names, table, 0, &mut errors[at..]);
     first + rest
 }

@@ -8,6 +8,7 @@ use crate::Arm;
 use crate::Standing;
 use crate::params;
 use dialect::Dialect;
+use errors::Listing;
 use forest::RECORD;
 use soundness::kinds;
 use table::numbers;
@@ -74,19 +75,29 @@ fn arm_of(d: Dialect, s: Standing, kind: u8) -> Arm
 }
 
 // A load that is not at the top, and then one that the dialect does not permit.
-fn load_errors(d: Dialect, s: Standing, t: &[u8], errors: &mut [u32]) -> usize
-    ensures { λ r. ⌜ Stores (loadErrors d s (nodeOf 0 (now (t .entry))))
+fn load_errors(
+    listing: Listing,
+    d: Dialect,
+    s: Standing,
+    t: &[u8],
+    at: u32,
+    errors: &mut [u32],
+) -> usize
+    ensures { λ r. ⌜ Stores listing (loadErrors d s (nodeOf at (now (t .entry))))
         (now (errors .entry)) r (now (errors .exit)) ⌝ }
 {
-    let first = errors::push_unless(s.top_level, numbers::LOAD_NOT_AT_TOP, t, errors);
-    let free = errors::free(errors.len(), first);
+    let not_at_top = numbers::LOAD_NOT_AT_TOP;
+    let first = errors::push_unless(listing, s.top_level, not_at_top, t, at, errors);
+    let free = errors::free(listing, errors.len(), first);
     let left = &mut errors[free..];
-    let rest = errors::push_unless(d.enable_load, numbers::LOAD_NOT_PERMITTED, t, left);
+    let not_permitted = numbers::LOAD_NOT_PERMITTED;
+    let rest = errors::push_unless(listing, d.enable_load, not_permitted, t, at, left);
     first + rest
 }
 
 // The statement that a stretch begins with, if it begins with one: the inner f. Its tree takes e bytes.
 fn check_statement(
+    listing: Listing,
     d: Dialect,
     names: &[u8],
     t: &[u8],
@@ -97,7 +108,7 @@ fn check_statement(
 ) -> usize
     requires { ⌜ Headed at (now t) ⌝ }
     requires { ⌜ e ≡ spanOf (now t) ⌝ }
-    ensures { λ r. ⌜ Stores (f d (now (names .entry)) s (treeOf at (now (t .entry)))) (now (errors .entry)) r
+    ensures { λ r. ⌜ Stores listing (f d (now (names .entry)) s (treeOf at (now (t .entry)))) (now (errors .entry)) r
         (now (errors .exit)) ⌝ }
 {
     let kind = forest::kind(t);
@@ -108,31 +119,34 @@ fn check_statement(
     match arm {
         Arm::Def => {
             let first = params::with_params(
+                listing,
                 d.enable_def,
                 numbers::DEF_NOT_PERMITTED,
                 d,
                 names,
                 t,
-                at as u32,
+                at,
                 errors,
             );
-            let free = errors::free(errors.len(), first);
+            let free = errors::free(listing, errors.len(), first);
             let body = Standing {
                 top_level: false,
                 inside_for: false,
                 inside_def: true,
             };
-            let rest = visit_stmt(d, names, &t[RECORD..e], at + 1, body, &mut errors[free..]);
+            let below = &t[RECORD..e];
+            let rest = visit_stmt(listing, d, names, below, at + 1, body, &mut errors[free..]);
             first + rest
         }
-        Arm::Load => load_errors(d, s, t, errors),
-        Arm::Told(number) => errors::push_at(number, t, errors),
-        Arm::Below(place) => visit_stmt(d, names, &t[RECORD..e], at + 1, place, errors),
+        Arm::Load => load_errors(listing, d, s, t, at as u32, errors),
+        Arm::Told(number) => errors::push_at(listing, number, t, at as u32, errors),
+        Arm::Below(place) => visit_stmt(listing, d, names, &t[RECORD..e], at + 1, place, errors),
     }
 }
 
 // The statements among the nodes side by side in a stretch whose first record has the index at, in turn.
 pub(crate) fn visit_stmt(
+    listing: Listing,
     d: Dialect,
     names: &[u8],
     t: &[u8],
@@ -141,16 +155,17 @@ pub(crate) fn visit_stmt(
     errors: &mut [u32],
 ) -> usize
     requires { ⌜ Within at (now t) ⌝ }
-    ensures { λ r. ⌜ StoresFew (2 * mostNodes) («visit_stmt» d (now (names .entry)) s (forest at (now (t .entry))))
+    ensures { λ r. ⌜ StoresFew listing (2 * mostNodes)
+        («visit_stmt» d (now (names .entry)) s (forest at (now (t .entry))))
         (now (errors .entry)) r (now (errors .exit)) ⌝ }
 {
     let mut left = t;
     let mut place = at;
     let mut total = 0;
     while RECORD <= left.len() {
-        let free = errors::free(errors.len(), total);
+        let free = errors::free(listing, errors.len(), total);
         let e = forest::span(left);
-        total += check_statement(d, names, left, e, place, s, &mut errors[free..]);
+        total += check_statement(listing, d, names, left, e, place, s, &mut errors[free..]);
         left = &left[e..];
         place += e / RECORD;
     }

@@ -1,5 +1,6 @@
 -- The writer, as request W-201 asks for it, over the promises of writer and reader, for every input:
 -- what is written reads back as the same table, names and dialect, none as none, so the reader does not refuse it;
+-- and is handed over so by `read_into`;
 -- each file that the reader accepts is written again to the same bytes;
 -- where 1 to 5 are passed it is refused, by 7, exactly if the blocks do not fit;
 -- a refusal changes no byte, and bytes past the blocks always stay. Assumes nothing.
@@ -16,11 +17,14 @@ use Rattle.table.specs.Answer.{accepted}
 use Rattle.table.specs.declared.Refusal.{Refusal}
 use Rattle.table.specs.declared.Refusal.the-variants.{Bare}
 use Rattle.tablefile.specs.File.{fileOf, mostBlocks}
-use Rattle.tablefile.specs.Reading.{soundCheck}
+use Rattle.tablefile.specs.Reading.{contentAt, soundCheck, readCheck}
+use Rattle.tablefile.specs.Lending.{intoCheck, handed}
 use Rattle.tablefile.specs.Loading.{loadedOf, held}
 use Rattle.tablefile.specs.declared.Loaded.{Loaded}
 use Rattle.tablefile.specs.declared.Verdict.the-variants as verdicts
 use Rattle.tablefile.proofs.Loads.{held-is}
+use Rattle.tablefile.proofs.Accepted.{SoundContent, back-holds, back-accepted}
+use Rattle.tablefile.proofs.Lends.{into-passed}
 use Rattle.tablefile.proofs.Theorems.{Read, accepted-is-file, accepted-is-sound, file-read-back}
 use Rattle.writer.specs.declared.Written.{Written}
 use Rattle.writer.specs.declared.Written.the-variants.{Accepted, Refused}
@@ -62,25 +66,52 @@ module _ (t names ds buffer : List ℕ) (r : Written) (after : List ℕ) (w : Wr
         ∙ take-at (fileOf (holding t names ds)) (drop n buffer) n (sym written-length)
 
     -- THEOREM: what is written reads back as the same table, names and dialect
-    module _ (table-bytes : Bytes t) (names-bytes : Bytes names) (dialect-bytes : Bytes ds) (s : Loaded)
-        (read : Read (take n after) s) where
-      pub reads-back : s ≡ loadedOf verdicts.Accepted (holding t names ds) n
-      reads-back =
-          let read′ : Read (fileOf (holding t names ds)) s = rw written-front at read in
-          file-read-back (holding t names ds) s record {
-            sound = says .sound;
-            table-bytes = table-bytes;
-            names-bytes = names-bytes;
-            dialect-bytes = dialect-bytes;
-          } read′ ∙ ap (loadedOf verdicts.Accepted (holding t names ds)) (sym written-length)
+    module _ (table-bytes : Bytes t) (names-bytes : Bytes names) (dialect-bytes : Bytes ds) where
+      sound-content : SoundContent (holding t names ds)
+      sound-content = record {
+        sound = says .sound;
+        table-bytes = table-bytes;
+        names-bytes = names-bytes;
+        dialect-bytes = dialect-bytes;
+      }
 
-      pub same-content : held s ≡ holding t names ds
-      same-content = ap held reads-back ∙ held-is (holding t names ds) n
+      module _ (s : Loaded) (read : Read (take n after) s) where
+        pub reads-back : s ≡ loadedOf verdicts.Accepted (holding t names ds) n
+        reads-back =
+            let read′ : Read (fileOf (holding t names ds)) s = rw written-front at read in
+            file-read-back (holding t names ds) s sound-content read′
+            ∙ ap (loadedOf verdicts.Accepted (holding t names ds)) (sym written-length)
 
-      -- THEOREM: so the reader does not refuse it
-      pub not-refused : s .verdict ≡ verdicts.Accepted
-      unfolding loadedOf
-      not-refused = ap (λ (l : Loaded). l .verdict) reads-back
+        pub same-content : held s ≡ holding t names ds
+        same-content = ap held reads-back ∙ held-is (holding t names ds) n
+
+        -- THEOREM: so the reader does not refuse it
+        pub not-refused : s .verdict ≡ verdicts.Accepted
+        unfolding loadedOf
+        not-refused = ap (λ (l : Loaded). l .verdict) reads-back
+
+      -- THEOREM: and `read_into` hands the same over, into buffers that table and names fit
+      pub back-content : contentAt (take n after) ≡ holding t names ds
+      back-content = ap contentAt written-front ∙ back-holds (holding t names ds) sound-content
+
+      pub back-read : readCheck (take n after) ≡ accepted []
+      back-read = ap readCheck written-front ∙ back-accepted (holding t names ds) sound-content
+
+      module _ (room-t room-n : List ℕ) (t-fits : length t ≤ length room-t)
+          (names-fit : length names ≤ length room-n) where
+        pub into-accepted : intoCheck (take n after) (length room-t) (length room-n) ≡ accepted []
+        into-accepted = into-passed (take n after) back-read (length room-t) (length room-n)
+            (rw back-content t-fits) (rw back-content names-fit)
+
+        pub hands-back-table : handed (intoCheck (take n after) (length room-t) (length room-n))
+            (contentAt (take n after) .table) room-t ≡ t ++ drop (length t) room-t
+        unfolding handed
+        hands-back-table = rw (into-accepted, back-content) refl
+
+        pub hands-back-names : handed (intoCheck (take n after) (length room-t) (length room-n))
+            (contentAt (take n after) .names) room-n ≡ names ++ drop (length names) room-n
+        unfolding handed
+        hands-back-names = rw (into-accepted, back-content) refl
 
     -- LAW: bytes past the blocks stay
     pub past-stays : drop n after ≡ drop n buffer

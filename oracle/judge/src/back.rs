@@ -1,6 +1,8 @@
 //! The crate's trees as records again: a table and its tree must have the same records, or a comparison
 //! would run on something else than the table says.
 
+use model::audit::Job;
+use model::audit::Place;
 use model::numbers::kind;
 use model::table::Table;
 use starlark_syntax::codemap::Span;
@@ -32,8 +34,8 @@ struct Row {
     node: usize,
 }
 
-/// Stops the run if the tree's records are not the table's.
-pub fn must_be_the_table(table: &Table, tree: &AstStmt) {
+/// Stops the run if the tree's records are not the table's. Else it says where the tree has what the audit looks at.
+pub fn must_be_the_table(table: &Table, tree: &AstStmt) -> Vec<Place> {
     let mut rows = Rows::default();
     rows.statement(tree);
     assert_eq!(rows.all.len(), table.records.len(), "a tree has a record for each of the table's");
@@ -45,6 +47,8 @@ pub fn must_be_the_table(table: &Table, tree: &AstStmt) {
         let expected = Row { kind, detail: record.detail, name: table.name(node).to_vec(), size, node };
         assert_eq!(*row, expected, "record {node} of a tree is the table's");
     }
+    rows.places.sort();
+    rows.places
 }
 
 #[derive(Default)]
@@ -52,9 +56,15 @@ struct Rows {
     all: Vec<Row>,
     /// Rows of targets that are tuples or lists.
     targets: Vec<usize>,
+    /// The tree's defs, lambdas, calls, assignments, targets of a `for` statement, and types.
+    places: Vec<Place>,
 }
 
 impl Rows {
+    fn place(&mut self, job: Job, span: Span) {
+        self.places.push(Place { node: marks::read_node(span), job });
+    }
+
     /// A record, and below it what `children` adds.
     fn record(&mut self, kind: u8, detail: u8, name: &str, span: Span, children: impl FnOnce(&mut Rows)) {
         let at = self.all.len();
@@ -86,11 +96,13 @@ impl Rows {
         match &tree.node {
             StmtP::Statements(all) => all.iter().for_each(|inner| self.statement(inner)),
             StmtP::Def(it) => {
+                self.place(Job::Params, tree.span);
                 it.params.iter().for_each(|param| self.parameter(param));
                 it.return_type.iter().for_each(|ty| self.type_expression(ty));
                 self.statement(&it.body);
             }
             StmtP::For(it) => {
+                self.place(Job::Target, it.var.span);
                 self.target(&it.var);
                 self.expression(&it.over);
                 self.statement(&it.body);
@@ -107,11 +119,13 @@ impl Rows {
             StmtP::Return(value) => value.iter().for_each(|value| self.expression(value)),
             StmtP::Expression(value) => self.expression(value),
             StmtP::Assign(it) => {
+                self.place(Job::Assignment, tree.span);
                 self.target(&it.lhs);
                 it.ty.iter().for_each(|ty| self.type_expression(ty));
                 self.expression(&it.rhs);
             }
             StmtP::AssignModify(lhs, _, rhs) => {
+                self.place(Job::Assignment, tree.span);
                 self.target(lhs);
                 self.expression(rhs);
             }
@@ -121,6 +135,7 @@ impl Rows {
 
     fn type_expression(&mut self, tree: &AstTypeExpr) {
         assert_eq!(tree.span, tree.node.expr.span);
+        self.place(Job::Type, tree.span);
         self.expression(&tree.node.expr);
     }
 
@@ -208,6 +223,7 @@ impl Rows {
             ExprP::Tuple(items) | ExprP::List(items) => self.expressions(items),
             ExprP::Dot(object, _) => self.expression(object),
             ExprP::Call(callee, args) => {
+                self.place(Job::Call, tree.span);
                 self.expression(callee);
                 args.args.iter().for_each(|arg| self.argument(arg));
             }
@@ -218,6 +234,7 @@ impl Rows {
                 self.expressions([start, stop, step].into_iter().flatten().map(|part| &**part));
             }
             ExprP::Lambda(it) => {
+                self.place(Job::Params, tree.span);
                 it.params.iter().for_each(|param| self.parameter(param));
                 self.expression(&it.body);
             }

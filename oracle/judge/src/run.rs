@@ -2,6 +2,8 @@
 
 use model::answer::Answer;
 use model::answer::Refusal;
+use model::audit::Job;
+use model::audit::Place;
 use model::jobs;
 use model::module::Error;
 use model::module::Listed;
@@ -202,13 +204,14 @@ fn write_shapes(
 pub struct Module<'a, 'n> {
     table: &'a Table<'n>,
     statement: AstStmt,
+    places: Vec<Place>,
 }
 
 impl<'a, 'n> Module<'a, 'n> {
     pub fn of(table: &'a Table<'n>) -> Built<Module<'a, 'n>> {
         let statement = marked(table).statement(0)?;
-        back::must_be_the_table(table, &statement);
-        Ok(Module { table, statement })
+        let places = back::must_be_the_table(table, &statement);
+        Ok(Module { table, statement, places })
     }
 
     /// The errors of the module pass: those of statements in the crate's order, those of each expression in
@@ -216,6 +219,63 @@ impl<'a, 'n> Module<'a, 'n> {
     pub fn validate(&self, dialect: &Dialect) -> Listed {
         listed(self.table, validate_module(&self.statement, dialect, codemap()))
     }
+}
+
+/// The crate's functions on every node that they fit, and its module pass.
+pub struct Audit<'a, 'n> {
+    table: &'a Table<'n>,
+    module: Built<Module<'a, 'n>>,
+}
+
+/// An error of the audit: number, node, begin, end.
+type Found = [u32; 4];
+
+impl<'a, 'n> Audit<'a, 'n> {
+    pub fn of(table: &'a Table<'n>) -> Audit<'a, 'n> {
+        Audit { table, module: Module::of(table) }
+    }
+
+    /// The whole list, where the whole table is a tree of the crate; where its functions are run is told by that tree.
+    pub fn answer(&self, dialect: &Dialect) -> Built<Answer> {
+        let module = self.module.as_ref().map_err(|none| *none)?;
+        let errors = module.validate(dialect);
+        let own = errors.in_order().filter(|error| !is_of_list(error.number)).map(|error| {
+            let (begin, end) = self.table.span(error.node);
+            [error.number, error.node as u32, begin, end]
+        });
+        let mut audited: Vec<Found> = own.collect();
+        for &place in &module.places {
+            audited.extend(refused_at(self.table, place, dialect)?);
+        }
+        let total = audited.len() as u32;
+        Ok(Answer { audited, ..Answer::accepted(vec![total]) })
+    }
+
+    /// Of a table that is no tree: what the crate says of those of these places that are.
+    pub fn parts<'s>(
+        &'s self,
+        dialect: &'s Dialect,
+        places: Vec<Place>,
+    ) -> impl Iterator<Item = (Place, Option<Found>)> + 's {
+        places.into_iter().filter_map(|place| Some((place, refused_at(self.table, place, dialect).ok()?)))
+    }
+}
+
+/// The numbers of parameter lists, which the module pass gives too.
+fn is_of_list(number: u32) -> bool {
+    (number::SLASH_FIRST..=number::STAR_NOT_FOLLOWED).contains(&number)
+}
+
+fn refused_at(table: &Table, place: Place, dialect: &Dialect) -> Built<Option<Found>> {
+    let answer = match place.job {
+        Job::Params => params(table, place.node),
+        Job::Call => call(table, place.node),
+        Job::Assignment => assignment(table, place.node),
+        Job::Target => target(table, place.node),
+        Job::Type => type_shape(table, place.node, dialect),
+    }?;
+    let words = |answer: Answer| [answer.number, answer.words[0], answer.words[1], answer.words[2]];
+    Ok(Some(answer).filter(|answer| answer.number != 0).map(words))
 }
 
 fn listed(table: &Table, errors: Vec<EvalException>) -> Listed {
@@ -303,5 +363,21 @@ pub mod own_spans {
     pub fn module(table: &Table, dialect: &Dialect) -> Built<Vec<[u32; 3]>> {
         let errors = validate_module(&own(table).statement(0)?, dialect, codemap());
         Ok(errors.into_iter().map(words).collect())
+    }
+
+    pub fn audit(table: &Table, dialect: &Dialect) -> Built<Vec<[u32; 3]>> {
+        let places = Module::of(table)?.places;
+        let mut errors = module(table, dialect)?;
+        errors.retain(|error| !is_of_list(error[0]));
+        for place in places {
+            errors.extend(match place.job {
+                Job::Params => params(table, place.node),
+                Job::Call => call(table, place.node),
+                Job::Assignment => assignment(table, place.node),
+                Job::Target => target(table, place.node),
+                Job::Type => type_shape(table, place.node, dialect),
+            }?);
+        }
+        Ok(errors)
     }
 }

@@ -44,8 +44,12 @@ pub struct Answer {
     pub bytes: Vec<u8>,
     /// The module pass's errors: number, begin, end.
     pub errors: Vec<[u32; 3]>,
-    /// A table file, which goes to the start of the lent buffer byte by byte.
+    /// The audit's errors: number, node, begin, end.
+    pub audited: Vec<[u32; 4]>,
+    /// A table file, or a table that is read, which goes to the start of the lent buffer byte by byte.
     pub file: Vec<u8>,
+    /// Names that are read, which go to the start of the second lent buffer.
+    pub names: Vec<u8>,
     /// A binding, which goes to the start of the lent list word by word.
     pub list: Vec<u32>,
 }
@@ -88,12 +92,26 @@ impl Answer {
         }
     }
 
+    /// Writes the names that are read.
+    pub fn write_names(&self, lent: &mut [u8]) {
+        lent[..self.names.len()].copy_from_slice(&self.names);
+    }
+
     /// Writes the words of a binding, or the first errors that fit whole.
     pub fn write_list(&self, lent: &mut [u32]) {
         lent[..self.list.len()].copy_from_slice(&self.list);
         for (place, error) in lent.chunks_exact_mut(3).zip(&self.errors) {
             place.copy_from_slice(error);
         }
+        for (place, error) in lent.chunks_exact_mut(4).zip(&self.audited) {
+            place.copy_from_slice(error);
+        }
+    }
+
+    /// The numbers that it gives: its own, and those of its errors.
+    pub fn numbers(&self) -> impl Iterator<Item = u32> + '_ {
+        let of_errors = self.errors.iter().map(|error| error[0]).chain(self.audited.iter().map(|error| error[0]));
+        std::iter::once(self.number).chain(of_errors)
     }
 
     pub fn write_words(&self, out: &mut [u32; 12]) {

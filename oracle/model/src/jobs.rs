@@ -3,6 +3,7 @@
 use crate::answer::Answer;
 use crate::answer::Refusal;
 pub use crate::answer::NONE;
+use crate::audit;
 use crate::bind;
 use crate::call;
 use crate::call::Argument;
@@ -21,6 +22,7 @@ use crate::rescue;
 use crate::table::is_expression;
 use crate::table::Class;
 use crate::table::Table;
+use crate::table::RECORD_BYTES;
 use crate::targets;
 use crate::types;
 
@@ -62,7 +64,7 @@ fn params_of(table: &Table, owner: usize, modes: usize) -> Result<Answer, Refusa
 }
 
 /// 11 carries the first earlier parameter with an equal name.
-fn parameter_refusal(table: &Table, number: u32, nodes: &[usize], at: usize) -> Refusal {
+pub(crate) fn parameter_refusal(table: &Table, number: u32, nodes: &[usize], at: usize) -> Refusal {
     let refusal = table.refuse(number, nodes[at]);
     match first_equal(table, &nodes[..at], nodes[at]) {
         Some(_) if planted(Fault::EarlierIsThePlace) => refusal.with_earlier(at),
@@ -100,7 +102,7 @@ pub fn call(table: &[u8], names: &[u8], node: usize) -> Answer {
 }
 
 /// 22 has the name's span, and carries the first earlier argument with an equal name.
-fn argument_refusal(table: &Table, number: u32, nodes: &[usize], at: usize) -> Refusal {
+pub(crate) fn argument_refusal(table: &Table, number: u32, nodes: &[usize], at: usize) -> Refusal {
     let node = nodes[at];
     match first_equal(table, &nodes[..at], node) {
         Some(earlier) if number == number::REPEATED_NAMED => {
@@ -131,17 +133,17 @@ pub fn bind(table: &[u8], names: &[u8], call: usize, def: usize, room: usize) ->
 }
 
 /// The written children of one class, by their nodes.
-struct Written<'t, 'n> {
+pub(crate) struct Written<'t, 'n> {
     table: &'t Table<'n>,
-    nodes: Vec<usize>,
+    pub(crate) nodes: Vec<usize>,
 }
 
 impl<'t, 'n> Written<'t, 'n> {
-    fn of(table: &'t Table<'n>, owner: usize, class: Class) -> Written<'t, 'n> {
+    pub(crate) fn of(table: &'t Table<'n>, owner: usize, class: Class) -> Written<'t, 'n> {
         Written { table, nodes: table.children_of(owner, class).collect() }
     }
 
-    fn arguments(&self) -> Vec<Argument<'n>> {
+    pub(crate) fn arguments(&self) -> Vec<Argument<'n>> {
         let argument = |&node: &usize| Argument { kind: self.table.kind(node), name: self.table.name(node) };
         self.nodes.iter().map(argument).collect()
     }
@@ -243,6 +245,60 @@ pub fn rescue(input: &[u8], room: usize) -> Answer {
         let counts = [kept.file.len(), kept.statements, kept.nodes, kept.dropped].map(|count| count as u32);
         let after = [kept.bytes_after as u32, (kept.bytes_after >> 32) as u32];
         Ok(Answer { words: [&counts[..], &after].concat(), file: kept.file, ..Answer::default() })
+    }))
+}
+
+/// The audit: all errors, whatever fits, as in the module pass.
+pub fn audit(table: &[u8], names: &[u8], dialect: &[u8]) -> Answer {
+    answered(Table::check(table, names).and_then(|table| {
+        let dialect = dialect::from_bytes(dialect)?;
+        let audited: Vec<[u32; 4]> = audit::audit(&table, &dialect).iter().map(audit::words).collect();
+        let total = audited.len() as u32;
+        Ok(Answer { audited, ..Answer::accepted(vec![total]) })
+    }))
+}
+
+/// The reader, into buffers of so many bytes: its refusals, then 7.
+pub fn read(file: &[u8], table: usize, names: usize) -> Answer {
+    if planted(Fault::ReadShortFirst) && table < RECORD_BYTES {
+        return Answer::from(Refusal::bare(number::SHORT_BUFFER));
+    }
+    let read = file::read(file).map_err(|refusal| match planted(Fault::ReadNodeNotTold) {
+        true => Refusal::bare(refusal.number),
+        false => refusal,
+    });
+    answered(read.and_then(|held| {
+        long_enough(table, held.table.len())?;
+        long_enough(names, held.names.len())?;
+        let counts = [(held.table.len() / RECORD_BYTES) as u32, held.names.len() as u32];
+        let words = [&counts[..], &dialect_words(&held.dialect)].concat();
+        Ok(Answer { file: held.table, names: held.names, ..Answer::accepted(words) })
+    }))
+}
+
+/// Whether a dialect is there, and its nine bytes, four a word, low byte first; zeros where there is none.
+fn dialect_words(dialect: &[u8]) -> [u32; 4] {
+    let is_there = u32::from(!dialect.is_empty());
+    let row_for_none = dialect.is_empty() && planted(Fault::ReadRowForNone);
+    let mut bytes = if row_for_none { dialect::STANDARD.to_vec() } else { dialect.to_vec() };
+    bytes.resize(12, 0);
+    let word = |at: usize| {
+        let four = [bytes[at], bytes[at + 1], bytes[at + 2], bytes[at + 3]];
+        if planted(Fault::ReadHighByteFirst) { u32::from_be_bytes(four) } else { u32::from_le_bytes(four) }
+    };
+    [is_there, word(0), word(4), word(8)]
+}
+
+/// The reader, then the module pass over what the file holds.
+pub fn check_file(file: &[u8]) -> Answer {
+    answered(file::read(file).map(|held| {
+        let dialect: &[u8] = if planted(Fault::FileDialectUnread) { &[] } else { &held.dialect };
+        let mut answer = module(&held.table, &held.names, dialect);
+        answer.words.push((held.table.len() / RECORD_BYTES) as u32);
+        if planted(Fault::FileNodesFirst) {
+            answer.words.reverse();
+        }
+        answer
     }))
 }
 

@@ -124,6 +124,29 @@ faults! {
     RefusedRescueWrites
     BytePastRescuedWritten
     RescuedFileChanged
+    AuditTellsListsTwice
+    AuditJobsFirst
+    AuditTypeBeforeCall
+    AuditNodeOfTheJob
+    AuditComprehensionTargets
+    AuditAugmentedTypeMissed
+    AuditStarTypesMissed
+    AuditRefusedForMissed
+    AuditDefaultLambdaMissed
+    AuditHalfErrorStored
+    AuditTotalCapped
+    AuditDialectChanged
+    ReadShortFirst
+    ReadHighByteFirst
+    ReadRowForNone
+    ReadNodeNotTold
+    RefusedReadWrites
+    BytePastTableWritten
+    BytePastNamesWritten
+    ReadFileChanged
+    FileDialectUnread
+    FileNodesFirst
+    FileHalfErrorStored
 }
 
 #[cfg(feature = "faults")]

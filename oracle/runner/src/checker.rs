@@ -8,12 +8,16 @@ use judge::run::own_spans;
 use judge::trees::Built;
 use judge::trees::NotATree;
 use model::answer::Answer;
+use model::audit;
+use model::file;
 use model::jobs;
 use model::module;
 use model::module::Listed;
 use model::numbers::number;
 use model::table::Class;
+use model::table::Record;
 use model::table::Table;
+use model::table::RECORD_BYTES;
 
 use crate::cut;
 use crate::port::Effect;
@@ -45,15 +49,15 @@ pub struct Tally {
     /// Of these, calls that Python has made.
     pub by_python: u64,
     pub differences: u64,
-    /// How often each number was given, as an answer or in a list of errors.
-    pub given: [u64; NUMBERS],
+    /// How often each job has given each number, as an answer or in a list of errors.
+    pub given: [[u64; NUMBERS]; JOBS],
     /// Where the archive does not do as the model, or the model not as the crate.
     pub first: Option<String>,
 }
 
 impl Default for Tally {
     fn default() -> Tally {
-        let (of_job, given) = ([0; JOBS], [0; NUMBERS]);
+        let (of_job, given) = ([0; JOBS], [[0; NUMBERS]; JOBS]);
         Tally { jobs: 0, of_job, by_crate: 0, refused: 0, others: 0, by_python: 0, differences: 0, given, first: None }
     }
 }
@@ -67,7 +71,8 @@ impl Tally {
         self.others += other.others;
         self.by_python += other.by_python;
         self.differences += other.differences;
-        self.given.iter_mut().zip(other.given).for_each(|(given, more)| *given += more);
+        let given = self.given.iter_mut().flatten().zip(other.given.into_iter().flatten());
+        given.for_each(|(given, more)| *given += more);
         if self.first.is_none() {
             self.first = other.first;
         }
@@ -108,7 +113,9 @@ impl Checker {
 
     /// Runs one job and compares.
     pub fn check(&mut self, request: &Request) {
-        if self.wants(&request.job) {
+        if let Job::Audit { dialect, errors } = request.job {
+            self.check_audits(request.table, request.names, std::iter::once((dialect, errors)));
+        } else if self.wants(&request.job) {
             let model = model_answer(request);
             let judged = or_stop(request, || judged(request, &model));
             self.compare(request, &model, judged);
@@ -119,7 +126,8 @@ impl Checker {
     fn check_own_spans(&mut self, request: &Request, model: &Answer) {
         let Ok(mut of_crate) = or_stop(request, || with_own_spans(request)) else { return };
         let mut of_model = match (model.number, model.words.as_slice()) {
-            (0, _) => model.errors.clone(),
+            (0, _) if model.audited.is_empty() => model.errors.clone(),
+            (0, _) => model.audited.iter().map(|&[number, _, begin, end]| [number, begin, end]).collect(),
             (number, [_, begin, end, _]) => vec![[number, *begin, *end]],
             (_, words) => panic!("a refusal of the crate has a node, a span and an earlier node or none, not {words:?}"),
         };
@@ -168,21 +176,59 @@ impl Checker {
         }
     }
 
+    /// The audit of one table under many dialects: its tree is built once.
+    pub fn check_audits<'a>(
+        &mut self,
+        table: &[u8],
+        names: &[u8],
+        asked: impl Iterator<Item = (&'a [u8], usize)>,
+    ) {
+        let request = |dialect, errors| Request { table, names, job: Job::Audit { dialect, errors } };
+        if !self.wants(&request(&[], 0).job) {
+            return;
+        }
+        let checked = Table::check(table, names).ok();
+        let judge = checked.as_ref().map(|table| or_stop(&request(&[], 0), || run::Audit::of(table)));
+        for (dialect, errors) in asked {
+            let request = request(dialect, errors);
+            let model = model_answer(&request);
+            let judge = judge.as_ref().filter(|_| !is_ours(model.number));
+            let judged = judge.map(|judge| or_stop(&request, || judge.answer(&dialects::from_bytes(dialect))));
+            let is_part = matches!(judged, Some(Err(NotATree)));
+            self.compare(&request, &model, judged.unwrap_or(Err(NotATree)));
+            if let (Some(judge), Some(table), true) = (judge, &checked, is_part) {
+                self.check_parts(&request, table, judge, dialect);
+            }
+        }
+    }
+
+    /// Of a table that is no tree of the crate, the parts that are trees: each must have what the model tells there.
+    fn check_parts(&mut self, request: &Request, table: &Table, judge: &run::Audit, dialect: &[u8]) {
+        let of_crate = dialects::from_bytes(dialect);
+        let of_model = model::dialect::from_bytes(dialect).expect("the audit has accepted it");
+        let parts: Vec<_> = or_stop(request, || judge.parts(&of_crate, audit::places(table)).collect());
+        let told = |place| audit::refused_at(table, &of_model, place).as_ref().map(audit::words);
+        let differs = parts.iter().find(|(place, found)| told(*place) != *found);
+        if !parts.is_empty() {
+            self.note(differs.is_none(), || {
+                let (place, found) = differs.expect("there is one");
+                format!("at {place:?} the crate gives {found:?}, the model {:?}: {}", told(*place), hex(request.table))
+            });
+        }
+    }
+
     fn count_job(&mut self, job: usize) {
         self.tally.jobs += 1;
         self.tally.of_job[job] += 1;
     }
 
-    fn count_numbers(&mut self, answer: &Answer) {
-        self.tally.given[answer.number as usize] += 1;
-        for error in &answer.errors {
-            self.tally.given[error[0] as usize] += 1;
-        }
+    fn count_numbers(&mut self, job: usize, answer: &Answer) {
+        answer.numbers().for_each(|number| self.tally.given[job][number as usize] += 1);
     }
 
     fn compare(&mut self, request: &Request, model: &Answer, judged: Built<Answer>) {
         self.count_job(request.job.index());
-        self.count_numbers(model);
+        self.count_numbers(request.job.index(), model);
         self.tally.refused += u64::from(is_ours(model.number));
         let before = Effect::before(&request.job);
         let expected = before.after(model);
@@ -190,8 +236,8 @@ impl Checker {
         self.keep_inputs(request);
         effect.run(request);
         let mut differs = effect != expected || !self.inputs_are_kept(request);
-        // Never more errors than twice the records.
-        differs |= model.errors.len() > request.table.len() / 12;
+        // Never more errors than twice the records, in the audit three times.
+        differs |= model.errors.len() > request.table.len() / 12 || model.audited.len() > request.table.len() / 8;
         if let Ok(judged) = &judged {
             self.tally.by_crate += 1;
             differs |= !model.is_told_by_the_crate(judged);
@@ -256,10 +302,25 @@ impl Checker {
         }
     }
 
+    /// Runs one audit whose whole list is known: the number and the node of each error, which has the node's own span.
+    pub fn expect_audit(&mut self, request: &Request, list: &[(u32, usize)]) {
+        if self.wants(&request.job) {
+            let answer = model_answer(request);
+            let spanned = |&(number, node): &(u32, usize)| {
+                let (begin, end) = Record::read(&request.table[RECORD_BYTES * node..]).span();
+                [number, node as u32, begin, end]
+            };
+            let expected: Vec<[u32; 4]> = list.iter().map(spanned).collect();
+            let equal = answer.number == 0 && answer.words == [list.len() as u32] && answer.audited == expected;
+            self.note(equal, || format!("the model audits {answer:?}, by hand it is {list:?}: {}", hex(request.table)));
+            self.check(request);
+        }
+    }
+
     /// A run of the program, which refused with this number or (0) did not.
     pub fn program_run(&mut self, number: u32, equal: bool, what: impl FnOnce() -> String) {
         self.count_job(FILE);
-        self.tally.given[number as usize] += 1;
+        self.tally.given[FILE][number as usize] += 1;
         self.difference_unless(equal, what);
     }
 
@@ -297,7 +358,7 @@ fn is_ours(number: u32) -> bool {
     (number::TABLE_LENGTH..=number::SHORT_BUFFER).contains(&number)
 }
 
-/// What is kept of an input, and shown. Only a file to rescue can be longer.
+/// What is kept of an input, and shown. Only a file can be longer.
 fn front(input: &[u8]) -> &[u8] {
     &input[..input.len().min(1 << 20)]
 }
@@ -319,17 +380,23 @@ fn model_answer(request: &Request) -> Answer {
         Job::Write { dialect, file } => jobs::write(table, names, dialect, file),
         Job::Bind { call, def, list } => jobs::bind(table, names, call, def, list),
         Job::Rescue { file } => jobs::rescue(table, file),
+        Job::Audit { dialect, .. } => jobs::audit(table, names, dialect),
+        Job::Read { table: room, names } => jobs::read(table, room, names),
+        Job::CheckFile { .. } => jobs::check_file(table),
     }
 }
 
 /// The crate's answer, where the model has not refused with a number that the crate does not have.
 fn judged(request: &Request, model: &Answer) -> Built<Answer> {
-    if is_ours(model.number) || matches!(request.job, Job::Rescue { .. }) {
+    if is_ours(model.number) || matches!(request.job, Job::Rescue { .. } | Job::Read { .. }) {
         return Err(NotATree);
+    }
+    if let Job::CheckFile { .. } = request.job {
+        return judged_file(request.table);
     }
     let table = Table::check(request.table, request.names).map_err(|_| NotATree)?;
     match request.job {
-        Job::Table | Job::Write { .. } | Job::Rescue { .. } => Err(NotATree),
+        Job::Table | Job::Write { .. } | Job::Rescue { .. } | Job::Read { .. } | Job::CheckFile { .. } => Err(NotATree),
         Job::Params { node, .. } => run::params(&table, node),
         Job::Call { node } => run::call(&table, node),
         Job::Target { node } => run::target(&table, node),
@@ -337,7 +404,17 @@ fn judged(request: &Request, model: &Answer) -> Built<Answer> {
         Job::Type { dialect, node, .. } => run::type_shape(&table, node, &dialects::from_bytes(dialect)),
         Job::Module { dialect, .. } => Ok(listed(&table, &run::Module::of(&table)?, dialect)),
         Job::Bind { call, def, .. } => lists_of_binding(&table, call, def, model),
+        Job::Audit { dialect, .. } => run::Audit::of(&table).answer(&dialects::from_bytes(dialect)),
     }
+}
+
+/// The crate's module pass over what a file holds.
+fn judged_file(bytes: &[u8]) -> Built<Answer> {
+    let held = file::read(bytes).map_err(|_| NotATree)?;
+    let table = Table::check(&held.table, &held.names).map_err(|_| NotATree)?;
+    let mut answer = listed(&table, &run::Module::of(&table)?, &held.dialect);
+    answer.words.push(table.records.len() as u32);
+    Ok(answer)
 }
 
 /// The crate does not bind: it judges the two lists, and has no answer where it accepts both and the model does too.
@@ -349,9 +426,14 @@ fn lists_of_binding(table: &Table, call: usize, def: usize, model: &Answer) -> B
 }
 
 fn with_own_spans(request: &Request) -> Built<Vec<[u32; 3]>> {
+    if let Job::CheckFile { .. } = request.job {
+        let held = file::read(request.table).map_err(|_| NotATree)?;
+        let table = Table::check(&held.table, &held.names).map_err(|_| NotATree)?;
+        return own_spans::module(&table, &dialects::from_bytes(&held.dialect));
+    }
     let table = Table::check(request.table, request.names).map_err(|_| NotATree)?;
     match request.job {
-        Job::Table | Job::Write { .. } | Job::Rescue { .. } => Err(NotATree),
+        Job::Table | Job::Write { .. } | Job::Rescue { .. } | Job::Read { .. } | Job::CheckFile { .. } => Err(NotATree),
         Job::Params { node, .. } => own_spans::params(&table, node),
         Job::Call { node } => own_spans::call(&table, node),
         Job::Target { node } => own_spans::target(&table, node),
@@ -360,6 +442,7 @@ fn with_own_spans(request: &Request) -> Built<Vec<[u32; 3]>> {
             own_spans::type_shape(&table, node, &dialects::from_bytes(dialect))
         }
         Job::Module { dialect, .. } => own_spans::module(&table, &dialects::from_bytes(dialect)),
+        Job::Audit { dialect, .. } => own_spans::audit(&table, &dialects::from_bytes(dialect)),
         Job::Bind { call, def, .. } => {
             let of_list = own_spans::params(&table, def)?;
             if of_list.is_empty() { own_spans::call(&table, call) } else { Ok(of_list) }

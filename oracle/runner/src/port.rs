@@ -18,17 +18,35 @@ pub enum Job<'a> {
     Bind { call: usize, def: usize, list: usize },
     /// The request's table is the file to rescue, and its names are none.
     Rescue { file: usize },
+    Audit { dialect: &'a [u8], errors: usize },
+    /// The request's table is the file, and its names are none: so in the next.
+    Read { table: usize, names: usize },
+    CheckFile { errors: usize },
 }
 
 /// How many jobs there are: those of the interface, and the program's.
-pub const JOBS: usize = 11;
+pub const JOBS: usize = 14;
 
 /// The jobs by the names that the command line knows.
-pub const NAMES: [&str; JOBS] =
-    ["table", "params", "call", "target", "assignment", "type", "module", "write", "bind", "rescue", "file"];
+pub const NAMES: [&str; JOBS] = [
+    "table",
+    "params",
+    "call",
+    "target",
+    "assignment",
+    "type",
+    "module",
+    "write",
+    "bind",
+    "rescue",
+    "audit",
+    "read",
+    "check_file",
+    "file",
+];
 
 /// The program's job, whose place in `NAMES` is last.
-pub const FILE: usize = 10;
+pub const FILE: usize = JOBS - 1;
 
 impl Job<'_> {
     /// The job's place in `NAMES`.
@@ -44,13 +62,17 @@ impl Job<'_> {
             Job::Write { .. } => 7,
             Job::Bind { .. } => 8,
             Job::Rescue { .. } => 9,
+            Job::Audit { .. } => 10,
+            Job::Read { .. } => 11,
+            Job::CheckFile { .. } => 12,
         }
     }
 
     /// The dialect's bytes, where the job takes them.
     pub fn dialect(&self) -> Option<&[u8]> {
         match self {
-            Job::Type { dialect, .. } | Job::Module { dialect, .. } | Job::Write { dialect, .. } => Some(dialect),
+            Job::Type { dialect, .. } | Job::Module { dialect, .. } => Some(dialect),
+            Job::Write { dialect, .. } | Job::Audit { dialect, .. } => Some(dialect),
             _ => None,
         }
     }
@@ -127,17 +149,40 @@ extern "C" {
         out: *mut Words,
     ) -> u32;
     fn starlark_rescue(i: *const u8, il: usize, file: *mut u8, file_len: usize, out: *mut Words) -> u32;
+    fn starlark_audit(
+        t: *const u8,
+        tl: usize,
+        n: *const u8,
+        nl: usize,
+        dialect: *const u8,
+        dialect_len: usize,
+        errors: *mut u32,
+        errors_len: usize,
+        out: *mut Words,
+    ) -> u32;
+    fn starlark_read(
+        f: *const u8,
+        fl: usize,
+        table: *mut u8,
+        table_len: usize,
+        names: *mut u8,
+        names_len: usize,
+        out: *mut Words,
+    ) -> u32;
+    fn starlark_check_file(f: *const u8, fl: usize, errors: *mut u32, errors_len: usize, out: *mut Words) -> u32;
 }
 
 const GUARD: usize = 8;
 
-/// Everything that a job may change, guards included: the answer's number, `out`, and the lent buffer. And the dialect, which no job
+/// Everything that a job may change, guards included: the answer's number, `out`, and the lent buffers. And the dialect, which no job
 /// may change.
 #[derive(Clone, Debug, PartialEq, Eq)]
 pub struct Effect {
     pub number: u32,
     pub out: [u32; 12 + 2 * GUARD],
     pub bytes: Vec<u8>,
+    /// The second buffer of bytes, which the reader alone is lent.
+    pub names: Vec<u8>,
     pub words: Vec<u32>,
     pub dialect: Vec<u8>,
 }
@@ -164,15 +209,18 @@ impl Effect {
         let (bytes, words) = match *job {
             Job::Params { modes, .. } => (modes, 0),
             Job::Type { shapes, .. } => (shapes, 0),
-            Job::Module { errors, .. } => (0, errors),
+            Job::Module { errors, .. } | Job::Audit { errors, .. } | Job::CheckFile { errors } => (0, errors),
             Job::Write { file, .. } | Job::Rescue { file } => (file, 0),
             Job::Bind { list, .. } => (0, list),
+            Job::Read { table, .. } => (table, 0),
             _ => (0, 0),
         };
+        let names = if let Job::Read { names, .. } = *job { names } else { 0 };
         Effect {
             number: 0,
             out: std::array::from_fn(word_pattern),
             bytes: (0..bytes + 2 * GUARD).map(byte_pattern).collect(),
+            names: (0..names + 2 * GUARD).map(byte_pattern).collect(),
             words: (0..words + 2 * GUARD).map(word_pattern).collect(),
             dialect: job.dialect().map_or(Vec::new(), guarded),
         }
@@ -184,6 +232,7 @@ impl Effect {
         effect.number = answer.number;
         answer.write_words(effect.out());
         answer.write_bytes(effect.lent_bytes());
+        answer.write_names(effect.lent_names());
         answer.write_list(effect.lent_words());
         effect
     }
@@ -195,6 +244,11 @@ impl Effect {
     fn lent_bytes(&mut self) -> &mut [u8] {
         let end = self.bytes.len() - GUARD;
         &mut self.bytes[GUARD..end]
+    }
+
+    fn lent_names(&mut self) -> &mut [u8] {
+        let end = self.names.len() - GUARD;
+        &mut self.names[GUARD..end]
     }
 
     fn lent_words(&mut self) -> &mut [u32] {
@@ -213,6 +267,7 @@ impl Effect {
         let (n, nl) = (request.names.as_ptr(), request.names.len());
         let out: *mut Words = self.out();
         let (bytes, bytes_len) = (self.lent_bytes().as_mut_ptr(), self.lent_bytes().len());
+        let (second, second_len) = (self.lent_names().as_mut_ptr(), self.lent_names().len());
         let (words, words_len) = (self.lent_words().as_mut_ptr(), self.lent_words().len());
         let (d, dl) = (self.lent_dialect().as_ptr(), self.lent_dialect().len());
         // Each pointer is to memory of the length given beside it, and no two of them overlap.
@@ -228,6 +283,9 @@ impl Effect {
                 Job::Write { .. } => starlark_write(t, tl, n, nl, d, dl, bytes, bytes_len, out),
                 Job::Bind { call, def, .. } => starlark_bind(t, tl, n, nl, call, def, words, words_len, out),
                 Job::Rescue { .. } => starlark_rescue(t, tl, bytes, bytes_len, out),
+                Job::Audit { .. } => starlark_audit(t, tl, n, nl, d, dl, words, words_len, out),
+                Job::Read { .. } => starlark_read(t, tl, bytes, bytes_len, second, second_len, out),
+                Job::CheckFile { .. } => starlark_check_file(t, tl, words, words_len, out),
             }
         };
     }
@@ -248,6 +306,9 @@ impl fmt::Display for Effect {
         write!(f, "number {}, out [{}]", self.number, joined(self.out.iter().enumerate().map(word).collect()))?;
         if self.bytes.len() > 2 * GUARD {
             write!(f, ", buffer [{}]", joined(self.bytes.iter().enumerate().map(byte).collect()))?;
+        }
+        if self.names.len() > 2 * GUARD {
+            write!(f, ", second buffer [{}]", joined(self.names.iter().enumerate().map(byte).collect()))?;
         }
         if self.words.len() > 2 * GUARD {
             let shown = self.words.iter().enumerate().take(GUARD + 60).map(word).collect();

@@ -82,7 +82,7 @@ struct Asked<'a> {
 }
 
 impl<'a> Asked<'a> {
-    /// The smallest table file is too large for the sample, so the writer and the rescue are not in it.
+    /// The smallest table file is too large for the sample, so no job on files is in it; the audit is not, either.
     fn of(job: &Job<'a>) -> Option<Asked<'a>> {
         let asked = |dialect, node, room| Some(Asked { dialect, node, def: 0, room });
         match *job {
@@ -91,7 +91,7 @@ impl<'a> Asked<'a> {
             Job::Call { node } | Job::Target { node } | Job::Assignment { node } => asked(&[], node, 0),
             Job::Type { dialect, node, shapes } => asked(dialect, node, shapes),
             Job::Module { dialect, errors } => asked(dialect, 0, errors),
-            Job::Write { .. } | Job::Rescue { .. } => None,
+            Job::Write { .. } | Job::Rescue { .. } | Job::Read { .. } | Job::CheckFile { .. } | Job::Audit { .. } => None,
             Job::Bind { call, def, list } => Some(Asked { dialect: &[], node: call, def, room: list }),
         }
     }

@@ -1,5 +1,6 @@
 //! The table of what was run, and the first difference in full.
 
+use std::ops::RangeInclusive;
 use std::process::ExitCode;
 
 use crate::checker::Tally;
@@ -11,7 +12,7 @@ use crate::port::NAMES;
 
 /// What the whole comparison must run of each job at the least, in the order of `NAMES`: about 99 of 100 of what the quick run has at
 /// any seed.
-const LEAST: [u64; JOBS] = [1_345_000, 2_733_000, 659_000, 2_730_000, 752_000, 3_330_000, 1_282_000, 383_000, 1_393_000, 170_000, 3_400];
+const LEAST: [u64; JOBS] = [1_345_000, 2_733_000, 659_000, 2_730_000, 752_000, 3_330_000, 1_282_000, 383_000, 1_393_000, 170_000, 566_000, 114_500, 90_000, 3_400];
 
 /// What the whole comparison must put to Python at the least, where there is one.
 const LEAST_PYTHON: u64 = 54_500;
@@ -75,21 +76,22 @@ fn too_few(options: &Options, all: &Tally) -> Vec<String> {
     few.map(|job| format!("{} {} of {}", NAMES[job], all.of_job[job], LEAST[job])).collect()
 }
 
-/// The numbers of the jobs asked for that no input has brought about.
+/// The numbers of each job asked for that no input has brought about. The program's are asked for where one is named.
 fn never_given(options: &Options, all: &Tally) -> Vec<String> {
-    let of_jobs = numbers_of_jobs().into_iter().zip(options.wanted).filter(|(_, wanted)| *wanted);
-    let file_is_run = options.program.is_some();
-    let asked = of_jobs.flat_map(|(numbers, _)| numbers).filter(|number| !(70..=75).contains(number) || file_is_run);
-    let mut never: Vec<usize> = asked.filter(|&number| all.given[number] == 0).collect();
-    never.sort();
-    never.dedup();
-    never.into_iter().map(|number| number.to_string()).collect()
+    let asked = (0..JOBS).filter(|&job| options.wanted[job] && (job != FILE || options.program.is_some()));
+    let never = asked.flat_map(|job| {
+        let numbers = numbers_of_jobs()[job].clone();
+        numbers.into_iter().filter(move |&number| all.given[job][number] == 0).map(move |number| (job, number))
+    });
+    never.map(|(job, number)| format!("{} {number}", NAMES[job])).collect()
 }
 
 /// What each job can answer, 0 among it.
 fn numbers_of_jobs() -> [Vec<usize>; JOBS] {
-    let with = |more: &[std::ops::RangeInclusive<usize>]| -> Vec<usize> {
-        (0..=4).chain(more.iter().cloned().flatten()).collect()
+    let with = |more: &[RangeInclusive<usize>]| -> Vec<usize> { (0..=4).chain(more.iter().cloned().flatten()).collect() };
+    // What would be 1 or 2 in a file is 74.
+    let of_file = |more: &[RangeInclusive<usize>]| -> Vec<usize> {
+        [0].into_iter().chain(3..=5).chain(70..=75).chain(more.iter().cloned().flatten()).collect()
     };
     [
         with(&[]),
@@ -102,7 +104,10 @@ fn numbers_of_jobs() -> [Vec<usize>; JOBS] {
         with(&[5..=5, 7..=7]),
         with(&[6..=7, 10..=18, 20..=24, 80..=84]),
         vec![0, 7, 90, 91],
-        with(&[5..=5, 70..=75]).into_iter().filter(|number| !(1..=2).contains(number)).collect(),
+        with(&[5..=5, 10..=18, 20..=24, 30..=33, 40..=45, 50..=61]),
+        of_file(&[7..=7]),
+        of_file(&[10..=18, 50..=61]),
+        of_file(&[]),
     ]
 }
 

@@ -129,7 +129,7 @@ pub unsafe extern "C" fn starlark_module(
         change(dialect, dialect_len);
     }
     if planted(Fault::HalfErrorStored) {
-        store_half_error(&answer, list);
+        store_half_error(&answer.errors, list);
     }
     if planted(Fault::TotalCappedByList) && answer.number == 0 {
         answer.words[0] = answer.words[0].min(list.len() as u32 / 3);
@@ -207,10 +207,83 @@ pub unsafe extern "C" fn starlark_rescue(
     give_bytes(answer, buffer, out)
 }
 
+#[no_mangle]
+pub unsafe extern "C" fn starlark_audit(
+    table: *const u8,
+    table_len: usize,
+    names: *const u8,
+    names_len: usize,
+    dialect: *const u8,
+    dialect_len: usize,
+    errors: *mut u32,
+    errors_len: usize,
+    out: Out,
+) -> u32 {
+    let (table, names) = (lent(table, table_len), lent(names, names_len));
+    let mut answer = jobs::audit(table, names, lent(dialect, dialect_len));
+    let list = lent_mut(errors, errors_len);
+    answer.write_list(list);
+    if planted(Fault::AuditDialectChanged) {
+        change(dialect, dialect_len);
+    }
+    if planted(Fault::AuditHalfErrorStored) {
+        store_half_error(&answer.audited, list);
+    }
+    if planted(Fault::AuditTotalCapped) && answer.number == 0 {
+        answer.words[0] = answer.words[0].min(list.len() as u32 / 4);
+    }
+    give(answer, out)
+}
+
+#[no_mangle]
+pub unsafe extern "C" fn starlark_read(
+    file: *const u8,
+    file_len: usize,
+    table: *mut u8,
+    table_len: usize,
+    names: *mut u8,
+    names_len: usize,
+    out: Out,
+) -> u32 {
+    let answer = jobs::read(lent(file, file_len), table_len, names_len);
+    let (table, names) = (lent_mut(table, table_len), lent_mut(names, names_len));
+    if planted(Fault::RefusedReadWrites) && answer.number != 0 && !table.is_empty() {
+        table[0] = 0;
+    }
+    if planted(Fault::BytePastTableWritten) && answer.number == 0 && answer.file.len() < table.len() {
+        table[answer.file.len()] = 0;
+    }
+    if planted(Fault::BytePastNamesWritten) && answer.number == 0 && answer.names.len() < names.len() {
+        names[answer.names.len()] = 0;
+    }
+    if planted(Fault::ReadFileChanged) {
+        change(file, file_len);
+    }
+    answer.write_names(names);
+    give_bytes(answer, table, out)
+}
+
+#[no_mangle]
+pub unsafe extern "C" fn starlark_check_file(
+    file: *const u8,
+    file_len: usize,
+    errors: *mut u32,
+    errors_len: usize,
+    out: Out,
+) -> u32 {
+    let answer = jobs::check_file(lent(file, file_len));
+    let list = lent_mut(errors, errors_len);
+    answer.write_list(list);
+    if planted(Fault::FileHalfErrorStored) {
+        store_half_error(&answer.errors, list);
+    }
+    give(answer, out)
+}
+
 /// The number of the error that does not fit whole, in the words that are left.
-fn store_half_error(answer: &Answer, list: &mut [u32]) {
-    let whole = list.len() / 3;
-    if let (Some(error), Some(place)) = (answer.errors.get(whole), list.get_mut(3 * whole)) {
+fn store_half_error<const WIDTH: usize>(errors: &[[u32; WIDTH]], list: &mut [u32]) {
+    let whole = list.len() / WIDTH;
+    if let (Some(error), Some(place)) = (errors.get(whole), list.get_mut(WIDTH * whole)) {
         *place = error[0];
     }
 }

@@ -1,7 +1,5 @@
--- `errors::push` meets its contract: three words where they fit. Assumes nothing.
-use lib.ListN.{length-set}
-use native.Mathlib.Omega.{arith}
-use Rattle.errors.proofs.Storing.{push-fits, push-full}
+-- `errors::push` meets its contract: the error in the words of the form. Assumes nothing.
+use Rattle.errors.proofs.Storing.{push-form}
 use borrow.Author.Needs.{needs}
 use Rattle.errors.proofs.push.Statement.{statement}
 use Rattle.errors.proofs.push.Tie as tie
@@ -11,8 +9,14 @@ push-spec =
     tie.close
     (tie.spec
     (λ c. search needs)
-    (λ c. simp length-set (omega arith))  -- slice-write-errors-2
-    (λ c. simp length-set (omega arith))  -- slice-write-errors-3
+    (λ c κs. search needs)
     (λ c. search needs)
-    (λ c. push-fits _ _ (omega arith))  -- returns
-    (λ c. push-full _ _ (omega arith)))  -- returns-2
+    (λ c κs. search needs)
+    (λ c. search needs)
+    (λ c κs. search needs)
+    (λ c. search needs)
+    (λ c. search push-form)  -- returns
+    (λ c. search needs)
+    (λ c. search push-form)  -- returns-2
+    (λ c. search needs)
+    (λ c. search push-form))  -- returns-3

@@ -1,6 +1,7 @@
--- `filepass::check_file` meets its contract: the reader's refusal, or the pass over what it read. Assumes nothing.
-use Rattle.filepass.proofs.Listing.{file-refused, file-sound, file-listed}
+-- `filepass::check_file` meets its contract: the reader's refusal, or the pass over what a file holds. Assumes nothing.
 use borrow.Author.Needs.{needs}
+use Rattle.tablefile.proofs.Lends.{into-fits, into-table-long, into-names-long}
+use Rattle.filepass.proofs.Listing.{file-refused, file-sound, file-listed}
 use Rattle.filepass.proofs.check_file.Statement.{statement}
 use Rattle.filepass.proofs.check_file.Tie as tie
 
@@ -10,32 +11,36 @@ check-file-spec =
     (tie.spec
     (λ c κs. search needs)
     (λ c. search needs)
-    (λ c. file-refused _ (c .before .before .before .read .ensures) _ (c .before .verdict .given .1))  -- returns
-    (λ c. search needs)
+    (λ c.  -- returns
+    let unpack = c .before .before .before .unpack in
+    file-refused _ _ unpack.ensures.0 _ (c .before .found .given .1))
     (λ c. search needs)
     (λ c κs. search needs)
-    (λ c. search needs)
+    (λ c. search into-table-long)  -- slice-aggregate-front
+    (λ c. search into-fits)  -- mul-front
     (λ c κs. search needs)
-    (λ c. search needs)
+    (λ c. search into-names-long)  -- slice-aggregate-front-2
+    (λ c κs. search needs)
     (λ c κs. search needs)
     (λ c κs.  -- list-requires
-    let front3 = c .before .front3 in
-    let front2 = c .before .before .before .front2 in
-    let front = c .before .before .before .before .before .front in
+    let dialect = c .before .dialect-bytes in
+    let front2 = c .before .before .front2 in
+    let front = c .before .before .before .before .front in
     let back = c .before .before .before .before .before .before in
-    let enum-told = back .before .before .before .before .enum-told in
-    let back2 = back .before .before .before .before .before .before in
-    let read = back2 .read in
-    file-sound _ read.ensures enum-told.given.1 front.ensures front2.ensures front3.ensures)
+    let enum-told = back .before .before .enum-told in
+    let unpack = back .before .before .before .before .unpack in
+    file-sound _ _ unpack.ensures.0 enum-told.given.1 (back .before .header .ensures) unpack.ensures.1.0
+    unpack.ensures.1.1 front.ensures front2.ensures dialect.ensures)
     (λ c. search needs)
     (λ c.  -- returns-2
     let list = c .before .before .list in
-    let front3 = c .before .before .before .before .front3 in
+    let dialect = c .before .before .before .before .dialect-bytes in
+    let front2 = c .before .before .before .before .before .front2 in
     let back = c .before .before .before .before .before .before in
-    let front2 = back .front2 in
-    let front = back .before .before .front in
+    let front = back .before .front in
+    let header = back .before .before .before .before .header in
+    let enum-told = back .before .before .before .before .before .enum-told in
     let back2 = back .before .before .before .before .before .before in
-    let enum-told = back2 .before .enum-told in
-    let read = back2 .before .before .before .read in
-    file-listed _ read.ensures enum-told.given.1 front.ensures front2.ensures front3.ensures _
-    list.ensures.0 list.ensures.1))
+    let unpack = back2 .before .unpack in
+    file-listed _ _ unpack.ensures.0 enum-told.given.1 header.ensures unpack.ensures.1.0 unpack.ensures.1.1
+    front.ensures front2.ensures dialect.ensures _ list.ensures.0 list.ensures.1))

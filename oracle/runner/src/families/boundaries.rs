@@ -65,6 +65,7 @@ fn all_jobs_at(checker: &mut Checker, table: &[u8], names: &[u8], dialect: &[u8]
         Job::Write { dialect, file: 512 * room.min(118) },
         Job::Bind { call: node, def: first(kind::DEF), list: room },
         Job::Bind { call: first(kind::CALL), def: node, list: room },
+        Job::Audit { dialect, errors: room },
     ];
     for job in jobs {
         checker.check(&Request { table, names, job });
@@ -166,11 +167,16 @@ fn error_lists(checker: &mut Checker) {
     let misplaced = flat_table(7);
     for errors in 0..=24 {
         checker.check(&Request { table: &misplaced, names: &[], job: Job::Module { dialect: &[], errors } });
+        checker.check(&Request { table: &misplaced, names: &[], job: Job::Audit { dialect: &[], errors } });
     }
     let full = flat_table(MOST_NODES);
     let total = 3 * (MOST_NODES - 1);
     for errors in [0, 1, 2, 3, total - 4, total - 3, total - 1, total, total + 1, 6 * MOST_NODES] {
         checker.check(&Request { table: &full, names: &[], job: Job::Module { dialect: &[], errors } });
+    }
+    let total = 4 * (MOST_NODES - 1);
+    for errors in [0, 1, 2, 3, 4, total - 5, total - 4, total - 1, total, total + 1, 12 * MOST_NODES] {
+        checker.check(&Request { table: &full, names: &[], job: Job::Audit { dialect: &[], errors } });
     }
 }
 

@@ -41,6 +41,7 @@ pub fn rows_and_bytes(checker: &mut Checker, plan: &Plan) {
 fn ask(checker: &mut Checker, encoded: &Encoded, dialect: &[u8]) {
     let Encoded { table, names, .. } = encoded;
     checker.check(&Request { table, names, job: Job::Module { dialect, errors: 60 } });
+    checker.check(&Request { table, names, job: Job::Audit { dialect, errors: 80 } });
     for node in [0, 1, 12, 400] {
         checker.check(&Request { table, names, job: Job::Type { dialect, node, shapes: 20 } });
     }

@@ -156,8 +156,8 @@ fn types(checker: &mut Checker) {
     expect_type(checker, 0, |cells| cells.tree(kind::DOT, 0, 24, x_type));
 }
 
-/// `def f(a, b=1, c):` with `break` below, indented by two spaces, without a dialect and with Standard.
-fn program(checker: &mut Checker, plan: &Plan) {
+/// The table of `def f(a, b=1, c):` with `break` below, indented by two spaces. Its names are `abc`.
+pub fn example_table() -> Vec<u8> {
     let record = |kind, detail, name: Option<u32>, begin, end, size| Record {
         kind,
         detail,
@@ -177,7 +177,12 @@ fn program(checker: &mut Checker, plan: &Plan) {
         record(kind::NORMAL, 0, Some(2), 14, 15, 1),
         record(kind::BREAK, 0, None, 20, 25, 1),
     ];
-    let table: Vec<u8> = records.iter().flat_map(Record::write).collect();
+    records.iter().flat_map(Record::write).collect()
+}
+
+/// That module without a dialect and with Standard.
+fn program(checker: &mut Checker, plan: &Plan) {
+    let table = example_table();
     for dialect in [&[][..], &model::dialect::STANDARD] {
         let contents = file::Contents { table: table.clone(), names: b"abc".to_vec(), dialect: dialect.to_vec() };
         let written = file::write(&contents);

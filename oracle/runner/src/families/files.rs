@@ -1,4 +1,4 @@
-//! Table files, through the program: the C interface has no file.
+//! Table files, whole and damaged: through the program here, for the reader in `reads`.
 
 use std::io::Write;
 use std::process::Command;
@@ -64,16 +64,23 @@ fn run_by_name(program: &str, bytes: &[u8]) -> std::io::Result<Vec<u8>> {
 }
 
 pub fn files(checker: &mut Checker, plan: &Plan) {
-    if plan.program.is_none() {
-        return;
+    if plan.program.is_some() {
+        each_file(checker, plan, 1_500, &mut |checker, bytes, by_name| compare_output(checker, plan, bytes, by_name));
     }
+}
+
+/// Looks at a file, which the program is to be named or handed as its input.
+pub type See<'s> = &'s mut dyn FnMut(&mut Checker, &[u8], bool);
+
+/// Counts, used bytes, cuts, depths, each byte of a file, and so many files with random damage.
+pub fn each_file(checker: &mut Checker, plan: &Plan, quick: u64, see: See) {
     let mut rng = plan.rng(14);
-    counts(checker, plan);
-    headers(checker, plan);
-    cuts(checker, plan, &mut rng);
-    depths(checker, plan, &mut rng);
-    every_byte(checker, plan, &mut rng);
-    damaged(checker, plan);
+    counts(checker, see);
+    headers(checker, see);
+    cuts(checker, &mut rng, see);
+    depths(checker, &mut rng, see);
+    every_byte(checker, plan, &mut rng, see);
+    damaged(checker, plan, quick, see);
 }
 
 /// A sound table of so many records and names of so many bytes.
@@ -87,13 +94,13 @@ pub fn contents(records: usize, names: usize, dialect: &[u8]) -> Contents {
 }
 
 /// Names and nodes that just fill blocks, and one less and more; and counts beyond the limits.
-fn counts(checker: &mut Checker, plan: &Plan) {
+fn counts(checker: &mut Checker, see: See) {
     let on = dialect::ALL_OPTIONS_INTERNAL;
     for (at, names) in [0, 1, 503, 504, 505, 1_008, 1_009, 8_063, 8_064, 8_065].into_iter().enumerate() {
         for records in [1, 20, 21, 22, 42, 43, 2_099, 2_100, 2_101] {
             let dialect: &[u8] = if at % 2 == 0 { &on } else { &[] };
             let written = file::write(&contents(records, names, dialect));
-            compare_output(checker, plan, &written, at % 3 == 0);
+            see(checker, &written, at % 3 == 0);
         }
     }
     for (records, names) in [(0u16, 3u16), (1, 8_065), (2_101, 0), (65_535, 65_535), (2, 2), (1, 4), (3, 3)] {
@@ -101,12 +108,12 @@ fn counts(checker: &mut Checker, plan: &Plan) {
         written[4..6].copy_from_slice(&records.to_le_bytes());
         written[6..8].copy_from_slice(&names.to_le_bytes());
         file::seal(&mut written[..BLOCK]);
-        compare_output(checker, plan, &written, false);
+        see(checker, &written, false);
     }
 }
 
 /// The number of used bytes of each block, right and wrong, with the sum put right.
-fn headers(checker: &mut Checker, plan: &Plan) {
+fn headers(checker: &mut Checker, see: See) {
     let good = file::write(&contents(22, 505, &[]));
     for block in 0..good.len() / BLOCK {
         for used in [0u16, 1, 3, 4, 5, 12, 13, 14, 23, 24, 25, 503, 504, 505, 508, 512, 65_535] {
@@ -118,7 +125,7 @@ fn headers(checker: &mut Checker, plan: &Plan) {
                     bytes[507] = 1;
                 }
                 file::seal(bytes);
-                compare_output(checker, plan, &changed, false);
+                see(checker, &changed, false);
             }
         }
         for number in [0u16, 1, 2, 3, 256, 65_535] {
@@ -126,13 +133,13 @@ fn headers(checker: &mut Checker, plan: &Plan) {
             let bytes = &mut changed[BLOCK * block..BLOCK * (block + 1)];
             bytes[0..2].copy_from_slice(&number.to_le_bytes());
             file::seal(bytes);
-            compare_output(checker, plan, &changed, false);
+            see(checker, &changed, false);
         }
     }
 }
 
 /// Files that end too early or too late.
-fn cuts(checker: &mut Checker, plan: &Plan, rng: &mut Rng) {
+fn cuts(checker: &mut Checker, rng: &mut Rng, see: See) {
     let good = file::write(&contents(22, 505, &dialect::STANDARD));
     let mut lengths: Vec<usize> = (0..=good.len() / BLOCK).flat_map(|n| [n * BLOCK, n * BLOCK + 1]).collect();
     lengths.extend((1..=good.len() / BLOCK).map(|n| n * BLOCK - 1));
@@ -140,47 +147,47 @@ fn cuts(checker: &mut Checker, plan: &Plan, rng: &mut Rng) {
     for length in lengths {
         let mut cut = good.clone();
         cut.resize(length, 0);
-        compare_output(checker, plan, &cut, length % 2 == 0);
+        see(checker, &cut, length % 2 == 0);
     }
     for after in [1, 2, 511, 512, 513, 1_024] {
-        compare_output(checker, plan, &[&good[..], &vec![0; after]].concat(), false);
+        see(checker, &[&good[..], &vec![0; after]].concat(), false);
     }
 }
 
 /// Tables around the limit of depth, with a dialect that is good and one that is not: 4 counts before 5.
-fn depths(checker: &mut Checker, plan: &Plan, rng: &mut Rng) {
+fn depths(checker: &mut Checker, rng: &mut Rng, see: See) {
     let mut encoded = Encoded::default();
     for depth in MOST_DEPTH - 1..=MOST_DEPTH + 2 {
         encoded.write(&chain(rng, depth), &PLAIN);
         for dialect in [&[][..], &dialect::STANDARD, &[9; 9]] {
             let Encoded { table, names, .. } = encoded.clone();
             let written = file::write(&Contents { table, names, dialect: dialect.to_vec() });
-            compare_output(checker, plan, &written, false);
+            see(checker, &written, false);
         }
     }
 }
 
 /// Every byte of an accepted file changed: the sum must tell.
-fn every_byte(checker: &mut Checker, plan: &Plan, rng: &mut Rng) {
+fn every_byte(checker: &mut Checker, plan: &Plan, rng: &mut Rng, see: See) {
     let mut bytes = file::write(&contents(2, 3, &dialect::STANDARD));
     for at in 0..bytes.len() {
         let good = bytes[at];
         for _ in 0..plan.scale.min(8) {
             bytes[at] = good.wrapping_add(rng.within(1, 255) as u8);
-            compare_output(checker, plan, &bytes, false);
+            see(checker, &bytes, false);
         }
         bytes[at] = good;
     }
 }
 
 /// Files of random modules, sound and not, with bytes changed and some sums put right again.
-fn damaged(checker: &mut Checker, plan: &Plan) {
+fn damaged(checker: &mut Checker, plan: &Plan, quick: u64, see: See) {
     let dialects = dialect::all();
     let grow = |rng: &mut Rng, _| {
         let wild = rng.once_in(2);
         grow::module(rng, wild)
     };
-    each_random(checker, plan, 15, 1_500, grow, |checker, rng, random| {
+    each_random(checker, plan, 15, quick, grow, |checker, rng, random| {
         let Encoded { mut table, names, .. } = random.encoded.clone();
         if rng.once_in(4) {
             let at = rng.below(table.len());
@@ -194,7 +201,7 @@ fn damaged(checker: &mut Checker, plan: &Plan) {
         for _ in 0..rng.below(3) {
             damage(rng, &mut bytes);
         }
-        compare_output(checker, plan, &bytes, random.number % 2 == 0);
+        see(checker, &bytes, random.number % 2 == 0);
     });
 }
 

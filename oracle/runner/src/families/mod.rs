@@ -1,5 +1,6 @@
 //! Families of jobs. Each is cut into parts, so that threads can share them.
 
+pub mod audits;
 pub mod bindings;
 pub mod boundaries;
 pub mod dialects;
@@ -9,6 +10,7 @@ pub mod lists;
 pub mod modules;
 pub mod names;
 pub mod python;
+pub mod reads;
 pub mod rescues;
 pub mod shapes;
 pub mod tables;
@@ -81,9 +83,14 @@ const MODULE: u32 = 1 << 6;
 const WRITE: u32 = 1 << 7;
 const BIND: u32 = 1 << 8;
 const RESCUE: u32 = 1 << 9;
-const FILE: u32 = 1 << 10;
+const AUDIT: u32 = 1 << 10;
+const READ: u32 = 1 << 11;
+const CHECK_FILE: u32 = 1 << 12;
+const FILE: u32 = 1 << 13;
 /// Those that take a table.
-const ARCHIVE: u32 = RESCUE - 1;
+const ARCHIVE: u32 = (RESCUE - 1) | AUDIT;
+/// Those that take a file and read it.
+const READERS: u32 = READ | CHECK_FILE;
 
 pub const ALL: &[Family] = &[
     family("document 01's examples", 1, ARCHIVE | FILE, examples::rows),
@@ -112,13 +119,25 @@ pub const ALL: &[Family] = &[
     family("tables, every byte", 2, ARCHIVE, tables::every_byte),
     family("tables, damaged", 2, ARCHIVE, tables::damaged),
     family("tables, depth", 2, ARCHIVE, tables::depth),
-    family("dialect rows and bytes", 1, MODULE | TYPE, dialects::rows_and_bytes),
+    family("dialect rows and bytes", 1, MODULE | TYPE | AUDIT, dialects::rows_and_bytes),
+    family("audits, corner cases", 1, AUDIT, audits::corners),
+    family("audits, every small tree", 2, AUDIT, audits::small),
+    family("audits, all dialects", 2, AUDIT, audits::all_dialects),
+    family("audits, random", 2, AUDIT, audits::random),
+    family("audits, large", 2, AUDIT, audits::large),
     family("files, written", 2, WRITE, written::written),
     family("rescues, corner cases", 1, RESCUE, rescues::corners),
     family("rescues, every cut", 2, RESCUE, rescues::cuts),
     family("rescues, each block", 2, RESCUE, rescues::blocks),
     family("rescues, each record", 2, RESCUE, rescues::records),
     family("rescues, random", 2, RESCUE, rescues::random),
+    family("reads, corner cases", 1, READERS, reads::corners),
+    family("reads, counts and blocks", 1, READERS, reads::counts),
+    family("reads, every cut", 2, READERS, reads::cuts),
+    family("reads, each block", 2, READERS, reads::blocks),
+    family("reads, each record", 2, READERS, reads::records),
+    family("reads, written files", 2, READERS, reads::written),
+    family("reads, random", 2, READERS, reads::random),
     family("files, through the program", 1, FILE, files::files),
 ];
 

@@ -87,7 +87,7 @@ fn check_dialects<'a>(
 }
 
 /// So many of all dialects, by chance.
-fn some<'a>(rng: &mut Rng, dialects: &'a [Vec<u8>], count: usize) -> Vec<&'a Vec<u8>> {
+pub fn some<'a>(rng: &mut Rng, dialects: &'a [Vec<u8>], count: usize) -> Vec<&'a Vec<u8>> {
     (0..count).map(|_| &dialects[rng.below(dialects.len())]).collect()
 }
 
@@ -152,6 +152,8 @@ pub fn every_job(checker: &mut Checker, rng: &mut Rng, table: &[u8], names: &[u8
     let target = node_like(is_expression);
     let ty = node_like(is_expression);
     let dialect = dialects[rng.below(dialects.len())].as_slice();
+    // It takes no number of the row, so that the other jobs stay as they were.
+    let audited = [0, 3, 4, 7, 8, 30, 200][(nodes + target) % 7];
     let jobs = [
         Job::Table,
         Job::Params { node: owner, modes: rng.pick(&[0, 1, 2, 4, 8, 16, 64]) },
@@ -162,6 +164,7 @@ pub fn every_job(checker: &mut Checker, rng: &mut Rng, table: &[u8], names: &[u8
         Job::Module { dialect, errors: rng.pick(&[0, 1, 3, 5, 6, 20, 100]) },
         Job::Write { dialect, file: rng.pick(&[0, 1_023, 1_024, 1_535, 1_536, 2_048, 4_096]) },
         Job::Bind { call, def: owner, list: rng.pick(&[0, 1, 2, 4, 8, 16, 64]) },
+        Job::Audit { dialect, errors: audited },
     ];
     for job in jobs {
         checker.check(&Request { table, names, job });

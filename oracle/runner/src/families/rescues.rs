@@ -333,7 +333,7 @@ fn no_dialect(checker: &mut Checker) {
 }
 
 /// So many zero bytes, or none where the machine has no room for them. Pages that nobody touches take no memory.
-fn zeroes(length: usize) -> Option<Vec<u8>> {
+pub fn zeroes(length: usize) -> Option<Vec<u8>> {
     let layout = std::alloc::Layout::array::<u8>(length).ok()?;
     // SAFETY: the length is not 0. What comes is of this layout, by the allocator that Vec uses, and every byte of it is 0.
     let start = unsafe { std::alloc::alloc_zeroed(layout) };
@@ -378,42 +378,57 @@ fn shapes(rng: &mut Rng) -> Vec<Damaged> {
     ]
 }
 
-/// One file cut at every length, and longer by every length up to a block and some.
 pub fn cuts(checker: &mut Checker, plan: &Plan) {
+    each_cut(plan, &mut |bytes, more| check(checker, bytes, more));
+}
+
+pub fn blocks(checker: &mut Checker, plan: &Plan) {
+    each_block(plan, &mut |bytes, more| check(checker, bytes, more));
+}
+
+pub fn records(checker: &mut Checker, plan: &Plan) {
+    each_record(plan, &mut |bytes, more| check(checker, bytes, more));
+}
+
+/// Looks at a file, in rooms that are so much longer than needed.
+pub type See<'s> = &'s mut dyn FnMut(&[u8], &[isize]);
+
+/// One file cut at every length, and longer by every length up to a block and some.
+pub fn each_cut(plan: &Plan, see: See) {
     for shape in shapes(&mut Rng::new(plan.seed, 17)) {
         for length in (0..=shape.bytes.len()).filter(|&length| plan.has(length as u64)) {
-            check(checker, &shape.cut(length).bytes, &[0, -1, 9]);
+            see(&shape.cut(length).bytes, &[0, -1, 9]);
         }
         for more in (1..BLOCK + 20).filter(|&more| plan.has(more as u64)) {
-            check(checker, &shape.longer(more).bytes, &[0, -1, 9]);
+            see(&shape.longer(more).bytes, &[0, -1, 9]);
         }
     }
 }
 
 /// Each byte of each block changed, with the sum as it was and put right; and each block lost, doubled, emptied or exchanged.
-pub fn blocks(checker: &mut Checker, plan: &Plan) {
+pub fn each_block(plan: &Plan, see: See) {
     let mut rng = plan.rng(18);
     for shape in shapes(&mut Rng::new(plan.seed, 17)) {
         for at in (0..shape.bytes.len()).filter(|&at| plan.has(at as u64)) {
             let (block, at) = (at / BLOCK, at % BLOCK);
-            check(checker, &shape.spoilt(block, at).bytes, &[0]);
+            see(&shape.spoilt(block, at).bytes, &[0]);
             for _ in 0..plan.scale.min(8) {
                 let byte = shape.bytes[BLOCK * block + at].wrapping_add(rng.within(1, 255) as u8);
-                check(checker, &shape.put(block, at, &[byte]).bytes, &[0]);
+                see(&shape.put(block, at, &[byte]).bytes, &[0]);
             }
         }
         for block in (0..shape.blocks()).filter(|&block| plan.has(block as u64)) {
-            whole_block(checker, &shape, block);
+            whole_block(&shape, block, see);
         }
     }
 }
 
-fn whole_block(checker: &mut Checker, shape: &Damaged, block: usize) {
+fn whole_block(shape: &Damaged, block: usize, see: See) {
     let place = BLOCK * block..BLOCK * (block + 1);
     let mut seen = |change: &dyn Fn(&mut Vec<u8>)| {
         let mut changed = shape.bytes.clone();
         change(&mut changed);
-        check(checker, &changed, &[0, -1, 600]);
+        see(&changed, &[0, -1, 600]);
     };
     seen(&|bytes| drop(bytes.drain(place.clone())));
     seen(&|bytes| bytes[place.clone()].fill(0));
@@ -424,15 +439,15 @@ fn whole_block(checker: &mut Checker, shape: &Damaged, block: usize) {
         seen(&|bytes| bytes[place.clone()].copy_from_slice(&shape.bytes[BLOCK * other..BLOCK * (other + 1)]));
     }
     for number in [0, 1, 2, 3, block + 1, 256 + block, 65_535] {
-        check(checker, &shape.put(block, 0, &(number as u16).to_le_bytes()).bytes, &[0]);
+        see(&shape.put(block, 0, &(number as u16).to_le_bytes()).bytes, &[0]);
     }
     for used in [0u16, 1, 4, 13, 23, 24, 25, 480, 503, 504, 505, 508, 65_535] {
-        check(checker, &shape.put(block, 2, &used.to_le_bytes()).bytes, &[0]);
+        see(&shape.put(block, 2, &used.to_le_bytes()).bytes, &[0]);
     }
 }
 
 /// Each record's size field damaged, in a whole file and in one that is cut or longer; and each record's kind. The sums are put right.
-pub fn records(checker: &mut Checker, plan: &Plan) {
+pub fn each_record(plan: &Plan, see: See) {
     // The quick run has a share of the sizes and kinds that changes from record to record.
     let of = if plan.is_long() { 1 } else { 6 };
     for shape in shapes(&mut Rng::new(plan.seed, 17)) {
@@ -441,14 +456,14 @@ pub fn records(checker: &mut Checker, plan: &Plan) {
             let at = usize::from(record);
             for size in damaged_sizes(record, counted, of) {
                 let changed = shape.size(at, size);
-                check(checker, &changed.bytes, &[0]);
+                see(&changed.bytes, &[0]);
                 if (size ^ record) % 4 == 0 || plan.is_long() {
-                    check(checker, &changed.cut(shape.bytes.len() - 1).bytes, &[0, -1]);
-                    check(checker, &changed.longer(5).bytes, &[0]);
+                    see(&changed.cut(shape.bytes.len() - 1).bytes, &[0, -1]);
+                    see(&changed.longer(5).bytes, &[0]);
                 }
             }
             for other in (0..=65).filter(|other| (other + record) % of == 0) {
-                check(checker, &shape.field(at, KIND_AT, &[other as u8]).bytes, &[0]);
+                see(&shape.field(at, KIND_AT, &[other as u8]).bytes, &[0]);
             }
         }
     }
@@ -461,8 +476,20 @@ fn damaged_sizes(record: u16, counted: u16, of: u16) -> Vec<u16> {
     inside.chain([255, 256, 2_101, 65_535]).collect()
 }
 
-/// Random modules, sound and not, small and large, with random damage.
 pub fn random(checker: &mut Checker, plan: &Plan) {
+    each_random_file(checker, plan, 24_000, &mut |checker, bytes, more| {
+        check(checker, bytes, more);
+        greedy_is_largest(checker, bytes);
+    });
+}
+
+/// Random modules, sound and not, small and large, with random damage.
+pub fn each_random_file(
+    checker: &mut Checker,
+    plan: &Plan,
+    quick: u64,
+    see: &mut dyn FnMut(&mut Checker, &[u8], &[isize]),
+) {
     let dialects = dialect::all();
     let grow = |rng: &mut Rng, number| {
         let wild = rng.once_in(3);
@@ -478,7 +505,7 @@ pub fn random(checker: &mut Checker, plan: &Plan) {
             _ => grow::module(rng, wild),
         }
     };
-    each_random(checker, plan, 19, 24_000, grow, |checker, rng, random| {
+    each_random(checker, plan, 19, quick, grow, |checker, rng, random| {
         let Encoded { mut table, names, .. } = random.encoded.clone();
         if rng.once_in(2) {
             spoil(rng, &mut table);
@@ -504,8 +531,7 @@ pub fn random(checker: &mut Checker, plan: &Plan) {
             bytes.extend((0..rng.within(1, 1_100)).map(|at| at as u8));
         }
         let more = rng.pick(&[0, 1, 700, -1, -512]);
-        check(checker, &bytes, &[0, more]);
-        greedy_is_largest(checker, &bytes);
+        see(checker, &bytes, &[0, more]);
     });
 }
 

@@ -24,10 +24,10 @@ use Rattle.validate.proofs.expressions.+check_expression+visit_expr.{st
 use Rattle.validate.proofs.expressions.+check_expression+visit_expr.Tie.{close}
 
 abbrev μ-one : Measures 3 one-kinds.ps ℕ
-μ-one κs a = 2 * length (a .1 .1 .0 .now)
+μ-one κs a = 2 * length (a .1 .1 .1 .0 .now)
 
 abbrev μ-each : Measures 3 each-kinds.ps ℕ
-μ-each κs a = 2 * length (a .1 .1 .0 .now) + 1
+μ-each κs a = 2 * length (a .1 .1 .1 .0 .now) + 1
 
 abbrev one-at : ℕ → In 3 one-kinds.ps
 one-at t = and 3 one-kinds.ps (is 3 one-kinds.ps μ-one t) one.Pre
@@ -42,12 +42,12 @@ abbrev each-below : ℕ → In 3 each-kinds.ps
 each-below t = and 3 each-kinds.ps (falls 3 each-kinds.ps _<_ μ-each t) each.Pre
 
 abbrev each-Inv-loop : each-lts.InvT-loop
-each-Inv-loop d names t at errors₀ left₀ place₀ total₀ errors left place total =
-    Visiting («visit_expr» d names) (expr d names) («visit_expr» d names (forest at t)) t errors₀ left place total
-    errors
+each-Inv-loop listing d names t at errors₀ left₀ place₀ total₀ errors left place total =
+    Visiting listing («visit_expr» d names) (expr d names) («visit_expr» d names (forest at t)) t errors₀ left place
+    total errors
 
 abbrev each-μ-loop : each-lts.MeasureT-loop
-each-μ-loop d names t at errors₀ left₀ place₀ total₀ errors left place total = length left
+each-μ-loop listing d names t at errors₀ left₀ place₀ total₀ errors left place total = length left
 
 pub +check-expression+visit-expr-spec : {M : Type 1} → statement M
 +check-expression+visit-expr-spec =
@@ -92,7 +92,7 @@ pub +check-expression+visit-expr-spec : {M : Type 1} → statement M
     (λ c. each-start (expressions _ _) (search needs))
     (λ c κs. search needs)
     (λ c κs. search needs)
-    (λ c. search needs)
+    (λ c. omega (arith, each-long))  -- mul-check-expression
     (λ c. search needs)
     (λ c. search needs)
     (λ c. search needs)

@@ -10,6 +10,7 @@ pub with-params-spec : {M : Type 1} → statement M
 with-params-spec =
     tie.close
     (tie.spec
+    (λ c. search needs)
     (λ c κs. search needs)
     (λ c κs. search needs)
     (λ c. search needs)

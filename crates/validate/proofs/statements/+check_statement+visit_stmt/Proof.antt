@@ -31,10 +31,10 @@ use Rattle.validate.proofs.statements.+check_statement+visit_stmt.{stat
 use Rattle.validate.proofs.statements.+check_statement+visit_stmt.Tie.{close}
 
 abbrev μ-one : Measures 3 one-kinds.ps ℕ
-μ-one κs a = 2 * length (a .1 .1 .0 .now)
+μ-one κs a = 2 * length (a .1 .1 .1 .0 .now)
 
 abbrev μ-each : Measures 3 each-kinds.ps ℕ
-μ-each κs a = 2 * length (a .1 .1 .0 .now) + 1
+μ-each κs a = 2 * length (a .1 .1 .1 .0 .now) + 1
 
 abbrev one-at : ℕ → In 3 one-kinds.ps
 one-at t = and 3 one-kinds.ps (is 3 one-kinds.ps μ-one t) one.Pre
@@ -49,12 +49,12 @@ abbrev each-below : ℕ → In 3 each-kinds.ps
 each-below t = and 3 each-kinds.ps (falls 3 each-kinds.ps _<_ μ-each t) each.Pre
 
 abbrev each-Inv-loop : each-lts.InvT-loop
-each-Inv-loop d names t at s errors₀ left₀ place₀ total₀ errors left place total =
-    Visiting («visit_stmt» d names s) (f d names s) («visit_stmt» d names s (forest at t)) t errors₀ left place
+each-Inv-loop listing d names t at s errors₀ left₀ place₀ total₀ errors left place total =
+    Visiting listing («visit_stmt» d names s) (f d names s) («visit_stmt» d names s (forest at t)) t errors₀ left place
     total errors
 
 abbrev each-μ-loop : each-lts.MeasureT-loop
-each-μ-loop d names t at s errors₀ left₀ place₀ total₀ errors left place total = length left
+each-μ-loop listing d names t at s errors₀ left₀ place₀ total₀ errors left place total = length left
 
 pub +check-statement+visit-stmt-spec : {M : Type 1} → statement M
 +check-statement+visit-stmt-spec =
@@ -83,7 +83,6 @@ pub +check-statement+visit-stmt-spec : {M : Type 1} → statement M
     (λ c. search (f-none, not-true))  -- returns
     (λ c κs. search needs)
     (λ c. search needs)
-    (λ c. search needs)
     (λ c κs. search needs)
     (λ c κs. search needs)
     (λ c. search needs)
@@ -97,7 +96,9 @@ pub +check-statement+visit-stmt-spec : {M : Type 1} → statement M
     (λ c κs. search needs)
     (λ c. search needs)
     (λ c. search needs)
+    (λ c. search needs)
     (λ c κs. search needs)
+    (λ c. search needs)
     (λ c. search needs)
     (λ c κs. search needs)
     (λ c. search needs)
@@ -129,7 +130,7 @@ pub +check-statement+visit-stmt-spec : {M : Type 1} → statement M
     (λ c. each-start (statements _ _ _) (search needs))
     (λ c κs. search needs)
     (λ c κs. search needs)
-    (λ c. search needs)
+    (λ c. omega (arith, each-long))  -- mul-check-statement
     (λ c. search needs)
     (λ c. search needs)
     (λ c. search needs)

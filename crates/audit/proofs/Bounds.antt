@@ -1,0 +1,120 @@
+-- How many refusals there can be: two at a record at most, so that no count overflows. And refusals of trees in turn.
+-- Assumes nothing.
+use mathlib.Core.Path.{_≡_, refl, sym}
+use mathlib.Core.Bool.{Bool, true, false}
+use mathlib.Core.List.{List, [], _∷_, _++_, append-assoc}
+use Prim.Native.Nat.{ℕ, _+_, _*_, _≤_}
+use native.Mathlib.Omega.{arith}
+use lib.ListN.{length, length-append}
+use Rattle.fields.specs.Choice.{if'}
+use Rattle.dialect.specs.declared.Dialect.{Dialect}
+use Rattle.forest.specs.Forest.{kidsOf, Tree, node, Forest, none, _then_, forest, treeOf, count, countTree}
+use Rattle.forest.proofs.Stretch.{count-forest, length-kids}
+use Rattle.table.specs.Answer.{Answer, accepted, refused}
+use Rattle.table.specs.Check.{wants}
+use Rattle.table.specs.declared.Wanted.the-variants.{Parameters, Call, Assignment}
+use Rattle.deflist.specs.Written.{writtenIn}
+use Rattle.deflist.specs.Unpack.{unpack}
+use Rattle.deflist.specs.Told.{told}
+use Rattle.deflist.specs.declared.Judged.{Judged}
+use Rattle.deflist.specs.declared.Judged.the-variants.{Accepted, Refused}
+use Rattle.arguments.specs.Job.{callAnswer}
+use Rattle.targets.specs.Targets.{counted, «check_assignment»}
+use Rattle.types.specs.Types.{«dialect_check_type»}
+use Rattle.errors.specs.declared.Err.{Err}
+use Rattle.validate.specs.Params.{unpackError}
+use Rattle.audit.specs.declared.Role.{Role}
+use Rattle.audit.specs.declared.Role.the-variants.{AsTarget, AsType, Plain}
+use Rattle.audit.specs.declared.Roles.{Roles}
+use Rattle.audit.specs.Roles.{rolesOf, roleOf, rolesAfter, Placed, kindIn, placedTree, placed}
+use Rattle.audit.specs.Refusals.{answerErrors, kindErrors, roleErrors, refusedThere, refusals}
+
+-- an answer is told once at most, and so is a parameter list
+answer-few : (a : Answer) → length (answerErrors a) ≤ 1
+answer-few (accepted vs) = omega arith
+answer-few (refused n vs) = omega arith
+
+list-few : (j : Judged) → length (unpackError j) ≤ 1
+list-few (Accepted c) = omega arith
+list-few (Refused f) = omega arith
+
+choice-few : (b : Bool) (x y : Unit {0} → List Err) → length (x tt) ≤ 1 → length (y tt) ≤ 1 → length (if' b x y) ≤ 1
+choice-few true x y p q = p
+choice-few false x y p q = q
+
+pub kind-few : (names : List ℕ) (t : Tree) → length (kindErrors names t) ≤ 1
+unfolding kindErrors
+kind-few names t =
+    choice-few (wants Parameters (kindIn t)) _ _ (list-few (told (unpack (writtenIn names t))))
+    (choice-few (wants Call (kindIn t)) _ _ (answer-few (callAnswer names t))
+    (choice-few (wants Assignment (kindIn t)) _ _ (answer-few («check_assignment» t)) (omega arith)))
+
+pub role-few : (d : Dialect) (names : List ℕ) (role : Role) (t : Tree) → length (roleErrors d names role t) ≤ 1
+unfolding roleErrors
+role-few d names AsTarget t = answer-few (counted 0 t)
+role-few d names AsType t = answer-few («dialect_check_type» names (d .«enable_types») t)
+role-few d names Plain t = omega arith
+
+module _ (d : Dialect) (names : List ℕ) where
+  pub there-few : (p : Placed) → length (refusedThere d names p) ≤ 2
+  unfolding refusedThere
+  there-few p = omega (
+    arith,
+    length-append (kindErrors names (p .tree)) (roleErrors d names (p .role) (p .tree)),
+    kind-few names (p .tree),
+    role-few d names (p .role) (p .tree),
+  )
+
+  -- LAW: refusals of trees, and of others: those of each, and no more than two at a tree
+  pub refusals-append : (ps qs : List Placed)
+      → refusals d names (ps ++ qs) ≡ refusals d names ps ++ refusals d names qs
+  unfolding refusals
+  refusals-append [] qs = refl
+  refusals-append (p ∷ ps) qs = rw (refusals-append ps qs)
+      (sym (append-assoc (refusedThere d names p) (refusals d names ps) (refusals d names qs)))
+
+  pub refusals-few : (ps : List Placed) → length (refusals d names ps) ≤ 2 * length ps
+  unfolding refusals
+  refusals-few [] = omega arith
+  refusals-few (p ∷ ps) = omega (
+    arith,
+    length-append (refusedThere d names p) (refusals d names ps),
+    there-few p,
+    refusals-few ps,
+  )
+
+-- LAW: there are as many trees as nodes
+mutual
+  unfolding placed count
+
+  pub count-tree : (role : Role) (t : Tree) → length (placedTree role t) ≡ countTree t
+  count-tree role (node r ks) = let below = count-placed (rolesOf (r .kind) (r .detail)) ks in omega (arith, below)
+
+  pub count-placed : (roles : Roles) (ts : Forest) → length (placed roles ts) ≡ count ts
+  count-placed roles none = refl
+  count-placed roles (t then ts) = omega (
+    arith,
+    length-append (placedTree (roleOf roles (kindIn t)) t) (placed (rolesAfter roles) ts),
+    count-tree (roleOf roles (kindIn t)) t,
+    count-placed (rolesAfter roles) ts,
+  )
+
+-- the same for what code walks: a stretch, and its first tree
+module _ (d : Dialect) (names : List ℕ) (i : ℕ) (t : List ℕ) where
+  pub each-few : (roles : Roles) → 12 * length (refusals d names (placed roles (forest i t))) ≤ length t
+  each-few roles = omega (
+    arith,
+    refusals-few d names (placed roles (forest i t)),
+    count-placed roles (forest i t),
+    count-forest i t,
+  )
+
+  pub tree-few : (role : Role) → 12 * length (refusals d names (placedTree role (treeOf i t))) ≤ 24 + length t
+  unfolding count
+  tree-few role = omega (
+    arith,
+    refusals-few d names (placedTree role (treeOf i t)),
+    count-tree role (treeOf i t),
+    count-forest (i + 1) (kidsOf t),
+    length-kids t,
+  )

@@ -1,0 +1,70 @@
+-- Laws of the audit as a job, in the terms of code: one for each return. Assumes nothing.
+use mathlib.Core.Path.{_≡_, refl, sym, _∙_}
+use mathlib.Core.List.{List, [], _∷_}
+use Prim.Native.Nat.{ℕ, _+_, _≤_}
+use native.Mathlib.Omega.{arith}
+use lib.ListN.{length, take, drop, length-take}
+use Rattle.dialect.specs.declared.Dialect.{Dialect}
+use Rattle.forest.specs.Forest.{forest, count}
+use Rattle.forest.proofs.Stretch.{count-forest}
+use Rattle.table.specs.Answer.{Answer, accepted, refusal}
+use Rattle.table.specs.Check.{given, givenOf}
+use Rattle.table.specs.declared.Refusal.{Refusal}
+use Rattle.table.specs.declared.Given.{Given}
+use Rattle.table.specs.declared.Given.the-variants.{In, Refused as Away}
+use Rattle.table.proofs.Entering.{away-is, in-is}
+use Rattle.errors.specs.declared.Err.{Err}
+use Rattle.errors.specs.declared.Listing.the-variants.{Own, Audit}
+use Rattle.errors.specs.Errors.{kept, stored, Stores}
+use Rattle.errors.proofs.Storing.{kept-few, freeAt, after, back, stored-none, stores-both}
+use Rattle.validate.specs.Job.{passErrors}
+use Rattle.validate.proofs.Bounds.{module-few}
+use Rattle.audit.specs.declared.Roles.the-variants.{Nowhere}
+use Rattle.audit.specs.Roles.{placed}
+use Rattle.audit.specs.Refusals.{refusals}
+use Rattle.audit.specs.Job.{auditErrors, allErrors, auditOf, auditAfter}
+
+-- LAW: the module pass's own errors have the words of the audit
+own-words : (es : List Err) (xs : List ℕ) → stored Own es xs ≡ stored Audit es xs
+unfolding stored
+own-words [] xs = refl
+own-words (e ∷ es) xs = rw (own-words es (drop 4 xs)) refl
+
+-- the module pass's part: it is stored as the audit stores, and it is little
+module _ (d : Dialect) (names t : List ℕ) {m : ℕ} (m-is : m ≡ length (kept Own (passErrors d names t))) where
+  own-stores : (xs : List ℕ) {ys : List ℕ} → ys ≡ stored Own (kept Own (passErrors d names t)) xs
+      → Stores Audit (kept Own (passErrors d names t)) xs m ys
+  own-stores xs words = record { count = m-is; words = words ∙ own-words (kept Own (passErrors d names t)) xs }
+
+  pub own-few : m ≤ 4200
+  unfolding passErrors
+  own-few = omega (
+    arith,
+    kept-few Own (passErrors d names t),
+    module-few d names (forest 0 (take 50400 t)),
+    count-forest 0 (take 50400 t),
+    length-take 50400 t,
+  )
+
+  -- and then what the jobs refuse, over as much as a table has at most
+  pub pass-all : (xs : List ℕ) {ys : List ℕ} → ys ≡ stored Own (kept Own (passErrors d names t)) xs → {at : ℕ}
+      → at ≡ freeAt Audit m ys → {w : List ℕ} → w ≡ take 50400 t → {n : ℕ} {zs : List ℕ}
+      → Stores Audit (refusals d names (placed Nowhere (forest 0 w))) (after at ys) n zs
+      → (m + n ≡ length (auditErrors d names t)) × (back at ys zs ≡ stored Audit (auditErrors d names t) xs)
+  unfolding auditErrors
+  pass-all xs words at-is w-is rest =
+      let both = stores-both _ _ (own-stores xs words) at-is (rw w-is at rest) in (both .count, both .words)
+
+-- what the promises say where the job refuses, and where it does not
+abbrev pub Promised : List ℕ → List ℕ → List ℕ → List ℕ → Answer → List ℕ → Type 0
+Promised t names bytes xs r ys = (r ≡ auditOf t names bytes) × (ys ≡ auditAfter t names bytes xs)
+
+module _ (t names bytes xs : List ℕ) {g : Given} (g-is : given g ≡ givenOf t names bytes) where
+  pub job-refused : {why : Refusal} → g ≡ Away why → Promised t names bytes xs (refusal why) xs
+  unfolding allErrors
+  job-refused h = let told = away-is t names bytes g-is h in (rw told refl, rw told (sym (stored-none Audit xs)))
+
+  pub job-total : {d : Dialect} {n : ℕ} {ys : List ℕ} → g ≡ In d → n ≡ length (auditErrors d names t)
+      → ys ≡ stored Audit (auditErrors d names t) xs → Promised t names bytes xs (accepted (n ∷ [])) ys
+  unfolding allErrors
+  job-total {d} h total words = let told = in-is t names bytes g-is h in (rw (told, total) refl, rw told words)

@@ -1,0 +1,73 @@
+// The walk of the audit: every record in table order, with the role that it has where it stands. Records side by side
+// are taken in a loop, and children by recursion.
+use crate::Role;
+use crate::Roles;
+use crate::places;
+use crate::records;
+use dialect::Dialect;
+use errors::Listing;
+use forest::RECORD;
+ghost use mathlib.Core.Path.{_≡_};
+ghost use Prim.Native.Nat.{_*_};
+ghost use Rattle.forest.specs.Forest.{spanOf, treeOf, forest};
+ghost use Rattle.table.specs.Check.{Headed, Within, mostNodes};
+ghost use Rattle.errors.specs.Errors.{Stores};
+ghost use Rattle.errors.specs.declared.Listing.the-variants.{Audit};
+ghost use Rattle.validate.specs.Inner.{StoresFew};
+ghost use Rattle.audit.specs.Roles.{placedTree, placed};
+ghost use Rattle.audit.specs.Refusals.{refusals};
+
+// The record that a stretch begins with, in its role, and then all below it. Its tree takes e bytes.
+fn check_record(
+    d: Dialect,
+    names: &[u8],
+    role: Role,
+    t: &[u8],
+    e: usize,
+    at: usize,
+    errors: &mut [u32],
+) -> usize
+    requires { ⌜ Headed at (now t) ⌝ }
+    requires { ⌜ e ≡ spanOf (now t) ⌝ }
+    ensures { λ r. ⌜ Stores Audit (refusals d (now (names .entry)) (placedTree role (treeOf at (now (t .entry)))))
+        (now (errors .entry)) r (now (errors .exit)) ⌝ }
+{
+    let own = records::check_there(d, names, role, t, at as u32, errors);
+    if e <= RECORD {
+        return own;
+    }
+    let free = errors::free(Listing::Audit, errors.len(), own);
+    let roles = places::roles_of(t);
+    let below = check_each(d, names, roles, &t[RECORD..e], at + 1, &mut errors[free..]);
+    own + below
+}
+
+// The records side by side in a stretch whose first record has the index at, in turn.
+pub(crate) fn check_each(
+    d: Dialect,
+    names: &[u8],
+    first: Roles,
+    t: &[u8],
+    at: usize,
+    errors: &mut [u32],
+) -> usize
+    requires { ⌜ Within at (now t) ⌝ }
+    ensures { λ r. ⌜ StoresFew Audit (2 * mostNodes)
+        (refusals d (now (names .entry)) (placed first (forest at (now (t .entry))))) (now (errors .entry)) r
+        (now (errors .exit)) ⌝ }
+{
+    let mut left = t;
+    let mut place = at;
+    let mut roles = first;
+    let mut total = 0;
+    while RECORD <= left.len() {
+        let free = errors::free(Listing::Audit, errors.len(), total);
+        let e = forest::span(left);
+        let role = places::role_of(roles, left);
+        total += check_record(d, names, role, left, e, place, &mut errors[free..]);
+        left = &left[e..];
+        place += e / RECORD;
+        roles = places::roles_after(roles);
+    }
+    total
+}

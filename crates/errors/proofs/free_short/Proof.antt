@@ -1,0 +1,7 @@
+-- `errors::free_short` meets its contract: behind errors of three words, or at the end. Assumes nothing.
+use borrow.Author.Needs.{needs}
+use Rattle.errors.proofs.free_short.Statement.{statement}
+use Rattle.errors.proofs.free_short.Tie as tie
+
+pub free-short-spec : {M : Type 1} → statement M
+free-short-spec = tie.close (tie.spec (λ c. search needs) (λ c. search needs) (λ c. search needs))

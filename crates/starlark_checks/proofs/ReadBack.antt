@@ -1,0 +1,104 @@
+-- Table files in C, over the promises of `starlark_read` and `starlark_write`, for every input:
+-- what `starlark_read` hands over is what the reader holds;
+-- what `starlark_write` has written, `starlark_read` gives back as the same table, names and dialect. Assumes nothing.
+use mathlib.Core.Path.{_≡_, refl, sym, ap, _∙_}
+use mathlib.Core.List.{List, [], _∷_, _++_}
+use Prim.Native.Nat.{ℕ, _/_, _≤_}
+use native.Mathlib.Omega.{arith}
+use lib.ListN.{length, take, drop}
+use Rattle.fields.specs.Field.{field}
+use Rattle.fields.proofs.Spelling.{Bytes}
+use Rattle.table.specs.Answer.{accepted}
+use Rattle.tablefile.specs.File.{Content}
+use Rattle.tablefile.specs.Reading.{headerAt, contentAt, readCheck}
+use Rattle.tablefile.specs.Loading.{verdict, held}
+use Rattle.tablefile.specs.Lending.{intoCheck, handed}
+use Rattle.tablefile.specs.declared.Loaded.{Loaded}
+use Rattle.tablefile.specs.declared.Verdict.the-variants.{Accepted}
+use Rattle.tablefile.proofs.Fronts.{table-length, names-length, dialect-length}
+use Rattle.tablefile.proofs.Accepted.{read-fronted}
+use Rattle.tablefile.proofs.Lends.{into-passed}
+use Rattle.tablefile.proofs.Theorems.{Read, holds}
+use Rattle.writer.specs.Writing.{holding, writeOf, fileAfter}
+use Rattle.writer.specs.declared.Written.the-variants.{Accepted as Wrote}
+use Rattle.writer.proofs.RoundTrips.{back-content, back-read}
+use Rattle.starlark_checks.specs.Words.{heldValues, readOf}
+
+-- what a read of a file leaves in two buffers
+abbrev pub tableAfter : List ℕ → List ℕ → List ℕ → List ℕ
+tableAfter file t ns = handed (intoCheck file (length t) (length ns)) (contentAt file .table) t
+
+abbrev pub namesAfter : List ℕ → List ℕ → List ℕ → List ℕ
+namesAfter file t ns = handed (intoCheck file (length t) (length ns)) (contentAt file .names) ns
+
+-- a file that the reader accepts, with what it holds, into buffers that it fits
+module _ (file t ns : List ℕ) (c : Content) (passed : readCheck file ≡ accepted []) (c-is : contentAt file ≡ c)
+    (t-fits : length (c .table) ≤ length t) (ns-fit : length (c .names) ≤ length ns) where
+  room : intoCheck file (length t) (length ns) ≡ accepted []
+  room = into-passed file passed (length t) (length ns) (rw c-is t-fits) (rw c-is ns-fit)
+
+  its-table : tableAfter file t ns ≡ c .table ++ drop (length (c .table)) t
+  unfolding handed
+  its-table = rw (room, c-is) refl
+
+  its-names : namesAfter file t ns ≡ c .names ++ drop (length (c .names)) ns
+  unfolding handed
+  its-names = rw (room, c-is) refl
+
+  its-answer : readOf file (length t) (length ns) ≡ accepted (heldValues file)
+  unfolding readOf
+  its-answer = rw room refl
+
+  its-values : heldValues file ≡ length (c .table) / 24 ∷ length (c .names) ∷ (length (c .dialect) / 9)
+      ∷ field 4 (c .dialect) 0 ∷ field 4 (c .dialect) 4 ∷ field 4 (c .dialect) 8 ∷ []
+  its-values =
+      let f = read-fronted file passed in
+      let nodes : headerAt file .nodes ≡ length (contentAt file .table) / 24 = omega (arith, table-length file f) in
+      rw (nodes, ← names-length file f, ← dialect-length file f, c-is) refl
+
+-- THEOREM: of a file that the reader accepts, into buffers that table and names fit, what `starlark_read` hands over is
+-- what the reader holds; the rest of the buffers stays
+module _ (file : List ℕ) (l : Loaded) (read : Read file l) (good : l .verdict ≡ Accepted) (t ns : List ℕ)
+    (t-fits : length (held l .table) ≤ length t) (ns-fit : length (held l .names) ≤ length ns) where
+  reader : readCheck file ≡ accepted []
+  reader = sym (read .0) ∙ ap verdict good
+
+  same : contentAt file ≡ held l
+  same = sym (holds file l (read .1) good)
+
+  pub read-accepts : readOf file (length t) (length ns) ≡ accepted (heldValues file)
+  read-accepts = its-answer file t ns (held l) reader same t-fits ns-fit
+
+  pub read-table : tableAfter file t ns ≡ held l .table ++ drop (length (held l .table)) t
+  read-table = its-table file t ns (held l) reader same t-fits ns-fit
+
+  pub read-names : namesAfter file t ns ≡ held l .names ++ drop (length (held l .names)) ns
+  read-names = its-names file t ns (held l) reader same t-fits ns-fit
+
+-- THEOREM: what is written is read back
+module _ (t names ds buffer : List ℕ) {n : ℕ} (wrote : writeOf t names ds (length buffer) ≡ accepted (n ∷ []))
+    (table-bytes : Bytes t) (names-bytes : Bytes names) (dialect-bytes : Bytes ds) (room-t room-n : List ℕ)
+    (t-fits : length t ≤ length room-t) (names-fit : length names ≤ length room-n) where
+  abbrev pub file : List ℕ
+  file = take n (fileAfter t names ds buffer)
+
+  accepts : readCheck file ≡ accepted []
+  accepts = back-read t names ds buffer (Wrote n) (fileAfter t names ds buffer) (sym wrote, refl) refl
+      table-bytes names-bytes dialect-bytes
+
+  content : contentAt file ≡ holding t names ds
+  content = back-content t names ds buffer (Wrote n) (fileAfter t names ds buffer) (sym wrote, refl) refl
+      table-bytes names-bytes dialect-bytes
+
+  -- the counts and the dialect
+  pub written-told : readOf file (length room-t) (length room-n)
+      ≡ accepted (length t / 24 ∷ length names ∷ (length ds / 9) ∷ field 4 ds 0 ∷ field 4 ds 4 ∷ field 4 ds 8 ∷ [])
+  written-told = its-answer file room-t room-n (holding t names ds) accepts content t-fits names-fit
+      ∙ ap accepted (its-values file room-t room-n (holding t names ds) accepts content t-fits names-fit)
+
+  -- the table, and the names
+  pub written-table : tableAfter file room-t room-n ≡ t ++ drop (length t) room-t
+  written-table = its-table file room-t room-n (holding t names ds) accepts content t-fits names-fit
+
+  pub written-names : namesAfter file room-t room-n ≡ names ++ drop (length names) room-n
+  written-names = its-names file room-t room-n (holding t names ds) accepts content t-fits names-fit

@@ -1,0 +1,26 @@
+-- Reading a file into lent buffers: the job's answer, and the buffers at exit. These are definitions.
+use mathlib.Core.Bool.{_&&_}
+use mathlib.Core.List.{List, _++_}
+use Prim.Native.Nat.{ℕ, _*_}
+use lib.ListN.{length, drop}
+use lib.Dec.{leb}
+use Rattle.forest.specs.Forest.{recordBytes}
+use Rattle.table.specs.Numbers.{shortBuffer, bytesLeftOver}
+use Rattle.table.specs.Answer.{Answer, accepted, refused, andThen}
+use Rattle.blocks.specs.Block.{demand}
+use Rattle.tablefile.specs.Reading.{headerAt, frontCheck, readCheck}
+
+-- 70 to 75: the file at the front, then bytes left over
+unfoldable pub fileCheck : List ℕ → Answer
+fileCheck bs = andThen (frontCheck bs) (λ _. demand (leb (length bs) (headerAt bs .taken)) bytesLeftOver)
+
+-- the job, for buffers of so many bytes: the reader's refusals, then 7 where the table or the names do not fit
+unfoldable pub intoCheck : List ℕ → ℕ → ℕ → Answer
+intoCheck bs table names =
+    andThen (readCheck bs) (λ _.
+    demand (leb (recordBytes * headerAt bs .nodes) table && leb (headerAt bs .names) names) shortBuffer)
+
+-- a buffer at exit: bytes over its front where a check is passed, else as it was
+unfoldable pub handed : Answer → List ℕ → List ℕ → List ℕ
+handed (accepted vs) bs buffer = bs ++ drop (length bs) buffer
+handed (refused n vs) bs buffer = buffer

@@ -1,0 +1,139 @@
+//! Product 1's audit: the module pass, and every job on every node that it fits. Written from the words of the request.
+
+use crate::answer::Refusal;
+use crate::call;
+use crate::dialect::Dialect;
+use crate::jobs::argument_refusal;
+use crate::jobs::parameter_refusal;
+use crate::jobs::Written;
+use crate::module;
+use crate::module::entries;
+use crate::numbers::kind;
+use crate::numbers::number;
+use crate::params;
+use crate::planted::planted;
+use crate::planted::Fault;
+use crate::table::normal_parts;
+use crate::table::Class;
+use crate::table::Table;
+use crate::targets;
+use crate::types;
+
+/// A job beside the module pass, in the order in which what is refused at one record is told.
+#[derive(Clone, Copy, Debug, PartialEq, Eq, PartialOrd, Ord)]
+pub enum Job {
+    Params,
+    Call,
+    Assignment,
+    Target,
+    Type,
+}
+
+/// A record, and a job that fits it.
+#[derive(Clone, Copy, Debug, PartialEq, Eq, PartialOrd, Ord)]
+pub struct Place {
+    pub node: usize,
+    pub job: Job,
+}
+
+/// First the module pass's errors without those of parameter lists, then what each job refuses, record by record.
+pub fn audit(table: &Table, dialect: &Dialect) -> Vec<Refusal> {
+    let listed = module::module(table, dialect);
+    let is_of_list = |number: u32| (number::SLASH_FIRST..=number::STAR_NOT_FOLLOWED).contains(&number);
+    let own = listed.in_order().filter(|error| !is_of_list(error.number) || planted(Fault::AuditTellsListsTwice));
+    let own: Vec<Refusal> = own.map(|error| table.refuse(error.number, error.node)).collect();
+    let refused: Vec<Refusal> = places(table).into_iter().filter_map(|place| refused_at(table, dialect, place)).collect();
+    if planted(Fault::AuditJobsFirst) { [refused, own].concat() } else { [own, refused].concat() }
+}
+
+/// Where each job is asked, in table order.
+pub fn places(table: &Table) -> Vec<Place> {
+    let mut places: Vec<Place> = (0..table.records.len()).flat_map(|node| places_of(table, node)).collect();
+    places.sort();
+    if planted(Fault::AuditTypeBeforeCall) {
+        places.sort_by_key(|place| (place.node, place.job != Job::Type));
+    }
+    places
+}
+
+/// The job on a record itself, and those on what stands below it: a For's target, a type.
+fn places_of(table: &Table, node: usize) -> impl Iterator<Item = Place> {
+    let own = match table.kind(node) {
+        kind::DEF | kind::LAMBDA => Some(Job::Params),
+        kind::CALL => Some(Job::Call),
+        kind::ASSIGN | kind::ASSIGN_MODIFY => Some(Job::Assignment),
+        _ => None,
+    };
+    let target = match table.kind(node) {
+        kind::FOR => Some(table.child(node, 0)),
+        kind::LIST_COMPREHENSION if planted(Fault::AuditComprehensionTargets) => table.children(node).nth(1),
+        _ => None,
+    };
+    let place = |node: usize, job: Job| Place { node, job };
+    let own = own.map(|job| place(node, job));
+    let target = target.map(|node| place(node, Job::Target));
+    let ty = type_of(table, node).map(|node| place(node, Job::Type));
+    own.into_iter().chain(target).chain(ty)
+}
+
+/// The node of the type that a record is written with.
+fn type_of(table: &Table, node: usize) -> Option<usize> {
+    let record = &table.records[node];
+    let is_typed = match record.kind {
+        kind::DEF => record.detail == 1,
+        kind::ASSIGN => record.detail == 1,
+        kind::ASSIGN_MODIFY => record.detail == 1 && !planted(Fault::AuditAugmentedTypeMissed),
+        kind::NORMAL => normal_parts(record.detail).0,
+        kind::ARGS | kind::KWARGS => record.detail == 1 && !planted(Fault::AuditStarTypesMissed),
+        _ => false,
+    };
+    let mut expressions = table.children_of(node, Class::Expression);
+    let before = match record.kind {
+        kind::ASSIGN | kind::ASSIGN_MODIFY => 1,
+        _ => 0,
+    };
+    is_typed.then(|| expressions.nth(before).expect("a sound record has its type"))
+}
+
+/// What a job refuses at a place, if it does.
+pub fn refused_at(table: &Table, dialect: &Dialect, place: Place) -> Option<Refusal> {
+    let node = place.node;
+    let is_missed = match place.job {
+        Job::Target => planted(Fault::AuditRefusedForMissed) && !dialect.top_level_stmt,
+        Job::Params => planted(Fault::AuditDefaultLambdaMissed) && node > 0 && table.kind(node - 1) == kind::NORMAL,
+        _ => false,
+    };
+    if is_missed {
+        return None;
+    }
+    let refused = match place.job {
+        Job::Params => refused_list(table, node),
+        Job::Call => refused_call(table, node),
+        Job::Assignment => targets::assignment(table, node).err(),
+        Job::Target => targets::target(table, node).err(),
+        Job::Type => types::type_shape(table, node, dialect).err(),
+    };
+    if planted(Fault::AuditNodeOfTheJob) {
+        return refused.map(|refusal| Refusal { node: Some(node as u32), ..refusal });
+    }
+    refused
+}
+
+fn refused_list(table: &Table, owner: usize) -> Option<Refusal> {
+    let nodes = Written::of(table, owner, Class::Parameter).nodes;
+    let (number, at) = params::unpack(&entries(table, &nodes)).err()?;
+    Some(parameter_refusal(table, number, &nodes, at))
+}
+
+fn refused_call(table: &Table, call: usize) -> Option<Refusal> {
+    let written = Written::of(table, call, Class::Argument);
+    let (number, at) = call::unpack(&written.arguments()).err()?;
+    Some(argument_refusal(table, number, &written.nodes, at))
+}
+
+/// Four words of an error: number, node, begin, end.
+pub fn words(refusal: &Refusal) -> [u32; 4] {
+    let node = refusal.node.expect("a refusal of a job has a node");
+    let (begin, end) = refusal.span.expect("a refusal of a job has a span");
+    [refusal.number, node, begin, end]
+}
