@@ -17,14 +17,14 @@ ghost use Rattle.validate.specs.Job.{listed};
 ghost use Rattle.audit.specs.Job.{auditErrors, auditOf, auditAfter};
 
 // What a record is where it stands, beside its kind.
-pub(crate) enum Role {
+pub enum Role {
     AsTarget,
     AsType,
     Plain,
 }
 
 // Which of some children side by side have a role.
-pub(crate) enum Roles {
+pub enum Roles {
     Nowhere,
     TargetFirst,
     TypeFirst,

@@ -153,7 +153,7 @@ module _ (m : ℕ) (bs : List ℕ) (enough : 512 * mostBlocks < m) (longer : m <
       ∙ sym (whole-is bs refl)
 
   -- it is refused, and so is what is read of it
-  refused-both : {A : Type 0} (f : Answer → (Unit {0} → A) → A) → ((n : ℕ) (vs : List ℕ) (x y : Unit {0} → A)
+  pub refused-both : {A : Type 0} (f : Answer → (Unit {0} → A) → A) → ((n : ℕ) (vs : List ℕ) (x y : Unit {0} → A)
       → f (refused n vs) x ≡ f (refused n vs) y) → (x y : Unit {0} → A)
       → f (readCheck (take m bs)) x ≡ f (readCheck bs) y
   unfolding Plain

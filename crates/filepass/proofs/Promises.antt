@@ -31,3 +31,7 @@ pub check-read-one : (buffer : List ℕ) (len : ℕ) (errors : List ℕ) {r s : 
     → length buffer ≡ enoughBytes → length errors ≡ enoughWords → (r ≡ s) × (errors-r ≡ errors-s)
 check-read-one buffer len errors r-is errors-is bytes words s-is errors-are bytes′ words′ =
     (coincide-by passed passed-injective r-is s-is, coincide errors-is errors-are)
+
+-- of `front`
+pub front-one : (bytes : List ℕ) (len : ℕ) {r s : List ℕ} → r ≡ take len bytes → s ≡ take len bytes → r ≡ s
+front-one bytes len = coincide

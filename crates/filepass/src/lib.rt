@@ -84,11 +84,11 @@ fn list(table: &[u8], names: &[u8], dialect: &[u8], errors: &mut [u32]) -> Passe
 }
 
 // The front of some bytes, as much of it as is there.
-fn front(s: &[u8], len: usize) -> &[u8]
-    ensures { λ r. ⌜ now r ≡ take len (now (s .entry)) ⌝ }
+pub fn front(bytes: &[u8], len: usize) -> &[u8]
+    ensures { λ r. ⌜ now r ≡ take len (now (bytes .entry)) ⌝ }
 {
-    if s.len() <= len {
-        return s;
+    if bytes.len() <= len {
+        return bytes;
     }
-    &s[0..len]
+    &bytes[0..len]
 }

@@ -3,8 +3,7 @@ use mathlib.Core.Path.{_≡_, refl, sym}
 use mathlib.Core.List.{List, [], _∷_}
 use Prim.Native.Nat.{ℕ, _-_, _*_, _≤_}
 use native.Mathlib.Omega.{arith}
-use lib.ListN.{length, take, length-take}
-use lib.Seq.{take-all}
+use lib.ListN.{length, take}
 use Rattle.dialect.specs.declared.Dialect.{Dialect}
 use Rattle.forest.specs.Forest.{forest, count}
 use Rattle.forest.proofs.Stretch.{count-forest}
@@ -13,6 +12,7 @@ use Rattle.table.specs.Check.{given, givenOf}
 use Rattle.table.specs.declared.Refusal.{Refusal}
 use Rattle.table.specs.declared.Given.{Given}
 use Rattle.table.specs.declared.Given.the-variants.{In, Refused as Away}
+use Rattle.table.proofs.Heads.{all-within}
 use Rattle.table.proofs.Entering.{given-known, away-is, in-is}
 use Rattle.errors.specs.Errors.{kept, stored, Stores}
 use Rattle.errors.specs.declared.Listing.{Listing}
@@ -26,14 +26,6 @@ use Rattle.validate.proofs.Bounds.{module-few}
 pub total-short : {l : Listing} (d : Dialect) (names t : List ℕ) {xs ys : List ℕ} {n : ℕ}
     → Stores l («validate_module» d names (forest 0 t)) xs n ys → 12 * n ≤ length t
 total-short d names t s = omega (arith, stores-few _ s, module-few d names (forest 0 t), count-forest 0 t)
-
--- as much of some bytes as a table has at most
-module _ (t : List ℕ) where
-  pub all-within : length t ≤ 50400 → t ≡ take 50400 t
-  all-within h = sym (take-all 50400 t h)
-
-  pub within-short : {w : List ℕ} → w ≡ take 50400 t → length w ≤ 50400
-  within-short w-is = rw w-is (simp length-take (omega arith))
 
 -- the pass alone, over so much
 pub pass-all : {l : Listing} (d : Dialect) (names t : List ℕ) {w xs ys : List ℕ} {n : ℕ} → w ≡ take 50400 t

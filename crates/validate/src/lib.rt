@@ -12,11 +12,10 @@ mod statements;
 use dialect::Dialect;
 use errors::Listing;
 use table::Given;
-use table::MOST_BYTES;
 use table::Refusal;
 ghost use mathlib.Core.Path.{_≡_};
 ghost use Prim.Native.Nat.{_≤_};
-ghost use lib.ListN.{length, take};
+ghost use lib.ListN.{length};
 ghost use Rattle.forest.specs.Forest.{forest};
 ghost use Rattle.errors.specs.Errors.{kept, stored, Stores};
 ghost use Rattle.validate.specs.Module.{«validate_module»};
@@ -70,18 +69,8 @@ pub fn pass(listing: Listing, table: &[u8], names: &[u8], d: Dialect, errors: &m
     ensures { λ r. ⌜ now (errors .exit) ≡
         stored listing (kept listing (passErrors d (now (names .entry)) (now (table .entry)))) (now (errors .entry)) ⌝ }
 {
-    let total = validate_module(listing, d, names, within(table), errors);
+    let total = validate_module(listing, d, names, table::within(table), errors);
     total as u32
-}
-
-// As much of some bytes as a table has at most: 2,100 records.
-fn within(t: &[u8]) -> &[u8]
-    ensures { λ r. ⌜ now r ≡ take mostBytes (now (t .entry)) ⌝ }
-{
-    if t.len() <= MOST_BYTES {
-        return t;
-    }
-    &t[0..MOST_BYTES]
 }
 
 // The statements, then the expressions, which are lent what the statements leave free.

@@ -1,6 +1,7 @@
 -- `validate::pass` meets its contract: the walks over as much as a table has at most. Assumes nothing.
 use native.Mathlib.Omega.{arith}
-use Rattle.validate.proofs.Jobs.{within-short, total-short, pass-all}
+use Rattle.table.proofs.Heads.{within-short}
+use Rattle.validate.proofs.Jobs.{total-short, pass-all}
 use borrow.Author.Needs.{needs}
 use Rattle.validate.proofs.pass.Statement.{statement}
 use Rattle.validate.proofs.pass.Tie as tie

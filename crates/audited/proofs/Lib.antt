@@ -1,0 +1,6 @@
+pub mod Everywhere
+pub mod Own
+pub mod Nodes
+pub mod Roled
+pub mod Jobs
+pub mod Audited
