@@ -29,9 +29,9 @@
  *   Buffers that are only read may overlap each other; a written buffer (modes, shapes, list, errors, the file that is written, table and names of
  *   starlark_read, `out`) overlaps none. Words are aligned to four bytes.
  *   The thread has stack enough: STARLARK_STACK_BYTES is more than twice what any job was measured to need (bindings/c/stack.c, on aarch64):
- *   at 2,100 nodes of many shapes the table check needs 9 KB, the parameter and call jobs 17 KB, the type job 30 KB, the binding job 34 KB, the module
- *   pass 36 KB, the audit 40 KB, the target, assignment and write jobs no more than 9 KB; of a file of 2,100 nodes the rescue and starlark_read need
- *   68 KB, starlark_check_file 93 KB.
+ *   at 2,100 nodes of many shapes the table check needs 17 KB, the parameter job 17 KB, the call job 33 KB, the type job 30 KB, the module pass
+ *   43 KB, the audit 47 KB, the binding job 50 KB, the target, assignment and write jobs no more than 17 KB; of a file of 2,100 nodes the rescue and
+ *   starlark_read need 76 KB, starlark_check_file 100 KB.
  */
 #ifndef STARLARK_H
 #define STARLARK_H
@@ -57,7 +57,7 @@ enum starlark_number {
     STARLARK_NUMBER_TABLE_LENGTH = 1, /* the table has no record, more than 2,100, or a part of one */
     STARLARK_NUMBER_NAME_BYTES = 2, /* there are more than 8,064 name bytes */
     STARLARK_NUMBER_UNSOUND_RECORD = 3, /* a record of the table is unsound */
-    STARLARK_NUMBER_TOO_DEEP = 4, /* a node is more than 64 deep */
+    STARLARK_NUMBER_TOO_DEEP = 4, /* a statement or expression is more than 64 deep */
     STARLARK_NUMBER_BAD_DIALECT = 5, /* the dialect bytes give no dialect */
     STARLARK_NUMBER_WRONG_NODE = 6, /* the node asked for is beyond the table, or of the wrong kind */
     STARLARK_NUMBER_SHORT_BUFFER = 7, /* the buffer for modes, shapes, words of a binding, a file or what a file holds is too short */
@@ -167,7 +167,8 @@ enum starlark_kind {
 /* The word for "no place", and for "no earlier node". */
 #define STARLARK_NONE UINT32_C(0xFFFFFFFF)
 
-/* The limits of a table: nodes, and so bytes of a mode or shape buffer that is never too short; name bytes; depth. */
+/* The limits of a table: nodes, and so bytes of a mode or shape buffer that is never too short; name bytes; depth: statements
+ * and expressions count, a parameter or an argument has its parent's, so that up to 127 records may stand below each other. */
 #define STARLARK_NODES 2100
 #define STARLARK_NODE_BYTES 24
 #define STARLARK_NAME_BYTES 8064

@@ -76,7 +76,7 @@ static inline const char *starlark_number_words(uint32_t number) {
     case STARLARK_NUMBER_TABLE_LENGTH: return "the table has no record, more than 2,100, or a part of one";
     case STARLARK_NUMBER_NAME_BYTES: return "there are more than 8,064 name bytes";
     case STARLARK_NUMBER_UNSOUND_RECORD: return "a record of the table is unsound";
-    case STARLARK_NUMBER_TOO_DEEP: return "a node is more than 64 deep";
+    case STARLARK_NUMBER_TOO_DEEP: return "a statement or expression is more than 64 deep";
     case STARLARK_NUMBER_BAD_DIALECT: return "the dialect bytes give no dialect";
     case STARLARK_NUMBER_WRONG_NODE: return "the node asked for is beyond the table, or of the wrong kind";
     case STARLARK_NUMBER_SHORT_BUFFER: return "the buffer for modes, shapes, words of a binding, a file or what a file holds is too short";

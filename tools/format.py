@@ -114,9 +114,10 @@ def of_limits(text):
 
 def of_depth(text):
     """The faults of what is said of the depth."""
-    counted = re.search(r"^weight kind = 1$", (CRATES / "table" / "specs" / "Depth.antt").read_text(), re.M) is not None
-    said = "each child one more than its parent, parameters and arguments too" in text
-    return [] if counted == said else ["what counts in the depth is not what the definition of weight says"]
+    defined = (CRATES / "table" / "specs" / "Depth.antt").read_text()
+    counted = re.findall(r"^    if' \(eqb class (\w+)\) \(λ _\. 1\)", defined, re.M)
+    said = re.search(r"A (\w+) or an (\w+) is one deeper than its parent; a parameter or an argument has the depth of its parent\.", text)
+    return [] if said and counted == [*said.groups()] else ["what counts in the depth is not what the definition of weight says"]
 
 
 def hexed(part):

@@ -7,18 +7,35 @@ kinds.py --check    only say whether they are what the sentences give, and, wher
 The sentences stand in crates/cases/document01.txt. They are read here by themselves: nothing is taken from the definitions or the code,
 so a mistake that stands in both of them shows. Of each kind and detail: children as they must be, and with one dropped, changed or added,
 or two; the largest detail and one more; a name where none may be, and none where one must be; the kind in the place of each class.
+And each kind and detail with all that stands under it at the largest depth and one deeper, counted as document 02 has it (W-206): under
+statements or expressions alone, and with parameters and arguments of every kind on the way.
 """
 import itertools
 import re
 import sys
 
 from repository import CRATES, ROOT
-from tables import NUMBER
+from tables import NUMBER, trees
 
 FOLDER = CRATES / "cases"
 DOCUMENT = ROOT.parent / "shared" / "docs" / "01-scope.md"
 HEADING = "# 3: each kind, by document 01's sentences (made by tools/kinds.py)"
+DEEP = "# 4: each kind at the largest depth and one deeper, by document 02's sentence (made by tools/kinds.py)"
 WORD = {number: word for word, number in NUMBER.items()}
+
+# document 01's largest depth, and what document 02 (W-206) counts: "statements and expressions only; a parameter or argument record has its
+# parent's depth"
+MOST_DEPTH = 64
+COUNTED = ("statement", "expression")
+# what may stand above a record of a class, one deeper each: its own class alone, and, turn by turn, what has parameters and arguments too.
+# {} is the record; a parameter or an argument stands in the last.
+ALONE = {"statement": ["(Statements {})"], "expression": ["(Not {})"]}
+MIXED = {"statement": ["(Def (Normal a) (NoArgs) (Normal b) {})", "(For (Int) (Int) {})", "(If (Int) {})", "(IfElse (Int) (Break) {})"],
+         "expression": ["(Call (Int) (Positional {}))", "(Lambda (Normal:2 a {}) (Int))", "(Call (Int) (Named a {}))",
+                        "(Lambda (Normal:1 a {}) (Int))", "(Call (Int) (ArgsArg {}))", "(Lambda (ArgsParam:1 a {}) (Int))",
+                        "(Call (Int) (KwArgsArg {}))", "(Lambda (KwArgsParam:1 a {}) (Int))", "(Lambda (Normal a) (Slash) {})"]}
+OWNER = {"statement": [("{}", "statement")], "expression": [("{}", "expression")], "argument": [("(Call (Int) {})", "expression")],
+         "parameter": [("(Def {} (Break))", "statement"), ("(Lambda {} (Int))", "expression")]}
 
 # a child of each class, and where a record of each class may stand: what is around it, and its index there
 CHILD = {"statement": "(Break)", "expression": "(Int)", "parameter": "(NoArgs)", "argument": "(ArgsArg (Int))"}
@@ -157,11 +174,15 @@ class Cases:
     def __init__(self):
         self.cases, self.answers, self.trees = [HEADING], [HEADING], set()
 
-    def add(self, label, tree, unsound_at=None, names=""):
+    def add(self, label, tree, refused_at=None, names="", number=3):
         if (tree, names) not in self.trees:
             self.trees.add((tree, names))
             self.cases.append(f"{label} | check{names} | {tree}")
-            self.answers.append(f"{label}: {'sound' if unsound_at is None else f'3 at {unsound_at}'}")
+            self.answers.append(f"{label}: {'sound' if refused_at is None else f'{number} at {refused_at}'}")
+
+    def head(self, heading):
+        self.cases.append(heading)
+        self.answers.append(heading)
 
 
 def of_kind(kind, cases):
@@ -191,6 +212,44 @@ def of_kind(kind, cases):
         cases.add(f"{name} in the place of a kind of {own}", holder.format(kind.text(0, least[0])), None if own == kind.own else index)
 
 
+def depths(tree, kinds):
+    """The depth of each node of a tree in words, in table order."""
+    found = []
+
+    def walk(node, above):
+        depth = above + (kinds[node.kind].own in COUNTED)
+        found.append(depth)
+        for child in node.children:
+            walk(child, depth)
+
+    for root in trees(tree):
+        walk(root, 0)
+    return found
+
+
+def at_depth(deepest, record, own, levels, kinds):
+    """A tree in words with so many levels around the record that its deepest node is as deep as said."""
+    root = "(OtherSimple {})" if own == "expression" else "{}"
+    times, left = divmod(deepest - max(depths(root.format(record), kinds)), len(levels))
+    for part, turns in (levels, times), (levels[:left], 1):
+        before, behind = zip(*(level.split("{}") for level in part)) if part else ("", "")
+        before, behind = "".join(before), "".join(reversed(behind))
+        record = f"{before}{record}{behind}" if turns == 1 else f"^{turns}<{before}>{record}^{turns}<{behind}>"
+    return root.format(record)
+
+
+def deep_of_kind(kind, kinds, cases):
+    for detail in range(kind.details + 1):
+        record = kind.text(detail, max(kind.met(detail), key=len))
+        for owner, own in OWNER[kind.own]:
+            for way, levels in (f"under {own}s alone", ALONE[own]), (f"under {own}s of many kinds", MIXED[own]):
+                for deepest in MOST_DEPTH, MOST_DEPTH + 1:
+                    tree = at_depth(deepest, owner.format(record), own, levels, kinds)
+                    over = [at for at, depth in enumerate(depths(tree, kinds)) if depth > MOST_DEPTH]
+                    name = f"{kind.number} {WORD[kind.number]}{f':{detail}' if detail else ''}"
+                    cases.add(f"{name}, depth {deepest}, {way}", tree, over[0] if over else None, number=4)
+
+
 def made(text):
     """The cases and their answers."""
     kinds, cases = read(text), Cases()
@@ -198,6 +257,9 @@ def made(text):
         of_kind(kinds[number], cases)
     for number in [n for n in range(max(kinds) + 2) if n not in kinds] + [255]:
         cases.add(f"{number} is no kind", f"(Break kind={number})", 0)
+    cases.head(DEEP)
+    for number in sorted(kinds):
+        deep_of_kind(kinds[number], kinds, cases)
     return "\n".join(cases.cases) + "\n", "\n".join(cases.answers) + "\n", len(cases.trees)
 
 

@@ -69,8 +69,8 @@ class Wrong(ValueError):
 
 
 def weight(kind):
-    """What a record adds to the depth."""
-    return 1
+    """What a record adds to the depth: a statement or an expression one, a parameter or an argument nothing."""
+    return int(kind < NUMBER["Normal"])
 
 
 def demand(met, words, node=None):

@@ -20,7 +20,7 @@ enum { BREAK = STARLARK_KIND_BREAK, SIMPLE = STARLARK_KIND_OTHER_SIMPLE, ASSIGN 
 enum { CALL = STARLARK_KIND_CALL, INDEX = STARLARK_KIND_INDEX, INDEX2 = STARLARK_KIND_INDEX2, IDENTIFIER = STARLARK_KIND_IDENTIFIER };
 enum { LAMBDA = STARLARK_KIND_LAMBDA, ELLIPSIS = STARLARK_KIND_ELLIPSIS, NOT = STARLARK_KIND_NOT, OP = STARLARK_KIND_OP };
 enum { LIST = STARLARK_KIND_LIST, NORMAL = STARLARK_KIND_NORMAL, ARGS = STARLARK_KIND_ARGS_PARAM };
-enum { POSITIONAL = STARLARK_KIND_POSITIONAL, NAMED = STARLARK_KIND_NAMED };
+enum { POSITIONAL = STARLARK_KIND_POSITIONAL, NAMED = STARLARK_KIND_NAMED, KW_ARGS = STARLARK_KIND_KW_ARGS_ARG };
 
 static uint8_t table[STARLARK_NODES * STARLARK_NODE_BYTES];
 static size_t nodes;
@@ -237,6 +237,64 @@ static void argument_lists(const char *shape, int depth) {
     measure(shape, 2);
 }
 
+/* A def, and in the default of its parameter so many lambdas, each in the default of a parameter of the one around it. Of 62 the chain has 127
+ * records, 64 of which count. Before that parameter stand as many others as make the table `limit` nodes, none for 0. */
+static size_t through_defaults(int lambdas, size_t limit) {
+    size_t opened[STARLARK_DEPTH], defaults[STARLARK_DEPTH], def = open_node(DEF, 0), first = open_node(NORMAL, 2);
+    size_t before = limit == 0 ? 0 : (limit - nodes - 3 * lambdas - 2) / lambdas;
+    for (int d = 0; d < lambdas; d++) {
+        opened[d] = open_node(LAMBDA, 0);
+        for (size_t i = 0; i < before; i++) leaf(NORMAL);
+        defaults[d] = open_node(NORMAL, 2);
+    }
+    leaf(IDENTIFIER);
+    for (int d = lambdas; d-- > 0;) {
+        close_node(defaults[d]);
+        leaf(ELLIPSIS);
+        close_node(opened[d]);
+    }
+    close_node(first);
+    while (nodes + 1 < limit) leaf(NORMAL);
+    leaf(BREAK);
+    close_node(def);
+    return def;
+}
+
+static void lambdas_in_defaults(const char *shape, size_t limit) {
+    measure(shape, through_defaults(STARLARK_DEPTH - 2, limit));
+}
+
+/* The same under a root of statements, some of which a cut leaves out. */
+static void lambdas_and_cut(const char *shape) {
+    size_t root = open_node(STATEMENTS, 0), def = through_defaults(STARLARK_DEPTH - 3, STARLARK_NODES - 50);
+    while (nodes < STARLARK_NODES) leaf(BREAK);
+    close_node(root);
+    measure(shape, def);
+}
+
+/* A def, and in the default of its parameter 62 calls, each the last argument of the one around it: as long a chain. */
+static void calls_in_arguments(const char *shape, int kind, size_t limit) {
+    enum { CALLS = STARLARK_DEPTH - 2 };
+    size_t calls[CALLS], arguments[CALLS], def = open_node(DEF, 0), first = open_node(NORMAL, 2);
+    size_t before = limit == 0 ? 0 : (limit - nodes - 3 * CALLS - 2) / CALLS / 2;
+    for (int d = 0; d < CALLS; d++) {
+        calls[d] = open_node(CALL, 0);
+        leaf(IDENTIFIER);
+        for (size_t i = 0; i < before; i++) argument(POSITIONAL, 0);
+        arguments[d] = open_node(kind, 0);
+    }
+    leaf(IDENTIFIER);
+    for (int d = CALLS; d-- > 0;) {
+        close_node(arguments[d]);
+        close_node(calls[d]);
+    }
+    close_node(first);
+    while (nodes + 1 < limit) leaf(NORMAL);
+    leaf(BREAK);
+    close_node(def);
+    measure(shape, calls[0]);
+}
+
 static void many_statements(void) {
     size_t root = open_node(STATEMENTS, 0);
     while (nodes < STARLARK_NODES) leaf(BREAK);
@@ -337,6 +395,13 @@ int main(void) {
     nested_statements("31 nested for", FOR, STARLARK_NODES);
     nested_statements("31 nested if", IF, STARLARK_NODES);
     in_depth("61 nested not", NOT, IDENTIFIER, STARLARK_NODES);
+    lambdas_in_defaults("62 lambdas in defaults", 0);
+    lambdas_in_defaults("62 lambdas in defaults, wide", STARLARK_NODES);
+    lambdas_and_cut("61 lambdas, 50 statements");
+    calls_in_arguments("62 calls in arguments", POSITIONAL, 0);
+    calls_in_arguments("62 calls in arguments, wide", POSITIONAL, STARLARK_NODES);
+    calls_in_arguments("62 calls by name, wide", NAMED, STARLARK_NODES);
+    calls_in_arguments("62 calls by `**`, wide", KW_ARGS, STARLARK_NODES);
     size_t most = 0;
     printf("most:");
     for (size_t i = 0; i < JOBS; i++) {

@@ -13,7 +13,7 @@ pub enum Number {
     NameBytes = 2,
     /// a record of the table is unsound
     UnsoundRecord = 3,
-    /// a node is more than 64 deep
+    /// a statement or expression is more than 64 deep
     TooDeep = 4,
     /// the dialect bytes give no dialect
     BadDialect = 5,
@@ -223,7 +223,7 @@ pub const NUMBERS: [(Number, &str, &str); 56] = [
     (Number::TableLength, "TABLE_LENGTH", "the table has no record, more than 2,100, or a part of one"),
     (Number::NameBytes, "NAME_BYTES", "there are more than 8,064 name bytes"),
     (Number::UnsoundRecord, "UNSOUND_RECORD", "a record of the table is unsound"),
-    (Number::TooDeep, "TOO_DEEP", "a node is more than 64 deep"),
+    (Number::TooDeep, "TOO_DEEP", "a statement or expression is more than 64 deep"),
     (Number::BadDialect, "BAD_DIALECT", "the dialect bytes give no dialect"),
     (Number::WrongNode, "WRONG_NODE", "the node asked for is beyond the table, or of the wrong kind"),
     (Number::ShortBuffer, "SHORT_BUFFER", "the buffer for modes, shapes, words of a binding, a file or what a file holds is too short"),

@@ -2,11 +2,12 @@
 use mathlib.Core.Path.{_≡_, refl, sym, ap, _∙_}
 use mathlib.Core.Bool.{Bool, true, false}
 use mathlib.Core.List.{List}
+use mathlib.Core.Logic.{_⊎_, inl, inr}
 use Prim.Native.Nat.{ℕ, _+_, _-_, _*_, _/_, _<_, _≤_, _^_}
 use native.Mathlib.Omega.{arith}
 use lib.ListN.{length, take, drop, length-take, length-drop}
-use lib.Dec.{ltb}
-use borrow.Author.Tests.{lt-ltb, le-ltb}
+use lib.Dec.{ltb, eqb}
+use borrow.Author.Tests.{lt-ltb, le-ltb, ne-eqb, eqb-true}
 use Rattle.fields.proofs.Basics.{never}
 use Rattle.fields.specs.Choice.{if'}
 use Rattle.forest.specs.Forest.{nodeOf, spanOf, kidsOf, restOf, forest, count, countTree, Tree, node, Forest, none}
@@ -15,12 +16,59 @@ use Rattle.forest.specs.declared.Found.{Found}
 use Rattle.forest.specs.declared.Found.the-variants.{At, Nothing}
 use Rattle.forest.proofs.Stretch.{count-forest, each-cut, kids-cut, forest-none, forest-tree, forest-induction}
 use Rattle.forest.proofs.Stretch.{length-kids, length-rest}
-use Rattle.table.specs.Depth.{mostDepth, weight, orElse, firstDeep, deepIn}
+use Rattle.soundness.specs.Kinds.{statement, expression, parameter, argument, classOf}
+use Rattle.table.specs.Depth.{mostDepth, classWeight, weight, orElse, firstDeep, deepIn}
+
+-- the weight of each class
+module _ {class : ℕ} where
+  pub statement-weight : class ≡ statement → (1 ≡ classWeight class) × (1 ≤ 1)
+  unfolding classWeight
+  statement-weight h = (rw h refl, omega arith)
+
+  pub expression-weight : class ≡ expression → (1 ≡ classWeight class) × (1 ≤ 1)
+  unfolding classWeight
+  expression-weight h = (rw h refl, omega arith)
+
+  pub no-weight : (class ≡ statement → ⊥) → (class ≡ expression → ⊥) → (0 ≡ classWeight class) × (0 ≤ 1)
+  unfolding classWeight
+  no-weight d e = (rw (ne-eqb class statement d, ne-eqb class expression e) refl, omega arith)
+
+  pub parameter-weight : class ≡ parameter → (0 ≡ classWeight class) × (0 ≤ 1)
+  parameter-weight h = no-weight (λ e. omega (arith, h, e)) (λ e. omega (arith, h, e))
+
+  pub argument-weight : class ≡ argument → (0 ≡ classWeight class) × (0 ≤ 1)
+  argument-weight h = no-weight (λ e. omega (arith, h, e)) (λ e. omega (arith, h, e))
+
+-- the weight of a kind is that of its class
+pub weighed : (kind : ℕ) {class w : ℕ} → class ≡ classOf kind → (w ≡ classWeight class) × (w ≤ 1)
+    → (w ≡ weight kind) × (w ≤ 1)
+unfolding weight
+weighed kind c w = (rw c at (w .0), w .1)
+
+-- a record with a weight is a statement or an expression
+pub counted-class : (kind : ℕ) → weight kind ≡ 1 → (classOf kind ≡ statement) ⊎ (classOf kind ≡ expression)
+unfolding weight classWeight
+counted-class kind = go (classOf kind) (eqb (classOf kind) statement) (eqb (classOf kind) expression) refl refl
+  where
+    go : (class : ℕ) (s e : Bool) → eqb class statement ≡ s → eqb class expression ≡ e
+        → if' {A = ℕ} s (λ _. 1) (λ _. if' e (λ _. 1) (λ _. 0)) ≡ 1 → (class ≡ statement) ⊎ (class ≡ expression)
+    go class true e s-is e-is w = inl (eqb-true class statement s-is)
+    go class false true s-is e-is w = inr (eqb-true class expression e-is)
+    go class false false s-is e-is w = absurd (omega arith)
 
 -- a record adds at most one to the depth
-weight-little : (kind : ℕ) → weight kind ≤ 1
+class-little : (class : ℕ) → classWeight class ≤ 1
+unfolding classWeight
+class-little class = go (eqb class 1) (eqb class 2)
+  where
+    go : (s e : Bool) → if' s (λ _. 1) (λ _. if' e (λ _. 1) (λ _. 0)) ≤ 1
+    go true e = omega arith
+    go false true = omega arith
+    go false false = omega arith
+
+pub weight-little : (kind : ℕ) → weight kind ≤ 1
 unfolding weight
-weight-little kind = omega arith
+weight-little kind = class-little (classOf kind)
 
 -- LAW: so few nodes that they cannot reach past the largest depth are not too deep
 mutual

@@ -1,23 +1,26 @@
 -- The first node that is too deep, as a place in the list of all depths. Assumes nothing.
-use mathlib.Core.Path.{_≡_, refl, sym, _∙_}
+use mathlib.Core.Path.{_≡_, refl, sym, ap, _∙_}
 use mathlib.Core.Bool.{Bool, true, false, not}
 use mathlib.Core.List.{List, [], _∷_, _++_}
-use Prim.Native.Nat.{ℕ, zero, suc, _+_, _-_, _/_, _≤_}
+use Prim.Native.Nat.{ℕ, zero, suc, _+_, _-_, _*_, _/_, _<_, _≤_}
 use native.Mathlib.Nat.{zero-add, add-zero}
 use native.Mathlib.Omega.{arith}
-use lib.ListN.{length, getD, length-append}
+use lib.ListN.{length, getD, drop, length-append}
+use lib.Seq.{getD-take, drop-drop}
 use lib.Dec.{ltb}
 use borrow.Author.Tests.{ltb-true, ltb-false, not-true, not-false}
-use Rattle.fields.proofs.Basics.{never}
+use Rattle.fields.proofs.Basics.{never, drop-take}
 use Rattle.fields.specs.Choice.{if'}
 use Rattle.forest.specs.Forest.{nodeOf, spanOf, kidsOf, restOf, forest, Tree, node, Forest, none, _then_, count}
 use Rattle.forest.specs.Forest.{countTree}
 use Rattle.forest.specs.declared.Found.{Found}
 use Rattle.forest.specs.declared.Found.the-variants.{At, Nothing}
 use Rattle.forest.proofs.Stretch.{forest-none, forest-tree, forest-induction, count-forest, length-kids}
+use Rattle.forest.proofs.Stretch.{length-rest}
 use Rattle.soundness.specs.Sound.{firstFalse}
 use Rattle.soundness.proofs.Search.{found}
 use Rattle.table.specs.Depth.{mostDepth, weight, orElse, firstDeep, depths, depthsIn, FirstDeeper}
+use Rattle.table.proofs.Deep.{weight-little, deep-inside}
 
 -- the first of some depths that is too large, counted from i on
 unfoldable pub firstOver : ℕ → List ℕ → Found
@@ -111,3 +114,75 @@ deep-first t k e =
 pub deep-nowhere : (t : List ℕ) → firstDeep 0 (forest 0 t) ≡ Nothing → (j : ℕ)
     → getD (depths 0 (forest 0 t)) j 0 ≤ mostDepth
 deep-nowhere t e j = over-none 0 (depths 0 (forest 0 t)) (sym (deep-is-over 0 t 0) ∙ e) j
+
+-- a record under the first one, and one behind its subtree, as records of the stretch
+module _ (bs : List ℕ) (j : ℕ) where
+  kid-kind : j < length (kidsOf bs) / 24
+      → nodeOf 0 (drop (24 * j) (kidsOf bs)) .kind ≡ nodeOf 0 (drop (24 * (1 + j)) bs) .kind
+  unfolding kidsOf
+  kid-kind h =
+      let place : 24 + 24 * j ≡ 24 * (1 + j) = omega arith in
+      let room : 0 < spanOf bs - 24 - 24 * j = omega (arith, length-kids bs) in
+      rw (drop-take (24 * j) (spanOf bs - 24) (drop 24 bs), drop-drop (24 * j) 24 bs, place)
+      (getD-take (spanOf bs - 24 - 24 * j) (drop (24 * (1 + j)) bs) 0 0 room)
+
+  rest-kind : 24 ≤ length bs → j < length (restOf bs) / 24
+      → nodeOf 0 (drop (24 * j) (restOf bs)) .kind ≡ nodeOf 0 (drop (24 * (spanOf bs / 24 + j)) bs) .kind
+  unfolding restOf
+  rest-kind big h =
+      let whole : spanOf bs + 24 * j ≡ 24 * (spanOf bs / 24 + j) = omega (arith, length-rest bs) in
+      rw (drop-drop (24 * j) (spanOf bs) bs, whole) refl
+
+-- the node k of a stretch whose first record has the index i counts
+pub record Counts (i : ℕ) (bs : List ℕ) (k : ℕ) : Type 0 where
+  pub from : i ≤ k
+  pub counts : weight (nodeOf 0 (drop (24 * (k - i)) bs) .kind) ≡ 1
+
+-- LAW: the first node that is too deep counts, so it is no parameter and no argument
+deep-counts-in : (i : ℕ) (bs : List ℕ) (d k : ℕ) → d ≤ mostDepth → firstDeep d (forest i bs) ≡ At k → Counts i bs k
+unfolding firstDeep
+deep-counts-in =
+    forest-induction (λ i bs. (d k : ℕ) → d ≤ mostDepth → firstDeep d (forest i bs) ≡ At k → Counts i bs k)
+    (λ i bs s d k low f. never (cc (ap (firstDeep d) (forest-none i bs s))))
+    (λ i bs big ks rs d k low f. go i bs big d k low (ks (d + weight (nodeOf i bs .kind))) (rs d)
+    (ltb mostDepth (d + weight (nodeOf i bs .kind))) refl
+    (firstDeep (d + weight (nodeOf i bs .kind)) (forest (i + 1) (kidsOf bs))) refl
+    (sym (ap (firstDeep d) (forest-tree i bs big)) ∙ f))
+  where
+    go : (i : ℕ) (bs : List ℕ) → 24 ≤ length bs → (d k : ℕ) → d ≤ mostDepth
+        → ((k : ℕ) → d + weight (nodeOf i bs .kind) ≤ mostDepth
+        → firstDeep (d + weight (nodeOf i bs .kind)) (forest (i + 1) (kidsOf bs)) ≡ At k → Counts (i + 1) (kidsOf bs) k)
+        → ((k : ℕ) → d ≤ mostDepth → firstDeep d (forest (i + spanOf bs / 24) (restOf bs)) ≡ At k
+        → Counts (i + spanOf bs / 24) (restOf bs) k)
+        → (b : Bool) → ltb mostDepth (d + weight (nodeOf i bs .kind)) ≡ b
+        → (x : Found) → firstDeep (d + weight (nodeOf i bs .kind)) (forest (i + 1) (kidsOf bs)) ≡ x
+        → orElse (if' b (λ _. At i) (λ _. x)) (λ _. firstDeep d (forest (i + spanOf bs / 24) (restOf bs))) ≡ At k
+        → Counts i bs k
+    go i bs big d k low ks rs true b-is x x-is f =
+        let here : i ≡ k = cc in
+        let first : 24 * (k - i) ≡ 0 = omega arith in
+        let over : mostDepth < d + weight (nodeOf i bs .kind) = ltb-true mostDepth _ b-is in
+        record { from = omega arith; counts = rw first (omega (arith, weight-little (nodeOf i bs .kind), over)) }
+    go i bs big d k low ks rs false b-is (At j) x-is f =
+        let same : j ≡ k = cc in
+        let below = ks k (ltb-false mostDepth _ b-is) (x-is ∙ ap At same) in
+        let inside = deep-inside (i + 1) (kidsOf bs) (d + weight (nodeOf i bs .kind)) k (x-is ∙ ap At same) in
+        let place : 1 + (k - (i + 1)) ≡ k - i = omega (arith, below .from) in
+        record {
+          from = omega (arith, below .from);
+          counts = rw (kid-kind bs (k - (i + 1)) (omega (arith, below .from)), place) at (below .counts);
+        }
+    go i bs big d k low ks rs false b-is Nothing x-is f =
+        let behind = rs k low f in
+        let inside = deep-inside (i + spanOf bs / 24) (restOf bs) d k f in
+        let place : spanOf bs / 24 + (k - (i + spanOf bs / 24)) ≡ k - i = omega (arith, behind .from) in
+        record {
+          from = omega (arith, behind .from);
+          counts = rw (rest-kind bs (k - (i + spanOf bs / 24)) big (omega (arith, behind .from)), place)
+              at (behind .counts);
+        }
+
+pub deep-counts : (t : List ℕ) (k : ℕ) → firstDeep 0 (forest 0 t) ≡ At k
+    → weight (nodeOf k (drop (24 * k) t) .kind) ≡ 1
+deep-counts t k e =
+    let place : 24 * (k - 0) ≡ 24 * k = omega arith in rw place at (deep-counts-in 0 t 0 k (omega arith) e .counts)

@@ -4,16 +4,17 @@ use mathlib.Core.Path.{_≡_, refl}
 use mathlib.Core.Bool.{Bool, true, false}
 use mathlib.Core.List.{List, [], _∷_}
 use mathlib.Core.Logic.{_⊎_, inl, inr, ⊎-elim}
-use Prim.Native.Nat.{ℕ, _/_, _%_, _<_, _≤_}
+use Prim.Native.Nat.{ℕ, _*_, _/_, _%_, _<_, _≤_}
 use native.Mathlib.Omega.{arith}
-use lib.ListN.{length, getD}
+use lib.ListN.{length, getD, drop}
 use lib.Dec.{leb}
 use borrow.Author.Tests.{le-leb, eq-eqb}
 use Rattle.fields.proofs.Basics.{never}
 use Rattle.fields.specs.Choice.{if'}
-use Rattle.forest.specs.Forest.{forest}
+use Rattle.forest.specs.Forest.{nodeOf, forest}
 use Rattle.forest.specs.declared.Found.{Found}
 use Rattle.forest.specs.declared.Found.the-variants.{At, Nothing}
+use Rattle.soundness.specs.Kinds.{statement, expression, classOf}
 use Rattle.soundness.specs.Sound.{recordSound, firstUnsound}
 use Rattle.soundness.proofs.Search.{First, found, none-found}
 use Rattle.table.specs.Numbers.{tableLength, nameBytes, unsoundRecord, tooDeep}
@@ -21,7 +22,8 @@ use Rattle.table.specs.Depth.{mostDepth, firstDeep, depths, FirstDeeper}
 use Rattle.table.specs.Answer.{accepted, refused, andThen}
 use Rattle.table.specs.Check.{lengthSound, noneFound, checkOf}
 use Rattle.table.proofs.Checking.{Clean, accepted-clean}
-use Rattle.table.proofs.Depths.{deep-first, deep-nowhere}
+use Rattle.table.proofs.Deep.{counted-class}
+use Rattle.table.proofs.Depths.{deep-first, deep-nowhere, deep-counts}
 
 module _ (t names : List ℕ) where
   -- THEOREM: a table is accepted exactly where its length is sound, its names are few, no record is unsound and no node
@@ -78,3 +80,11 @@ module _ (t names : List ℕ) where
   pub deep-is-first : (k : ℕ) → checkOf t names ≡ refused tooDeep (k ∷ [])
       → (firstUnsound t names ≡ Nothing) × FirstDeeper (forest 0 t) k
   deep-is-first k e = ⊎-elim (λ h. absurd (omega (arith, h .0))) (λ h. (h .1, deep-first t k (h .2))) (of-searches e)
+
+  -- THEOREM: that node is a statement or an expression, so no parameter and no argument
+  pub deep-is-counted : (k : ℕ) → checkOf t names ≡ refused tooDeep (k ∷ [])
+      → (classOf (nodeOf k (drop (24 * k) t) .kind) ≡ statement)
+      ⊎ (classOf (nodeOf k (drop (24 * k) t) .kind) ≡ expression)
+  deep-is-counted k e = ⊎-elim (λ h. absurd (omega (arith, h .0)))
+      (λ h. counted-class (nodeOf k (drop (24 * k) t) .kind) (deep-counts t k (h .2)))
+      (of-searches e)

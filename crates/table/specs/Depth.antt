@@ -2,8 +2,9 @@
 use mathlib.Core.List.{List, [], _∷_, _++_}
 use Prim.Native.Nat.{ℕ, _+_, _<_, _≤_}
 use lib.ListN.{length, getD}
-use lib.Dec.{ltb}
+use lib.Dec.{ltb, eqb}
 use Rattle.fields.specs.Choice.{if'}
+use Rattle.soundness.specs.Kinds.{statement, expression, classOf}
 use Rattle.forest.specs.Forest.{Tree, node, Forest, none, _then_}
 use Rattle.forest.specs.declared.Found.{Found}
 use Rattle.forest.specs.declared.Found.the-variants.{At, Nothing}
@@ -12,9 +13,17 @@ use Rattle.forest.specs.declared.Found.the-variants.{At, Nothing}
 abbrev pub mostDepth : ℕ
 mostDepth = 64
 
--- what a record of a kind adds to its parent's depth (a request to come makes it 0 for parameters and arguments)
+-- what a record of a class adds to its parent's depth: statements and expressions count, all others have the depth of
+-- their parent
+unfoldable pub classWeight : ℕ → ℕ
+classWeight class =
+    if' (eqb class statement) (λ _. 1) (λ _.
+    if' (eqb class expression) (λ _. 1) (λ _.
+    0))
+
+-- what a record of a kind adds
 unfoldable pub weight : ℕ → ℕ
-weight kind = 1
+weight kind = classWeight (classOf kind)
 
 -- the first of two that is found
 abbrev pub orElse : Found → (Unit {0} → Found) → Found

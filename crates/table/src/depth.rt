@@ -1,21 +1,34 @@
 // Depth: the first node, in table order, that is deeper than document 01 permits.
 use forest::Found;
 use forest::RECORD;
+use soundness::classes;
 ghost use mathlib.Core.Path.{_≡_};
 ghost use Prim.Native.Nat.{_+_, _*_, _≤_, _<_, _^_};
 ghost use lib.ListN.{length};
 ghost use Rattle.forest.specs.Forest.{recordBytes, nodeOf, forest};
-ghost use Rattle.table.specs.Depth.{weight, firstDeep};
+ghost use Rattle.table.specs.Depth.{classWeight, weight, firstDeep};
 
 // The largest depth.
 const MOST_DEPTH: usize = 64;
 
-// What the record that a stretch begins with adds to its parent's depth. A function of its own for the request that
-// gives parameters and arguments the weight 0.
+// What a record of a class adds to its parent's depth.
+fn class_weight(class: u8) -> usize
+    ensures { λ r. ⌜ (r ≡ classWeight class) × (r ≤ 1) ⌝ }
+{
+    match class {
+        classes::STATEMENT => 1,
+        classes::EXPRESSION => 1,
+        classes::PARAMETER => 0,
+        classes::ARGUMENT => 0,
+        _ => 0,
+    }
+}
+
+// What the record that a stretch begins with adds.
 fn weight_of(t: &[u8]) -> usize
     ensures { λ r. ⌜ (r ≡ weight (nodeOf 0 (now (t .entry)) .kind)) × (r ≤ 1) ⌝ }
 {
-    1
+    class_weight(crate::class(t))
 }
 
 // The nodes of a stretch whose first record has the index at; depth is their parent's. Children by recursion, which the

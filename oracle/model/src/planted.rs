@@ -67,6 +67,10 @@ faults! {
     ChildBeforeParentUnsound
     DepthOneMore
     DepthBeforeUnsound
+    ArgumentsCounted
+    ParametersCounted
+    ArgumentValuesUncounted
+    StatementsCountTwice
     LastNodeRefused
     EmptyDialectAllOptions
     DialectByteTwoAllowed

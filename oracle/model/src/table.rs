@@ -253,18 +253,29 @@ impl<'a> Table<'a> {
         child == end && classes_fit(record, &classes)
     }
 
-    /// The first node, in index order, that stands deeper than permitted. The root has depth 1.
+    /// The first node, in index order, that stands deeper than permitted. The root has depth 1. Statements and expressions stand one deeper
+    /// than their parent, a parameter or an argument as deep as its parent (document 02, W-206).
     fn check_depth(&self) -> Result<(), Refusal> {
         let most = MOST_DEPTH + usize::from(planted(Fault::DepthOneMore));
-        let mut open_ends: Vec<usize> = Vec::new();
+        // Of the subtrees that are open: where each ends, and how deep its first record stands.
+        let mut open: Vec<(usize, usize)> = Vec::new();
         for (node, record) in self.records.iter().enumerate() {
-            while open_ends.last().is_some_and(|&end| end <= node) {
-                open_ends.pop();
+            while open.last().is_some_and(|&(end, _)| end <= node) {
+                open.pop();
             }
-            open_ends.push(node + usize::from(record.size));
-            if open_ends.len() > most {
+            let below_argument = node > 0 && class(self.records[node - 1].kind) == Some(Class::Argument);
+            let counted = match class(record.kind) {
+                Some(Class::Statement) => 1 + usize::from(planted(Fault::StatementsCountTwice)),
+                Some(Class::Expression) => usize::from(!(below_argument && planted(Fault::ArgumentValuesUncounted))),
+                Some(Class::Parameter) => usize::from(planted(Fault::ParametersCounted)),
+                Some(Class::Argument) => usize::from(planted(Fault::ArgumentsCounted)),
+                None => 0,
+            };
+            let depth = open.last().map_or(0, |&(_, above)| above) + counted;
+            if depth > most {
                 return Err(Refusal::placed(number::DEPTH, node));
             }
+            open.push((node + usize::from(record.size), depth));
         }
         Ok(())
     }

@@ -1,6 +1,7 @@
 //! Each boundary on both sides, and inputs that are wrong in several ways at once.
 
 use model::numbers::kind;
+use model::numbers::number;
 use model::table::Record;
 use model::table::MOST_NAME_BYTES;
 use model::table::MOST_NODES;
@@ -26,6 +27,7 @@ pub fn boundaries(checker: &mut Checker, plan: &Plan) {
     nodes_and_buffers(checker, &mut rng);
     overlapping(checker);
     error_lists(checker);
+    depths(checker);
     wrong_in_several_ways(checker);
 }
 
@@ -191,6 +193,68 @@ fn error_lists(checker: &mut Checker) {
     let total = 4 * (MOST_NODES - 1);
     for errors in [0, 1, 2, 3, 4, total - 5, total - 4, total - 1, total, total + 1, 12 * MOST_NODES] {
         checker.check(&Request { table: &full, names: &[], job: Job::Audit { dialect: &[], errors } });
+    }
+}
+
+/// Ways from an expression to the next one below it: the record between them, or the parent itself, and its detail; then how many records a
+/// level has before the next one begins, and how many of the innermost level stand before its first expression.
+const WAYS: [(u8, u8, usize, usize); 12] = [
+    (kind::NOT, 0, 1, 1),
+    (kind::CALL, 0, 1, 1),
+    (kind::LAMBDA, 0, 2, 2),
+    (kind::POSITIONAL, 0, 3, 1),
+    (kind::NAMED, 0, 3, 1),
+    (kind::STAR_ARGUMENT, 0, 3, 1),
+    (kind::STAR_STAR_ARGUMENT, 0, 3, 1),
+    (kind::NORMAL, 1, 2, 2),
+    (kind::NORMAL, 2, 2, 2),
+    (kind::NORMAL, 3, 2, 2),
+    (kind::ARGS, 1, 2, 2),
+    (kind::KWARGS, 1, 2, 2),
+];
+
+/// So many levels of one way, and an Int below them.
+fn way_down(cells: &mut Cells, (between, detail): (u8, u8), levels: usize) {
+    let next = |cells: &mut Cells| way_down(cells, (between, detail), levels - 1);
+    match between {
+        _ if levels == 0 => cells.leaf(kind::INT, 0, 0),
+        kind::NOT | kind::CALL => cells.tree(between, 0, 0, next),
+        kind::LAMBDA => cells.tree(kind::LAMBDA, 0, 0, |cells| {
+            cells.leaf(kind::NORMAL, 0, 1);
+            next(cells);
+        }),
+        kind::POSITIONAL..=kind::STAR_STAR_ARGUMENT => cells.tree(kind::CALL, 0, 0, |cells| {
+            cells.leaf(kind::IDENTIFIER, 0, 5);
+            cells.tree(between, 0, 1, next);
+        }),
+        _ => cells.tree(kind::LAMBDA, 0, 0, |cells| {
+            cells.tree(between, detail, 1, |cells| {
+                next(cells);
+                (2..detail).for_each(|_| cells.leaf(kind::INT, 0, 0));
+            });
+            cells.leaf(kind::INT, 0, 0);
+        }),
+    }
+}
+
+/// Each way down, as deep as permitted and one deeper, by hand: under one simple statement 62 levels pass, and of 63 the first expression of
+/// the innermost is too deep. Parameters and arguments do not count (document 02, W-206). Then every job around the limit.
+fn depths(checker: &mut Checker) {
+    let mut encoded = Encoded::default();
+    for (between, detail, each, before) in WAYS {
+        for levels in 60..=65 {
+            let mut cells = Cells::default();
+            cells.tree(kind::SIMPLE, 0, 0, |cells| way_down(cells, (between, detail), levels));
+            encoded.write(&cells, &PLAIN);
+            let (table, names) = (&encoded.table[..], &encoded.names[..]);
+            let first_deep = [(1 + 62 * each + before) as u32];
+            let (number, words): (u32, &[u32]) = if levels < 63 { (0, &[]) } else { (number::DEPTH, &first_deep) };
+            checker.expect(&Request { table, names, job: Job::Table }, number, Some(words));
+            let count = cells.all.len();
+            for node in (0..8).chain(count - 8..count + 1) {
+                all_jobs_at(checker, table, names, &[1, 1, 1, 1, 1, 2, 1, 1, 1], node, count);
+            }
+        }
     }
 }
 

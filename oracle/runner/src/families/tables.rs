@@ -213,7 +213,7 @@ fn change_field(rng: &mut Rng, table: &mut [u8], node: usize, names: usize) {
     bytes.copy_from_slice(&record.write());
 }
 
-/// Chains of records one below the other, around the limit of depth.
+/// Chains of statements and expressions one below the other, around the limit of depth, with parameters and arguments between.
 pub fn depth(checker: &mut Checker, plan: &Plan) {
     let dialects = dialect::all();
     let grow = |rng: &mut Rng, _| {
@@ -231,7 +231,7 @@ pub fn depth(checker: &mut Checker, plan: &Plan) {
     });
 }
 
-/// A table as deep as said: each record below has one child that goes on, and perhaps others.
+/// A table as deep as said: each record below has one child that goes on, and perhaps others. Parameters and arguments add nothing.
 pub fn chain(rng: &mut Rng, depth: usize) -> Cells {
     let mut cells = Cells::default();
     let below = rng.within(0, depth - 2);
@@ -241,6 +241,12 @@ pub fn chain(rng: &mut Rng, depth: usize) -> Cells {
 
 fn statement_chain(rng: &mut Rng, cells: &mut Cells, statements: usize, depth: usize) {
     if statements == 0 || depth <= 2 {
+        if depth > 2 && rng.once_in(2) {
+            return cells.tree(kind::DEF, 0, 0, |cells| {
+                parameter_chain(rng, cells, depth - 1);
+                cells.leaf(kind::BREAK, 0, 0);
+            });
+        }
         return cells.tree(kind::SIMPLE, 0, 0, |cells| {
             if depth > 1 {
                 expression_chain(rng, cells, depth - 1);
@@ -248,7 +254,7 @@ fn statement_chain(rng: &mut Rng, cells: &mut Cells, statements: usize, depth: u
         });
     }
     let next = |rng: &mut Rng, cells: &mut Cells| statement_chain(rng, cells, statements - 1, depth - 1);
-    match rng.below(4) {
+    match rng.below(5) {
         0 => cells.tree(kind::DEF, 0, 0, |cells| next(rng, cells)),
         1 => cells.tree(kind::IF_STATEMENT, 0, 0, |cells| {
             cells.leaf(kind::INT, 0, 0);
@@ -257,6 +263,10 @@ fn statement_chain(rng: &mut Rng, cells: &mut Cells, statements: usize, depth: u
         2 => cells.tree(kind::FOR, 0, 0, |cells| {
             cells.leaf(kind::IDENTIFIER, 0, 0);
             cells.leaf(kind::INT, 0, 0);
+            next(rng, cells);
+        }),
+        3 => cells.tree(kind::DEF, 0, 0, |cells| {
+            cells.leaf(kind::NORMAL, 0, 3);
             next(rng, cells);
         }),
         _ => cells.tree(kind::STATEMENTS, 0, 0, |cells| {
@@ -270,7 +280,7 @@ fn expression_chain(rng: &mut Rng, cells: &mut Cells, depth: usize) {
     if depth == 1 {
         return cells.leaf(rng.pick(&[kind::INT, kind::ELLIPSIS, kind::IDENTIFIER]), 0, 0);
     }
-    let choice = rng.below(7);
+    let choice = rng.below(10);
     let next = |rng: &mut Rng, cells: &mut Cells| expression_chain(rng, cells, depth - 1);
     match choice {
         0 => cells.tree(kind::NOT, 0, 0, |cells| next(rng, cells)),
@@ -281,12 +291,12 @@ fn expression_chain(rng: &mut Rng, cells: &mut Cells, depth: usize) {
             cells.leaf(kind::IDENTIFIER, 0, 0);
             next(rng, cells);
         }),
-        5 if depth > 2 => cells.tree(kind::CALL, 0, 0, |cells| {
+        5 | 6 => cells.tree(kind::CALL, 0, 0, |cells| {
             cells.leaf(kind::IDENTIFIER, 0, 0);
-            cells.tree(kind::NAMED, 0, 2, |cells| expression_chain(rng, cells, depth - 2));
+            argument_chain(rng, cells, depth - 1);
         }),
-        6 if depth > 2 => cells.tree(kind::LAMBDA, 0, 0, |cells| {
-            cells.tree(kind::NORMAL, 2, 2, |cells| expression_chain(rng, cells, depth - 2));
+        7 | 8 => cells.tree(kind::LAMBDA, 0, 0, |cells| {
+            parameter_chain(rng, cells, depth - 1);
             cells.leaf(kind::INT, 0, 0);
         }),
         _ => cells.tree(kind::LIST, 0, 0, |cells| {
@@ -294,4 +304,22 @@ fn expression_chain(rng: &mut Rng, cells: &mut Cells, depth: usize) {
             cells.leaf(kind::INT, 0, 0);
         }),
     }
+}
+
+/// An argument of some kind, with an expression so deep.
+fn argument_chain(rng: &mut Rng, cells: &mut Cells, depth: usize) {
+    let kind = rng.pick(&[kind::POSITIONAL, kind::NAMED, kind::STAR_ARGUMENT, kind::STAR_STAR_ARGUMENT]);
+    cells.tree(kind, 0, 2, |cells| expression_chain(rng, cells, depth));
+}
+
+/// A parameter whose default or type is so deep.
+fn parameter_chain(rng: &mut Rng, cells: &mut Cells, depth: usize) {
+    let (kind, detail) =
+        rng.pick(&[(kind::NORMAL, 1), (kind::NORMAL, 2), (kind::NORMAL, 3), (kind::ARGS, 1), (kind::KWARGS, 1)]);
+    cells.tree(kind, detail, 2, |cells| {
+        expression_chain(rng, cells, depth);
+        if detail == 3 {
+            cells.leaf(kind::INT, 0, 0);
+        }
+    });
 }
