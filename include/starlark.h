@@ -218,13 +218,13 @@ uint32_t starlark_target(const uint8_t *table, size_t table_len, const uint8_t *
 uint32_t starlark_assignment(const uint8_t *table, size_t table_len, const uint8_t *names, size_t names_len, size_t node,
                              uint32_t *out);
 
-/* Whether the expression at `node` is a type in a dialect (nine bytes, or none for Standard): 1 to 7, 45, 40 to 44. Accepted: nothing.
+/* Whether the expression at `node` is a type in a dialect (nine bytes, or none for Extended): 1 to 7, 45, 40 to 44. Accepted: nothing.
  * shapes[i] is then the shape of the node i places behind `node`, where it is read as a type or argument: 1 Ellipsis, 2 Path, 3 Index,
  * 4 Index2, 5 List, 6 Union, 7 Tuple; the other bytes stay. The buffer needs a byte for each node of the type (else 7). */
 uint32_t starlark_type(const uint8_t *table, size_t table_len, const uint8_t *names, size_t names_len, const uint8_t *dialect,
                        size_t dialect_len, size_t node, uint8_t *shapes, size_t shapes_len, uint32_t *out);
 
-/* The module pass under a dialect (nine bytes, or none for Standard): 1 to 5. Accepted: out[0] how many errors the module has, at most
+/* The module pass under a dialect (nine bytes, or none for Extended): 1 to 5. Accepted: out[0] how many errors the module has, at most
  * STARLARK_ERRORS. Three words of `errors` for each: number (10 to 18, 50 to 61), begin and end of the span. The first errors that fit whole
  * are stored, the other words stay; `errors_len` counts words, and a list that is too short is no refusal. */
 uint32_t starlark_module(const uint8_t *table, size_t table_len, const uint8_t *names, size_t names_len, const uint8_t *dialect,

@@ -29,6 +29,7 @@ static uint8_t table[64 * STARLARK_NODE_BYTES];
 static size_t nodes;
 static const char names[] = "abckfxinttype";
 /* Extended: types are on. */
+static const uint8_t standard[9] = {1, 1, 1, 0, 0, 0, 1, 0, 0};
 static const uint8_t extended[9] = {1, 1, 1, 1, 0, 2, 1, 1, 0};
 
 /* What a job is given of the table: its bytes, and those of the names. */
@@ -337,14 +338,16 @@ int main(int count, char **words) {
     assignment("a, 1 += 1", modify);
     assignment("no assignment", 0);
     type("x[int]", extended, 9, good_type, 4);
-    type("x[int] in the Standard dialect", extended, 0, good_type, 4);
+    type("x[int] with no dialect, so in Extended", extended, 0, good_type, 4);
+    type("x[int] in the Standard dialect", standard, 9, good_type, 4);
     type("three bytes for three nodes", extended, 9, good_type, 3);
     type("two bytes for three nodes", extended, 9, good_type, 2);
     type("x.type", extended, 9, bad_type, 4);
     type("eight bytes of dialect", extended, 8, good_type, 4);
-    module("the module in the Standard dialect", extended, 0, 16);
-    module("a list of four words", extended, 0, 4);
+    module("the module in the Standard dialect", standard, 9, 16);
+    module("a list of four words", standard, 9, 4);
     module("in the Extended dialect", extended, 9, 16);
+    module("with no dialect, so in Extended", extended, 0, 16);
     module("eight bytes of dialect", extended, 8, 4);
     in_words(extended, 9);
     audit("the audit in the Extended dialect", extended, 9, 48);
