@@ -230,7 +230,7 @@ uint32_t starlark_type(const uint8_t *table, size_t table_len, const uint8_t *na
 uint32_t starlark_module(const uint8_t *table, size_t table_len, const uint8_t *names, size_t names_len, const uint8_t *dialect,
                          size_t dialect_len, uint32_t *errors, size_t errors_len, uint32_t *out);
 
-/* The audit under a dialect (nine bytes, or none for Standard), every job on every node that it fits: 1 to 5. Accepted: out[0] how many errors there
+/* The audit under a dialect (nine bytes, or none for Extended), every job on every node that it fits: 1 to 5. Accepted: out[0] how many errors there
  * are, at most STARLARK_AUDIT_ERRORS; 0 says that the module pass and every job accept. Four words of `errors` for each:
  * number (10 to 18, 20 to 24, 30 to 33, 40 to 45, 50 to 61), node, begin and end of the span. First the module pass's without 10 to 18; then, node
  * by node, what is refused there: the parameter list of a Def or Lambda, the arguments of a Call, an Assign or AssignModify, the target of a For, a type

@@ -236,7 +236,7 @@ impl Table<'_> {
         accepted(|out| interface::module(self, dialect, errors, out)).map(|out| out[0])
     }
 
-    /// How many errors every job on every node that it fits has under a dialect (nine bytes, or none for Standard). Four words of `errors` for
+    /// How many errors every job on every node that it fits has under a dialect (nine bytes, or none for Extended). Four words of `errors` for
     /// each: number, node, begin and end; the first that fit whole are stored.
     pub fn audit(self, dialect: &[u8], errors: &mut [u32]) -> Result<u32, Refused> {
         accepted(|out| interface::audit(self, dialect, errors, out)).map(|out| out[0])
