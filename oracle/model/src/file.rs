@@ -62,7 +62,7 @@ pub fn write(contents: &Contents) -> Vec<u8> {
 /// The file that the writer makes of sound contents.
 pub fn written(mut contents: Contents) -> Vec<u8> {
     if contents.dialect.is_empty() && planted(Fault::RowWrittenForNone) {
-        contents.dialect = dialect::STANDARD.to_vec();
+        contents.dialect = dialect::EXTENDED.to_vec();
     }
     let mut file = write(&contents);
     if planted(Fault::PadByteWritten) {
