@@ -29,8 +29,8 @@
  *   Buffers that are only read may overlap each other; a written buffer (modes, shapes, list, errors, the file that is written, table and names of
  *   starlark_read, `out`) overlaps none. Words are aligned to four bytes.
  *   The thread has stack enough: STARLARK_STACK_BYTES is more than twice what any job was measured to need (bindings/c/stack.c, on aarch64):
- *   at 2,100 nodes of many shapes the table check needs 17 KB, the parameter job 17 KB, the call job 33 KB, the type job 30 KB, the module pass
- *   43 KB, the binding job 50 KB, the target, assignment and write jobs no more than 17 KB; of a file of 2,100 nodes the rescue and
+ *   at 2,100 nodes of many shapes the table check needs 17 KB, the parameter job 17 KB, the call job 17 KB, the type job 30 KB, the module pass
+ *   43 KB, the audit 62 KB, the binding job 34 KB, the target, assignment and write jobs no more than 17 KB; of a file of 2,100 nodes the rescue and
  *   starlark_read need 76 KB, starlark_check_file 100 KB.
  */
 #ifndef STARLARK_H
@@ -180,6 +180,9 @@ enum starlark_kind {
 /* No module has more errors: two for each node. */
 #define STARLARK_ERRORS 4200
 
+/* No audit has more: four for each node. */
+#define STARLARK_AUDIT_ERRORS 8400
+
 /* Stack enough for every job, twice over. */
 #define STARLARK_STACK_BYTES (1 << 18)
 
@@ -215,17 +218,25 @@ uint32_t starlark_target(const uint8_t *table, size_t table_len, const uint8_t *
 uint32_t starlark_assignment(const uint8_t *table, size_t table_len, const uint8_t *names, size_t names_len, size_t node,
                              uint32_t *out);
 
-/* Whether the expression at `node` is a type in a dialect (nine bytes, or none for Standard): 1 to 7, 45, 40 to 44. Accepted: nothing.
+/* Whether the expression at `node` is a type in a dialect (nine bytes, or none for Extended): 1 to 7, 45, 40 to 44. Accepted: nothing.
  * shapes[i] is then the shape of the node i places behind `node`, where it is read as a type or argument: 1 Ellipsis, 2 Path, 3 Index,
  * 4 Index2, 5 List, 6 Union, 7 Tuple; the other bytes stay. The buffer needs a byte for each node of the type (else 7). */
 uint32_t starlark_type(const uint8_t *table, size_t table_len, const uint8_t *names, size_t names_len, const uint8_t *dialect,
                        size_t dialect_len, size_t node, uint8_t *shapes, size_t shapes_len, uint32_t *out);
 
-/* The module pass under a dialect (nine bytes, or none for Standard): 1 to 5. Accepted: out[0] how many errors the module has, at most
+/* The module pass under a dialect (nine bytes, or none for Extended): 1 to 5. Accepted: out[0] how many errors the module has, at most
  * STARLARK_ERRORS. Three words of `errors` for each: number (10 to 18, 50 to 61), begin and end of the span. The first errors that fit whole
  * are stored, the other words stay; `errors_len` counts words, and a list that is too short is no refusal. */
 uint32_t starlark_module(const uint8_t *table, size_t table_len, const uint8_t *names, size_t names_len, const uint8_t *dialect,
                          size_t dialect_len, uint32_t *errors, size_t errors_len, uint32_t *out);
+
+/* The audit under a dialect (nine bytes, or none for Extended), every job on every node that it fits: 1 to 5. Accepted: out[0] how many errors there
+ * are, at most STARLARK_AUDIT_ERRORS; 0 says that the module pass and every job accept. Four words of `errors` for each:
+ * number (10 to 18, 20 to 24, 30 to 33, 40 to 45, 50 to 61), node, begin and end of the span. First the module pass's without 10 to 18; then, node
+ * by node, what is refused there: the parameter list of a Def or Lambda, the arguments of a Call, an Assign or AssignModify, the target of a For, a type
+ * (of a return, a parameter or an assignment). The first errors that fit whole are stored, the other words stay; a list that is too short is no refusal. */
+uint32_t starlark_audit(const uint8_t *table, size_t table_len, const uint8_t *names, size_t names_len, const uint8_t *dialect,
+                        size_t dialect_len, uint32_t *errors, size_t errors_len, uint32_t *out);
 
 /* The table file of a table, its names and a dialect (nine bytes, or none, which stays none), into `file`: 1 to 5, 7. Accepted: out[0] how
  * many bytes are written, at most STARLARK_FILE_BYTES; bytes past them stay. 7 exactly where `file_len` is less than 512 for block 0, for each

@@ -16,7 +16,7 @@ from repository import CRATES, ROOT
 HEADER, NAMES = ROOT / "include" / "starlark.h", ROOT / "include" / "starlark_names.h"
 RUST = ROOT / "bindings" / "rust"
 # the header's constants that the wrapper has too, and where the code has them
-SHARED = ["WORDS", "NODES", "NODE_BYTES", "NAME_BYTES", "DEPTH", "FILE_BYTES", "ERRORS", "STACK_BYTES"]
+SHARED = ["WORDS", "NODES", "NODE_BYTES", "NAME_BYTES", "DEPTH", "FILE_BYTES", "ERRORS", "AUDIT_ERRORS", "STACK_BYTES"]
 IN_CODE = {"NODES": "table/src/lib.rt: MOST_NODES", "NAME_BYTES": "table/src/lib.rt: MOST_NAMES", "DEPTH": "table/src/depth.rt: MOST_DEPTH",
            "NODE_BYTES": "forest/src/lib.rt: RECORD"}
 

@@ -19,7 +19,7 @@ from tables import NUMBER as WORDS
 # document 01, "Numbers given back" and "The file and the program"; document 02
 GIVEN = [*range(1, 8), *range(10, 19), *range(20, 25), *range(30, 34), *range(40, 46), *range(50, 62), *range(70, 76), *range(80, 85), 90, 91]
 HEAD = ["number", "name", "meaning", "given by"]
-JOBS = ["table", "params", "call", "bind", "target", "assignment", "type", "module", "write", "rescue", "read", "file"]
+JOBS = ["table", "params", "call", "bind", "target", "assignment", "type", "module", "audit", "write", "rescue", "read", "file"]
 
 
 def capitals(name):

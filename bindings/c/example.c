@@ -29,6 +29,7 @@ static uint8_t table[64 * STARLARK_NODE_BYTES];
 static size_t nodes;
 static const char names[] = "abckfxinttype";
 /* Extended: types are on. */
+static const uint8_t standard[9] = {1, 1, 1, 0, 0, 0, 1, 0, 0};
 static const uint8_t extended[9] = {1, 1, 1, 1, 0, 2, 1, 1, 0};
 
 /* What a job is given of the table: its bytes, and those of the names. */
@@ -159,6 +160,17 @@ static void in_words(const uint8_t *dialect, size_t dialect_length) {
     for (size_t i = 0; i < 6; i += 3) {
         printf("in words: %s at bytes %u to %u: %s\n", starlark_number_name(errors[i]), errors[i + 1], errors[i + 2], starlark_number_words(errors[i]));
     }
+}
+
+/* The audit in a list of `length` words, which hold 9. */
+static void audit(const char *words, const uint8_t *dialect, size_t dialect_length, size_t length) {
+    uint32_t out[STARLARK_WORDS];
+    uint32_t errors[48];
+    for (size_t i = 0; i < length; i++) errors[i] = 9;
+    if (accepted(words, starlark_audit(TABLE, dialect, dialect_length, errors, length, out), out)) printf("%u errors", out[0]);
+    printf(", list");
+    for (size_t i = 0; i < length; i++) printf(" %u", errors[i]);
+    printf("\n");
 }
 
 /* The file in a buffer of `length` bytes, which hold 9: its first bytes, and how many are no longer so. An accepted one is put under the name
@@ -326,16 +338,21 @@ int main(int count, char **words) {
     assignment("a, 1 += 1", modify);
     assignment("no assignment", 0);
     type("x[int]", extended, 9, good_type, 4);
-    type("x[int] in the Standard dialect", extended, 0, good_type, 4);
+    type("x[int] with no dialect, so in Extended", extended, 0, good_type, 4);
+    type("x[int] in the Standard dialect", standard, 9, good_type, 4);
     type("three bytes for three nodes", extended, 9, good_type, 3);
     type("two bytes for three nodes", extended, 9, good_type, 2);
     type("x.type", extended, 9, bad_type, 4);
     type("eight bytes of dialect", extended, 8, good_type, 4);
-    module("the module in the Standard dialect", extended, 0, 16);
-    module("a list of four words", extended, 0, 4);
+    module("the module in the Standard dialect", standard, 9, 16);
+    module("a list of four words", standard, 9, 4);
     module("in the Extended dialect", extended, 9, 16);
+    module("with no dialect, so in Extended", extended, 0, 16);
     module("eight bytes of dialect", extended, 8, 4);
     in_words(extended, 9);
+    audit("the audit in the Extended dialect", extended, 9, 48);
+    audit("a list of seven words", extended, 9, 7);
+    audit("eight bytes of dialect", extended, 8, 4);
     write_file("the file in the Extended dialect", extended, 9, STARLARK_FILE_BYTES, count > 1 ? words[1] : NULL);
     write_file("with no dialect", extended, 0, STARLARK_FILE_BYTES, NULL);
     write_file("2,560 bytes for five blocks", extended, 0, 2560, NULL);

@@ -43,6 +43,7 @@ static uint32_t run_target(const struct part *part, uint32_t *out) { return star
 static uint32_t run_assignment(const struct part *part, uint32_t *out) { return starlark_assignment(PART(0), PART(1), ASSIGN, out); }
 static uint32_t run_type(const struct part *part, uint32_t *out) { return starlark_type(PART(0), PART(1), PART(2), TARGET, PART(3), out); }
 static uint32_t run_module(const struct part *part, uint32_t *out) { return starlark_module(PART(0), PART(1), PART(2), PART(3), out); }
+static uint32_t run_audit(const struct part *part, uint32_t *out) { return starlark_audit(PART(0), PART(1), PART(2), PART(3), out); }
 static uint32_t run_write(const struct part *part, uint32_t *out) { return starlark_write(PART(0), PART(1), PART(2), PART(3), out); }
 static uint32_t run_rescue(const struct part *part, uint32_t *out) { return starlark_rescue(PART(0), PART(1), out); }
 static uint32_t run_read(const struct part *part, uint32_t *out) { return starlark_read(PART(0), PART(1), PART(2), out); }
@@ -55,7 +56,8 @@ static const struct job {
 } jobs[] = {{"table", "tn", run_table},   {"params", "tnb", run_params}, {"call", "tn", run_call},
             {"bind", "tnw", run_bind},    {"target", "tn", run_target},  {"assignment", "tn", run_assignment},
             {"type", "tndb", run_type},   {"module", "tndw", run_module}, {"write", "tndb", run_write},
-            {"rescue", "fb", run_rescue}, {"read", "fbb", run_read},     {"check_file", "fw", run_check_file}};
+            {"rescue", "fb", run_rescue}, {"read", "fbb", run_read},     {"check_file", "fw", run_check_file},
+            {"audit", "tndw", run_audit}};
 enum { JOBS = sizeof jobs / sizeof *jobs };
 
 /* What a run leaves: its number, its words, and the buffers that it writes. */

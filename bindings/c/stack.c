@@ -26,7 +26,7 @@ static uint8_t table[STARLARK_NODES * STARLARK_NODE_BYTES];
 static size_t nodes;
 static uint8_t names[STARLARK_NAME_BYTES];
 static uint8_t buffer[STARLARK_NODES];
-static uint32_t errors[3 * STARLARK_ERRORS];
+static uint32_t errors[4 * STARLARK_AUDIT_ERRORS];
 static uint32_t list[2 * STARLARK_NODES];
 static uint8_t file[STARLARK_FILE_BYTES];
 static uint32_t out[STARLARK_WORDS];
@@ -108,6 +108,12 @@ static void damage(void) {
 }
 static void run_rescue(void) { number = starlark_rescue(damaged, damaged_bytes, file, sizeof file, out); }
 static void run_rescue_whole(void) { number = starlark_rescue(damaged, damaged_bytes + 1, file, sizeof file, out); }
+static void run_audit(void) {
+    number = starlark_audit(table, STARLARK_NODE_BYTES * nodes, names, sizeof names, all_on, 9, errors, 4 * STARLARK_AUDIT_ERRORS, out);
+}
+static void run_audit_off(void) {
+    number = starlark_audit(table, STARLARK_NODE_BYTES * nodes, names, sizeof names, all_off, 9, errors, 4 * STARLARK_AUDIT_ERRORS, out);
+}
 /* The whole file, into buffers of their own. */
 static uint8_t read_table[STARLARK_NODES * STARLARK_NODE_BYTES], read_names[STARLARK_NAME_BYTES];
 static void run_read(void) { number = starlark_read(damaged, damaged_bytes + 1, read_table, sizeof read_table, read_names, sizeof read_names, out); }
@@ -120,7 +126,7 @@ struct job {
 } jobs[] = {{"table", run_table, 0}, {"params", run_params, 0}, {"call", run_call, 0}, {"target", run_target, 0}, {"assignment", run_assignment, 0}, {"type", run_type, 0},
           {"module", run_module, 0}, {"module with all switches off", run_refusing, 0}, {"write", run_write, 0}, {"bind", run_bind, 0},
           {"rescue of a cut file", run_rescue, 0}, {"rescue of a whole file", run_rescue_whole, 0}, {"read of a file", run_read, 0},
-          {"check of a file", run_check_file, 0}};
+          {"check of a file", run_check_file, 0}, {"audit", run_audit, 0}, {"audit with all switches off", run_audit_off, 0}};
 enum { JOBS = sizeof jobs / sizeof *jobs };
 
 /* Whether a job ends on a stack of so many bytes. */

@@ -34,6 +34,7 @@ const ARGS: u8 = Kind::ArgsArg as u8;
 const KW_ARGS: u8 = Kind::KwArgsArg as u8;
 
 /// Extended: types are on, and `*` may stand in a parameter list.
+const STANDARD: [u8; 9] = [1, 1, 1, 0, 0, 0, 1, 0, 0];
 const EXTENDED: [u8; 9] = [1, 1, 1, 1, 0, 2, 1, 1, 0];
 
 /// What each place of a buffer holds before a job.
@@ -195,7 +196,8 @@ fn types() {
         println!("{words}: {answer:?}, shapes {shapes:?}");
     };
     show("a.b[int, str] as a type", &generic, &EXTENDED, 1, 6);
-    show("in the Standard dialect", &generic, &[], 1, 6);
+    show("with no dialect, so in Extended", &generic, &[], 1, 6);
+    show("in the Standard dialect", &generic, &STANDARD, 1, 6);
     show("five bytes for five nodes", &generic, &EXTENDED, 1, 5);
     show("four bytes for five nodes", &generic, &EXTENDED, 1, 4);
     show("eight bytes of dialect", &generic, &EXTENDED[..8], 1, 6);
@@ -210,16 +212,30 @@ fn modules() {
         let answer = module.table().module(dialect, &mut errors);
         println!("{words}: {answer:?}, errors {errors:?}");
     };
-    show("def f(a, *, b): break, in the Standard dialect", &[], 6);
-    show("a list one word short", &[], 5);
+    show("def f(a, *, b): break, in the Standard dialect", &STANDARD, 6);
+    show("a list one word short", &STANDARD, 5);
     show("in the Extended dialect", &EXTENDED, 6);
+    show("with no dialect, so in Extended", &[], 6);
     show("eight bytes of dialect", &EXTENDED[..8], 6);
     let mut errors = [0; 6];
-    let count = module.table().module(&[], &mut errors).expect("the table is sound");
+    let count = module.table().module(&STANDARD, &mut errors).expect("the table is sound");
     for error in errors.chunks(3).take(count as usize) {
         let number = Number::try_from(error[0]).expect("the module pass gives no other numbers");
         println!("in words: {} at bytes {} to {}: {}", number.name(), error[1], error[2], number.words());
     }
+}
+
+fn audits() {
+    let call = tree(CALL, vec![x("f"), Tree(NAMED, 0, "b", vec![x("a")]), tree(POSITIONAL, vec![x("a")])]);
+    let script = Script::of(tree(STATEMENTS, vec![tree(SIMPLE, vec![call]), leaf(BREAK, "")]));
+    let show = |words: &str, dialect: &[u8], room: usize| {
+        let mut errors = vec![u32::from(BEFORE); room];
+        let answer = script.table().audit(dialect, &mut errors);
+        println!("{words}: {answer:?}, errors {errors:?}");
+    };
+    show("f(b=a, a), then break, audited", &[], 9);
+    show("a list one word short of two", &[], 7);
+    show("eight bytes of dialect", &EXTENDED[..8], 9);
 }
 
 /// The file in `room` bytes: its first bytes, and how many are no longer what they were. An accepted one is put under the name `path`.
@@ -307,6 +323,7 @@ fn main() {
     assignments();
     types();
     modules();
+    audits();
     files();
     rescues();
     reads();

@@ -39,6 +39,17 @@ extern "C" {
         errors_len: usize,
         out: *mut u32,
     ) -> u32;
+    fn starlark_audit(
+        table: *const u8,
+        table_len: usize,
+        names: *const u8,
+        names_len: usize,
+        dialect: *const u8,
+        dialect_len: usize,
+        errors: *mut u32,
+        errors_len: usize,
+        out: *mut u32,
+    ) -> u32;
     fn starlark_write(
         table: *const u8,
         table_len: usize,
@@ -126,6 +137,14 @@ pub fn module(table: Table, dialect: &[u8], errors: &mut [u32], out: &mut Words)
     let (start, length) = (errors.as_mut_ptr(), errors.len());
     let out = out.as_mut_ptr();
     unsafe { starlark_module(t, tl, n, nl, dialect.as_ptr(), dialect.len(), start, length, out) }
+}
+
+pub fn audit(table: Table, dialect: &[u8], errors: &mut [u32], out: &mut Words) -> u32 {
+    let Table { nodes, names } = table;
+    let (t, tl, n, nl) = (nodes.as_ptr(), nodes.len(), names.as_ptr(), names.len());
+    let (start, length) = (errors.as_mut_ptr(), errors.len());
+    let out = out.as_mut_ptr();
+    unsafe { starlark_audit(t, tl, n, nl, dialect.as_ptr(), dialect.len(), start, length, out) }
 }
 
 pub fn write(table: Table, dialect: &[u8], file: &mut [u8], out: &mut Words) -> u32 {

@@ -110,6 +110,9 @@ pub const FILE_BYTES: usize = 59_904;
 /// No module has more errors: two for each node.
 pub const ERRORS: usize = 4_200;
 
+/// No audit has more errors: four for each node.
+pub const AUDIT_ERRORS: usize = 8_400;
+
 /// Stack enough for every job, twice over.
 pub const STACK_BYTES: usize = 1 << 18;
 
@@ -221,16 +224,22 @@ impl Table<'_> {
         accepted(|out| interface::assignment(self, node, out)).map(|out| out[0])
     }
 
-    /// Whether a node is a type in a dialect (nine bytes, or none for Standard). `shapes` gets the shape of each node that is read, and
+    /// Whether a node is a type in a dialect (nine bytes, or none for Extended). `shapes` gets the shape of each node that is read, and
     /// needs a byte for each node of the type.
     pub fn type_shape(self, dialect: &[u8], node: usize, shapes: &mut [u8]) -> Result<(), Refused> {
         accepted(|out| interface::type_shape(self, dialect, node, shapes, out)).map(|_| ())
     }
 
-    /// How many errors the module has under a dialect (nine bytes, or none for Standard). Three words of `errors` for each: number, begin and
+    /// How many errors the module has under a dialect (nine bytes, or none for Extended). Three words of `errors` for each: number, begin and
     /// end; the first that fit whole are stored.
     pub fn module(self, dialect: &[u8], errors: &mut [u32]) -> Result<u32, Refused> {
         accepted(|out| interface::module(self, dialect, errors, out)).map(|out| out[0])
+    }
+
+    /// How many errors every job on every node that it fits has under a dialect (nine bytes, or none for Extended). Four words of `errors` for
+    /// each: number, node, begin and end; the first that fit whole are stored.
+    pub fn audit(self, dialect: &[u8], errors: &mut [u32]) -> Result<u32, Refused> {
+        accepted(|out| interface::audit(self, dialect, errors, out)).map(|out| out[0])
     }
 
     /// The table file of the table, its names and a dialect (nine bytes, or none, which stays none), at the front of `file`: how many bytes

@@ -47,6 +47,6 @@ recordOf row = record {
 abbrev pub dialectNamed : Name → Dialect
 dialectNamed name = recordOf (rowNamed name)
 
--- the dialect that is meant where none is given: the crate's Default
+-- the dialect that is meant where none is given (W-207): the crate's Extended, which is not its Default
 abbrev pub noneGiven : Name
-noneGiven = Standard
+noneGiven = Extended

@@ -51,7 +51,7 @@ const DIALECTS: [[u8; 9]; 3] = [
 ];
 
 // The dialect that is meant where none is given.
-const NONE_GIVEN: Name = Name::Standard;
+const NONE_GIVEN: Name = Name::Extended;
 
 // The dialect of a name.
 pub fn named(name: Name) -> Dialect

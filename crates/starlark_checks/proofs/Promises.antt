@@ -13,6 +13,7 @@ use Rattle.targets.specs.Jobs.{targetOf, assignmentOf}
 use Rattle.types.specs.Jobs.{typeShapeOf}
 use Rattle.shapes.specs.Jobs.{shapesAfter}
 use Rattle.validate.specs.Job.{moduleOf, errorsAfter}
+use Rattle.audit.specs.Job.{auditOf, auditAfter}
 use Rattle.tablefile.specs.Reading.{contentAt}
 use Rattle.tablefile.specs.Lending.{intoCheck, handed}
 use Rattle.filepass.specs.Passing.{answerOf, wordsAfter}
@@ -87,6 +88,15 @@ pub starlark-module-one : (table names dialect errors out : List ℕ) {r s : ℕ
     → s ≡ number (moduleOf table names dialect) → out-s ≡ laid (words (moduleOf table names dialect)) 0 out
     → errors-s ≡ errorsAfter table names dialect errors → (r ≡ s) × (errors-r ≡ errors-s) × (out-r ≡ out-s)
 starlark-module-one table names dialect errors out r-is out-is errors-is s-is out-are errors-are =
+    (coincide r-is s-is, coincide errors-is errors-are, coincide out-is out-are)
+
+-- of `starlark_audit`
+pub starlark-audit-one : (table names dialect errors out : List ℕ) {r s : ℕ} {errors-r errors-s : List ℕ}
+    {out-r out-s : List ℕ} → r ≡ number (auditOf table names dialect)
+    → out-r ≡ laid (words (auditOf table names dialect)) 0 out → errors-r ≡ auditAfter table names dialect errors
+    → s ≡ number (auditOf table names dialect) → out-s ≡ laid (words (auditOf table names dialect)) 0 out
+    → errors-s ≡ auditAfter table names dialect errors → (r ≡ s) × (errors-r ≡ errors-s) × (out-r ≡ out-s)
+starlark-audit-one table names dialect errors out r-is out-is errors-is s-is out-are errors-are =
     (coincide r-is s-is, coincide errors-is errors-are, coincide out-is out-are)
 
 -- of `starlark_write`

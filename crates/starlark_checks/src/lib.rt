@@ -30,6 +30,7 @@ ghost use Rattle.targets.specs.Jobs.{targetOf, assignmentOf};
 ghost use Rattle.types.specs.Jobs.{typeShapeOf};
 ghost use Rattle.shapes.specs.Jobs.{shapesAfter};
 ghost use Rattle.validate.specs.Job.{moduleOf, errorsAfter};
+ghost use Rattle.audit.specs.Job.{auditOf, auditAfter};
 ghost use Rattle.tablefile.specs.Reading.{headerAt, contentAt};
 ghost use Rattle.tablefile.specs.Lending.{intoCheck, handed};
 ghost use Rattle.filepass.specs.Passing.{answerOf, wordsAfter};
@@ -322,6 +323,29 @@ pub extern "C" fn starlark_module(
         errorsAfter (now (table .entry)) (now (names .entry)) (now (dialect .entry)) (now (errors .entry)) ⌝ }
 {
     let answer = validate::module(table, names, dialect, errors);
+    match answer {
+        Listed::Total(n) => put_count(n, out),
+        Listed::Refused(r) => put_refused(r, out),
+    }
+}
+
+// The audit: the total of what every job refuses on every node that it fits, and the first errors that fit the list.
+#[no_mangle]
+pub extern "C" fn starlark_audit(
+    table: &[u8],
+    names: &[u8],
+    dialect: &[u8],
+    errors: &mut [u32],
+    out: &mut [u32; 12],
+) -> u32
+    ensures { λ r. ⌜ r ≡ number (auditOf (now (table .entry)) (now (names .entry)) (now (dialect .entry))) ⌝ }
+    ensures { λ r. ⌜ now (out .exit) ≡
+        laid (words (auditOf (now (table .entry)) (now (names .entry)) (now (dialect .entry)))) 0
+        (now (out .entry)) ⌝ }
+    ensures { λ r. ⌜ now (errors .exit) ≡
+        auditAfter (now (table .entry)) (now (names .entry)) (now (dialect .entry)) (now (errors .entry)) ⌝ }
+{
+    let answer = audit::audit(table, names, dialect, errors);
     match answer {
         Listed::Total(n) => put_count(n, out),
         Listed::Refused(r) => put_refused(r, out),

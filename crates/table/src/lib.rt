@@ -277,11 +277,11 @@ pub fn within(t: &[u8]) -> &[u8]
 pub fn is_headed(t: &[u8], node: u32) -> bool
     ensures { λ r. ⌜ r ≡ isHeaded node (now (t .entry)) ⌝ }
 {
-    if MOST_BYTES < t.len() {
-        return false;
+    if t.len() <= MOST_BYTES {
+        let before = RECORD * (node as usize);
+        return (before + t.len() <= MOST_BYTES) & (RECORD <= t.len());
     }
-    let before = RECORD * (node as usize);
-    (before + t.len() <= MOST_BYTES) & (RECORD <= t.len())
+    false
 }
 
 // Lets a job on a node in: 1 to 4, then 6. Its stretch is then `stretch`.

@@ -64,7 +64,8 @@ pub fn judge_assignment(t: &[u8], node: u32) -> Targeted
     ensures { λ r. ⌜ targeted r ≡ «check_assignment» (treeOf node (headedOf node (now (t .entry)))) ⌝ }
 {
     if !table::is_headed(t, node) {
-        return Targeted::Leaves(0);
+        let leaves = 0;
+        return Targeted::Leaves(leaves);
     }
     check_assignment(t, node as usize)
 }

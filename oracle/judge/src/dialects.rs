@@ -4,10 +4,10 @@ use model::dialect::BYTES;
 use starlark_syntax::dialect::Dialect;
 use starlark_syntax::dialect::DialectTypes;
 
-/// Nine bytes in the order of the crate's fields. No bytes is the crate's default.
+/// Nine bytes in the order of the crate's fields. No bytes is the crate's Extended, its own constant, and not its default.
 pub fn from_bytes(bytes: &[u8]) -> Dialect {
     if bytes.is_empty() {
-        return Dialect::default();
+        return Dialect::Extended;
     }
     Dialect {
         enable_def: bytes[0] == 1,

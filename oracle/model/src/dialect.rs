@@ -48,16 +48,25 @@ impl Dialect {
     }
 }
 
-/// No bytes is Standard; nine good bytes are themselves; all else is 5.
+/// No bytes is Extended (document 02, W-207); nine good bytes are themselves; all else is 5.
 pub fn from_bytes(bytes: &[u8]) -> Result<Dialect, Refusal> {
     if bytes.is_empty() {
-        let row = if planted(Fault::EmptyDialectAllOptions) { ALL_OPTIONS_INTERNAL } else { STANDARD };
-        return Ok(Dialect::of(&row));
+        return Ok(Dialect::of(&row_of_none()));
     }
     let refused = Refusal::bare(number::DIALECT);
     let row: &[u8; BYTES] = bytes.try_into().map_err(|_| refused.clone())?;
     let good = |(at, byte): (usize, &u8)| *byte <= most(at);
     if row.iter().enumerate().all(good) { Ok(Dialect::of(row)) } else { Err(refused) }
+}
+
+fn row_of_none() -> [u8; BYTES] {
+    if planted(Fault::EmptyDialectAllOptions) {
+        ALL_OPTIONS_INTERNAL
+    } else if planted(Fault::EmptyDialectStandard) {
+        STANDARD
+    } else {
+        EXTENDED
+    }
 }
 
 fn most(at: usize) -> u8 {

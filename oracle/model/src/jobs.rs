@@ -195,7 +195,8 @@ pub fn assignment(table: &[u8], names: &[u8], node: usize) -> Answer {
 
 pub fn type_shape(table: &[u8], names: &[u8], dialect: &[u8], node: usize, shapes: usize) -> Answer {
     answered(Table::check(table, names).and_then(|table| {
-        let dialect = dialect::from_bytes(dialect)?;
+        let in_types = dialect.is_empty() && planted(Fault::EmptyDialectStandardInTypes);
+        let dialect = dialect::from_bytes(if in_types { &dialect::STANDARD } else { dialect })?;
         table.wanted_node(node, is_expression)?;
         long_enough(shapes, table.size(node))?;
         match types::type_shape(&table, node, &dialect) {
@@ -280,7 +281,7 @@ pub fn read(file: &[u8], table: usize, names: usize) -> Answer {
 fn dialect_words(dialect: &[u8]) -> [u32; 4] {
     let is_there = u32::from(!dialect.is_empty());
     let row_for_none = dialect.is_empty() && planted(Fault::ReadRowForNone);
-    let mut bytes = if row_for_none { dialect::STANDARD.to_vec() } else { dialect.to_vec() };
+    let mut bytes = if row_for_none { dialect::EXTENDED.to_vec() } else { dialect.to_vec() };
     bytes.resize(12, 0);
     let word = |at: usize| {
         let four = [bytes[at], bytes[at + 1], bytes[at + 2], bytes[at + 3]];

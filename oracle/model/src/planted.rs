@@ -73,6 +73,8 @@ faults! {
     StatementsCountTwice
     LastNodeRefused
     EmptyDialectAllOptions
+    EmptyDialectStandard
+    EmptyDialectStandardInTypes
     DialectByteTwoAllowed
     NameEndPastLimitAllowed
     RootNeedNotCover

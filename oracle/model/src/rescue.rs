@@ -102,7 +102,7 @@ fn cut(good: Vec<u8>, header: &Header) -> Result<Rescued, Refusal> {
     }
     let mut dialect = header.dialect.clone();
     if dialect.is_empty() && planted(Fault::RescuedRowForNone) {
-        dialect = dialect::STANDARD.to_vec();
+        dialect = dialect::EXTENDED.to_vec();
     }
     let counted = if planted(Fault::DroppedByWrittenSize) { written_size(&good) } else { header.nodes };
     let dropped = counted.saturating_sub(ends[kept]);

@@ -111,6 +111,7 @@ fn items(options: &Options) -> Vec<Item<'static>> {
         part,
         parts,
         program: options.program.clone(),
+        auditor: options.auditor.clone(),
         rows: options.rows.clone(),
         python: options.python.clone(),
     };

@@ -13,8 +13,10 @@ pub struct Options {
     pub threads: usize,
     /// End at the first difference.
     pub stop: bool,
-    /// The program to run on files.
+    /// The program tablecheck to run on files.
     pub program: Option<String>,
+    /// The program tableaudit, which is run on them besides.
+    pub auditor: Option<String>,
     /// A source text that holds the port's three dialect rows.
     pub rows: Option<String>,
     /// The script that puts calls to Python.
@@ -39,6 +41,7 @@ impl Options {
             threads: 2,
             stop: false,
             program: None,
+            auditor: None,
             rows: None,
             python: None,
             record: None,
@@ -59,6 +62,7 @@ impl Options {
                 "--scale" => options.scale = number(&value()?)?.max(1),
                 "--stop" => options.stop = true,
                 "--program" => options.program = Some(value()?),
+                "--auditor" => options.auditor = Some(value()?),
                 "--rows" => options.rows = Some(value()?),
                 "--python" => options.python = Some(value()?),
                 "--record" => options.record = Some(value()?),

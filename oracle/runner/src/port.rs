@@ -261,16 +261,18 @@ impl Effect {
         self.dialect.get(GUARD..self.dialect.len().saturating_sub(GUARD)).unwrap_or(&[])
     }
 
-    /// The archive's function on this memory.
-    pub fn run(&mut self, request: &Request) {
-        let (t, tl) = (request.table.as_ptr(), request.table.len());
-        let (n, nl) = (request.names.as_ptr(), request.names.len());
+    /// The archive's function on this memory. Where a length is 0 the pointer may be NULL.
+    pub fn run(&mut self, request: &Request, null_for_none: bool) {
+        let read = |memory: &[u8]| match memory.is_empty() && null_for_none {
+            true => (std::ptr::null(), 0),
+            false => (memory.as_ptr(), memory.len()),
+        };
+        let ((t, tl), (n, nl), (d, dl)) = (read(request.table), read(request.names), read(self.lent_dialect()));
         let out: *mut Words = self.out();
-        let (bytes, bytes_len) = (self.lent_bytes().as_mut_ptr(), self.lent_bytes().len());
-        let (second, second_len) = (self.lent_names().as_mut_ptr(), self.lent_names().len());
-        let (words, words_len) = (self.lent_words().as_mut_ptr(), self.lent_words().len());
-        let (d, dl) = (self.lent_dialect().as_ptr(), self.lent_dialect().len());
-        // Each pointer is to memory of the length given beside it, and no two of them overlap.
+        let (bytes, bytes_len) = written(self.lent_bytes(), null_for_none);
+        let (second, second_len) = written(self.lent_names(), null_for_none);
+        let (words, words_len) = written(self.lent_words(), null_for_none);
+        // Each pointer is to memory of the length given beside it, and only what is read may overlap.
         self.number = unsafe {
             match request.job {
                 Job::Table => starlark_table(t, tl, n, nl, out),
@@ -288,6 +290,14 @@ impl Effect {
                 Job::CheckFile { .. } => starlark_check_file(t, tl, words, words_len, out),
             }
         };
+    }
+}
+
+/// A buffer's pointer and length.
+fn written<T>(memory: &mut [T], null_for_none: bool) -> (*mut T, usize) {
+    match memory.is_empty() && null_for_none {
+        true => (std::ptr::null_mut(), 0),
+        false => (memory.as_mut_ptr(), memory.len()),
     }
 }
 

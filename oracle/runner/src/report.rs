@@ -76,14 +76,17 @@ fn too_few(options: &Options, all: &Tally) -> Vec<String> {
     few.map(|job| format!("{} {} of {}", NAMES[job], all.of_job[job], LEAST[job])).collect()
 }
 
-/// The numbers of each job asked for that no input has brought about. The program's are asked for where one is named.
+/// Of each job asked for, the numbers that no input has brought about; where only some families are run, of those jobs that they have.
 fn never_given(options: &Options, all: &Tally) -> Vec<String> {
-    let asked = (0..JOBS).filter(|&job| options.wanted[job] && (job != FILE || options.program.is_some()));
-    let never = asked.flat_map(|job| {
-        let numbers = numbers_of_jobs()[job].clone();
-        numbers.into_iter().filter(move |&number| all.given[job][number] == 0).map(move |number| (job, number))
-    });
-    never.map(|(job, number)| format!("{} {number}", NAMES[job])).collect()
+    let is_asked = |job: usize| options.wanted[job] && (job != FILE || options.program.is_some());
+    let numbers = numbers_of_jobs();
+    let told = |job: usize| {
+        let never = numbers[job].iter().filter(|&&number| all.given[job][number] == 0);
+        let never: Vec<String> = never.map(|number| number.to_string()).collect();
+        (!never.is_empty()).then(|| format!("{} {}", NAMES[job], never.join(" ")))
+    };
+    let asked = (0..JOBS).filter(|&job| is_asked(job) && (options.is_whole() || all.of_job[job] > 0));
+    asked.filter_map(told).collect()
 }
 
 /// What each job can answer, 0 among it.

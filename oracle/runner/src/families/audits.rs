@@ -118,7 +118,8 @@ fn type_positions(checker: &mut Checker) {
     };
     expect(checker, &ON, &[(40, 3), (40, 5), (40, 10), (40, 13), (40, 14)], def);
     expect(checker, &NO_TYPES, &[(45, 3), (45, 5), (45, 10), (45, 13), (45, 14)], def);
-    expect(checker, &[], &[(45, 3), (45, 5), (45, 10), (45, 13), (45, 14)], def);
+    expect(checker, &[], &[(40, 3), (40, 5), (40, 10), (40, 13), (40, 14)], def);
+    expect(checker, &STANDARD, &[(45, 3), (45, 5), (45, 10), (45, 13), (45, 14)], def);
     expect(checker, &OFF, &[(52, 1), (45, 3), (45, 5), (45, 10), (45, 13), (45, 14)], def);
     let lambda = |cells: &mut Cells| {
         cells.tree(kind::SIMPLE, 0, 0, |cells| {

@@ -25,6 +25,7 @@ pub fn boundaries(checker: &mut Checker, plan: &Plan) {
     name_fields(checker);
     positions(checker);
     nodes_and_buffers(checker, &mut rng);
+    overlapping(checker);
     error_lists(checker);
     depths(checker);
     wrong_in_several_ways(checker);
@@ -158,6 +159,21 @@ fn nodes_and_buffers(checker: &mut Checker, rng: &mut Rng) {
             for room in [usize::from(cell.size) - 1, usize::from(cell.size), written.max(1) - 1, written] {
                 all_jobs_at(checker, &encoded.table, &encoded.names, &on, node, room);
             }
+        }
+    }
+}
+
+/// The table lent as its own names, too: what is only read may overlap.
+fn overlapping(checker: &mut Checker) {
+    // Rows of their own, so that the other jobs stay as they were.
+    let mut rng = Rng::new(13, 1);
+    let mut encoded = Encoded::default();
+    for _ in 0..200 {
+        let cells = grow::module(&mut rng, true);
+        encoded.write(&cells, &PLAIN);
+        let table = &encoded.table[..];
+        for node in [0, cells.all.len() / 2, cells.all.len() - 1] {
+            all_jobs_at(checker, table, table, &[1, 1, 1, 1, 1, 2, 1, 1, 1], node, cells.all.len());
         }
     }
 }

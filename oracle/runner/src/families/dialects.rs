@@ -23,6 +23,7 @@ pub fn rows_and_bytes(checker: &mut Checker, plan: &Plan) {
         rows_of_source(checker, source);
     }
     let encoded = telling_module();
+    none_is_extended(checker, &encoded);
     for dialect in judge::dialects::named() {
         ask(checker, &encoded, &dialect.1);
     }
@@ -35,6 +36,16 @@ pub fn rows_and_bytes(checker: &mut Checker, plan: &Plan) {
             dialect[at] = value;
             ask(checker, &encoded, &dialect);
         }
+    }
+}
+
+/// No bytes: the crate's Extended by its own constant, in the model too, and neither of the other rows.
+fn none_is_extended(checker: &mut Checker, encoded: &Encoded) {
+    let audited = |dialect: &[u8]| model::jobs::audit(&encoded.table, &encoded.names, dialect).audited;
+    let [_, (_, of_crate), ..] = judge::dialects::named();
+    checker.note(audited(&[]) == audited(&of_crate), || "no dialect is not Extended".to_owned());
+    for (name, row) in [("Standard", STANDARD), ("AllOptionsInternal", ALL_OPTIONS_INTERNAL)] {
+        checker.note(audited(&[]) != audited(&row), || format!("the module does not tell no dialect from {name}"));
     }
 }
 

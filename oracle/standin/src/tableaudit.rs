@@ -1,0 +1,17 @@
+//! Stands in for the program `tableaudit`: reads the table file that its argument names, or else standard input, and prints the
+//! audit of what it holds.
+
+use std::io::Read;
+
+fn main() -> std::io::Result<()> {
+    let file = match std::env::args_os().nth(1) {
+        Some(path) => std::fs::read(path)?,
+        None => {
+            let mut bytes = Vec::new();
+            std::io::stdin().read_to_end(&mut bytes)?;
+            bytes
+        }
+    };
+    print!("{}", model::file::printed_audit(&file));
+    Ok(())
+}
