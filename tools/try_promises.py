@@ -126,7 +126,7 @@ PLANTED = [
      changed(theorems("fields"), "^pub word-one.*", lambda found: re.sub("(?m)^", "-- ", found[0])),
      "fields::word: proofs/Promises.antt has no theorem 'pub word-one"),
     ("a record of a promise that says nothing of the list",
-     changed("crates/errors/specs/Errors.antt", r"\n  pub words : ys ≡ stored es xs", ""),
+     changed("crates/errors/specs/Errors.antt", r"\n  pub words : ys ≡ stored l \(kept l es\) xs", ""),
      "errors::push_at: no 'ensures' fixes what errors is at exit"),
     ("a new public function with nothing",
      added(source("blocks"), "pub " + MADE_UP),

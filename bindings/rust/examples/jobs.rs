@@ -302,15 +302,16 @@ fn reads() {
         file.truncate(size);
         file
     };
-    let (none, extended) = (file(&[]), file(&EXTENDED));
+    let (none, standard, extended) = (file(&[]), file(&STANDARD), file(&EXTENDED));
     show_read("a file of five nodes, read", &none, 120, 2);
     show_read("in the Extended dialect", &extended, 120, 2);
     show_read("119 bytes for five nodes", &none, 119, 2);
     show_read("one byte for two of names", &none, 120, 1);
     show_read("a file cut short", &none[..1535], 120, 2);
-    show_checked("the file, checked", &none, 6);
+    show_checked("the file in the Standard dialect, checked", &standard, 6);
     show_checked("in the Extended dialect", &extended, 6);
-    show_checked("a list of five words", &none, 5);
+    show_checked("with no dialect, so in Extended", &none, 6);
+    show_checked("a list of five words", &standard, 5);
     show_checked("a file with a byte behind it", &[&none[..], &[0]].concat(), 6);
 }
 
