@@ -133,13 +133,13 @@ def object_of(answer, words, made):
 
 
 def without_answer(path, name):
-    """Why there is no answer: what was said, without the names before it; star2table says where, too."""
-    said = open(path, "rb").read().strip()
-    for before in (b"star2table: ", b"standard input: ", os.fsencode(name) + b": "):
-        said = said.removeprefix(before)
-    at = re.match(rb"(\d+):(\d+): ", said.removeprefix(os.fsencode(name) + b":"))
-    if at:
-        return {"failed": shown(said.removeprefix(os.fsencode(name) + b":")[at.end():]), "line": int(at[1]), "column": int(at[2])}
+    """Why there is no answer: what was said, without the names before it; star2table says where, too, and shows a control character as ?."""
+    said = open(path, "rb").read().strip().removeprefix(b"star2table: ").removeprefix(b"standard input: ")
+    for before in (os.fsencode(name), re.sub(rb"[\0-\x1f\x7f]", b"?", os.fsencode(name))):
+        said = said.removeprefix(before + b": ")
+        at = re.match(re.escape(before) + rb":(\d+):(\d+): ", said)
+        if at:
+            return {"failed": shown(said[at.end():]), "line": int(at[1]), "column": int(at[2])}
     return {"failed": shown(said) or "the program gives no answer"}
 
 
