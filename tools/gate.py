@@ -119,7 +119,7 @@ class Gate:
         self.steps, self.needs, self.log = steps, NEEDS if needs is None else needs, log
         self.out = out or sys.stdout
         self.passed, self.failed, self.ended, self.skipped = 0, 0, set(), {}
-        self.running, self.lock, self.stopped = set(), threading.Lock(), False
+        self.running, self.lock, self.starting, self.signalled = set(), threading.RLock(), False, 0
 
     def say(self, text):
         for place in (self.out, self.log):
@@ -158,16 +158,20 @@ class Gate:
 
     # running a command
 
-    def start(self, step, output):
-        """Starts a step's command in a session of its own, so that it can be ended with all that it started."""
+    def start(self, command, output):
+        """Starts a command in a session of its own, so that it can be ended with all that it started."""
         with self.lock:
-            if self.stopped:
-                return None
-            child = subprocess.Popen(
-                step.command, cwd=ROOT, stdin=subprocess.DEVNULL, stdout=output, stderr=subprocess.STDOUT, start_new_session=True
-            )
-            self.running.add(child)
-            return child
+            self.starting = True
+            try:
+                child = subprocess.Popen(
+                    command, cwd=ROOT, stdin=subprocess.DEVNULL, stdout=output, stderr=subprocess.STDOUT, start_new_session=True
+                )
+                self.running.add(child)
+            finally:
+                self.starting = False
+        if self.signalled:
+            self.stop()
+        return child
 
     def finish(self, child):
         status = child.wait()
@@ -175,25 +179,30 @@ class Gate:
             self.running.discard(child)
         return status
 
-    def stop(self, number):
+    def on_signal(self, number, _):
+        """Ends the run. A command that is just being started is not in `running` yet: `start` then ends the run once it is."""
+        self.signalled = number
+        with self.lock:  # waits for a start in the other thread; a start in this one goes on after the handler
+            if not self.starting:
+                self.stop()
+
+    def stop(self):
         """Ends what runs, and then this process."""
-        self.stopped = True
-        for child in list(self.running):
-            try:
-                os.killpg(child.pid, signal.SIGTERM)
-            except ProcessLookupError:
-                pass
-        os._exit(128 + number)
+        with self.lock:
+            for child in self.running:
+                try:
+                    os.killpg(child.pid, signal.SIGTERM)
+                except ProcessLookupError:
+                    pass
+            os._exit(128 + self.signalled)
 
     def shown(self, step):
         """Runs a step and prints what it prints as it comes. Returns its status and its last line."""
         try:
-            child = self.start(step, subprocess.PIPE)
+            child = self.start(step.command, subprocess.PIPE)
         except OSError as error:
             self.say(str(error))
             return 127, ""
-        if child is None:
-            return 2, ""
         last = ""
         for line in child.stdout:
             last = line.decode(errors="replace").rstrip("\n")
@@ -203,11 +212,11 @@ class Gate:
     def kept(self, step, file):
         """Runs a step whose output goes into a file. Returns its status."""
         try:
-            child = self.start(step, file)
+            child = self.start(step.command, file)
         except OSError as error:
             file.write(f"{error}\n".encode())
             return 127
-        return 2 if child is None else self.finish(child)
+        return self.finish(child)
 
     # what a step came to
 
@@ -271,11 +280,11 @@ class Gate:
         self.compare_names(demanded)
         for step in self.lane(FIRST):
             self.run(step)
-        ahead = subprocess.Popen(prepare, cwd=ROOT, stdout=subprocess.DEVNULL, stderr=subprocess.DEVNULL) if prepare else None
+        ahead = self.start(prepare, subprocess.DEVNULL) if prepare else None
         for step in self.lane(PROOFS):
             self.run(step)
         if ahead:
-            ahead.wait()
+            self.finish(ahead)
         with tempfile.TemporaryDirectory() as folder:
             room, results = pathlib.Path(folder), {}
             beside = threading.Thread(target=self.run_beside, args=(room, results))
@@ -305,7 +314,7 @@ def end_on_signals(gate):
     ignored = signal.getsignal(signal.SIGHUP) == signal.SIG_IGN
     for number in (signal.SIGHUP, signal.SIGINT, signal.SIGQUIT, signal.SIGTERM):
         harmless = number == signal.SIGHUP and ignored
-        signal.signal(number, (lambda *_: None) if harmless else (lambda got, _: gate.stop(got)))
+        signal.signal(number, (lambda *_: None) if harmless else gate.on_signal)
 
 
 def main(words):

@@ -70,6 +70,7 @@ def counts():
     tried("no count", one("echo something else"), last="0 passed, 1 failed", status=1)
     tried("no output", one("true"), last="0 passed, 1 failed", status=1)
     tried("a count that is not last", one("echo 7 passed, 0 failed; echo more"), last="0 passed, 1 failed", status=1)
+    tried("a count inside a line", one("echo 'of 7 passed, 0 failed'"), last="0 passed, 1 failed", status=1)
     tried("a count beside", [sh("many", "echo 7 passed, 0 failed", lane=BESIDE, counts=COUNTED)], last="7 passed, 0 failed")
 
 
