@@ -1,12 +1,12 @@
 #!/usr/bin/env python3
-"""Makes what C and Rust see of the numbers and kinds, from docs/numbers.tsv and docs/kinds.tsv, and holds the two interfaces to each other.
+"""Makes what C, Rust and Python see of the numbers and kinds, from docs/numbers.tsv and docs/kinds.tsv, and compares the interfaces.
 
 interfaces.py           says whether all is as it must be (exit status 1 if not)
 interfaces.py --write   first writes anew what is made
 
-Made: the enums in include/starlark.h, from "enum starlark_number {" and "enum starlark_kind {" to their ends; include/starlark_names.h; and
-bindings/rust/src/made.rs. Held: the version of the header in one string and in bindings/rust/Cargo.toml, and the header's constants, which
-are the code's and those of bindings/rust/src/lib.rs. tools/numbers.py holds the two lists to the code.
+Made: the enums and the dialects of include/starlark.h; include/starlark_names.h; bindings/rust/src/made.rs; python/ducatmuffin/numbers.py.
+Compared: the version, which the header has, the Rust crates, the Python package and the code; and the header's constants with those of the
+code and of bindings/rust/src/lib.rs. tools/numbers.py compares the two lists with the code.
 """
 import re
 import sys
@@ -14,11 +14,17 @@ import sys
 from repository import CRATES, ROOT
 
 HEADER, NAMES = ROOT / "include" / "starlark.h", ROOT / "include" / "starlark_names.h"
-RUST = ROOT / "bindings" / "rust"
+RUST, RAW = ROOT / "bindings" / "rust", ROOT / "bindings" / "raw"
+PYTHON = ROOT / "python" / "ducatmuffin"
 # the header's constants that the wrapper has too, and where the code has them
 SHARED = ["WORDS", "NODES", "NODE_BYTES", "NAME_BYTES", "DEPTH", "FILE_BYTES", "ERRORS", "AUDIT_ERRORS", "STACK_BYTES"]
 IN_CODE = {"NODES": "table/src/lib.rt: MOST_NODES", "NAME_BYTES": "table/src/lib.rt: MOST_NAMES", "DEPTH": "table/src/depth.rt: MOST_DEPTH",
            "NODE_BYTES": "forest/src/lib.rt: RECORD"}
+# the bytes that starlark_params and starlark_type store, as crates/parameters/specs and crates/types/specs define them
+MODES = ["PosOnly", "PosOrName", "NameOnly", "Args", "Kwargs"]
+SHAPES = ["Ellipsis", "Path", "Index", "Index2", "List", "Union", "Tuple"]
+# the dialects of crates/dialect that have a name, and what the interfaces call them
+DIALECTS = {"Standard": "STANDARD", "Extended": "EXTENDED", "AllOptionsInternal": "ALL"}
 
 
 def rows(name):
@@ -52,6 +58,66 @@ def number_enum():
 
 def kind_enum():
     return c_enum("kind", [f"STARLARK_KIND_{constant(name)} = {number}, /* {own} */" for number, name, own in rows("kinds.tsv")])
+
+
+def listed_enum(name, cases):
+    """An enum of C whose numbers count from 1."""
+    return c_enum(name, [f"STARLARK_{name.upper()}_{constant(case)} = {number}," for number, case in enumerate(cases, 1)])
+
+
+def switches():
+    """The names of a dialect's switches, as the code has them."""
+    return re.findall(r"^    pub (enable_\w+):", (CRATES / "dialect" / "src" / "lib.rt").read_text(), re.M)
+
+
+def dialects():
+    """The dialects that have a name, by the interfaces' names: their bytes, as the code has them."""
+    code = (CRATES / "dialect" / "src" / "lib.rt").read_text()
+    names = re.findall(r"^    (\w+),$", re.search(r"^pub enum Name \{\n(.*?)^\}", code, re.M | re.S)[1], re.M)
+    rows_found = [[int(digit) for digit in re.findall(r"\d", row)] for row in re.findall(r"^    \[([\d, ]+)\],$", code, re.M)]
+    assert names == list(DIALECTS) and all(len(row) == len(switches()) for row in rows_found), "crates/dialect has other dialects"
+    return {DIALECTS[name]: row for name, row in zip(names, rows_found)}
+
+
+def with_dialects(text):
+    """The header's text with the bytes of the dialects."""
+    for name, row in dialects().items():
+        made = f'#define STARLARK_DIALECT_{name} ((const uint8_t *)"{"".join(f"{chr(92)}{byte}" for byte in row)}")'
+        text, count = re.subn(rf"^#define STARLARK_DIALECT_{name}\b.*$", lambda _: made, text, flags=re.M)
+        assert count == 1, f"include/starlark.h has not one STARLARK_DIALECT_{name}"
+    return text
+
+
+def header_constants(header):
+    """The header's constants, without STARLARK_: name to number."""
+    said = dict(re.findall(r"^#define STARLARK_(\w+) (.*)$", header, re.M))
+    return {name: value(text) for name, text in said.items() if value(text) is not None}
+
+
+def python():
+    """The Python package's module `numbers`."""
+    numbers, kinds = rows("numbers.tsv"), rows("kinds.tsv")
+    limits = header_constants(HEADER.read_text())
+
+    def listed(name, words, cases):
+        return f"# {words}\n{name} = {{\n" + "".join(f"    {key!r}: {text}," + "\n" for key, text in cases) + "}\n"
+
+    parts = [
+        "# what a function returns that accepts, and the word for \"no place\" and \"no earlier node\"\nACCEPTED = 0\nNONE = 0xFFFFFFFF\n",
+        "# the limits of include/starlark.h; OUT_WORDS is the number of words that an answer has\n"
+        + "".join(f"{'OUT_WORDS' if name == 'WORDS' else name} = {limits[name]}\n" for name in [*SHARED, "DIALECT_BYTES"]),
+        listed("NUMBERS", "the name of each number", [(int(number), f'"{name}"') for number, name, _, _ in numbers]),
+        listed("WORDS", "what each number means", [(int(number), f'"{in_c(words)}"') for number, _, words, _ in numbers]),
+        listed("KINDS", "the name and the class of each kind", [(int(number), f'("{name}", "{own}")') for number, name, own in kinds]),
+        "# the number of each kind by its name\nKIND = {name: number for number, (name, _) in KINDS.items()}\n",
+        listed("DIALECTS", "the dialects that have a name", [(name.lower(), f"bytes({row})") for name, row in dialects().items()])
+        .replace("'", '"'),
+        "# what each byte of a dialect switches\nSWITCHES = (\n" + "".join(f'    "{name}",\n' for name in switches()) + ")\n",
+        listed("MODES", "the modes of parameters", [(number, f'"{name}"') for number, name in enumerate(MODES, 1)]),
+        listed("SHAPES", "the shapes of types", [(number, f'"{name}"') for number, name in enumerate(SHAPES, 1)]),
+    ]
+    return '"""The numbers, kinds, limits, dialects, modes and shapes.\n\nMade by tools/interfaces.py from docs/numbers.tsv, docs/kinds.tsv, ' \
+           'include/starlark.h and crates/dialect.\n"""\n' + "\n".join(parts)
 
 
 def c_switch(name, what, cases):
@@ -106,8 +172,11 @@ def with_enum(text, name, made):
 
 def made():
     """What is made: each file's text as it must be."""
-    header = with_enum(with_enum(HEADER.read_text(), "number", number_enum()), "kind", kind_enum())
-    return {HEADER: header, NAMES: names_header(), RUST / "src" / "made.rs": rust()}
+    header = with_dialects(HEADER.read_text())
+    enums = {"number": number_enum(), "kind": kind_enum(), "mode": listed_enum("mode", MODES), "shape": listed_enum("shape", SHAPES)}
+    for name, enum in enums.items():
+        header = with_enum(header, name, enum)
+    return {HEADER: header, NAMES: names_header(), RUST / "src" / "made.rs": rust(), PYTHON / "numbers.py": python()}
 
 
 def value(text):
