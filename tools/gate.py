@@ -26,6 +26,9 @@ ROOT = pathlib.Path(__file__).resolve().parent.parent
 REQUIRED = ROOT / ".ci" / "steps"
 PUBLISHED = ROOT.parent / "shared" / "docs" / "src" / "src" / "lib.rs"
 
+# No step runs on a library that the environment names: it might not be proved.
+ENVIRONMENT = {name: value for name, value in os.environ.items() if not name.startswith("DUCAT")}
+
 # Where a step runs. FIRST: what needs no proof and takes seconds. PROOFS: rt ci, which removes target/. BESIDE: the library for this machine
 # and what runs it, one step after the other, beside WRONG: the wrong answers.
 FIRST, PROOFS, BESIDE, WRONG = "first", "proofs", "beside", "wrong"
@@ -98,7 +101,15 @@ STEPS = [
         counts=r"(\d+) wrong answers refused, (\d+) not",
     ),
     Step("try-wrong", "an edit that shows nothing is called bad", python("tools/wrong_answers.py", "--try", "tools/bad-edits"), lane=WRONG),
-    Step("native", "the library is proved and compiled for this machine", ("tools/native-lib", "starlark_checks"), lane=BESIDE),
+    Step("native", "the library is proved and compiled for this machine", ("./ducat", "build"), lane=BESIDE),
+    Step(
+        "python",
+        "the package and the command pass their tests, without the current folder and without installed packages",
+        python("-I", "-S", "python/tests"),
+        lane=BESIDE,
+        counts=r"(\d+) tests passed, (\d+) failed",
+    ),
+    Step("shown", "the commands print what the documents show", python("tools/shown.py"), lane=BESIDE),
     Step("faults", "the comparison finds a fault of each job, and is not empty", ("oracle/faults", "--gate"), ORACLE, BESIDE),
     Step("compare", "the port answers as the crate does (quick run)", ("oracle/compare",), ORACLE, BESIDE),
     Step("examples", "the examples in C and Rust print what they must; the stack is as measured", ("bindings/run",), ("cc", "cargo", "rustc"), BESIDE),
@@ -164,7 +175,8 @@ class Gate:
             self.starting = True
             try:
                 child = subprocess.Popen(
-                    command, cwd=ROOT, stdin=subprocess.DEVNULL, stdout=output, stderr=subprocess.STDOUT, start_new_session=True
+                    command, cwd=ROOT, env=ENVIRONMENT, stdin=subprocess.DEVNULL, stdout=output, stderr=subprocess.STDOUT,
+                    start_new_session=True,
                 )
                 self.running.add(child)
             finally:
