@@ -2,6 +2,7 @@
 
 The answers are the library's. Which call is paired with which def is said here, by the names of defs in the script: a table has none.
 """
+import os
 import re
 
 from . import dialects, inputs, reasons
@@ -17,6 +18,7 @@ STARS = {KIND["ArgsParam"]: "*", KIND["KwArgsParam"]: "**"}
 FLAT = frozenset([KIND["Normal"], *STARS])
 MODES = {1: "by place only", 2: "by place or name", 3: "by name only", 4: "collects by place", 5: "collects by name"}
 LONGEST = 60  # characters of a script's text in a line
+MANY, BATCH, THREADS = 2000, 16, 4  # pairs from which on threads are used, calls at a time, threads at most
 HEAD = re.compile(rb"def[\s\\]+([\w\x80-\xff]+)")
 NO_DEF = "no def of this name"
 UNNAMED = {CALL: "a call of a call, which is bound to no def", DOT: "a method call, which is bound to no def"}
@@ -116,6 +118,20 @@ class Binder:
 
     def bound(self, call, def_):
         return self.library.bind(self.tree.table, self.tree.names, call, def_)
+
+    def answers(self, pairs):
+        """For each call with its defs the list of answers, in order. Many are asked in several threads: the library works without the lock."""
+        def ask(pair):
+            return [self.bound(pair[0], def_) for def_ in pair[1]]
+
+        threads = min(os.cpu_count() or 1, THREADS)
+        if threads < 2 or sum(len(defs) for _, defs in pairs) < MANY:
+            yield from map(ask, pairs)
+            return
+        from concurrent.futures import ThreadPoolExecutor
+        with ThreadPoolExecutor(threads) as pool:
+            for first in range(0, len(pairs), BATCH):
+                yield from pool.map(ask, pairs[first:first + BATCH])
 
     def taken(self, answer, call, def_):
         """Each parameter of an accepted call: its node, its mode, and the arguments that it takes."""
@@ -320,11 +336,10 @@ class Run:
         binder, accepted, refused, alone, pairs = Binder(self.library, tree), 0, 0, [], []
         if not self.report:
             self.header(one)
-        for call in tree.of_kind(CALL):
-            name = tree.callee(call)
+        calls = [(call, places.defs.get(tree.callee(call), [])) for call in tree.of_kind(CALL)]
+        for (call, defs), answers in zip(calls, binder.answers(calls)):
             head = f"{places.place(call)} {places.text(call)}"
-            for def_ in places.defs.get(name, ()):
-                answer = binder.bound(call, def_)
+            for def_, answer in zip(defs, answers):
                 self.worse(status_of(answer))
                 accepted, refused = accepted + (type(answer) is not Refusal), refused + (type(answer) is Refusal)
                 if self.report:
@@ -332,10 +347,10 @@ class Run:
                 else:
                     lines = binder.lines(answer, call, def_, places, self.options.explain)
                     self.out.lines([f"{head}, def {places.place(def_)}", *("    " + line for line in lines)])
-            if name not in places.defs:
+            if not defs:
                 alone.append(call)
                 if not self.report:
-                    self.out.lines([f"{head}, {NO_DEF if name is not None else tree.unnamed(call)}"])
+                    self.out.lines([f"{head}, {tree.unnamed(call) if tree.callee(call) is None else NO_DEF}"])
         if self.report:
             self.told(one, found, dialect, verdict="refused" if refused else "bound", script=named(places.source.path), pairs=pairs,
                       without_def=[self.call_json(tree, call, places.source) for call in alone],

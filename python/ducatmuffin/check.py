@@ -189,16 +189,13 @@ class Checker:
                 return f"refused {found.refusal.number}\n".encode()
             hint = hint_of(found)
             return encoded(self.refusal(found) + "\n" + (f"hint: {hint}\n" if hint else ""))
-        lines = [f"nodes {found.nodes}" + (f", dialect {dialects.told(found.dialect, self.holder(found))}" if explain else "")]
+        lines = [f"nodes {found.nodes}" + (f", dialect {dialects.told(found.dialect, found.one.script)}" if explain else "")]
         source = self.source_of(found)
         for error in found.errors:
             lines += self.error(found, source, error)
         covered = f": {MODULE if self.options.module else ALL}" if explain and not found.total else ""
         lines.append(f"errors {found.total}{covered}")
         return encoded("\n".join(lines) + "\n")
-
-    def holder(self, found):
-        return "command" if found.one.script else "file"
 
     def source_of(self, found):
         """The script that places are shown in: the input itself, the one that --script names, or X.star beside X.table."""
@@ -365,12 +362,12 @@ def run(library, options, found, jobs, out, front):
     try:
         for answer in answers(checker, found, jobs):
             totals.add(answer)
+            if answer.out:
+                report.add(answer.out) if report else out.write(answer.out)
             if answer.err:
                 progress.clear()
                 out.flush()
                 tell(answer.err)
-            if answer.out:
-                report.add(answer.out) if report else out.write(answer.out)
             if progress.shown:
                 progress.step(totals.files, totals.faulty + totals.refused + totals.unread)
     finally:

@@ -26,9 +26,9 @@ def name_of(dialect):
     return "".join(str(byte) if byte < 10 else f"[{byte}]" for byte in dialect)
 
 
-def told(dialect, holder="file"):
+def told(dialect, script=False):
     """The dialect in use, and whether it is only meant."""
-    return name_of(dialect) if dialect else f"{MEANT} (the {holder} has none)"
+    return name_of(dialect) if dialect else f"{MEANT} ({'none is given' if script else 'the file has none'})"
 
 
 def in_json(dialect):
