@@ -69,6 +69,7 @@ STEPS = [
     Step("format", "docs/FORMAT.md is true, and its example is the sample", python("tools/format.py")),
     Step("try-native", "native-lib reports what is proved, and makes nothing of what is not", ("tools/try_native",)),
     Step("samples", "the samples are what their texts give", ("sh", "-c", "exec python3 tools/tables.py files samples/*.txt --check")),
+    Step("try-tables", "what is wrong with a line of cases is reported", python("tools/try_tables")),
     Step("tablecheck-data", "tablecheck is run on a sample", data("file", "samples/example.txt", "crates/tablecheck/data/example.table")),
     Step("tablerescue-data", "tablerescue is run on a sample", data("file", "samples/lost.txt", "crates/tablerescue/data/lost.table")),
     Step("filetest-data", "filetest damages a sample", data("file", "samples/parameters.txt", "crates/filetest/data/parameters.table")),

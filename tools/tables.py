@@ -23,15 +23,8 @@ from ducatmuffin import table as tables  # noqa: E402
 from ducatmuffin.table import TextError, demand, file_of, table_of, trees  # noqa: E402
 
 JOBS = {"check": 1, "node": 2, "dialect": 3, "call": 4, "params": 5, "target": 6, "assignment": 7, "type": 8, "module": 9, "bind": 10}
+numbers = tables._numbers
 WANTED = {"parameters": 1, "call": 2, "assignment": 3, "expression": 4}
-
-
-def numbers(text, mark, most):
-    """The numbers of a text, as many as `most` has, each up to that."""
-    found = text.split(mark)
-    demand(len(found) == len(most) and all(re.fullmatch("[0-9]+", number) for number in found), f"{text} is not {len(most)} of numbers")
-    demand(all(int(number) <= limit for number, limit in zip(found, most)), f"{text} is more than {most}")
-    return tuple(int(number) for number in found)
 
 
 def digits(text):
