@@ -1,11 +1,13 @@
-/* The C interface of the proved checks: link libstarlark_checks.a (`tools/native-lib starlark_checks` makes target/native/libstarlark_checks.a).
+/* The C interface of the proved checks: `./ducat build` proves them and makes target/native/libstarlark_checks.a and libstarlark_checks.so.
  *
  * How it is linked
- *   in the repository                 cc program.c -Iinclude -Ltarget/native -lstarlark_checks
+ *   in the repository                 cc program.c -Iinclude target/native/libstarlark_checks.a
  *   after `tools/install PREFIX`      cc program.c $(pkg-config --cflags --libs starlark_checks)
  *                                     with PREFIX/lib/pkgconfig in PKG_CONFIG_PATH, where pkg-config does not look there by itself;
  *                                     or cc program.c -IPREFIX/include -LPREFIX/lib -lstarlark_checks
  *   The archive stands behind what calls it. It needs no other library.
+ *   The same code is installed as a shared library, PREFIX/lib/libstarlark_checks.so.MAJOR.MINOR, for programs that load it when they run;
+ *   such a program compares starlark_version() first.
  *
  * docs/FORMAT.md has the format of tables and table files, docs/numbers.tsv all numbers, starlark_names.h both in words.
  *

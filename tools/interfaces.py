@@ -5,8 +5,9 @@ interfaces.py           says whether all is as it must be (exit status 1 if not)
 interfaces.py --write   first writes anew what is made
 
 Made: the enums and the dialects of include/starlark.h; include/starlark_names.h; bindings/rust/src/made.rs; python/ducatmuffin/numbers.py.
-Compared: the version, which the header has, the Rust crates, the Python package and the code; and the header's constants with those of the
-code and of bindings/rust/src/lib.rs. tools/numbers.py compares the two lists with the code.
+Compared: the version, which the header has, the Rust crates, the Python package and the code; the header's constants with those of the code
+and of bindings/rust/src/lib.rs; its functions with the declarations of bindings/raw/src/lib.rs. tools/numbers.py compares the two lists with
+the code.
 """
 import re
 import sys
@@ -155,10 +156,19 @@ def rust():
                        [(number, name, words) for number, name, words, _ in numbers])
     kind = rust_enum("Kind", "The kind of a record: its byte 0. docs/FORMAT.md has what each takes below it.", "u8",
                      [(number, name, f"{own.capitalize()} {number}.") for number, name, own in kinds])
+    mode = rust_enum("Mode", "The mode of a parameter: what [`crate::Table::params`] stores for each.", "u8",
+                     [(at, name, f"Mode {at}.") for at, name in enumerate(MODES, 1)])
+    shape = rust_enum("Shape", "The shape of a type: what [`crate::Table::type_shape`] stores for each node that it reads as a type.", "u8",
+                      [(at, name, f"Shape {at}.") for at, name in enumerate(SHAPES, 1)])
+    named_rows = "".join(f"    /// The dialect {name}.\n    pub const {DIALECTS[name]}: [u8; {len(row)}] = {row};\n"
+                         for name, row in zip(DIALECTS, dialects().values()))
+    lists = "".join(f"/// Each {what.lower()}.\npub const {what.upper()}S: [{what}; {len(cases)}] = ["
+                    + ", ".join(f"{what}::{name}" for name in cases) + "];\n\n" for what, cases in (("Mode", MODES), ("Shape", SHAPES)))
     said = "".join(f'    (Number::{capitals(name)}, "{name}", "{in_c(words)}"),\n' for _, name, words, _ in numbers)
     named = "".join(f'    (Kind::{name}, "{name}", Class::{own.capitalize()}),\n' for _, name, own in kinds)
     return "//! The numbers and kinds, with their names and words. Made by tools/interfaces.py from docs/numbers.tsv and docs/kinds.tsv.\n\n" \
-           f"use crate::Class;\n\n{number}\n{kind}\n" \
+           f"use crate::Class;\n\n{number}\n{kind}\n{mode}\n{shape}\n{lists}" \
+           f"/// The dialects that have a name, as their nine bytes.\npub mod dialect {{\n{named_rows}}}\n\n" \
            f"/// Each number, its name and what it means.\npub const NUMBERS: [(Number, &str, &str); {len(numbers)}] = [\n{said}];\n\n" \
            f"/// Each kind, its name and its class.\npub const KINDS: [(Kind, &str, Class); {len(kinds)}] = [\n{named}];\n"
 
@@ -193,8 +203,14 @@ def versions():
         return ["include/starlark.h: the version is not there as three numbers"]
     version = ".".join(part[1] for part in parts)
     held = {"include/starlark.h": re.search(r'^#define STARLARK_VERSION "(.*)"$', header, re.M),
-            "bindings/rust/Cargo.toml": re.search(r'^version = "(.*)"$', (RUST / "Cargo.toml").read_text(), re.M)}
-    return [f"{path}: the version is not {version}" for path, found in held.items() if not found or found[1] != version]
+            "bindings/rust/Cargo.toml": re.search(r'^version = "(.*)"$', (RUST / "Cargo.toml").read_text(), re.M),
+            "bindings/raw/Cargo.toml": re.search(r'^version = "(.*)"$', (RAW / "Cargo.toml").read_text(), re.M),
+            "python/ducatmuffin/__init__.py": re.search(r'^__version__ = "(.*)"$', (PYTHON / "__init__.py").read_text(), re.M)}
+    told = [f"{path}: the version is not {version}" for path, found in held.items() if not found or found[1] != version]
+    defined = re.search(r"^version = versionOf (\d+) (\d+) (\d+)$", (CRATES / "starlark_checks" / "specs" / "Version.antt").read_text(), re.M)
+    if not defined or ".".join(defined.groups()) != version:
+        told.append(f"crates/starlark_checks/specs/Version.antt: the version is not {version}")
+    return told
 
 
 def constants():
@@ -212,11 +228,28 @@ def constants():
     return faults
 
 
+def declared():
+    """The faults of the functions: Rust declares, and Python calls, those of the header with the same arguments, in the same order."""
+    told, kinds_c = [], {"uint32_t *": "*mut u32", "uint8_t *": "*mut u8", "const uint8_t *": "*const u8", "size_t ": "usize"}
+    header = dict(re.findall(r"^uint32_t starlark_(\w+)\(([^;]*)\);", HEADER.read_text(), re.M))
+    rust_text = dict(re.findall(r"^    pub fn starlark_(\w+)\(([^;]*?),?\s*\) -> u32;", (RAW / "src" / "lib.rs").read_text(), re.M))
+    for name, words in header.items():
+        wanted = []
+        for word in re.split(r",\s*", words) if words != "void" else []:
+            kind, of = re.fullmatch(r"(.*?)(\w+)", word).groups()
+            wanted.append(f"{of}: {'*mut Words' if of == 'out' else kinds_c.get(kind)}")
+        if re.split(r",\s*", rust_text.get(name, "none").strip()) != (wanted or [""]):
+            told.append(f"bindings/raw/src/lib.rs: starlark_{name} is not declared as in the header")
+    if sorted(header) != sorted(rust_text):
+        told.append("bindings/raw/src/lib.rs declares other functions than the header")
+    return told
+
+
 def faults():
     """All that is not as it must be."""
     wrong = [path for path, text in made().items() if not path.exists() or path.read_text() != text]
     told = [f"{path.relative_to(ROOT)} is not what the lists give (tools/interfaces.py --write makes it)" for path in wrong]
-    return told + versions() + constants()
+    return told + versions() + constants() + declared()
 
 
 def main():
@@ -224,7 +257,7 @@ def main():
         for path, text in made().items():
             path.write_text(text)
     found = faults()
-    print("\n".join(found) or "interfaces.py: the enums, names, constants and version of C and Rust are those of the lists and the header")
+    print("\n".join(found) or "interfaces.py: C, Rust and Python have the enums, names, constants, functions and version of the lists and the header")
     return 1 if found else 0
 
 

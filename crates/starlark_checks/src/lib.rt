@@ -42,7 +42,9 @@ ghost use Rattle.starlark_checks.specs.Version.{version};
 
 // The version of the library.
 const MAJOR: u32 = 0;
+
 const MINOR: u32 = 2;
+
 const PATCH: u32 = 0;
 
 // A refusal: what it carries, and its number.
