@@ -72,63 +72,75 @@ item-type i t s {k} k-is other r-is = r-is ∙ rw (← k-is, ne-eqb k kindList o
 
 -- the children of a node side by side: at each turn what is left is a proper part of the node's subtree, and makes of
 -- the buffer s what the whole makes of the first one
-pub record Writing (others : How) (t whole : List ℕ) (size : ℕ) (left : List ℕ) (place : ℕ) (how : How) (s : List ℕ)
-    : Type 0 where
+pub record Writing (others : How) (t : List ℕ) (at : ℕ) (whole : List ℕ) (size : ℕ) (left : List ℕ) (place : ℕ)
+    (how : How) (s : List ℕ) : Type 0 where
   pub room : place + length left / 24 ≤ length s
+  pub upto : place + length left / 24 ≤ at + length t / 24
   pub part : length left + 24 ≤ spanOf t
   pub long : length s ≡ size
   pub same : written (shapesEach (readsAs how others) (forest place left)) s ≡ whole
 
 -- the children of a node whose own shape v is set
-module _ (i v : ℕ) (t s : List ℕ) (big : 24 ≤ length t) (room : i + length t / 24 ≤ length s) {e : ℕ}
-    (e-is : e ≡ spanOf t) where
-  under : (reads : Reads) {whole : List ℕ}
-      → written (shapesEach reads (forest (i + 1) (take (e - 24) (drop 24 t)))) (set s i v) ≡ whole
-      → Writing (reads .others) t whole (length s) (take (e - 24) (drop 24 t)) (i + 1) (reads .first) (set s i v)
-  under reads same = record {
+abbrev pub kidsWritten : Reads → ℕ → List ℕ → ℕ → List ℕ → List ℕ
+kidsWritten reads i t e s = written (shapesEach reads (forest (i + 1) (take (e - 24) (drop 24 t)))) s
+
+module _ (i v : ℕ) (t s : List ℕ) {e : ℕ} (e-is : e ≡ spanOf t) where
+  pub kids-start : 24 ≤ length t → i + length t / 24 ≤ length s → (reads : Reads)
+      → Writing (reads .others) t i (kidsWritten reads i t e (set s i v)) (length (set s i v)) (take (e - 24) (drop 24 t))
+      (i + 1) (reads .first) (set s i v)
+  kids-start big room reads = record {
     room = rw (kids-part e t e-is) (omega (arith, length-kids t, length-set s i v));
+    upto = rw (kids-part e t e-is) (omega (arith, length-kids t));
     part = rw (kids-part e t e-is) (omega (arith, length-kids t));
-    long = length-set s i v;
-    same = same;
+    long = refl;
+    same = refl;
   }
 
-  -- a type, and a List of arguments
-  pub type-start : {f : Form} → f ≡ formOf (nodeOf 0 t .kind) (nodeOf 0 t .detail) → v ≡ shapeOf f
-      → {reads : Reads} → reads ≡ readsOf f
-      → Writing (reads .others) t (written (shapesOf (treeOf i t)) s) (length s) (take (e - 24) (drop 24 t)) (i + 1)
-      (reads .first) (set s i v)
-  unfolding shapesOf written
-  type-start f-is v-is {reads} reads-is = under reads (rw (kids-part e t e-is, v-is, reads-is, f-is) refl)
+  pub items-start : 24 ≤ length t → i + length t / 24 ≤ length s
+      → Writing AsArgument t i (kidsWritten argumentsOnly i t e (set s i v)) (length (set s i v))
+      (take (e - 24) (drop 24 t)) (i + 1) AsArgument (set s i v)
+  items-start big room = kids-start big room argumentsOnly
 
-  pub list-start : nodeOf 0 t .kind ≡ kindList → v ≡ listShape
-      → Writing AsArgument t (written (shapesArgument (treeOf i t)) s) (length s) (take (e - 24) (drop 24 t)) (i + 1)
-      AsArgument (set s i v)
+  -- with them it is a type
+  pub type-written : {f : Form} → f ≡ formOf (nodeOf 0 t .kind) (nodeOf 0 t .detail) → v ≡ shapeOf f
+      → {reads : Reads} → reads ≡ readsOf f → {r : List ℕ} → r ≡ kidsWritten reads i t e (set s i v)
+      → r ≡ written (shapesOf (treeOf i t)) s
   unfolding shapesOf written
-  list-start list v-is =
-      under argumentsOnly (rw (kids-part e t e-is, v-is, eq-eqb (nodeOf 0 t .kind) kindList list) refl)
+  type-written f-is v-is reads-is r-is = r-is ∙ rw (kids-part e t e-is, v-is, reads-is, f-is) refl
 
-module _ {others : How} {t whole : List ℕ} {size : ℕ} {left : List ℕ} {place : ℕ} {how : How} {s : List ℕ}
-    (w : Writing others t whole size left place how s) where
+-- or a List of arguments
+pub list-written : (i : ℕ) (t s : List ℕ) {e : ℕ} → e ≡ spanOf t → nodeOf 0 t .kind ≡ kindList
+    → {r : List ℕ} → r ≡ kidsWritten argumentsOnly i t e (set s i listShape)
+    → r ≡ written (shapesArgument (treeOf i t)) s
+unfolding shapesOf written
+list-written i t s {e} e-is list r-is =
+    r-is ∙ rw (kids-part e t e-is, eq-eqb (nodeOf 0 t .kind) kindList list) refl
+
+module _ {others : How} {t : List ℕ} {i : ℕ} {whole : List ℕ} {size : ℕ} {left : List ℕ} {place : ℕ} {how : How}
+    {s : List ℕ} (w : Writing others t i whole size left place how s) where
   pub each-end : length left < 24 → s ≡ whole
   unfolding shapesOf written
   each-end short = rw (← w .same, forest-none place left short) refl
-
-  pub each-long : length s ≡ size
-  each-long = w .long
 
   pub each-falls : spanOf left < spanOf t
   each-falls = falls t left (w .part)
 
   pub each-on : 24 ≤ length left → {u : List ℕ} → u ≡ written (shapesChild how (treeOf place left)) s
       → {e : ℕ} → e ≡ spanOf left
-      → Writing others t whole size (take (length left - e) (drop e left)) (place + e / 24) others u
+      → Writing others t i whole size (take (length left - e) (drop e left)) (place + e / 24) others u
   unfolding shapesOf
   each-on big u-is {e} e-is = record {
     room = rw (rest-part e left e-is, u-is, written-length (shapesChild how (treeOf place left)) s)
         (omega (arith, length-rest left, w .room));
+    upto = rw (rest-part e left e-is) (omega (arith, length-rest left, w .upto));
     part = rw (rest-part e left e-is) (omega (arith, length-rest left, w .part));
     long = rw u-is (written-length (shapesChild how (treeOf place left)) s ∙ w .long);
     same = rw u-is (sym (written-append (shapesChild how (treeOf place left)) _ s)
         ∙ ap (λ (ss : List Shape). written ss s) (sym (first-and-rest shapesEach shapesChild (λ x y. x ++ y)
         (λ z x ts. refl) (readsAs how others) place left big e-is)) ∙ w .same);
   }
+
+-- the buffer keeps the length that it had before the node's own shape was set
+pub still-long : (s₀ : List ℕ) (v : ℕ) {others : How} {t : List ℕ} {i : ℕ} {whole left : List ℕ} {place : ℕ} {how : How}
+    {s : List ℕ} → Writing others t i whole (length (set s₀ i v)) left place how s → length s ≡ length s₀
+still-long s₀ v {i = i} w = w .long ∙ length-set s₀ i v

@@ -36,9 +36,9 @@ pub(crate) fn write(t: &[u8], at: usize, shapes: &mut [u8])
         let child = left;
         let here = place;
         let rule = forms::rule_of(how, forest::kind(child));
-        let s = forest::span(child);
-        left = &child[s..];
-        place += s / RECORD;
+        let child_bytes = forest::span(child);
+        left = &child[child_bytes..];
+        place += child_bytes / RECORD;
         how = reads.others;
         match rule {
             How::Unread => {}
@@ -62,9 +62,9 @@ fn write_argument(t: &[u8], at: usize, shapes: &mut [u8])
     while RECORD <= left.len() {
         let item = left;
         let here = place;
-        let s = forest::span(item);
-        left = &item[s..];
-        place += s / RECORD;
+        let item_bytes = forest::span(item);
+        left = &item[item_bytes..];
+        place += item_bytes / RECORD;
         if forest::kind(item) == kinds::LIST {
             write_argument(item, here, shapes);
         } else {

@@ -110,9 +110,9 @@ pub(crate) fn unpack(names: &[u8], t: &[u8], node: usize) -> Shaped
         let child = left;
         let place = at;
         let rule = forms::rule_of(how, forest::kind(child));
-        let s = forest::span(child);
-        left = &child[s..];
-        at += s / RECORD;
+        let child_bytes = forest::span(child);
+        left = &child[child_bytes..];
+        at += child_bytes / RECORD;
         how = reads.others;
         match rule {
             How::Unread => {}
@@ -144,9 +144,9 @@ fn unpack_argument(names: &[u8], t: &[u8], node: usize) -> Shaped
     while RECORD <= left.len() {
         let item = left;
         let place = at;
-        let s = forest::span(item);
-        left = &item[s..];
-        at += s / RECORD;
+        let item_bytes = forest::span(item);
+        left = &item[item_bytes..];
+        at += item_bytes / RECORD;
         if forest::kind(item) == kinds::LIST {
             let judged = unpack_argument(names, item, place);
             if let Shaped::Refused(why) = judged {

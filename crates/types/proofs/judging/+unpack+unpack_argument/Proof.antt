@@ -69,7 +69,6 @@ unpack-argument-Inv-loop names t node e left₀ at₀ left at =
 abbrev unpack-argument-μ-loop : unpack-argument-lts.MeasureT-loop
 unpack-argument-μ-loop names t node e left₀ at₀ left at = length left
 
-
 pub +unpack+unpack-argument-spec : {M : Type 1} → statement M
 +unpack+unpack-argument-spec = close μ-unpack μ-unpack-argument (λ t. unpack-lts.spec (
   at-node-reads.Asked,
@@ -95,7 +94,7 @@ pub +unpack+unpack-argument-spec : {M : Type 1} → statement M
     unpack-μ-loop
     (λ c κs. search needs)
     (λ c. search needs)
-    (λ c. search unpack-stop)
+    (λ c. search unpack-stop)  -- returns
     (λ c. search needs)
     (λ c κs. search needs)
     (λ c κs. search needs)
@@ -104,7 +103,7 @@ pub +unpack+unpack-argument-spec : {M : Type 1} → statement M
     (λ c. search needs)
     (λ c. search needs)
     (λ c. search needs)
-    (λ c. search unpack-start)
+    (λ c. search unpack-start)  -- loop-holds
     (λ c κs. search needs)
     (λ c κs. search needs)
     (λ c κs. search needs)
@@ -114,22 +113,22 @@ pub +unpack+unpack-argument-spec : {M : Type 1} → statement M
     (λ c. search needs)
     (λ c. search needs)
     (λ c. search needs)
-    (λ c. search each-skip)
+    (λ c. search each-skip)  -- loop-again
     (λ c. search needs)
-    (λ c κs. search (needs, each-falls))
+    (λ c κs. search (needs, each-falls))  -- unpack-requires
     (λ c. search needs)
-    (λ c. search (each-stop, child-type))
-    (λ c. search needs)
-    (λ c. search needs)
-    (λ c. search (each-on, child-type))
-    (λ c. search needs)
-    (λ c κs. search (needs, each-falls, child-is-list))
-    (λ c. search needs)
-    (λ c. search (each-stop, child-list))
+    (λ c. search (each-stop, child-type))  -- returns-2
     (λ c. search needs)
     (λ c. search needs)
-    (λ c. search (each-on, child-list))
-    (λ c. search each-end))
+    (λ c. search (each-on, child-type))  -- loop-again-2
+    (λ c. search needs)
+    (λ c κs. search (needs, each-falls, child-is-list))  -- unpack-argument-requires
+    (λ c. search needs)
+    (λ c. search (each-stop, child-list))  -- returns-3
+    (λ c. search needs)
+    (λ c. search needs)
+    (λ c. search (each-on, child-list))  -- loop-again-3
+    (λ c. search each-end))  -- returns-4
     λ t. unpack-argument-lts.spec (
       span-reads.Asked,
       span-reads.Learnt,
@@ -149,23 +148,23 @@ pub +unpack+unpack-argument-spec : {M : Type 1} → statement M
     (λ c. search needs)
     (λ c. search needs)
     (λ c. search needs)
-    (λ c. search argument-start)
+    (λ c. search argument-start)  -- loop-holds
     (λ c κs. search needs)
     (λ c. search needs)
     (λ c. search needs)
     (λ c. search needs)
     (λ c. search needs)
     (λ c κs. search needs)
-    (λ c κs. search (needs, each-falls))
+    (λ c κs. search (needs, each-falls))  -- unpack-argument-requires
     (λ c. search needs)
-    (λ c. search each-stop)
-    (λ c. search needs)
-    (λ c. search needs)
-    (λ c. search each-on)
-    (λ c κs. search (needs, each-falls))
-    (λ c. search needs)
-    (λ c. search (each-stop, item-type))
+    (λ c. search each-stop)  -- returns
     (λ c. search needs)
     (λ c. search needs)
-    (λ c. search (each-on, item-type))
-    (λ c. search each-end)
+    (λ c. search each-on)  -- loop-again
+    (λ c κs. search (needs, each-falls))  -- unpack-requires
+    (λ c. search needs)
+    (λ c. search (each-stop, item-type))  -- returns-2
+    (λ c. search needs)
+    (λ c. search needs)
+    (λ c. search (each-on, item-type))  -- loop-again-2
+    (λ c. search each-end)  -- returns-3
