@@ -1,7 +1,7 @@
 -- Laws of the shapes of a stretch, in the terms of code: one for each return of the writing walk. Both rules write the
--- shape of their node and then walk its children from left to right; at each turn what is left makes of the buffer what
--- the whole makes of the first one (`Writing`), since shapes are written one after the other (`written-append`). A child
--- is written by the rule that its caller chooses, which gives what the definition gives (types' `by-rule`).
+-- shape of their node and then walk its children from left to right. At each turn what is left makes of the buffer what
+-- all children make of the first one (`Writing`), since shapes are written one after the other (`written-append`). The
+-- caller of a rule chooses it by the child's kind, which gives the same as the definition (types' `by-rule`).
 -- Assumes nothing.
 use mathlib.Core.Path.{_≡_, refl, sym, ap, _∙_}
 use mathlib.Core.List.{List, [], _∷_, _++_}
@@ -86,8 +86,8 @@ kidsWritten reads i t e s = written (shapesEach reads (forest (i + 1) (take (e -
 
 module _ (i v : ℕ) (t s : List ℕ) {e : ℕ} (e-is : e ≡ spanOf t) where
   pub kids-start : 24 ≤ length t → i + length t / 24 ≤ length s → (reads : Reads)
-      → Writing (reads .others) t i (kidsWritten reads i t e (set s i v)) (length (set s i v)) (take (e - 24) (drop 24 t))
-      (i + 1) (reads .first) (set s i v)
+      → Writing (reads .others) t i (kidsWritten reads i t e (set s i v)) (length (set s i v))
+      (take (e - 24) (drop 24 t)) (i + 1) (reads .first) (set s i v)
   kids-start big room reads = record {
     room = rw (kids-part e t e-is) (omega (arith, length-kids t, length-set s i v));
     upto = rw (kids-part e t e-is) (omega (arith, length-kids t));

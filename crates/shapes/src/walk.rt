@@ -53,7 +53,8 @@ pub(crate) fn write(t: &[u8], at: usize, shapes: &mut [u8])
 fn write_argument(t: &[u8], at: usize, shapes: &mut [u8])
     requires { ⌜ (recordBytes ≤ length (now t)) × (at + length (now t) / recordBytes ≤ length (now shapes)) ⌝ }
     requires { ⌜ nodeOf 0 (now t) .kind ≡ kindList ⌝ }
-    ensures { λ r. ⌜ now (shapes .exit) ≡ written (shapesArgument (treeOf at (now (t .entry)))) (now (shapes .entry)) ⌝ }
+    ensures { λ r. ⌜ now (shapes .exit) ≡
+        written (shapesArgument (treeOf at (now (t .entry)))) (now (shapes .entry)) ⌝ }
 {
     shapes[at] = LIST;
     let e = forest::span(t);

@@ -1,7 +1,7 @@
--- Laws of the type rule and the argument rule over a stretch, in the terms of code: one for each return. Both rules walk
--- the children of their node from left to right, and at each turn what is left gives the answer of the whole (`Judging`).
--- A child is read by the rule that its caller chooses, which gives what the definition gives (`by-rule`): the definition
--- leaves to the argument rule what is no List, and that reads it as a type. What is left is a proper part of the node's
+-- Laws of the type rule and the argument rule over a stretch, in the terms of code: one for each return. Both rules
+-- walk the children of their node from left to right, and at each turn what is left gives the whole answer (`Judging`).
+-- The caller of a rule chooses it by the child's kind, where the definition calls the argument rule for every argument
+-- and reads as a type what is no List; both give the same (`by-rule`). What is left is a proper part of the node's
 -- subtree (`part`), so that each call is on a smaller one (`falls`).
 -- Assumes nothing.
 use mathlib.Core.Path.{_≡_, refl, sym, ap, _∙_}
@@ -48,7 +48,8 @@ rest-within i {e} bs h e-is = rw (rest-part e bs e-is) (omega (arith, length-res
 
 -- LAW: a child read by the rule that its caller chooses gives what it gives as it is read; the same for both walks
 module _ {A : Type 0} (k : ℕ) (nothing type list : A) where
-  pub by-rule : (how : How) → ofChild (ruleOf how k) nothing (λ _. type) (λ _. if' (eqb k kindList) (λ _. list) (λ _. type))
+  pub by-rule : (how : How)
+      → ofChild (ruleOf how k) nothing (λ _. type) (λ _. if' (eqb k kindList) (λ _. list) (λ _. type))
       ≡ ofChild how nothing (λ _. type) (λ _. if' (eqb k kindList) (λ _. list) (λ _. type))
   unfolding ruleOf
   by-rule Unread = refl

@@ -17,7 +17,7 @@ ghost use mathlib.Core.Path.{_≡_};
 ghost use Prim.Native.Nat.{_+_};
 ghost use Rattle.forest.specs.Forest.{nodeOf, kidsOf, treeOf, forest};
 ghost use Rattle.soundness.specs.KindNumbers.{kindList};
-ghost use Rattle.table.specs.Check.{Within, Headed};
+ghost use Rattle.table.specs.Check.{Headed};
 ghost use Rattle.types.specs.Forms.{formOf};
 ghost use Rattle.types.specs.Types.{indexBase, index2Base, listLength, atNode};
 ghost use Rattle.types.specs.Types.{«unpack», «unpack_argument»};

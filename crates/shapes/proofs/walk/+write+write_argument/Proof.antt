@@ -1,15 +1,14 @@
--- `shapes::walk::write` and `write_argument` meet their contracts: a node's own shape, then those of its children by the
--- rule that each is read by. The measure is the size of the subtree that a stretch begins with, and nothing else.
+-- `shapes::walk::write` and `write_argument` meet their contracts: a node's own shape, then those of its children by
+-- the rule that each is read by. The measure is the size of the subtree that a stretch begins with, and nothing else.
 -- Assumes nothing.
 use borrow.Author.Needs.{needs}
-use native.Mathlib.Omega.{arith}
-use lib.ListN.{length, length-set}
+use lib.ListN.{length}
 use Rattle.forest.specs.Forest.{spanOf}
 use Rattle.types.specs.Forms.{argumentsOnly}
 use Rattle.types.specs.declared.How.the-variants.{AsArgument}
-use Rattle.shapes.proofs.Writing.{Writing, kidsWritten, kids-start, items-start, type-written, list-written, child-is-list}
-use Rattle.shapes.proofs.Writing.{child-unread, child-type, child-list, item-type, each-end, still-long, each-on}
-use Rattle.shapes.proofs.Writing.{each-falls}
+use Rattle.shapes.proofs.Writing.{Writing, kidsWritten, kids-start, items-start, type-written, list-written}
+use Rattle.shapes.proofs.Writing.{child-is-list, child-unread, child-type, child-list, item-type}
+use Rattle.shapes.proofs.Writing.{each-on, each-end, each-falls, still-long}
 use Prim.Native.Nat.{ℕ, _<_}
 use borrow.Fn.Kinds.{In}
 use borrow.Fn.PlainCycle.{Measures, is, falls, and}

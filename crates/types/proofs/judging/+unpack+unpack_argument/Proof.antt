@@ -7,8 +7,7 @@ use Rattle.forest.specs.Forest.{spanOf, treeOf}
 use Rattle.types.specs.Types.{«unpack», «unpack_argument»}
 use Rattle.types.specs.declared.How.the-variants.{AsArgument}
 use Rattle.types.proofs.Reading.{Judging, unpack-stop, unpack-start, argument-start, child-is-list, child-type}
-use Rattle.types.proofs.Reading.{child-list, item-type, each-end, each-skip, each-stop, each-on}
-use Rattle.types.proofs.Reading.{each-falls}
+use Rattle.types.proofs.Reading.{child-list, item-type, each-skip, each-stop, each-on, each-end, each-falls}
 use Prim.Native.Nat.{ℕ, _<_}
 use borrow.Fn.Kinds.{In}
 use borrow.Fn.PlainCycle.{Measures, is, falls, and}
