@@ -9,7 +9,8 @@ import sys
 
 import repository
 
-DOCUMENTS = ["README.md", "docs/PROOFS.md", "docs/DECISIONS.md", "docs/DIFFERENCES.md", "docs/FORMAT.md", "samples/README.md"]
+DOCUMENTS = ["README.md", "samples/README.md", *(f"docs/{name}.md" for name in ("COMMANDS", "CONTRIBUTING", "CRATES", "DECISIONS", "DIFFERENCES", "FORMAT",
+                                                                              "JSON", "PROOFS"))]
 PATH = re.compile(r"^[\w./+-]+\.(?:antt|rt|py|txt|tsv|md|h|c|rs|list|sha256)$")
 
 

@@ -110,6 +110,7 @@ STEPS = [
         lane=BESIDE,
         counts=r"(\d+) tests passed, (\d+) failed",
     ),
+    Step("programs", "tablecheck and tablerescue read, print and replace what they must", python("tools/try_programs.py"), lane=BESIDE),
     Step("shown", "the commands print what the documents show", python("tools/shown.py"), lane=BESIDE),
     Step("faults", "the comparison finds a fault of each job, and is not empty", ("oracle/faults", "--gate"), ORACLE, BESIDE),
     Step("compare", "the port answers as the crate does (quick run)", ("oracle/compare",), ORACLE, BESIDE),
