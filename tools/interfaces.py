@@ -18,7 +18,7 @@ HEADER, NAMES = ROOT / "include" / "starlark.h", ROOT / "include" / "starlark_na
 RUST, RAW = ROOT / "bindings" / "rust", ROOT / "bindings" / "raw"
 PYTHON = ROOT / "python" / "ducatmuffin"
 # the header's constants that the wrapper has too, and where the code has them
-SHARED = ["WORDS", "NODES", "NODE_BYTES", "NAME_BYTES", "DEPTH", "FILE_BYTES", "ERRORS", "AUDIT_ERRORS", "STACK_BYTES"]
+SHARED = ["WORDS", "NODES", "NODE_BYTES", "NAME_BYTES", "DEPTH", "FILE_BYTES", "ERRORS", "AUDIT_ERRORS", "STACK_BYTES", "DIALECT_BYTES"]
 IN_CODE = {"NODES": "table/src/lib.rt: MOST_NODES", "NAME_BYTES": "table/src/lib.rt: MOST_NAMES", "DEPTH": "table/src/depth.rt: MOST_DEPTH",
            "NODE_BYTES": "forest/src/lib.rt: RECORD"}
 # the bytes that starlark_params and starlark_type store, as crates/deflist/specs and crates/types/specs define them
@@ -106,7 +106,7 @@ def python():
     parts = [
         "# what a function returns that accepts, and the word for \"no place\" and \"no earlier node\"\nACCEPTED = 0\nNONE = 0xFFFFFFFF\n",
         "# the limits of include/starlark.h; OUT_WORDS is the number of words that an answer has\n"
-        + "".join(f"{'OUT_WORDS' if name == 'WORDS' else name} = {limits[name]}\n" for name in [*SHARED, "DIALECT_BYTES"]),
+        + "".join(f"{'OUT_WORDS' if name == 'WORDS' else name} = {limits[name]}\n" for name in SHARED),
         listed("NUMBERS", "the name of each number", [(int(number), f'"{name}"') for number, name, _, _ in numbers]),
         listed("WORDS", "what each number means", [(int(number), f'"{in_c(words)}"') for number, _, words, _ in numbers]),
         listed("KINDS", "the name and the class of each kind", [(int(number), f'("{name}", "{own}")') for number, name, own in kinds]),

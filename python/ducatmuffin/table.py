@@ -450,7 +450,7 @@ def read_text(text: str, script: Optional[Callable[[str], bytes]] = None) -> Tex
     said, tree = _lines_said(text)
     off = "rules" in said and _at_line(_is_off, *said["rules"])
     roots = trees(tree)
-    demand(roots or off, "there is no tree")
+    demand(roots or off and "script" not in said, "there is no tree")
     demand(len(roots) < 2, "a second tree", roots[-1] if roots else None)
     if "script" in said:
         demand(script, "a script is named, and none is at hand")

@@ -89,6 +89,7 @@ WRONG = [
     ('names: "ab"\n(OtherSimple (Identifier a))', ":2: Identifier: a name without its place, name=START+LENGTH, and the name bytes are given"),
     ('names: "ab"\n(OtherSimple (Identifier a name=1+1))', ":2: Identifier: the name a is not what lies at 1+1"),
     ("rules: on\n(Break)", ":1: on is not off"),
+    ("rules: off\nscript: s.star", ": there is no tree"),
     ("(Break)\nnames: shared\nnames: shared", ":3: a second line names:"),
     (b"(Statements\n(OtherSimple (Identifier \xff)))", ":2: not UTF-8"),
 ]
