@@ -257,11 +257,8 @@ module _ (t names ds d : List ℕ) (pre : (length ds ≤ 9)
     f₁-long : length f₁ ≡ length d
     f₁-long = rw f₁-is (length-over 0 header d (omega (arith, room, header-is)))
 
-    pub names-place : 512 ≤ length f₁
+    names-place : 512 ≤ length f₁
     names-place = omega (arith, room, f₁-long)
-
-    pub names-room : (512 * blocksFor (length names) ≤ length (take (length f₁ - 512) (drop 512 f₁))) × (1 ≤ mostBlocks)
-    names-room = (rw (tail-part 512 f₁) (simp length-drop (omega (arith, room, f₁-long))), omega arith)
 
     module _ {ys : List ℕ} (ys-is : ys ≡ over 0 (runOf 1 names) (take (length f₁ - 512) (drop 512 f₁))) where
       abbrev f₂ : List ℕ
@@ -277,15 +274,8 @@ module _ (t names ds d : List ℕ) (pre : (length ds ≤ 9)
       f₂-long = rw f₂-so (length-over 0 begun d (omega (arith, room, begun-long)))
 
       module _ {k : ℕ} (k-is : k ≡ blocksFor (length names)) where
-        pub nodes-place : 512 * (1 + k) ≤ length f₂
+        nodes-place : 512 * (1 + k) ≤ length f₂
         nodes-place = rw k-is (omega (arith, room, f₂-long))
-
-        pub nodes-room : (512 * blocksFor (length t)
-            ≤ length (take (length f₂ - 512 * (1 + k)) (drop (512 * (1 + k)) f₂))) × (1 + k ≤ mostBlocks)
-        nodes-room = (
-          rw (tail-part (512 * (1 + k)) f₂) (simp length-drop (omega (arith, room, f₂-long, k-is))),
-          omega (arith, pre .1, k-is),
-        )
 
         -- LAW: that is the file
         pub file-whole : {zs : List ℕ}

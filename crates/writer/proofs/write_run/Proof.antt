@@ -26,6 +26,7 @@ write-run-spec =
     (λ c. search needs)
     (λ c. search needs)
     (λ c. search needs)
+    (λ c. search needs)
     (λ c κs. search (used-fits, run-block))  -- write-block-requires
     (λ c. search needs)
     (λ c. search needs)
