@@ -22,9 +22,6 @@ use Rattle.tablefile.specs.declared.Verdict.the-variants.{Accepted, Refused}
 use Rattle.tablefile.proofs.Lends.{read-steps, unpacked-nodes, unpacked-table, unpacked-names}
 use Rattle.errors.specs.Errors.{stored}
 use Rattle.errors.specs.declared.Listing.the-variants.{Audit}
-use Rattle.validate.specs.Job.{listed}
-use Rattle.validate.specs.declared.Listed.{Listed}
-use Rattle.validate.specs.declared.Listed.the-variants.{Total, Refused as Away}
 use Rattle.audit.specs.Job.{auditIn, allErrors, auditOf, auditAfter}
 use Rattle.filepass.specs.Passing.{behind, ifRead}
 use Rattle.filepass.proofs.Listing.{given-again}
@@ -106,20 +103,12 @@ module _ (file : List ℕ) (v : Verdict) (v-is : verdict v ≡ fileCheck file) w
     nodes-so : length t / 24 ≡ h .nodes
     nodes-so = omega (arith, unpacked-nodes file v v-is good h-is, ap length t-so)
 
-    -- m is what the audit answers, and ys the words that it left
-    module _ (xs : List ℕ) {m : Listed} (m-is : listed m ≡ auditOf t names bytes) {ys : List ℕ}
-        (ys-is : ys ≡ auditAfter t names bytes xs) where
-      answer-so : behind (h .nodes) (listed m) ≡ auditedOf file
-      answer-so = rw (m-is, ← nodes-so, t-so, names-so, bytes-is) (rw told at (job-is-answer file))
+    -- m is what the audit answers, a that with the number of nodes, and ys the words that it left
+    pub file-answer : {m a : Answer} → m ≡ auditOf t names bytes → a ≡ behind (h .nodes) m → a ≡ auditedOf file
+    file-answer m-is a-is = a-is ∙ rw (m-is, ← nodes-so, t-so, names-so, bytes-is) (rw told at (job-is-answer file))
 
-      words-so : ys ≡ auditedAfter file xs
-      words-so = ys-is ∙ rw (t-so, names-so, bytes-is) (rw told at (job-is-words file xs))
-
-      pub file-listed : {n : ℕ} → m ≡ Total n → (accepted (h .nodes ∷ n ∷ []) ≡ auditedOf file) × (ys ≡ auditedAfter file xs)
-      file-listed e = (sym (ap (λ (x : Listed). behind (h .nodes) (listed x)) e) ∙ answer-so, words-so)
-
-      pub file-unsound : {why : Refusal} → m ≡ Away why → (refusal why ≡ auditedOf file) × (ys ≡ auditedAfter file xs)
-      file-unsound e = (sym (ap (λ (x : Listed). behind (h .nodes) (listed x)) e) ∙ answer-so, words-so)
+    pub file-words : (xs : List ℕ) {ys : List ℕ} → ys ≡ auditAfter t names bytes xs → ys ≡ auditedAfter file xs
+    file-words xs ys-is = ys-is ∙ rw (t-so, names-so, bytes-is) (rw told at (job-is-words file xs))
 
 -- and to so many bytes of a buffer: p is their front
 pub read-so : (file xs : List ℕ) {p ys : List ℕ} {a : Answer} → p ≡ file → a ≡ auditedOf p → ys ≡ auditedAfter p xs

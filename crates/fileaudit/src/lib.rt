@@ -10,8 +10,9 @@ use tablefile::Verdict;
 use validate::Listed;
 ghost use mathlib.Core.Path.{_≡_};
 ghost use lib.ListN.{length, take};
+ghost use Rattle.validate.specs.Job.{listed};
 ghost use Rattle.filepass.specs.Sizes.{enoughBytes};
-ghost use Rattle.filepass.specs.Passing.{passed};
+ghost use Rattle.filepass.specs.Passing.{passed, behind};
 ghost use Rattle.fileaudit.specs.Auditing.{enoughWords, auditedOf, auditedAfter};
 
 // How many words hold the errors of any file: four for each, and at most four errors for each of 2,100 nodes.
@@ -24,24 +25,18 @@ pub fn audit_file(file: &[u8], errors: &mut [u32]) -> Passed
 {
     let mut table = [0u8; MOST_BYTES];
     let mut names = [0u8; MOST_NAMES];
-    let found = tablefile::unpack(file, &mut table, &mut names);
-    if let Verdict::Refused(why) = found {
+    let unpacked = tablefile::unpack(file, &mut table, &mut names);
+    if let Verdict::Refused(why) = unpacked {
         return Passed::Refused(why);
     }
     let h = tablefile::header(file);
-    let listed = audit::audit(
+    let found = audit::audit(
         filepass::front(&table, RECORD * h.nodes),
         filepass::front(&names, h.names),
         tablefile::dialect_bytes(file),
         errors,
     );
-    match listed {
-        Listed::Total(total) => Passed::Listed {
-            nodes: h.nodes as u32,
-            total: total,
-        },
-        Listed::Refused(why) => Passed::Refused(why),
-    }
+    told(h.nodes as u32, found)
 }
 
 // The same of the bytes that were read of a file, in a buffer and a list that are large enough for every file.
@@ -56,4 +51,17 @@ pub fn audit_read(
     ensures { λ r. ⌜ length (now (errors .entry)) ≡ enoughWords ⌝ }
 {
     audit_file(filepass::front(buffer, len), errors)
+}
+
+// The answer to a file of so many nodes, of which a job answered this.
+fn told(nodes: u32, found: Listed) -> Passed
+    ensures { λ r. ⌜ passed r ≡ behind nodes (listed found) ⌝ }
+{
+    match found {
+        Listed::Total(total) => Passed::Listed {
+            nodes: nodes,
+            total: total,
+        },
+        Listed::Refused(why) => Passed::Refused(why),
+    }
 }

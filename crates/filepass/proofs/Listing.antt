@@ -4,7 +4,7 @@
 -- `answerOf` (`job-is-answer`) and the words are `wordsAfter` (`job-is-words`). Assumes nothing.
 use mathlib.Core.Path.{_≡_, refl, sym, ap, _∙_}
 use mathlib.Core.List.{List, [], _∷_}
-use Prim.Native.Nat.{ℕ, _*_, _-_, _/_, _≤_}
+use Prim.Native.Nat.{ℕ, _*_, _-_, _/_, _^_, _<_, _≤_}
 use native.Mathlib.Omega.{arith}
 use lib.ListN.{length, take, replicate}
 use lib.Seq.{take-all}
@@ -21,7 +21,7 @@ use Rattle.tablefile.specs.Lending.{fileCheck, handed}
 use Rattle.tablefile.specs.declared.Heading.{Heading}
 use Rattle.tablefile.specs.declared.Verdict.{Verdict}
 use Rattle.tablefile.specs.declared.Verdict.the-variants.{Accepted, Refused}
-use Rattle.tablefile.proofs.Lends.{read-steps, unpacked-nodes, unpacked-table, unpacked-names}
+use Rattle.tablefile.proofs.Lends.{read-steps, unpacked-few, unpacked-nodes, unpacked-table, unpacked-names}
 use Rattle.errors.specs.Errors.{stored}
 use Rattle.errors.specs.declared.Listing.the-variants.{Module}
 use Rattle.validate.specs.Job.{listed, errorsIn, errorsOf, moduleOf, errorsAfter}
@@ -94,6 +94,22 @@ job-is-words file xs = rw (read-steps file) (go (fileCheck file))
     go (accepted vs) = sym (given-keeps (contentAt file .table) (contentAt file .names) (contentAt file .dialect) xs)
     go (refused n vs) = refl
 
+-- what a job answers, with the number of nodes
+pub told-total : (n : ℕ) (m : Listed) {k : ℕ} → m ≡ Total k → accepted (n ∷ k ∷ []) ≡ behind n (listed m)
+told-total n m e = rw e refl
+
+pub told-refused : (n : ℕ) (m : Listed) {why : Refusal} → m ≡ Away why → refusal why ≡ behind n (listed m)
+told-refused n m e = rw e refl
+
+-- the number of nodes is small: v is what `tablefile::unpack` found
+module _ (file : List ℕ) (v : Verdict) (v-is : verdict v ≡ fileCheck file) (good : v ≡ Accepted) {h : Heading}
+    (h-is : h ≡ headerAt file) where
+  pub nodes-fit : 24 * h .nodes < 2 ^ 64
+  nodes-fit = omega (arith, unpacked-few file v v-is good h-is)
+
+  pub nodes-word : h .nodes < 2 ^ 32
+  nodes-word = omega (arith, unpacked-few file v v-is good h-is)
+
 -- what is answered to a file, step by step: v is what `tablefile::unpack` found
 module _ (file : List ℕ) (v : Verdict) (v-is : verdict v ≡ fileCheck file) where
   pub file-refused : (xs : List ℕ) {why : Refusal} → v ≡ Refused why
@@ -119,20 +135,12 @@ module _ (file : List ℕ) (v : Verdict) (v-is : verdict v ≡ fileCheck file) w
     nodes-so : length t / 24 ≡ h .nodes
     nodes-so = omega (arith, unpacked-nodes file v v-is good h-is, ap length t-so)
 
-    -- m is what the module job answers, and ys the words that it left
-    module _ (xs : List ℕ) {m : Listed} (m-is : listed m ≡ moduleOf t names bytes) {ys : List ℕ}
-        (ys-is : ys ≡ errorsAfter t names bytes xs) where
-      answer-so : behind (h .nodes) (listed m) ≡ answerOf file
-      answer-so = rw (m-is, ← nodes-so, t-so, names-so, bytes-is) (rw told at (job-is-answer file))
+    -- m is what the module job answers, a that with the number of nodes, and ys the words that it left
+    pub file-answer : {m a : Answer} → m ≡ moduleOf t names bytes → a ≡ behind (h .nodes) m → a ≡ answerOf file
+    file-answer m-is a-is = a-is ∙ rw (m-is, ← nodes-so, t-so, names-so, bytes-is) (rw told at (job-is-answer file))
 
-      words-so : ys ≡ wordsAfter file xs
-      words-so = ys-is ∙ rw (t-so, names-so, bytes-is) (rw told at (job-is-words file xs))
-
-      pub file-listed : {n : ℕ} → m ≡ Total n → (accepted (h .nodes ∷ n ∷ []) ≡ answerOf file) × (ys ≡ wordsAfter file xs)
-      file-listed e = (sym (ap (λ (x : Listed). behind (h .nodes) (listed x)) e) ∙ answer-so, words-so)
-
-      pub file-unsound : {why : Refusal} → m ≡ Away why → (refusal why ≡ answerOf file) × (ys ≡ wordsAfter file xs)
-      file-unsound e = (sym (ap (λ (x : Listed). behind (h .nodes) (listed x)) e) ∙ answer-so, words-so)
+    pub file-words : (xs : List ℕ) {ys : List ℕ} → ys ≡ errorsAfter t names bytes xs → ys ≡ wordsAfter file xs
+    file-words xs ys-is = ys-is ∙ rw (t-so, names-so, bytes-is) (rw told at (job-is-words file xs))
 
 -- and to so many bytes of a buffer: p is their front
 pub read-so : (file xs : List ℕ) {p ys : List ℕ} {a : Answer} → p ≡ file → a ≡ answerOf p → ys ≡ wordsAfter p xs

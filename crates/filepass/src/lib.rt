@@ -11,8 +11,9 @@ use tablefile::Verdict;
 use validate::Listed;
 ghost use mathlib.Core.Path.{_≡_};
 ghost use lib.ListN.{length, take};
+ghost use Rattle.validate.specs.Job.{listed};
 ghost use Rattle.filepass.specs.Sizes.{enoughBytes, enoughWords};
-ghost use Rattle.filepass.specs.Passing.{passed, answerOf, wordsAfter};
+ghost use Rattle.filepass.specs.Passing.{passed, behind, answerOf, wordsAfter};
 
 // How many bytes of a file tell its answer: 117 blocks, the most that a file has, and one byte.
 pub const ENOUGH_BYTES: usize = BLOCK_BYTES * MOST_BLOCKS + 1;
@@ -33,24 +34,18 @@ pub fn check_file(file: &[u8], errors: &mut [u32]) -> Passed
 {
     let mut table = [0u8; MOST_BYTES];
     let mut names = [0u8; MOST_NAMES];
-    let found = tablefile::unpack(file, &mut table, &mut names);
-    if let Verdict::Refused(why) = found {
+    let unpacked = tablefile::unpack(file, &mut table, &mut names);
+    if let Verdict::Refused(why) = unpacked {
         return Passed::Refused(why);
     }
     let h = tablefile::header(file);
-    let listed = validate::module(
+    let found = validate::module(
         front(&table, RECORD * h.nodes),
         front(&names, h.names),
         tablefile::dialect_bytes(file),
         errors,
     );
-    match listed {
-        Listed::Total(total) => Passed::Listed {
-            nodes: h.nodes as u32,
-            total: total,
-        },
-        Listed::Refused(why) => Passed::Refused(why),
-    }
+    told(h.nodes as u32, found)
 }
 
 // The same of the bytes that were read of a file, in a buffer and a list that are large enough for every file.
@@ -65,6 +60,19 @@ pub fn check_read(
     ensures { λ r. ⌜ length (now (errors .entry)) ≡ enoughWords ⌝ }
 {
     check_file(front(buffer, len), errors)
+}
+
+// The answer to a file of so many nodes, of which a job answered this.
+fn told(nodes: u32, found: Listed) -> Passed
+    ensures { λ r. ⌜ passed r ≡ behind nodes (listed found) ⌝ }
+{
+    match found {
+        Listed::Total(total) => Passed::Listed {
+            nodes: nodes,
+            total: total,
+        },
+        Listed::Refused(why) => Passed::Refused(why),
+    }
 }
 
 // The front of some bytes, as much of it as is there.
