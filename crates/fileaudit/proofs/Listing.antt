@@ -40,9 +40,8 @@ module _ (t names bytes : List ℕ) (sound : givenCheck t names bytes ≡ accept
   held-listed = rw (known .1) refl
 
 -- LAW: the answer is still `auditedOf`: 70 to 75, then the audit on what the file holds
-pub job-is-answer : (file : List ℕ)
-    → andThen (fileCheck file) (λ _. heldAudit (contentAt file .table) (contentAt file .names) (contentAt file .dialect))
-    ≡ auditedOf file
+pub job-is-answer : (file : List ℕ) → andThen (fileCheck file) (λ _.
+    heldAudit (contentAt file .table) (contentAt file .names) (contentAt file .dialect)) ≡ auditedOf file
 unfolding auditedOf
 job-is-answer file =
     let c : Content = contentAt file in

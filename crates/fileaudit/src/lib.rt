@@ -1,5 +1,5 @@
-// A table file to its audit: it is unpacked, then every job runs on every node of what the file holds, with the errors in
-// a lent list, four words each.
+// A table file to its audit: it is unpacked, then every job runs on every node of what it holds, with the errors in a
+// lent list, four words each.
 use filepass::ENOUGH_BYTES;
 use filepass::Passed;
 use forest::RECORD;

@@ -1,7 +1,7 @@
--- A file's answer, in the terms of code. The code unpacks the file, which looks at 70 to 75, and then runs the module job,
--- which looks at 1 to 5 itself; `answerOf` looks at 70 to 75 and 1 to 5, and then runs the job. Both are the same: where
--- 1 to 5 refuse, the job refuses by the same number (`given-again`) and changes no word (`given-keeps`). So the answer is
--- `answerOf` (`job-is-answer`) and the words are `wordsAfter` (`job-is-words`). Assumes nothing.
+-- A file's answer, in the terms of code. The code unpacks the file, which looks at 70 to 75, and then runs the module
+-- job, which looks at 1 to 5 itself; `answerOf` looks at 70 to 75 and at 1 to 5, and then runs the job. Both are the
+-- same: where 1 to 5 refuse, the job refuses by the same number (`given-again`) and changes no word (`given-keeps`). So
+-- the answer is `answerOf` (`job-is-answer`) and the words are `wordsAfter` (`job-is-words`). Assumes nothing.
 use mathlib.Core.Path.{_≡_, refl, sym, ap, _∙_}
 use mathlib.Core.List.{List, [], _∷_}
 use Prim.Native.Nat.{ℕ, _*_, _-_, _/_, _^_, _<_, _≤_}
@@ -56,9 +56,8 @@ given-again (inDialect d) n rule = refl
 given-again (turnedAway m vs) n rule = refl
 
 -- LAW: the answer is still `answerOf`: 70 to 75, then the module job on what the file holds
-pub job-is-answer : (file : List ℕ)
-    → andThen (fileCheck file) (λ _. heldAnswer (contentAt file .table) (contentAt file .names) (contentAt file .dialect))
-    ≡ answerOf file
+pub job-is-answer : (file : List ℕ) → andThen (fileCheck file) (λ _.
+    heldAnswer (contentAt file .table) (contentAt file .names) (contentAt file .dialect)) ≡ answerOf file
 unfolding answerOf
 job-is-answer file =
     let c : Content = contentAt file in

@@ -1,4 +1,5 @@
-// A table file to its answer: it is unpacked, then the module job runs on what it holds, with the errors in a lent list.
+// A table file to its answer: it is unpacked, then the module job runs on what it holds, with the errors in a lent
+// list.
 use blocks::BLOCK_BYTES;
 use errors::WIDTH;
 use forest::RECORD;

@@ -106,8 +106,8 @@ pub fn read(file: &[u8]) -> Loaded
     l
 }
 
-// A file into two arrays that are large enough for every file: 70 to 75. A refusal changes no byte. Else table and names
-// stand at the fronts of the arrays, not checked: the job that gets them looks at 1 to 5.
+// A file into two arrays that are large enough for every file: 70 to 75. A refusal changes no byte. Else table and
+// names stand at the fronts of the arrays, not checked: the job that gets them looks at 1 to 5.
 pub fn unpack(file: &[u8], table: &mut [u8; MOST_BYTES], names: &mut [u8; MOST_NAMES]) -> Verdict
     ensures { λ r. ⌜ verdict r ≡ fileCheck (now (file .entry)) ⌝ }
     ensures { λ r. ⌜ now (table .exit) ≡
@@ -192,13 +192,13 @@ fn hand_over(file: &[u8], t: &[u8], n: &[u8], table: &mut [u8], names: &mut [u8]
     let len = RECORD * h.nodes;
     let dialect = dialect_bytes(file);
     let sound = check(t, len, n, h.names, dialect, dialect.len());
-    let judged = judge_room(sound, len, table.len(), h.names, names.len());
-    if is_refused(judged) {
-        return judged;
+    let answer = judge_room(sound, len, table.len(), h.names, names.len());
+    if is_refused(answer) {
+        return answer;
     }
     put(t, len, table);
     put(n, h.names, names);
-    judged
+    answer
 }
 
 // A verdict, then 7 for buffers of a and b bytes that are to hold t and n.

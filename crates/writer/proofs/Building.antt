@@ -1,5 +1,8 @@
--- Laws of what is laid one after another: a block from its parts, block 0, a run from its blocks, a file from its runs.
--- Assumes nothing.
+-- What is laid one after another: a block from its parts (`block-whole`), block 0 (`header-whole`), a run from its blocks,
+-- a file from its runs (`file-whole`). The loop of a run keeps that what is left of the content, laid behind the blocks
+-- that are done, makes the whole run (`Writing`): a turn writes the first block of what is left (`run-first`) and moves on
+-- by 512 bytes (`run-on`). Each function writes at the front of what it is lent, so that a part that is lent from a place
+-- on is laid over that place (`over-part`), and two parts one after the other are both (`over-next`). Assumes nothing.
 use mathlib.Core.Path.{_≡_, refl, sym, ap, _∙_}
 use mathlib.Core.Logic.{⊎-elim}
 use mathlib.Core.List.{List, [], _++_, append-assoc}
@@ -184,39 +187,46 @@ module _ {d content : List ℕ} {first : ℕ} {out left : List ℕ} {done : ℕ}
     pub run-block : 512 ≤ length (take (length out - 512 * done) (drop (512 * done) out))
     run-block = rw (tail-part (512 * done) out) (simp length-drop (omega (arith, run-room)))
 
+    -- the block that is written next, and what the loop is then
+    abbrev block : List ℕ
+    block = blockOf (first + done) (take 504 left)
+
+    block-long : length block ≡ 512
+    block-long = length-block (first + done) (take 504 left) (simp length-take (omega arith))
+
+    run-next : Writing d content first (over (512 * done) block out) (drop 504 left) (done + 1)
+    run-next =
+        let next : 512 * (done + 1) ≡ 512 * done + length block = omega (arith, block-long) in
+        let onward : first + (done + 1) ≡ first + done + 1 = omega arith in
+        let fits : 512 * done + length block ≤ length out = omega (arith, run-room, block-long) in
+        let others : blocksFor (length (drop 504 left)) ≡ blocksFor (length left - 504) =
+        ap blocksFor (length-drop 504 left) in
+        let long : length (over (512 * done) block out) ≡ length out = length-over (512 * done) block out fits in
+        record {
+          room = omega (arith, s .room, blocks-more (length left) more);
+          few = s .few;
+          long = long ∙ s .long;
+          same = ap (λ (n : ℕ). over (512 * (done + 1)) (runOf n (drop 504 left)) (over (512 * done) block out)) onward
+              ∙ ap (λ (n : ℕ). over n (runOf (first + done + 1) (drop 504 left)) (over (512 * done) block out)) next
+              ∙ over-next (512 * done) block out (omega (arith, run-room)) (runOf (first + done + 1) (drop 504 left))
+              ∙ ap (λ (x : List ℕ). over (512 * done) x out) (sym (run-first (first + done) left more)) ∙ s .same;
+        }
+
     pub run-on : {used : ℕ} → used ≡ min 504 (length left) → {ys : List ℕ}
         → ys ≡ over 0 (blockOf (first + done) (take (used - 0) (drop 0 left)))
         (take (length out - 512 * done) (drop (512 * done) out))
         → Writing d content first (putMid (512 * done) (length out - 512 * done) out ys)
         (take (length left - used) (drop used left)) (done + 1)
     run-on {used} used-is {ys} ys-is =
-        let number : ℕ = first + done in
-        let b : List ℕ = blockOf number (take 504 left) in
-        let r : List ℕ = runOf (number + 1) (drop 504 left) in
         let all : used - 0 ≡ min 504 (length left) = omega arith in
         let part : take (used - 0) (drop 0 left) ≡ take 504 left = ap (λ (n : ℕ). take n left) all
         ∙ sym (take-min 504 (length left) left) ∙ ap (take 504) (take-length left) in
         let after : take (length left - used) (drop used left) ≡ drop 504 left = tail-part used left
         ∙ ap (λ (n : ℕ). drop n left) used-is ∙ drop-used left in
-        let ys-so : ys ≡ over 0 b (take (length out - 512 * done) (drop (512 * done) out)) = rw part at ys-is in
-        let new : putMid (512 * done) (length out - 512 * done) out ys ≡ over (512 * done) b out =
-        over-part (512 * done) b out (omega (arith, run-room)) ys-so in
-        let block : length b ≡ 512 = length-block number (take 504 left) (simp length-take (omega arith)) in
-        let long : length (over (512 * done) b out) ≡ length out =
-        length-over (512 * done) b out (omega (arith, run-room)) in
-        let next : 512 * (done + 1) ≡ 512 * done + length b = omega arith in
-        let onward : first + (done + 1) ≡ number + 1 = omega arith in
-        let others : blocksFor (length (drop 504 left)) ≡ blocksFor (length left - 504) =
-        ap blocksFor (length-drop 504 left) in
-        rw (new, after) record {
-          room = omega (arith, s .room, blocks-more (length left) more);
-          few = s .few;
-          long = long ∙ s .long;
-          same = ap (λ (n : ℕ). over (512 * (done + 1)) (runOf n (drop 504 left)) (over (512 * done) b out)) onward
-              ∙ ap (λ (n : ℕ). over n r (over (512 * done) b out)) next
-              ∙ over-next (512 * done) b out (omega (arith, run-room)) r
-              ∙ ap (λ (x : List ℕ). over (512 * done) x out) (sym (run-first number left more)) ∙ s .same;
-        }
+        let ys-so : ys ≡ over 0 block (take (length out - 512 * done) (drop (512 * done) out)) = rw part at ys-is in
+        let new : putMid (512 * done) (length out - 512 * done) out ys ≡ over (512 * done) block out =
+        over-part (512 * done) block out (omega (arith, run-room)) ys-so in
+        rw (new, after) run-next
 
 -- a file: block 0, the names' run, the nodes' run
 header-long : (t names ds : List ℕ) → length ds ≤ 9 → length (blockOf 0 (headerOf (holding t names ds))) ≡ 512

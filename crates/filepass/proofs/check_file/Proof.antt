@@ -1,4 +1,4 @@
--- `filepass::check_file` meets its contract: 70 to 75 refuse the file, or the job runs on what it holds. Assumes nothing.
+-- `filepass::check_file` meets its contract: 70 to 75, or the job on what the file holds. Assumes nothing.
 use borrow.Author.Needs.{needs}
 use Rattle.tablefile.proofs.Lends.{unpacked-table-long, unpacked-names-long}
 use Rattle.filepass.proofs.Listing.{nodes-fit, nodes-word, file-refused, file-answer, file-words}

@@ -23,7 +23,8 @@ hand-over-spec =
     let dialect = c .before .before .before .before .before .dialect-bytes in
     let back = c .before .before .before .before .before .before in
     let header = back .before .header in
-    let start = back .before .before .before .before .before .before .before in (
+    let back2 = back .before .before .before .before .before .before in
+    let start = back2 .before in (
       into-table-within start.pre header.ensures,
       into-table-room start.pre header.ensures dialect.ensures check.ensures _ _ judge-room.ensures is-refused.ensures
           (c .before .if1 .left),

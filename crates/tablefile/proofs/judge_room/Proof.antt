@@ -1,5 +1,5 @@
--- `tablefile::judge_room` meets its contract: a refusal is passed on, else both buffers are large enough or not. Assumes
--- nothing.
+-- `tablefile::judge_room` meets its contract: a refusal is passed on, else both buffers are large enough or not.
+-- Assumes nothing.
 use borrow.Author.Needs.{needs}
 use Rattle.tablefile.specs.Loading.{verdict}
 use Rattle.tablefile.proofs.Lends.{room-before, room-enough, room-short}
