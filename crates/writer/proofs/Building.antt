@@ -1,8 +1,9 @@
--- What is laid one after another: a block from its parts (`block-whole`), block 0 (`header-whole`), a run from its blocks,
--- a file from its runs (`file-whole`). The loop of a run keeps that what is left of the content, laid behind the blocks
--- that are done, makes the whole run (`Writing`): a turn writes the first block of what is left (`run-first`) and moves on
--- by 512 bytes (`run-on`). Each function writes at the front of what it is lent, so that a part that is lent from a place
--- on is laid over that place (`over-part`), and two parts one after the other are both (`over-next`). Assumes nothing.
+-- What is laid one after another: a block from its parts (`block-whole`), block 0 (`header-whole`), a run from its
+-- blocks, a file from its runs (`file-whole`). The loop of a run keeps that what is left of the content, laid behind
+-- the blocks that are done, makes the whole run (`Writing`): a turn writes the first block of what is left
+-- (`run-first`) and moves on by 512 bytes (`run-on`). Each function writes at the front of what it is lent, so that a
+-- part that is lent from a place on is laid over that place (`over-part`), and two parts one after the other are both
+-- (`over-next`). Assumes nothing.
 use mathlib.Core.Path.{_≡_, refl, sym, ap, _∙_}
 use mathlib.Core.Logic.{⊎-elim}
 use mathlib.Core.List.{List, [], _++_, append-assoc}
