@@ -46,6 +46,9 @@ def holds(text, name):
 
 def faults_of(document):
     folder = None
+    if not (repository.ROOT / document).exists():
+        yield f"there is no {document}"
+        return
     for number, line in enumerate((repository.ROOT / document).read_text().splitlines(), 1):
         for target in re.findall(r"\]\(([^)#]+)\)", line):
             if "://" not in target and not ((repository.ROOT / document).parent / target).exists():
