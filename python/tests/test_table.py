@@ -202,6 +202,16 @@ class Texts(unittest.TestCase):
   (Break span=20-25))
 """)
 
+    def test_a_printed_text_with_shared_names(self):
+        held, names = table.table_of(table.trees("(OtherSimple (Op (Identifier a) (Identifier a)))"), shared=True)
+        self.assertEqual(self.same(held, names, None), """dialect: none
+names: shared
+(OtherSimple span=0-1
+  (Op span=1-2
+    (Identifier a span=2-3)
+    (Identifier a span=3-4)))
+""")
+
     def test_names_of_any_bytes(self):
         whole = bytes(range(256))
         for start, length in ((0, 1), (10, 1), (32, 1), (34, 1), (40, 2), (92, 1), (96, 1), (61, 1), (200, 56), (1, 255)):
