@@ -244,6 +244,8 @@ def table_parser():
     parser = make_parser("table", TABLE, ATOMIC)
     parser.add_argument("input", metavar="INPUT")
     add_output(parser)
+    parser.add_argument("--parts", action="store_true",
+                        help="OUT is a folder, new or empty: a table file of each top-level statement, 0001.table and so on")
     add_dialect(parser, "of a script; a text has its own")
     add_stdin_filename(parser)
     add_config(parser)
