@@ -123,4 +123,4 @@ def gone(pid):
         return True
 
 
-SIGNALS = {signal.SIGINT: 130, signal.SIGTERM: 143, signal.SIGHUP: 129}
+ENDING = (signal.SIGINT, signal.SIGTERM, signal.SIGHUP)
