@@ -111,6 +111,7 @@ STEPS = [
         counts=r"(\d+) tests passed, (\d+) failed",
     ),
     Step("programs", "tablecheck and tablerescue read, print and replace what they must", python("tools/try_programs.py"), lane=BESIDE),
+    Step("against", "ducat prints and writes what the two programs do, byte by byte", python("-I", "-S", "python/tests/against_programs.py"), lane=BESIDE),
     Step("shown", "the commands print what the documents show", python("tools/shown.py"), lane=BESIDE),
     Step("faults", "the comparison finds a fault of each job, and is not empty", ("oracle/faults", "--gate"), ORACLE, BESIDE),
     Step("compare", "the port answers as the crate does (quick run)", ("oracle/compare",), ORACLE, BESIDE),
