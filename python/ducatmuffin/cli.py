@@ -573,7 +573,7 @@ def main(words=None):
         signals.die(stopped.number)
     except Exception:  # status 1 would say that errors were found
         import traceback
-        say("a fault of ducat itself:\n" + traceback.format_exc().replace("\n", " | "))
+        say("a fault of ducat itself: " + traceback.format_exc().strip().replace("\n", " | "))
     finally:
         files.tidy()
         flush_error()

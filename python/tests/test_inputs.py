@@ -37,12 +37,16 @@ class Scripts(CommandTest):
         self.says(0, CLEAN, "", "check", "-", "--stdin-filename", "x.table", input=support.sample("clean.table"))
 
     def test_the_earlier_place_is_a_note(self):
-        path = self.put("twice.star", "def f(a, b):\n    return f(a=1,\n             a=2)\n")
-        ran = self.run_ducat("check", path)
-        if ran.out:  # Python's parser may refuse a repeated name by itself
-            self.assertIn(f"{path}:2:14: note: the earlier argument\n", ran.out)
-        else:
-            self.assertIn(f"ducat: {path}:", ran.err)
+        path = self.put("twice.star", "def f(a, b,\n      a):\n    pass\n")
+        self.says(1, f"""nodes 5
+{path}:2:7: 11 a parameter has the name of an earlier one
+          a):
+          ^
+{path}:1:7: note: the earlier parameter
+    def f(a, b,
+          ^
+errors 1
+""", STEP, "check", path)
 
     def test_what_has_no_table(self):
         parser = "not parsed: at least one argument must precede / (Python's parser says so, not the checker)"
