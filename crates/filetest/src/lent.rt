@@ -21,7 +21,7 @@ fn say_unpack(file: &[u8]) {
     say_job(
         b"; unpack ",
         of_verdict(answer),
-        kept(&table) & kept(&names),
+        kept_table(&table) & kept_names(&names),
     );
 }
 
@@ -64,6 +64,14 @@ fn say_job(what: &[u8], answer: u32, same: bool) {
     } else {
         say(b" changed");
     }
+}
+
+fn kept_table(table: &[u8; MOST_BYTES]) -> bool {
+    kept(table)
+}
+
+fn kept_names(names: &[u8; MOST_NAMES]) -> bool {
+    kept(names)
 }
 
 // Whether every byte is still 9.
