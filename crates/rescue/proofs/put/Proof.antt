@@ -1,8 +1,10 @@
--- `rescue::put` meets its contract: out is filled from the front. Assumes nothing.
-use borrow.Author.Needs.{needs}
+-- `rescue::put` meets its contract: out is filled from the front, and what a slice of u8 holds are bytes.
+-- Assumes nothing.
 use Prim.Native.Nat.{_-_}
 use native.Mathlib.Omega.{arith}
-use Rattle.blocks.proofs.Filling.{Filled, fill-start, fill-long, fill-on, fill-end}
+use borrow.Author.Needs.{needs}
+use Rattle.blocks.proofs.Filling.{Filled, fill-start, fill-long, fill-on}
+use Rattle.rescue.proofs.Leaves.{put-end}
 use Rattle.rescue.proofs.put.Statement.{statement}
 use Rattle.rescue.proofs.put.Tie as tie
 
@@ -25,4 +27,4 @@ put-spec =
     (λ c. search needs)
     (λ c. search fill-on)  -- loop-again
     (λ c. search fill-long)  -- same-length
-    (λ c. search fill-end))  -- returns
+    (λ c. search put-end))  -- returns
