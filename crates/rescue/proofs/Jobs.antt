@@ -206,7 +206,7 @@ module _ {bs : List ℕ} {h : Heading} {names : List ℕ} (r : Ready bs h names)
         rw (blocks, r .heading)
         (omega (arith, there .1, first-there bs (r .head), length-drop (512 * headerAt bs .first) bs))
 
-    module _ {u : List ℕ} (z : List ℕ) (room : 50400 ≤ length z) (u-is : u ≡ copied (h .first) got bs z) where
+    module _ {u : List ℕ} (z : List ℕ) (room : length z ≡ 50400) (u-is : u ≡ copied (h .first) got bs z) where
       got-table : take (got - 0) u ≡ goodTable bs
       got-table =
           let n : got - 0 ≡ got = omega arith in
@@ -273,7 +273,7 @@ module _ (bs : List ℕ) {h : Heading} (h-is : h ≡ headerAt bs) {q : Bool} (q-
     start-copy = rw h-is (omega (arith, first-there bs head, first-is bs))
 
     pub start-ready : {ns : List ℕ} (z : List ℕ)
-        → 8064 ≤ length z → ns ≡ copied 1 (h .names) bs z → Ready bs h (take (h .names - 0) ns)
+        → length z ≡ 8064 → ns ≡ copied 1 (h .names) bs z → Ready bs h (take (h .names - 0) ns)
     unfolding contentAt
     start-ready {ns} z room ns-is =
         let n : h .names - 0 ≡ h .names = omega arith in

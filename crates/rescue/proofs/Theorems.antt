@@ -23,14 +23,14 @@ use Rattle.table.specs.declared.Refusal.the-variants.{Bare}
 use Rattle.table.proofs.Answers.{passed-both, never-passed}
 use Rattle.table.proofs.Checking.{accepted-clean}
 use Rattle.table.proofs.Entering.{given-known, given-passed}
-use Rattle.blocks.specs.Block.{demand}
+use Rattle.blocks.specs.Block.{demand, judge}
 use Rattle.blocks.proofs.Blocks.{passes as passed-block}
 use Rattle.tablefile.specs.File.{Content, fileOf}
 use Rattle.tablefile.specs.Reading.{headerAt, contentAt, countsFit, frontCheck, soundCheck, readCheck}
 use Rattle.tablefile.specs.Loading.{loadedOf}
 use Rattle.tablefile.specs.declared.Verdict.the-variants as verdicts
 use Rattle.tablefile.proofs.Fronts.{Fronted, first-is, taken-is, dialect-few, table-length}
-use Rattle.tablefile.proofs.Accepted.{read-fronted, read-whole, read-is-sound}
+use Rattle.tablefile.proofs.Accepted.{read-fronted, read-whole, read-is-sound, SoundContent, back-accepted, back-holds}
 use Rattle.tablefile.proofs.Theorems.{Read, file-read-back}
 use Rattle.writer.specs.Writing.{bytesFor}
 use Rattle.writer.proofs.Building.{length-file}
@@ -393,3 +393,20 @@ again bs buffer r after p k good small buffer′ r′ later p′ room =
       front-is _ buffer′ r′ later q all is
           ∙ ap fileOf (whole ∙ file-held bs buffer r after p k good small) ∙ sym front,
     )
+
+-- the claims are not empty: no bytes at all are 90, and the file of any sound content is accepted
+pub empty-is-90 : (room : ℕ) → rescueOf [] room ≡ refused badHeader []
+unfolding headGood judge
+empty-is-90 room = bad-head [] room refl
+
+pub sound-is-accepted : (c : Content) → SoundContent c → (buffer : List ℕ) → length (fileOf c) ≤ length buffer
+    → Rescue (fileOf c) buffer (Accepted record {
+      bytes = length (fileOf c);
+      statements = statementsOf (c .table);
+      nodes = length (c .table) / 24;
+      dropped = 0;
+      after = 0;
+    }) (fileAfter (fileOf c) buffer)
+sound-is-accepted c s buffer fits =
+    let held : contentAt (fileOf c) .table ≡ c .table = ap (λ (d : Content). d .table) (back-holds c s) in
+    (sym (read-rescued (fileOf c) (back-accepted c s) (length buffer) fits ∙ rw held refl), refl)

@@ -138,9 +138,17 @@ module _ (t n d room : ℕ) where
       unfolding fitsIn
       unfit-dialect h = rw (le-leb t 50400 few, le-leb n 8064 named, lt-leb d 9 h) refl
 
-      pub fit-blocks : {k m : ℕ} → k ≡ blocksFor n → m ≡ blocksFor t → 512 * (1 + k + m) < 2 ^ 64
+      pub fit-one : {k : ℕ} → k ≡ blocksFor n → 1 + k < 2 ^ 64
       unfolding blocksFor
-      fit-blocks k-is m-is = omega arith
+      fit-one k-is = omega arith
+
+      module _ {k m : ℕ} (k-is : k ≡ blocksFor n) (m-is : m ≡ blocksFor t) where
+        pub fit-bytes : 512 * (1 + k + m) < 2 ^ 64
+        unfolding blocksFor
+        fit-bytes = omega arith
+
+        pub fit-sum : 1 + k + m < 2 ^ 64
+        fit-sum = omega (arith, fit-bytes)
 
       pub fit-room : d ≤ 9 → {k m : ℕ} → k ≡ blocksFor n → m ≡ blocksFor t
           → leb (512 * (1 + k + m)) room ≡ fitsIn t n d room

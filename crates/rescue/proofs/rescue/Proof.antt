@@ -1,6 +1,8 @@
 -- `rescue::rescue` meets its contract: 90, or a header that is good. Assumes nothing.
 use borrow.Author.Needs.{needs}
+use Prim.Native.Nat.{ℕ}
 use native.Mathlib.Omega.{arith}
+use lib.ListN.{length-replicate}
 use borrow.Author.Tests.{not-true, not-false}
 use Rattle.rescue.proofs.Jobs.{head-refused, head-keeps, start-names, start-ready}
 use Rattle.rescue.proofs.rescue.Statement.{statement}
@@ -27,7 +29,7 @@ rescue-spec =
     let back = c .before .before .before .before .before .before in
     let head-good = back .before .head-good in
     let header = back .before .before .header in
-    start-ready _ header.ensures head-good.ensures (not-false _ (back .if1 .left)) _ (omega arith)
+    start-ready _ header.ensures head-good.ensures (not-false _ (back .if1 .left)) _ (length-replicate {A = ℕ} 8064 0)
     copy.ensures)  -- rescue-named-requires
     (λ c. search needs)
     (λ c. search needs))

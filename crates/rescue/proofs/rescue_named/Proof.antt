@@ -1,4 +1,5 @@
 -- `rescue::rescue_named` meets its contract: the good records are copied. Assumes nothing.
+use lib.ListN.{length-replicate}
 use borrow.Author.Needs.{needs}
 use Rattle.rescue.proofs.Jobs.{into-at, into-word, into-table, into-there, into-part, into-goods}
 use Rattle.rescue.proofs.rescue_named.Statement.{statement}
@@ -18,7 +19,7 @@ rescue-named-spec =
     (λ c κs. search needs)
     (λ c. search needs)
     (λ c. search needs)
-    (λ c. search into-part)  -- part-rescue-good-end
-    (λ c κs. search into-goods)  -- rescue-good-requires
+    (λ c. search (into-part, length-replicate))  -- part-rescue-good-end
+    (λ c κs. search (into-goods, length-replicate))  -- rescue-good-requires
     (λ c. search needs)
     (λ c. search needs))

@@ -11,9 +11,12 @@ copy-content-spec =
     (tie.spec
     (λ c. search copied-far)  -- returns
     (λ c κs. search needs)
-    (λ c. search needs)
     (λ c. search copied-cut)  -- returns-2
     (λ c. search copied-long)  -- returns-3
-    (λ c κs. search copied-there)  -- copy-requires
+    (λ c κs.
+    let there = c .before .before .if2 in
+    let count = c .before .before .before .blocks-for in
+    let first = c .before .before .before .before .if1 in
+    (copied-there _ _ _ first.left count.ensures there.left, c .before .if3 .left))  -- copy-requires
     (λ c. search needs)
     (λ c. search copied-all))  -- returns-4
