@@ -159,7 +159,7 @@ module _ {bs : List ℕ} {h : Heading} {names t : List ℕ} {whole : Bool} (k : 
           few = omega (arith, fin-few, fin-nodes);
           named = fin-names;
           nine = fin-nine ds-is;
-          room = room;
+          there = room;
         } in
         after-is ∙ laid-over t names ds file fit ∙ rw (k .table, k .ready .called, ds-is) refl
 

@@ -1,22 +1,21 @@
 -- What of a damaged file is good: the header with its names, the whole, or the node blocks before the first bad one.
 -- These are definitions.
-use mathlib.Core.Bool.{Bool, true, false, _&&_}
-use mathlib.Core.List.{List}
+use mathlib.Core.Bool.{Bool, _&&_}
+use mathlib.Core.List.{List, []}
 use Prim.Native.Nat.{ℕ, _+_, _*_}
 use lib.ListN.{take, drop}
 use Rattle.dialect.specs.Bytes.{fromBytes}
 use Rattle.dialect.specs.declared.Decoded.{Decoded}
-use Rattle.dialect.specs.declared.Decoded.the-variants.{Valid, Invalid}
 use Rattle.forest.specs.Forest.{recordBytes}
-use Rattle.table.specs.Answer.{passes, andThen}
+use Rattle.table.specs.Answer.{accepted, passes, andThen}
+use Rattle.table.specs.Check.{decoded, inGiven}
 use Rattle.blocks.specs.Block.{blockBytes, contentBytes, judge}
 use Rattle.blocks.specs.Run.{blocksFor, judgeRun, goodBlocks}
 use Rattle.tablefile.specs.Reading.{headerAt, contentAt, countsFit, frontCheck, soundCheck}
 
--- whether bytes give a dialect
+-- whether bytes give a dialect: 5
 abbrev pub isDialect : Decoded → Bool
-isDialect (Valid d) = true
-isDialect Invalid = false
+isDialect x = passes (inGiven (decoded x) (λ _. accepted []))
 
 -- the header: block 0, its counts (74) and its dialect (5), and every name block
 unfoldable pub headGood : List ℕ → Bool

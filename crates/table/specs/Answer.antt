@@ -31,6 +31,11 @@ abbrev pub passes : Answer → Bool
 passes (accepted vs) = true
 passes (refused n vs) = false
 
+-- whether an answer is a refusal
+abbrev pub isRefused : Answer → Bool
+isRefused (accepted vs) = false
+isRefused (refused n vs) = true
+
 -- a refusal at a node, with its span
 abbrev pub refusedAt : ℕ → Node → Answer
 refusedAt n r = refused n (r .at ∷ r .begin ∷ r .stop ∷ [])

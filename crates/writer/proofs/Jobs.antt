@@ -11,7 +11,7 @@ use borrow.Author.Tests.{le-leb, lt-leb, leb-true}
 use Rattle.fields.proofs.Basics.{clash, and-left, and-right}
 use Rattle.dialect.specs.declared.Dialect.{Dialect}
 use Rattle.table.specs.Numbers.{shortBuffer}
-use Rattle.table.specs.Answer.{Answer, accepted, refused, andThen, refusal}
+use Rattle.table.specs.Answer.{Answer, accepted, refused, andThen, isRefused, refusal}
 use Rattle.table.specs.Check.{Handing, inDialect, turnedAway, given, givenOf, inGiven}
 use Rattle.table.specs.declared.Refusal.{Refusal}
 use Rattle.table.specs.declared.Given.{Given}
@@ -21,7 +21,7 @@ use Rattle.blocks.specs.Run.{blocksFor}
 use Rattle.tablefile.specs.File.{fileOf, mostBlocks}
 use Rattle.tablefile.specs.Reading.{soundCheck}
 use Rattle.tablefile.proofs.Accepted.{dialect-lengths}
-use Rattle.writer.specs.Writing.{holding, bytesFor, roomCheck, writeOf, over, afterwards, fileAfter, isRefused}
+use Rattle.writer.specs.Writing.{holding, bytesFor, roomCheck, writeOf, over, afterwards, fileAfter}
 use Rattle.writer.specs.Writing.{fitsIn, laidOver}
 use Rattle.fields.specs.Choice.{if'}
 
@@ -115,6 +115,9 @@ module _ (t names ds file : List ℕ) {a : Answer} (a-is : a ≡ writeOf t names
     pub write-nine : length ds ≤ 9
     write-nine = says .dialect
 
+    pub write-few : 1 + blocksFor (length names) + blocksFor (length t) ≤ mostBlocks
+    write-few = sound-few t names ds (says .sound) .0
+
     pub write-room : bytesFor (length t) (length names) ≤ length file
     write-room = says .fits
 
@@ -160,7 +163,7 @@ pub record Fitting (t n d room : ℕ) : Type 0 where
   pub few : t ≤ 50400
   pub named : n ≤ 8064
   pub nine : d ≤ 9
-  pub room : bytesFor t n ≤ room
+  pub there : bytesFor t n ≤ room
 
 module _ (t n d room : ℕ) where
   pub fit-says : fitsIn t n d room ≡ true → Fitting t n d room
@@ -172,7 +175,7 @@ module _ (t n d room : ℕ) where
         few = leb-true t 50400 (and-left (leb t 50400) _ e);
         named = leb-true n 8064 (and-left (leb n 8064) _ names);
         nine = leb-true d 9 (and-left (leb d 9) _ dialect);
-        room = leb-true (bytesFor t n) room (and-right (leb d 9) _ dialect);
+        there = leb-true (bytesFor t n) room (and-right (leb d 9) _ dialect);
       }
 
   pub says-fit : Fitting t n d room → fitsIn t n d room ≡ true
@@ -181,7 +184,7 @@ module _ (t n d room : ℕ) where
     le-leb t 50400 (f .few),
     le-leb n 8064 (f .named),
     le-leb d 9 (f .nine),
-    le-leb (bytesFor t n) room (f .room),
+    le-leb (bytesFor t n) room (f .there),
   ) refl
 
 module _ (t names ds buffer : List ℕ) {q : Bool}
@@ -191,8 +194,10 @@ module _ (t names ds buffer : List ℕ) {q : Bool}
   unfit-keeps e = rw (← q-is, e) refl
 
   module _ (e : q ≡ true) where
-    pub fit-writes : (length ds ≤ 9) × (bytesFor (length t) (length names) ≤ length buffer)
-    fit-writes = let f = fit-says _ _ _ _ (sym q-is ∙ e) in (f .nine, f .room)
+    pub fit-writes : (length ds ≤ 9) × (1 + blocksFor (length names) + blocksFor (length t) ≤ mostBlocks)
+        × (bytesFor (length t) (length names) ≤ length buffer)
+    unfolding blocksFor
+    fit-writes = let f = fit-says _ _ _ _ (sym q-is ∙ e) in (f .nine, omega (arith, f .few, f .named), f .there)
 
     pub fit-laid : {after : List ℕ} → after ≡ over 0 (fileOf (holding t names ds)) buffer
         → after ≡ laidOver (holding t names ds) buffer

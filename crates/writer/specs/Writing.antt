@@ -1,5 +1,5 @@
 -- Writing a table file: the job's answer, and the buffer at exit. These are definitions.
-use mathlib.Core.Bool.{Bool, true, false, _&&_}
+use mathlib.Core.Bool.{Bool, _&&_}
 use mathlib.Core.List.{List, [], _∷_, _++_}
 use Prim.Native.Nat.{ℕ, _+_, _*_}
 use lib.ListN.{length, take, drop}
@@ -55,11 +55,6 @@ unfoldable pub laidOver : Content → List ℕ → List ℕ
 laidOver c buffer =
     if' (fitsIn (length (c .table)) (length (c .names)) (length (c .dialect)) (length buffer))
     (λ _. over 0 (fileOf c) buffer) (λ _. buffer)
-
--- whether an answer is a refusal
-abbrev pub isRefused : Answer → Bool
-isRefused (accepted vs) = false
-isRefused (refused n vs) = true
 
 -- what the answers of code mean
 abbrev pub written : Written → Answer
