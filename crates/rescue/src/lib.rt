@@ -32,8 +32,8 @@ ghost use Rattle.rescue.specs.Job.{kept, statementsOf, rescueOf, fileAft
 ghost use Rattle.rescue.specs.Steps.{keepable, keepableAt, leadingBytes, keptIf, Front, Records};
 ghost use Rattle.rescue.specs.Steps.{goodBytes, Ready, Goods, Keeping, Copied};
 
-// What is told of a rescue: the bytes written, the statements and the nodes kept, the nodes dropped by the header's
-// count, and the bytes after the header's last block.
+// The counts of a rescue: the bytes written, the statements and nodes kept, the nodes dropped by the header's count, and
+// the bytes after the header's last block.
 pub struct Kept {
     pub bytes: u32,
     pub statements: u32,
@@ -64,7 +64,7 @@ pub fn rescue(input: &[u8], file: &mut [u8]) -> Rescued
     rescue_named(input, h, &names[0..n], file)
 }
 
-// A file whose header is good, with its names: the records in its good node blocks, and what is kept of them.
+// A file whose header is good, and its names: reads the records in good node blocks, and rescues what they give.
 fn rescue_named(input: &[u8], h: Heading, names: &[u8], file: &mut [u8]) -> Rescued
     requires { ⌜ Ready (now input) h (now names) ⌝ }
     ensures { λ r. ⌜ rescued r ≡ rescueOf (now (input .entry)) (length (now (file .entry))) ⌝ }
@@ -77,7 +77,7 @@ fn rescue_named(input: &[u8], h: Heading, names: &[u8], file: &mut [u8]) -> Resc
     rescue_good(input, h, names, &mut table[0..got], file)
 }
 
-// The same, given the records in good node blocks: all are kept where they pass, else their largest cut, or 91.
+// The same, for the records in good node blocks: all are kept if they pass, else the largest cut; 91 if there is none.
 fn rescue_good(input: &[u8], h: Heading, names: &[u8], table: &mut [u8], file: &mut [u8]) -> Rescued
     requires { ⌜ Goods (now input) h (now names) (now table) ⌝ }
     ensures { λ r. ⌜ rescued r ≡ rescueOf (now (input .entry)) (length (now (file .entry))) ⌝ }
@@ -114,7 +114,7 @@ fn head_good(input: &[u8], h: Heading) -> bool
     }
 }
 
-// How many bytes the good blocks of a run hold, those before the first that is bad or missing.
+// The number of bytes that the good blocks of a run hold: those before the first bad or missing one.
 fn good_bytes(bytes: &[u8], first: usize, total: usize) -> usize
     requires { ⌜ first < 65536 ⌝ }
     ensures { λ r. ⌜ r ≡ goodBytes first total (now (bytes .entry)) ⌝ }
@@ -135,7 +135,7 @@ fn good_bytes(bytes: &[u8], first: usize, total: usize) -> usize
     done
 }
 
-// Leaves at the front of the good records what is kept of them, and answers how many bytes that are; 0 for nothing.
+// Leaves what is kept of the good records at their front, and returns its length; 0 if nothing is kept.
 fn keep(table: &mut [u8], names: &[u8], whole: bool) -> usize
     requires { ⌜ Records (now table) ⌝ }
     ensures { λ r. ⌜ Front (keptIf whole (now (table .entry)) (now (names .entry))) (now (table .exit)) r ⌝ }
@@ -146,7 +146,7 @@ fn keep(table: &mut [u8], names: &[u8], whole: bool) -> usize
     cut(table, names)
 }
 
-// Whether the good records are so many nodes, and pass 1 to 4.
+// Whether the good records are all nodes that the header counts, and pass 1 to 4.
 fn all_sound(table: &[u8], names: &[u8], nodes: usize) -> bool
     requires { ⌜ nodes ≤ mostNodes ⌝ }
     ensures { λ r. ⌜ r ≡
@@ -170,8 +170,9 @@ fn sound(table: &[u8], names: &[u8]) -> bool
     }
 }
 
-// Cuts a table to the largest number of leading children that pass, which its root then says, and answers its bytes; 0
-// if there is none. Where the leading children that can be kept do not pass, the root is at fault, and none do.
+// Cuts a table to the largest number of leading children that pass, writes the new size into its root, and returns its
+// length; 0 if there is none. If the cut to the children that can be kept does not pass, the root is at fault, and no
+// cut passes.
 fn cut(table: &mut [u8], names: &[u8]) -> usize
     requires { ⌜ Records (now table) ⌝ }
     ensures { λ r. ⌜ Front (largestCut (now (table .entry)) (now (names .entry))) (now (table .exit)) r ⌝ }
@@ -192,7 +193,7 @@ fn cut(table: &mut [u8], names: &[u8]) -> usize
     end
 }
 
-// How many bytes the leading children that can be kept have, in a table with so many name bytes.
+// The length of the leading children that can be kept, in a table that has `names` name bytes.
 fn leading(row: &[u8], names: usize) -> usize
     requires { ⌜ recordBytes * (length (now row) / recordBytes) ≡ length (now row) ⌝ }
     ensures { λ r. ⌜ (r ≡ leadingBytes (keepable (context names)) (forest 1 (now (row .entry))))
@@ -211,8 +212,8 @@ fn leading(row: &[u8], names: usize) -> usize
     done
 }
 
-// Whether a child can be kept: a statement whose nodes are sound in a table with so many name bytes, and none too deep
-// under the root.
+// Whether a child can be kept: a statement whose nodes are sound in a table that has `names` name bytes, and none is
+// too deep under the root.
 fn can_keep(child: &[u8], names: usize) -> bool
     ensures { λ r. ⌜ r ≡ keepableAt (context names) (now (child .entry)) ⌝ }
 {
@@ -239,7 +240,7 @@ fn resize(table: &mut [u8], m: usize)
     table[17] = (m / 256) as u8;
 }
 
-// The file of the table that is kept, with names and dialect: 7, or what is told of it.
+// Writes the file of the table that is kept, with names and dialect: 7, or the counts of what is kept.
 fn finish(
     input: &[u8],
     h: Heading,
@@ -287,7 +288,7 @@ fn put(from: &[u8], len: usize, out: &mut [u8])
     }
 }
 
-// What is told of a table that is kept, and of so many bytes that are written.
+// The counts of a table that is kept, for a file of `bytes` bytes.
 fn tell(input: &[u8], h: Heading, table: &[u8], bytes: u32) -> Kept
     requires { ⌜ (h .nodes ≤ mostNodes) × (recordBytes ≤ length (now table)) ×
         (length (now table) ≤ recordBytes * h .nodes) ⌝ }
@@ -305,7 +306,7 @@ fn tell(input: &[u8], h: Heading, table: &[u8], bytes: u32) -> Kept
     }
 }
 
-// How many of so many bytes stand past others.
+// The number of bytes behind the first `taken` of `len`.
 fn past(len: usize, taken: usize) -> usize
     ensures { λ r. ⌜ r ≡ len - taken ⌝ }
 {
@@ -327,7 +328,7 @@ fn statements(table: &[u8]) -> u32
     count(&table[RECORD..e]) as u32
 }
 
-// How many nodes of a stretch stand side by side.
+// The number of nodes that stand side by side in a stretch.
 fn count(row: &[u8]) -> usize
     ensures { λ r. ⌜ (r ≡ length (roots (forest 1 (now (row .entry))))) ×
         (recordBytes * r ≤ length (now (row .entry))) ⌝ }

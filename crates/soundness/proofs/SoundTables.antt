@@ -2,7 +2,7 @@
 -- (`sound-table`, `sound-subtree`): a record's children are found by stepping over their sizes, and what is sound is as
 -- long as it says, so that the records are the forest's nodes. The induction is on the records of a stretch.
 -- The other way round, where the root covers the table and all nodes are sound, no record is unsound (`sound-clean`);
--- so too for a subtree whose records are all told the same (`clear-sound`), wherever it stands (`sound-anywhere`).
+-- so too for a subtree whose records have one context (`clear-sound`), wherever it stands (`sound-anywhere`).
 -- Assumes nothing.
 use mathlib.Core.Path.{_≡_, refl, sym, ap, _∙_}
 use mathlib.Core.Bool.{Bool, true, false, _&&_}
@@ -369,7 +369,7 @@ module _ (x : Context) (bs : List ℕ) (one : spanOf bs ≡ length bs) (records 
   pub clear-sound : clear (unsoundIn x bs) ≡ allSound (λ i. x) (forest 0 bs)
   clear-sound = both-ways _ _ (λ e. nothing-sound (clear-is (unsoundIn x bs) e)) (λ e. rw (sound-nothing e) refl)
 
--- LAW: where every record is told the same, it does not matter where the stretch stands
+-- LAW: where all records have the same context, the index of the first does not matter
 here-anywhere : (x : Context) (bs : List ℕ) (i j : ℕ) → soundNode x (nodeOf i bs) (forest (i + 1) (kidsOf bs))
     ≡ soundNode x (nodeOf j bs) (forest (j + 1) (kidsOf bs))
 unfolding soundAt

@@ -114,11 +114,11 @@ firstFalse p i (suc n) = if' (p i) (λ _. firstFalse p (i + 1) n) (λ _. At i)
 unfoldable pub firstUnsound : List ℕ → List ℕ → Found
 firstUnsound t names = firstFalse (recordSound t names) 0 (length t / recordBytes)
 
--- record i of a stretch whose records are all told the same
+-- record i of a stretch, all of whose records have the same context
 unfoldable pub soundIn : Context → List ℕ → ℕ → Bool
 soundIn x bs i = soundAt x i (drop (recordBytes * i) bs)
 
--- the first unsound record of it: a subtree, judged in the context of its table
+-- the first unsound record of such a stretch: a subtree, judged in the context of its table
 unfoldable pub unsoundIn : Context → List ℕ → Found
 unsoundIn x bs = firstFalse (soundIn x bs) 0 (length bs / recordBytes)
 

@@ -24,8 +24,8 @@ pub fn first_unsound(table: &[u8], names: &[u8]) -> Found
     sound::first_unsound(table, names)
 }
 
-// The first unsound record of a subtree, for a table with so many name bytes. That the subtree's first record covers it
-// as a root is not asked.
+// The first unsound record of a subtree, in a table that has `names` name bytes. Unlike `first_unsound` it does not ask
+// that the first record is a statement and covers the bytes.
 pub fn first_unsound_in(subtree: &[u8], names: usize) -> Found
     ensures { λ r. ⌜ r ≡ unsoundIn (context names) (now (subtree .entry)) ⌝ }
 {

@@ -209,7 +209,7 @@ pub(crate) fn first_unsound(table: &[u8], names: &[u8]) -> Found
     first_unsound_in(table, names.len())
 }
 
-// The first unsound record of a subtree, for a table with so many name bytes.
+// The first unsound record of a subtree, in a table that has `names` name bytes.
 pub(crate) fn first_unsound_in(subtree: &[u8], names: usize) -> Found
     ensures { λ r. ⌜ r ≡ unsoundIn (context names) (now (subtree .entry)) ⌝ }
 {

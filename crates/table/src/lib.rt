@@ -122,7 +122,7 @@ pub fn check(table: &[u8], names: &[u8]) -> Checked
     Checked::Sound
 }
 
-// The first node of a stretch that is too deep where the stretch stands under a root statement.
+// The first node that is too deep among children of the root: t is their stretch.
 pub fn deep_under_root(t: &[u8]) -> Found
     ensures { λ r. ⌜ r ≡ firstDeep 1 (forest 0 (now (t .entry))) ⌝ }
 {

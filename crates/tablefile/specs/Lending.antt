@@ -28,8 +28,8 @@ unfoldable pub handed : Answer → List ℕ → List ℕ → List ℕ
 handed (accepted vs) bs buffer = bs ++ drop (length bs) buffer
 handed (refused n vs) bs buffer = buffer
 
--- a buffer after so many content bytes of the blocks from a number on are copied to its front, where these blocks are
--- there and the buffer has room; else as it was
+-- a buffer after `len` content bytes, of the blocks numbered from `first` on, are copied to its front, if these blocks
+-- are there and the buffer has room; else as it was
 unfoldable pub copied : ℕ → ℕ → List ℕ → List ℕ → List ℕ
 copied first len bs buffer =
     if' (leb (blockBytes * (first + blocksFor len)) (length bs) && leb len (length buffer))

@@ -146,8 +146,8 @@ pub fn read_into(file: &[u8], table: &mut [u8], names: &mut [u8]) -> Verdict
     hand_over(file, &whole_table, &whole_names, table, names)
 }
 
-// Copies len content bytes of the blocks from a number on to the front of out. Where a block is missing, or out is
-// shorter than that, no byte changes.
+// Copies len content bytes, of the blocks numbered from `first` on, to the front of out. If a block is missing, or out
+// is shorter than len, no byte changes.
 pub fn copy_content(bytes: &[u8], first: usize, len: usize, out: &mut [u8])
     ensures { λ r. ⌜ now (out .exit) ≡ copied first len (now (bytes .entry)) (now (out .entry)) ⌝ }
 {

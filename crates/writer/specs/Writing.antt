@@ -45,7 +45,7 @@ abbrev pub fileAfter : List ℕ → List ℕ → List ℕ → List ℕ → List 
 fileAfter t names bytes buffer =
     afterwards (writeOf t names bytes (length buffer)) (fileOf (holding t names bytes)) buffer
 
--- lengths that a file can have, of a table, names and dialect bytes, and room for it
+-- a table, names and dialect bytes of these lengths make a file, and it fits in `room` bytes
 unfoldable pub fitsIn : ℕ → ℕ → ℕ → ℕ → Bool
 fitsIn table names bytes room =
     leb table mostBytes && (leb names mostNames && (leb bytes 9 && leb (bytesFor table names) room))

@@ -40,8 +40,8 @@ pub fn write(table: &[u8], names: &[u8], dialect: &[u8], file: &mut [u8]) -> Wri
     judged
 }
 
-// Writes the file of a table, names and dialect bytes without checking them by 1 to 5: for a table that has passed
-// before. Where they are longer than any file's, or the buffer is shorter than the file, no byte changes.
+// Writes the file of a table, names and dialect bytes that have passed 1 to 5: they are not checked again. If they are
+// longer than in any file, or the buffer is shorter than the file, no byte changes.
 pub fn write_unchecked(table: &[u8], names: &[u8], dialect: &[u8], file: &mut [u8])
     ensures { λ r. ⌜ now (file .exit)
         ≡ laidOver (holding (now (table .entry)) (now (names .entry)) (now (dialect .entry))) (now (file .entry)) ⌝ }
@@ -52,7 +52,7 @@ pub fn write_unchecked(table: &[u8], names: &[u8], dialect: &[u8], file: &mut [u
     write_file(table, names, dialect, file)
 }
 
-// Whether a file can have so many table, name and dialect bytes, and stands in so many bytes of room.
+// Whether a table, names and dialect bytes of these lengths make a file, and it fits in `room` bytes.
 fn fits(table: usize, names: usize, dialect: usize, room: usize) -> bool
     ensures { λ r. ⌜ r ≡ fitsIn table names dialect room ⌝ }
 {
