@@ -32,8 +32,8 @@ ghost use Rattle.rescue.specs.Job.{kept, statementsOf, rescueOf, fileAft
 ghost use Rattle.rescue.specs.Steps.{keepable, keepableAt, leadingBytes, keptIf, Front, Records};
 ghost use Rattle.rescue.specs.Steps.{goodBytes, Ready, Goods, Keeping, Copied};
 
-// The counts of a rescue: the bytes written, the statements and nodes kept, the nodes dropped by the header's count, and
-// the bytes after the header's last block.
+// The counts of a rescue: the bytes written, the statements and nodes kept, the nodes dropped by the header's count,
+// and the bytes after the header's last block.
 pub struct Kept {
     pub bytes: u32,
     pub statements: u32,
