@@ -4,13 +4,14 @@
 -- then it is these blocks (`lay-whole`, by whole-file of Keeping). Assumes nothing.
 use mathlib.Core.Path.{_≡_, refl, sym, ap, _∙_}
 use mathlib.Core.Bool.{Bool, true, false, _&&_}
-use mathlib.Core.List.{List, [], _∷_}
+use mathlib.Core.List.{List, [], _∷_, _++_}
 use Prim.Native.Nat.{ℕ, _+_, _*_, _-_, _/_, _<_, _≤_, _^_}
 use native.Mathlib.Omega.{arith}
 use lib.ListN.{length, take, drop, length-take, length-drop}
 use lib.Seq.{take-at}
 use lib.Dec.{leb}
 use Rattle.fields.proofs.Fields.{tail-part}
+use Rattle.fields.proofs.Spelling.{Bytes}
 use Rattle.table.specs.Numbers.{shortBuffer, badHeader, nothingKept}
 use Rattle.table.specs.Answer.{accepted, refused, passes}
 use Rattle.table.specs.Check.{checkOf}
@@ -28,7 +29,7 @@ use Rattle.writer.proofs.Over.{over-front}
 use Rattle.writer.proofs.Jobs.{Fitting, laid-over}
 use Rattle.rescue.specs.Good.{headGood, blocksPass, goodTable}
 use Rattle.rescue.specs.Job.{tableKept, kept, statementsOf, toldOf, rescueOf, fileAfter, told}
-use Rattle.rescue.specs.Steps.{keptIf, goodBytes, Front, Records, Ready, Goods, Keeping, Copied}
+use Rattle.rescue.specs.Steps.{keptIf, goodBytes, Front, Records, Ready, Goods, Keeping}
 use Rattle.rescue.specs.declared.Kept.{Kept}
 use Rattle.rescue.proofs.Keeping.{head-says, names-long, first-there, kept-some, kept-few, goods}
 use Rattle.rescue.proofs.Keeping.{whole-is, kept-is, whole-kept, whole-fronted, whole-there, whole-file}
@@ -125,6 +126,9 @@ module _ {bs : List ℕ} {h : Heading} {names t : List ℕ} {whole : Bool} (k : 
   fin-nine ds-is = rw ds-is (simp length-take (omega (arith, dialect-few bs)))
 
   -- the file, written or copied
+  pub lay-there : whole ≡ true → h .taken ≤ length bs
+  lay-there e = rw (k .ready .heading) (whole-there bs (sym (k .passed) ∙ e))
+
   module _ (file : List ℕ) (room : bytesFor (length t) (length names) ≤ length file) where
     taken : whole ≡ true → h .taken ≡ bytesFor (length t) (length names)
     taken e =
@@ -134,9 +138,6 @@ module _ {bs : List ℕ} {h : Heading} {names t : List ℕ} {whole : Bool} (k : 
         rw (k .ready .heading, long, k .ready .called, names-long bs (k .ready .head))
         (omega (arith, taken-is bs, first-is bs))
 
-    pub lay-there : whole ≡ true → h .taken ≤ length bs
-    lay-there e = rw (k .ready .heading) (whole-there bs (sym (k .passed) ∙ e))
-
     pub lay-room : whole ≡ true → h .taken ≤ length file
     lay-room e = omega (arith, taken e)
 
@@ -144,13 +145,13 @@ module _ {bs : List ℕ} {h : Heading} {names t : List ℕ} {whole : Bool} (k : 
     file-long = length-file (tableKept bs) (contentAt bs .names) (contentAt bs .dialect) (fin-nine refl)
         ∙ rw (k .table, k .ready .called) refl
 
-    pub lay-whole : whole ≡ true → {after : List ℕ} → Copied bs (h .taken) file after
-        → after ≡ over 0 (fileOf (kept bs)) file
-    lay-whole e c =
-        let same : fileOf (kept bs) ≡ take (h .taken) bs = whole-file bs (sym (k .passed) ∙ e) (c .small)
+    pub lay-whole : whole ≡ true → Bytes bs → {after : List ℕ}
+        → after ≡ take (h .taken) bs ++ drop (h .taken) file → after ≡ over 0 (fileOf (kept bs)) file
+    lay-whole e small laid =
+        let same : fileOf (kept bs) ≡ take (h .taken) bs = whole-file bs (sym (k .passed) ∙ e) small
         ∙ rw (k .ready .heading) refl in
         let long : length (fileOf (kept bs)) ≡ h .taken = file-long ∙ sym (taken e) in
-        c .laid ∙ sym (over-front (fileOf (kept bs)) file ∙ rw (long, same) refl)
+        laid ∙ sym (over-front (fileOf (kept bs)) file ∙ rw (long, same) refl)
 
     pub lay-cut : {ds after : List ℕ} → ds ≡ contentAt bs .dialect → after ≡ laidOver (holding t names ds) file
         → after ≡ over 0 (fileOf (kept bs)) file
@@ -194,8 +195,8 @@ module _ {bs : List ℕ} {h : Heading} {names : List ℕ} (r : Ready bs h names)
     unfolding goodBytes
     got-held = got-is ∙ rw (tail-part (512 * h .first) bs, r .heading) refl
 
-    got-few : got ≤ 50400
-    got-few = omega (arith, got-held, into-nodes, ap (λ (x : Heading). x .nodes) (r .heading))
+    pub into-few : got ≤ 50400
+    into-few = omega (arith, got-held, into-nodes, ap (λ (x : Heading). x .nodes) (r .heading))
 
     into-copy : 512 * (h .first + blocksFor got) ≤ length bs
     into-copy =
@@ -214,7 +215,7 @@ module _ {bs : List ℕ} {h : Heading} {names : List ℕ} (r : Ready bs h names)
           rw (got-held, r .heading) (sym (good-content bs)) in
           let long : length (contentOf got (drop (512 * h .first) bs)) ≡ got =
           ap length is ∙ good-length bs ∙ sym got-held in
-          rw (n, u-is, copied-is (h .first) got bs z into-copy (omega (arith, got-few)))
+          rw (n, u-is, copied-is (h .first) got bs z into-copy (omega (arith, into-few)))
           (take-at (contentOf got (drop (512 * h .first) bs)) (drop got z) got long ∙ is)
 
       pub into-part : got ≤ length u

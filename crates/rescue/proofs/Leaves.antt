@@ -4,12 +4,11 @@ use mathlib.Core.Bool.{Bool, true, false, _&&_}
 use mathlib.Core.List.{List}
 use Prim.Native.Nat.{ℕ, suc, _+_, _*_, _-_, _<_, _≤_, min}
 use native.Mathlib.Omega.{arith}
-use lib.ListN.{length, getD, take, drop, set, length-set, length-take, length-drop}
+use lib.ListN.{length, take, drop, set, length-set, length-take, length-drop}
 use lib.Dec.{leb}
 use borrow.Author.Tests.{le-leb, lt-leb, eq-eqb, ne-eqb}
 use Rattle.fields.specs.Choice.{if'}
 use Rattle.fields.proofs.Fields.{tail-part}
-use Rattle.fields.proofs.Spelling.{Bytes}
 use Rattle.dialect.specs.Bytes.{fromBytes}
 use Rattle.dialect.specs.declared.Dialect.{Dialect}
 use Rattle.dialect.specs.declared.Decoded.{Decoded}
@@ -31,7 +30,6 @@ use Rattle.blocks.specs.Block.{judge, judged}
 use Rattle.blocks.specs.Run.{blocksFor, judgeRun, goodBlocks}
 use Rattle.blocks.specs.declared.Judged.{Judged}
 use Rattle.blocks.specs.declared.Judged.the-variants as judgements
-use Rattle.blocks.proofs.Filling.{Filled, fill-start, fill-long, fill-on, fill-end}
 use Rattle.blocks.proofs.Blocks.{passing}
 use Rattle.blocks.proofs.Runs.{blocks-more}
 use Rattle.tablefile.specs.Reading.{headerAt, contentAt, countsFit}
@@ -39,7 +37,7 @@ use Rattle.tablefile.specs.declared.Heading.{Heading}
 use Rattle.tablefile.proofs.Fronts.{dialect-few}
 use Rattle.rescue.specs.Good.{headGood}
 use Rattle.rescue.specs.Job.{statementsOf}
-use Rattle.rescue.specs.Steps.{keepableAt, goodBytes, Copied}
+use Rattle.rescue.specs.Steps.{keepableAt, goodBytes}
 
 -- nodes side by side, counted
 roots-classes : (f : Forest) → length (roots f) ≡ length (classes f)
@@ -103,24 +101,6 @@ module _ (x : Context) (c : List ℕ) {k : ℕ} (k-is : k ≡ classOf (nodeOf 0 
       pub keep-flat : d ≡ Nothing → true ≡ keepableAt x c
       unfolding keepableAt
       keep-flat e = rw (← k-is, eq-eqb k 1 class, ← u-is, clean, ← d-is, e) refl
-
--- bytes copied to the front of a buffer: what a slice of u8 holds are bytes
-pub record Putting (d s : List ℕ) (n : ℕ) (b : List ℕ) (i : ℕ) : Type 0 where
-  pub filled : Filled d s n b i
-  pub small : Bytes s
-
-pub put-start : (d s : List ℕ) (n : ℕ) → n ≤ length d → n ≤ length s → Bytes s → Putting d s n d 0
-put-start d s n room there small = record { filled = fill-start d s n room there; small = small }
-
-module _ {d s : List ℕ} {n : ℕ} {b : List ℕ} {i : ℕ} (p : Putting d s n b i) where
-  pub put-long : length b ≡ length d
-  put-long = fill-long (p .filled)
-
-  pub put-on : i < n → {x : ℕ} → x ≡ getD s i 0 → Putting d s n (set b i x) (i + 1)
-  put-on h x-is = record { filled = fill-on (p .filled) h x-is; small = p .small }
-
-  pub put-end : n ≤ i → Copied s n d b
-  put-end h = record { laid = fill-end (p .filled) h; small = p .small }
 
 -- the good blocks of a run, one by one
 good-more : (number total : ℕ) (bs : List ℕ) → 0 < total → goodBytes number total bs

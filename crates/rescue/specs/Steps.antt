@@ -1,12 +1,11 @@
 -- What the contracts of private functions speak of. No answer is defined by it.
 use mathlib.Core.Path.{_≡_}
 use mathlib.Core.Bool.{Bool, true, _&&_}
-use mathlib.Core.List.{List, _++_}
+use mathlib.Core.List.{List}
 use Prim.Native.Nat.{ℕ, suc, _*_, _/_, _≤_, min}
-use lib.ListN.{length, take, drop}
+use lib.ListN.{length, take}
 use lib.Dec.{eqb}
 use Rattle.fields.specs.Choice.{if'}
-use Rattle.fields.proofs.Spelling.{Bytes}
 use Rattle.forest.specs.Forest.{recordBytes, nodeOf, Tree, node, Forest, none, _then_, forest, firsts, count}
 use Rattle.soundness.specs.Kinds.{statement, classOf}
 use Rattle.soundness.specs.Sound.{Context, unsoundIn, clear}
@@ -76,8 +75,3 @@ pub record Keeping (bs : List ℕ) (h : Heading) (names t : List ℕ) (whole : B
   pub table : t ≡ tableKept bs
   pub some : 1 ≤ length t
   pub passed : whole ≡ blocksPass bs
-
--- a buffer that begins with the first bytes of others, which are bytes
-pub record Copied (bs : List ℕ) (len : ℕ) (before after : List ℕ) : Type 0 where
-  pub laid : after ≡ take len bs ++ drop len before
-  pub small : Bytes bs

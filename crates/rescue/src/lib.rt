@@ -15,10 +15,10 @@ use table::numbers;
 use tablefile::Heading;
 ghost use mathlib.Core.Path.{_≡_};
 ghost use mathlib.Core.Bool.{_&&_};
-ghost use mathlib.Core.List.{[], _∷_};
+ghost use mathlib.Core.List.{[], _∷_, _++_};
 ghost use Prim.Native.Nat.{_*_, _-_, _/_, _≤_, _<_};
 ghost use lib.Dec.{leb};
-ghost use lib.ListN.{length};
+ghost use lib.ListN.{length, take, drop};
 ghost use Rattle.forest.specs.Forest.{recordBytes, forest, roots};
 ghost use Rattle.soundness.specs.Sound.{context};
 ghost use Rattle.table.specs.Answer.{passes};
@@ -30,7 +30,7 @@ ghost use Rattle.rescue.specs.Good.{headGood};
 ghost use Rattle.rescue.specs.Cut.{resized, largestCut};
 ghost use Rattle.rescue.specs.Job.{kept, statementsOf, rescueOf, fileAfter, told, rescued};
 ghost use Rattle.rescue.specs.Steps.{keepable, keepableAt, leadingBytes, keptIf, Front, Records};
-ghost use Rattle.rescue.specs.Steps.{goodBytes, Ready, Goods, Keeping, Copied};
+ghost use Rattle.rescue.specs.Steps.{goodBytes, Ready, Goods, Keeping};
 
 // The counts of a rescue: the bytes written, the statements and nodes kept, the nodes dropped by the header's count,
 // and the bytes after the header's last block.
@@ -279,7 +279,7 @@ fn put_kept(input: &[u8], h: Heading, names: &[u8], table: &[u8], whole: bool, f
 // Puts the first len of some bytes at the front of out.
 fn put(from: &[u8], len: usize, out: &mut [u8])
     requires { ⌜ (len ≤ length (now from)) × (len ≤ length (now out)) ⌝ }
-    ensures { λ r. ⌜ Copied (now (from .entry)) len (now (out .entry)) (now (out .exit)) ⌝ }
+    ensures { λ r. ⌜ now (out .exit) ≡ take len (now (from .entry)) ++ drop len (now (out .entry)) ⌝ }
 {
     let mut j = 0;
     while j < len {

@@ -126,9 +126,9 @@ module _ (bs : List ℕ) (len : ℕ) (h : 512 ≤ length bs) (few : len ≤ 9) w
   dialect-laid e = (rw (tail-part 8 bs) at e) ∙ laid-over 9 (take len (drop 8 bs)) dialect-long
 
 -- the content of a run, copied where it is there and fits: code counts the blocks
-pub copied-there : (first len : ℕ) (bs : List ℕ) {k : ℕ} → first ≤ length bs / 512 → k ≡ blocksFor len
-    → k ≤ length bs / 512 - first → 512 * (first + blocksFor len) ≤ length bs
-copied-there first len bs h k-is g = omega arith
+pub copied-there : (first len n : ℕ) {k : ℕ} → first ≤ n / 512 → k ≡ blocksFor len → k ≤ n / 512 - first
+    → 512 * (first + blocksFor len) ≤ n
+copied-there first len n h k-is g = omega arith
 
 module _ (first len : ℕ) (bs buffer : List ℕ) where
   copied-missing : length bs < 512 * (first + blocksFor len) → buffer ≡ copied first len bs buffer
@@ -155,4 +155,4 @@ module _ (first len : ℕ) (bs buffer : List ℕ) where
   pub copied-all : first ≤ length bs / 512 → {k : ℕ} → k ≡ blocksFor len → k ≤ length bs / 512 - first
       → len ≤ length buffer → {after : List ℕ}
       → after ≡ contentOf len (drop (512 * first) bs) ++ drop len buffer → after ≡ copied first len bs buffer
-  copied-all h k-is g room is = is ∙ sym (copied-is (copied-there first len bs h k-is g) room)
+  copied-all h k-is g room is = is ∙ sym (copied-is (copied-there first len (length bs) h k-is g) room)

@@ -187,6 +187,12 @@ module _ (t n d room : ℕ) where
     le-leb (bytesFor t n) room (f .there),
   ) refl
 
+pub fit-writes : (t n d room : ℕ) {q : Bool} → q ≡ fitsIn t n d room → q ≡ true
+    → (d ≤ 9) × (1 + blocksFor n + blocksFor t ≤ mostBlocks) × (bytesFor t n ≤ room)
+unfolding blocksFor
+fit-writes t n d room q-is e =
+    let f = fit-says t n d room (sym q-is ∙ e) in (f .nine, omega (arith, f .few, f .named), f .there)
+
 module _ (t names ds buffer : List ℕ) {q : Bool}
     (q-is : q ≡ fitsIn (length t) (length names) (length ds) (length buffer)) where
   pub unfit-keeps : q ≡ false → buffer ≡ laidOver (holding t names ds) buffer
@@ -194,11 +200,6 @@ module _ (t names ds buffer : List ℕ) {q : Bool}
   unfit-keeps e = rw (← q-is, e) refl
 
   module _ (e : q ≡ true) where
-    pub fit-writes : (length ds ≤ 9) × (1 + blocksFor (length names) + blocksFor (length t) ≤ mostBlocks)
-        × (bytesFor (length t) (length names) ≤ length buffer)
-    unfolding blocksFor
-    fit-writes = let f = fit-says _ _ _ _ (sym q-is ∙ e) in (f .nine, omega (arith, f .few, f .named), f .there)
-
     pub fit-laid : {after : List ℕ} → after ≡ over 0 (fileOf (holding t names ds)) buffer
         → after ≡ laidOver (holding t names ds) buffer
     unfolding laidOver

@@ -15,7 +15,13 @@ finish-spec =
     (λ c. search fin-sum)  -- add-size-2
     (λ c. search fin-fits)  -- mul-size
     (λ c. search (fin-short, fin-keeps))  -- returns
-    (λ c κs. search fin-room)  -- put-kept-requires
+    (λ c κs.
+    let test = c .before .if1 in
+    let nodes = c .before .before .blocks-for2 in
+    let names = c .before .before .before .blocks-for in
+    let back = c .before .before .before .before .before .before in
+    let start = back .before .before in
+    (start.pre, fin-room start.pre names.ensures nodes.ensures _ test.left))  -- put-kept-requires
     (λ c. search fin-word)  -- cast-tell
     (λ c κs. search (fin-nodes, fin-some, fin-few))  -- tell-requires
     (λ c. search needs)

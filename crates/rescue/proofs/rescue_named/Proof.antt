@@ -1,7 +1,7 @@
 -- `rescue::rescue_named` meets its contract: the good records are copied. Assumes nothing.
-use lib.ListN.{length-replicate}
+use native.Mathlib.Omega.{arith}
 use borrow.Author.Needs.{needs}
-use Rattle.rescue.proofs.Jobs.{into-at, into-word, into-table, into-there, into-part, into-goods}
+use Rattle.rescue.proofs.Jobs.{into-at, into-word, into-table, into-there, into-few, into-goods}
 use Rattle.rescue.proofs.rescue_named.Statement.{statement}
 use Rattle.rescue.proofs.rescue_named.Tie as tie
 
@@ -19,7 +19,11 @@ rescue-named-spec =
     (λ c κs. search needs)
     (λ c. search needs)
     (λ c. search needs)
-    (λ c. search (into-part, length-replicate))  -- part-rescue-good-end
-    (λ c κs. search (into-goods, length-replicate))  -- rescue-good-requires
+    (λ c.
+    let good-bytes = c .before .before .before .good-bytes in
+    let back = c .before .before .before .before .before .before in
+    let start = back .before .before .before .before in
+    omega (arith, into-few start.pre good-bytes.ensures))  -- part-table-end
+    (λ c κs. search into-goods)  -- rescue-good-requires
     (λ c. search needs)
     (λ c. search needs))
