@@ -26,6 +26,11 @@ abbrev pub andThen : Answer → (Unit {0} → Answer) → Answer
 andThen (accepted vs) next = next tt
 andThen (refused n vs) next = refused n vs
 
+-- whether it is accepted
+abbrev pub passes : Answer → Bool
+passes (accepted vs) = true
+passes (refused n vs) = false
+
 -- whether an answer is a refusal
 abbrev pub isRefused : Answer → Bool
 isRefused (accepted vs) = false

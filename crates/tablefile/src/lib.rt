@@ -22,7 +22,7 @@ ghost use Rattle.blocks.specs.Run.{blocksFor, contentOf};
 ghost use Rattle.tablefile.specs.Reading.{dialectIn, headerAt, contentAt, countsFit, blocksCheck, frontCheck};
 ghost use Rattle.tablefile.specs.Reading.{soundCheck, readCheck};
 ghost use Rattle.tablefile.specs.Loading.{verdict, laid, loadedOf, none};
-ghost use Rattle.tablefile.specs.Lending.{fileCheck, intoCheck, handed, Holds};
+ghost use Rattle.tablefile.specs.Lending.{fileCheck, intoCheck, handed, copied, Holds};
 ghost use Rattle.tablefile.specs.declared.Verdict.the-variants.{Accepted, Refused};
 
 // The most blocks that a file has: block 0, 16 with 8,064 name bytes, 100 with 2,100 nodes.
@@ -144,6 +144,24 @@ pub fn read_into(file: &[u8], table: &mut [u8], names: &mut [u8]) -> Verdict
         return unpacked;
     }
     hand_over(file, &whole_table, &whole_names, table, names)
+}
+
+// Copies len content bytes, of the blocks numbered from `first` on, to the front of out. If a block is missing, or out
+// is shorter than len, no byte changes.
+pub fn copy_content(bytes: &[u8], first: usize, len: usize, out: &mut [u8])
+    ensures { λ r. ⌜ now (out .exit) ≡ copied first len (now (bytes .entry)) (now (out .entry)) ⌝ }
+{
+    let there = bytes.len() / BLOCK_BYTES;
+    if there < first {
+        return;
+    }
+    if there - first < blocks::blocks_for(len) {
+        return;
+    }
+    if out.len() < len {
+        return;
+    }
+    copy(bytes, first, len, out)
 }
 
 // The dialect bytes of a file, were its first bytes its block 0: nine or none, or as many as are there.
@@ -303,7 +321,7 @@ fn dialect_in(used: u16) -> usize
 }
 
 // Whether counts are within the limits.
-fn counts_fit(nodes: usize, names: usize) -> bool
+pub fn counts_fit(nodes: usize, names: usize) -> bool
     ensures { λ r. ⌜ r ≡ countsFit nodes names ⌝ }
 {
     (1 <= nodes) & ((nodes <= MOST_NODES) & (names <= MOST_NAMES))
