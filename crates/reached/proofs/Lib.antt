@@ -10,3 +10,4 @@ pub mod Refusals
 pub mod Stops
 pub mod Reached
 pub mod Examples
+pub mod Example

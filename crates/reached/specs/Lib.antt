@@ -1,3 +1,4 @@
 pub mod Said
 pub mod Cases
 pub mod Rules
+pub mod Example
