@@ -1,17 +1,18 @@
 -- W-204: WHICH ARGUMENT REACHES WHICH PARAMETER
 --
 -- The theorems of crate `reached`, over the answer of `bind::bind` and the words of the list at exit. What the records
--- `Rules`, `Matching`, `CutOf`, `Good` and `Ordered` hold stands as arrows, and what `Against` holds field by field.
+-- `Rules`, `Matching`, `CutOf`, `Good` and `Ordered` hold stands as arrows, and what a conclusion holds field by field.
 -- Each is proved by citing the theorem. Assumes nothing.
 use mathlib.Core.Path.{_≡_}
 use mathlib.Core.Bool.{true, false}
 use mathlib.Core.Logic.{_⊎_, inl, inr, _↔_, ⊎-elim}
 use mathlib.Core.List.{List, [], _∷_, _++_, map}
-use Prim.Native.Nat.{ℕ, _+_, _≤_}
-use lib.ListN.{length}
+use Prim.Native.Nat.{ℕ, _+_, _<_, _≤_}
+use lib.ListN.{length, getD}
 use Rattle.forest.specs.Forest.{Node}
 use Rattle.forest.specs.Names.{Distinct}
-use Rattle.table.specs.Numbers.{unknownNamed, alreadyFilled}
+use Rattle.table.specs.Numbers.{duplicatedParameter, repeatedNamed, starArgument, tooManyPositional, unknownNamed}
+use Rattle.table.specs.Numbers.{alreadyFilled, emptyParameter}
 use Rattle.table.specs.Answer.{accepted, refused}
 use Rattle.table.specs.Check.{checkOf, nodeFits}
 use Rattle.table.specs.declared.Wanted.the-variants.{Call}
@@ -24,10 +25,14 @@ use Rattle.arguments.specs.Accepted.{kindsOf, inOrder, Placed, namesOf as argum
 use Rattle.arguments.specs.Call.{given, bit}
 use Rattle.arguments.specs.declared.CallArgs.{CallArgs}
 use Rattle.bind.specs.FlatList.{FlatParam}
-use Rattle.bind.specs.Job.{isDef, argumentsAt, bindOf, listsBound}
+use Rattle.bind.specs.Job.{isDef, argumentsAt, bindOf, listsBound, listAfter}
 use Rattle.reached.specs.Said.{IsAt, Ordinary, CanBeNamed, ByPlace, Starred, flatsAt, parameterWord, argumentWord}
+use Rattle.reached.specs.Rules as rule
 use Rattle.reached.specs.Cases.{Row, rows}
 use Rattle.reached.proofs.Reached as theorem
+use Rattle.reached.proofs.Kept as theorem-kept
+use Rattle.reached.proofs.Ruled as theorem-ruled
+use Rattle.reached.proofs.Reported as theorem-reported
 use Rattle.reached.proofs.Examples as theorem-cases
 
 -- "Accepted calls use every argument once."
@@ -62,6 +67,21 @@ pub halves-agree : (t names : List ℕ) (call def : ℕ) (list : List ℕ) {vs :
     → IsAt (argumentsAt t names call) k a
     → (parameterWord t names call def list i ≡ nodeIn a .at) ↔ (argumentWord t names call def list k ≡ i)
 halves-agree = theorem.halves-agree
+
+-- "Accepted calls use every argument once": at one parameter
+-- In words: an argument of an accepted call whose node is the word of ordinary parameters i and j has i and j the same.
+pub at-one-parameter : (t names : List ℕ) (call def : ℕ) (list : List ℕ) {vs : List ℕ}
+    → bindOf t names call def (length list) ≡ accepted vs
+    → (i j k : ℕ) (p q : FlatParam) (a : Argument)
+    → IsAt (flatsAt t names def) i p
+    → Ordinary p
+    → IsAt (flatsAt t names def) j q
+    → Ordinary q
+    → IsAt (argumentsAt t names call) k a
+    → parameterWord t names call def list i ≡ nodeIn a .at
+    → parameterWord t names call def list j ≡ nodeIn a .at
+    → i ≡ j
+at-one-parameter = theorem.at-one-parameter
 
 -- The word of `*args` and of `**kwargs` is 0.
 -- In words: the word of a collecting parameter of an accepted call is 0.
@@ -263,6 +283,178 @@ accepted-by-rules t names call def list sound isCall isADef room c j b s n d o k
         needed = needed;
       };
     }
+
+-- "No refusal changes a buffer": the answer list
+-- In words: where the job refuses, the list at exit is the list at entry.
+pub refusal-keeps : (t names : List ℕ) (call def : ℕ) (list : List ℕ) {n : ℕ} {vs : List ℕ}
+    → bindOf t names call def (length list) ≡ refused n vs
+    → listAfter t names call def list ≡ list
+refusal-keeps = theorem-kept.refusal-keeps
+
+-- "words past the answer stay"
+-- In words: after an accepted call, each word from the number of flat parameters and arguments on is what it was.
+pub past-words-stay : (t names : List ℕ) (call def : ℕ) (list : List ℕ) {vs : List ℕ}
+    → bindOf t names call def (length list) ≡ accepted vs
+    → (i : ℕ)
+    → length (flatsAt t names def) + length (argumentsAt t names call) ≤ i
+    → getD (listAfter t names call def list) i 0 ≡ getD list i 0
+past-words-stay = theorem-kept.past-words-stay
+
+-- the list keeps its length
+-- In words: after an accepted call the list is as long as it was.
+pub list-as-long : (t names : List ℕ) (call def : ℕ) (list : List ℕ) {vs : List ℕ}
+    → bindOf t names call def (length list) ≡ accepted vs
+    → length (listAfter t names call def list) ≡ length list
+list-as-long = theorem-kept.list-as-long
+
+-- "80 at the first star or `**` of the call": an accepted call has no star
+-- In words: no argument of an accepted call is a star argument.
+pub no-star : (t names : List ℕ) (call def : ℕ) (list : List ℕ) {vs : List ℕ}
+    → bindOf t names call def (length list) ≡ accepted vs
+    → (k : ℕ) (r : Node)
+    → IsAt (argumentsAt t names call) k (args r)
+    → ⊥
+no-star = theorem-ruled.no-star
+
+-- "80 at the first star or `**` of the call": and no `**`
+-- In words: no argument of an accepted call is a `**` argument.
+pub no-star-star : (t names : List ℕ) (call def : ℕ) (list : List ℕ) {vs : List ℕ}
+    → bindOf t names call def (length list) ≡ accepted vs
+    → (k : ℕ) (r : Node)
+    → IsAt (argumentsAt t names call) k (kwargs r)
+    → ⊥
+no-star-star = theorem-ruled.no-star-star
+
+-- "A call and a def that are accepted meet the rules (stated without the job)."
+-- In words: what `accepted-by-rules` supposes holds of each call and def that the job accepts.
+pub accepted-has-rules : (t names : List ℕ) (call def : ℕ) (list : List ℕ) {vs : List ℕ}
+    → bindOf t names call def (length list) ≡ accepted vs
+    → (checkOf t names ≡ accepted [])
+    × (nodeFits t call Call ≡ true)
+    × (isDef t def ≡ true)
+    × (length (listOf t names def) + length (argumentsAt t names call) ≤ length list)
+    × (c : Cut)
+    × (join c ≡ listOf t names def)
+    × SlashGood (c .before)
+    × StarGood (c .star)
+    × Distinct (namesOf (join c))
+    × Defaulted (firsts (c .before) ++ c .middle)
+    × (o : CallArgs)
+    × (kindsOf (argumentsAt t names call) ≡ inOrder o)
+    × Placed (o .star) (o .«num_pos» + o .«num_named»)
+    × Placed (o .«star_star») (o .«num_pos» + o .«num_named» + bit (given (o .star)))
+    × Distinct (argumentNames (argumentsAt t names call))
+    × ((k : ℕ) (r : Node) → IsAt (argumentsAt t names call) k (args r) → ⊥)
+    × ((k : ℕ) (r : Node) → IsAt (argumentsAt t names call) k (kwargs r) → ⊥)
+    × ((k : ℕ) (r : Node) → IsAt (argumentsAt t names call) k (positional r)
+    → ((p : FlatParam) × IsAt (flatsAt t names def) k p × ByPlace p)
+    ⊎ ((i : ℕ) × (p : FlatParam) × IsAt (flatsAt t names def) i p × (p .mode ≡ modeArgs)))
+    × ((k : ℕ) (r : Node) (x : Name) → IsAt (argumentsAt t names call) k (named r x)
+    → ((i : ℕ) × (p : FlatParam) × IsAt (flatsAt t names def) i p × CanBeNamed p × (p .name ≡ x))
+    ⊎ ((i : ℕ) × (p : FlatParam) × IsAt (flatsAt t names def) i p × (p .mode ≡ modeKwargs)))
+    × ((k : ℕ) (r s : Node) (x : Name) (i : ℕ) (p q : FlatParam) → IsAt (argumentsAt t names call) k (named r x)
+    → IsAt (flatsAt t names def) i p → CanBeNamed p → p .name ≡ x
+    → IsAt (argumentsAt t names call) i (positional s)
+    → IsAt (flatsAt t names def) i q → ByPlace q → ⊥)
+    × ((i : ℕ) (p : FlatParam) → IsAt (flatsAt t names def) i p → p .default ≡ false
+    → ((r : Node) × (IsAt (argumentsAt t names call) i (positional r) × ByPlace p))
+    ⊎ ((k : ℕ) × ((r : Node) × (IsAt (argumentsAt t names call) k (named r (p .name)) × CanBeNamed p))))
+accepted-has-rules t names call def list bound =
+    let x = theorem-ruled.accepted-has-rules t names call def list bound in
+    let g = x .cut .1 .good in
+    let o = x .order .1 in
+    let m = x .matching in (
+      x .sound,
+      x .isACall,
+      x .isADef,
+      x .room,
+      x .cut .0,
+      x .cut .1 .joins,
+      g .slash,
+      g .star,
+      g .distinct,
+      g .defaulted,
+      x .order .0,
+      o .kinds,
+      o .star-at,
+      o .kwargs-at,
+      o .distinct,
+      m .noArgs,
+      m .noKwargs,
+      λ k r at. ⊎-elim (λ (p : rule.Placed (flatsAt t names def) k). inl (p .param, p .there, p .byPlace))
+          (λ (s : rule.Star (flatsAt t names def) modeArgs). inr (s .index, s .param, s .there, s .is))
+          (m .places k r at),
+      λ k r x at. ⊎-elim
+          (λ (n : (i : ℕ) × rule.Named (flatsAt t names def) x i).
+          inl (n .0, n .1 .param, n .1 .there, n .1 .canBe, n .1 .name))
+          (λ (s : rule.Star (flatsAt t names def) modeKwargs). inr (s .index, s .param, s .there, s .is))
+          (m .names k r x at),
+      λ k r s x i p q at ip cp np st iq bq. m .notTwice k r s x i at
+          record { param = p; there = ip; canBe = cp; name = np } st record { param = q; there = iq; byPlace = bq },
+      m .needed,
+    )
+
+-- "then 80 at the first star or `**` of the call"
+-- In words: 80 carries the node and span of a star or `**` argument of the call, and none stands before it.
+pub star-is-first : (t names : List ℕ) (call def room : ℕ) {vs : List ℕ}
+    → bindOf t names call def room ≡ refused starArgument vs
+    → (k : ℕ) × (r : Node)
+    × (IsAt (argumentsAt t names call) k (args r) ⊎ IsAt (argumentsAt t names call) k (kwargs r))
+    × (vs ≡ r .at ∷ r .begin ∷ r .stop ∷ [])
+    × ((j : ℕ) (s : Node) → j < k → IsAt (argumentsAt t names call) j (args s) → ⊥)
+    × ((j : ℕ) (s : Node) → j < k → IsAt (argumentsAt t names call) j (kwargs s) → ⊥)
+star-is-first t names call def room e =
+    let x = theorem-reported.star-is-first t names call def room e in
+    (x .number, x .node, x .there, x .carries, x .noArgs, x .noKwargs)
+
+-- "81 at the first positional too many without `*args`"
+-- In words: 81 carries the node and span of a positional argument; there is no `*args` and no parameter that is filled
+-- at its place, and for each argument before it there is one.
+pub too-many-is-first : (t names : List ℕ) (call def room : ℕ) {vs : List ℕ}
+    → bindOf t names call def room ≡ refused tooManyPositional vs
+    → (k : ℕ) × (r : Node)
+    × IsAt (argumentsAt t names call) k (positional r)
+    × (vs ≡ r .at ∷ r .begin ∷ r .stop ∷ [])
+    × ((i : ℕ) (p : FlatParam) → IsAt (flatsAt t names def) i p → p .mode ≡ modeArgs → ⊥)
+    × ((p : FlatParam) → IsAt (flatsAt t names def) k p → ByPlace p → ⊥)
+    × ((j : ℕ) → j < k → (p : FlatParam) × IsAt (flatsAt t names def) j p × ByPlace p)
+too-many-is-first t names call def room e =
+    let x = theorem-reported.too-many-is-first t names call def room e in (
+      x .number,
+      x .node,
+      x .there,
+      x .carries,
+      x .noArgs,
+      x .noPlace,
+      λ j h. let p = x .first j h in (p .param, p .there, p .byPlace),
+    )
+
+-- "then 84 at the lowest ordinary parameter left empty without default"
+-- In words: 84 carries the node and span of a parameter without default to which no argument comes, by place or by name,
+-- and each such parameter before it has an argument.
+pub empty-is-first : (t names : List ℕ) (call def room : ℕ) {vs : List ℕ}
+    → bindOf t names call def room ≡ refused emptyParameter vs
+    → (i : ℕ) × (p : FlatParam)
+    × IsAt (flatsAt t names def) i p
+    × (vs ≡ p .node .at ∷ p .node .begin ∷ p .node .stop ∷ [])
+    × (p .default ≡ false)
+    × ((r : Node) → IsAt (argumentsAt t names call) i (positional r) → ByPlace p → ⊥)
+    × ((k : ℕ) (r : Node) → IsAt (argumentsAt t names call) k (named r (p .name)) → CanBeNamed p → ⊥)
+    × ((j : ℕ) (q : FlatParam) → j < i → IsAt (flatsAt t names def) j q → q .default ≡ false
+    → ((r : Node) × (IsAt (argumentsAt t names call) j (positional r) × ByPlace q))
+    ⊎ ((k : ℕ) × ((r : Node) × (IsAt (argumentsAt t names call) k (named r (q .name)) × CanBeNamed q))))
+empty-is-first t names call def room e =
+    let x = theorem-reported.empty-is-first t names call def room e in
+    (x .index, x .param, x .there, x .carries, x .without, x .noPlace, x .noName, x .first)
+
+-- W-203: "Refusals 11 and 22 carry that node besides what they carried; all other refusals carry none."
+-- In words: of the refusals of this job 11 and 22 carry four numbers, the last an earlier node, and each other at most
+-- three.
+pub bind-carries : (t names : List ℕ) (call def room : ℕ) {n : ℕ} {vs : List ℕ}
+    → bindOf t names call def room ≡ refused n vs
+    → ((n ≡ duplicatedParameter) ⊎ (n ≡ repeatedNamed) → length vs ≡ 4)
+    × ((n ≡ duplicatedParameter → ⊥) → (n ≡ repeatedNamed → ⊥) → length vs ≤ 3)
+bind-carries = theorem-kept.bind-carries
 
 -- the corner cases of W-204
 -- In words: the definition of the job answers each row's lists as the row shows.

@@ -46,30 +46,21 @@ cutOf j b s n d = record { joins = j; good = record { slash = b; star = s; disti
 
 -- "the parameter list of a def or lambda": all its parameters, in written order
 -- In words: in a sound table, the list that the job reads of a def or lambda is the list of all its parameters.
-pub list-is-all : (t names : List ℕ) (node : ℕ) (ms : List ℕ)
+pub list-is-all : (t names : List ℕ) (node : ℕ)
     → checkOf t names ≡ accepted []
     → node < length t / recordBytes
     → (nodeOf node (drop (recordBytes * node) t) .kind ≡ kindDef)
     ⊎ (nodeOf node (drop (recordBytes * node) t) .kind ≡ kindLambda)
-    → length (listOf t names node) ≤ length ms
     → listOf t names node ≡ allParameters t names node
-list-is-all t names node ms s w k r = theorem.list-is-all t names node ms (given s w k r)
+list-is-all = theorem.list-is-all
 
 -- "The cut is unique."
--- In words: two good cuts that join to one list are the same cut.
+-- In words: two cuts that join to one list are the same cut, good or not.
 pub cut-unique : (l : List Param) (c d : Cut)
     → join c ≡ l
-    → SlashGood (c .before)
-    → StarGood (c .star)
-    → Distinct (namesOf (join c))
-    → Defaulted (firsts (c .before) ++ c .middle)
     → join d ≡ l
-    → SlashGood (d .before)
-    → StarGood (d .star)
-    → Distinct (namesOf (join d))
-    → Defaulted (firsts (d .before) ++ d .middle)
     → c ≡ d
-cut-unique l c d j b s n e j′ b′ s′ n′ e′ = theorem.cut-unique l c d (cutOf j b s n e) (cutOf j′ b′ s′ n′ e′)
+cut-unique = theorem.cut-unique
 
 -- "In a sound table, with a long enough mode buffer, the parameter list of a def or lambda is accepted exactly when it
 -- can be cut, in written order, into: nothing, or one or more ordinary parameters and `/`; ordinary parameters;
@@ -153,48 +144,27 @@ answer-has-the-ranges t names node ms s w k m c j b a n d r e =
 -- "marks omitted: the ordinary parameters before `/`, those of the second part, `*args`, the ordinary ones after the
 -- star, `**kwargs`"
 -- In words: the list without its marks, cut at the five ranges, gives the cut's five parts, and the last range ends it.
-pub ranges-cut-the-flat-list : (t names : List ℕ) (node : ℕ) (ms : List ℕ)
-    → checkOf t names ≡ accepted []
-    → node < length t / recordBytes
-    → (nodeOf node (drop (recordBytes * node) t) .kind ≡ kindDef)
-    ⊎ (nodeOf node (drop (recordBytes * node) t) .kind ≡ kindLambda)
-    → length (listOf t names node) ≤ length ms
-    → (c : Cut)
-    → join c ≡ listOf t names node
-    → SlashGood (c .before)
-    → StarGood (c .star)
-    → Distinct (namesOf (join c))
-    → Defaulted (firsts (c .before) ++ c .middle)
+pub ranges-cut-the-flat-list : (l : List Param) (c : Cut)
+    → join c ≡ l
     → (take (cutRanges c .posOnly .upto - cutRanges c .posOnly .from)
-    (drop (cutRanges c .posOnly .from) (flatList (listOf t names node))) ≡ partsOf c .posOnly)
+    (drop (cutRanges c .posOnly .from) (flatList l)) ≡ partsOf c .posOnly)
     × (take (cutRanges c .posOrNamed .upto - cutRanges c .posOrNamed .from)
-    (drop (cutRanges c .posOrNamed .from) (flatList (listOf t names node))) ≡ partsOf c .posOrNamed)
+    (drop (cutRanges c .posOrNamed .from) (flatList l)) ≡ partsOf c .posOrNamed)
     × (take (cutRanges c .args .upto - cutRanges c .args .from)
-    (drop (cutRanges c .args .from) (flatList (listOf t names node))) ≡ partsOf c .args)
+    (drop (cutRanges c .args .from) (flatList l)) ≡ partsOf c .args)
     × (take (cutRanges c .namedOnly .upto - cutRanges c .namedOnly .from)
-    (drop (cutRanges c .namedOnly .from) (flatList (listOf t names node))) ≡ partsOf c .namedOnly)
+    (drop (cutRanges c .namedOnly .from) (flatList l)) ≡ partsOf c .namedOnly)
     × (take (cutRanges c .kwargs .upto - cutRanges c .kwargs .from)
-    (drop (cutRanges c .kwargs .from) (flatList (listOf t names node))) ≡ partsOf c .kwargs)
-    × (cutRanges c .kwargs .upto ≡ length (flatList (listOf t names node)))
-ranges-cut-the-flat-list t names node ms s w k r c j b a n d =
-    let x = theorem.ranges-cut-the-flat-list t names node ms (given s w k r) c (cutOf j b a n d) in
+    (drop (cutRanges c .kwargs .from) (flatList l)) ≡ partsOf c .kwargs)
+    × (cutRanges c .kwargs .upto ≡ length (flatList l))
+ranges-cut-the-flat-list l c joins =
+    let x = theorem.ranges-cut-the-flat-list l c joins in
     (x .posOnly, x .posOrNamed, x .args, x .namedOnly, x .kwargs, x .all)
 
 -- "They follow in order"
 -- In words: the first range begins at 0, each other where the one before it ends, the last ends at the flat count, and
 -- none ends before it begins.
-pub ranges-follow : (t names : List ℕ) (node : ℕ) (ms : List ℕ)
-    → checkOf t names ≡ accepted []
-    → node < length t / recordBytes
-    → (nodeOf node (drop (recordBytes * node) t) .kind ≡ kindDef)
-    ⊎ (nodeOf node (drop (recordBytes * node) t) .kind ≡ kindLambda)
-    → length (listOf t names node) ≤ length ms
-    → (c : Cut)
-    → join c ≡ listOf t names node
-    → SlashGood (c .before)
-    → StarGood (c .star)
-    → Distinct (namesOf (join c))
-    → Defaulted (firsts (c .before) ++ c .middle)
+pub ranges-follow : (c : Cut)
     → (cutRanges c .posOnly .from ≡ 0)
     × (cutRanges c .posOnly .upto ≡ cutRanges c .posOrNamed .from)
     × (cutRanges c .posOrNamed .upto ≡ cutRanges c .args .from)
@@ -206,8 +176,8 @@ pub ranges-follow : (t names : List ℕ) (node : ℕ) (ms : List ℕ)
     × (cutRanges c .args .from ≤ cutRanges c .args .upto)
     × (cutRanges c .namedOnly .from ≤ cutRanges c .namedOnly .upto)
     × (cutRanges c .kwargs .from ≤ cutRanges c .kwargs .upto)
-ranges-follow t names node ms s w k r c j b a n d =
-    let x = theorem.ranges-follow t names node ms (given s w k r) c (cutOf j b a n d) in (
+ranges-follow c =
+    let x = theorem.ranges-follow c in (
       x .first,
       x .second,
       x .third,
@@ -223,23 +193,10 @@ ranges-follow t names node ms s w k r c j b a n d =
 
 -- "and cover 0 to the flat count once"
 -- In words: each index below the flat count is held by exactly one of the five ranges.
-pub ranges-cover-once : (t names : List ℕ) (node : ℕ) (ms : List ℕ)
-    → checkOf t names ≡ accepted []
-    → node < length t / recordBytes
-    → (nodeOf node (drop (recordBytes * node) t) .kind ≡ kindDef)
-    ⊎ (nodeOf node (drop (recordBytes * node) t) .kind ≡ kindLambda)
-    → length (listOf t names node) ≤ length ms
-    → (c : Cut)
-    → join c ≡ listOf t names node
-    → SlashGood (c .before)
-    → StarGood (c .star)
-    → Distinct (namesOf (join c))
-    → Defaulted (firsts (c .before) ++ c .middle)
-    → (i : ℕ)
+pub ranges-cover-once : (c : Cut) (i : ℕ)
     → i < cutFlat c
     → holders (cutRanges c) i ≡ 1
-ranges-cover-once t names node ms s w k r c j b a n d =
-    theorem.ranges-cover-once t names node ms (given s w k r) c (cutOf j b a n d)
+ranges-cover-once = theorem.ranges-cover-once
 
 -- "and each flat parameter's mode is written and is its range's"
 -- In words: after the job, the byte of each index of a range is that range's mode.
