@@ -2,7 +2,8 @@
 """Makes docs/STATEMENTS.md of crates/statements, so that page and crate cannot differ.
 
 statements_page.py            writes the page
-statements_page.py --check    status 1 where the page is not what the crate says, or where a statement lacks a sentence or its words
+statements_page.py --check    status 1 where the page is not what the crate says, where a statement lacks a sentence or its words, or where
+                              README.md, docs/PROOFS.md or a landing note names a theorem to users that no statement restates
 
 A module of crates/statements/proofs opens with a comment: its title in capitals, an empty line, an introduction. Above each public statement
 stands a comment: the user's sentence, and from 'In words:' on what the statement says. The page has, in the order of Lib.antt, the sentence,
@@ -87,6 +88,37 @@ def page():
     return "\n".join(out).rstrip("\n") + "\n", wrong, count
 
 
+# theorems of other kinds, each with its own page or step: of one answer (docs/PROMISES.md, tools/promises.py)
+ONE_ANSWER = re.compile(r".*-one$|.*-injective$")
+# crates whose theorems stand for themselves: closed instances of what theorems suppose
+INSTANCES = {"Example.antt"}
+
+
+def unrestated():
+    """The theorems that the documents name to users and no statement cites: (document, name, file). Where the document names the file before
+    the theorem, that file's theorem must be restated; else one of that name."""
+    restated, public = {}, {}
+    for path in FOLDER.glob("*.antt"):
+        text = path.read_text()
+        files = {alias: f"{crate}/proofs/{file}.antt" for crate, file, alias in re.findall(r"^use Rattle·(\w+)\.proofs\.(\w+) as (theorem\S*)$", text, re.M)}
+        for alias, name in re.findall(r"(?<![^\s(])(theorem[^\s.()]*)\.([^\s()]+)", text):
+            restated.setdefault(name, set()).add(files.get(alias))
+    for path in sorted((ROOT / "crates").glob("*/proofs/*.antt")):
+        if path.parent.parent.name != "statements" and path.name not in INSTANCES:
+            for name in re.findall(r"^ *pub ([^\s:]+) : ", path.read_text(), re.M):
+                public.setdefault(name, set()).add(str(path.relative_to(ROOT / "crates")))
+    for document in [ROOT / "README.md", ROOT / "docs" / "PROOFS.md", *sorted((ROOT / "docs" / "landings").glob("*.md"))]:
+        text, seen = document.read_text(), set()
+        for file, names in re.findall(r"`(?:crates/)?(\w+/proofs/\w+\.antt)`: ((?:`[^`]+`(?:, )?)+)", text):
+            for name in re.findall(r"`([^`\s]+)`", names):
+                seen.add(name)
+                if file in public.get(name, ()) and file not in restated.get(name, ()):
+                    yield document.relative_to(ROOT), name, file
+        for name in dict.fromkeys(re.findall(r"`([a-z0-9]+(?:-[a-z0-9]+)+)`", text)):
+            if name in public and name not in restated and name not in seen and not ONE_ANSWER.fullmatch(name):
+                yield document.relative_to(ROOT), name, min(public[name])
+
+
 def main():
     text, wrong, count = page()
     for w in wrong:
@@ -95,7 +127,11 @@ def main():
         same = PAGE.exists() and PAGE.read_text() == text
         if not same:
             print("statements_page.py: docs/STATEMENTS.md is not what crates/statements says")
-        sys.exit(0 if same and not wrong else 1)
+        named = list(unrestated())
+        for document, name, file in named:
+            print(f"statements_page.py: {document} names {name} of {file}, which no statement restates")
+        print(f"statements_page.py: {count} statements, {len(named)} theorems named and not restated")
+        sys.exit(0 if same and not wrong and not named else 1)
     PAGE.write_text(text)
     print(f"statements_page.py: {count} statements")
     sys.exit(1 if wrong else 0)

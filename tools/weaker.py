@@ -1,11 +1,15 @@
 #!/usr/bin/env python3
 """Plants faults in the theorems that crates/statements cites, and sees that the statements then fail.
 
-weaker.py [MODULE...] [--records N] [--list]    after rt check; MODULE is a file of crates/statements/proofs (all of them)
+weaker.py [MODULE...] [--records N] [--list] [--target DIR]
+    after rt check; MODULE is a file of crates/statements/proofs (all of them); DIR has the proved libraries (target)
 
-Each module of `statements` cites files of theorems of one crate ('use Rattle.CRATE.proofs.FILE as theorem', further ones as theorem-NAME), and
-imports nothing that stands above that crate. The tool copies that crate, puts the module
-beside its proofs, and checks the copy over the modules that the crate's library holds, so that only what changed is checked:
+Rules for a module of `statements`: it cites theorems of one crate, each file of them imported 'as theorem' or 'as theorem-NAME'; it imports
+nothing from a crate above that one; every statement is proved by citing one theorem. A module that breaks a rule is told and counts as bad.
+Public theorems of these files that no statement cites are listed.
+
+The tool copies the crate of the theorems, puts the module beside its proofs, and checks the copy over the modules that the crate's library
+holds, so that only what changed is checked:
 1. all weakened conclusions at once. For each conjunct of each cited theorem a theorem is put behind the right one, in which that conjunct is
    Unit, proved by citing the right one (so the copy is proved); and beside the statement a copy that cites it, which must be refused. Records
    and abbreviations in a conclusion are opened: a field of a record is a conjunct. For each theorem there is also one that asks ⊥ in addition.
@@ -99,8 +103,28 @@ def arrows(text):
 # ---- a crate's declarations
 
 class Record:
-    def __init__(self, name, params, fields, path):
-        self.name, self.params, self.fields, self.path = name, params, fields, path
+    """A record: its explicit parameters, its fields, its file, and where its crate is another one, the file's text with imports from outside."""
+
+    def __init__(self, name, params, head, fields, path, foreign=None):
+        self.name, self.params, self.head, self.fields, self.path, self.foreign = name, params, head, fields, path, foreign
+
+
+RECORD = r"^pub record (\S+)((?: [({][^)}]*[)}])+) : Type 0 where\n((?:  .*\n)+)"
+
+
+def record_in(found, path, foreign=None):
+    names = [n for g in groups(found.group(2)) if g[0] == "(" for n in g[1:-1].split(" : ")[0].split()]
+    body = re.split(r"^  pub (?=\S+ : )", re.sub(r"^ *--.*\n", "", found.group(3), flags=re.M), flags=re.M)[1:]
+    fields = [(f.split(" : ", 1)[0], " ".join(f.split(" : ", 1)[1].split())) for f in body]
+    return Record(found.group(1), names, found.group(2), fields, path, foreign)
+
+
+def from_outside(text, crate, path):
+    """The imports of a file of a crate as another crate has to write them, with the file's own public names."""
+    uses = [re.sub(rf"Rattle·{crate}·(specs|proofs)\.\1\.", rf"Rattle.{crate}.\1.", use) for use in re.findall(r"^use .*", text, re.M)]
+    own = re.findall(r"^(?:unfoldable )?(?:abbrev )?pub (?:record |data )?(?!mod )([^\s:]+) ", text, re.M)
+    part, *rest = path.relative_to(CRATES / crate).with_suffix("").parts
+    return [*uses, f"use Rattle.{crate}.{part}.{'.'.join(rest)}.{{{', '.join(own)}}}"]
 
 
 class Crate:
@@ -114,11 +138,13 @@ class Crate:
             for module, names in re.findall(r"^use (\S+)\.\{([^}]*)\}", text, re.M):
                 self.known.update({n.strip(): module for n in names.split(",") if " as " not in n})
             self.known.update({n: self.module(path) for n in re.findall(r"^(?:unfoldable )?(?:abbrev )?pub (?:record |data )?([^\s:]+) ", text, re.M) if n != "mod"})
-            for m in re.finditer(r"^pub record (\S+)((?: [({][^)}]*[)}])+) : Type 0 where\n((?:  .*\n)+)", text, re.M):
-                names = [n for g in groups(m.group(2)) for n in g[1:-1].split(" : ")[0].split()]
-                body = re.split(r"^  pub (?=\S+ : )", re.sub(r"^ *--.*\n", "", m.group(3), flags=re.M), flags=re.M)[1:]
-                fields = [(f.split(" : ", 1)[0], " ".join(f.split(" : ", 1)[1].split())) for f in body]
-                self.records[m.group(1)] = Record(m.group(1), names, fields, path)
+            for m in re.finditer(RECORD, text, re.M):
+                self.records[m.group(1)] = record_in(m, path)
+            for below, part, file, names in re.findall(r"^use Rattle·(\w+)\.(specs|proofs)\.(\w+)\.\{([^}]*)\}", text, re.M):
+                there = CRATES / below / part / f"{file}.antt"
+                for m in re.finditer(RECORD, there.read_text() if there.is_file() else "", re.M):
+                    if m.group(1) in [n.strip() for n in names.split(",")]:
+                        self.records.setdefault(m.group(1), record_in(m, there, from_outside(there.read_text(), below, there)))
             for m in re.finditer(r"^abbrev pub (\S+) : [^\n]*Type 0\n((?:^(?! *--)\S.*\n(?:  +.*\n)*)+)", text, re.M):
                 clauses = re.findall(rf"^{re.escape(m.group(1))} (.*?)=(?= |\n)((?:.*\n)(?:  +.*\n)*)", m.group(2), re.M)
                 if len(clauses) == 1 and re.fullmatch(r"(?:\S+ )+", clauses[0][0]) and "(" not in clauses[0][0]:
@@ -170,6 +196,10 @@ def theorems(text):
     return found
 
 
+# what holds of every entry of a list, with the law that maps it
+MAPS = {"All": "all-map", "Each": "each-map"}
+
+
 class Weak:
     """One weakened conclusion: its type, the term that makes it of the right one (at x), and the records that it needs."""
 
@@ -219,22 +249,23 @@ def weakened(crate, type_, x, label):
         names, body = crate.abbrevs[head]
         opened = put(body, names, args)
         crate.needs |= set(re.findall(r"[^\s(){}.,;λ]+", body)) - set(names)
-        if re.match(r"All \(λ|.*×", opened) or groups(opened)[0] in crate.records:
+        if re.match(r"(?:All|Each) \(λ|.*×", opened) or groups(opened)[0] in crate.records:
             yield from weakened(crate, opened, x, label)
             return
-    m = re.fullmatch(r"\(λ (\S+)\. (.*)\)", args[0]) if head == "All" and len(args) == 2 else None
+    m = re.fullmatch(r"\(λ (\S+)\. (.*)\)", args[0]) if head in MAPS and len(args) == 2 else None
     if m:
-        crate.needs |= {"All", "all-map"}
+        crate.needs |= {head, MAPS[head]}
         for w in weakened(crate, m.group(2), "a′", label):
-            yield Weak(f"All (λ {m.group(1)}. {w.type}) {args[1]}", f"all-map (λ {m.group(1)} (a′ : {m.group(2)}). {w.term}) {args[1]} {wrapped(x)}", f"all: {w.what}", w.records)
+            yield Weak(f"{head} (λ {m.group(1)}. {w.type}) {args[1]}", f"{MAPS[head]} (λ {m.group(1)} (a′ : {m.group(2)}). {w.term}) {args[1]} {wrapped(x)}", f"{head}: {w.what}", w.records)
         return
     if head in crate.records and len(crate.records[head].params) == len(args):
         r = crate.records[head]
         for k, (field, own) in enumerate(r.fields):
-            if not is_claim(crate, own):
-                continue
+            later = " ".join(o for _, o in r.fields[k + 1 :])
+            if not is_claim(crate, own) or re.search(rf"(?<![^\s(]){re.escape(field)}(?![^\s)])", later):
+                continue  # a thing, or a claim that a later field speaks of
             inner = bare(own).split(" ")[0]
-            ways = weakened(crate, own, f"{wrapped(x)} .{field}" if " " not in x else f"{x} .{field}", label) if inner in crate.records else [Weak("Unit {0}", "tt", f"{head}.{field}")]
+            ways = weakened(crate, own, f"{x} .{field}", label) if inner in crate.records and not r.foreign else [Weak("Unit {0}", "tt", f"{head}.{field}")]
             for w in ways:
                 name = f"{head}-{next(label)}"
                 copy = [(f, w.type if i == k else o) for i, (f, o) in enumerate(r.fields)]
@@ -277,12 +308,12 @@ def check(name, folder):
     """The errors that rattle tells of a crate in a folder: (file, declaration, text)."""
     words = [str(KIT.own / "bin" / "rattle"), "check", "--crate-name", name, str(folder / "src" / "lib.rt")]
     for crate in ["std", *repository.crates()[name]]:
-        words += ["--extern", f"{crate}={(TARGET if (CRATES / crate).is_dir() else KIT.own) / 'rlib' / crate}.rlib"]
-    words += ["-L", f"dependency={TARGET / 'rlib'}", "-L", f"dependency={KIT.own / 'rlib'}"]
+        words += ["--extern", f"{crate}={(Module.libraries if (CRATES / crate).is_dir() else KIT.own) / 'rlib' / crate}.rlib"]
+    words += ["-L", f"dependency={Module.libraries / 'rlib'}", "-L", f"dependency={KIT.own / 'rlib'}"]
     words += ["--antt-project", str(KIT.home / "logic" / "antt-project.json"), "--logic-built", str(KIT.own / "logic-built")]
     kept = folder.with_suffix(".kept")
     shutil.rmtree(kept, ignore_errors=True)
-    shutil.copytree(TARGET / "rlib" / f"{name}.rlib" / "toolchain" / "checked", kept / build())
+    shutil.copytree(Module.libraries / "rlib" / f"{name}.rlib" / "toolchain" / "checked", kept / build())
     done = subprocess.run([*words, "--incremental", str(kept)], stdout=subprocess.PIPE, stderr=subprocess.STDOUT, text=True)
     shutil.rmtree(kept)
     (folder / ".log").write_text(done.stdout)
@@ -306,16 +337,36 @@ def build(known=[]):
 class Module:
     """A module of `statements`, and the crate and the file of theorems that it cites."""
 
+    libraries = TARGET
+
     def __init__(self, path):
         self.path, self.text = path, path.read_text()
         found = re.findall(r"^use Rattle·(\w+)\.proofs\.(\w+) as (theorem\S*)$", self.text, re.M)
-        [self.crate] = {crate for crate, _, _ in found}
+        if len({crate for crate, _, _ in found}) != 1:
+            sys.exit(f"weaker.py: {path.stem} cites theorems of {len({crate for crate, _, _ in found})} crates")
+        self.crate = found[0][0]
         self.files = {alias: file for _, file, alias in found}
         self.inside = re.sub(rf"Rattle\.{self.crate}\.(specs|proofs)\.", rf"Rattle·{self.crate}·\1.\1.", self.text)
         self.statements = theorems(self.inside)
         self.cited = {s: c for s in self.statements for c in [self.cites(s)] if c}
         self.uncited = [s for s in self.statements if s not in self.cited]
         self.left_out = [f"{file}.{t}" for alias, file in self.files.items() for t in self.right(CRATES / self.crate, alias) if (alias, t) not in self.cited.values()]
+
+    def broken(self):
+        """The rules for a module that this one breaks, in words."""
+        stands, todo = {self.crate}, [self.crate]
+        while todo:
+            below = [c for c in repository.crates()[todo.pop()] if c in repository.crates() and c not in stands]
+            stands |= set(below)
+            todo += below
+        for crate in sorted(set(re.findall(r"^use Rattle·(\w+)", self.text, re.M)) - stands):
+            yield f"it imports from {crate}, which {self.crate} does not stand on"
+        for name in self.uncited:
+            yield f"{name} cites no theorem"
+
+    def place(self, crate, r, new):
+        """The module of a weakened record in the copy."""
+        return f"Rattle.{self.crate}.proofs.W{new.replace('-', '')}" if r.foreign else crate.module(r.path)
 
     def right(self, folder, alias):
         """The theorems of a file that the module cites, in the crate or in a copy of it."""
@@ -371,26 +422,31 @@ class Module:
                     head, eq, body = copy.partition(f"\n{fault} ")
                     copy = head + eq + re.sub(rf"(?<![\w-]){re.escape(r.name)}(?![\w-])", new, body)
                 statements.append(copy)
+        foreign = [(r, new, fields) for r, new, fields in records if r.foreign]
         for r, new, fields in records:
-            params = re.search(rf"^pub record {re.escape(r.name)}((?: [({{][^)}}]*[)}}])+) : Type 0 where\n(?:  .*\n)+", r.path.read_text(), re.M)
-            text = f"\npub record {new}{params.group(1)} : Type 0 where\n" + "".join(f"  pub {f} : {o}\n" for f, o in fields)
-            uses = "".join(f"use {crate.module(q.path)}.{{{n}}}\n" for q, n, _ in records if q.path != r.path and n in text)
+            text = f"\npub record {new}{r.head} : Type 0 where\n" + "".join(f"  pub {f} : {o}\n" for f, o in fields)
+            if r.foreign:
+                (folder / "proofs" / f"W{new.replace('-', '')}.antt").write_text("\n".join(r.foreign) + "\n" + text)
+                continue
+            uses = "".join(f"use {self.place(crate, q, n)}.{{{n}}}\n" for q, n, _ in records if (q.foreign or q.path != r.path) and n in text)
             whole = r.path.read_text() + text
             first = re.search(r"^use ", whole, re.M).start()
             r.path.write_text(whole[:first] + uses + whole[first:])
+        with (folder / "proofs" / "Lib.antt").open("a") as lib:
+            lib.write("".join(f"pub mod W{new.replace('-', '')}\n" for _, new, _ in foreign))
         for alias, places in inserted.items():
             file = folder / "proofs" / f"{self.files[alias]}.antt"
             lines = file.read_text().split("\n")
             for at in sorted(places, reverse=True):
                 lines[at:at] = ["", *"\n".join(places[at]).rstrip("\n").split("\n")]
             text = "\n".join(lines)
-            uses = "".join(f"use {crate.module(r.path)}.{{{new}}}\n" for r, new, _ in records if r.path != file and new in text)
+            uses = "".join(f"use {self.place(crate, r, new)}.{{{new}}}\n" for r, new, _ in records if (r.foreign or r.path != file) and new in text)
             for n in sorted(crate.needs & set(crate.known)):
                 if not re.search(rf"^use .*[{{ ]{re.escape(n)}[,}}]", text, re.M) and crate.known[n] != crate.module(file):
                     uses += f"use {crate.known[n]}.{{{n}}}\n"
             first = re.search(r"^use ", text, re.M).start()
             file.write_text(text[:first] + uses + text[first:])
-        shown = "".join(f"use {crate.module(r.path)}.{{{new}}}\n" for r, new, _ in records)
+        shown = "".join(f"use {self.place(crate, r, new)}.{{{new}}}\n" for r, new, _ in records)
         body = "\n\n".join(statements)
         first = re.search(r"^use ", body, re.M).start()
         (folder / "proofs" / "Weaker.antt").write_text(body[:first] + shown + body[first:] + "\n")
@@ -424,7 +480,7 @@ class Module:
                 if word in seen:
                     continue
                 seen.add(word)
-                if word in crate.records:
+                if word in crate.records and not crate.records[word].foreign:
                     found.append(crate.records[word])
                     todo += [o for _, o in crate.records[word].fields]
                 elif word in crate.abbrevs:
@@ -451,7 +507,9 @@ def main():
     words.add_argument("modules", nargs="*")
     words.add_argument("--records", type=int, default=1000)
     words.add_argument("--list", action="store_true")
+    words.add_argument("--target", type=pathlib.Path, default=TARGET)
     asked = words.parse_args()
+    Module.libraries = asked.target
     refused = tried = bad = masked = 0
     for path in sorted((CRATES / "statements" / "proofs").glob("*.antt")):
         if path.stem == "Lib" or asked.modules and path.stem not in asked.modules:
@@ -464,9 +522,9 @@ def main():
         n, k, b = m.conclusions()
         refused, tried, bad = refused + n, tried + k, bad + b
         print(f"{path.stem}: {n} of {k} weaker conclusions refused, {len(m.cited)} twins, {b} bad ({time.time() - began:.1f} s)", flush=True)
-        if m.uncited:
-            bad += len(m.uncited)
-            print(f"{path.stem}: these cite no theorem: {' '.join(m.uncited)}")
+        for words in m.broken():
+            bad += 1
+            print(f"{path.stem}: {words}")
         if m.left_out:
             print(f"{path.stem}: public in these files of {m.crate} and not restated: {' '.join(m.left_out)}")
         for r in m.hypotheses()[: asked.records]:
