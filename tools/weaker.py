@@ -6,7 +6,7 @@ weaker.py [MODULE...] [--records N] [--list] [--target DIR]
 
 Rules for a module of `statements`: it cites theorems of one crate, each file of them imported 'as theorem' or 'as theorem-NAME'; it imports
 nothing from a crate above that one; every statement is proved by citing one theorem. A module that breaks a rule is told and counts as bad.
-Public theorems of these files that no statement cites are listed.
+--list says what each module cites, and which public theorems of these files no statement cites.
 
 The tool copies the crate of the theorems, puts the module beside its proofs, and checks the copy over the modules that the crate's library
 holds, so that only what changed is checked:
@@ -517,6 +517,7 @@ def main():
         m = Module(path)
         if asked.list:
             print(path.stem, m.crate, *m.files.values(), "records:", " ".join(r.name for r in m.hypotheses()), "theorems:", " ".join(m.cited))
+            print(path.stem, "public in these files and not restated:", " ".join(m.left_out) or "none")
             continue
         began = time.time()
         n, k, b = m.conclusions()
@@ -525,8 +526,6 @@ def main():
         for words in m.broken():
             bad += 1
             print(f"{path.stem}: {words}")
-        if m.left_out:
-            print(f"{path.stem}: public in these files of {m.crate} and not restated: {' '.join(m.left_out)}")
         for r in m.hypotheses()[: asked.records]:
             began = time.time()
             ours, theirs, gone = m.record(r)
