@@ -422,18 +422,6 @@ class Module:
                     head, eq, body = copy.partition(f"\n{fault} ")
                     copy = head + eq + re.sub(rf"(?<![\w-]){re.escape(r.name)}(?![\w-])", new, body)
                 statements.append(copy)
-        foreign = [(r, new, fields) for r, new, fields in records if r.foreign]
-        for r, new, fields in records:
-            text = f"\npub record {new}{r.head} : Type 0 where\n" + "".join(f"  pub {f} : {o}\n" for f, o in fields)
-            if r.foreign:
-                (folder / "proofs" / f"W{new.replace('-', '')}.antt").write_text("\n".join(r.foreign) + "\n" + text)
-                continue
-            uses = "".join(f"use {self.place(crate, q, n)}.{{{n}}}\n" for q, n, _ in records if (q.foreign or q.path != r.path) and n in text)
-            whole = r.path.read_text() + text
-            first = re.search(r"^use ", whole, re.M).start()
-            r.path.write_text(whole[:first] + uses + whole[first:])
-        with (folder / "proofs" / "Lib.antt").open("a") as lib:
-            lib.write("".join(f"pub mod W{new.replace('-', '')}\n" for _, new, _ in foreign))
         for alias, places in inserted.items():
             file = folder / "proofs" / f"{self.files[alias]}.antt"
             lines = file.read_text().split("\n")
@@ -446,6 +434,20 @@ class Module:
                     uses += f"use {crate.known[n]}.{{{n}}}\n"
             first = re.search(r"^use ", text, re.M).start()
             file.write_text(text[:first] + uses + text[first:])
+        foreign = [(r, new, fields) for r, new, fields in records if r.foreign]
+        for r, new, fields in records:
+            text = f"\npub record {new}{r.head} : Type 0 where\n" + "".join(f"  pub {f} : {o}\n" for f, o in fields)
+            if r.foreign:
+                (folder / "proofs" / f"W{new.replace('-', '')}.antt").write_text("\n".join(r.foreign) + "\n" + text)
+                continue
+            uses = "".join(f"use {self.place(crate, q, n)}.{{{n}}}\n" for q, n, _ in records if (q.foreign or q.path != r.path) and n in text)
+            whole = r.path.read_text()
+            own = next(m for m in re.finditer(RECORD, whole, re.M) if m.group(1) == r.name)
+            whole = whole[: own.end()] + text + whole[own.end() :]
+            first = re.search(r"^use ", whole, re.M).start()
+            r.path.write_text(whole[:first] + uses + whole[first:])
+        with (folder / "proofs" / "Lib.antt").open("a") as lib:
+            lib.write("".join(f"pub mod W{new.replace('-', '')}\n" for _, new, _ in foreign))
         shown = "".join(f"use {self.place(crate, r, new)}.{{{new}}}\n" for r, new, _ in records)
         body = "\n\n".join(statements)
         first = re.search(r"^use ", body, re.M).start()

@@ -6,7 +6,7 @@
 -- that specs/Checked.antt names (`targets-are`, `types-are`): shown for each kind. So what holds of every tree in the
 -- role holds of every such child, and the other way round (`forth`, `back`), by induction on the forest.
 -- Assumes nothing.
-use mathlib.Core.Path.{_≡_, refl, sym, _∙_}
+use mathlib.Core.Path.{_≡_, refl, sym}
 use mathlib.Core.Bool.{Bool, true, false, _||_}
 use mathlib.Core.List.{List, [], _∷_, _++_}
 use Prim.Native.Nat.{ℕ, _/_, _≤_}

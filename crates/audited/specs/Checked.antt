@@ -1,5 +1,5 @@
--- Which nodes the audit checks as a target and as a type, in words of their own: by the children of each record, without
--- the roles that the audit counts on. These are definitions.
+-- Which nodes the audit checks as a target and as a type, in words of their own: by the children of each record,
+-- without the roles that the audit counts on. These are definitions.
 use mathlib.Core.Path.{_≡_}
 use mathlib.Core.Bool.{Bool, true, _||_}
 use mathlib.Core.List.{List, [], _∷_, _++_}

@@ -1,7 +1,7 @@
--- What 11 tells: the only earlier parameter of an equal name, which has a smaller node. `unpack` reads the list from the
--- left and stops at the first name that it has seen (`run-repeated`). So among those that are read no name comes twice
--- (`Fresh`), and the first that has the name is the only one (forest's `only-one`). Cite `written-twice`.
--- Assumes nothing.
+-- What 11 tells: the only earlier parameter of an equal name, which has a smaller node. `unpack` reads the list from
+-- the left and stops at the first name that it has seen (`run-repeated`). So among those that are read no name comes
+-- twice (`Fresh`), and the first that has the name is the only one (forest's `only-one`). Cite `written-twice`. Assumes
+-- nothing.
 use mathlib.Core.Path.{_≡_, refl, sym, ap, _∙_}
 use mathlib.Core.Bool.{Bool, true, false}
 use mathlib.Core.List.{List, [], _∷_, _++_, append-assoc, append-nil}

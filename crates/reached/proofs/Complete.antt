@@ -7,9 +7,9 @@ use Prim.Native.Nat.{ℕ, zero, suc, _+_, _<_, _≤_}
 use native.Mathlib.Omega.{arith}
 use lib.ListN.{length, getD, replicate, length-replicate}
 use lib.Dec.{ltb}
-use borrow.Author.Tests.{lt-ltb, le-leb}
+use borrow.Author.Tests.{le-leb}
 use Rattle.fields.specs.Choice.{if'}
-use Rattle.fields.proofs.Basics.{never, le-or-lt}
+use Rattle.fields.proofs.Basics.{never}
 use Rattle.forest.specs.Forest.{Node}
 use Rattle.table.specs.Answer.{accepted}
 use Rattle.table.specs.declared.Place.{Place}
@@ -18,7 +18,7 @@ use Rattle.table.specs.declared.Wanted.the-variants.{Call}
 use Rattle.table.proofs.Entering.{sound-entry}
 use Rattle.deflist.specs.Written.{Name, Param}
 use Rattle.deflist.specs.Unpack as outcome
-use Rattle.deflist.specs.Unpack.{unpack, modes, modeArgs, modeKwargs}
+use Rattle.deflist.specs.Unpack.{unpack, modeArgs, modeKwargs}
 use Rattle.deflist.specs.declared.Counts.{Counts}
 use Rattle.parameters.specs.Indices.{placeOf, countedOf}
 use Rattle.parameters.specs.Params.{listOf}
@@ -34,7 +34,7 @@ use Rattle.bind.specs.declared.Reach.the-variants.{Fills, Nowhere}
 use Rattle.reached.specs.Said.{IsAt, CanBeNamed, ByPlace}
 use Rattle.reached.specs.Rules.{Named, Star, Placed, Matching, Rules}
 use Rattle.reached.proofs.Walk.{was-empty, Nodes}
-use Rattle.reached.proofs.Params.{within, same-at, mode-at, name-missed, one-name}
+use Rattle.reached.proofs.Params.{within, same-at, mode-at}
 use Rattle.reached.proofs.Reaching as reaching
 use Rattle.reached.proofs.Nodes.{call-rising}
 use Rattle.reached.proofs.Accepts.{Free, along-accepts, star-accepts, empty-accepts}

@@ -1,6 +1,6 @@
 -- The checks before the binding give no number of 80 or more: the entry at most 7 (`early-entry`), a list of parameters
--- less than 20 (`early-list`), a list of arguments 20 to 24 or the 0 of an internal error (`call-numbers`). Each is shown
--- rule by rule, then along the list. Assumes nothing.
+-- less than 20 (`early-list`), a list of arguments 20 to 24 or the 0 of an internal error (`call-numbers`). Each is
+-- shown rule by rule, then along the list. Assumes nothing.
 use mathlib.Core.Path.{_≡_, refl}
 use mathlib.Core.Bool.{Bool, true, false}
 use mathlib.Core.Logic.{_⊎_, inl, inr}
@@ -249,7 +249,8 @@ number-walk before w (p ∷ ps) = go (call.check before (w .stage) p) (call.take
     (number-walk (before ++ p ∷ []) (call.advance w (length before) (written.kindIn p)) ps)
   where
     go : (x : callChecks.Check) (b : Bool) → EarlyKept x
-        → CallNumber (outcomeAnswer (call.run (before ++ p ∷ []) (call.advance w (length before) (written.kindIn p)) ps))
+        → CallNumber (outcomeAnswer
+        (call.run (before ++ p ∷ []) (call.advance w (length before) (written.kindIn p)) ps))
         → CallNumber (outcomeAnswer (call.unlessBroken x (written.nodeIn p) (λ _. if' b (λ _. call.internalError) (λ _.
         call.run (before ++ p ∷ []) (call.advance w (length before) (written.kindIn p)) ps))))
     go Kept true e rest = inl refl

@@ -2,9 +2,9 @@
 --
 --   words past the answer stay; no refusal changes a buffer; 11 and 22 carry an earlier node, no other refusal does.
 --
--- The list at exit is the words of the binding and then what stood there (`Passed`), or the list itself. A refusal comes
--- from the entry, from the def's list, from the call's arguments or from the binding; of each it is known by which
--- numbers it refuses and what it carries. Assumes nothing.
+-- The list at exit is the words of the binding and then what stood there (`Passed`), or the list itself. A refusal
+-- comes from the entry, from the def's list, from the call's arguments or from the binding; of each it is known by
+-- which numbers it refuses and what it carries. Assumes nothing.
 use mathlib.Core.Path.{_≡_, refl, sym, ap, _∙_}
 use mathlib.Core.Bool.{Bool, true, false, not, _&&_}
 use mathlib.Core.Logic.{_⊎_, inl, inr}

@@ -19,13 +19,13 @@ use borrow.Author.Tests.{eq-eqb, eqb-true, ltb-true, ltb-false}
 use Rattle.fields.proofs.Basics.{never}
 use Rattle.fields.specs.Choice.{if'}
 use Rattle.forest.specs.Forest.{Node}
-use Rattle.table.specs.Numbers.{starArgument, tooManyPositional, alreadyFilled, emptyParameter}
-use Rattle.table.specs.Answer.{Answer, accepted, refused, refusedAt}
+use Rattle.table.specs.Numbers.{starArgument, tooManyPositional, emptyParameter}
+use Rattle.table.specs.Answer.{accepted, refused, refusedAt}
 use Rattle.table.specs.declared.Place.{Place}
 use Rattle.table.specs.declared.Place.the-variants.{At, Nothing}
 use Rattle.deflist.specs.Written.{Name, Param}
 use Rattle.deflist.specs.Unpack as outcome
-use Rattle.deflist.specs.Unpack.{unpack, modes, modeArgs}
+use Rattle.deflist.specs.Unpack.{unpack, modes}
 use Rattle.deflist.specs.declared.Counts.{Counts}
 use Rattle.parameters.specs.Indices.{placeOf, countedOf}
 use Rattle.parameters.specs.Params.{listOf}

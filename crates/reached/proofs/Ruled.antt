@@ -1,7 +1,8 @@
 -- A call and a def that the job accepts meet the rules, stated without the job: the other direction of
 -- `accepted-by-rules`. The entry gives the table, the two nodes and the room; the def's list has its cut and the call's
--- arguments are in order, because their own rules accept them; and each argument reaches something, which is a parameter
--- at its place, of its name, or a star (`Matching`). So there is no star among the arguments. Assumes nothing.
+-- arguments are in order, because their own rules accept them; and each argument reaches something, which is a
+-- parameter at its place, of its name, or a star (`Matching`). So there is no star among the arguments. Assumes
+-- nothing.
 use mathlib.Core.Path.{_≡_, refl, sym, ap, _∙_}
 use mathlib.Core.Bool.{false}
 use mathlib.Core.Logic.{_⊎_, inl, inr}
@@ -18,17 +19,15 @@ use Rattle.deflist.specs.declared.Counts.{Counts}
 use Rattle.parameters.specs.Indices.{countedOf}
 use Rattle.parameters.specs.Params.{listOf}
 use Rattle.parameters.specs.declared.DefParamIndices.{DefParamIndices}
-use Rattle.demand3.specs.Cut.{Cut}
-use Rattle.demand3.specs.Given.{CutOf}
 use Rattle.demand3.proofs.Cuts.{accepted-cut}
 use Rattle.arguments.specs.Written.{Argument, positional, named, args, kwargs, nodeIn}
 use Rattle.bind.specs.FlatList.{FlatParam}
 use Rattle.bind.specs.Binding.{namedFrom, reaches}
 use Rattle.bind.specs.Job.{argumentsAt, bindOf}
 use Rattle.bind.specs.declared.Reach.{Reach}
-use Rattle.bind.specs.declared.Reach.the-variants.{Fills, Joins, Nowhere}
+use Rattle.bind.specs.declared.Reach.the-variants.{Fills, Joins}
 use Rattle.reached.specs.Said.{IsAt, CanBeNamed, ByPlace, flatsAt, parameterWord, argumentWord}
-use Rattle.reached.specs.Rules.{Named, Star, Placed, Matching, Rules}
+use Rattle.reached.specs.Rules.{Named, Star, Placed, Rules}
 use Rattle.reached.proofs.Walk.{Index}
 use Rattle.reached.proofs.Params.{moved, same-at}
 use Rattle.reached.proofs.Passed as passing
@@ -142,7 +141,8 @@ module _ (t names : List ℕ) (call def : ℕ) (list : List ℕ) {vs : List ℕ}
       by-place k r at o e (Joins j) f w =
           let s = reaching.args-sits ps c (pass .outcome) j (reaching.place-joined ps c (pass .outcome) k j f .1) in
           let same : j ≡ i = sym w ∙ o in
-          absurd (no-star-word i p (s .param) sits (moved fs j i (s .param) same (s .there)) (inl (s .kind)) k (positional r) at e)
+          let there = moved fs j i (s .param) same (s .there) in
+          absurd (no-star-word i p (s .param) sits there (inl (s .kind)) k (positional r) at e)
 
       by-name : (k : ℕ) (r : Node) (x : Name) → IsAt qs k (named r x) → own k ≡ i → taken i ≡ r .at → (y : Reach)
           → reaches d fs k (named r x) ≡ y → Index y (own k)
@@ -157,7 +157,8 @@ module _ (t names : List ℕ) (call def : ℕ) (list : List ℕ) {vs : List ℕ}
           let s = reaching.kwargs-sits ps c (pass .outcome) j
           (reaching.name-joined ps c (pass .outcome) (namedFrom 0 x fs) j f .1) in
           let same : j ≡ i = sym w ∙ o in
-          absurd (no-star-word i p (s .param) sits (moved fs j i (s .param) same (s .there)) (inr (s .kind)) k (named r x) at e)
+          let there = moved fs j i (s .param) same (s .there) in
+          absurd (no-star-word i p (s .param) sits there (inr (s .kind)) k (named r x) at e)
 
       go : (k : ℕ) (a : Argument) → IsAt qs k a → own k ≡ i → taken i ≡ nodeIn a .at
           → ((r : Node) × (IsAt qs i (positional r) × ByPlace p))

@@ -85,7 +85,8 @@ passes-zero t names bytes e a = theorem.passes-zero t names bytes e
 -- "`errors 0` means that the whole checker passes": which nodes are checked as targets and as types
 -- In words: where the audit answers 0 errors, the module job answers 0 errors; each record of the table is accepted as
 -- parameters, as a call and as an assignment, where it fits; the first child of every For is accepted as a target; and
--- as a type the return type of every Def that has one, the type of every Assign, AssignModify and parameter that has one.
+-- as a type the return type of every Def that has one, the type of every Assign, AssignModify and parameter that has
+-- one.
 pub zero-checks-all : (t names bytes : List ℕ)
     → auditOf t names bytes ≡ accepted (0 ∷ [])
     → (moduleOf t names bytes ≡ accepted (0 ∷ []))

@@ -430,8 +430,8 @@ too-many-is-first t names call def room e =
     )
 
 -- "then 84 at the lowest ordinary parameter left empty without default"
--- In words: 84 carries the node and span of a parameter without default to which no argument comes, by place or by name,
--- and each such parameter before it has an argument.
+-- In words: 84 carries the node and span of a parameter without default to which no argument comes, by place or by
+-- name, and each such parameter before it has an argument.
 pub empty-is-first : (t names : List ℕ) (call def room : ℕ) {vs : List ℕ}
     → bindOf t names call def room ≡ refused emptyParameter vs
     → (i : ℕ) × (p : FlatParam)

@@ -4,7 +4,7 @@
 -- theorem. Assumes nothing.
 use mathlib.Core.Path.{_≡_}
 use mathlib.Core.List.{List}
-use Prim.Native.Nat.{ℕ, _≤_}
+use Prim.Native.Nat.{_≤_}
 use lib.ListN.{length}
 use Rattle.forest.specs.Forest.{Node}
 use Rattle.deflist.specs.Written.{Param}

@@ -1,12 +1,12 @@
 -- THE PARAMETER JOB: 1 TO 4, 6, 7, 10 TO 18
 --
 -- Theorems of crate `parameters` over the answer of `parameters::params` and the mode buffer at exit; the cut is below,
--- in demand 3. What the records `NamedTwice` and `FirstPassing` hold stands field by field. Each is proved by citing the
--- theorem. Assumes nothing.
+-- in demand 3. What the records `NamedTwice` and `FirstPassing` hold stands field by field. Each is proved by citing
+-- the theorem. Assumes nothing.
 use mathlib.Core.Path.{_≡_}
 use mathlib.Core.Bool.{true}
 use mathlib.Core.List.{List, [], _∷_, _++_}
-use Prim.Native.Nat.{ℕ, _<_, _≤_}
+use Prim.Native.Nat.{ℕ, _<_}
 use lib.ListN.{length}
 use Rattle.forest.specs.Forest.{Node}
 use Rattle.forest.specs.Names.{NonePasses}

@@ -34,8 +34,8 @@ clean-accepted t names least most whole few unsound deep = theorem.clean-accepte
     record { least = least; most = most; whole = whole; few = few; unsound = unsound; deep = deep }
 
 -- "Within all this a table is sound": and no other is
--- In words: an accepted table has 1 to 2,100 whole records, at most 8,064 name bytes, no unsound record and no node that
--- is too deep.
+-- In words: an accepted table has 1 to 2,100 whole records, at most 8,064 name bytes, no unsound record and no node
+-- that is too deep.
 pub accepted-clean : (t names : List ℕ) {vs : List ℕ}
     → checkOf t names ≡ accepted vs
     → (24 ≤ length t)

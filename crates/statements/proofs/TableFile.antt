@@ -1,7 +1,7 @@
 -- THE TABLE FILE
 --
--- Theorems of crate `tablefile` over what `tablefile::read` promises: `Read`, two equations, stands as two arrows, and so
--- does what the record `SoundContent` holds. Each is proved by citing the theorem. Assumes nothing.
+-- Theorems of crate `tablefile` over what `tablefile::read` promises: `Read`, two equations, stands as two arrows, and
+-- so does what the record `SoundContent` holds. Each is proved by citing the theorem. Assumes nothing.
 use mathlib.Core.Path.{_≡_}
 use mathlib.Core.List.{List, []}
 use Prim.Native.Nat.{ℕ, _<_}

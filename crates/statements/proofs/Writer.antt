@@ -24,7 +24,8 @@ use Rattle.writer.proofs.RoundTrips as theorem
 use Rattle.writer.proofs.Enough as theorem-enough
 
 -- "Its output reads back as the same table, names and dialect."
--- In words: the reader's answer on the bytes that an accepted write has written holds the same table, names and dialect.
+-- In words: the reader's answer on the bytes that an accepted write has written holds the same table, names and
+-- dialect.
 pub same-content : (t names ds buffer : List ℕ) (r : Written) (after : List ℕ)
     → written r ≡ writeOf t names ds (length buffer)
     → after ≡ fileAfter t names ds buffer

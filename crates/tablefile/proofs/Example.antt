@@ -1,6 +1,6 @@
 -- What the theorems on files suppose can be met, and not only trivially: the file of `x = 1`, a table of four records
--- with a name and Standard's nine bytes. That its content is sound is computed; that its file is then accepted, and read
--- as this content, is `file-read-back`. Assumes nothing.
+-- with a name and Standard's nine bytes. That its content is sound is computed; that its file is then accepted, and
+-- read as this content, is `file-read-back`. Assumes nothing.
 use mathlib.Core.Path.{_≡_, refl, sym}
 use mathlib.Core.Bool.{Bool, true, _&&_}
 use mathlib.Core.List.{List, [], _∷_, _++_}
