@@ -1,28 +1,30 @@
--- Laws of a file's audit, in the terms of code: the audit of what the reader accepted. Assumes nothing.
+-- A file's audit, in the terms of code, as filepass has it of the module job: the code unpacks the file and runs the
+-- audit, which looks at 1 to 5 itself; that is `auditedOf` (`job-is-answer`), and the words are `auditedAfter`
+-- (`job-is-words`). Assumes nothing.
 use mathlib.Core.Path.{_≡_, refl, sym, ap, _∙_}
 use mathlib.Core.List.{List, [], _∷_}
 use Prim.Native.Nat.{ℕ, _*_, _/_, _≤_}
+use native.Mathlib.Omega.{arith}
 use lib.ListN.{length, take, replicate}
-use Rattle.dialect.specs.Bytes.{fromBytes}
 use Rattle.dialect.specs.declared.Dialect.{Dialect}
-use Rattle.dialect.specs.declared.Decoded.{Decoded}
-use Rattle.dialect.specs.declared.Decoded.the-variants.{Valid, Invalid}
-use Rattle.fields.proofs.Basics.{never}
-use Rattle.table.specs.Answer.{Answer, accepted, refusal}
-use Rattle.table.specs.Check.{inDialect, givenOf, givenCheck}
+use Rattle.table.specs.Answer.{Answer, accepted, refused, andThen, refusal}
+use Rattle.table.specs.Check.{Handing, inDialect, turnedAway, givenOf, inGiven, givenCheck}
 use Rattle.table.specs.declared.Refusal.{Refusal}
+use Rattle.table.proofs.Answers.{after-both}
 use Rattle.table.proofs.Entering.{given-known, given-passed}
-use Rattle.tablefile.specs.Reading.{headerAt, contentAt, readCheck}
+use Rattle.tablefile.specs.File.{Content}
+use Rattle.tablefile.specs.Reading.{headerAt, contentAt, soundCheck}
 use Rattle.tablefile.specs.Loading.{verdict}
 use Rattle.tablefile.specs.Lending.{fileCheck, handed}
 use Rattle.tablefile.specs.declared.Heading.{Heading}
 use Rattle.tablefile.specs.declared.Verdict.{Verdict}
 use Rattle.tablefile.specs.declared.Verdict.the-variants.{Accepted, Refused}
-use Rattle.tablefile.proofs.Accepted.{read-is-sound}
-use Rattle.tablefile.proofs.Lends.{into-table, into-names}
-use Rattle.errors.specs.declared.Listing.the-variants.{Audit}
+use Rattle.tablefile.proofs.Lends.{read-steps, unpacked-nodes, unpacked-table, unpacked-names}
 use Rattle.errors.specs.Errors.{stored}
-use Rattle.audit.specs.Job.{auditErrors, allErrors, auditAfter}
+use Rattle.errors.specs.declared.Listing.the-variants.{Audit}
+use Rattle.audit.specs.Job.{auditIn, allErrors, auditOf, auditAfter}
+use Rattle.filepass.specs.Passing.{behind, ifRead}
+use Rattle.filepass.proofs.Listing.{given-again}
 use Rattle.fileaudit.specs.Auditing.{heldAudit, auditedOf, auditedAfter}
 
 -- a table, names and dialect bytes that pass 1 to 5
@@ -33,37 +35,54 @@ module _ (t names bytes : List ℕ) (sound : givenCheck t names bytes ≡ accept
   pub held-few : length t ≤ 50400
   held-few = given-known t names bytes (known .1) .0 .most
 
-  -- LAW: their errors are those of the pass alone
-  pub held-errors : {d : Dialect} → fromBytes bytes ≡ Valid d → allErrors t names bytes ≡ auditErrors d names t
-  unfolding allErrors
-  held-errors {d} e =
-      let same : Valid (known .0) ≡ Valid d = sym (given-known t names bytes (known .1) .1) ∙ e in
-      let its : known .0 ≡ d = cc in
-      rw (known .1, its) refl
-
   -- LAW: the audit does not refuse them
   pub held-listed : heldAudit t names bytes ≡ accepted (length t / 24 ∷ length (allErrors t names bytes) ∷ [])
   held-listed = rw (known .1) refl
 
-  -- the pass over them, in the terms of code
-  module _ {x : Decoded} (x-is : x ≡ fromBytes bytes) where
-    pub list-never : {P : Type 0} → x ≡ Invalid → P
-    list-never e = let bad = sym (given-known t names bytes (known .1) .1) ∙ sym x-is ∙ e in never (cc)
+-- LAW: the answer is still `auditedOf`: 70 to 75, then the audit on what the file holds
+pub job-is-answer : (file : List ℕ) → andThen (fileCheck file) (λ _.
+    heldAudit (contentAt file .table) (contentAt file .names) (contentAt file .dialect)) ≡ auditedOf file
+unfolding auditedOf
+job-is-answer file =
+    let c : Content = contentAt file in
+    let held : Answer = heldAudit (c .table) (c .names) (c .dialect) in
+    sym (ap (λ (x : Answer). andThen x (λ _. held)) (read-steps file)
+    ∙ after-both (fileCheck file) (λ _. soundCheck c) (λ _. held)
+    ∙ ap (λ (x : Answer). andThen (fileCheck file) (λ _. x))
+    (given-again (givenOf (c .table) (c .names) (c .dialect)) (length (c .table) / 24)
+    (λ _. accepted (length (allErrors (c .table) (c .names) (c .dialect)) ∷ []))))
 
-    pub list-total : (xs : List ℕ) {d : Dialect} {n : ℕ} {ys : List ℕ} → x ≡ Valid d
-        → n ≡ length (auditErrors d names t) → ys ≡ stored Audit (auditErrors d names t) xs
-        → (accepted (length t / 24 ∷ n ∷ []) ≡ heldAudit t names bytes) × (ys ≡ auditAfter t names bytes xs)
-    list-total xs e n-is ys-is =
-        let all = held-errors (sym x-is ∙ e) in
-        (rw (held-listed, all, n-is) refl, rw (all, ys-is) refl)
+-- a job that 1 to 5 turn away changes no word
+pub given-keeps : (t names bytes xs : List ℕ)
+    → ifRead (givenCheck t names bytes) xs (λ _. auditAfter t names bytes xs) ≡ auditAfter t names bytes xs
+unfolding allErrors stored
+given-keeps t names bytes xs = go (givenOf t names bytes)
+  where
+    go : (g : Handing) → ifRead (inGiven g (λ _. accepted [])) xs (λ _. stored Audit (auditIn g names t) xs)
+        ≡ stored Audit (auditIn g names t) xs
+    go (inDialect d) = refl
+    go (turnedAway n vs) = refl
+
+-- LAW: and so are the words
+pub job-is-words : (file xs : List ℕ)
+    → ifRead (fileCheck file) xs (λ _. auditAfter (contentAt file .table) (contentAt file .names)
+    (contentAt file .dialect) xs) ≡ auditedAfter file xs
+unfolding auditedAfter
+job-is-words file xs = rw (read-steps file) (go (fileCheck file))
+  where
+    go : (x : Answer) → ifRead x xs (λ _. auditAfter (contentAt file .table) (contentAt file .names)
+        (contentAt file .dialect) xs)
+        ≡ ifRead (andThen x (λ _. soundCheck (contentAt file))) xs (λ _. auditAfter (contentAt file .table)
+        (contentAt file .names) (contentAt file .dialect) xs)
+    go (accepted vs) = sym (given-keeps (contentAt file .table) (contentAt file .names) (contentAt file .dialect) xs)
+    go (refused n vs) = refl
 
 -- what is answered to a file, step by step: v is what `tablefile::unpack` found
-module _ (file : List ℕ) (v : Verdict) (v-is : verdict v ≡ readCheck file) where
+module _ (file : List ℕ) (v : Verdict) (v-is : verdict v ≡ fileCheck file) where
   pub file-refused : (xs : List ℕ) {why : Refusal} → v ≡ Refused why
       → (refusal why ≡ auditedOf file) × (xs ≡ auditedAfter file xs)
-  unfolding auditedOf auditedAfter
-  file-refused xs {why} e = let told : readCheck file ≡ refusal why = sym v-is ∙ ap verdict e in
-      (rw told refl, rw told refl)
+  file-refused xs {why} e = let told : fileCheck file ≡ refusal why = sym v-is ∙ ap verdict e in
+      (rw told at (job-is-answer file), rw told at (job-is-words file xs))
 
   -- w and wn are the arrays that it left; t, names and bytes are what the file holds in them
   module _ (good : v ≡ Accepted) {h : Heading} (h-is : h ≡ headerAt file) {w wn t names bytes : List ℕ}
@@ -71,22 +90,24 @@ module _ (file : List ℕ) (v : Verdict) (v-is : verdict v ≡ readCheck file) w
       (wn-is : wn ≡ handed (fileCheck file) (contentAt file .names) (replicate 8064 0))
       (t-is : t ≡ take (24 * h .nodes) w) (names-is : names ≡ take (h .names) wn)
       (bytes-is : bytes ≡ contentAt file .dialect) where
-    its : (t ≡ contentAt file .table) × (names ≡ contentAt file .names)
-    its = (t-is ∙ into-table file v v-is good h-is w-is, names-is ∙ into-names file v v-is good h-is wn-is)
-
-    told : readCheck file ≡ accepted []
+    told : fileCheck file ≡ accepted []
     told = sym v-is ∙ ap verdict good
 
-    pub file-sound : givenCheck t names bytes ≡ accepted []
-    file-sound = rw (its .0, its .1, bytes-is) (read-is-sound file told)
+    t-so : t ≡ contentAt file .table
+    t-so = t-is ∙ unpacked-table file v v-is good h-is w-is
 
-    pub file-listed : (xs : List ℕ) {a : Answer} {ys : List ℕ} → a ≡ heldAudit t names bytes
-        → ys ≡ auditAfter t names bytes xs → (a ≡ auditedOf file) × (ys ≡ auditedAfter file xs)
-    unfolding auditedOf auditedAfter
-    file-listed xs a-is ys-is = (
-      a-is ∙ rw (told, its .0, its .1, bytes-is) refl,
-      ys-is ∙ rw (told, its .0, its .1, bytes-is) refl,
-    )
+    names-so : names ≡ contentAt file .names
+    names-so = names-is ∙ unpacked-names file v v-is good h-is wn-is
+
+    nodes-so : length t / 24 ≡ h .nodes
+    nodes-so = omega (arith, unpacked-nodes file v v-is good h-is, ap length t-so)
+
+    -- m is what the audit answers, a that with the number of nodes, and ys the words that it left
+    pub file-answer : {m a : Answer} → m ≡ auditOf t names bytes → a ≡ behind (h .nodes) m → a ≡ auditedOf file
+    file-answer m-is a-is = a-is ∙ rw (m-is, ← nodes-so, t-so, names-so, bytes-is) (rw told at (job-is-answer file))
+
+    pub file-words : (xs : List ℕ) {ys : List ℕ} → ys ≡ auditAfter t names bytes xs → ys ≡ auditedAfter file xs
+    file-words xs ys-is = ys-is ∙ rw (t-so, names-so, bytes-is) (rw told at (job-is-words file xs))
 
 -- and to so many bytes of a buffer: p is their front
 pub read-so : (file xs : List ℕ) {p ys : List ℕ} {a : Answer} → p ≡ file → a ≡ auditedOf p → ys ≡ auditedAfter p xs

@@ -1,24 +1,19 @@
-// A table file to its audit: the reader, then every job on every node of what the file holds, with the errors in a lent
-// list, four words each.
-use dialect::Decoded;
+// A table file to its audit: it is unpacked, then every job runs on every node of what it holds, with the errors in a
+// lent list, four words each.
 use filepass::ENOUGH_BYTES;
 use filepass::Passed;
 use forest::RECORD;
 use table::MOST_BYTES;
 use table::MOST_NAMES;
 use table::MOST_NODES;
-use table::Refusal;
-use table::numbers;
 use tablefile::Verdict;
+use validate::Listed;
 ghost use mathlib.Core.Path.{_≡_};
-ghost use mathlib.Core.List.{[]};
 ghost use lib.ListN.{length, take};
-ghost use Rattle.table.specs.Answer.{accepted};
-ghost use Rattle.table.specs.Check.{givenCheck};
-ghost use Rattle.audit.specs.Job.{auditAfter};
+ghost use Rattle.validate.specs.Job.{listed};
 ghost use Rattle.filepass.specs.Sizes.{enoughBytes};
-ghost use Rattle.filepass.specs.Passing.{passed};
-ghost use Rattle.fileaudit.specs.Auditing.{enoughWords, heldAudit, auditedOf, auditedAfter};
+ghost use Rattle.filepass.specs.Passing.{passed, behind};
+ghost use Rattle.fileaudit.specs.Auditing.{enoughWords, auditedOf, auditedAfter};
 
 // How many words hold the errors of any file: four for each, and at most four errors for each of 2,100 nodes.
 pub const ENOUGH_WORDS: usize = 4 * (4 * MOST_NODES);
@@ -30,17 +25,18 @@ pub fn audit_file(file: &[u8], errors: &mut [u32]) -> Passed
 {
     let mut table = [0u8; MOST_BYTES];
     let mut names = [0u8; MOST_NAMES];
-    let found = tablefile::unpack(file, &mut table, &mut names);
-    if let Verdict::Refused(why) = found {
+    let unpacked = tablefile::unpack(file, &mut table, &mut names);
+    if let Verdict::Refused(why) = unpacked {
         return Passed::Refused(why);
     }
     let h = tablefile::header(file);
-    list(
+    let found = audit::audit(
         filepass::front(&table, RECORD * h.nodes),
         filepass::front(&names, h.names),
         tablefile::dialect_bytes(file),
         errors,
-    )
+    );
+    told(h.nodes as u32, found)
 }
 
 // The same of the bytes that were read of a file, in a buffer and a list that are large enough for every file.
@@ -57,19 +53,15 @@ pub fn audit_read(
     audit_file(filepass::front(buffer, len), errors)
 }
 
-// The audit of what a file holds. The reader has looked at 1 to 5.
-fn list(table: &[u8], names: &[u8], dialect: &[u8], errors: &mut [u32]) -> Passed
-    requires { ⌜ givenCheck (now table) (now names) (now dialect) ≡ accepted [] ⌝ }
-    ensures { λ r. ⌜ passed r ≡ heldAudit (now (table .entry)) (now (names .entry)) (now (dialect .entry)) ⌝ }
-    ensures { λ r. ⌜ now (errors .exit) ≡
-        auditAfter (now (table .entry)) (now (names .entry)) (now (dialect .entry)) (now (errors .entry)) ⌝ }
+// The answer to a file of so many nodes, of which a job answered this.
+fn told(nodes: u32, found: Listed) -> Passed
+    ensures { λ r. ⌜ passed r ≡ behind nodes (listed found) ⌝ }
 {
-    let decoded = dialect::from_bytes(dialect);
-    match decoded {
-        Decoded::Valid(d) => Passed::Listed {
-            nodes: (table.len() / RECORD) as u32,
-            total: audit::pass(table, names, d, errors),
+    match found {
+        Listed::Total(total) => Passed::Listed {
+            nodes: nodes,
+            total: total,
         },
-        Decoded::Invalid => Passed::Refused(Refusal::Bare(numbers::BAD_DIALECT)),
+        Listed::Refused(why) => Passed::Refused(why),
     }
 }

@@ -7,10 +7,10 @@ use lib.ListN.{take, drop}
 use Rattle.fields.specs.Choice.{if'}
 use Rattle.dialect.specs.Bytes.{fromBytes}
 use Rattle.dialect.specs.declared.Decoded.{Decoded}
-use Rattle.dialect.specs.declared.Decoded.the-variants.{Valid, Invalid}
 use Rattle.forest.specs.Forest.{recordBytes}
-use Rattle.table.specs.Numbers.{badDialect, blockCounts}
+use Rattle.table.specs.Numbers.{blockCounts}
 use Rattle.table.specs.Answer.{Answer, accepted, refused, andThen}
+use Rattle.table.specs.Check.{decoded, inGiven}
 use Rattle.blocks.specs.Block.{blockBytes, contentBytes, demand, judge}
 use Rattle.blocks.specs.Run.{blocksFor, judgeRun}
 use Rattle.tablefile.specs.Reading.{headerAt, contentAt, countsFit, frontCheck, soundCheck}
@@ -22,8 +22,7 @@ passes (refused n vs) = false
 
 -- 5: the bytes give a dialect
 abbrev pub dialectCheck : Decoded → Answer
-dialectCheck (Valid d) = accepted []
-dialectCheck Invalid = refused badDialect []
+dialectCheck x = inGiven (decoded x) (λ _. accepted [])
 
 -- block 0: 70, 72, 71, 73, then 74, then 5
 unfoldable pub zeroCheck : List ℕ → Answer

@@ -6,7 +6,7 @@ use lib.ListN.{length}
 use Rattle.fields.proofs.Coincide.{coincide, coincide-by}
 use Rattle.table.specs.Answer.{Answer}
 use Rattle.tablefile.specs.File.{Content}
-use Rattle.tablefile.specs.Reading.{headerAt, contentAt, frontCheck, readCheck}
+use Rattle.tablefile.specs.Reading.{headerAt, contentAt, readCheck}
 use Rattle.tablefile.specs.Loading.{verdict, loadedOf}
 use Rattle.tablefile.specs.Lending.{fileCheck, intoCheck, handed}
 use Rattle.tablefile.specs.declared.Verdict.{Verdict}
@@ -24,12 +24,6 @@ one x c n r s p f q g =
 pub header-one : (bytes : List ℕ) {r s : Heading} → r ≡ headerAt bytes → s ≡ headerAt bytes → r ≡ s
 header-one bytes = coincide
 
--- of `front`, the bytes as lent
-pub front-one : (bytes : List ℕ) {r s : Loaded} → verdict (r .verdict) ≡ frontCheck bytes
-    → r ≡ loadedOf (r .verdict) (contentAt bytes) (headerAt bytes .taken) → verdict (s .verdict) ≡ frontCheck bytes
-    → s ≡ loadedOf (s .verdict) (contentAt bytes) (headerAt bytes .taken) → r ≡ s
-front-one bytes {r} {s} = one _ _ _ r s
-
 -- of `read`, the file as lent
 pub read-one : (file : List ℕ) {r s : Loaded} → verdict (r .verdict) ≡ readCheck file
     → r ≡ loadedOf (r .verdict) (contentAt file) (headerAt file .taken) → verdict (s .verdict) ≡ readCheck file
@@ -38,8 +32,8 @@ read-one file {r} {s} = one _ _ _ r s
 
 -- of `unpack`, the file and the arrays as lent
 pub unpack-one : (file table names : List ℕ) {r s : Verdict} {table-r table-s : List ℕ} {names-r names-s : List ℕ}
-    → verdict r ≡ readCheck file → table-r ≡ handed (fileCheck file) (contentAt file .table) table
-    → names-r ≡ handed (fileCheck file) (contentAt file .names) names → verdict s ≡ readCheck file
+    → verdict r ≡ fileCheck file → table-r ≡ handed (fileCheck file) (contentAt file .table) table
+    → names-r ≡ handed (fileCheck file) (contentAt file .names) names → verdict s ≡ fileCheck file
     → table-s ≡ handed (fileCheck file) (contentAt file .table) table
     → names-s ≡ handed (fileCheck file) (contentAt file .names) names
     → (r ≡ s) × (table-r ≡ table-s) × (names-r ≡ names-s)

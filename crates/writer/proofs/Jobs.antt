@@ -11,7 +11,7 @@ use borrow.Author.Tests.{le-leb, lt-leb, leb-true}
 use Rattle.fields.proofs.Basics.{clash}
 use Rattle.dialect.specs.declared.Dialect.{Dialect}
 use Rattle.table.specs.Numbers.{shortBuffer}
-use Rattle.table.specs.Answer.{Answer, accepted, refused, andThen, refusal}
+use Rattle.table.specs.Answer.{Answer, accepted, refused, andThen, isRefused, refusal}
 use Rattle.table.specs.Check.{Handing, inDialect, turnedAway, given, givenOf, inGiven}
 use Rattle.table.specs.declared.Refusal.{Refusal}
 use Rattle.table.specs.declared.Given.{Given}
@@ -21,7 +21,7 @@ use Rattle.blocks.specs.Run.{blocksFor}
 use Rattle.tablefile.specs.File.{fileOf, mostBlocks}
 use Rattle.tablefile.specs.Reading.{soundCheck}
 use Rattle.tablefile.proofs.Accepted.{dialect-lengths}
-use Rattle.writer.specs.Writing.{holding, bytesFor, roomCheck, writeOf, over, afterwards, fileAfter, isRefused}
+use Rattle.writer.specs.Writing.{holding, bytesFor, roomCheck, writeOf, over, afterwards, fileAfter}
 use Rattle.fields.specs.Choice.{if'}
 
 -- how many bytes a file takes, in the terms of code
@@ -113,6 +113,9 @@ module _ (t names ds file : List ℕ) {a : Answer} (a-is : a ≡ writeOf t names
 
     pub write-nine : length ds ≤ 9
     write-nine = says .dialect
+
+    pub write-few : 1 + blocksFor (length names) + blocksFor (length t) ≤ mostBlocks
+    write-few = sound-few t names ds (says .sound) .0
 
     pub write-room : bytesFor (length t) (length names) ≤ length file
     write-room = says .fits

@@ -1,5 +1,4 @@
 -- Writing a table file: the job's answer, and the buffer at exit. These are definitions.
-use mathlib.Core.Bool.{Bool, true, false}
 use mathlib.Core.List.{List, [], _∷_, _++_}
 use Prim.Native.Nat.{ℕ, _+_, _*_}
 use lib.ListN.{length, take, drop}
@@ -43,11 +42,6 @@ afterwards (refused n vs) file buffer = buffer
 abbrev pub fileAfter : List ℕ → List ℕ → List ℕ → List ℕ → List ℕ
 fileAfter t names bytes buffer =
     afterwards (writeOf t names bytes (length buffer)) (fileOf (holding t names bytes)) buffer
-
--- whether an answer is a refusal
-abbrev pub isRefused : Answer → Bool
-isRefused (accepted vs) = false
-isRefused (refused n vs) = true
 
 -- what the answers of code mean
 abbrev pub written : Written → Answer
