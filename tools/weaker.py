@@ -21,6 +21,7 @@ The last line is 'N of M faults refused, A by the statements and B by the crate 
 accepted.
 """
 import argparse
+import os
 import pathlib
 import re
 import shutil
@@ -147,7 +148,7 @@ class Crate:
                         self.records.setdefault(m.group(1), record_in(m, there, from_outside(there.read_text(), below, there)))
             for m in re.finditer(r"^abbrev pub (\S+) : [^\n]*Type 0\n((?:^(?! *--)\S.*\n(?:  +.*\n)*)+)", text, re.M):
                 clauses = re.findall(rf"^{re.escape(m.group(1))} (.*?)=(?= |\n)((?:.*\n)(?:  +.*\n)*)", m.group(2), re.M)
-                if len(clauses) == 1 and re.fullmatch(r"(?:\S+ )+", clauses[0][0]) and "(" not in clauses[0][0]:
+                if len(clauses) == 1 and re.fullmatch(r"(?:\S+ )*", clauses[0][0]) and "(" not in clauses[0][0]:
                     self.abbrevs[m.group(1)] = (clauses[0][0].split(), " ".join(clauses[0][1].split()))
 
     def module(self, path):
@@ -159,6 +160,22 @@ def put(text, names, args):
     """A text with arguments for names."""
     table = dict(zip(names, args))
     return re.sub(r"(?<![^\s(){}])(\S+?)(?=[\s(){}]|$)", lambda m: wrapped(table[m.group(1)]) if m.group(1) in table else m.group(0), text)
+
+
+def opened(crate, type_):
+    """A theorem's type whose whole is an abbreviation, as the claims of a crate are, with its arrows in sight."""
+    items = arrows(type_)
+    head, *args = groups(bare(items[-1]))
+    function = re.fullmatch(r"\(λ ([^.]+)\. (.*)\)", head)
+    if function and len(function.group(1).split()) == len(args):
+        body = put(function.group(2), function.group(1).split(), args)
+    elif head in crate.abbrevs and len(crate.abbrevs[head][0]) == len(args) and (not args or "→" in crate.abbrevs[head][1]):
+        names, body = crate.abbrevs[head]
+        crate.needs |= set(re.findall(r"[^\s(){}.,;λ]+", body)) - set(names)
+        body = put(body, names, args)
+    else:
+        return type_
+    return opened(crate, " → ".join([*items[:-1], body]))
 
 
 # ---- a theorem
@@ -210,6 +227,9 @@ class Weak:
 def weakened(crate, type_, x, label):
     """Every way to make one conjunct of a type Unit."""
     t = bare(type_)
+    if len(arrows(t)) > 1:
+        yield Weak("Unit {0}", "tt", t)
+        return
     sides = split(t, "↔")
     if len(sides) == 2:
         for k, (a, b) in enumerate([(sides[0], sides[1]), (sides[1], sides[0])]):
@@ -240,9 +260,6 @@ def weakened(crate, type_, x, label):
                 types = [*parts[:k], wrapped(w.type), *parts[k + 1 :]]
                 terms = [f"{x} .{i}" if i != k else w.term for i in range(len(parts))]
                 yield Weak(" × ".join(types), f"({', '.join(terms)})", w.what, w.records)
-        return
-    if len(arrows(t)) > 1:
-        yield Weak("Unit {0}", "tt", t)
         return
     head, *args = groups(t)
     if head in crate.abbrevs and len(crate.abbrevs[head][0]) == len(args):
@@ -282,9 +299,9 @@ def is_claim(crate, type_):
     return bool(re.search(r"[≡≤<→×⊎]", t)) or groups(t)[0] in crate.records or len(groups(t)) > 1 and groups(t)[0] not in ("List", "Maybe")
 
 
-def clause(theorem):
+def clause(sig):
     """The names of a theorem's explicit arguments, and its items."""
-    items, names = arrows(theorem.sig), []
+    items, names = arrows(sig), []
     for n, item in enumerate(items[:-1]):
         if all(is_binder(g) for g in groups(item)):
             names += [x for g in groups(item) if g[0] == "(" for x in g[1:-1].split(" : ")[0].split()]
@@ -325,12 +342,14 @@ def check(name, folder):
 def build(known=[]):
     """The name that this build of rattle gives its folder of kept modules."""
     if not known:
-        folder, kept = copy_of("fields", "build"), WORK / "build"
+        folder, kept = copy_of("fields", f"build-{os.getpid()}"), WORK / f"build-{os.getpid()}"
         shutil.rmtree(kept, ignore_errors=True)
         words = [str(KIT.own / "bin" / "rattle"), "check", "--crate-name", "fields", str(folder / "src" / "lib.rt"), "--extern", f"std={KIT.own / 'rlib' / 'std.rlib'}"]
         words += ["-L", f"dependency={KIT.own / 'rlib'}", "--antt-project", str(KIT.home / "logic" / "antt-project.json"), "--logic-built", str(KIT.own / "logic-built")]
         subprocess.run([*words, "--incremental", str(kept)], capture_output=True)
         known.append(next(p.name for p in kept.iterdir() if p.name.startswith("antt-checked")))
+        shutil.rmtree(kept)
+        shutil.rmtree(folder)
     return known[0]
 
 
@@ -398,7 +417,7 @@ class Module:
         label = iter(range(1, 100000))
         for name, (alias, cited) in self.cited.items():
             t = right[alias][cited]
-            names, items = clause(t)
+            names, items = clause(opened(crate, t.sig))
             call = " ".join([cited, *names])
             statements.append(self.body(name).replace(f"pub {name} :", f"pub {name}-twin :").replace(f"\n{name} ", f"\n{name}-twin "))
             ways = list(weakened(crate, items[-1], "x′", label))
@@ -429,7 +448,8 @@ class Module:
                 lines[at:at] = ["", *"\n".join(places[at]).rstrip("\n").split("\n")]
             text = "\n".join(lines)
             uses = "".join(f"use {self.place(crate, r, new)}.{{{new}}}\n" for r, new, _ in records if (r.foreign or r.path != file) and new in text)
-            for n in sorted(crate.needs & set(crate.known)):
+            planted = set(re.findall(r"[^\s(){}.,;]+", " ".join(t for texts in places.values() for t in texts)))
+            for n in sorted(crate.needs & set(crate.known) & planted):
                 if not re.search(rf"^use .*[{{ ]{re.escape(n)}[,}}]", text, re.M) and crate.known[n] != crate.module(file):
                     uses += f"use {crate.known[n]}.{{{n}}}\n"
             first = re.search(r"^use ", text, re.M).start()
@@ -473,7 +493,7 @@ class Module:
         right = {alias: self.right(CRATES / self.crate, alias) for alias in self.files}
         found, todo = [], []
         for alias, cited in self.cited.values():
-            items = arrows(right[alias][cited].sig)
+            items = arrows(opened(crate, right[alias][cited].sig))
             todo += right[alias][cited].params + items[:-1]
             todo += [items[-1]] if "↔" in items[-1] else []
         seen = set()
