@@ -165,6 +165,10 @@ def put(text, names, args):
 def opened(crate, type_):
     """A theorem's type whose whole is an abbreviation, as the claims of a crate are, with its arrows in sight."""
     items = arrows(type_)
+    if items[-1].startswith("let "):  # a name for a term
+        named, rest = split(items[-1], " in ")[0], " in ".join(split(items[-1], " in ")[1:])
+        name, term = re.fullmatch(r"let (\S+) = (.*)", named).groups()
+        return opened(crate, " → ".join([*items[:-1], put(rest, [name], [term])]))
     head, *args = groups(bare(items[-1]))
     function = re.fullmatch(r"\(λ ([^.]+)\. (.*)\)", head)
     if function and len(function.group(1).split()) == len(args):

@@ -1,5 +1,6 @@
 -- Of a file at most `enoughBytes` bytes are read: the most blocks that a file has, and one byte more. That is enough:
--- the answer to so much of a file is the answer to the file, however long it is (`read-enough`). Assumes nothing.
+-- the answer to so much of a file is the answer to the file, however long it is (`read-enough`). The same holds of
+-- reading it into lent buffers (`into-enough`). Assumes nothing.
 use mathlib.Core.Path.{_≡_, refl, sym, ap, _∙_}
 use mathlib.Core.Bool.{Bool, true, false}
 use mathlib.Core.Logic.{⊎-elim}
@@ -20,6 +21,7 @@ use Rattle.blocks.specs.Block.{demand, judge}
 use Rattle.blocks.specs.Run.{blocksFor, judgeBlocks, judgeRun}
 use Rattle.tablefile.specs.File.{Content, mostBlocks}
 use Rattle.tablefile.specs.Reading.{headerAt, contentAt, countsFit, blocksCheck, frontCheck, soundCheck, readCheck}
+use Rattle.tablefile.specs.Lending.{intoCheck, handed}
 use Rattle.tablefile.proofs.Fronts.{first-is, taken-is, counts-small}
 use Rattle.tablefile.proofs.Accepted.{read-whole, read-fronted}
 use Rattle.filepass.specs.Sizes.{enoughBytes}
@@ -171,6 +173,25 @@ module _ (m : ℕ) (bs : List ℕ) (enough : 512 * mostBlocks < m) (longer : m <
   unfolding wordsAfter
   longer-words xs = refused-both (λ a next. ifRead a xs next) (λ n vs x y. refl) _ _
 
+  pub longer-into : (table names : ℕ) → intoCheck (take m bs) table names ≡ intoCheck bs table names
+  unfolding intoCheck
+  longer-into table names = refused-both andThen (λ n vs x y. refl) _ _
+
+  -- where a check comes behind the reader's, a buffer stays if the reader refuses
+  handed-behind : (a : Answer) (next : Unit {0} → Answer) (held buffer : List ℕ)
+      → handed (andThen a next) held buffer ≡ ifRead a buffer (λ _. handed (next tt) held buffer)
+  unfolding handed
+  handed-behind (accepted vs) next held buffer = refl
+  handed-behind (refused n vs) next held buffer = refl
+
+  pub longer-handed : (table names : ℕ) (part held buffer : List ℕ)
+      → handed (intoCheck (take m bs) table names) part buffer ≡ handed (intoCheck bs table names) held buffer
+  unfolding intoCheck
+  longer-handed table names part held buffer =
+      handed-behind (readCheck (take m bs)) _ part buffer
+      ∙ refused-both (λ a next. ifRead a buffer next) (λ n vs x y. refl) _ _
+      ∙ sym (handed-behind (readCheck bs) _ held buffer)
+
 -- THEOREM: what is answered to the first bytes of a file is what is answered to the file, and the words are the same
 pub read-enough : (file xs : List ℕ) → (answerOf (take enoughBytes file) ≡ answerOf file)
     × (wordsAfter (take enoughBytes file) xs ≡ wordsAfter file xs)
@@ -180,5 +201,24 @@ read-enough file xs =
     (λ (h : enoughBytes < length file). (
       longer-answer enoughBytes file (omega arith) h,
       longer-words enoughBytes file (omega arith) h xs,
+    ))
+    (le-or-lt (length file) enoughBytes)
+
+-- THEOREM: so it is where a file is read into buffers, with the table and the names at exit
+pub into-enough : (file t ns : List ℕ) → let part = take enoughBytes file in
+    let answer = intoCheck file (length t) (length ns) in
+    let answer-part = intoCheck part (length t) (length ns) in
+    (answer-part ≡ answer)
+    × ((handed answer-part (contentAt part .table) t ≡ handed answer (contentAt file .table) t)
+    × (handed answer-part (contentAt part .names) ns ≡ handed answer (contentAt file .names) ns))
+into-enough file t ns =
+    ⊎-elim
+    (λ (h : length file ≤ enoughBytes). rw (take-all enoughBytes file h) (refl, (refl, refl)))
+    (λ (h : enoughBytes < length file). (
+      longer-into enoughBytes file (omega arith) h (length t) (length ns),
+      (
+        longer-handed enoughBytes file (omega arith) h (length t) (length ns) _ _ t,
+        longer-handed enoughBytes file (omega arith) h (length t) (length ns) _ _ ns,
+      ),
     ))
     (le-or-lt (length file) enoughBytes)

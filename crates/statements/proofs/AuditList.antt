@@ -12,7 +12,7 @@ use Rattle.errors.specs.declared.Listing.the-variants.{Audit}
 use Rattle.errors.proofs.Storing.{allWords}
 use Rattle.validate.specs.Job.{listed}
 use Rattle.validate.specs.declared.Listed.the-variants.{Total}
-use Rattle.audit.specs.Job.{allErrors, auditOf, auditAfter}
+use Rattle.audit.specs.Job.{allErrors, auditOf, auditAfter, enoughWords}
 use Rattle.audit.proofs.Theorems as theorem
 
 -- "No refusal changes a buffer": the audit's errors
@@ -42,3 +42,11 @@ pub list-holds-all : (t names bytes xs : List ℕ)
     → auditAfter t names bytes xs
     ≡ allWords Audit (allErrors t names bytes) ++ drop (width Audit * length (allErrors t names bytes)) xs
 list-holds-all = theorem.list-holds-all
+
+-- 33,600 words are enough for every table
+-- In words: a list of `enoughWords` words holds all errors of any table in order, and its other words are as they were.
+pub list-has-room : (t names bytes xs : List ℕ)
+    → length xs ≡ enoughWords
+    → auditAfter t names bytes xs
+    ≡ allWords Audit (allErrors t names bytes) ++ drop (width Audit * length (allErrors t names bytes)) xs
+list-has-room = theorem.list-has-room

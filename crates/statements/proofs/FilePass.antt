@@ -8,6 +8,7 @@ use Prim.Native.Nat.{ℕ, _*_}
 use lib.ListN.{length, take, drop}
 use Rattle.table.specs.Answer.{accepted, refused}
 use Rattle.tablefile.specs.Reading.{headerAt, contentAt, readCheck}
+use Rattle.tablefile.specs.Lending.{intoCheck, handed}
 use Rattle.errors.specs.Errors.{width}
 use Rattle.errors.specs.declared.Listing.the-variants.{Module}
 use Rattle.errors.proofs.Storing.{allWords}
@@ -59,3 +60,16 @@ pub read-is-whole : (file buffer xs : List ℕ) (len : ℕ)
     → (answerOf (take len buffer) ≡ answerOf file)
     × (wordsAfter (take len buffer) xs ≡ wordsAfter file xs)
 read-is-whole = theorem.read-is-whole
+
+-- the same where a file is read into lent buffers
+-- In words: for `tablefile::read_into` so much of a file gives the answer of the file, and table and names at exit are
+-- the same.
+pub into-enough : (file t ns : List ℕ)
+    → (intoCheck (take enoughBytes file) (length t) (length ns) ≡ intoCheck file (length t) (length ns))
+    × (handed (intoCheck (take enoughBytes file) (length t) (length ns)) (contentAt (take enoughBytes file) .table) t
+    ≡ handed (intoCheck file (length t) (length ns)) (contentAt file .table) t)
+    × (handed (intoCheck (take enoughBytes file) (length t) (length ns)) (contentAt (take enoughBytes file) .names) ns
+    ≡ handed (intoCheck file (length t) (length ns)) (contentAt file .names) ns)
+into-enough file t ns =
+    let x = theorem-enough.into-enough file t ns in
+    (x .0, x .1 .0, x .1 .1)

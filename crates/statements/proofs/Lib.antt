@@ -6,6 +6,7 @@ pub mod Parameters
 pub mod Demand3
 pub mod Arguments
 pub mod Binding
+pub mod BindingRoom
 pub mod Shapes
 pub mod Module
 pub mod AuditList
