@@ -159,7 +159,7 @@ class Crate:
 def put(text, names, args):
     """A text with arguments for names."""
     table = dict(zip(names, args))
-    return re.sub(r"(?<![^\s(){}])(\S+?)(?=[\s(){}]|$)", lambda m: wrapped(table[m.group(1)]) if m.group(1) in table else m.group(0), text)
+    return re.sub(r"(?<![^\s(){}])([^\s(){}]+)(?=[\s(){}]|$)", lambda m: wrapped(table[m.group(1)]) if m.group(1) in table else m.group(0), text)
 
 
 def opened(crate, type_):
