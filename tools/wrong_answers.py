@@ -353,13 +353,6 @@ def or_bad(judge, *words):
         return False, f"BAD EDIT: {bad}"
 
 
-# the facts at which a theorem over a definition fails: what computes differs, or what an answer is asked to be
-LAWS = {
-    **FACTS,
-    r"the two (?:types|sides) |these are two different |this has the type|the types? .* (?:is|are) not|`refl`|`cc`|`absurd`|`\S+` does not": "law",
-}
-
-
 def settle_definition(edit, build):
     """Whether an edit of a definition is refused at a stated fact of its crate, and the verdict in words."""
     edit.find()
@@ -376,7 +369,7 @@ def settle_definition(edit, build):
     if not errors or not errors[0][0].startswith("proofs/"):
         raise BadEdit(f"no theorem is refused, but: {errors[0] if errors else said[-300:]}")
     file, theorem, words = errors[0]
-    tactic = next((tactic for pattern, tactic in LAWS.items() if re.match(pattern, words)), None)
+    tactic = next((tactic for pattern, tactic in FACTS.items() if re.match(pattern, words)), None)
     if not tactic:
         raise BadEdit(f"{theorem} of {file} is refused at no stated fact: {words[:300]}")
     return True, f"refused, as it must be, at {theorem} of {file}: {tactic}"
