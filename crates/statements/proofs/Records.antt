@@ -8,7 +8,8 @@ use Prim.Native.Nat.{ℕ, _+_, _*_, _/_, _<_, _≤_}
 use lib.ListN.{length, drop}
 use Rattle.forest.specs.Forest.{sizeOf, nodeOf, kidsOf, forest}
 use Rattle.forest.specs.declared.Found.the-variants.{Nothing}
-use Rattle.soundness.specs.Sound.{wholeTree, firstUnsound}
+use Rattle.soundness.specs.Sound.{wholeTree, rootSound, contextOf, firstUnsound}
+use Rattle.soundness.proofs.SoundTables.{allSound}
 use Rattle.soundness.proofs.SoundTables as theorem
 
 -- "its subtree is empty or passes the table's end"
@@ -37,3 +38,13 @@ pub here-size : (t names : List ℕ)
     → i < length t / 24
     → (1 ≤ sizeOf (drop (24 * i) t)) × (24 * (i + sizeOf (drop (24 * i) t)) ≤ length t)
 here-size = theorem.here-size
+
+-- "Node 0 is a statement that covers the table", and each record keeps the rules: no record is unsound
+-- In words: a table of whole records whose root is a statement that covers it, and all of whose nodes are sound, has no
+-- unsound record.
+pub sound-clean : (t names : List ℕ)
+    → rootSound t ≡ true
+    → 24 * (length t / 24) ≡ length t
+    → allSound (contextOf t names) (forest 0 t) ≡ true
+    → firstUnsound t names ≡ Nothing
+sound-clean t names root whole all = theorem.sound-clean t names root record { records = whole; nodes = all }
