@@ -41,7 +41,7 @@ KINDS = """1 Statements 2 Def 3 For 4 If 5 IfElse 6 Break 7 Continue 8 Return 9 
 33 Not 34 Minus 35 Plus 36 BitNot 37 Op 38 IfExpr 39 List 40 Dict 41 ListComprehension 42 DictComprehension 43 FString
 50 Normal 51 NoArgs 52 Slash 53 ArgsParam 54 KwArgsParam 60 Positional 61 Named 62 ArgsArg 63 KwArgsArg""".split()
 NUMBER = {name: int(number) for number, name in zip(KINDS[::2], KINDS[1::2])}
-JOBS = {"check": 1, "node": 2, "dialect": 3, "call": 4, "params": 5, "target": 6, "assignment": 7, "type": 8, "module": 9, "bind": 10}
+JOBS = {"check": 1, "node": 2, "dialect": 3, "call": 4, "params": 5, "target": 6, "assignment": 7, "type": 8, "module": 9, "bind": 10, "audit": 11}
 WANTED = {"parameters": 1, "call": 2, "assignment": 3, "expression": 4}
 DIALECTS = {"none": "", "Standard": "111000100", "Extended": "111102110", "AllOptionsInternal": "111112111"}
 MOST_NODES, MOST_NAMES, MOST_DEPTH = 2100, 8064, 64
