@@ -10,9 +10,9 @@ pub(crate) enum Replayed {
     Different(usize),
 }
 
-// The head of a request: the job, how long its parts are, the job's node, the number that it answers, how many words, and
-// whether the crate (1) or the model alone (0) has given the answer. `second` is the Def's node of a binding, and how long
-// the second buffer of the reader is.
+// The head of a request: the job, how long its parts are, the job's node, the number that it answers, how many words,
+// and whether the crate (1) or the model alone (0) has given the answer. `second` is the Def's node of a binding, and
+// how long the second buffer of the reader is.
 struct Asked {
     job: usize,
     dialect: usize,
