@@ -184,7 +184,10 @@ fn read_agrees(a: Asked, file: &[u8], answer: &[u8]) -> bool {
     let held: &mut [u8] = &mut more;
     let room = a.room;
     let second = a.second;
-    if (table.len() < room) | (held.len() < second) {
+    if table.len() < room {
+        return false;
+    }
+    if held.len() < second {
         return false;
     }
     let number = starlark_checks::starlark_read(
