@@ -19,6 +19,7 @@ use super::Plan;
 use crate::checker::Checker;
 use crate::port::Job;
 use crate::port::Request;
+use crate::rng::Rng;
 
 /// Nothing is permitted, and there are no types.
 const NOTHING: [u8; 9] = [0; 9];
@@ -108,6 +109,20 @@ impl Growing {
 fn short(number: usize) -> [u8; 2] {
     const LETTERS: &[u8; 62] = b"abcdefghijklmnopqrstuvwxyzABCDEFGHIJKLMNOPQRSTUVWXYZ0123456789";
     [LETTERS[number / 62 % 62], LETTERS[number % 62]]
+}
+
+/// From here on names have no order, so that some of a list meet wherever names are noted.
+const WITHOUT_ORDER: usize = 10_000;
+
+/// The name of a number.
+fn spelled(number: usize) -> Vec<u8> {
+    let mut name = short(number).to_vec();
+    if WITHOUT_ORDER <= number {
+        let mut rng = Rng::new(number as u64, 31);
+        let letters = rng.within(1, 9);
+        name.extend((0..letters).map(|_| b'a' + rng.below(26) as u8));
+    }
+    name
 }
 
 /// Names that are nearly equal, bit by bit, and fields that are nearly `type`.
@@ -230,7 +245,7 @@ fn add_parameters(growing: &mut Growing, names: &[usize], form: usize) {
     for (place, &name) in names.iter().enumerate() {
         match parameter(form, place, names.len()) {
             mark @ (kind::SLASH | kind::NO_ARGS) => growing.leaf(mark, b""),
-            named => growing.leaf(named, &short(name)),
+            named => growing.leaf(named, &spelled(name)),
         }
     }
 }
@@ -273,8 +288,8 @@ fn add_call(growing: &mut Growing, names: &[usize], form: usize) -> usize {
             growing.leaf(kind::IDENTIFIER, b"f");
             for (place, &name) in names.iter().enumerate() {
                 let kind = argument(form, place, names.len());
-                let name = if kind == kind::NAMED { &short(name)[..] } else { b"" };
-                let node = growing.open(kind, 0, name);
+                let name = if kind == kind::NAMED { spelled(name) } else { Vec::new() };
+                let node = growing.open(kind, 0, &name);
                 growing.leaf(kind::INT, b"");
                 growing.close(node);
             }
@@ -291,9 +306,9 @@ fn check_arguments(checker: &mut Checker, count: usize, form: usize) {
 }
 
 /// A name that stands once more at the end of a list: of long lists every earlier place is tried, so that whatever a check notes of the names
-/// between the two is tried too.
+/// between the two is tried too. The numbers of a list differ by less than 3,844, so that its names do.
 fn repeated_names(checker: &mut Checker, turns: &mut Turns) {
-    for from in [0, 700, 1_400] {
+    for from in [1, 2, 3].map(|set| set * WITHOUT_ORDER) {
         for count in [120, 250, 260] {
             for place in 0..count {
                 if turns.next(checker) {
