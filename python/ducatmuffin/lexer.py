@@ -103,7 +103,7 @@ class Lexer:
             if group == "name":
                 text = token[group]
                 if text in RESERVED:
-                    raise NotStarlark(f"`{text.decode()}` is a reserved word, which Starlark has no use for", begin, end)
+                    raise NotStarlark(f"`{text.decode()}` is reserved, and Starlark has no such statement or operator", begin, end)
                 add(words.get(text, NAME), begin, end)
             elif group == "symbol" or group == "other":
                 end = self.symbol(words[token[group]], begin, end)

@@ -187,7 +187,7 @@ class Parser:
                 break
             into.append(self.simple())
         if self.kind == "=":
-            raise self.unexpected("the end of the statement", "an assignment has one `=`")
+            raise self.unexpected(WANTED[NEWLINE], "an assignment has one `=`")
         self.expect(NEWLINE)
 
     def simple(self):
@@ -213,9 +213,9 @@ class Parser:
             self.advance()
             if self.kind == ")":
                 break
-            if self.kind == NAME:
+            if self.kind == NAME and self.kinds[self.at + 1] == "=":
                 self.advance()
-                self.expect("=")
+                self.advance()
             self.load_string()
             names += 1
         self.expect(")")
@@ -546,9 +546,9 @@ class Parser:
         text = self.script[begin:end].decode()
         said = DESCRIBED.get(kind) or f"`{text if len(text) <= LONGEST else text[:LONGEST - 1] + '…'}`"
         if begin == len(self.script):
-            said, note = "the end of the script", self.unclosed() or note
-        said = f"expected {wanted}, found {said}" if wanted else f"unexpected: {said}"
-        note = self.hint(kind, begin) or note
+            said, note = "end of script", self.unclosed() or note
+        said = f"expected {wanted}, found {said}" if wanted else f"unexpected {said}"
+        note = self.beside(kind, begin, end) or note or HINTS.get(kind)
         return NotStarlark(f"{said}: {note}" if note else said, begin, end)
 
     def unclosed(self):
@@ -558,8 +558,8 @@ class Parser:
         at = self.tokens.opened[-1]
         return f"the `{chr(self.script[at])}` of line {self.script.count(10, 0, at) + 1} is not closed"
 
-    def hint(self, kind, begin):
-        """What the writer may have meant."""
+    def beside(self, kind, begin, end):
+        """What the writer may have meant, by the tokens before and after."""
         last, close = self.kinds[self.at - 1] if self.at else None, begin == self.ended
         if kind in (STRING, BYTES, FSTRING):
             if last in (STRING, BYTES, FSTRING_END):
@@ -568,14 +568,14 @@ class Parser:
                 return "the prefixes of strings are r, b, br, rb, f and fr"
         if last in (INT, FLOAT) and kind in (NAME, INT, FLOAT) and close:
             return "Starlark has no number of this form"
-        if kind == "=" and last == ":" and close:
+        if self.script[begin:begin + 2] == b":=" or self.script[begin - 1:end] == b":=":
             return "Starlark has no `:=`"
-        return HINTS.get(kind, "")
+        return None
 
 
 LONGEST = 40  # characters of a token in a message
-DESCRIBED = {NEWLINE: "the end of the line", INDENT: "an indented line", DEDENT: "the end of the block", END: "the end of the script",
-             FIELD_END: "the end of a field", FSTRING_END: "the end of an f-string"}
-WANTED = {NEWLINE: "the end of the statement", INDENT: "an indented block", NAME: "a name", FSTRING_END: "the end of the f-string"}
-HINTS = {"**": "Starlark has no `**` between expressions", "load": "`load` is a statement, and cannot be a name",
-         "*": "`*` is allowed before parameters and arguments, not before other expressions"}
+DESCRIBED = {NEWLINE: "end of line", INDENT: "indentation", DEDENT: "end of block", END: "end of script", FIELD_END: "end of field",
+             FSTRING_END: "end of f-string"}
+WANTED = {NEWLINE: "end of statement", INDENT: "an indented block", NAME: "a name", FSTRING_END: "end of f-string"}
+HINTS = {"*": "`*` stands before parameters and arguments, and between numbers", "**": "`**` stands before parameters and arguments alone",
+         "load": "`load` begins a statement, and cannot be a name"}
