@@ -103,7 +103,7 @@ class Lexer:
             if group == "name":
                 text = token[group]
                 if text in RESERVED:
-                    raise NotStarlark(f"`{text.decode()}` is reserved, and Starlark has no such statement or operator", begin, end)
+                    raise NotStarlark(f"`{text.decode()}` is a reserved word", begin, end)
                 add(words.get(text, NAME), begin, end)
             elif group == "symbol" or group == "other":
                 end = self.symbol(words[token[group]], begin, end)
@@ -154,7 +154,7 @@ class Lexer:
         while width < self.levels[-1]:
             self.levels.pop()
             if width > self.levels[-1]:
-                raise NotStarlark("the indentation is that of no block around it", at, end)
+                raise NotStarlark("the indentation matches no block around this line", at, end)
             self.found.add(DEDENT, at, at)
         return end
 
@@ -181,7 +181,7 @@ class Lexer:
         """What begins no token: the `!` of a field, directly after its expression, or an error."""
         begin = SPACES.match(self.script, at).end()
         byte = self.script[begin:begin + 1]
-        if byte == b"!" and begin == self.found.ends[-1] and self.fields and self.fields[-1].depth == len(self.opened):
+        if byte == b"!" and self.fields and self.fields[-1].depth == len(self.opened) and begin == self.found.ends[-1]:
             self.found.add(BANG, begin, begin + 1)
             return begin + 1
         if byte == b"\t":
@@ -189,9 +189,9 @@ class Lexer:
         if byte == b"\r":
             raise NotStarlark("a carriage return without a newline after it", begin)
         if byte == b"\\":
-            raise NotStarlark("a `\\` that is not the last character of its line", begin)
+            raise NotStarlark("a `\\` outside strings must be the last character of its line", begin)
         if byte == b"!" and self.fields:
-            raise NotStarlark("a `!` that does not follow the expression of a field directly", begin)
+            raise NotStarlark("a `!` must follow the expression of a field directly", begin)
         character = self.script[begin:begin + 4].decode(errors="ignore")[0]
         end = begin + len(character.encode())
         if not character.isprintable():
@@ -242,7 +242,7 @@ class Lexer:
                 field.depth = len(self.opened)
                 return end
             else:
-                raise NotStarlark("a single `}` in an f-string; `}}` is the character", begin)
+                raise NotStarlark("a `}` that closes no field of the f-string: `}}` is the character", begin)
 
     def unfinished(self, begin, stop):
         return NotStarlark("a string that is not closed" + (" in its line" if stop else ""), begin, stop.start() if stop else len(self.script))

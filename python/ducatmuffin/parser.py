@@ -24,7 +24,7 @@ LEAVES = {INT: KIND["Int"], FLOAT: KIND["Float"], STRING: KIND["String"], BYTES:
 WORDS = {"break": BREAK, "continue": CONTINUE, "pass": OTHER}
 UNARY = {"-": KIND["Minus"], "+": KIND["Plus"], "~": KIND["BitNot"]}
 AUGMENTED = frozenset("+= -= *= /= //= %= &= |= ^= <<= >>=".split())
-# how strongly an operator binds. `not` before an operand stands between `and` and the comparisons; as an operator it is that of `not in`
+# how strongly an operator binds. `not` before an operand binds between `and` and the comparisons; as an operator it begins `not in`
 OR, AND, NEGATION, COMPARISON, BIT_OR = 1, 2, 3, 4, 5
 BINDS = {"or": OR, "and": AND, **dict.fromkeys(("==", "!=", "<", ">", "<=", ">=", "in", "not"), COMPARISON), "|": BIT_OR, "^": 6, "&": 7,
          "<<": 8, ">>": 8, "+": 9, "-": 9, "*": 10, "/": 10, "%": 10, "//": 10}
@@ -33,7 +33,8 @@ AFTER_LIST = frozenset([NEWLINE, ";", "=", ":", ")", "in", *AUGMENTED])
 
 LEVELS = 200  # of expressions and blocks in each other; a table has 64 levels of nodes, and each takes at most two of these
 FIELDS = "a field of an f-string is {expression}, {expression!s} or {expression!r}"
-NO_GENERATOR = "Starlark has no generators, a list comprehension stands in [ ]"
+NO_GENERATOR = "Starlark has no generators: use a list comprehension"
+ONE_OR_TWO = "an index is one expression, two, or a slice"
 
 
 class TooDeep(Exception):
@@ -220,7 +221,7 @@ class Parser:
             names += 1
         self.expect(")")
         if not names:
-            raise NotStarlark("a load statement has the string of a file and at least one more", begin, self.ended)
+            raise NotStarlark("a load statement needs a file and at least one name", begin, self.ended)
         return Node(LOAD, begin, self.ended)
 
     def load_string(self):
@@ -229,7 +230,7 @@ class Parser:
         self.advance()
 
     def assignment(self):
-        """An assignment, or an expression that stands alone."""
+        """An assignment, or an expression as a statement."""
         begin = self.begin
         children, detail = [self.expressions()], 0
         if self.kind == ":":
@@ -301,7 +302,7 @@ class Parser:
             self.advance()
         value = self.expression()
         if self.kind == "=":
-            raise self.unexpected("`,` or `)`", "before the `=` of an argument stands a name")
+            raise self.unexpected("`,` or `)`", "before the `=` of an argument must be a name")
         if self.kind == "for":
             raise self.unexpected("`,` or `)`", NO_GENERATOR)
         return Node(kind, begin, self.ended, [value], 0, name)
@@ -313,7 +314,7 @@ class Parser:
         return self.list_of(self.expression)
 
     def targets(self):
-        """What stands between `for` and `in`."""
+        """The targets between `for` and `in`."""
         return self.list_of(self.target)
 
     def target(self):
@@ -377,7 +378,7 @@ class Parser:
             found = Node(OP, begin, self.ended, [found, right], detail)
             last, binds = binds, BINDS.get(self.kind, 0)
             if last == binds == COMPARISON:
-                raise self.unexpected("", "comparisons are not chained, `and` or parentheses are needed")
+                raise self.unexpected("", "comparisons cannot be chained: use `and` or parentheses")
         self.level -= 1
         return found
 
@@ -501,6 +502,8 @@ class Parser:
         if self.kind == ",":
             self.advance()
             kind = INDEX2
+            if self.kind == "]":
+                raise self.unexpected("an expression", ONE_OR_TWO)
             children.append(self.expression())
         elif self.kind == ":":
             kind = SLICE
@@ -508,7 +511,7 @@ class Parser:
             if self.kind == ":":
                 self.slice_part(children)
         if self.kind != "]":
-            raise self.unexpected("`]`", "in brackets are one index, two, or a slice")
+            raise self.unexpected("`]`", ONE_OR_TWO)
         self.advance()
         return Node(kind, begin, self.ended, children)
 
@@ -563,9 +566,9 @@ class Parser:
         last, close = self.kinds[self.at - 1] if self.at else None, begin == self.ended
         if kind in (STRING, BYTES, FSTRING):
             if last in (STRING, BYTES, FSTRING_END):
-                return "strings that stand side by side are not joined, `+` joins them"
+                return "strings side by side are not joined: use `+`"
             if last == NAME and close:
-                return "the prefixes of strings are r, b, br, rb, f and fr"
+                return "a string can have the prefixes r, b, br, rb, f and fr"
         if last in (INT, FLOAT) and kind in (NAME, INT, FLOAT) and close:
             return "Starlark has no number of this form"
         if self.script[begin:begin + 2] == b":=" or self.script[begin - 1:end] == b":=":
@@ -577,5 +580,5 @@ LONGEST = 40  # characters of a token in a message
 DESCRIBED = {NEWLINE: "end of line", INDENT: "indentation", DEDENT: "end of block", END: "end of script", FIELD_END: "end of field",
              FSTRING_END: "end of f-string"}
 WANTED = {NEWLINE: "end of statement", INDENT: "an indented block", NAME: "a name", FSTRING_END: "end of f-string"}
-HINTS = {"*": "`*` stands before parameters and arguments, and between numbers", "**": "`**` stands before parameters and arguments alone",
+HINTS = {"*": "`*` before an expression is allowed only in the arguments of a call", "**": "`**` is allowed only before parameters and arguments",
          "load": "`load` begins a statement, and cannot be a name"}
