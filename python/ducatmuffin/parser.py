@@ -11,6 +11,7 @@ the span of the node around them.
 from .lexer import (BANG, BYTES, DEDENT, END, ERROR, FIELD, FIELD_END, FLOAT, FSTRING, FSTRING_END, INDENT, INT, NAME, NEWLINE, STRING, NotStarlark,
                     tokens)
 from .numbers import KIND
+from .output import shown
 
 (STATEMENTS, DEF, FOR, IF, IF_ELSE, BREAK, CONTINUE, RETURN, LOAD, OTHER, ASSIGN, MODIFY) = (KIND[word] for word in (
     "Statements", "Def", "For", "If", "IfElse", "Break", "Continue", "Return", "Load", "OtherSimple", "Assign", "AssignModify"))
@@ -546,8 +547,7 @@ class Parser:
         kind, begin, end = self.kind, self.begin, self.ends[self.at]
         if kind == ERROR:
             return self.tokens.error
-        text = self.script[begin:end].decode()
-        said = DESCRIBED.get(kind) or f"`{text if len(text) <= LONGEST else text[:LONGEST - 1] + '…'}`"
+        said = DESCRIBED.get(kind) or f"`{short(self.script[begin:end])}`"
         if begin == len(self.script):
             said, note = "end of script", self.unclosed() or note
         said = f"expected {wanted}, found {said}" if wanted else f"unexpected {said}"
@@ -574,6 +574,13 @@ class Parser:
         if self.script[begin:begin + 2] == b":=" or self.script[begin - 1:end] == b":=":
             return "Starlark has no `:=`"
         return None
+
+
+def short(text):
+    """The first characters of the first line of a token."""
+    first, more, _ = text.partition(b"\n")
+    said = shown(first)
+    return said[:LONGEST - 1] + "…" if more or len(said) > LONGEST else said
 
 
 LONGEST = 40  # characters of a token in a message

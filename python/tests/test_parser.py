@@ -1,6 +1,6 @@
 """The lexer and the parser: what is Starlark and what is not, deep nesting, and scripts with bytes changed.
 
-DUCAT_ROUNDS is the number of changed scripts, 2000 without it.
+DUCAT_ROUNDS is the number of changed scripts, 20000 without it.
 """
 import os
 import random
@@ -11,7 +11,7 @@ import support
 from ducatmuffin import export, lexer, parser
 from test_export import TREES
 
-ROUNDS = int(os.environ.get("DUCAT_ROUNDS", "2000"))
+ROUNDS = int(os.environ.get("DUCAT_ROUNDS", "20000"))
 
 # scripts that are Starlark, whatever the checker says of their lists and targets
 ACCEPTED = [
