@@ -18,10 +18,10 @@ HEADER, NAMES = ROOT / "include" / "starlark.h", ROOT / "include" / "starlark_na
 RUST, RAW = ROOT / "bindings" / "rust", ROOT / "bindings" / "raw"
 PYTHON = ROOT / "python" / "ducatmuffin"
 # the header's constants that the wrapper has too, and where the code has them
-SHARED = ["WORDS", "NODES", "NODE_BYTES", "NAME_BYTES", "DEPTH", "FILE_BYTES", "ERRORS", "AUDIT_ERRORS", "STACK_BYTES"]
+SHARED = ["WORDS", "NODES", "NODE_BYTES", "NAME_BYTES", "DEPTH", "FILE_BYTES", "ERRORS", "AUDIT_ERRORS", "STACK_BYTES", "DIALECT_BYTES"]
 IN_CODE = {"NODES": "table/src/lib.rt: MOST_NODES", "NAME_BYTES": "table/src/lib.rt: MOST_NAMES", "DEPTH": "table/src/depth.rt: MOST_DEPTH",
            "NODE_BYTES": "forest/src/lib.rt: RECORD"}
-# the bytes that starlark_params and starlark_type store, as crates/parameters/specs and crates/types/specs define them
+# the bytes that starlark_params and starlark_type store, as crates/deflist/specs and crates/types/specs define them
 MODES = ["PosOnly", "PosOrName", "NameOnly", "Args", "Kwargs"]
 SHAPES = ["Ellipsis", "Path", "Index", "Index2", "List", "Union", "Tuple"]
 # the dialects of crates/dialect that have a name, and what the interfaces call them
@@ -106,7 +106,7 @@ def python():
     parts = [
         "# what a function returns that accepts, and the word for \"no place\" and \"no earlier node\"\nACCEPTED = 0\nNONE = 0xFFFFFFFF\n",
         "# the limits of include/starlark.h; OUT_WORDS is the number of words that an answer has\n"
-        + "".join(f"{'OUT_WORDS' if name == 'WORDS' else name} = {limits[name]}\n" for name in [*SHARED, "DIALECT_BYTES"]),
+        + "".join(f"{'OUT_WORDS' if name == 'WORDS' else name} = {limits[name]}\n" for name in SHARED),
         listed("NUMBERS", "the name of each number", [(int(number), f'"{name}"') for number, name, _, _ in numbers]),
         listed("WORDS", "what each number means", [(int(number), f'"{in_c(words)}"') for number, _, words, _ in numbers]),
         listed("KINDS", "the name and the class of each kind", [(int(number), f'("{name}", "{own}")') for number, name, own in kinds]),
@@ -228,6 +228,19 @@ def constants():
     return faults
 
 
+def stored():
+    """The faults of modes and shapes: their bytes are those of the definitions."""
+    modes = re.findall(r"^mode(\w+) = (\d+)$", (CRATES / "deflist" / "specs" / "Unpack.antt").read_text(), re.M)
+    forms = (CRATES / "types" / "specs" / "Forms.antt").read_text()
+    shapes = [row for row in re.findall(r"^shapeOf (\w+) = (\d+)$", forms, re.M) if row[0] not in ("List", "Other")]
+    shapes += [("List", re.search(r"^listShape = (\d+)$", forms, re.M)[1])]
+    told = []
+    for what, cases, found in (("modes", MODES, modes), ("shapes", SHAPES, shapes)):
+        if sorted((int(byte), name) for name, byte in found) != list(enumerate(cases, 1)):
+            told.append(f"tools/interfaces.py: the {what} are not those of the definitions")
+    return told
+
+
 def declared():
     """The faults of the functions: Rust declares, and Python calls, those of the header with the same arguments, in the same order."""
     told, kinds_c = [], {"uint32_t *": "*mut u32", "uint8_t *": "*mut u8", "const uint8_t *": "*const u8", "size_t ": "usize"}
@@ -249,7 +262,7 @@ def faults():
     """All that is not as it must be."""
     wrong = [path for path, text in made().items() if not path.exists() or path.read_text() != text]
     told = [f"{path.relative_to(ROOT)} is not what the lists give (tools/interfaces.py --write makes it)" for path in wrong]
-    return told + versions() + constants() + declared()
+    return told + versions() + constants() + stored() + declared()
 
 
 def main():

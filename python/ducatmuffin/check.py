@@ -377,8 +377,9 @@ def run(library, options, found, jobs, out, front):
     report = Report(out, front) if options.json and not options.quiet else None
     progress = Progress(len(found), not options.quiet)
     out.before = progress.clear
+    given = answers(checker, found, jobs)
     try:
-        for answer in answers(checker, found, jobs):
+        for answer in given:
             totals.add(answer)
             if answer.out:
                 report.add(answer.out) if report else out.write(answer.out)
@@ -389,6 +390,7 @@ def run(library, options, found, jobs, out, front):
             if progress.shown:
                 progress.step(totals.files, totals.faulty + totals.refused + totals.unread)
     finally:
+        given.close()  # ends the processes of --jobs
         progress.clear()
     if report:
         report.end(totals=totals.in_json(), status=totals.status)

@@ -28,14 +28,17 @@ The first command proves and compiles the library, which takes some minutes and 
 Exit status: 0 no errors; 1 errors; 2 an input is refused or cannot be read, wrong usage, no library, or output that cannot be written. Of
 several inputs the highest counts. INT, TERM and HUP end the command as they end others."""
 
-CHECK = """Checks each PATH: a table file, a script, or a folder, which is searched for *.table and scripts. `-` is standard input.
+CHECK = """Checks each PATH: a table file, a script, or a folder, which is searched for *.table and scripts. `-` is
+standard input.
 
-A script is a file whose name ends in .star, .bzl, .sky, .bazel or .BUILD, or is BUILD, BUCK or WORKSPACE, or matches a GLOB of --as-script. Any
-other file is a table file. Of a folder, hidden folders and links to folders are skipped.
+A script is a file whose name ends in .star, .bzl, .sky, .bazel or .BUILD, or is BUILD, BUCK or WORKSPACE, or
+matches a GLOB of --as-script. Any other file is a table file. Of a folder, hidden folders and links to
+folders are skipped.
 
-Every job is run on every node that it fits, so `errors 0` means that the whole checker accepts: parameter lists (10 to 18), call arguments (20 to
-24), targets and assignments (30 to 33), types (40 to 45), and the module pass (50 to 61). Not covered: whether a name is defined, what a value
-is, which def a call reaches (see `ducat bind`), and what load names. Nothing can be switched off: there is no option and no comment that leaves
+Every job is run on every node that it fits, so `errors 0` means that the whole checker accepts: parameter
+lists (10 to 18), call arguments (20 to 24), targets and assignments (30 to 33), types (40 to 45), and the
+module pass (50 to 61). Not covered: whether a name is defined, what a value is, which def a call reaches (see
+`ducat bind`), and what load names. Nothing can be switched off: there is no option and no comment that leaves
 out a rule.
 
 For a table file this prints
@@ -44,34 +47,38 @@ For a table file this prints
   errors N            the number of errors
 or, for a file that is damaged or whose table is not sound, the one line
   refused K           and on standard error what is wrong
-Errors are sorted by begin, end and number. For a script an error is PATH:LINE:COLUMN: NUMBER and its words, with the line and carets. A script that
-is not Starlark has the one error PATH:LINE:COLUMN: syntax: and what is wrong. With several inputs the name of each comes first, and a line of
-totals last."""
+Errors are sorted by begin, end and number. For a script an error is PATH:LINE:COLUMN: NUMBER and its words,
+with the line and carets. A script that is not Starlark has the one error PATH:LINE:COLUMN: syntax: and what
+is wrong. With several inputs the name of each comes first, and a line of totals last."""
 
-CHECK_MORE = """No more than 59,905 bytes of a table file are read, one more than the largest has, and no more than 16,777,216 of a script. A script's table
-is made by ducat's own parser; that step is not proved.
+CHECK_MORE = """No more than 59,905 bytes of a table file are read, one more than the largest has, and no more than 16,777,216
+of a script. A script's table is made by ducat's own parser; that step is not proved.
 
-Exit status: 0 no errors; 1 errors; 2 an input is refused or cannot be read, a script is larger than a table may be, nothing is found in a PATH,
-wrong usage, no library, or output that cannot be written. Of several inputs the highest counts."""
+Exit status: 0 no errors; 1 errors; 2 an input is refused or cannot be read, a script is larger than a table
+may be, nothing is found in a PATH, wrong usage, no library, or output that cannot be written. Of several
+inputs the highest counts."""
 
-BIND = """Says which argument of each call reaches which parameter. FILE is a table file or a script; `-` is standard input.
+BIND = """Says which argument of each call reaches which parameter. FILE is a table file or a script; `-` is standard
+input.
 
-For a script, or a table file with --script, each call of a name is paired with every def of that name in the script:
+For a script, or a table file with --script, each call of a name is paired with every def of that name in the
+script:
   NAME, MODE: ARGUMENT (PLACE)                    the argument that a parameter takes
   NAME, MODE: default                             it takes none, and has a default
   *NAME, MODE: ARGUMENT (PLACE); ...              what a star parameter collects, or none
   refused K, ARGUMENT (PLACE)                     the call does not fit the def, or one of them is wrong
-A table file alone gives its defs and calls with their nodes; --call and --def then name two of them. A call of a call, such as outer(1)(2), and a
-method call are listed as such and bound to no def.
+A table file alone gives its defs and calls with their nodes; --call and --def then name two of them. A call
+of a call, such as outer(1)(2), and a method call are listed as such and bound to no def.
 
-Which argument reaches which parameter is proved. Which call is paired with which def is not: a name that means another function at the call
-is not seen."""
+Which argument reaches which parameter is proved. Which call is paired with which def is not: a name that
+means another function at the call is not seen."""
 
-BIND_MORE = """Exit status: 0 every call is accepted; 1 a call or def is refused (10 to 84), or a script is not Starlark; 2 a file is refused or cannot be read, a
-node is not a Call or not a Def (6), the script is not the table's or is larger than a table may be, wrong usage, no library, or output that cannot
-be written."""
+BIND_MORE = """Exit status: 0 every call is accepted; 1 a call or def is refused (10 to 84), or a script is not Starlark; 2 a
+file is refused or cannot be read, a node is not a Call or not a Def (6), the script is not the table's or is
+larger than a table may be, wrong usage, no library, or output that cannot be written."""
 
-RESCUE = """Writes to OUT a sound table file with what can be kept of the damaged table file IN (`-` is standard input), and prints
+RESCUE = """Writes to OUT a sound table file with what can be kept of the damaged table file IN (`-` is standard input),
+and prints
   statements S    the number of statements that are kept, the first ones of the outermost list (1 where the table is one other statement)
   nodes N         the number of nodes that are kept
   dropped D       the number of nodes that the header of IN counts and that are lost
@@ -81,25 +88,30 @@ or, where nothing can be kept, the one line
   refused 91      no statement is whole in good blocks
 and then OUT is as it was. A sound file is written as it is, without the bytes after it. IN may be OUT."""
 
-RESCUE_MORE = """Exit status: 0 nothing is lost (dropped 0 and bytes 0); 1 something is lost; 2 it is refused, IN cannot be read or OUT not written, wrong usage, or
-no library."""
+RESCUE_MORE = """Exit status: 0 nothing is lost (dropped 0 and bytes 0); 1 something is lost; 2 it is refused, IN cannot be
+read or OUT not written, wrong usage, or no library."""
 
 ATOMIC = """OUT is at each moment the old file or the whole new one."""
 
-WRITE = """Writes to OUT the table file of a node table (24 bytes for each node) and of the bytes that its names are in, and prints
+WRITE = """Writes to OUT the table file of a node table (24 bytes for each node) and of the bytes that its names are in,
+and prints
   written N     the number of bytes of the file
 or, where they are not sound, the one line
   refused K     1 to 5
 and then OUT is as it was. TABLE and NAMES are files of raw bytes; one of them may be `-`, standard input."""
 
-TABLE = """Writes to OUT the table file of INPUT: a script, or the text form of a table, as `ducat dump` prints it and docs/FORMAT.md describes it. `-` is
-standard input: a text, or with --stdin-filename a script. A script is read by ducat's own parser; that step is not proved.
+TABLE = """Writes to OUT the table file of INPUT: a script, or the text form of a table, as `ducat dump` prints it and
+docs/FORMAT.md describes it. `-` is standard input: a text, or with --stdin-filename a script. A script is
+read by ducat's own parser; that step is not proved.
 
-Exit status: 0 OUT is written; 1 the script is not Starlark; 2 INPUT is refused or cannot be read, or OUT cannot be written."""
+Exit status: 0 OUT is written; 1 the script is not Starlark; 2 INPUT is refused or cannot be read, or OUT
+cannot be written."""
 
-DUMP = """Prints the text form of a table file, or of a script's table. `ducat table` of it gives the same bytes back. `-` is standard input."""
+DUMP = """Prints the text form of a table file, or of a script's table. `ducat table` of it gives the same bytes back.
+`-` is standard input."""
 
-BUILD = """Proves and compiles the library, if it is not current. Every command does this by itself when it must; an installed ducat never does."""
+BUILD = """Proves and compiles the library, if it is not current. Every command does this by itself when it must; an
+installed ducat never does."""
 
 
 def make_parser(command, description, epilog=None):
@@ -244,6 +256,8 @@ def table_parser():
     parser = make_parser("table", TABLE, ATOMIC)
     parser.add_argument("input", metavar="INPUT")
     add_output(parser)
+    parser.add_argument("--parts", action="store_true",
+                        help="OUT is a folder, new or empty: a table file of each top-level statement, 0001.table and so on")
     add_dialect(parser, "of a script; a text has its own")
     add_as_script(parser)
     add_stdin_filename(parser)
@@ -574,7 +588,7 @@ def main(words=None):
         signals.die(stopped.number)
     except Exception:  # status 1 would say that errors were found
         import traceback
-        say("a fault of ducat itself:\n" + traceback.format_exc().replace("\n", " | "))
+        say("a fault of ducat itself: " + traceback.format_exc().strip().replace("\n", " | "))
     finally:
         files.tidy()
         flush_error()

@@ -240,7 +240,7 @@ def version_text(version):
     return f"{version >> 16}.{version >> 8 & 255}.{version & 255}"
 
 
-def version_number(text=__version__):
+def version_number(text):
     """major * 65536 + minor * 256 + patch."""
     major, minor, patch = (int(part) for part in text.split("."))
     return major << 16 | minor << 8 | patch
@@ -275,7 +275,7 @@ class Library:
         return function
 
     def _compare_version(self):
-        found, wanted = self._version(), version_number()
+        found, wanted = self._version(), version_number(__version__)
         self.version = version_text(found)
         if found >> 8 != wanted >> 8 or found < wanted:
             major_minor, patch = __version__.rsplit(".", 1)

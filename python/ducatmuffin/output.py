@@ -159,10 +159,6 @@ class Report:
         self.out.write(b"\n], " + dumps(last)[1:] + b"\n")
 
 
-def is_json(options):
-    return options.format == "json"
-
-
 def flush_error():
     if sys.stderr:
         try:

@@ -21,7 +21,7 @@ begin. `def f…break` goes from the first words to the first such last words af
 """
 import re
 import struct
-from typing import Callable, Dict, Iterator, List, NamedTuple, Optional, Tuple
+from typing import Callable, Iterator, List, NamedTuple, Optional, Tuple
 
 from . import numbers
 
@@ -286,7 +286,7 @@ def table_of(roots: List[Node], shared: bool = False, given: Optional[bytes] = N
     """The records of trees side by side, and their name bytes: one after the other, shared by equal names, or as they are given."""
     nodes = list(preorder(roots))
     sizes = _sizes(nodes)
-    records, names, known = [], bytearray(given or b""), {}  # type: List[bytes], bytearray, Dict[bytes, int]
+    records, names, known = [], bytearray(given or b""), {}
     for at, node in enumerate(nodes):
         f = node.fields
         start, length = 0, len(node.name)
@@ -450,7 +450,7 @@ def read_text(text: str, script: Optional[Callable[[str], bytes]] = None) -> Tex
     said, tree = _lines_said(text)
     off = "rules" in said and _at_line(_is_off, *said["rules"])
     roots = trees(tree)
-    demand(roots or off, "there is no tree")
+    demand(roots or off and "script" not in said, "there is no tree")
     demand(len(roots) < 2, "a second tree", roots[-1] if roots else None)
     if "script" in said:
         demand(script, "a script is named, and none is at hand")

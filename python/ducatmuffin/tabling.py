@@ -1,10 +1,10 @@
 """ducat table: the table file of a script, or of the text form of a table."""
 import os
 
-from . import dialects, inputs, reasons, table, write
+from . import dialects, files, inputs, reasons, table, write
 from .check import MADE, STEP, evidence
 from .library import Refusal
-from .output import Failed, named, say
+from .output import Failed, digest, named, say
 
 
 def run(library, options, out, front):
@@ -14,6 +14,8 @@ def run(library, options, out, front):
         data = inputs.read_script(one)
     except (OSError, ValueError) as error:
         raise Failed(f"{one.name}: {inputs.reason(error)}") from None
+    if options.parts:
+        return run_parts(library, options, out, front, data)
     made, dialect = (of_script if one.script else of_text)(library, options, data)
     if isinstance(made, tuple):
         return write.refused(options, out, front, entries(one, data, options), *made)
@@ -43,6 +45,46 @@ def of_script(library, options, data):
     if type(answer) is Refusal:
         return (answer, reasons.why_table(*made, options.dialect, answer)), options.dialect
     return answer.data, options.dialect
+
+
+def run_parts(library, options, out, front, data):
+    """A table file of each top-level statement, in a folder that is new or empty."""
+    from . import export
+    one = options.input
+    if not one.script:
+        raise Failed("--parts is for scripts")
+    if not options.json:
+        say(STEP)
+    try:
+        tables = export.export_parts(data, one.name, options.dialect)
+    except export.ScriptError as error:
+        raise no_table(one, error) from None
+    contents = []
+    for made in tables:
+        answer = library.write(*made, options.dialect or b"")
+        if type(answer) is Refusal:
+            return write.refused(options, out, front, entries(one, data, options), answer, reasons.why_table(*made, options.dialect, answer))
+        contents.append(answer.data)
+    names = written_parts(options.out, contents)
+    if options.json:
+        outputs = [{**named(name), "sha256": digest(content), "bytes": len(content)} for name, content in zip(names, contents)]
+        write.finish(out, front, entries(one, data, options), verdict="written", dialect=dialects.in_json(options.dialect), outputs=outputs, status=0)
+    else:
+        out.lines([f"files {len(names)}"])
+    return 0
+
+
+def written_parts(folder, contents):
+    names = [os.path.join(folder, f"{number:04}.table") for number in range(1, len(contents) + 1)]
+    try:
+        os.makedirs(folder, exist_ok=True)
+        if os.listdir(folder):
+            raise Failed(f"{folder}: the folder is not empty")
+        for name, content in zip(names, contents):
+            files.write(name, content)
+    except OSError as error:
+        raise Failed(f"{error.filename or folder}: {inputs.reason(error)}") from None
+    return names
 
 
 def of_text(library, options, data):

@@ -10,25 +10,29 @@ import struct
 import sys
 
 from .output import Failed
+from .signals import ENDING
 
 LENGTH = struct.Struct("<I")
 DEATH_SIGNAL = 1  # of prctl
 
 
 def answers(checker, found, jobs):
-    """The answers to all inputs, in their order."""
+    """The answers to all inputs, in their order: a generator."""
     jobs = min(jobs, len(found))
-    if jobs < 2:
-        return map(checker.answer, found)
-    return shared(checker, found, jobs)
+    return shared(checker, found, jobs) if jobs > 1 else (checker.answer(one) for one in found)
 
 
 def shared(checker, found, jobs):
     from .check import Answer
     pipes, children = [], []
     try:
-        for first in range(jobs):
-            start(checker, found, first, jobs, pipes, children)
+        # a signal between a fork and the note of it would leave a process behind
+        before = signal.pthread_sigmask(signal.SIG_BLOCK, ENDING)
+        try:
+            for first in range(jobs):
+                start(checker, found, first, jobs, pipes, children)
+        finally:
+            signal.pthread_sigmask(signal.SIG_SETMASK, before)
         for at, one in enumerate(found):
             # standard input belongs to the command itself
             yield checker.answer(one) if one.path is None and one.error is None else Answer(*received(pipes[at % jobs]))
@@ -47,8 +51,9 @@ def start(checker, found, first, jobs, pipes, children):
         return
     status = 1
     try:
-        for number in (signal.SIGINT, signal.SIGTERM, signal.SIGHUP):
+        for number in ENDING:
             signal.signal(number, signal.SIG_DFL)
+        signal.pthread_sigmask(signal.SIG_UNBLOCK, ENDING)
         end_with(parent)
         for pipe in pipes:
             pipe.close()

@@ -59,7 +59,8 @@ TREES = [
     ("f((a))", "(OtherSimple (Call `f((a))` (Identifier f) (Positional `(a)` (Identifier a))))"),
     ("(f)(((a)), (b, c))", "(OtherSimple (Call `(f)…c))` (Identifier f) (Positional `((a))` (Identifier a))"
      " (Positional (Tuple `(b, c)` (Identifier b) (Identifier c)))))"),
-    ("f(lambda a, b: c, d)", "(OtherSimple (Call `f(…)` (Identifier f) (Positional (Lambda span=2-16 (Normal a span=9-10) (Normal b) (Identifier c)))"
+    ("f(lambda a, b: c, d)",
+     "(OtherSimple (Call `f(…)` (Identifier f) (Positional (Lambda span=2-16 (Normal a span=9-10) (Normal b) (Identifier c)))"
      " (Positional (Identifier d))))"),
     # indices
     ("a[b, c]", "(OtherSimple (Index2 `a[b, c]` (Identifier a) (Identifier b) (Identifier c)))"),
@@ -89,7 +90,8 @@ TREES = [
      " (Positional (Bytes `rb'b'`)) (Positional (Bytes `br'b'`))))"),
     ("[r'c', 0x1F, 0b1, 0o7, 0, 1e5, .5, 5.]", "(OtherSimple (List `[r…]` (String `r'c'`) (Int `0x1F`) (Int `0b1`) (Int `0o7`) (Int span=23-24)"
      " (Float `1e5`) (Float `.5`) (Float `5.`)))"),
-    ("match(type, case)", "(OtherSimple (Call `match(type, case)` (Identifier match) (Positional (Identifier type)) (Positional (Identifier case))))"),
+    ("match(type, case)",
+     "(OtherSimple (Call `match(type, case)` (Identifier match) (Positional (Identifier type)) (Positional (Identifier case))))"),
     # f-strings
     ("f'é{a} {{b}} {c.d!r}'", "(OtherSimple (FString `f'…r}'` (Identifier a) (Dot d `c.d` (Identifier c))))"),
     ("fr'' + f'{a != b}{\"}\"!s}'", "(OtherSimple (Op `fr…s}'` (FString `fr''`) (FString `f'…s}'` (Op `a != b` (Identifier a) (Identifier b))"
@@ -98,7 +100,8 @@ TREES = [
      " (Dict `{1: 2}` (Int `1`) (Int `2`)) (FString `f'{b}'` (Identifier b))))"),
     # bytes that are no ASCII, ends of lines, blanks
     ("x = 'é', y", "(Assign (Identifier x) (Tuple `'é', y` (String `'é'`) (Identifier y)))"),
-    ("# é\r\nif a:\r\n  b\r\n  c", "(If `if…  c` (Identifier a) (Statements `b\r\n  c` (OtherSimple (Identifier b)) (OtherSimple (Identifier c))))"),
+    ("# é\r\nif a:\r\n  b\r\n  c",
+     "(If `if…  c` (Identifier a) (Statements `b\r\n  c` (OtherSimple (Identifier b)) (OtherSimple (Identifier c))))"),
     ("\ufeff# -*- coding: latin-1 -*-\nx = 'é'", "(Assign `x = 'é'` (Identifier x) (String `'é'`))"),
     ("", "(Statements span=0-0)"),
     ("# nothing\n\n", "(Statements span=0-0)"),

@@ -48,10 +48,18 @@ class Scripts(CommandTest):
         self.says(0, CLEAN, "", "check", "-", "--stdin-filename", "x.table", input=support.sample("clean.table"))
 
     def test_the_earlier_place_is_a_note(self):
+        path = self.put("twice.star", "def f(a, b,\n      a):\n    pass\n")
+        self.says(1, f"""nodes 5
+{path}:2:7: 11 a parameter has the name of an earlier one
+          a):
+          ^
+{path}:1:7: note: the earlier parameter
+    def f(a, b,
+          ^
+errors 1
+""", STEP, "check", path)
         path = self.put("twice.star", "def f(a, b):\n    return f(a=1,\n             a=2)\n")
-        ran = self.run_ducat("check", path)
-        self.assertEqual(ran.status, 1)
-        self.assertIn(f"{path}:2:14: note: the earlier argument\n", ran.out)
+        self.assertIn(f"{path}:2:14: note: the earlier argument\n", self.run_ducat("check", path).out)
 
     def test_a_wrong_order_reaches_the_checker(self):
         self.says(1, """nodes 6
@@ -74,7 +82,7 @@ errors 2
 
     def test_what_is_not_starlark(self):
         path = self.put("wrong.star", "x = 1\nwhile x:\n    pass\n")
-        said = f"{path}:2:1: syntax: `while` is reserved, and Starlark has no such statement or operator\n"
+        said = f"{path}:2:1: syntax: `while` is a reserved word\n"
         lines = f"{said}    while x:\n    ^^^^^\nerrors 1\n"
         for options in ((), ("--explain",), ("--module",), ("--bad-only",)):
             self.says(1, lines, STEP, "check", path, *options)

@@ -8,6 +8,7 @@ import subprocess
 import tempfile
 import threading
 import unittest
+import unittest.mock
 
 import support
 from ducatmuffin import __version__, library, numbers, table
@@ -307,6 +308,20 @@ class Versions(unittest.TestCase):
         for version in (f"{major}.{minor + 1}.{patch}", f"{major + 1}.{minor}.{patch}", f"{major}.{minor - 1}.9", f"{major + 1}.0.0"):
             with self.assertRaisesRegex(library.LibraryMismatch, f"is version {version}; {major}.{minor}, patch {patch} or later, is needed"):
                 self.load(version)
+
+    def test_patches(self):
+        with unittest.mock.patch.object(library, "__version__", "0.2.3"):
+            for version in ("0.2.3", "0.2.4"):
+                self.assertEqual(self.load(version).version, version)
+            with self.assertRaisesRegex(library.LibraryMismatch, "is version 0.2.2; 0.2, patch 3 or later, is needed"):
+                self.load("0.2.2")
+
+    def test_the_high_word_of_a_rescue(self):
+        """More than 4 GiB after the last block."""
+        rescue = "unsigned starlark_rescue(void *i, unsigned long il, void *f, unsigned long fl, unsigned *out)" \
+                 " { for (int at = 0; at < 6; at++) out[at] = at; return 0; }\n"
+        answer = self.load(__version__, rescue, without=("rescue",)).rescue(b"")
+        self.assertEqual((answer.statements, answer.nodes, answer.dropped, answer.bytes_after), (1, 2, 3, 5 << 32 | 4))
 
     def test_a_function_is_missing(self):
         for name in ("version", "audit"):

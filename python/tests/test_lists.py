@@ -137,8 +137,8 @@ class Lists(unittest.TestCase):
 TARGETS = [
     ("x", "(Identifier x)", False), ("(x)", "(Identifier x)", False), ("x.y", "(Dot y `x.y` (Identifier x))", False),
     ("x[0]", "(Index `x[0]` (Identifier x) (Int `0`))", False), ("x[0, 1]", "(Index2 `x[0, 1]` (Identifier x) (Int `0`) (Int `1`))", False),
-    ("x[0:1]", "(Slice `x[0:1]` (Identifier x) (Int `0`) (Int `1`))", False), ("x()", "(Call `x()` (Identifier x))", False), ("7", "(Int `7`)", False),
-    ("7.", "(Float `7.`)", False), ("'x'", "(String `'x'`)", False), ("b'x'", "(Bytes `b'x'`)", False), ("...", "(Ellipsis `...`)", False),
+    ("x[0:1]", "(Slice `x[0:1]` (Identifier x) (Int `0`) (Int `1`))", False), ("x()", "(Call `x()` (Identifier x))", False),
+    ("7", "(Int `7`)", False), ("7.", "(Float `7.`)", False), ("'x'", "(String `'x'`)", False), ("b'x'", "(Bytes `b'x'`)", False), ("...", "(Ellipsis `...`)", False),
     ("f'x'", "(FString `f'x'`)", False), ("-x", "(Minus `-x` (Identifier x))", False), ("+x", "(Plus `+x` (Identifier x))", False),
     ("~x", "(BitNot `~x` (Identifier x))", False), ("not x", "(Not `not x` (Identifier x))", False),
     ("x + y", "(Op `x + y` (Identifier x) (Identifier y))", False), ("x | y", "(Op:1 `x | y` (Identifier x) (Identifier y))", False),

@@ -64,7 +64,8 @@ REJECTED = [
 # the same for points of lexer.rs and of the grammar that the lists above do not have
 ACCEPTED_TOO = [
     # strings
-    "x = '\\\r\n'\n", "x = 'a\rb'\n", "x = \"\"\"\"a\"\"\"\n", "x = \"\"\"a\\\"\"\"\"\n", "x = ''\n", "x = \"\" + ''\n", "x = r'\\''\n", "x = r'\\\n'\n",
+    "x = '\\\r\n'\n", "x = 'a\rb'\n", "x = \"\"\"\"a\"\"\"\n", "x = \"\"\"a\\\"\"\"\"\n", "x = ''\n", "x = \"\" + ''\n", "x = r'\\''\n",
+    "x = r'\\\n'\n",
     "x = '\\é'\n", "x = '\\777'\n", "x = '\\8'\n", "x = b'\\377'\n", "x = b'é'\n", "x = br'\\400'\n", "x = '\\U0010ffff\\ud7ff\\ue000'\n",
     "x = '''\r\n\\\r\n'''\n", "x = 'a#b'\n", "x = '\t\f'\n",
     # f-strings
@@ -74,11 +75,14 @@ ACCEPTED_TOO = [
     # numbers
     "x = 1.e5 + 1.E+5 + 0. + 0e0 + 0XfF + 0B1 + 0O7\n", "x = 1 .a\n", "x = 1.5.a\n", "x = 1or 2\n", "x = [1,2,.5]\n",
     # lines
-    "# a\rb\nx = 1\n", "\r\n\rx = 1\n", "x = 1 # c\r\ny = 2\r\n", "if a: # c\n  b\n", "if a:\n\n  # c\n\n  b\n\n # c\nd\n", "x = (\n# c\n1 # d\n)\n",
-    "\\\nx = 1\n", "x = 1\\\n\n", "if a:\n  b\n  \t \n  c\n", "if a: b; c\n", "if a: b;\n", "def f():\n if a:\n  b\n\n\n\nc\n", "x = [\n  1,\n\n  2,\n]\n",
+    "# a\rb\nx = 1\n", "\r\n\rx = 1\n", "x = 1 # c\r\ny = 2\r\n", "if a: # c\n  b\n", "if a:\n\n  # c\n\n  b\n\n # c\nd\n",
+    "x = (\n# c\n1 # d\n)\n",
+    "\\\nx = 1\n", "x = 1\\\n\n", "if a:\n  b\n  \t \n  c\n", "if a: b; c\n", "if a: b;\n", "def f():\n if a:\n  b\n\n\n\nc\n",
+    "x = [\n  1,\n\n  2,\n]\n",
     "x\n   # c\n\n", "if a:\n  b # c",
     # operators
-    "not a == b\n", "a and not b or not not c\n", "a < -b\n", "a == (not b)\n", "- - a\n", "a if not b else c\n", "a not in b and c in d\n", "a |b| c\n",
+    "not a == b\n", "a and not b or not not c\n", "a < -b\n", "a == (not b)\n", "- - a\n", "a if not b else c\n", "a not in b and c in d\n",
+    "a |b| c\n",
     "a<b\n", "a-1\n", "(a < b) < c\n", "a < b and b < c\n", "(a in b) == c\n", "a // b % c\n", "~a.b(c)[d]\n",
     # lambda and conditional expressions
     "lambda x=a if b else c: x\n", "a if b else lambda: c\n", "[a if b else c for d in e]\n", "[a for a in b if (c if d else e)]\n",
@@ -94,23 +98,28 @@ ACCEPTED_TOO = [
 ]
 REJECTED_TOO = [
     # strings
-    "x = '\\U0000d800'\n", "x = '\\Uffffffff'\n", "x = '\\u{41}'\n", "x = r'\\\r\n'\n", "x = '\\", "x = '\\\ra'\n", "x = \"\"\"a\"\"\"\"\n", "x = 'a\\'\n",
+    "x = '\\U0000d800'\n", "x = '\\Uffffffff'\n", "x = '\\u{41}'\n", "x = r'\\\r\n'\n", "x = '\\", "x = '\\\ra'\n", "x = \"\"\"a\"\"\"\"\n",
+    "x = 'a\\'\n",
     "x = r'a\\'\n", "x = br'a\n'\n", "x = b'\\400'\n", "x = b'\\x4'\n", "x = rbr'a'\n", "x = bf'a'\n",
     # f-strings
-    "x = f'\n'\n", "x = f'''{a}''\n", "x = f'{a !r}'\n", "x = f'{a\\\n!r}'\n", "x = f'{a!}'\n", "x = f'{a!r!s}'\n", "x = f'{a!=}'\n", "x = f'{!r}'\n",
+    "x = f'\n'\n", "x = f'''{a}''\n", "x = f'{a !r}'\n", "x = f'{a\\\n!r}'\n", "x = f'{a!}'\n", "x = f'{a!r!s}'\n", "x = f'{a!=}'\n",
+    "x = f'{!r}'\n",
     "x = f'{a b}'\n", "x = f'{a)}'\n", "x = f'{(a}'\n", "x = f'{a]}'\n", "x = f'{a'", "x = f'{a\tb}'\n", "x = f'{yield}'\n", "x = f'\\x4{a}'\n",
     "x = f'{a}}'\n", "x = f'{# c}'\n", "x = f'{*a}'\n", "x = f'{a:=1}'\n", "x = f'a' 'b'\n",
     # numbers
     "x = 1.5.5\n", "x = 0777\n", "x = 1.a\n", "x = 0x\n", "x = 0b\n", "x = .\n", "x = ..\n", "x = 1__0\n", "x = 09\n",
     # lines
-    "x = 1 # a\rb\n", "x \r= 1\n", "x = 1 \\ \n", "x = \\1\n", "if a:\n \tb\n", "if a:\n  b\n c\n", "if a:\n  b\n\tc\n", "x = (\n\t1)\n", " # c\n  x = 1\n",
+    "x = 1 # a\rb\n", "x \r= 1\n", "x = 1 \\ \n", "x = \\1\n", "if a:\n \tb\n", "if a:\n  b\n c\n", "if a:\n  b\n\tc\n", "x = (\n\t1)\n",
+    " # c\n  x = 1\n",
     "if a:\n  # c\nb\n", "if a:\n", "if a: if b: c\n",
     # operators
-    "a == not b\n", "a + not b\n", "- not a\n", "a not b\n", "a not not in b\n", "a in not b\n", "a < b > c\n", "a not in b in c\n", "a &&b\n", "a || b\n",
+    "a == not b\n", "a + not b\n", "- not a\n", "a not b\n", "a not not in b\n", "a in not b\n", "a < b > c\n", "a not in b in c\n",
+    "a &&b\n", "a || b\n",
     "!a\n", "a++\n", "a <=> b\n", "a === b\n", "a -> b\n", "a ... b\n", "...a\n",
     # lambda, conditional expressions, comprehensions
     "[a for a in b if c else d]\n", "[a for a in b if lambda: c]\n", "[a for lambda: b in c]\n", "[a for a, in b]\n", "[a, b for c in d]\n",
-    "[a for a if b]\n", "{a: b, c: d for e in f}\n", "{a: b for c in d, e}\n", "lambda x: int: x\n", "lambda (x): x\n", "lambda x y: 0\n", "lambda **: 0\n",
+    "[a for a if b]\n", "{a: b, c: d for e in f}\n", "{a: b for c in d, e}\n", "lambda x: int: x\n", "lambda (x): x\n", "lambda x y: 0\n",
+    "lambda **: 0\n",
     "lambda\n: 0\n", "a if b else\n", "a if else b\n",
     # parameters and arguments
     "def f(a, /b): pass\n", "def f(*1): pass\n", "def f(**): pass\n", "def f(*, **): pass\n", "def f(*: int): pass\n", "def f(/: int): pass\n",
@@ -123,13 +132,15 @@ REJECTED_TOO = [
     "for a < b in c: pass\n", "while True: pass\n", "if: pass\n", "if a,: pass\n", "if a = 1: pass\n", "else: a\n", "if a: b\nelse if c: d\n",
     "if a: b\nelse: c\nelse: d\n", "if a: b\nelse: c\nelif d: e\n", "return return\n", "pass pass\n", "break 1\n", "pass = 1\n", "def = 1\n",
     # load
-    "load('a' 'b')\n", "load('a', 'b'\n", "load('a',, 'b')\n", "load(,)\n", "load('a', b'c')\n", "load('a', ('b'))\n", "load('a', b=c)\n", "load 'a'\n",
+    "load('a' 'b')\n", "load('a', 'b'\n", "load('a',, 'b')\n", "load(,)\n", "load('a', b'c')\n", "load('a', ('b'))\n", "load('a', b=c)\n",
+    "load 'a'\n",
     "load\n", "load['a']\n", "load('a', 'b').c\n", "load('a', 'b') = 1\n",
     # indices, fields, brackets
     "a[\n", "a[b c]\n", "a[1:2:3:4]\n", "a[:,]\n", "a[,1]\n", "a[*b]\n", "a.\n", "a.'b'\n", "a.(b)\n", "a.def\n", "{a: b: c}\n", "{a:}\n", "{:a}\n",
     "{a, b: c}\n", "{,}\n", "[a;b]\n", "(a b)\n", "(,a)\n", "[a,,b]\n", "(a,,)\n",
     # characters
-    "\u2028x\n", "x\u3000= 1\n", "x = \u201ca\u201d\n", "\u00b5 = 1\n", "x = 1\u00bd\n", "x = \x7f\n", "x = \x1b\n", "x = 1\x0b\n", "?\n", "$\n", "`\n",
+    "\u2028x\n", "x\u3000= 1\n", "x = \u201ca\u201d\n", "\u00b5 = 1\n", "x = 1\u00bd\n", "x = \x7f\n", "x = \x1b\n", "x = 1\x0b\n", "?\n",
+    "$\n", "`\n",
     "a ! b\n",
 ]
 

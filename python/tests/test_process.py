@@ -42,6 +42,19 @@ class Words(CommandTest):
             self.assertEqual((ran.status, ran.out, len(ran.err.splitlines())), (2, "", 1), (words, ran.err))
             self.assertTrue(ran.err.startswith("ducat: ") and said in ran.err, (said, ran.err))
 
+    def test_nothing_is_built_before_the_words_are_understood(self):
+        from unittest import mock
+        from ducatmuffin.output import Failed, Out
+        out = Out()
+        with mock.patch.object(cli, "open_library", side_effect=AssertionError("a build")):
+            for words in (["check", "--dialect", "basic", "x.star"], ["check", "--dialect", "all", "x.table"], ["check", "--jobs", "0", "x"],
+                          ["check", "--script", "/nowhere", "x.table"], ["check", "--files-from", "/nowhere"], ["check", "--config", "/nowhere", "x"],
+                          ["bind", "--call", "1", "x"], ["bind", "--script", "/nowhere", "x"], ["rescue", "x"], ["rescue", "x", "-o", "-"],
+                          ["write", "-", "-", "-o", "x"], ["write", "a", "b", "--dialect", "basic", "-o", "x"], ["table", "--dialect", "all", "x.txt", "-o", "y"],
+                          ["dump"], ["nothing"]):
+                with self.assertRaises(Failed, msg=words):
+                    cli.dispatch(words, out)
+
     def test_options_anywhere(self):
         clean = "nodes 34, dialect standard\nerrors 0: the whole checker accepts: the module pass, and every job on every node that it fits\n"
         for words in (("--explain", "samples/clean.table"), ("samples/clean.table", "--explain"), ("--explain", "--", "samples/clean.table")):

@@ -89,6 +89,7 @@ WRONG = [
     ('names: "ab"\n(OtherSimple (Identifier a))', ":2: Identifier: a name without its place, name=START+LENGTH, and the name bytes are given"),
     ('names: "ab"\n(OtherSimple (Identifier a name=1+1))', ":2: Identifier: the name a is not what lies at 1+1"),
     ("rules: on\n(Break)", ":1: on is not off"),
+    ("rules: off\nscript: s.star", ": there is no tree"),
     ("(Break)\nnames: shared\nnames: shared", ":3: a second line names:"),
     (b"(Statements\n(OtherSimple (Identifier \xff)))", ":2: not UTF-8"),
 ]
@@ -199,6 +200,16 @@ class Texts(unittest.TestCase):
     (Int span=11-12))
   (Normal c span=14-15)
   (Break span=20-25))
+""")
+
+    def test_a_printed_text_with_shared_names(self):
+        held, names = table.table_of(table.trees("(OtherSimple (Op (Identifier a) (Identifier a)))"), shared=True)
+        self.assertEqual(self.same(held, names, None), """dialect: none
+names: shared
+(OtherSimple span=0-1
+  (Op span=1-2
+    (Identifier a span=2-3)
+    (Identifier a span=3-4)))
 """)
 
     def test_names_of_any_bytes(self):

@@ -105,6 +105,20 @@ class Table(CommandTest):
         ran = self.run_ducat("table", "--dialect", "111003100", "samples/clean.star", "-o", self.at("none"))
         self.assertEqual((ran.status, ran.out), (2, "refused 5\n"))
 
+    def test_parts(self):
+        folder = self.at("parts")
+        self.says(0, "files 3\n", STEP, "table", "--parts", "--dialect", "all", "samples/take.star", "-o", folder)
+        self.assertEqual(sorted(os.listdir(folder)), ["0001.table", "0002.table", "0003.table"])
+        self.says(0, None, "", "check", folder)
+        self.says(2, "", f"{STEP}ducat: {folder}: the folder is not empty\n", "table", "--parts", "samples/take.star", "-o", folder)
+        self.says(2, "", "ducat: --parts is for scripts\n", "table", "--parts", "samples/take.txt", "-o", self.at("none"))
+        path = self.put("large.star", "f(1, 2, 3, 4)\n" * 300)
+        ran = self.run_ducat("table", path, "-o", self.at("none"))
+        self.assertEqual((ran.status, "a table has at most 2100" in ran.err), (2, True))
+        self.says(0, "files 300\n", STEP, "table", "--parts", path, "-o", self.at("many"))
+        told = json.loads(self.run_ducat("table", "--json", "--parts", "samples/take.star", "-o", self.at("again")).out)
+        self.assertEqual((told["verdict"], len(told["outputs"])), ("written", 3))
+
     def test_a_text_that_is_wrong(self):
         for text, said in (("(Statements\n  (Brake))", ":2: no kind is called Brake"), ("", ": there is no tree"),
                            (b"(Break \xff)", ":1: not UTF-8"), ("script: nothing.star\n(Break)", "nothing.star: No such file or directory")):
