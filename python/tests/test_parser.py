@@ -225,8 +225,8 @@ class Nested(unittest.TestCase):
 
 # ---- changed scripts
 
-PIECES = [piece.encode() for piece in (*lexer.SYMBOLS, *lexer.KEYWORDS, "'", '"', "'''", '"""', "f'", "{", "}", "\\", "\n", "\n  ", "\r", "\t", " ", "#",
-                                       "é", "\x00", "0x", "1.", "_")]
+PIECES = [piece.encode() for piece in (*lexer.SYMBOLS, *lexer.KEYWORDS, "'", '"', "'''", '"""', "f'", "{", "}", "\\", "\n", "\n  ", "\r", "\t",
+                                       " ", "#", "é", "\x00", "0x", "1.", "_")]
 
 
 def changed(draw, source):
