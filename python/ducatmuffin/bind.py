@@ -6,7 +6,7 @@ import os
 import re
 
 from . import dialects, inputs, reasons
-from .check import MADE, STEP, evidence, hint_of, Found, node_json, span_json
+from .check import MADE, STEP, evidence, hint_of, Found, node_json, span_json, syntax_json, syntax_lines
 from .library import Refusal
 from .numbers import KIND, KINDS
 from .output import Failed, Report, dumps, encoded, named, say, shown, visible
@@ -222,10 +222,13 @@ class Run:
                 return answer.table, answer.names, answer.dialect
             self.refused(one, found, answer)
             return None, None, None
-        from . import script
+        from . import export
         try:
-            made = script.export(found.data, one.name, self.options.dialect)
-        except script.ScriptError as error:
+            made = export.export(found.data, one.name, self.options.dialect)
+        except export.ScriptSyntaxError as error:
+            self.not_starlark(one, found, error)
+            return None, None, None
+        except export.ScriptError as error:
             self.failed(one, error.message, (error.line, error.column))
             return None, None, None
         answer = self.library.table(*made)
@@ -245,6 +248,14 @@ class Run:
             say(message)
         else:
             say(f"{one.name}:{place[0]}:{place[1]}: {message}" if place else f"{one.name}: {message}")
+
+    def not_starlark(self, one, found, error):
+        self.worse(1)
+        if self.report:
+            self.report.add(dumps({**self.start(one), **evidence(found.data, True), "verdict": "syntax", "errors": [syntax_json(error)]}))
+            return
+        self.header(one)
+        self.out.lines(syntax_lines(Source(one.name, found.data), error))
 
     def refused(self, one, found, refusal):
         self.worse(2)

@@ -9,12 +9,12 @@ from .places import Source
 
 ALL = "the whole checker accepts: the module pass, and every job on every node that it fits"
 MODULE = "none of 10 to 18 and 50 to 61; 20 to 45 (calls, targets, types) are not looked for with --module"
-STEP = "a script's table is made with Python's parser, and that step is not proved"
-MADE = "made from the script with Python's parser; that step is not proved"
+STEP = "a script's table is made by ducat's own parser, and that step is not proved"
+MADE = "made from the script by ducat's own parser; that step is not proved"
 TEXT = frozenset(range(32, 127)) | frozenset(range(128, 256)) | frozenset(b"\t\n\r\f")
-VERDICTS = ("accepted", "errors", "refused", "unreadable", "no table")
-ACCEPTED, ERRORS, REFUSED, UNREADABLE, NO_TABLE = range(5)
-STATUS = (0, 1, 2, 2, 2)
+VERDICTS = ("accepted", "errors", "refused", "unreadable", "no table", "syntax")
+ACCEPTED, ERRORS, REFUSED, UNREADABLE, NO_TABLE, SYNTAX = range(6)
+STATUS = (0, 1, 2, 2, 2, 1)
 REPEATED = {11: "parameter", 22: "argument"}  # the errors that have an earlier place
 
 
@@ -40,7 +40,7 @@ class Found:
 
     def __init__(self, one):
         self.one, self.verdict, self.nodes, self.errors, self.total = one, ACCEPTED, None, (), 0
-        self.refusal = self.why = self.message = self.place = self.data = self.dialect = self.table = self.names = self.source = None
+        self.refusal = self.why = self.message = self.place = self.data = self.dialect = self.table = self.names = self.source = self.syntax = None
 
 
 class Checker:
@@ -92,11 +92,14 @@ class Checker:
         return found
 
     def check_script(self, found):
-        from . import script
+        from . import export
         found.dialect, found.source = self.options.dialect, Source(found.one.name, found.data)
         try:
-            found.table, found.names = script.export(found.data, found.one.name, found.dialect)
-        except script.ScriptError as error:
+            found.table, found.names = export.export(found.data, found.one.name, found.dialect)
+        except export.ScriptSyntaxError as error:
+            found.verdict, found.syntax, found.total = SYNTAX, error, 1
+            return
+        except export.ScriptError as error:
             found.verdict, found.message, found.place = NO_TABLE, error.message, (error.line, error.column)
             return
         self.judge(found)
@@ -184,6 +187,8 @@ class Checker:
         explain = self.options.explain
         if found.verdict in (UNREADABLE, NO_TABLE):
             return b""
+        if found.verdict == SYNTAX:
+            return encoded("\n".join([*syntax_lines(found.source, found.syntax), f"errors {found.total}"]) + "\n")
         if found.verdict == REFUSED:
             if not explain:
                 return f"refused {found.refusal.number}\n".encode()
@@ -238,6 +243,8 @@ class Checker:
             if found.place:
                 entry["line"], entry["column"] = found.place
             return entry
+        if found.verdict == SYNTAX:
+            return {**entry, "errors": [syntax_json(found.syntax)]}
         if one.script:
             entry["table"] = MADE
         entry["dialect"] = dialects.in_json(found.dialect) if found.table is not None else None
@@ -315,13 +322,24 @@ def placed(source, begin, end, words):
     return [f"{path}:{line}:{column}: {words}", *(f"    {text}".rstrip() for text in source.drawn(begin, end))]
 
 
+def syntax_lines(source, error):
+    """Why a script is not Starlark, as an error of it. At the end of a script there is nothing to draw."""
+    if error.begin < error.end:
+        return placed(source, error.begin, error.end, error.message)
+    return [f"{visible(source.path)}:{error.line}:{error.column}: {error.message}"]
+
+
+def syntax_json(error):
+    return {"number": None, "words": error.message, "begin": error.begin, "end": error.end, "line": error.line, "column": error.column}
+
+
 def hint_of(found):
     """What a refused file seems to be, where it is not a table file at all."""
     data = found.data
     if found.refusal.number < 70 or found.one.script:
         return None
     if data and TEXT.issuperset(data):
-        return "this looks like a script; `ducat check` takes it under a name that ends in .star, or with --stdin-filename"
+        return "this looks like a script; `ducat check` takes it under a name that ends in .star, with --as-script, or with --stdin-filename"
     if len(data) % reasons.BLOCK and len(data) < inputs.TABLE_MOST:
         return f"its {len(data)} bytes are not a multiple of 512, so this is not a whole table file"
     return None
@@ -338,7 +356,7 @@ class Totals:
     def add(self, answer):
         self.files += 1
         self.errors += answer.errors
-        self.faulty += answer.verdict == ERRORS
+        self.faulty += answer.verdict in (ERRORS, SYNTAX)
         self.refused += answer.verdict == REFUSED
         self.unread += answer.verdict in (UNREADABLE, NO_TABLE)
         self.status = max(self.status, STATUS[answer.verdict])

@@ -31,14 +31,15 @@ several inputs the highest counts. INT, TERM and HUP end the command as they end
 CHECK = """Checks each PATH: a table file, a script, or a folder, which is searched for *.table and scripts. `-` is
 standard input.
 
-A script is a file whose name ends in .star, .bzl, .bazel or .sky, or is BUILD, BUCK or WORKSPACE. Any other
-file is a table file. Of a folder, hidden folders and links to folders are skipped.
+A script is a file whose name ends in .star, .bzl, .sky, .bazel or .BUILD, or is BUILD, BUCK or WORKSPACE, or
+matches a GLOB of --as-script. Any other file is a table file. Of a folder, hidden folders and links to
+folders are skipped.
 
 Every job is run on every node that it fits, so `errors 0` means that the whole checker accepts: parameter
 lists (10 to 18), call arguments (20 to 24), targets and assignments (30 to 33), types (40 to 45), and the
 module pass (50 to 61). Not covered: whether a name is defined, what a value is, which def a call reaches (see
-`ducat bind`), the arguments of load, and what Starlark's own grammar refuses. Nothing can be switched off:
-there is no option and no comment that leaves out a rule.
+`ducat bind`), and what load names. Nothing can be switched off: there is no option and no comment that leaves
+out a rule.
 
 For a table file this prints
   nodes N             the number of nodes
@@ -47,14 +48,15 @@ For a table file this prints
 or, for a file that is damaged or whose table is not sound, the one line
   refused K           and on standard error what is wrong
 Errors are sorted by begin, end and number. For a script an error is PATH:LINE:COLUMN: NUMBER and its words,
-with the line and carets. With several inputs the name of each comes first, and a line of totals last."""
+with the line and carets. A script that is not Starlark has the one error PATH:LINE:COLUMN: syntax: and what
+is wrong. With several inputs the name of each comes first, and a line of totals last."""
 
 CHECK_MORE = """No more than 59,905 bytes of a table file are read, one more than the largest has, and no more than 16,777,216
-of a script. A script's table is made with Python's parser; that step is not proved.
+of a script. A script's table is made by ducat's own parser; that step is not proved.
 
-Exit status: 0 no errors; 1 errors; 2 an input is refused or cannot be read, a script has no table, nothing is
-found in a PATH, wrong usage, no library, or output that cannot be written. Of several inputs the highest
-counts."""
+Exit status: 0 no errors; 1 errors; 2 an input is refused or cannot be read, a script is larger than a table
+may be, nothing is found in a PATH, wrong usage, no library, or output that cannot be written. Of several
+inputs the highest counts."""
 
 BIND = """Says which argument of each call reaches which parameter. FILE is a table file or a script; `-` is standard
 input.
@@ -71,9 +73,9 @@ of a call, such as outer(1)(2), and a method call are listed as such and bound t
 Which argument reaches which parameter is proved. Which call is paired with which def is not: a name that
 means another function at the call is not seen."""
 
-BIND_MORE = """Exit status: 0 every call is accepted; 1 a call or def is refused (10 to 84); 2 a file is refused or cannot be
-read, a node is not a Call or not a Def (6), the script is not the table's or has no table, wrong usage, no
-library, or output that cannot be written."""
+BIND_MORE = """Exit status: 0 every call is accepted; 1 a call or def is refused (10 to 84), or a script is not Starlark; 2 a
+file is refused or cannot be read, a node is not a Call or not a Def (6), the script is not the table's or is
+larger than a table may be, wrong usage, no library, or output that cannot be written."""
 
 RESCUE = """Writes to OUT a sound table file with what can be kept of the damaged table file IN (`-` is standard input),
 and prints
@@ -100,7 +102,10 @@ and then OUT is as it was. TABLE and NAMES are files of raw bytes; one of them m
 
 TABLE = """Writes to OUT the table file of INPUT: a script, or the text form of a table, as `ducat dump` prints it and
 docs/FORMAT.md describes it. `-` is standard input: a text, or with --stdin-filename a script. A script is
-read with Python's parser; that step is not proved."""
+read by ducat's own parser; that step is not proved.
+
+Exit status: 0 OUT is written; 1 the script is not Starlark; 2 INPUT is refused or cannot be read, or OUT
+cannot be written."""
 
 DUMP = """Prints the text form of a table file, or of a script's table. `ducat table` of it gives the same bytes back.
 `-` is standard input."""
@@ -165,6 +170,11 @@ def add_stdin_filename(parser):
     parser.add_argument("--stdin-filename", metavar="NAME", help="the name of standard input; a script's name makes it a script")
 
 
+def add_as_script(parser):
+    parser.add_argument("--as-script", metavar="GLOB", action="append", default=[],
+                        help="take a file whose name or path matches as a script; may be repeated")
+
+
 def add_list(parser):
     parser.add_argument("--files-from", metavar="FILE", help="read names of inputs from FILE (`-` is standard input), one in a line")
     parser.add_argument("-0", "--null", action="store_true", help="the names of --files-from end with NUL, not with a newline")
@@ -183,6 +193,7 @@ def check_parser():
     add_dialect(parser, "of scripts; a table file has its own")
     parser.add_argument("--exclude", metavar="GLOB", action="append", default=[],
                         help="leave out what a search finds and whose name or path matches; may be repeated")
+    add_as_script(parser)
     add_list(parser)
     add_stdin_filename(parser)
     parser.add_argument("--jobs", metavar="N", type=positive, default=1, help="use N processes; the output is the same")
@@ -213,6 +224,7 @@ def bind_parser():
     parser.add_argument("--script", metavar="SCRIPT", help="the script of one table file: names of defs, texts, lines and columns")
     parser.add_argument("--explain", action="store_true", help="say what each number means")
     add_dialect(parser, "of scripts; a table file has its own")
+    add_as_script(parser)
     add_list(parser)
     add_stdin_filename(parser)
     add_config(parser)
@@ -247,6 +259,7 @@ def table_parser():
     parser.add_argument("--parts", action="store_true",
                         help="OUT is a folder, new or empty: a table file of each top-level statement, 0001.table and so on")
     add_dialect(parser, "of a script; a text has its own")
+    add_as_script(parser)
     add_stdin_filename(parser)
     add_config(parser)
     add_format(parser)
@@ -258,6 +271,7 @@ def dump_parser():
     parser.add_argument("input", metavar="FILE")
     add_output(parser, required=False)
     add_dialect(parser, "of a script; a table file has its own")
+    add_as_script(parser)
     add_stdin_filename(parser)
     add_config(parser)
     add_format(parser)
@@ -305,6 +319,7 @@ class Configured:
         if word is None and self.configuration:
             word = self.configuration.dialect
         self.dialect = dialect_word(word) if word is not None else None
+        self.as_script = [*options.as_script, *(self.configuration.as_script if self.configuration else ())]
         self.excluded = 0
 
     @property
@@ -336,9 +351,9 @@ def once(*names):
         raise Failed("standard input (`-`) is named twice")
 
 
-def input_of(name, stdin_filename=None):
+def input_of(name, stdin_filename=None, as_script=()):
     from . import inputs
-    return inputs.standard_input(stdin_filename) if name == "-" else inputs.Input(name)
+    return inputs.standard_input(stdin_filename, as_script) if name == "-" else inputs.Input(name, as_script=as_script)
 
 
 def found_in(options, configured, paths, folders=True):
@@ -350,12 +365,12 @@ def found_in(options, configured, paths, folders=True):
     exclude = list(getattr(options, "exclude", []))
     if configured.configuration:
         exclude += configured.configuration.exclude
-    search = inputs.Search(exclude, options.stdin_filename)
+    search = inputs.Search(exclude, options.stdin_filename, configured.as_script)
     for path in paths:
-        search.name(path) if folders else search.found.append(input_of(path, options.stdin_filename))
+        search.name(path) if folders else search.found.append(input_of(path, options.stdin_filename, configured.as_script))
     if options.files_from is not None:
         for name in inputs.names_in(options.files_from, options.null):
-            search.listed(name) if folders else search.found.append(inputs.Input(name))
+            search.listed(name) if folders else search.found.append(inputs.Input(name, as_script=configured.as_script))
     configured.excluded = search.excluded
     return search
 
@@ -366,7 +381,7 @@ def check(words, out):
         raise Failed("no PATH is named (`ducat check --help` says how)")
     configured = Configured(options)
     search = found_in(options, configured, options.paths)
-    if configured.given and options.files_from is None and not any(could_be_script(path, options.stdin_filename) for path in options.paths):
+    if configured.given and options.files_from is None and not any(could_be_script(path, options.stdin_filename, configured.as_script) for path in options.paths):
         raise Failed("--dialect is for scripts: a table file has its own dialect")
     if options.script and any(one.script for one in search.found):
         raise Failed("--script is for table files: a script that is checked is its own")
@@ -384,11 +399,11 @@ def check(words, out):
     return max(status, 2 if search.empty else 0)
 
 
-def could_be_script(path, stdin_filename):
+def could_be_script(path, stdin_filename, as_script):
     from . import inputs
     if path == "-":
-        return bool(stdin_filename) and inputs.is_script(stdin_filename)
-    return inputs.is_script(path) or os.path.isdir(path)
+        return inputs.is_script(stdin_filename or "-", as_script)
+    return inputs.is_script(path, as_script) or os.path.isdir(path)
 
 
 def bind(words, out):
@@ -450,8 +465,8 @@ def named_out(name):
 
 def one_input(options, words_for_table):
     """A command on a script or on something that has its own dialect."""
-    one = input_of(options.input, options.stdin_filename)
     configured = Configured(options)
+    one = input_of(options.input, options.stdin_filename, configured.as_script)
     if configured.given and not one.script:
         raise Failed(f"--dialect is for scripts: {words_for_table} has its own dialect")
     finished(options, input=one, dialect=configured.dialect if one.script else None)
@@ -554,10 +569,10 @@ def ended(words, out):
     except Failed as error:
         out.flush()
         say(str(error))
+        return error.status
     except SystemExit as error:
         out.flush()
         return error.code or 0
-    return 2
 
 
 def main(words=None):

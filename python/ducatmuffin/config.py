@@ -1,10 +1,12 @@
-"""The configuration file ducat.ini: the dialect of scripts, and what a search leaves out.
+"""The configuration file ducat.ini: the dialect of scripts, what a search leaves out, and which other files are scripts.
 
     [ducat]
     dialect = standard
     exclude =
         generated
         *.tmp.star
+    as-script =
+        *.bzl.tpl
 """
 import os
 
@@ -13,15 +15,15 @@ from .output import Failed, named
 
 NAME = "ducat.ini"
 SECTION = "ducat"
-KEYS = ("dialect", "exclude")
+KEYS = ("dialect", "exclude", "as-script")
 MOST = 1 << 20  # bytes
 
 
 class Configuration:
     """What a file says. `dialect` is the word in it, or None."""
 
-    def __init__(self, path, dialect=None, exclude=()):
-        self.path, self.dialect, self.exclude = path, dialect, tuple(exclude)
+    def __init__(self, path, dialect=None, exclude=(), as_script=()):
+        self.path, self.dialect, self.exclude, self.as_script = path, dialect, tuple(exclude), tuple(as_script)
 
 
 def load(path=None):
@@ -54,7 +56,7 @@ def parsed(path, data):
             raise Failed(f"{path}: there is no section [{section}], only [{SECTION}]")
         for key in parser[section]:
             if key not in KEYS:
-                raise Failed(f"{path}: there is no key {key}, only {' and '.join(KEYS)}")
+                raise Failed(f"{path}: there is no key {key}, only {', '.join(KEYS)}")
     held = parser[SECTION] if parser.has_section(SECTION) else {}
     dialect = held.get("dialect")
     if dialect is not None:
@@ -62,7 +64,8 @@ def parsed(path, data):
             dialects.of(dialect)
         except ValueError as error:
             raise Failed(f"{path}: {error}") from None
-    return Configuration(path, dialect, [line.strip() for line in held.get("exclude", "").splitlines() if line.strip()])
+    exclude, as_script = ([line.strip() for line in held.get(key, "").splitlines() if line.strip()] for key in ("exclude", "as-script"))
+    return Configuration(path, dialect, exclude, as_script)
 
 
 def told(configuration, dialect, excluded):

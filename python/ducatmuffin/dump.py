@@ -31,13 +31,14 @@ def of_file(library, options, data):
 
 
 def of_script(library, options, data):
-    from . import script
+    from . import export
+    from .tabling import no_table
     if not options.json:
         say(STEP)
     try:
-        return None, None, (*script.export(data, options.input.name, options.dialect), options.dialect)
-    except script.ScriptError as error:
-        raise Failed(f"{options.input.name}:{error.line}:{error.column}: {error.message}") from None
+        return None, None, (*export.export(data, options.input.name, options.dialect), options.dialect)
+    except export.ScriptError as error:
+        raise no_table(options.input, error) from None
 
 
 def refused(options, out, front, data, refusal, why):

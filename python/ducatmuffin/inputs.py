@@ -16,14 +16,22 @@ NAMES_MOST = NAME_BYTES + 1
 SCRIPT_MOST = 2 ** 24  # bytes
 LIST_MOST = 2 ** 30  # bytes of a list of names
 CHUNK = 1 << 20
-ENDINGS = (".star", ".bzl", ".bazel", ".sky")
+ENDINGS = (".star", ".bzl", ".sky", ".bazel", ".BUILD")
 NAMES = ("BUILD", "BUCK", "WORKSPACE")
 
 
-def is_script(name):
-    """Whether a name is a script's; any other is a table file's."""
+def is_script(name, as_script=()):
+    """Whether a name is a script's: by itself, or by the globs of --as-script. Any other is a table file's."""
     last = os.path.basename(name)
-    return last.endswith(ENDINGS) or last in NAMES
+    return last.endswith(ENDINGS) or last in NAMES or matches(last, name, as_script)
+
+
+def matches(last, path, globs):
+    """Whether a glob matches a name or its path."""
+    if not globs:
+        return False
+    path = os.path.normpath(path)
+    return any(fnmatch.fnmatchcase(last, glob) or fnmatch.fnmatchcase(path, glob) for glob in globs)
 
 
 class Input:
@@ -31,13 +39,13 @@ class Input:
 
     __slots__ = ("path", "name", "script", "error")
 
-    def __init__(self, path, name=None, error=None):
+    def __init__(self, path, name=None, error=None, as_script=()):
         self.path, self.name, self.error = path, path if name is None else name, error
-        self.script = is_script(self.name)
+        self.script = is_script(self.name, as_script)
 
 
-def standard_input(filename=None):
-    return Input(None, filename or "-")
+def standard_input(filename=None, as_script=()):
+    return Input(None, filename or "-", None, as_script)
 
 
 # ---- reading
@@ -107,14 +115,14 @@ def reason(error):
 class Search:
     """Collects inputs, and counts what is excluded."""
 
-    def __init__(self, exclude=(), stdin_filename=None):
-        self.exclude, self.stdin_filename = tuple(exclude), stdin_filename
+    def __init__(self, exclude=(), stdin_filename=None, as_script=()):
+        self.exclude, self.stdin_filename, self.as_script = tuple(exclude), stdin_filename, tuple(as_script)
         self.found, self.excluded, self.empty = [], 0, []
 
     def name(self, path):
         """A PATH of the command line."""
         if path == "-":
-            self.found.append(standard_input(self.stdin_filename))
+            self.found.append(standard_input(self.stdin_filename, self.as_script))
         else:
             self.listed(path)
 
@@ -125,7 +133,7 @@ class Search:
         except (OSError, ValueError):
             folder = False  # reading it says what is wrong
         if not folder:
-            self.found.append(Input(path))
+            self.found.append(Input(path, as_script=self.as_script))
             return
         before, excluded = len(self.found), self.excluded
         self.folder(path)
@@ -152,7 +160,7 @@ class Search:
         folder = entry.is_dir(follow_symlinks=False)
         if folder and entry.name.startswith("."):
             return
-        if not folder and not (entry.name.endswith(".table") or is_script(entry.name)):
+        if not folder and not (entry.name.endswith(".table") or is_script(entry.path, self.as_script)):
             return
         if not folder and not entry.is_symlink() and not entry.is_file(follow_symlinks=False):
             return
@@ -163,11 +171,10 @@ class Search:
         elif folder:
             below.append(entry.path)
         else:
-            self.found.append(Input(entry.path))
+            self.found.append(Input(entry.path, as_script=self.as_script))
 
     def is_excluded(self, entry):
-        path = os.path.normpath(entry.path)
-        return any(fnmatch.fnmatchcase(entry.name, glob) or fnmatch.fnmatchcase(path, glob) for glob in self.exclude)
+        return matches(entry.name, entry.path, self.exclude)
 
 
 def names_in(path, nul):

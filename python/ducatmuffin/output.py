@@ -22,7 +22,11 @@ class OutputFailed(Exception):
 
 
 class Failed(Exception):
-    """The command cannot go on: a sentence for standard error, and exit status 2."""
+    """The command cannot go on: a sentence for standard error, and the exit status."""
+
+    def __init__(self, message, status=2):
+        super().__init__(message)
+        self.status = status
 
 
 def visible(text):

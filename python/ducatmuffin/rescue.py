@@ -55,10 +55,10 @@ def statements(table):
 
 def in_script(source, kept):
     """All statements of the script, where it can be read and begins with those that are kept; None otherwise."""
-    from . import script
+    from . import export
     try:
-        table, _ = script.export(source.bytes, source.path, None)
-    except script.ScriptError:
+        table, _ = export.export(source.bytes, source.path, None)
+    except export.ScriptError:
         return None
     found = statements(table)
     same = [(one.begin, one.end, one.kind) for one in found[:len(kept)]] == [(one.begin, one.end, one.kind) for one in kept]

@@ -8,7 +8,7 @@ from .output import Failed, digest, named, say
 
 
 def run(library, options, out, front):
-    """Writes the table file. Returns the exit status: 0 it is written, 2 there is none."""
+    """Writes the table file. Returns the exit status: 0 it is written, 1 the script is not Starlark, 2 there is none for another reason."""
     one = options.input
     try:
         data = inputs.read_script(one)
@@ -27,14 +27,20 @@ def entries(one, data, options):
     return [{**named(one.name), **kind, **evidence(data, True)}] if options.json else []
 
 
+def no_table(one, error):
+    """Why there is no table of a script: status 1 where it is not Starlark, as of any other error in it, 2 where it is larger than a table."""
+    from . import export
+    return Failed(f"{one.name}:{error.line}:{error.column}: {error.message}", 1 if isinstance(error, export.ScriptSyntaxError) else 2)
+
+
 def of_script(library, options, data):
-    from . import script
+    from . import export
     if not options.json:
         say(STEP)
     try:
-        made = script.export(data, options.input.name, options.dialect)
-    except script.ScriptError as error:
-        raise Failed(f"{options.input.name}:{error.line}:{error.column}: {error.message}") from None
+        made = export.export(data, options.input.name, options.dialect)
+    except export.ScriptError as error:
+        raise no_table(options.input, error) from None
     answer = library.write(*made, options.dialect or b"")
     if type(answer) is Refusal:
         return (answer, reasons.why_table(*made, options.dialect, answer)), options.dialect
@@ -43,16 +49,16 @@ def of_script(library, options, data):
 
 def run_parts(library, options, out, front, data):
     """A table file of each top-level statement, in a folder that is new or empty."""
-    from . import script
+    from . import export
     one = options.input
     if not one.script:
         raise Failed("--parts is for scripts")
     if not options.json:
         say(STEP)
     try:
-        tables = script.export_parts(data, one.name, options.dialect)
-    except script.ScriptError as error:
-        raise Failed(f"{one.name}:{error.line}:{error.column}: {error.message}") from None
+        tables = export.export_parts(data, one.name, options.dialect)
+    except export.ScriptError as error:
+        raise no_table(one, error) from None
     contents = []
     for made in tables:
         answer = library.write(*made, options.dialect or b"")

@@ -16,7 +16,7 @@ from ducatmuffin import cli, table
 
 DUCAT = os.path.join(support.ROOT, "ducat")
 NOT_PROVED = b"ducat: this library is not proved"
-STEP = "ducat: a script's table is made with Python's parser, and that step is not proved\n"
+STEP = "ducat: a script's table is made by ducat's own parser, and that step is not proved\n"
 
 
 class Ran(NamedTuple):

@@ -240,9 +240,22 @@ bound 1, refused 0, without a def 3
         self.says(0, "defs 0, calls 0\n", "", "bind", self.made("plain", "(Break)"))
 
     def test_no_table(self):
-        ran = self.run_ducat("bind", "samples/parameters.star")
-        self.assertEqual((ran.status, ran.out), (2, ""))
-        self.assertTrue(ran.err.startswith(f"{STEP}ducat: samples/parameters.star:1:17: "))
+        path = self.put("large.star", "pass\n" * 2100)
+        self.says(2, "", f"{STEP}ducat: {path}:2100:1: a table has at most 2100, and here are 2101 nodes\n", "bind", path)
+
+    def test_not_starlark(self):
+        path = self.put("wrong.star", "def f(): pass\nf(1 2)\n")
+        lines = f"{path}:2:5: syntax: expected `)`, found `2`\n    f(1 2)\n        ^\n"
+        self.says(1, lines, STEP, "bind", path)
+        self.says(2, None, None, "bind", path, "samples/missing.table")
+        ran = self.says(1, None, STEP, "bind", path, "samples/take.star")
+        self.assertTrue(ran.out.startswith(f"{path}:\n{lines}samples/take.star:\n"), ran.out)
+
+    def test_lists_in_a_wrong_order(self):
+        self.says(0, "bound 0, refused 0, without a def 0\n", STEP, "bind", "samples/parameters.star")
+        path = self.put("order.star", "def f(a=1, b): pass\ndef g(a, b): pass\nf(1)\ng(a=1, 2)\n")
+        self.says(1, "3:1 f(1), def 1:1\n    refused 13, b (1:12)\n4:1 g(a=1, 2), def 2:1\n    refused 20, 2 (4:8)\n"
+                  "bound 0, refused 2, without a def 0\n", STEP, "bind", path)
 
     def test_a_name_makes_no_line_of_its_own(self):
         path = self.made("control", "(Statements (Def (Normal a\x01\x1bb) (Break)) (OtherSimple (Call (Identifier f\x02) "
@@ -293,8 +306,11 @@ class Json(BindTest):
         self.assertEqual((entry["pairs"][0]["refused"]["number"], entry["pairs"][0]["refused"]["earlier"]["node"]), (22, 7))
 
     def test_what_cannot_be_bound(self):
-        told = self.told(2, "samples/damaged.table", "samples/missing.table", "samples/parameters.star")
-        self.assertEqual([entry["verdict"] for entry in told["inputs"]], ["refused", "unreadable", "no table"])
+        large, wrong = self.put("large.star", "pass\n" * 2100), self.put("wrong.star", "x = \n")
+        told = self.told(2, "samples/damaged.table", "samples/missing.table", large, wrong)
+        self.assertEqual([entry["verdict"] for entry in told["inputs"]], ["refused", "unreadable", "no table", "syntax"])
+        self.assertEqual(told["inputs"][3]["errors"], [{"number": None, "words": "syntax: unexpected end of line", "begin": 4, "end": 5, "line": 1,
+                                                        "column": 5}])
 
 
 if __name__ == "__main__":

@@ -54,7 +54,7 @@ class Config(CommandTest):
         self.assertEqual(support.library().read(self.read("out")).dialect, bytes([1, 1, 1, 1, 1, 2, 1, 1, 1]))
 
     def test_what_is_wrong_with_it(self):
-        for text, said in (("[ducat]\ndialct = all\n", "there is no key dialct, only dialect and exclude"),
+        for text, said in (("[ducat]\ndialct = all\n", "there is no key dialct, only dialect, exclude, as-script"),
                            ("[duct]\n", "there is no section [duct], only [ducat]"),
                            ("[ducat]\ndialect = basic\n", "no dialect is called basic"), ("dialect = all\n", "no section headers"),
                            (b"[ducat]\nexclude = \xff\n", "not UTF-8"), ("[ducat]\ndialect=all\ndialect=all\n", "already exists"),
@@ -70,6 +70,16 @@ class Config(CommandTest):
         os.symlink("nowhere", self.at("ducat.ini"))
         ran = self.run_here("check", "x")
         self.assertEqual((ran.status, ran.err), (2, "ducat: ducat.ini: No such file or directory\n"))
+
+    def test_which_files_are_scripts(self):
+        self.put("ducat.ini", "[ducat]\nas-script =\n    *.tpl\n    rules/*\n")
+        for name in ("sub/a.bzl.tpl", "sub/b.txt", "rules/c", "d.inc"):
+            self.put(name, LOOP)
+        ran = self.run_here("check", "--json", ".", "--as-script", "*.inc")
+        self.assertEqual([(entry["name"], entry["kind"]) for entry in json.loads(ran.out)["inputs"]],
+                         [("./d.inc", "script"), ("./rules/c", "script"), ("./sub/a.bzl.tpl", "script")])
+        ran = self.run_here("dump", "rules/c")
+        self.assertEqual(ran.status, 0)
 
     def test_percent_and_empty(self):
         self.put("ducat.ini", "[ducat]\nexclude = 100%.star\n")

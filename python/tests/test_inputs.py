@@ -23,13 +23,24 @@ class Scripts(CommandTest):
         self.says(0, "", "", "check", "--quiet", path)
 
     def test_every_name_of_a_script(self):
-        for name in ("plan.bzl", "plan.sky", "BUILD", "BUILD.bazel", "BUCK", "WORKSPACE"):
+        for name in ("plan.bzl", "plan.sky", "BUILD", "BUILD.bazel", "zlib.BUILD", "BUCK", "WORKSPACE"):
             self.says(0, "nodes 14\nerrors 0\n", STEP, "check", "--dialect", "all", self.put(name, PLAN))
 
     def test_other_names_are_table_files(self):
         self.says(2, "refused 70\n", None, "check", self.put("plan.table", PLAN))
         self.says(0, CLEAN, "", "check", self.put("BUILD.table", support.sample("clean.table")))
         self.says(2, "refused 70\n", None, "check", "-", input=PLAN.encode())
+
+    def test_names_by_a_glob(self):
+        path = self.put("rules/plan.bzl.tpl", PLAN)
+        self.says(0, "nodes 14\nerrors 0\n", STEP, "check", "--dialect", "all", "--as-script", "*.tpl", path)
+        self.says(0, "nodes 14\nerrors 0\n", STEP, "check", "--as-script", "*.inc", "--as-script", f"{self.room}/rules/*", path)
+        self.says(2, "refused 70\n", None, "check", "--as-script", "*.inc", path)
+        self.says(0, "nodes 14\nerrors 0\n", STEP, "check", "--as-script", "-", "-", input=PLAN.encode())
+        ran = self.run_ducat("check", "--as-script", "*.tpl", self.room)
+        self.assertEqual((ran.status, ran.out.splitlines()[0]), (0, f"{path}:"))
+        ran = self.run_ducat("bind", "--as-script", "*.tpl", path)
+        self.assertEqual((ran.status, ran.out.splitlines()[-1]), (0, "bound 1, refused 0, without a def 0"))
 
     def test_standard_input_with_a_script_s_name(self):
         self.says(1, "nodes 14\nplan.star:4:1: 53 the dialect has no `for` at top level\n    for train in [\"7\"]:\n    ^^^^^^^^^^^^^^^^^^^ (to line 5)\n"
@@ -47,18 +58,63 @@ class Scripts(CommandTest):
           ^
 errors 1
 """, STEP, "check", path)
+        path = self.put("twice.star", "def f(a, b):\n    return f(a=1,\n             a=2)\n")
+        self.assertIn(f"{path}:2:14: note: the earlier argument\n", self.run_ducat("check", path).out)
+
+    def test_a_wrong_order_reaches_the_checker(self):
+        self.says(1, """nodes 6
+samples/example.star:1:15: 13 a parameter without a default stands after one that has a default
+    def f(a, b=1, c):
+                  ^
+samples/example.star:2:3: 55 `break` stands outside a `for` loop
+      break
+      ^^^^^
+errors 2
+""", STEP, "check", "samples/example.star")
+
+    def test_a_sample_s_script_has_the_errors_of_its_table(self):
+        for name in ("example", "parameters", "lambda", "whole"):
+            of_table, = json.loads(self.run_ducat("check", "--json", f"samples/{name}.table").out)["inputs"]
+            dialect = "".join(map(str, of_table["dialect"]["bytes"])) if of_table["dialect"]["given"] else "none"
+            of_script, = json.loads(self.run_ducat("check", "--json", "--dialect", dialect, f"samples/{name}.star").out)["inputs"]
+            self.assertTrue(of_table["errors"])
+            self.assertEqual(of_script["errors"], of_table["errors"], name)
+
+    def test_what_is_not_starlark(self):
+        path = self.put("wrong.star", "x = 1\nwhile x:\n    pass\n")
+        said = f"{path}:2:1: syntax: `while` is a reserved word\n"
+        lines = f"{said}    while x:\n    ^^^^^\nerrors 1\n"
+        for options in ((), ("--explain",), ("--module",), ("--bad-only",)):
+            self.says(1, lines, STEP, "check", path, *options)
+        self.says(1, "", "", "check", "--quiet", path)
+        self.says(1, f"{path}:\n{lines}samples/clean.table:\nnodes 34\nerrors 0\nfiles 2, with errors 1, refused 0, not read 0, errors 1\n", STEP,
+                  "check", path, "samples/clean.table")
+        ran = self.run_ducat("check", "--json", path)
+        told = json.loads(ran.out)
+        entry, = told["inputs"]
+        self.assertEqual((ran.status, entry["verdict"], told["totals"]["errors"], told["totals"]["with_errors"]), (1, "syntax", 1, 1))
+        self.assertEqual(entry["errors"], [{"number": None, "words": said.partition(":2:1: ")[2][:-1], "begin": 6, "end": 11, "line": 2, "column": 1}])
+        self.assertNotIn("nodes", entry)
+
+    def test_the_end_of_a_script(self):
+        path = self.put("end.star", "x = [\n  1,\n")
+        self.says(1, f"{path}:3:1: syntax: unexpected end of script: the `[` of line 1 is not closed\nerrors 1\n", STEP, "check", path)
+        path = self.put("line.star", "def f()\n  pass\n")
+        self.says(1, f"{path}:1:8: syntax: expected `:`, found end of line\n    def f()\n           ^\nerrors 1\n", STEP, "check", path)
 
     def test_what_has_no_table(self):
-        parser = "not parsed: at least one argument must precede / (Python's parser says so, not the checker)"
-        ran = self.says(2, "", None, "check", "samples/parameters.star")
-        self.assertTrue(ran.err.startswith(f"{STEP}ducat: samples/parameters.star:1:17: not parsed: "), ran.err)
-        ran = self.says(2, "", None, "check", "--quiet", "samples/parameters.star")
-        self.assertTrue(ran.err.startswith("ducat: samples/parameters.star:1:17: not parsed: "), (ran.err, parser))
-        ran = self.run_ducat("check", "--json", "samples/parameters.star")
+        path = self.put("large.star", "pass\n" * 2100)
+        said = f"ducat: {path}:2100:1: a table has at most 2100, and here are 2101 nodes\n"
+        self.says(2, "", f"{STEP}{said}", "check", path)
+        self.says(2, "", said, "check", "--quiet", path)
+        ran = self.run_ducat("check", "--json", path)
         entry, = json.loads(ran.out)["inputs"]
-        self.assertEqual((ran.status, entry["verdict"], entry["line"], entry["column"]), (2, "no table", 1, 17))
-        self.says(2, "samples/parameters.star:\nsamples/clean.table:\nnodes 34\nerrors 0\n"
-                  "files 2, with errors 0, refused 0, not read 1, errors 0\n", None, "check", "samples/parameters.star", "samples/clean.table")
+        self.assertEqual((ran.status, entry["verdict"], entry["line"], entry["column"]), (2, "no table", 2100, 1))
+        self.says(2, f"{path}:\nsamples/clean.table:\nnodes 34\nerrors 0\n"
+                  "files 2, with errors 0, refused 0, not read 1, errors 0\n", None, "check", path, "samples/clean.table")
+        deep = self.put("deep.star", "x = " + "(" * 300 + "1" + ")" * 300 + "\n")
+        ran = self.says(2, "", None, "check", deep)
+        self.assertIn("nested too deeply", ran.err)
 
     def test_dialects(self):
         path = self.put("plan.star", PLAN)
@@ -76,7 +132,7 @@ errors 1
         ran = self.run_ducat("check", "--json", "--dialect", "111000100", path)
         entry, = json.loads(ran.out)["inputs"]
         self.assertEqual((ran.status, ran.err, entry["kind"], entry["dialect"]["name"]), (1, "", "script", "standard"))
-        self.assertEqual(entry["table"], "made from the script with Python's parser; that step is not proved")
+        self.assertEqual(entry["table"], "made from the script by ducat's own parser; that step is not proved")
         self.assertEqual(entry["errors"], [{"number": 53, "words": "the dialect has no `for` at top level", "begin": 37, "end": 72, "line": 4,
                                             "column": 1, "node": 5, "kind": {"number": 3, "name": "For"}}])
 

@@ -98,7 +98,7 @@ class Real(CommandTest):
 
     def test_what_is_not_used_is_not_imported(self):
         code = ("import sys; sys.path.insert(0, sys.argv[1]); from ducatmuffin import cli; status = cli.main(['--version']); "
-                "print(sorted({'argparse', 'json', 'subprocess', 'configparser', 'ducatmuffin.check', 'ducatmuffin.script'} & set(sys.modules)))")
+                "print(sorted({'argparse', 'json', 'subprocess', 'configparser', 'ducatmuffin.check', 'ducatmuffin.export', 'ducatmuffin.parser'} & set(sys.modules)))")
         ran = subprocess.run([sys.executable, "-I", "-S", "-c", code, os.path.join(support.ROOT, "python")], **PIPE)
         self.assertEqual(ran.stdout.splitlines()[-1], b"[]")
 

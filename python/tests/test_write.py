@@ -95,9 +95,13 @@ class Table(CommandTest):
         self.says(0, "written 2048\n", STEP, "table", "--dialect", "standard", "samples/clean.star", "-o", self.at("out"))
         self.says(0, "nodes 34\nerrors 0\n", "", "check", self.at("out"))
         self.says(0, None, STEP, "table", "-", "--stdin-filename", "x.star", "-o", self.at("out"), input=b"pass\n")
-        ran = self.run_ducat("table", "samples/parameters.star", "-o", self.at("none"))
-        self.assertEqual((ran.status, os.path.exists(self.at("none"))), (2, False))
-        self.assertIn("ducat: samples/parameters.star:1:17: ", ran.err)
+        large, wrong = self.put("large.star", "pass\n" * 2100), self.put("wrong.star", "x = (1\n")
+        self.says(2, "", f"{STEP}ducat: {large}:2100:1: a table has at most 2100, and here are 2101 nodes\n", "table", large, "-o", self.at("none"))
+        for words in (("table", wrong, "-o", self.at("none")), ("dump", wrong)):
+            self.says(1, "", f"{STEP}ducat: {wrong}:2:1: syntax: expected `)`, found end of script: the `(` of line 1 is not closed\n", *words)
+        self.assertFalse(os.path.exists(self.at("none")))
+        other = self.put("rules.tpl", "pass\n")
+        self.says(0, "written 1024\n", STEP, "table", "--as-script", "*.tpl", other, "-o", self.at("out"))
         ran = self.run_ducat("table", "--dialect", "111003100", "samples/clean.star", "-o", self.at("none"))
         self.assertEqual((ran.status, ran.out), (2, "refused 5\n"))
 

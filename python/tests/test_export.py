@@ -1,4 +1,8 @@
-"""The module `script`: the samples' scripts, each kind of record, each refusal with its place, the limits, and that every table is sound."""
+"""The module `export`: the samples' scripts, each kind of record, each syntax error with its place, the limits, and that every table is sound.
+
+The 57 trees, 99 refusals and 7 limits are those of the exporter by Python's own parser that was here before. Three of the refusals are now tables,
+which the checker judges; three are now limits.
+"""
 import ast
 import glob
 import os
@@ -7,13 +11,10 @@ import textwrap
 import unittest
 
 import support
-from ducatmuffin import numbers, script
+from ducatmuffin import export, numbers
 from ducatmuffin import table as tables
+from ducatmuffin.parser import FIELDS, joined
 
-# samples whose script Python's parser refuses, by the line and the rule that it has broken there
-REFUSED_SAMPLES = {
-    "example": (1, "13"), "example-none": (1, "13"), "cut": (1, "13"), "damaged": (1, "13"), "lambda": (1, "13"), "parameters": (1, "10"),
-    "whole": (2, "20")}
 # a sample whose text is no tree of its script, so that it can be refused with 3
 UNSOUND_SAMPLE = "unsound"
 
@@ -107,46 +108,89 @@ TREES = [
     ("x = \\\n  1\n\t\n'\t\f' # \t\f", "(Statements `x…'\t\f'` (Assign `x…1` (Identifier x) (Int `1`)) (OtherSimple (String `'\t\f'`)))"),
 ]
 
-# a script, and where and why it is refused: line:column, and words that are said
+# a script, and where and why it is not Starlark: line:column and the message
 REFUSALS = [
-    ("while a: pass", "1:1", "no `while`"), ("class A: pass", "1:1", "no `class`"), ("import a", "1:1", "no `import`"),
-    ("from a import b", "1:1", "no `from`"), ("x\ntry: a\nexcept: b", "2:1", "no `try`"), ("with a: pass", "1:1", "no `with`"),
-    ("@a\ndef f(): pass", "1:2", "no decorator"), ("async def f(): pass", "1:1", "no `async`"),
-    ("async def f():\n  await x", "1:1", "no `async`"), ("del a", "1:1", "no `del`"), ("assert a", "1:1", "no `assert`"),
-    ("raise a", "1:1", "no `raise`"), ("def f():\n  global a", "2:3", "no `global`"), ("def f():\n  nonlocal a", "2:3", "no `nonlocal`"),
-    ("match a:\n  case 1: pass", "1:1", "no `match`"), ("for a in b: pass\nelse: c", "2:7", "no `else` of a `for`"),
-    ("def f():\n  yield 1", "2:3", "no `yield`"), ("def f():\n  x = yield from a", "2:7", "no `yield`"),
-    ("(a := 1)", "1:2", "no `:=`"), ("a < b < c", "1:1", "no chain of comparisons"), ("a is b", "1:1", "no `is`"),
-    ("a is not b", "1:1", "no `is not`"), ("a ** b", "1:1", "no `**` between expressions"), ("a @ b", "1:1", "no `@`"),
-    ("a **= b", "1:1", "no `**` between expressions"), ("x = {1, 2}", "1:5", "no set in braces"), ("{a for a in b}", "1:1", "no set in braces"),
-    ("f(a for a in b)", "1:2", "no generator"), ("(a for a in b)", "1:1", "no generator"), ("[*a]", "1:2", "no `*` before"),
-    ("a, *b = c", "1:4", "no `*` before"), ("{**a}", "1:1", "no `**` in a dict"), ("[a async for a in b]", "1:1", "no `async`"),
-    ("a = b = c", "1:5", "several targets"), ("x: int", "1:1", "no type without a value"), ("x = 1,", "1:5", "ends with a comma"),
-    ("for a, in b: pass", "1:5", "ends with a comma"), ("a[1,]", "1:3", "one index or two"), ("a[1, 2, 3]", "1:3", "one index or two"),
-    ("a[1, 2,]", "1:3", "one index or two"), ("a[1:2, 3]", "1:3", "no slice among several indices"), ("x = 'a' 'b'", "1:5", "side by side"),
-    ("x = ('a'\n  # b\n  'c')", "1:6", "side by side"), ("f'a' f'{b}'", "1:1", "side by side"), ("b'a' b'b'", "1:1", "side by side"),
-    ("R'a'", "1:1", "no such prefix of a string: R"), ("u'a'", "1:1", "no such prefix"), ("rf'a'", "1:1", "no such prefix"),
-    ("B'a'", "1:1", "no such prefix"), ("1_000", "1:1", "no number of this form: 1_000"), ("00", "1:1", "no number of this form"),
-    ("1j", "1:1", "no number of this form"), ("1_0.5", "1:1", "no number of this form"), ("x = é", "1:5", "letters of ASCII"),
-    ("def é(): pass", "1:1", "letters of ASCII"), ("a.é", "1:1", "letters of ASCII"), ("f(é=1)", "1:3", "letters of ASCII"),
-    ("x = load", "1:5", "`load` is a word"), ("x = load('a', 'b')", "1:5", "`load` is a word"), ("a.load", "1:1", "`load` is a word"),
-    ("(load)('a', 'b')", "1:2", "`load` is a word"), ("def load(): pass", "1:1", "`load` is a word"),
-    ("load()", "1:1", "a load statement names"), ("load('a')", "1:1", "a load statement names"), ("load('a', b)", "1:1", "a load statement names"),
-    ("load('a', *b)", "1:1", "a load statement names"), ("load('a', **b)", "1:1", "a load statement names"),
-    ("load(a='b', c='d')", "1:1", "a load statement names"), ("load('a', 'b' 'c')", "1:11", "side by side"), ("load('a', f'b')", "1:1", "a load"),
-    ("f'{a:>3}'", "1:1", "fields of an f-string"), ("f'{a!a}'", "1:1", "fields of an f-string"), ("f'{a=}'", "1:4", "fields of an f-string"),
-    ("f'{a, b}'", "1:4", "fields of an f-string"), ("f'{a:{b}}'", "1:1", "fields of an f-string"), ("f'{a ** b}'", "1:4", "no `**`"),
-    ("f'\\N{EM DASH}'", "1:1", "before a bracket"), ("f'\\{a}'", "1:1", "before a bracket"),
-    ("x\nif a:\n\tb", "3:1", "a tab"), ("a =\t1", "1:4", "a tab"), ("a\t", "1:2", "a tab"),
-    ("a\n\f\nb", "2:1", "a form feed"), ("a = 1 # b\rc", "1:10", "a carriage return"), ("x = 'é'; y = 1_0", "1:14", "no number"),
-    ("a\0", "1:2", "a byte 0"), (b"# \xc3\xa9\nb = '\xff'", "2:6", "not UTF-8"), (b"\xff\xfea", "1:1", "not UTF-8"),
-    ("\ufeffwhile a: pass", "1:1", "no `while`"), ("x = " + "n" * 256, "1:5", "a name of 256 bytes"),
-    # what Python's parser refuses itself
-    ("def f(a=1, b): pass", "1", "Python's parser says so"), ("f(a=1, 2)", "1", "Python's parser says so"),
-    ("x = = 1", "1", "Python's parser says so"),
-    ("if a:\nb", "2", "Python's parser says so"), ("a\n  b", "2", "Python's parser says so"), ("'a", "1", "Python's parser says so"),
-    ("x = " + "(" * 300 + ")" * 300, "1", "Python's parser says so"), ("x = " + "-" * 9000 + "1", "1", "Python's parser says so"),
-    ("f() = 1", "1", "Python's parser says so"), ("print 'a'", "1", "Python's parser says so"),
+    ("while a: pass", "1:1", "`while` is a reserved word"), ("class A: pass", "1:1", "`class` is a reserved word"),
+    ("import a", "1:1", "`import` is a reserved word"), ("from a import b", "1:1", "`from` is a reserved word"),
+    ("x\ntry: a\nexcept: b", "2:1", "`try` is a reserved word"), ("with a: pass", "1:1", "`with` is a reserved word"),
+    ("@a\ndef f(): pass", "1:1", "Starlark has no `@` outside strings and comments"),
+    ("async def f(): pass", "1:1", "`async` is a reserved word"), ("async def f():\n  await x", "1:1", "`async` is a reserved word"),
+    ("del a", "1:1", "`del` is a reserved word"), ("assert a", "1:1", "`assert` is a reserved word"),
+    ("raise a", "1:1", "`raise` is a reserved word"), ("def f():\n  global a", "2:3", "`global` is a reserved word"),
+    ("def f():\n  nonlocal a", "2:3", "`nonlocal` is a reserved word"),
+    ("match a:\n  case 1: pass", "1:7", "expected end of statement, found `a`"), ("for a in b: pass\nelse: c", "2:1", "unexpected `else`"),
+    ("def f():\n  yield 1", "2:3", "`yield` is a reserved word"), ("def f():\n  x = yield from a", "2:7", "`yield` is a reserved word"),
+    ("(a := 1)", "1:4", "expected `)`, found `:`: Starlark has no `:=`"),
+    ("a < b < c", "1:7", "unexpected `<`: comparisons cannot be chained: use `and` or parentheses"), ("a is b", "1:3", "`is` is a reserved word"),
+    ("a is not b", "1:3", "`is` is a reserved word"),
+    ("a ** b", "1:3", "expected end of statement, found `**`: `**` is allowed only before parameters and arguments"),
+    ("a @ b", "1:3", "Starlark has no `@` outside strings and comments"),
+    ("a **= b", "1:3", "expected end of statement, found `**`: `**` is allowed only before parameters and arguments"),
+    ("x = {1, 2}", "1:7", "expected `:`, found `,`: Starlark has no sets in braces"),
+    ("{a for a in b}", "1:4", "expected `:`, found `for`: Starlark has no sets in braces"),
+    ("f(a for a in b)", "1:5", "expected `,` or `)`, found `for`: Starlark has no generators: use a list comprehension"),
+    ("(a for a in b)", "1:4", "expected `,` or `)`, found `for`: Starlark has no generators: use a list comprehension"),
+    ("[*a]", "1:2", "unexpected `*`: `*` before an expression is allowed only in the arguments of a call"),
+    ("a, *b = c", "1:4", "unexpected `*`: `*` before an expression is allowed only in the arguments of a call"),
+    ("{**a}", "1:2", "unexpected `**`: `**` is allowed only before parameters and arguments"),
+    ("[a async for a in b]", "1:4", "`async` is a reserved word"),
+    ("a = b = c", "1:7", "expected end of statement, found `=`: an assignment has one `=`"),
+    ("x: int", "1:7", "expected `=`, found end of script: a name with a type needs a value"),
+    ("x = 1,", "1:6", "a tuple without parentheses cannot end with a comma"),
+    ("for a, in b: pass", "1:6", "a tuple without parentheses cannot end with a comma"),
+    ("a[1,]", "1:5", "expected an expression, found `]`: an index is one expression, two, or a slice"),
+    ("a[1, 2, 3]", "1:7", "expected `]`, found `,`: an index is one expression, two, or a slice"),
+    ("a[1, 2,]", "1:7", "expected `]`, found `,`: an index is one expression, two, or a slice"),
+    ("a[1:2, 3]", "1:6", "expected `]`, found `,`: an index is one expression, two, or a slice"),
+    ("x = 'a' 'b'", "1:9", "expected end of statement, found `'b'`: strings side by side are not joined: use `+`"),
+    ("x = ('a'\n  # b\n  'c')", "3:3", "expected `)`, found `'c'`: strings side by side are not joined: use `+`"),
+    ("f'a' f'{b}'", "1:6", "expected end of statement, found `f'`: strings side by side are not joined: use `+`"),
+    ("b'a' b'b'", "1:6", "expected end of statement, found `b'b'`: strings side by side are not joined: use `+`"),
+    ("R'a'", "1:2", "expected end of statement, found `'a'`: a string can have the prefixes r, b, br, rb, f and fr"),
+    ("u'a'", "1:2", "expected end of statement, found `'a'`: a string can have the prefixes r, b, br, rb, f and fr"),
+    ("rf'a'", "1:3", "expected end of statement, found `'a'`: a string can have the prefixes r, b, br, rb, f and fr"),
+    ("B'a'", "1:2", "expected end of statement, found `'a'`: a string can have the prefixes r, b, br, rb, f and fr"),
+    ("1_000", "1:2", "expected end of statement, found `_000`: Starlark has no number of this form"),
+    ("00", "1:1", "an integer cannot begin with 0: 00"),
+    ("1j", "1:2", "expected end of statement, found `j`: Starlark has no number of this form"),
+    ("1_0.5", "1:2", "expected end of statement, found `_0`: Starlark has no number of this form"),
+    ("x = é", "1:5", "Starlark has no `é` outside strings and comments"),
+    ("def é(): pass", "1:5", "Starlark has no `é` outside strings and comments"),
+    ("a.é", "1:3", "Starlark has no `é` outside strings and comments"), ("f(é=1)", "1:3", "Starlark has no `é` outside strings and comments"),
+    ("x = load", "1:5", "unexpected `load`: `load` begins a statement, and cannot be a name"),
+    ("x = load('a', 'b')", "1:5", "unexpected `load`: `load` begins a statement, and cannot be a name"),
+    ("a.load", "1:3", "expected a name, found `load`: `load` begins a statement, and cannot be a name"),
+    ("(load)('a', 'b')", "1:2", "unexpected `load`: `load` begins a statement, and cannot be a name"),
+    ("def load(): pass", "1:5", "expected a name, found `load`: `load` begins a statement, and cannot be a name"),
+    ("load()", "1:6", "expected a string, found `)`: the arguments of `load` are strings"),
+    ("load('a')", "1:1", "a load statement needs a file and at least one name"),
+    ("load('a', b)", "1:11", "expected a string, found `b`: the arguments of `load` are strings"),
+    ("load('a', *b)", "1:11", "expected a string, found `*`: the arguments of `load` are strings"),
+    ("load('a', **b)", "1:11", "expected a string, found `**`: the arguments of `load` are strings"),
+    ("load(a='b', c='d')", "1:6", "expected a string, found `a`: the arguments of `load` are strings"),
+    ("load('a', 'b' 'c')", "1:15", "expected `)`, found `'c'`: strings side by side are not joined: use `+`"),
+    ("load('a', f'b')", "1:11", "expected a string, found `f'`: the arguments of `load` are strings"),
+    ("f'{a:>3}'", "1:5", "expected `}`, found `:`: " + FIELDS), ("f'{a!a}'", "1:6", FIELDS),
+    ("f'{a=}'", "1:5", "expected `}`, found `=`: " + FIELDS), ("f'{a, b}'", "1:5", "expected `}`, found `,`: " + FIELDS),
+    ("f'{a:{b}}'", "1:5", "expected `}`, found `:`: " + FIELDS), ("f'{a ** b}'", "1:6", "expected `}`, found `**`: " + FIELDS),
+    ("f'\\N{EM DASH}'", "1:9", "expected `}`, found `DASH`: " + FIELDS),
+    ("f'\\{a}'", "1:6", "a `}` that closes no field of the f-string: `}}` is the character"),
+    ("x\nif a:\n\tb", "3:1", "a tab is not allowed in indentation"), ("a =\t1", "1:4", "a tab is not allowed outside strings and comments"),
+    ("a\t", "1:2", "a tab is not allowed outside strings and comments"), ("a\n\f\nb", "2:1", "Starlark has no such character: U+000C"),
+    ("a = 1 # b\rc", "1:10", "a carriage return without a newline after it"),
+    ("x = 'é'; y = 1_0", "1:15", "expected end of statement, found `_0`: Starlark has no number of this form"),
+    ("a\0", "1:2", "Starlark has no such character: U+0000"), (b"# \xc3\xa9\nb = '\xff'", "2:6", "not UTF-8"), (b'\xff\xfea', "1:1", "not UTF-8"),
+    ("\ufeffwhile a: pass", "1:1", "`while` is a reserved word"), ("x = = 1", "1:5", "unexpected `=`"),
+    ("if a:\nb", "2:1", "expected an indented block, found `b`"), ("a\n  b", "2:1", "unexpected indentation"),
+    ("'a", "1:1", "a string that is not closed"), ("print 'a'", "1:7", "expected end of statement, found `'a'`"),
+]
+# scripts that Python's parser refused, and the number that the checker now gives
+JUDGED = [("def f(a=1, b): pass", 13), ("f(a=1, 2)", 20), ("f() = 1", 30)]
+# scripts that are larger than a table may be, or than the parser follows
+TOO_LARGE = [
+    ("x = " + "n" * 256, "1:5", "a name of 256 bytes, and a table has names of 255 at most"),
+    ("x = " + "(" * 300 + ")" * 300, "1:105", "nested too deeply: this parser follows 200 levels of expressions and blocks in each other"),
+    ("x = " + "-" * 9000 + "1", "1:2103", "a table has at most 2100, and here are 9003 nodes"),
 ]
 
 
@@ -175,11 +219,11 @@ LIMITS = [
 
 
 def answered(source):
-    """What is made of a script: its table and names, or where and why it is refused."""
+    """What is made of a script: its table and names, or the error."""
     try:
-        return script.export(source.encode() if isinstance(source, str) else source, "s.star", None), None
-    except script.ScriptError as error:
-        return None, (f"{error.line}:{error.column}", error.message)
+        return export.export(source.encode() if isinstance(source, str) else source, "s.star", None), None
+    except export.ScriptError as error:
+        return None, error
 
 
 def quote_all(node):
@@ -207,16 +251,24 @@ def tree(self, source, words):
     self.assertEqual(answered(source), (tree_in_words(source, words), None))
 
 
-def refusal(self, source, place, words):
-    made, refused = answered(source)
+def refusal(self, source, place, message, kind=export.ScriptSyntaxError):
+    made, error = answered(source)
     self.assertIsNone(made)
-    self.assertIn(place, (refused[0], refused[0].partition(":")[0]))
-    self.assertIn(words, refused[1])
+    self.assertIs(type(error), kind)
+    self.assertEqual((f"{error.line}:{error.column}", error.message.removeprefix("syntax: ")), (place, message))
+    self.assertLessEqual(error.begin, error.end)
+
+
+def too_large(self, source, place, message):
+    refusal(self, source, place, message, export.ScriptTooLarge)
 
 
 def limit(self, within, beyond, place, words):
     self.assertIsNone(answered(within)[1])
-    refusal(self, beyond, place, words)
+    error = answered(beyond)[1]
+    self.assertIs(type(error), export.ScriptTooLarge)
+    self.assertIn(place, (f"{error.line}:{error.column}", f"{error.line}"))
+    self.assertIn(words, error.message)
 
 
 @support.each(tree, TREES, "tree")
@@ -226,7 +278,15 @@ class Trees(unittest.TestCase):
 
 @support.each(refusal, REFUSALS, "refusal")
 class Refusals(unittest.TestCase):
-    """A script that is not Starlark, or that Python cannot parse, is refused at its place."""
+    """A script that is not Starlark has one error, at its place."""
+
+    def test_none_is_left_out(self):
+        self.assertEqual((len(TREES), len(REFUSALS) + len(JUDGED) + len(TOO_LARGE), len(LIMITS)), (57, 99, 7))
+
+
+@support.each(too_large, TOO_LARGE, "too_large")
+class TooLarge(unittest.TestCase):
+    """A script without a table that may be Starlark."""
 
 
 @support.each(limit, LIMITS, "limit")
@@ -234,46 +294,49 @@ class Limits(unittest.TestCase):
     """The largest script within a limit has a table, the smallest beyond it has none."""
 
 
+class Judged(unittest.TestCase):
+    """What the checker now sees."""
+
+    def test_numbers(self):
+        for source, number in JUDGED:
+            self.assertEqual([error.number for error in support.library().audit(*answered(source)[0], b"").errors], [number], source)
+
+
 class Samples(unittest.TestCase):
-    """Each sample's script gives the table of its text, byte by byte, where Python can parse it."""
+    """Each sample's script gives the table of its text, byte by byte."""
 
     def test_samples(self):
-        given = refused = 0
+        given = 0
         for name in support.samples(".txt"):
             text = tables.decoded(support.sample(f"{name}.txt"))
             named = next(line.partition(":")[2].strip() for line in text.split("\n") if line.startswith("script:"))
             source = support.sample(named)
             expected = tables.parse_text(f"names: shared\n{text}", support.sample)[:2]
-            line, rule = REFUSED_SAMPLES.get(name, (0, ""))
             with self.subTest(name):
-                if rule:
-                    refusal(self, source, str(line), "Python's parser says so")
-                    refused += 1
-                elif name == UNSOUND_SAMPLE:
+                if name == UNSOUND_SAMPLE:
                     self.assertNotEqual(answered(source), (expected, None))
                 else:
                     self.assertEqual(answered(source), (expected, None))
                     given += 1
-        self.assertGreaterEqual(given, 5)
-        self.assertEqual(refused, len(REFUSED_SAMPLES))
+        self.assertGreaterEqual(given, 14)
 
 
 class Parts(unittest.TestCase):
     def test_a_table_of_each_statement(self):
         source = b"x = 1\ndef f(a, b=x):\n    return a\nx\n"
-        parts = script.export_parts(source, "s.star", None)
+        parts = export.export_parts(source, "s.star", None)
         self.assertEqual([tables.kind_name(tables.decode(table)[0].kind) for table, _ in parts], ["Assign", "Def", "OtherSimple"])
 
     def test_a_large_script(self):
-        self.assertEqual(len(script.export_parts(b"pass\n" * 2100, "s.star", None)), 2100)
+        self.assertEqual(len(export.export_parts(b"pass\n" * 2100, "s.star", None)), 2100)
 
     def test_a_part_beyond_a_limit(self):
-        with self.assertRaises(script.ScriptError) as caught:
-            script.export_parts(b"x\n" + lists(64).encode(), "s.star", None)
+        with self.assertRaises(export.ScriptError) as caught:
+            export.export_parts(b"x\n" + lists(64).encode(), "s.star", None)
         self.assertEqual((caught.exception.line, caught.exception.column), (2, 64))
 
     def test_any_bytes(self):
-        self.assertEqual(script.export(bytearray(b"pass"), "s.star", None), script.export(b"pass", "s.star", None))
+        self.assertEqual(export.export(bytearray(b"pass"), "s.star", None), export.export(b"pass", "s.star", None))
 
 
 # ---- soundness
@@ -321,12 +384,15 @@ class Sound(unittest.TestCase):
 
     def sound(self, source):
         source = source.encode()
-        self.assertTrue(support.library().table(*script.export(source, "s.star", None)).accepted, source[:80])
-        for node in tables.preorder([script.joined(script.statements_of(source))]):
-            begin, end = node.fields["span"]
-            self.assertTrue(text_is_right(node, source[begin:end]), (tables.kind_name(node.kind), source[begin:end]))
+        self.assertTrue(support.library().table(*export.export(source, "s.star", None)).accepted, source[:80])
+        for node in export.preorder(joined(export.statements_of(source)))[0]:
+            self.assertTrue(text_is_right(node, source[node.begin:node.end]), (tables.kind_name(node.kind), source[node.begin:node.end]))
+            at = node.begin
             for child in node.children:
-                self.assertTrue(begin <= child.fields["span"][0] <= child.fields["span"][1] <= end, source[begin:end])
+                self.assertTrue(node.begin <= child.begin <= child.end <= node.end, source[node.begin:node.end])
+                if tables.kind_name(node.kind) != "IfExpr":  # its condition comes first
+                    self.assertLessEqual(at, child.begin, source[node.begin:node.end])
+                    at = child.end
 
     def test_trees_and_limits(self):
         for source in [source for source, _ in TREES] + [source for source, *_ in LIMITS]:
