@@ -1,11 +1,13 @@
-/* The C interface of the proved checks: link libstarlark_checks.a (`tools/native-lib starlark_checks` makes target/native/libstarlark_checks.a).
+/* The C interface of the proved checks: `./ducat build` proves them and makes target/native/libstarlark_checks.a and libstarlark_checks.so.
  *
  * How it is linked
- *   in the repository                 cc program.c -Iinclude -Ltarget/native -lstarlark_checks
+ *   in the repository                 cc program.c -Iinclude target/native/libstarlark_checks.a
  *   after `tools/install PREFIX`      cc program.c $(pkg-config --cflags --libs starlark_checks)
  *                                     with PREFIX/lib/pkgconfig in PKG_CONFIG_PATH, where pkg-config does not look there by itself;
  *                                     or cc program.c -IPREFIX/include -LPREFIX/lib -lstarlark_checks
  *   The archive stands behind what calls it. It needs no other library.
+ *   The same code is installed as a shared library, PREFIX/lib/libstarlark_checks.so.MAJOR.MINOR, for programs that load it when they run;
+ *   such a program compares starlark_version() first.
  *
  * docs/FORMAT.md has the format of tables and table files, docs/numbers.tsv all numbers, starlark_names.h both in words.
  *
@@ -45,9 +47,9 @@ extern "C" {
 
 /* The version of this interface. */
 #define STARLARK_VERSION_MAJOR 0
-#define STARLARK_VERSION_MINOR 1
+#define STARLARK_VERSION_MINOR 2
 #define STARLARK_VERSION_PATCH 0
-#define STARLARK_VERSION "0.1.0"
+#define STARLARK_VERSION "0.2.0"
 
 /* What a function returns that accepts. */
 #define STARLARK_ACCEPTED 0
@@ -161,6 +163,32 @@ enum starlark_kind {
     STARLARK_KIND_KW_ARGS_ARG = 63, /* argument */
 };
 
+/* The modes of parameters: what starlark_params stores for each. */
+enum starlark_mode {
+    STARLARK_MODE_POS_ONLY = 1,
+    STARLARK_MODE_POS_OR_NAME = 2,
+    STARLARK_MODE_NAME_ONLY = 3,
+    STARLARK_MODE_ARGS = 4,
+    STARLARK_MODE_KWARGS = 5,
+};
+
+/* The shapes of types: what starlark_type stores for each node that it reads as a type. */
+enum starlark_shape {
+    STARLARK_SHAPE_ELLIPSIS = 1,
+    STARLARK_SHAPE_PATH = 2,
+    STARLARK_SHAPE_INDEX = 3,
+    STARLARK_SHAPE_INDEX2 = 4,
+    STARLARK_SHAPE_LIST = 5,
+    STARLARK_SHAPE_UNION = 6,
+    STARLARK_SHAPE_TUPLE = 7,
+};
+
+/* The number of bytes of a dialect, and the three dialects that have a name, each as a pointer to so many bytes. */
+#define STARLARK_DIALECT_BYTES 9
+#define STARLARK_DIALECT_STANDARD ((const uint8_t *)"\1\1\1\0\0\0\1\0\0")
+#define STARLARK_DIALECT_EXTENDED ((const uint8_t *)"\1\1\1\1\0\2\1\1\0")
+#define STARLARK_DIALECT_ALL ((const uint8_t *)"\1\1\1\1\1\2\1\1\1")
+
 /* How many words `out` has. */
 #define STARLARK_WORDS 12
 
@@ -186,13 +214,17 @@ enum starlark_kind {
 /* Stack enough for every job, twice over. */
 #define STARLARK_STACK_BYTES (1 << 18)
 
+/* The version of the library that is linked or loaded: major * 65536 + minor * 256 + patch. A program that was compiled with this header
+ * needs the same major and minor number, and at least the patch number. */
+uint32_t starlark_version(void);
+
 /* The table check: 1 to 4. Accepted: nothing. */
 uint32_t starlark_table(const uint8_t *table, size_t table_len, const uint8_t *names, size_t names_len, uint32_t *out);
 
 /* The parameter list of the Def or Lambda at `node`: 1 to 4, 6, 7, 10 to 18.
  * Accepted: out[0..10) begin and end of pos_only, pos_or_named, args, named_only and kwargs, as indices in the list without its marks
  * (no args: the empty range at the end of pos_or_named; no kwargs: the empty range at the count); out[10] the count.
- * modes[i] is then the mode of parameter i: 1 PosOnly, 2 PosOrName, 3 NameOnly, 4 Args, 5 Kwargs. The buffer needs a byte for each
+ * modes[i] is then the mode of parameter i (enum starlark_mode). The buffer needs a byte for each
  * written parameter, marks counted (else 7); bytes past the count stay. */
 uint32_t starlark_params(const uint8_t *table, size_t table_len, const uint8_t *names, size_t names_len, size_t node,
                          uint8_t *modes, size_t modes_len, uint32_t *out);
@@ -219,8 +251,8 @@ uint32_t starlark_assignment(const uint8_t *table, size_t table_len, const uint8
                              uint32_t *out);
 
 /* Whether the expression at `node` is a type in a dialect (nine bytes, or none for Extended): 1 to 7, 45, 40 to 44. Accepted: nothing.
- * shapes[i] is then the shape of the node i places behind `node`, where it is read as a type or argument: 1 Ellipsis, 2 Path, 3 Index,
- * 4 Index2, 5 List, 6 Union, 7 Tuple; the other bytes stay. The buffer needs a byte for each node of the type (else 7). */
+ * shapes[i] is then the shape of the node i places behind `node`, where it is read as a type or argument (enum starlark_shape);
+ * the other bytes stay. The buffer needs a byte for each node of the type (else 7). */
 uint32_t starlark_type(const uint8_t *table, size_t table_len, const uint8_t *names, size_t names_len, const uint8_t *dialect,
                        size_t dialect_len, size_t node, uint8_t *shapes, size_t shapes_len, uint32_t *out);
 

@@ -9,7 +9,8 @@ import sys
 
 import repository
 
-DOCUMENTS = ["README.md", "docs/PROOFS.md", "docs/DECISIONS.md", "docs/DIFFERENCES.md", "docs/FORMAT.md", "samples/README.md"]
+DOCUMENTS = ["README.md", "samples/README.md", *(f"docs/{name}.md" for name in ("COMMANDS", "CONTRIBUTING", "CRATES", "DECISIONS", "DIFFERENCES", "FORMAT",
+                                                                              "JSON", "PROOFS"))]
 PATH = re.compile(r"^[\w./+-]+\.(?:antt|rt|py|txt|tsv|md|h|c|rs|list|sha256)$")
 
 
@@ -45,6 +46,9 @@ def holds(text, name):
 
 def faults_of(document):
     folder = None
+    if not (repository.ROOT / document).exists():
+        yield f"there is no {document}"
+        return
     for number, line in enumerate((repository.ROOT / document).read_text().splitlines(), 1):
         for target in re.findall(r"\]\(([^)#]+)\)", line):
             if "://" not in target and not ((repository.ROOT / document).parent / target).exists():

@@ -5,7 +5,7 @@ format.py           says whether the page is true where a tool can tell (exit st
 format.py --write   first writes the example anew
 
 Held: the kinds with their children, details and names, to document 01's sentences as tools/kinds.py reads them; the switches and rows of the
-dialects, to crates/dialect/src/lib.rt and tools/tables.py; the limits, to the constants of include/starlark.h; whether every record counts in
+dialects, to crates/dialect/src/lib.rt and the package; the limits, to the constants of include/starlark.h; whether every record counts in
 the depth, to crates/table/specs/Depth.antt; the example.
 """
 import re
@@ -14,12 +14,12 @@ import sys
 
 import kinds
 from repository import CRATES, ROOT
-from tables import DIALECTS, NUMBER, block
+from tables import tables
 
 PAGE = ROOT / "docs" / "FORMAT.md"
 SAMPLE, SCRIPT = ROOT / "samples" / "example.table", ROOT / "samples" / "example.star"
 FIRST, LAST = (f"<!-- made by tools/format.py: {where} here -->\n" for where in ("from", "to"))
-WORD = {number: word for word, number in NUMBER.items()}
+WORD = {number: word for word, number in tables.KIND.items()}
 CLASS = {"S": "statement", "E": "expression", "P": "parameter", "A": "argument"}
 PART = re.compile(r"(?:\[([\d, ]+): )?(\((\w) \3\)\*|\w)(?:\*|\{(\d+),(\d*)\})?\]?")
 
@@ -67,7 +67,7 @@ def of_kinds(text):
     known = kinds.read((CRATES / "cases" / "document01.txt").read_text())
     table, faults = rows(text, "Number | Kind"), []
     if [(int(number), word) for number, word, *_ in table] != sorted(WORD.items()):
-        return ["the kinds are not those of tools/tables.py in their order"]
+        return ["the kinds are not those of the package in their order"]
     for number, word, children, details, named, _ in table:
         kind = known[int(number)]
         if int(details) != kind.details:
@@ -94,8 +94,8 @@ def of_dialects(text):
     head = text[text.index("| Byte | Switch |"):].splitlines()[0].split(" | ")[4:]
     if [name.rstrip(" |") for name in head] != names or [list(column) for column in zip(*(row[4:] for row in table))] != numbers:
         faults.append("the three rows are not those of crates/dialect")
-    if any(DIALECTS[name] != "".join(row) for name, row in zip(names, numbers)):
-        faults.append("tools/tables.py has other rows of dialects than crates/dialect")
+    if any(tables.DIALECTS[name.lower()] != bytes(map(int, row)) for name, row in zip(names, numbers)):
+        faults.append("the package has other rows of dialects than crates/dialect")
     meant = re.search(r"^const NONE_GIVEN: Name = Name::(\w+);", code, re.M)[1]
     if f"no dialect bytes are given, {meant} is meant" not in text:
         faults.append(f"no dialect bytes mean {meant}")
@@ -149,7 +149,7 @@ def example():
     lines += ["| Bytes of the file | Hexadecimal | What it is |", "|---|---|---|"]
     for number, (one, n) in enumerate(zip(blocks, used)):
         at, content, total = 512 * number, one[4:4 + n], struct.unpack_from("<I", one, 508)[0]
-        assert block(number, content) == one, f"block {number} of the sample is not a block"
+        assert tables._block(number, content) == one, f"block {number} of the sample is not a block"
         lines.append(f"| {at} to {at + 3} | `{hexed(one[:4])}` | block {number}, {n} bytes used |")
         if number == 0:
             dialect = "no dialect" if n == 4 else "the dialect " + " ".join(map(str, content[4:]))

@@ -1,12 +1,13 @@
 #!/usr/bin/env python3
-"""Makes what C and Rust see of the numbers and kinds, from docs/numbers.tsv and docs/kinds.tsv, and holds the two interfaces to each other.
+"""Makes what C, Rust and Python see of the numbers and kinds, from docs/numbers.tsv and docs/kinds.tsv, and compares the interfaces.
 
 interfaces.py           says whether all is as it must be (exit status 1 if not)
 interfaces.py --write   first writes anew what is made
 
-Made: the enums in include/starlark.h, from "enum starlark_number {" and "enum starlark_kind {" to their ends; include/starlark_names.h; and
-bindings/rust/src/made.rs. Held: the version of the header in one string and in bindings/rust/Cargo.toml, and the header's constants, which
-are the code's and those of bindings/rust/src/lib.rs. tools/numbers.py holds the two lists to the code.
+Made: the enums and the dialects of include/starlark.h; include/starlark_names.h; bindings/rust/src/made.rs; python/ducatmuffin/numbers.py.
+Compared: the version, which the header has, the Rust crates, the Python package and the code; the header's constants with those of the code
+and of bindings/rust/src/lib.rs; its functions with the declarations of bindings/raw/src/lib.rs. tools/numbers.py compares the two lists with
+the code.
 """
 import re
 import sys
@@ -14,11 +15,17 @@ import sys
 from repository import CRATES, ROOT
 
 HEADER, NAMES = ROOT / "include" / "starlark.h", ROOT / "include" / "starlark_names.h"
-RUST = ROOT / "bindings" / "rust"
+RUST, RAW = ROOT / "bindings" / "rust", ROOT / "bindings" / "raw"
+PYTHON = ROOT / "python" / "ducatmuffin"
 # the header's constants that the wrapper has too, and where the code has them
-SHARED = ["WORDS", "NODES", "NODE_BYTES", "NAME_BYTES", "DEPTH", "FILE_BYTES", "ERRORS", "AUDIT_ERRORS", "STACK_BYTES"]
+SHARED = ["WORDS", "NODES", "NODE_BYTES", "NAME_BYTES", "DEPTH", "FILE_BYTES", "ERRORS", "AUDIT_ERRORS", "STACK_BYTES", "DIALECT_BYTES"]
 IN_CODE = {"NODES": "table/src/lib.rt: MOST_NODES", "NAME_BYTES": "table/src/lib.rt: MOST_NAMES", "DEPTH": "table/src/depth.rt: MOST_DEPTH",
            "NODE_BYTES": "forest/src/lib.rt: RECORD"}
+# the bytes that starlark_params and starlark_type store, as crates/deflist/specs and crates/types/specs define them
+MODES = ["PosOnly", "PosOrName", "NameOnly", "Args", "Kwargs"]
+SHAPES = ["Ellipsis", "Path", "Index", "Index2", "List", "Union", "Tuple"]
+# the dialects of crates/dialect that have a name, and what the interfaces call them
+DIALECTS = {"Standard": "STANDARD", "Extended": "EXTENDED", "AllOptionsInternal": "ALL"}
 
 
 def rows(name):
@@ -52,6 +59,66 @@ def number_enum():
 
 def kind_enum():
     return c_enum("kind", [f"STARLARK_KIND_{constant(name)} = {number}, /* {own} */" for number, name, own in rows("kinds.tsv")])
+
+
+def listed_enum(name, cases):
+    """An enum of C whose numbers count from 1."""
+    return c_enum(name, [f"STARLARK_{name.upper()}_{constant(case)} = {number}," for number, case in enumerate(cases, 1)])
+
+
+def switches():
+    """The names of a dialect's switches, as the code has them."""
+    return re.findall(r"^    pub (enable_\w+):", (CRATES / "dialect" / "src" / "lib.rt").read_text(), re.M)
+
+
+def dialects():
+    """The dialects that have a name, by the interfaces' names: their bytes, as the code has them."""
+    code = (CRATES / "dialect" / "src" / "lib.rt").read_text()
+    names = re.findall(r"^    (\w+),$", re.search(r"^pub enum Name \{\n(.*?)^\}", code, re.M | re.S)[1], re.M)
+    rows_found = [[int(digit) for digit in re.findall(r"\d", row)] for row in re.findall(r"^    \[([\d, ]+)\],$", code, re.M)]
+    assert names == list(DIALECTS) and all(len(row) == len(switches()) for row in rows_found), "crates/dialect has other dialects"
+    return {DIALECTS[name]: row for name, row in zip(names, rows_found)}
+
+
+def with_dialects(text):
+    """The header's text with the bytes of the dialects."""
+    for name, row in dialects().items():
+        made = f'#define STARLARK_DIALECT_{name} ((const uint8_t *)"{"".join(f"{chr(92)}{byte}" for byte in row)}")'
+        text, count = re.subn(rf"^#define STARLARK_DIALECT_{name}\b.*$", lambda _: made, text, flags=re.M)
+        assert count == 1, f"include/starlark.h has not one STARLARK_DIALECT_{name}"
+    return text
+
+
+def header_constants(header):
+    """The header's constants, without STARLARK_: name to number."""
+    said = dict(re.findall(r"^#define STARLARK_(\w+) (.*)$", header, re.M))
+    return {name: value(text) for name, text in said.items() if value(text) is not None}
+
+
+def python():
+    """The Python package's module `numbers`."""
+    numbers, kinds = rows("numbers.tsv"), rows("kinds.tsv")
+    limits = header_constants(HEADER.read_text())
+
+    def listed(name, words, cases):
+        return f"# {words}\n{name} = {{\n" + "".join(f"    {key!r}: {text}," + "\n" for key, text in cases) + "}\n"
+
+    parts = [
+        "# what a function returns that accepts, and the word for \"no place\" and \"no earlier node\"\nACCEPTED = 0\nNONE = 0xFFFFFFFF\n",
+        "# the limits of include/starlark.h; OUT_WORDS is the number of words that an answer has\n"
+        + "".join(f"{'OUT_WORDS' if name == 'WORDS' else name} = {limits[name]}\n" for name in SHARED),
+        listed("NUMBERS", "the name of each number", [(int(number), f'"{name}"') for number, name, _, _ in numbers]),
+        listed("WORDS", "what each number means", [(int(number), f'"{in_c(words)}"') for number, _, words, _ in numbers]),
+        listed("KINDS", "the name and the class of each kind", [(int(number), f'("{name}", "{own}")') for number, name, own in kinds]),
+        "# the number of each kind by its name\nKIND = {name: number for number, (name, _) in KINDS.items()}\n",
+        listed("DIALECTS", "the dialects that have a name", [(name.lower(), f"bytes({row})") for name, row in dialects().items()])
+        .replace("'", '"'),
+        "# what each byte of a dialect switches\nSWITCHES = (\n" + "".join(f'    "{name}",\n' for name in switches()) + ")\n",
+        listed("MODES", "the modes of parameters", [(number, f'"{name}"') for number, name in enumerate(MODES, 1)]),
+        listed("SHAPES", "the shapes of types", [(number, f'"{name}"') for number, name in enumerate(SHAPES, 1)]),
+    ]
+    return '"""The numbers, kinds, limits, dialects, modes and shapes.\n\nMade by tools/interfaces.py from docs/numbers.tsv, docs/kinds.tsv, ' \
+           'include/starlark.h and crates/dialect.\n"""\n' + "\n".join(parts)
 
 
 def c_switch(name, what, cases):
@@ -89,10 +156,19 @@ def rust():
                        [(number, name, words) for number, name, words, _ in numbers])
     kind = rust_enum("Kind", "The kind of a record: its byte 0. docs/FORMAT.md has what each takes below it.", "u8",
                      [(number, name, f"{own.capitalize()} {number}.") for number, name, own in kinds])
+    mode = rust_enum("Mode", "The mode of a parameter: what [`crate::Table::params`] stores for each.", "u8",
+                     [(at, name, f"Mode {at}.") for at, name in enumerate(MODES, 1)])
+    shape = rust_enum("Shape", "The shape of a type: what [`crate::Table::type_shape`] stores for each node that it reads as a type.", "u8",
+                      [(at, name, f"Shape {at}.") for at, name in enumerate(SHAPES, 1)])
+    named_rows = "".join(f"    /// The dialect {name}.\n    pub const {DIALECTS[name]}: [u8; {len(row)}] = {row};\n"
+                         for name, row in zip(DIALECTS, dialects().values()))
+    lists = "".join(f"/// Each {what.lower()}.\npub const {what.upper()}S: [{what}; {len(cases)}] = ["
+                    + ", ".join(f"{what}::{name}" for name in cases) + "];\n\n" for what, cases in (("Mode", MODES), ("Shape", SHAPES)))
     said = "".join(f'    (Number::{capitals(name)}, "{name}", "{in_c(words)}"),\n' for _, name, words, _ in numbers)
     named = "".join(f'    (Kind::{name}, "{name}", Class::{own.capitalize()}),\n' for _, name, own in kinds)
     return "//! The numbers and kinds, with their names and words. Made by tools/interfaces.py from docs/numbers.tsv and docs/kinds.tsv.\n\n" \
-           f"use crate::Class;\n\n{number}\n{kind}\n" \
+           f"use crate::Class;\n\n{number}\n{kind}\n{mode}\n{shape}\n{lists}" \
+           f"/// The dialects that have a name, as their nine bytes.\npub mod dialect {{\n{named_rows}}}\n\n" \
            f"/// Each number, its name and what it means.\npub const NUMBERS: [(Number, &str, &str); {len(numbers)}] = [\n{said}];\n\n" \
            f"/// Each kind, its name and its class.\npub const KINDS: [(Kind, &str, Class); {len(kinds)}] = [\n{named}];\n"
 
@@ -106,8 +182,11 @@ def with_enum(text, name, made):
 
 def made():
     """What is made: each file's text as it must be."""
-    header = with_enum(with_enum(HEADER.read_text(), "number", number_enum()), "kind", kind_enum())
-    return {HEADER: header, NAMES: names_header(), RUST / "src" / "made.rs": rust()}
+    header = with_dialects(HEADER.read_text())
+    enums = {"number": number_enum(), "kind": kind_enum(), "mode": listed_enum("mode", MODES), "shape": listed_enum("shape", SHAPES)}
+    for name, enum in enums.items():
+        header = with_enum(header, name, enum)
+    return {HEADER: header, NAMES: names_header(), RUST / "src" / "made.rs": rust(), PYTHON / "numbers.py": python()}
 
 
 def value(text):
@@ -124,8 +203,14 @@ def versions():
         return ["include/starlark.h: the version is not there as three numbers"]
     version = ".".join(part[1] for part in parts)
     held = {"include/starlark.h": re.search(r'^#define STARLARK_VERSION "(.*)"$', header, re.M),
-            "bindings/rust/Cargo.toml": re.search(r'^version = "(.*)"$', (RUST / "Cargo.toml").read_text(), re.M)}
-    return [f"{path}: the version is not {version}" for path, found in held.items() if not found or found[1] != version]
+            "bindings/rust/Cargo.toml": re.search(r'^version = "(.*)"$', (RUST / "Cargo.toml").read_text(), re.M),
+            "bindings/raw/Cargo.toml": re.search(r'^version = "(.*)"$', (RAW / "Cargo.toml").read_text(), re.M),
+            "python/ducatmuffin/__init__.py": re.search(r'^__version__ = "(.*)"$', (PYTHON / "__init__.py").read_text(), re.M)}
+    told = [f"{path}: the version is not {version}" for path, found in held.items() if not found or found[1] != version]
+    defined = re.search(r"^version = versionOf (\d+) (\d+) (\d+)$", (CRATES / "starlark_checks" / "specs" / "Version.antt").read_text(), re.M)
+    if not defined or ".".join(defined.groups()) != version:
+        told.append(f"crates/starlark_checks/specs/Version.antt: the version is not {version}")
+    return told
 
 
 def constants():
@@ -143,11 +228,41 @@ def constants():
     return faults
 
 
+def stored():
+    """The faults of modes and shapes: their bytes are those of the definitions."""
+    modes = re.findall(r"^mode(\w+) = (\d+)$", (CRATES / "deflist" / "specs" / "Unpack.antt").read_text(), re.M)
+    forms = (CRATES / "types" / "specs" / "Forms.antt").read_text()
+    shapes = [row for row in re.findall(r"^shapeOf (\w+) = (\d+)$", forms, re.M) if row[0] not in ("List", "Other")]
+    shapes += [("List", re.search(r"^listShape = (\d+)$", forms, re.M)[1])]
+    told = []
+    for what, cases, found in (("modes", MODES, modes), ("shapes", SHAPES, shapes)):
+        if sorted((int(byte), name) for name, byte in found) != list(enumerate(cases, 1)):
+            told.append(f"tools/interfaces.py: the {what} are not those of the definitions")
+    return told
+
+
+def declared():
+    """The faults of the functions: Rust declares, and Python calls, those of the header with the same arguments, in the same order."""
+    told, kinds_c = [], {"uint32_t *": "*mut u32", "uint8_t *": "*mut u8", "const uint8_t *": "*const u8", "size_t ": "usize"}
+    header = dict(re.findall(r"^uint32_t starlark_(\w+)\(([^;]*)\);", HEADER.read_text(), re.M))
+    rust_text = dict(re.findall(r"^    pub fn starlark_(\w+)\(([^;]*?),?\s*\) -> u32;", (RAW / "src" / "lib.rs").read_text(), re.M))
+    for name, words in header.items():
+        wanted = []
+        for word in re.split(r",\s*", words) if words != "void" else []:
+            kind, of = re.fullmatch(r"(.*?)(\w+)", word).groups()
+            wanted.append(f"{of}: {'*mut Words' if of == 'out' else kinds_c.get(kind)}")
+        if re.split(r",\s*", rust_text.get(name, "none").strip()) != (wanted or [""]):
+            told.append(f"bindings/raw/src/lib.rs: starlark_{name} is not declared as in the header")
+    if sorted(header) != sorted(rust_text):
+        told.append("bindings/raw/src/lib.rs declares other functions than the header")
+    return told
+
+
 def faults():
     """All that is not as it must be."""
     wrong = [path for path, text in made().items() if not path.exists() or path.read_text() != text]
     told = [f"{path.relative_to(ROOT)} is not what the lists give (tools/interfaces.py --write makes it)" for path in wrong]
-    return told + versions() + constants()
+    return told + versions() + constants() + stored() + declared()
 
 
 def main():
@@ -155,7 +270,7 @@ def main():
         for path, text in made().items():
             path.write_text(text)
     found = faults()
-    print("\n".join(found) or "interfaces.py: the enums, names, constants and version of C and Rust are those of the lists and the header")
+    print("\n".join(found) or "interfaces.py: C, Rust and Python have the enums, names, constants, functions and version of the lists and the header")
     return 1 if found else 0
 
 

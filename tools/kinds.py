@@ -15,12 +15,13 @@ import re
 import sys
 
 from repository import CRATES, ROOT
-from tables import NUMBER, trees
+from tables import tables, trees
 
 FOLDER = CRATES / "cases"
 DOCUMENT = ROOT.parent / "shared" / "docs" / "01-scope.md"
 HEADING = "# 3: each kind, by document 01's sentences (made by tools/kinds.py)"
 DEEP = "# 4: each kind at the largest depth and one deeper, by document 02's sentence (made by tools/kinds.py)"
+NUMBER = tables.KIND
 WORD = {number: word for word, number in NUMBER.items()}
 
 # document 01's largest depth, and what document 02 (W-206) counts: "statements and expressions only; a parameter or argument record has its
@@ -138,7 +139,7 @@ def read(text):
     for n, most in re.findall(r"\(kind (\d+): 0 to (\d+)\)", text):
         kinds[int(n)].details = int(most)
     kinds[int(re.search(r"position of the name in kind (\d+)", text)[1])].placed = True
-    assert sorted(kinds) == sorted(WORD), "the sentences do not give the kinds that tables.py writes"
+    assert sorted(kinds) == sorted(WORD), "the sentences do not give the kinds of the package"
     return kinds
 
 

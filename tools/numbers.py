@@ -5,7 +5,7 @@ numbers.py          says whether they agree, number by number and name by name (
 
 - docs/numbers.tsv, the constants of crates/table/src/numbers.rt and the definitions of its specs/Numbers.antt
 - the column "given by" of docs/numbers.tsv and what include/starlark.h says of each job; a file gives what reader and module pass do
-- the constants of crates/soundness/src/kinds.rt, the definitions of its specs/KindNumbers.antt, and the words of tools/tables.py
+- the constants of crates/soundness/src/kinds.rt, the definitions of its specs/KindNumbers.antt, and the words of the package
 - docs/kinds.tsv, those words, and the classes by document 01's sentences; then what tools/interfaces.py makes for C and Rust
 """
 import re
@@ -14,7 +14,7 @@ import sys
 import interfaces
 import kinds
 from repository import CRATES, ROOT
-from tables import NUMBER as WORDS
+from tables import tables
 
 # document 01, "Numbers given back" and "The file and the program"; document 02
 GIVEN = [*range(1, 8), *range(10, 19), *range(20, 25), *range(30, 34), *range(40, 46), *range(50, 62), *range(70, 76), *range(80, 85), 90, 91]
@@ -74,6 +74,8 @@ def of_numbers():
     definitions = [(number, camel(name)) for number, name in table]
     faults += differing("crates/table/specs/Numbers.antt", definitions, said_of("table/specs/Numbers.antt", r"^(\w+) = (\d+)$"))
     given = given_by_jobs()
+    if given.pop("version", None):
+        faults.append("include/starlark.h: starlark_version gives a number, and it is no job")
     if sorted(given) != sorted(JOBS):
         return [*faults, f"include/starlark.h: its jobs are not those of docs/numbers.tsv: {sorted(given)}"], 0
     for number, _, _, by in rows:
@@ -87,7 +89,7 @@ def of_kinds():
     """The faults of the kinds' numbers."""
     code = said_of("soundness/src/kinds.rt", r"^pub const (\w+): u8 = (\d+);")
     specs = said_of("soundness/specs/KindNumbers.antt", r"^kind(\w+) = (\d+)$")
-    words = [(number, word) for word, number in WORDS.items()]
+    words = [(number, word) for word, number in tables.KIND.items()]
     faults = differing("crates/soundness/specs/KindNumbers.antt", words, specs)
     classes = {number: kind.own for number, kind in kinds.read((kinds.FOLDER / "document01.txt").read_text()).items()}
     table = [tuple(line.split("\t")) for line in (ROOT / "docs" / "kinds.tsv").read_text().splitlines()]

@@ -13,6 +13,9 @@ A function is public where it is 'pub fn' or 'extern'. Of each, in a library or 
 
 A function of a library that is not public promises something too.
 
+A crate without code has wrong answers as well: two edits or more, each in definitions of its specs/ (of `statements`, which has none, in its
+statements), and docs/PROMISES.md lists them.
+
 promises.py            says each fault in a line; the last line is 'N public functions, M faults'; status 0 where M is 0
 promises.py --write    writes the generated part of docs/PROMISES.md, and the statements of theorems that stand; rt fmt lays these out
 """
@@ -54,7 +57,8 @@ class Crate:
             path = self.folder / str(file)
             text = texts.get(file) or (path.read_text() if path.is_file() else "")
             at = text.find(old)
-            found.append(None if at < 0 else function_around(self.name, file, text, at, old))
+            around = function_around if self.functions else definition_around
+            found.append(None if at < 0 else around(self.name, file, text, at, old))
             texts[file] = text.replace(old, new, 1)
         return found
 
@@ -101,6 +105,12 @@ def function_around(crate, file, text, at, old):
         if begin <= at and at + len(old) <= end:
             return f"const {name}"
     return None
+
+
+def definition_around(crate, file, text, at, old):
+    """In a crate without code, the file and the definition that holds a text at a place, once in the file; None elsewhere."""
+    name = repository.definition_at(crate, file, text, at) if text.count(old) == 1 else None
+    return name and f"{file}: {name}"
 
 
 def constants(code):
@@ -321,6 +331,13 @@ def faults(crates, promises):
 
 def edit_faults(crate):
     """The wrong answers of a crate that could concern no public function."""
+    if not crate.functions:
+        if len(crate.edits) < 2:
+            yield f"{crate.name}: it has no code, and fewer than two wrong answers in its definitions"
+        for label, (_, touched) in crate.edits.items():
+            if not touched or None in touched:
+                yield f"{crate.name}: a text that the wrong answer {label} changes stands in no definition"
+        return
     reached = {label for function in crate.public for label in (*crate.own_edits(function), *crate.lower_edits(function))}
     for label, (_, touched) in crate.edits.items():
         if not touched or None in touched:
@@ -334,6 +351,10 @@ def table(crates, promises):
     lines = []
     for crate in crates:
         of_crate = [promise for promise in promises if promise.source.crate == crate.name]
+        if not crate.functions:
+            lines += [f"## {crate.name}", "", f"No code. The wrong answers of {crate.name}, in its definitions:", ""]
+            lines += [edit_line(label, edit, touched) for label, (edit, touched) in crate.edits.items()]
+            lines.append("")
         if not of_crate:
             continue
         lines += [f"## {crate.name}", "", "| Function | What it answers | Promise | Definitions | Wrong answers | One answer |"]
@@ -341,9 +362,14 @@ def table(crates, promises):
         lines += [row(crate, promise) for promise in of_crate]
         lines += ["", f"The wrong answers of {crate.name}:", ""]
         for label, (edit, touched) in crate.edits.items():
-            lines.append(f"- `{label}` ({', '.join(dict.fromkeys(place or 'nowhere' for place in touched))}): {' '.join(edit.words)}")
+            lines.append(edit_line(label, edit, touched))
         lines.append("")
     return "\n".join(lines)
+
+
+def edit_line(label, edit, touched):
+    """A wrong answer's line below the table."""
+    return f"- `{label}` ({', '.join(dict.fromkeys(place or 'nowhere' for place in touched))}): {' '.join(edit.words)}"
 
 
 def row(crate, promise):

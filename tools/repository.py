@@ -11,6 +11,7 @@ import subprocess
 
 ROOT = pathlib.Path(__file__).resolve().parent.parent
 CRATES = ROOT / "crates"
+HEAD = r"(?:pub(?:\(crate\))? )?(?:extern \"C\" )?fn "  # how a function begins
 
 
 def crates():
@@ -26,6 +27,11 @@ def crates():
 def is_library(name):
     """Whether a crate is a library (the others are programs)."""
     return (CRATES / name / "src" / "lib.rt").exists()
+
+
+def has_code(name):
+    """Whether a crate has a function; one without has definitions and theorems alone."""
+    return any(re.search(rf"(?m)^ *{HEAD}", path.read_text()) for path in (CRATES / name / "src").rglob("*.rt"))
 
 
 class Kit:
@@ -75,9 +81,6 @@ def edits(name):
     return [Edit(path) for folder in ("must-fail", "wrong") for path in sorted((CRATES / name / folder).glob("*.edit"))]
 
 
-# how a function begins
-HEAD = r"(?:pub(?:\(crate\))? )?(?:extern \"C\" )?fn "
-
 
 def function_at(crate, file, before):
     """The function in which the text before a place ends, as the prover names it: a method by its type. None outside of functions."""
@@ -89,3 +92,21 @@ def function_at(crate, file, before):
         return "::".join([crate, re.findall(r"^impl (\w+)", before, re.M)[-1], name])
     modules = [] if file == "src/lib.rt" else file.removeprefix("src/").removesuffix(".rt").split("/")
     return "::".join([crate, *modules, name])
+
+
+# how a definition, a record, a field or a statement begins
+DEFINED = re.compile(r"^ *(?:unfoldable |abbrev )?pub (?:record |data )?(?!mod )(\S+)(?: [({].*)? : ", re.M)
+
+
+def definition_at(name, file, text, at):
+    """In a crate without code, the definition of specs/ in which a place of a file stands, or the statement of proofs/ where the crate has
+    no specs/. None elsewhere: in a comment, an import, a proof or another file."""
+    part = "specs" if (CRATES / name / "specs").is_dir() else "proofs"
+    line = text[text.rfind("\n", 0, at) + 1 : text.find("\n", at)]
+    heads = [found for found in DEFINED.finditer(text) if found.start() <= at]
+    if not re.fullmatch(rf"{part}/\w+\.antt", str(file)) or not heads or re.match(r" *(?:--|use |pub mod |unfolding )", line):
+        return None
+    own = heads[-1][1]
+    if part == "proofs" and re.search(rf"^{re.escape(own)} ", text[heads[-1].start() : at + len(own) + 1], re.M):
+        return None  # behind the statement, in its proof
+    return own

@@ -47,6 +47,28 @@ def created(file, text):
     return plant
 
 
+def deleted(crate, keep):
+    """A plant: the wrong answers of a crate but for some."""
+    def plant(copy):
+        files = [edit.path.relative_to(repository.ROOT) for edit in repository.edits(crate)][keep:]
+        if not files:
+            raise Unplanted(f"{crate} has no wrong answers to delete")
+        for file in files:
+            (copy / file).unlink()
+        return files
+    return plant
+
+
+def edited(crate, file, old, new):
+    """A plant: a wrong answer more, whose text must stand in the crate's file."""
+    def plant(copy):
+        if old not in (copy / "crates" / crate / file).read_text():
+            raise Unplanted(f"{crate}/{file} has no such text")
+        text = f"A wrong answer elsewhere.\nfile: {file}\nold: {old}\nnew: {new}\n"
+        return created(f"crates/{crate}/wrong/planted.edit", text)(copy)
+    return plant
+
+
 def both(*plants):
     """A plant of several."""
     return lambda copy: [file for plant in plants for file in plant(copy)]
@@ -158,6 +180,24 @@ PLANTED = [
     ("a wrong answer in a contract",
      created("crates/fields/wrong/planted.edit", "file: src/lib.rt\nold: r ≡ field 2 (\nnew: r ≡ field 4 (\n"),
      "fields: a text that the wrong answer planted changes stands in no function's body"),
+    ("the wrong answers of a crate without code deleted but for one",
+     deleted("audited", 1),
+     "audited: it has no code, and fewer than two wrong answers"),
+    ("a wrong answer of a crate without code in a comment",
+     edited("demand3", "specs/Cut.antt", "-- the parts joined", "-- the parts"),
+     "demand3: a text that the wrong answer planted changes stands in no definition"),
+    ("a wrong answer of a crate without code in an import",
+     edited("demand3", "specs/Cut.antt", "use mathlib.Core.Path.{_≡_", "use mathlib.Core.Path.{refl, _≡_"),
+     "demand3: a text that the wrong answer planted changes stands in no definition"),
+    ("a wrong answer of a crate without code in a theorem",
+     edited("demand3", "proofs/Demand3.antt", "holders (cutRanges c) i ≡ 1", "holders (cutRanges c) i ≡ 2"),
+     "demand3: a text that the wrong answer planted changes stands in no definition"),
+    ("a wrong answer of `statements` in a proof",
+     edited("statements", "proofs/Examples.antt", "how-many = theorem.how-many", "how-many = theorem.examples"),
+     "statements: a text that the wrong answer planted changes stands in no definition"),
+    ("a wrong answer of `statements` not in the document",
+     edited("statements", "proofs/Examples.antt", "pub how-many : length table ≡ 14", "pub how-many : length table ≡ 13"),
+     "docs/PROMISES.md lacks a line that the sources give .*planted"),
 ]
 
 
@@ -168,7 +208,7 @@ def copy_into(folder):
     for name in repository.crates():
         home = repository.CRATES / name
         files += [p for part in ("src", "specs", "wrong", "must-fail") for p in (home / part).rglob("*") if p.is_file()]
-        files += (home / "proofs").glob("Promises.antt")
+        files += (home / "proofs").glob("*.antt" if not repository.has_code(name) else "Promises.antt")
     for path in files:
         there = folder / path.relative_to(repository.ROOT)
         there.parent.mkdir(parents=True, exist_ok=True)

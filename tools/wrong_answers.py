@@ -19,6 +19,11 @@ A public function of a crate whose edits are all tried must have one that is ref
 edit is wrong, so that some run differs, is shown by oracle/faults-port, whose list has every edit.
 The edits of must-fail are judged in the same way, and not counted, since rt counts them.
 
+A crate without code (demand3, reached, audited, examples) has edits of its definitions: each makes one definition of specs/ wrong, and the
+prover must refuse a theorem of the crate at a stated fact. `statements`, which has no specs/, has edits of its statements: each makes one say
+more than its theorem. Each such edit is a check of its own. It is bad where it stands in a comment, an import or a proof, or where the prover
+refuses the text and no fact: a name that is not known, a clause that does not fit.
+
 wrong_answers.py [NAME[/EDIT]...]    after rt check or rt ci. The last line is 'N wrong answers refused, M not'; status 0 where M is 0.
 wrong_answers.py --try FOLDER        every edit of FOLDER shows nothing ('crate: ' names its crate): each must be called bad, or not refused.
 """
@@ -34,7 +39,7 @@ from concurrent.futures import ThreadPoolExecutor
 import mir
 import promises
 import repository
-from repository import CRATES, HEAD, ROOT, BadEdit, Edit, function_at
+from repository import CRATES, HEAD, ROOT, BadEdit, Edit, definition_at, function_at
 
 TARGET = ROOT / "target"
 TWIN = "wrong"  # what the name of a wrong function has that stands beside the right one
@@ -184,6 +189,32 @@ class Trial(Edit):
                 raise BadEdit(f"{function} does other steps than before, so that its proof does not fit")
 
 
+class Definition(Trial):
+    """An edit of a definition, or of a statement, in a crate without code."""
+
+    def find(self):
+        texts = {}
+        for file, old, new in self.pairs:
+            path = CRATES / self.crate / str(file)
+            text = texts.get(file) or (path.read_text() if path.is_file() else "")
+            if text.count(old) != 1:
+                raise BadEdit(f"an 'old:' text is in {file} {text.count(old)} times")
+            if not definition_at(self.crate, file, text, text.find(old)):
+                raise BadEdit(f"in {file} it stands in no definition")
+            texts[file] = text.replace(old, new)
+        if not self.pairs:
+            raise BadEdit("it has no pair of 'old:' and 'new:'")
+
+    def apply(self, folder):
+        for file, old, new in self.pairs:
+            (folder / file).write_text((folder / file).read_text().replace(old, new))
+
+
+def trial_of(path):
+    """An edit as it is tried: of code, or of a definition where its crate has none."""
+    return (Trial if repository.has_code(Edit(path).crate) else Definition)(path)
+
+
 def with_cycle(function, folder):
     """A function and those that it shares its one proof with, since they call one another."""
     above, _, name = function.rpartition("::")
@@ -325,8 +356,40 @@ def or_bad(judge, *words):
         return False, f"BAD EDIT: {bad}"
 
 
+def settle_definition(edit, build):
+    """Whether an edit of a definition is refused at a stated fact of its crate, and the verdict in words."""
+    edit.find()
+    folder, kept = copy_of(edit.crate, edit.label), WORK / edit.crate / (edit.label + ".kept")
+    edit.apply(folder)
+    shutil.rmtree(kept, ignore_errors=True)
+    shutil.copytree(TARGET / "rlib" / f"{edit.crate}.rlib" / "toolchain" / "checked", kept / build)
+    said = check(edit.crate, folder, kept)
+    shutil.rmtree(kept)
+    errors = re.findall(rf"(?m)^{re.escape(str(folder))}/(\S+?):\d+:\d+: error: (?:`([^`]*)`: )?(.*)", said)
+    errors = [e for e in errors if "was not admitted (it has" not in e[2]]
+    if re.search(r"(?m)^logic=proved ", said):
+        return False, "NOT REFUSED"
+    if not errors or not errors[0][0].startswith("proofs/"):
+        raise BadEdit(f"no theorem is refused, but: {errors[0] if errors else said[-300:]}")
+    file, theorem, words = errors[0]
+    tactic = next((tactic for pattern, tactic in FACTS.items() if re.match(pattern, words)), None)
+    if not tactic:
+        raise BadEdit(f"{theorem} of {file} is refused at no stated fact: {words[:300]}")
+    return True, f"refused, as it must be, at {theorem} of {file}: {tactic}"
+
+
+def of_definitions(name, edits, build):
+    """Tries the edits of a crate without code, each in a check of its own."""
+    began = time.time()
+    verdicts = {edit: or_bad(settle_definition, edit, build) for edit in edits}
+    told = [(edit, right, f"wrong {name}/{edit.label}: {words}") for edit, (right, words) in verdicts.items()]
+    return [*told, (None, None, f"wrong {name}: {len(edits)} edits in {len(edits)} checks, {round(time.time() - began)} s")]
+
+
 def of_crate(name, edits, build):
     """Tries a crate's edits: for each whether it is refused for the right reason, and the verdict in words."""
+    if not repository.has_code(name):
+        return of_definitions(name, edits, build)
     began, checks, alone = time.time(), 0, False
     before = code_of(name, copy_of(name, "before"))
     verdicts = {edit: or_bad(edit.find) for edit in edits}
@@ -395,7 +458,7 @@ def try_the_tool(folder):
         return 1
     by_crate = {}
     for path in sorted(folder.glob("*.edit")):
-        edit = Trial(path)
+        edit = trial_of(path)
         by_crate.setdefault(edit.crate, []).append(edit)
     verdicts = try_all(by_crate)
     believed = sum(right for _, right in verdicts)
@@ -415,7 +478,7 @@ def main(wanted):
         return try_the_tool(pathlib.Path(wanted[1]))
     by_crate = {}
     for name in repository.crates():
-        edits = [Trial(edit.path) for edit in repository.edits(name)]
+        edits = [trial_of(edit.path) for edit in repository.edits(name)]
         by_crate[name] = [e for e in edits if not wanted or name in wanted or e.name in wanted]
     verdicts = try_all(by_crate)
     refused = sum(right and edit.counted for edit, right in verdicts)

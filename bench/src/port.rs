@@ -2,81 +2,20 @@
 
 use std::hint::black_box;
 
-type Words = [u32; 12];
+use starlark_checks_raw::starlark_assignment;
+use starlark_checks_raw::starlark_audit;
+use starlark_checks_raw::starlark_bind;
+use starlark_checks_raw::starlark_call;
+use starlark_checks_raw::starlark_module;
+use starlark_checks_raw::starlark_params;
+use starlark_checks_raw::starlark_rescue;
+use starlark_checks_raw::starlark_table;
+use starlark_checks_raw::starlark_target;
+use starlark_checks_raw::starlark_type;
+use starlark_checks_raw::starlark_write;
+use starlark_checks_raw::Words;
 
 extern "C" {
-    fn starlark_table(t: *const u8, tl: usize, n: *const u8, nl: usize, out: *mut Words) -> u32;
-    fn starlark_params(
-        t: *const u8,
-        tl: usize,
-        n: *const u8,
-        nl: usize,
-        node: usize,
-        modes: *mut u8,
-        modes_len: usize,
-        out: *mut Words,
-    ) -> u32;
-    fn starlark_call(t: *const u8, tl: usize, n: *const u8, nl: usize, node: usize, out: *mut Words) -> u32;
-    fn starlark_target(t: *const u8, tl: usize, n: *const u8, nl: usize, node: usize, out: *mut Words) -> u32;
-    fn starlark_assignment(t: *const u8, tl: usize, n: *const u8, nl: usize, node: usize, out: *mut Words)
-        -> u32;
-    fn starlark_type(
-        t: *const u8,
-        tl: usize,
-        n: *const u8,
-        nl: usize,
-        dialect: *const u8,
-        dialect_len: usize,
-        node: usize,
-        shapes: *mut u8,
-        shapes_len: usize,
-        out: *mut Words,
-    ) -> u32;
-    fn starlark_module(
-        t: *const u8,
-        tl: usize,
-        n: *const u8,
-        nl: usize,
-        dialect: *const u8,
-        dialect_len: usize,
-        errors: *mut u32,
-        errors_len: usize,
-        out: *mut Words,
-    ) -> u32;
-    fn starlark_write(
-        t: *const u8,
-        tl: usize,
-        n: *const u8,
-        nl: usize,
-        dialect: *const u8,
-        dialect_len: usize,
-        file: *mut u8,
-        file_len: usize,
-        out: *mut Words,
-    ) -> u32;
-    fn starlark_bind(
-        t: *const u8,
-        tl: usize,
-        n: *const u8,
-        nl: usize,
-        call: usize,
-        def: usize,
-        list: *mut u32,
-        list_len: usize,
-        out: *mut Words,
-    ) -> u32;
-    fn starlark_audit(
-        t: *const u8,
-        tl: usize,
-        n: *const u8,
-        nl: usize,
-        dialect: *const u8,
-        dialect_len: usize,
-        errors: *mut u32,
-        errors_len: usize,
-        out: *mut Words,
-    ) -> u32;
-    fn starlark_rescue(i: *const u8, il: usize, file: *mut u8, file_len: usize, out: *mut Words) -> u32;
     fn bench_read(file: *const u8, file_len: usize, out: *mut Words) -> u32;
     fn bench_file(file: *const u8, file_len: usize, errors: *mut u32, errors_len: usize, out: *mut Words) -> u32;
 }

@@ -28,9 +28,8 @@ enum { POSITIONAL = STARLARK_KIND_POSITIONAL, NAMED = STARLARK_KIND_NAMED, ARGS 
 static uint8_t table[64 * STARLARK_NODE_BYTES];
 static size_t nodes;
 static const char names[] = "abckfxinttype";
-/* Extended: types are on. */
-static const uint8_t standard[9] = {1, 1, 1, 0, 0, 0, 1, 0, 0};
-static const uint8_t extended[9] = {1, 1, 1, 1, 0, 2, 1, 1, 0};
+#define standard STARLARK_DIALECT_STANDARD
+#define extended STARLARK_DIALECT_EXTENDED
 
 /* What a job is given of the table: its bytes, and those of the names. */
 #define TABLE table, STARLARK_NODE_BYTES *nodes, (const uint8_t *)names, strlen(names)

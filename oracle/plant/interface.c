@@ -1,7 +1,11 @@
 /* The C interface of a port that was lowered as a program: rattle then makes the inner functions alone, which take a slice as a pointer to
- * its pointer and length. This is what it makes of `extern "C"` in a static library. */
-#include <stddef.h>
-#include <stdint.h>
+ * its pointer and length. This is what it makes of `extern "C"` in a static library. No header is included: the kit's compiler has none. */
+typedef __SIZE_TYPE__ size_t;
+typedef __UINT8_TYPE__ uint8_t;
+typedef __UINT32_TYPE__ uint32_t;
+
+/* A port that is compiled this way is not proved; the Python package and tools/install know it by this symbol. */
+const char starlark_unproved[] = "this library is not proved";
 
 struct slice {
     const void *start;
@@ -16,6 +20,9 @@ struct slice {
     uint32_t starlark_##job(TABLE, size_t node, uint32_t *out) {                                   \
         return inner_##job(SLICE(t, tl), SLICE(n, nl), node, out);                                 \
     }
+
+uint32_t inner_version(void);
+uint32_t starlark_version(void) { return inner_version(); }
 
 uint32_t inner_table(struct slice *, struct slice *, uint32_t *);
 uint32_t starlark_table(TABLE, uint32_t *out) { return inner_table(SLICE(t, tl), SLICE(n, nl), out); }

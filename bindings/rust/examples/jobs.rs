@@ -2,10 +2,11 @@
 //! is where a table file is put.
 
 use starlark_checks::check_file;
+use starlark_checks::dialect::EXTENDED;
+use starlark_checks::dialect::STANDARD;
 use starlark_checks::read;
 use starlark_checks::rescue;
 use starlark_checks::Kind;
-use starlark_checks::Number;
 use starlark_checks::Table;
 use starlark_checks::FILE_BYTES;
 
@@ -32,10 +33,6 @@ const POSITIONAL: u8 = Kind::Positional as u8;
 const NAMED: u8 = Kind::Named as u8;
 const ARGS: u8 = Kind::ArgsArg as u8;
 const KW_ARGS: u8 = Kind::KwArgsArg as u8;
-
-/// Extended: types are on, and `*` may stand in a parameter list.
-const STANDARD: [u8; 9] = [1, 1, 1, 0, 0, 0, 1, 0, 0];
-const EXTENDED: [u8; 9] = [1, 1, 1, 1, 0, 2, 1, 1, 0];
 
 /// What each place of a buffer holds before a job.
 const BEFORE: u8 = 9;
@@ -209,7 +206,7 @@ fn modules() {
     let module = def(vec![leaf(NORMAL, "a"), leaf(NO_ARGS, ""), leaf(NORMAL, "b")]);
     let show = |words: &str, dialect: &[u8], room: usize| {
         let mut errors = vec![u32::from(BEFORE); room];
-        let answer = module.table().module(dialect, &mut errors);
+        let answer = module.table().module(dialect, &mut errors).map(|errors| errors.total);
         println!("{words}: {answer:?}, errors {errors:?}");
     };
     show("def f(a, *, b): break, in the Standard dialect", &STANDARD, 6);
@@ -218,10 +215,9 @@ fn modules() {
     show("with no dialect, so in Extended", &[], 6);
     show("eight bytes of dialect", &EXTENDED[..8], 6);
     let mut errors = [0; 6];
-    let count = module.table().module(&STANDARD, &mut errors).expect("the table is sound");
-    for error in errors.chunks(3).take(count as usize) {
-        let number = Number::try_from(error[0]).expect("the module pass gives no other numbers");
-        println!("in words: {} at bytes {} to {}: {}", number.name(), error[1], error[2], number.words());
+    for error in module.table().module(&STANDARD, &mut errors).expect("the table is sound") {
+        let (number, span) = (error.number, error.span);
+        println!("in words: {} at bytes {} to {}: {}", number.name(), span.start, span.end, number.words());
     }
 }
 
@@ -230,12 +226,15 @@ fn audits() {
     let script = Script::of(tree(STATEMENTS, vec![tree(SIMPLE, vec![call]), leaf(BREAK, "")]));
     let show = |words: &str, dialect: &[u8], room: usize| {
         let mut errors = vec![u32::from(BEFORE); room];
-        let answer = script.table().audit(dialect, &mut errors);
+        let answer = script.table().audit(dialect, &mut errors).map(|errors| errors.total);
         println!("{words}: {answer:?}, errors {errors:?}");
     };
     show("f(b=a, a), then break, audited", &[], 9);
     show("a list one word short of two", &[], 7);
     show("eight bytes of dialect", &EXTENDED[..8], 9);
+    for error in script.table().audit(&[], &mut [0; 8]).expect("the table is sound") {
+        println!("as a value: {error:?}");
+    }
 }
 
 /// The file in `room` bytes: its first bytes, and how many are no longer what they were. An accepted one is put under the name `path`.
@@ -290,7 +289,7 @@ fn show_read(words: &str, file: &[u8], table_room: usize, names_room: usize) {
 
 fn show_checked(words: &str, file: &[u8], room: usize) {
     let mut errors = vec![u32::from(BEFORE); room];
-    let answer = check_file(file, &mut errors);
+    let answer = check_file(file, &mut errors).map(|listed| format!("{} errors, {} nodes", listed.errors.total, listed.nodes));
     println!("{words}: {answer:?}, errors {errors:?}");
 }
 

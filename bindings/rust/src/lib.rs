@@ -22,18 +22,39 @@
 
 use std::ops::Range;
 
+use starlark_checks_raw::Words;
+
+mod errors;
 mod interface;
 mod made;
 mod words;
 
+pub use errors::Error;
+pub use errors::Errors;
+pub use errors::Iter;
+pub use made::dialect;
 pub use made::Kind;
+pub use made::Mode;
 pub use made::Number;
+pub use made::Shape;
 pub use words::Class;
 pub use words::UnknownKind;
+pub use words::UnknownMode;
 pub use words::UnknownNumber;
+pub use words::UnknownShape;
 
 /// The version of the interface, which the header's is.
 pub const VERSION: &str = env!("CARGO_PKG_VERSION");
+
+/// The version of the library that is linked: major * 65536 + minor * 256 + patch.
+///
+/// ```
+/// let [_, major, minor, patch] = starlark_checks::version().to_be_bytes();
+/// assert_eq!(format!("{major}.{minor}.{patch}"), starlark_checks::VERSION);
+/// ```
+pub fn version() -> u32 {
+    interface::version()
+}
 
 /// A node table, and the bytes that its names lie in. The two may be parts of one slice, and may overlap:
 ///
@@ -95,6 +116,9 @@ pub const WORDS: usize = 12;
 /// The most nodes of a table, and so a mode or shape buffer of so many bytes is never too short.
 pub const NODES: usize = 2_100;
 
+/// The bytes of a dialect.
+pub const DIALECT_BYTES: usize = 9;
+
 /// The bytes of a node.
 pub const NODE_BYTES: usize = 24;
 
@@ -142,16 +166,14 @@ pub struct Held {
     pub dialect: Option<[u8; 9]>,
 }
 
-/// The answer to a table file: how many errors its module has, and how many nodes.
+/// The answer to a table file: the errors of its module, and how many nodes it has.
 #[derive(Clone, Copy, Debug, PartialEq, Eq)]
-pub struct Listed {
-    pub errors: u32,
+pub struct Listed<'a> {
+    pub errors: Errors<'a>,
     pub nodes: u32,
 }
 
 const NONE: u32 = u32::MAX;
-
-type Words = [u32; WORDS];
 
 /// A place or a node, where the word says one.
 fn place(word: u32) -> Option<u32> {
@@ -185,8 +207,8 @@ impl Table<'_> {
         accepted(|out| interface::table(self, out)).map(|_| ())
     }
 
-    /// The parameter list of the Def or Lambda at a node. `modes` gets the mode of each parameter, and needs a byte for each that is
-    /// written, marks counted.
+    /// The parameter list of the Def or Lambda at a node. `modes` gets the mode of each parameter ([`Mode`] as a byte), and needs a byte for
+    /// each that is written, marks counted.
     pub fn params(self, node: usize, modes: &mut [u8]) -> Result<Params, Refused> {
         let out = accepted(|out| interface::params(self, node, modes, out))?;
         let range = |at: usize| out[at]..out[at + 1];
@@ -224,22 +246,36 @@ impl Table<'_> {
         accepted(|out| interface::assignment(self, node, out)).map(|out| out[0])
     }
 
-    /// Whether a node is a type in a dialect (nine bytes, or none for Extended). `shapes` gets the shape of each node that is read, and
-    /// needs a byte for each node of the type.
+    /// Whether a node is a type in a dialect (nine bytes, or none for Extended). `shapes` gets the shape of each node that is read
+    /// ([`Shape`] as a byte), and needs a byte for each node of the type.
     pub fn type_shape(self, dialect: &[u8], node: usize, shapes: &mut [u8]) -> Result<(), Refused> {
         accepted(|out| interface::type_shape(self, dialect, node, shapes, out)).map(|_| ())
     }
 
-    /// How many errors the module has under a dialect (nine bytes, or none for Extended). Three words of `errors` for each: number, begin and
-    /// end; the first that fit whole are stored.
-    pub fn module(self, dialect: &[u8], errors: &mut [u32]) -> Result<u32, Refused> {
-        accepted(|out| interface::module(self, dialect, errors, out)).map(|out| out[0])
+    /// The errors that the module has under a dialect (nine bytes, or none for Extended). `errors` is lent three words for each: number, begin
+    /// and end; the first that fit whole are stored.
+    ///
+    /// ```
+    /// use starlark_checks::{dialect, Error, Kind, Number, Table};
+    ///
+    /// // one record: a break
+    /// let mut nodes = [0; 24];
+    /// (nodes[0], nodes[12], nodes[16]) = (Kind::Break.into(), 5, 1);
+    /// let mut words = [0; 3];
+    /// let errors = Table { nodes: &nodes, names: &[] }.module(&dialect::STANDARD, &mut words).expect("the table is sound");
+    /// assert_eq!(errors.total, 1);
+    /// assert_eq!(errors.iter().next(), Some(Error { number: Number::BreakMisplaced, node: None, span: 0..5 }));
+    /// ```
+    pub fn module<'a>(self, dialect: &[u8], errors: &'a mut [u32]) -> Result<Errors<'a>, Refused> {
+        let out = accepted(|out| interface::module(self, dialect, errors, out))?;
+        Ok(Errors::of_module(out[0], errors))
     }
 
-    /// How many errors every job on every node that it fits has under a dialect (nine bytes, or none for Extended). Four words of `errors` for
-    /// each: number, node, begin and end; the first that fit whole are stored.
-    pub fn audit(self, dialect: &[u8], errors: &mut [u32]) -> Result<u32, Refused> {
-        accepted(|out| interface::audit(self, dialect, errors, out)).map(|out| out[0])
+    /// The errors that every job on every node that it fits has under a dialect (nine bytes, or none for Extended). `errors` is lent four words
+    /// for each: number, node, begin and end; the first that fit whole are stored.
+    pub fn audit<'a>(self, dialect: &[u8], errors: &'a mut [u32]) -> Result<Errors<'a>, Refused> {
+        let out = accepted(|out| interface::audit(self, dialect, errors, out))?;
+        Ok(Errors::of_audit(out[0], errors))
     }
 
     /// The table file of the table, its names and a dialect (nine bytes, or none, which stays none), at the front of `file`: how many bytes
@@ -265,8 +301,8 @@ pub fn read(file: &[u8], table: &mut [u8], names: &mut [u8]) -> Result<Held, Ref
     Ok(Held { nodes: out[0] as usize, name_bytes: out[1] as usize, dialect })
 }
 
-/// How many errors the module of a table file has, under the dialect that it holds: 70 to 75, 3 to 5. `errors` is filled as by `module`.
-pub fn check_file(file: &[u8], errors: &mut [u32]) -> Result<Listed, Refused> {
+/// The errors of the module of a table file, under the dialect that it holds: 70 to 75, 3 to 5. `errors` is lent as by [`Table::module`].
+pub fn check_file<'a>(file: &[u8], errors: &'a mut [u32]) -> Result<Listed<'a>, Refused> {
     let out = accepted(|out| interface::check_file(file, errors, out))?;
-    Ok(Listed { errors: out[0], nodes: out[1] })
+    Ok(Listed { errors: Errors::of_module(out[0], errors), nodes: out[1] })
 }

@@ -218,6 +218,60 @@ pub enum Kind {
     KwArgsArg = 63,
 }
 
+/// The mode of a parameter: what [`crate::Table::params`] stores for each.
+#[derive(Clone, Copy, Debug, PartialEq, Eq, PartialOrd, Ord, Hash)]
+#[repr(u8)]
+#[non_exhaustive]
+pub enum Mode {
+    /// Mode 1.
+    PosOnly = 1,
+    /// Mode 2.
+    PosOrName = 2,
+    /// Mode 3.
+    NameOnly = 3,
+    /// Mode 4.
+    Args = 4,
+    /// Mode 5.
+    Kwargs = 5,
+}
+
+/// The shape of a type: what [`crate::Table::type_shape`] stores for each node that it reads as a type.
+#[derive(Clone, Copy, Debug, PartialEq, Eq, PartialOrd, Ord, Hash)]
+#[repr(u8)]
+#[non_exhaustive]
+pub enum Shape {
+    /// Shape 1.
+    Ellipsis = 1,
+    /// Shape 2.
+    Path = 2,
+    /// Shape 3.
+    Index = 3,
+    /// Shape 4.
+    Index2 = 4,
+    /// Shape 5.
+    List = 5,
+    /// Shape 6.
+    Union = 6,
+    /// Shape 7.
+    Tuple = 7,
+}
+
+/// Each mode.
+pub const MODES: [Mode; 5] = [Mode::PosOnly, Mode::PosOrName, Mode::NameOnly, Mode::Args, Mode::Kwargs];
+
+/// Each shape.
+pub const SHAPES: [Shape; 7] = [Shape::Ellipsis, Shape::Path, Shape::Index, Shape::Index2, Shape::List, Shape::Union, Shape::Tuple];
+
+/// The dialects that have a name, as their nine bytes.
+pub mod dialect {
+    /// The dialect Standard.
+    pub const STANDARD: [u8; 9] = [1, 1, 1, 0, 0, 0, 1, 0, 0];
+    /// The dialect Extended.
+    pub const EXTENDED: [u8; 9] = [1, 1, 1, 1, 0, 2, 1, 1, 0];
+    /// The dialect AllOptionsInternal.
+    pub const ALL: [u8; 9] = [1, 1, 1, 1, 1, 2, 1, 1, 1];
+}
+
 /// Each number, its name and what it means.
 pub const NUMBERS: [(Number, &str, &str); 56] = [
     (Number::TableLength, "TABLE_LENGTH", "the table has no record, more than 2,100, or a part of one"),

@@ -4,11 +4,15 @@ use std::error::Error;
 use std::fmt;
 
 use crate::made::KINDS;
+use crate::made::MODES;
 use crate::made::NUMBERS;
+use crate::made::SHAPES;
 use crate::At;
 use crate::Kind;
+use crate::Mode;
 use crate::Number;
 use crate::Refused;
+use crate::Shape;
 
 /// What a record stands for.
 #[derive(Clone, Copy, Debug, PartialEq, Eq, PartialOrd, Ord, Hash)]
@@ -26,6 +30,14 @@ pub struct UnknownNumber(pub u32);
 /// A byte that is no kind of records.
 #[derive(Clone, Copy, Debug, PartialEq, Eq)]
 pub struct UnknownKind(pub u8);
+
+/// A byte that is no mode of a parameter.
+#[derive(Clone, Copy, Debug, PartialEq, Eq)]
+pub struct UnknownMode(pub u8);
+
+/// A byte that is no shape of a type.
+#[derive(Clone, Copy, Debug, PartialEq, Eq)]
+pub struct UnknownShape(pub u8);
 
 impl Number {
     fn row(self) -> (&'static str, &'static str) {
@@ -119,6 +131,48 @@ impl fmt::Display for Kind {
     }
 }
 
+/// A byte of a mode buffer.
+///
+/// ```
+/// use starlark_checks::{Mode, UnknownMode};
+/// assert_eq!(Mode::try_from(3), Ok(Mode::NameOnly));
+/// assert_eq!(Mode::try_from(0), Err(UnknownMode(0)));
+/// ```
+impl TryFrom<u8> for Mode {
+    type Error = UnknownMode;
+
+    fn try_from(byte: u8) -> Result<Mode, UnknownMode> {
+        MODES.into_iter().find(|&mode| mode as u8 == byte).ok_or(UnknownMode(byte))
+    }
+}
+
+/// A byte of a shape buffer.
+///
+/// ```
+/// use starlark_checks::{Shape, UnknownShape};
+/// assert_eq!(Shape::try_from(6), Ok(Shape::Union));
+/// assert_eq!(Shape::try_from(8), Err(UnknownShape(8)));
+/// ```
+impl TryFrom<u8> for Shape {
+    type Error = UnknownShape;
+
+    fn try_from(byte: u8) -> Result<Shape, UnknownShape> {
+        SHAPES.into_iter().find(|&shape| shape as u8 == byte).ok_or(UnknownShape(byte))
+    }
+}
+
+impl fmt::Display for UnknownMode {
+    fn fmt(&self, f: &mut fmt::Formatter) -> fmt::Result {
+        write!(f, "{} is no mode of a parameter", self.0)
+    }
+}
+
+impl fmt::Display for UnknownShape {
+    fn fmt(&self, f: &mut fmt::Formatter) -> fmt::Result {
+        write!(f, "{} is no shape of a type", self.0)
+    }
+}
+
 impl fmt::Display for UnknownNumber {
     fn fmt(&self, f: &mut fmt::Formatter) -> fmt::Result {
         write!(f, "{} is none of the numbers given back", self.0)
@@ -151,3 +205,7 @@ impl Error for Refused {}
 impl Error for UnknownNumber {}
 
 impl Error for UnknownKind {}
+
+impl Error for UnknownMode {}
+
+impl Error for UnknownShape {}

@@ -1,5 +1,7 @@
--- What 22 tells: the first earlier argument of an equal name, which has a smaller node; and 22 alone carries an earlier
--- node. Assumes nothing.
+-- What 22 tells: the only earlier argument of an equal name, which has a smaller node; and 22 alone carries an earlier
+-- node. `unpack` reads the arguments from the left and stops at the first name that it has seen (`run-told`). So among
+-- those that are read no name comes twice (`Fresh`), and the first that has the name is the only one (forest's
+-- `only-one`). Assumes nothing.
 use mathlib.Core.Path.{_≡_, refl, sym, ap, _∙_}
 use mathlib.Core.Bool.{Bool, true, false}
 use mathlib.Core.List.{List, [], _∷_, _++_, append-assoc, append-nil}
@@ -11,9 +13,9 @@ use Rattle.fields.proofs.Basics.{never}
 use Rattle.forest.specs.Forest.{Node, nodeOf, spanOf, kidsOf, restOf, forest, treeOf}
 use Rattle.forest.specs.declared.Found.{Found}
 use Rattle.forest.specs.declared.Found.the-variants.{At, Nothing}
-use Rattle.forest.proofs.Named.{same-bytes-refl}
+use Rattle.forest.proofs.Named.{same-bytes-refl, same-bytes-equal}
 use Rattle.forest.proofs.Stretch.{forest-induction, forest-none, forest-tree, rest-part, record-or-none}
-use Rattle.forest.proofs.Firsts.{found-first, Rising, rising-first, rising-lower, rising-before}
+use Rattle.forest.proofs.Firsts.{found-first, Fresh, only-one, Rising, rising-first, rising-lower, rising-before}
 use Rattle.table.specs.Numbers.{namedAfterStar, repeatedNamed}
 use Rattle.table.specs.Answer.{refused, OnlyCarries}
 use Rattle.table.specs.Check.{stretchOf, entryCheck, onNode}
@@ -89,6 +91,7 @@ record Again (before l : List Argument) (i : ℕ) (r : Node) : Type 0 where
   cut : l ≡ read ++ again ∷ rest
   here : nodeIn again ≡ r
   found : repeats (before ++ read) again ≡ At i
+  fresh : Fresh repeats before read
 
 -- what a refusal of the list is: another number, or 22 with such an argument
 abbrev Told : List Argument → List Argument → Outcome → Type 0
@@ -97,19 +100,34 @@ Told before l (refusedWith n r) = n ≡ repeatedNamed → ⊥
 Told before l (repeatedName i r) = Again before l i r
 Told before l internalError = Unit {0}
 
-told-later : (before : List Argument) (p : Argument) (ps : List Argument) (o : Outcome) → Told (before ++ p ∷ []) ps o
-    → Told before (p ∷ ps) o
-told-later before p ps (unpacked a) t = tt
-told-later before p ps (refusedWith n r) t = t
-told-later before p ps (repeatedName i r) t = record {
+told-later : (before : List Argument) (p : Argument) (ps : List Argument) (o : Outcome) → repeats before p ≡ Nothing
+    → Told (before ++ p ∷ []) ps o → Told before (p ∷ ps) o
+told-later before p ps (unpacked a) new t = tt
+told-later before p ps (refusedWith n r) new t = t
+told-later before p ps (repeatedName i r) new t = record {
   read = p ∷ t .read;
   again = t .again;
   rest = t .rest;
   cut = ap (λ (l : List Argument). p ∷ l) (t .cut);
   here = t .here;
   found = rw (append-assoc before (p ∷ []) (t .read)) at (t .found);
+  fresh = (new, t .fresh);
 }
-told-later before p ps internalError t = tt
+told-later before p ps internalError new t = tt
+
+-- an argument that passes its check repeats no name
+fine-new : (before : List Argument) (s : ArgsStage) (p : Argument) → check before s p ≡ Fine
+    → repeats before p ≡ Nothing
+unfolding check repeats
+fine-new before s (positional r) e = refl
+fine-new before s (named r n) e = go (pastNamed s) (firstSame n before) e
+  where
+    go : (b : Bool) (f : Found) → if' b (λ _. Broken namedAfterStar) (λ _. newName f) ≡ Fine → f ≡ Nothing
+    go true f e = never (cc)
+    go false (At i) e = never (cc)
+    go false Nothing e = refl
+fine-new before s (args r) e = refl
+fine-new before s (kwargs r) e = refl
 
 run-told : (before l : List Argument) (w : Walk) → Walked before w → Told before l (run before w l)
 unfolding run check
@@ -123,7 +141,8 @@ run-told before (p ∷ ps) w o = go (check before (w .stage) p) refl (other-rule
         → Told (before ++ p ∷ []) ps (run (before ++ p ∷ []) (advance w (length before) (kindIn p)) ps))
         → Told before (p ∷ ps) (run before w (p ∷ ps))
     go Fine e d rest = rw (run-more before w p ps e o)
-        (told-later before p ps (run (before ++ p ∷ []) (advance w (length before) (kindIn p)) ps) (rest e))
+        (told-later before p ps (run (before ++ p ∷ []) (advance w (length before) (kindIn p)) ps)
+        (fine-new before (w .stage) p e) (rest e))
     go (Broken n) e d rest = rw e d
     go (Repeated i) e d rest = rw e (record {
       read = [];
@@ -132,6 +151,7 @@ run-told before (p ∷ ps) w o = go (check before (w .stage) p) refl (other-rule
       cut = refl;
       here = refl;
       found = rw (append-nil before) (found-repeated (w .stage) (repeats before p) (kindIn p) e);
+      fresh = tt;
     })
 
 list-told : (l : List Argument) → Told [] l (unpack l)
@@ -146,6 +166,14 @@ repeats-has before (positional r) e = never (cc)
 repeats-has before (named r n) e = (n, (same-bytes-refl n, e))
 repeats-has before (args r) e = never (cc)
 repeats-has before (kwargs r) e = never (cc)
+
+-- and the search for a name that it has is the search for its own
+looks-for : (x : Name) (l : List Argument) (p : Argument) → hasName x p ≡ true → repeats l p ≡ firstSame x l
+unfolding repeats hasName
+looks-for x l (positional r) h = never (cc)
+looks-for x l (named r n) h = ap (λ (y : Name). firstSame y l) (same-bytes-equal n x h)
+looks-for x l (args r) h = never (cc)
+looks-for x l (kwargs r) h = never (cc)
 
 -- the nodes of the arguments rise
 rising-list : (ns : List ℕ) (k : ℕ) (t : List ℕ) → Rising indexOf k (argumentsIn ns (forest k t))
@@ -185,27 +213,29 @@ again-twice l k rises a =
       name = x .0;
       has = x .1 .0;
       earlier = f;
+      only = only-one searches repeats looks-for (x .0) (a .read) f (a .fresh);
       smaller = omega (arith, less, f .at, ap (λ (q : Node). q .at) (a .here));
     }
 
--- THEOREM: of all refusals of the job 22 alone carries an earlier node, and it always does
-pub call-carries : (t ns : List ℕ) (i : ℕ) → OnlyCarries repeatedNamed (callOf t ns i)
-unfolding onNode callAnswer
-call-carries t ns i =
-    carries-then repeatedNamed (entryCheck Call t ns i) _ (entry-before repeatedNamed Call t ns i (omega arith))
-    (go (unpack l) (list-told l))
+-- LAW: of all refusals of a list 22 alone carries an earlier node, and it always does
+pub list-carries : (l : List Argument) → OnlyCarries repeatedNamed (outcomeAnswer (unpack l))
+list-carries l = go (unpack l) (list-told l)
   where
-    l : List Argument
-    l = argumentsOf ns (treeOf i (stretchOf t i))
-
     go : (o : Outcome) → Told [] l o → OnlyCarries repeatedNamed (outcomeAnswer o)
     go (unpacked a) d = tt
     go (refusedWith n r) d = (λ e. absurd (d e), λ x. omega arith)
     go (repeatedName j r) d = (λ e. refl, λ x. absurd (x refl))
     go internalError d = (λ e. absurd (omega (arith, e)), λ x. omega arith)
 
--- THEOREM: and the argument that it refuses has the name of an earlier one of the call, the first of which it carries;
--- that one has a smaller node
+-- THEOREM: so it is of all refusals of the job
+pub call-carries : (t ns : List ℕ) (i : ℕ) → OnlyCarries repeatedNamed (callOf t ns i)
+unfolding onNode callAnswer
+call-carries t ns i =
+    carries-then repeatedNamed (entryCheck Call t ns i) _ (entry-before repeatedNamed Call t ns i (omega arith))
+    (list-carries (argumentsOf ns (treeOf i (stretchOf t i))))
+
+-- THEOREM: and the argument that it refuses has the name of one earlier one of the call, whose node it carries; that is
+-- the only one, and has a smaller node
 pub call-twice : (t ns : List ℕ) (i : ℕ) {vs : List ℕ} → callOf t ns i ≡ refused repeatedNamed vs
     → (j : ℕ) × ((r : Node) × ((vs ≡ r .at ∷ nameSpan r .begin ∷ nameSpan r .end ∷ j ∷ [])
     × NamedTwice (argumentsOf ns (treeOf i (stretchOf t i))) j r))

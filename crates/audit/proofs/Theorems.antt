@@ -1,6 +1,7 @@
 -- What users of the audit rely on: a refusal changes no word, the total is at most four times the node count, and a
--- list with room for that many errors holds all. When the list is empty is told in crate `audited`. Assumes nothing.
-use mathlib.Core.Path.{_≡_}
+-- list with room for that many errors holds all: 33,600 words are enough for every table. Crate `audited` says when the
+-- list is empty. Assumes nothing.
+use mathlib.Core.Path.{_≡_, refl}
 use mathlib.Core.List.{List, [], _∷_, _++_}
 use Prim.Native.Nat.{ℕ, _*_, _/_, _≤_}
 use native.Mathlib.Omega.{arith}
@@ -11,6 +12,7 @@ use Rattle.forest.specs.Forest.{forest}
 use Rattle.forest.proofs.Stretch.{count-forest}
 use Rattle.table.specs.Answer.{accepted, refused}
 use Rattle.table.specs.Check.{Handing, inDialect, turnedAway, givenOf, inGiven}
+use Rattle.table.proofs.Entering.{given-known}
 use Rattle.errors.specs.declared.Listing.the-variants.{Own, Audit}
 use Rattle.errors.specs.Errors.{kept, width, stored}
 use Rattle.errors.proofs.Storing.{allWords, stored-all, stored-none}
@@ -19,7 +21,7 @@ use Rattle.validate.specs.declared.Listed.the-variants.{Total}
 use Rattle.validate.proofs.Theorems.{pass-few}
 use Rattle.audit.specs.declared.Roles.the-variants.{Nowhere}
 use Rattle.audit.specs.Roles.{placed}
-use Rattle.audit.specs.Job.{refusalsIn, auditErrors, auditIn, allErrors, auditOf, auditAfter}
+use Rattle.audit.specs.Job.{refusalsIn, auditErrors, auditIn, allErrors, auditOf, enoughWords, auditAfter}
 use Rattle.audit.proofs.Bounds.{refusals-few, count-placed}
 
 -- LAW: any bytes have at most four times as many errors as records: two of the module pass, and two refusals
@@ -73,3 +75,18 @@ module _ (t names bytes : List ℕ) where
       → auditAfter t names bytes xs ≡ allWords Audit (allErrors t names bytes)
       ++ drop (width Audit * length (allErrors t names bytes)) xs
   list-holds-all xs room = stored-all Audit (allErrors t names bytes) xs (omega (arith, errors-few))
+
+  -- a table that 1 to 5 refuse has no error, and any other has at most 2,100 nodes
+  errors-fit : width Audit * length (allErrors t names bytes) ≤ enoughWords
+  unfolding allErrors
+  errors-fit = go (givenOf t names bytes) refl
+    where
+      go : (h : Handing) → givenOf t names bytes ≡ h → width Audit * length (auditIn h names t) ≤ enoughWords
+      go (inDialect d) e = omega (arith, audit-few d names t, given-known t names bytes e .0 .most)
+      go (turnedAway m ws) e = omega arith
+
+  -- THEOREM: a list of `enoughWords` words holds all errors of every table
+  pub list-has-room : (xs : List ℕ) → length xs ≡ enoughWords
+      → auditAfter t names bytes xs ≡ allWords Audit (allErrors t names bytes)
+      ++ drop (width Audit * length (allErrors t names bytes)) xs
+  list-has-room xs long = stored-all Audit (allErrors t names bytes) xs (omega (arith, errors-fit))

@@ -1,14 +1,14 @@
 -- The audit: its errors, its answer, and the list of words at exit. These are definitions.
 use mathlib.Core.List.{List, [], _∷_, _++_}
-use Prim.Native.Nat.{ℕ}
+use Prim.Native.Nat.{ℕ, _*_}
 use lib.ListN.{length, take}
 use Rattle.dialect.specs.declared.Dialect.{Dialect}
 use Rattle.forest.specs.Forest.{Forest, forest}
 use Rattle.table.specs.Answer.{Answer, accepted}
-use Rattle.table.specs.Check.{mostBytes, Handing, inDialect, turnedAway, givenOf, inGiven}
+use Rattle.table.specs.Check.{mostNodes, mostBytes, Handing, inDialect, turnedAway, givenOf, inGiven}
 use Rattle.errors.specs.declared.Err.{Err}
 use Rattle.errors.specs.declared.Listing.the-variants.{Own, Audit}
-use Rattle.errors.specs.Errors.{kept, stored}
+use Rattle.errors.specs.Errors.{kept, width, stored}
 use Rattle.validate.specs.Job.{passErrors}
 use Rattle.audit.specs.declared.Roles.the-variants.{Nowhere}
 use Rattle.audit.specs.Roles.{placed}
@@ -34,6 +34,10 @@ allErrors t names bytes = auditIn (givenOf t names bytes) names t
 -- the answer: a refusal, or how many errors there are, whether they fit or not
 abbrev pub auditOf : List ℕ → List ℕ → List ℕ → Answer
 auditOf t names bytes = inGiven (givenOf t names bytes) (λ _. accepted (length (allErrors t names bytes) ∷ []))
+
+-- the words of the most errors that a table has: four errors for each of 2,100 nodes
+abbrev pub enoughWords : ℕ
+enoughWords = width Audit * (4 * mostNodes)
 
 -- the list of words at exit
 abbrev pub auditAfter : List ℕ → List ℕ → List ℕ → List ℕ → List ℕ

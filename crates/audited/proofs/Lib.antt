@@ -4,3 +4,4 @@ pub mod Nodes
 pub mod Roled
 pub mod Jobs
 pub mod Audited
+pub mod Checked

@@ -3,7 +3,8 @@
 use mathlib.Core.List.{List, [], _++_}
 use Prim.Native.Nat.{ℕ, zero, suc, _+_, _*_, _-_, _/_, min}
 use lib.ListN.{length, take, drop}
-use Rattle.table.specs.Answer.{Answer, accepted, andThen}
+use Rattle.fields.specs.Choice.{if'}
+use Rattle.table.specs.Answer.{Answer, accepted, passes, andThen}
 use Rattle.blocks.specs.Block.{blockBytes, contentBytes, blockOf, judge}
 
 -- how many blocks a content of so many bytes fills: none if there are none
@@ -30,6 +31,13 @@ judgeBlocks (suc n) number total bs = andThen (judge number (min contentBytes to
 -- the run at the front of some bytes: as many blocks as so many bytes fill
 unfoldable pub judgeRun : ℕ → ℕ → List ℕ → Answer
 judgeRun number total bs = judgeBlocks (blocksFor total) number total bs
+
+-- how many of n such blocks are good, before the first that is bad or missing
+unfoldable pub goodBlocks : ℕ → ℕ → ℕ → List ℕ → ℕ
+goodBlocks zero number total bs = 0
+goodBlocks (suc n) number total bs =
+    if' (passes (judge number (min contentBytes total) bs)) (λ _.
+    suc (goodBlocks n (number + 1) (total - contentBytes) (drop blockBytes bs))) (λ _. 0)
 
 -- the contents of n blocks, one after the other: bytes 4 to 507 of each
 unfoldable pub contents : ℕ → List ℕ → List ℕ

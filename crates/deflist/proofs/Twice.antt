@@ -1,4 +1,7 @@
--- What 11 tells: the first earlier parameter of an equal name, which has a smaller node. Assumes nothing.
+-- What 11 tells: the only earlier parameter of an equal name, which has a smaller node. `unpack` reads the list from
+-- the left and stops at the first name that it has seen (`run-repeated`). So among those that are read no name comes
+-- twice (`Fresh`), and the first that has the name is the only one (forest's `only-one`). Cite `written-twice`. Assumes
+-- nothing.
 use mathlib.Core.Path.{_≡_, refl, sym, ap, _∙_}
 use mathlib.Core.Bool.{Bool, true, false}
 use mathlib.Core.List.{List, [], _∷_, _++_, append-assoc, append-nil}
@@ -11,9 +14,9 @@ use Rattle.forest.specs.declared.Found.{Found}
 use Rattle.forest.specs.declared.Found.the-variants.{At, Nothing}
 use Rattle.fields.specs.Choice.{if'}
 use Rattle.table.specs.Numbers.{slashFirst, duplicatedParameter, normalAfterKwargs, starLast, noNormalAfterStar}
-use Rattle.forest.proofs.Named.{same-bytes-refl}
+use Rattle.forest.proofs.Named.{same-bytes-refl, same-bytes-equal}
 use Rattle.forest.proofs.Stretch.{forest-induction, rest-part}
-use Rattle.forest.proofs.Firsts.{found-first, Rising, rising-first, rising-lower, rising-before}
+use Rattle.forest.proofs.Firsts.{found-first, Fresh, only-one, Rising, rising-first, rising-lower, rising-before}
 use Rattle.deflist.specs.Written.{Name, Param, normal, noArgs, slash, args, kwargs, nodeIn, kindIn, paramOf}
 use Rattle.deflist.specs.Written.{paramsIn, written}
 use Rattle.deflist.specs.Unpack.{hasName, firstSame, repeats, firstly, defaultRule, rule, check, start, flatAt}
@@ -43,6 +46,12 @@ record Again (before l : List Param) (i : ℕ) (r : Node) : Type 0 where
   cut : l ≡ read ++ again ∷ rest
   here : nodeIn again ≡ r
   found : repeats (before ++ read) again ≡ At i
+  fresh : Fresh repeats before read
+
+-- a parameter that passes its check repeats no name
+fine-new : (f : Found) (c : Check) → firstly f c ≡ Fine → f ≡ Nothing
+fine-new (At i) c e = never (cc)
+fine-new Nothing c e = refl
 
 run-repeated : (before : List Param) (u : Unpacking) (l : List Param) {i : ℕ} {r : Node} → Cleared u
     → run before u l ≡ repeated i r → Again before l i r
@@ -64,6 +73,7 @@ run-repeated before u (p ∷ ps) {i} {r} clear h = go (check before (u .state) (
           cut = ap (λ (l : List Param). p ∷ l) (x .cut);
           here = x .here;
           found = rw (append-assoc before (p ∷ []) (x .read)) at (x .found);
+          fresh = (fine-new (repeats before p) _ f, x .fresh);
         }
     go (Broken n) f rest = let both = sym (run-stop before u p ps f) ∙ h in never (cc)
     go (Repeated j) f rest =
@@ -76,6 +86,7 @@ run-repeated before u (p ∷ ps) {i} {r} clear h = go (check before (u .state) (
           cut = refl;
           here = cc;
           found = rw (append-nil before) (found-repeated (repeats before p) _ _ (kindIn p) f ∙ ap At same);
+          fresh = tt;
         }
 
 -- a name that is found again is one that the parameter has
@@ -87,6 +98,15 @@ repeats-has before (noArgs r) e = never (cc)
 repeats-has before (slash r) e = never (cc)
 repeats-has before (args r n) e = (n, (same-bytes-refl n, e))
 repeats-has before (kwargs r n) e = (n, (same-bytes-refl n, e))
+
+-- and the search for a name that it has is the search for its own
+looks-for : (x : Name) (l : List Param) (p : Param) → hasName x p ≡ true → repeats l p ≡ firstSame x l
+unfolding repeats hasName
+looks-for x l (normal r n d) h = ap (λ (y : Name). firstSame y l) (same-bytes-equal n x h)
+looks-for x l (noArgs r) h = never (cc)
+looks-for x l (slash r) h = never (cc)
+looks-for x l (args r n) h = ap (λ (y : Name). firstSame y l) (same-bytes-equal n x h)
+looks-for x l (kwargs r n) h = ap (λ (y : Name). firstSame y l) (same-bytes-equal n x h)
 
 -- the nodes of a written list rise
 rising-list : (ns : List ℕ) (k : ℕ) (t : List ℕ) → Rising indexOf k (paramsIn ns (forest k t))
@@ -125,6 +145,7 @@ module _ (ns : List ℕ) (k : ℕ) (t : List ℕ) {i : ℕ} {r : Node} where
         name = x .0;
         has = x .1 .0;
         earlier = f;
+        only = only-one searches repeats looks-for (x .0) (a .read) f (a .fresh);
         smaller = omega (arith, less, f .at, ap (λ (q : Node). q .at) (a .here));
       }
 
@@ -138,7 +159,7 @@ unpack-again (p ∷ ps) {i} {r} h = go (isSlash (kindIn p)) refl
     go false e = run-repeated [] (start (positionalOnly (firstSlash (p ∷ ps)))) (p ∷ ps)
         (clear-start (positionalOnly (firstSlash (p ∷ ps)))) (rw e at h)
 
--- THEOREM: 11 is told of a parameter whose name an earlier one has, with the first of these, which has a smaller node
+-- THEOREM: 11 is told of a parameter whose name one earlier one has, with the node of that, which is smaller
 pub written-twice : (ns : List ℕ) (node : ℕ) (t : List ℕ) {i : ℕ} {r : Node} → unpack (written ns node t) ≡ repeated i r
     → NamedTwice (written ns node t) i r
 unfolding written

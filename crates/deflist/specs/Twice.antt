@@ -4,7 +4,7 @@ use mathlib.Core.Bool.{true}
 use mathlib.Core.List.{List, _∷_, _++_}
 use Prim.Native.Nat.{ℕ, _<_}
 use Rattle.forest.specs.Forest.{Node}
-use Rattle.forest.specs.Names.{FirstPassing}
+use Rattle.forest.specs.Names.{NonePasses, FirstPassing}
 use Rattle.deflist.specs.Written.{Name, Param, nodeIn}
 use Rattle.deflist.specs.Unpack.{hasName}
 
@@ -12,7 +12,8 @@ use Rattle.deflist.specs.Unpack.{hasName}
 abbrev pub indexOf : Param → ℕ
 indexOf p = nodeIn p .at
 
--- in a list the parameter of record r has the name of an earlier one, the first of which is the node i
+-- in a list the parameter of record r has the name of an earlier one, the first of which is the node i; it is the only
+-- one, since no other of those that are read has the name
 pub record NamedTwice (l : List Param) (i : ℕ) (r : Node) : Type 0 where
   pub read : List Param
   pub again : Param
@@ -22,4 +23,5 @@ pub record NamedTwice (l : List Param) (i : ℕ) (r : Node) : Type 0 where
   pub name : Name
   pub has : hasName name again ≡ true
   pub earlier : FirstPassing (hasName name) indexOf read i
+  pub only : NonePasses (hasName name) (earlier .after)
   pub smaller : i < r .at

@@ -4,7 +4,7 @@ use mathlib.Core.Path.{_≡_, refl, sym, ap, _∙_}
 use mathlib.Core.Bool.{Bool, true, false}
 use mathlib.Core.Logic.{_⊎_, inl, inr}
 use mathlib.Core.List.{List, [], _∷_, _++_, map}
-use Prim.Native.Nat.{ℕ, zero, suc, _+_, _-_, _*_}
+use Prim.Native.Nat.{ℕ, zero, suc, _+_, _-_, _*_, _/_, _<_}
 use native.Mathlib.Omega.{arith}
 use lib.ListN.{length, drop, replicate}
 use lib.Dec.{eqb}
@@ -17,14 +17,15 @@ use Rattle.soundness.specs.KindNumbers.{kindDef, kindLambda}
 use Rattle.soundness.specs.Kinds.{statement, expression, parameter, ifDetail, kindIn, kindOf, classOf}
 use Rattle.soundness.specs.Sound.{classes, wanted, contextOf}
 use Rattle.soundness.proofs.SoundTables.{node-classes, sound-first}
-use Rattle.table.specs.Check.{stretchOf}
+use Rattle.table.specs.Answer.{accepted}
+use Rattle.table.specs.Check.{checkOf, stretchOf}
 use Rattle.table.specs.declared.Wanted.the-variants.{Parameters}
 use Rattle.table.proofs.Checking.{Clean, accepted-clean, stretch-is, stretch-sound, stretch-size}
 use Rattle.table.proofs.Handed.{stretch-within}
 use Rattle.deflist.specs.Written.{Param, paramOf, paramsIn, written}
 use Rattle.parameters.specs.Params.{listOf}
-use Rattle.demand3.specs.Given.{parametersIn, allParameters, Given}
-use Rattle.demand3.proofs.OverTheJob as job
+use Rattle.demand3.specs.Given.{parametersIn, allParameters}
+use Rattle.demand3.proofs.OverTheJob.{list-fits}
 
 -- classes among which no parameter is
 abbrev NoParameter : List ℕ → Type 0
@@ -56,28 +57,29 @@ leading names (suc n) back (node r ks then f) h e =
     rw (eq-eqb (classOf (r .kind)) parameter c)
     (ap (λ (l : List Param). paramOf names r ∷ l) (leading names n back f h rest))
 
-module _ (t names : List ℕ) (i : ℕ) (ms : List ℕ) (g : Given t names i ms) where
+module _ (t names : List ℕ) (i : ℕ) (sound : checkOf t names ≡ accepted []) (within : i < length t / 24)
+    (defOrLambda : (nodeOf i (drop (24 * i) t) .kind ≡ kindDef) ⊎ (nodeOf i (drop (24 * i) t) .kind ≡ kindLambda)) where
   clean : Clean t names
-  clean = accepted-clean t names (g .sound)
+  clean = accepted-clean t names sound
 
   abbrev kids : Forest
   kids = forest (i + 1) (kidsOf (stretchOf t i))
 
   kind-kept : nodeOf i (stretchOf t i) .kind ≡ nodeOf i (drop (24 * i) t) .kind
   kind-kept =
-      let size = stretch-size clean i (g .within) in
+      let size = stretch-size clean i within in
       let kept = ap (λ (n : Node). n .kind)
       (node-take i (24 * sizeOf (drop (24 * i) t)) (drop (24 * i) t) (omega arith)) in
-      rw (stretch-is clean i (g .within)) kept
+      rw (stretch-is clean i within) kept
 
   -- the classes of its children are those that its row wants of so many
   here-classes : classes kids
       ≡ wanted (kindOf (nodeOf i (stretchOf t i) .kind) .kids (nodeOf i (stretchOf t i) .detail))
       (length (classes kids))
   here-classes =
-      let long = stretch-within t names i Parameters clean (job.fits t names i ms g) .0 in
+      let long = stretch-within t names i Parameters clean (list-fits t i within defOrLambda) .0 in
       node-classes (contextOf t names i) (nodeOf i (stretchOf t i)) kids
-      (sound-first (contextOf t names) i (stretchOf t i) (stretch-sound clean i (g .within)) long)
+      (sound-first (contextOf t names) i (stretchOf t i) (stretch-sound clean i within) long)
 
   abbrev back : ℕ → List ℕ
   back d = ifDetail d 1 1 ++ statement ∷ []
@@ -107,7 +109,7 @@ module _ (t names : List ℕ) (i : ℕ) (ms : List ℕ) (g : Given t names i ms)
   -- THEOREM: no parameter of the def or lambda is missing from the written list, and nothing else is in it
   pub all-listed : listOf t names i ≡ allParameters t names i
   unfolding listOf written
-  all-listed = go (g .defOrLambda)
+  all-listed = go defOrLambda
     where
       go : (nodeOf i (drop (24 * i) t) .kind ≡ kindDef) ⊎ (nodeOf i (drop (24 * i) t) .kind ≡ kindLambda)
           → paramsIn names kids ≡ map (paramOf names) (parametersIn kids)

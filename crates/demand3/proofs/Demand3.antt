@@ -14,17 +14,20 @@
 -- The job `parameters::params` promises to answer `paramsOf` and to leave `modesAfter` in the lent buffer, so each
 -- theorem is about its answer and the buffer at exit. Assumes nothing.
 use mathlib.Core.Path.{_≡_, sym, _∙_}
-use mathlib.Core.Logic.{_↔_}
-use mathlib.Core.List.{List}
-use Prim.Native.Nat.{ℕ, _<_, _≤_}
-use lib.ListN.{length, getD}
+use mathlib.Core.Logic.{_⊎_, _↔_}
+use mathlib.Core.List.{List, []}
+use Prim.Native.Nat.{ℕ, _*_, _/_, _<_, _≤_}
+use lib.ListN.{length, getD, drop}
+use Rattle.forest.specs.Forest.{recordBytes, nodeOf}
+use Rattle.soundness.specs.KindNumbers.{kindDef, kindLambda}
 use Rattle.table.specs.Answer.{accepted}
+use Rattle.table.specs.Check.{checkOf}
 use Rattle.deflist.specs.Written.{Param}
 use Rattle.parameters.specs.declared.Counted.{Counted}
 use Rattle.parameters.specs.Params.{unpacked, listOf, paramsOf, modesAfter}
 use Rattle.parameters.specs.declared.Unpacked.{Unpacked}
 use Rattle.parameters.specs.declared.Unpacked.the-variants.{Accepted}
-use Rattle.demand3.specs.Cut.{Cut, partsOf, flatList, cutRanges, cutFlat, holders, cutValues}
+use Rattle.demand3.specs.Cut.{Cut, join, partsOf, flatList, cutRanges, cutFlat, holders, cutValues}
 use Rattle.demand3.specs.Cut.{ByRange, Follow, CutBy}
 use Rattle.demand3.specs.Given.{allParameters, Given, CutOf, RangesAre}
 use Rattle.demand3.proofs.Cuts.{join-injective}
@@ -33,14 +36,29 @@ use Rattle.demand3.proofs.Ranges as ranges
 use Rattle.demand3.proofs.OverTheJob as job
 
 -- "the parameter list of a def or lambda" is ALL its parameters, in written order: none is left out, and nothing else
--- is in it
-pub list-is-all : (t names : List ℕ) (node : ℕ) (ms : List ℕ) → Given t names node ms
+-- is in it. The buffer does not matter here
+pub list-is-all : (t names : List ℕ) (node : ℕ) → checkOf t names ≡ accepted [] → node < length t / recordBytes
+    → (nodeOf node (drop (recordBytes * node) t) .kind ≡ kindDef)
+    ⊎ (nodeOf node (drop (recordBytes * node) t) .kind ≡ kindLambda)
     → listOf t names node ≡ allParameters t names node
 list-is-all = all-listed
 
--- "The cut is unique."
-pub cut-unique : (l : List Param) (c d : Cut) → CutOf l c → CutOf l d → c ≡ d
-cut-unique l c d x y = join-injective c d (x .joins ∙ sym (y .joins))
+-- "The cut is unique.": of any list, whether its cuts are good or not
+pub cut-unique : (l : List Param) (c d : Cut) → join c ≡ l → join d ≡ l → c ≡ d
+cut-unique l c d x y = join-injective c d (x ∙ sym y)
+
+-- of any cut, good or not: its ranges "follow in order and cover 0 to the flat count once"
+pub ranges-follow : (c : Cut) → Follow (cutRanges c) (cutFlat c)
+ranges-follow c = ranges.ranges-follow (partsOf c)
+
+pub ranges-cover-once : (c : Cut) (i : ℕ) → i < cutFlat c → holders (cutRanges c) i ≡ 1
+ranges-cover-once c = ranges.ranges-cover (partsOf c)
+
+-- "marks omitted: the ordinary parameters before `/`, those of the second part, `*args`, the ordinary ones after the
+-- star, `**kwargs`": the list that it joins to, without its marks, is cut at the ranges
+pub ranges-cut-the-flat-list : (l : List Param) (c : Cut) → join c ≡ l
+    → CutBy (cutRanges c) (flatList l) (partsOf c)
+ranges-cut-the-flat-list l c joins = rw (← joins) (ranges.cut-parts c)
 
 -- "In a sound table, with a long enough mode buffer, the parameter list of a def or lambda"
 module _ (t names : List ℕ) (node : ℕ) (ms : List ℕ) (given : Given t names node ms) where
@@ -61,18 +79,6 @@ module _ (t names : List ℕ) (node : ℕ) (ms : List ℕ) (given : Given t name
     pub answer-has-the-ranges : (r : Unpacked) → unpacked r ≡ paramsOf t names node (length ms)
         → (a : Counted) × (r ≡ Accepted a) × RangesAre a (cutRanges c)
     answer-has-the-ranges = job.answer-is t names node ms given c cut
-
-    -- "marks omitted: the ordinary parameters before `/`, those of the second part, `*args`, the ordinary ones after
-    -- the star, `**kwargs`"
-    pub ranges-cut-the-flat-list : CutBy (cutRanges c) (flatList (listOf t names node)) (partsOf c)
-    ranges-cut-the-flat-list = rw (← cut .joins) (ranges.cut-parts c)
-
-    -- "They follow in order and cover 0 to the flat count once"
-    pub ranges-follow : Follow (cutRanges c) (cutFlat c)
-    ranges-follow = ranges.ranges-follow (partsOf c)
-
-    pub ranges-cover-once : (i : ℕ) → i < cutFlat c → holders (cutRanges c) i ≡ 1
-    ranges-cover-once = ranges.ranges-cover (partsOf c)
 
     -- "and each flat parameter's mode is written and is its range's": in the lent buffer afterwards
     pub modes-are-the-ranges : ByRange (cutRanges c) (modesAfter t names node ms)

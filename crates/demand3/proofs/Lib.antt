@@ -7,3 +7,4 @@ pub mod Ranges
 pub mod OverTheJob
 pub mod AllListed
 pub mod Demand3
+pub mod Example

@@ -3,7 +3,7 @@ use mathlib.Core.Path.{_≡_, refl, sym, ap, _∙_}
 use mathlib.Core.Bool.{true}
 use mathlib.Core.Logic.{_⊎_, inl, inr}
 use mathlib.Core.List.{List, _++_}
-use Prim.Native.Nat.{ℕ, _+_, _-_, _*_, _/_, _≤_}
+use Prim.Native.Nat.{ℕ, _+_, _-_, _*_, _/_, _<_, _≤_}
 use native.Mathlib.Omega.{arith}
 use lib.ListN.{length, getD, drop, length-append, length-drop}
 use lib.Seq.{getD-append-add, getD-drop}
@@ -28,16 +28,21 @@ use Rattle.demand3.specs.Given.{Given, CutOf, RangesAre}
 use Rattle.demand3.proofs.Cuts.{cut-accepted, accepted-cut, cut-modes}
 use Rattle.demand3.proofs.Ranges.{cut-values, modes-length, modes-by-range}
 
+-- a def or lambda is what the job wants
+pub list-fits : (t : List ℕ) (node : ℕ) → node < length t / 24
+    → (nodeOf node (drop (24 * node) t) .kind ≡ kindDef) ⊎ (nodeOf node (drop (24 * node) t) .kind ≡ kindLambda)
+    → nodeFits t node Parameters ≡ true
+unfolding nodeFits wants
+list-fits t node h k = rw (lt-ltb node (length t / 24) h) (go k)
+  where
+    go : (nodeOf node (drop (24 * node) t) .kind ≡ kindDef) ⊎ (nodeOf node (drop (24 * node) t) .kind ≡ kindLambda)
+        → wants Parameters (nodeOf node (drop (24 * node) t) .kind) ≡ true
+    go (inl e) = rw e refl
+    go (inr e) = rw e refl
+
 module _ (t names : List ℕ) (node : ℕ) (ms : List ℕ) (g : Given t names node ms) where
-  pub fits : nodeFits t node Parameters ≡ true
-  unfolding nodeFits wants
-  fits = rw (lt-ltb node (length t / 24) (g .within)) (go (g .defOrLambda))
-    where
-      go : (nodeOf node (drop (24 * node) t) .kind ≡ kindDef)
-          ⊎ (nodeOf node (drop (24 * node) t) .kind ≡ kindLambda)
-          → wants Parameters (nodeOf node (drop (24 * node) t) .kind) ≡ true
-      go (inl e) = rw e refl
-      go (inr e) = rw e refl
+  fits : nodeFits t node Parameters ≡ true
+  fits = list-fits t node (g .within) (g .defOrLambda)
 
   pub has-cut : {vs : List ℕ} → paramsOf t names node (length ms) ≡ accepted vs
       → (c : Cut) × CutOf (listOf t names node) c

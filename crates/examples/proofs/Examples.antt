@@ -1,6 +1,7 @@
 -- Document 01's table of proved examples, all its rows in one statement. Assumes nothing.
 use mathlib.Core.Path.{_≡_, refl}
 use mathlib.Core.List.{map}
+use lib.ListN.{length}
 use Rattle.forest.specs.Names.{nameOf, same}
 use Rattle.deflist.specs.Unpack.{hasName, firstSame, repeats, advance, step, finish, run, slashFrom, start, unpack}
 use Rattle.parameters.specs.Indices.{countedOf}
@@ -17,3 +18,7 @@ unfolding nameOf same hasName firstSame repeats advance step finish run slashFro
     check callAdvance callRun callUnpack formOf objectPath «unpack_path» indexBase index2Base listLength atNode
     typeUnpack
 examples = refl
+
+-- THEOREM: and so many rows there are
+pub how-many : length table ≡ 14
+how-many = refl

@@ -32,6 +32,13 @@ pub and-both : (a b : Bool) → a ≡ true → b ≡ true → (a && b) ≡ true
 and-both true b e f = f
 and-both false b e f = never (cc)
 
+-- two tests that follow from each other
+pub both-ways : (a b : Bool) → (a ≡ true → b ≡ true) → (b ≡ true → a ≡ true) → a ≡ b
+both-ways true true f g = refl
+both-ways true false f g = sym (f refl)
+both-ways false true f g = g refl
+both-ways false false f g = refl
+
 -- a number is at most another, or larger
 pub le-or-lt : (a b : ℕ) → (a ≤ b) ⊎ (b < a)
 le-or-lt a b = go (leb a b) refl

@@ -1,7 +1,7 @@
 -- Laws of little-endian fields, each stated once, over the width. Assumes nothing.
 use mathlib.Core.Path.{_≡_, refl, sym}
 use mathlib.Core.List.{List}
-use Prim.Native.Nat.{ℕ, zero, suc, _+_, _*_, _≤_, _-_, _^_}
+use Prim.Native.Nat.{ℕ, zero, suc, _+_, _*_, _<_, _≤_, _-_, _^_}
 use native.Mathlib.Numerals.{one-add}
 use native.Mathlib.Nat.{pow-succ', suc-add, add-zero, zero-add, one-mul, add-assoc, mul-assoc, mul-add}
 use native.Mathlib.Omega.{arith}
@@ -27,6 +27,16 @@ pub field-take : (w : ℕ) (l : List ℕ) (n at : ℕ) → at + w ≤ n → fiel
 unfolding field
 field-take zero l n at h = refl
 field-take (suc w) l n at h = rw (getD-take n l at 0 (omega arith), field-take w l n (at + 1) (omega arith))
+
+-- fields of equal bytes
+pub field-same : (w : ℕ) (l m : List ℕ) (at : ℕ) → ((i : ℕ) → at ≤ i → i < at + w → getD l i 0 ≡ getD m i 0)
+    → field w l at ≡ field w m at
+unfolding field
+field-same zero l m at alike = refl
+field-same (suc w) l m at alike = rw (
+  alike at (omega arith) (omega arith),
+  field-same w l m (at + 1) (λ i h g. alike i (omega arith) (omega arith)),
+) refl
 
 -- past the end there is nothing
 pub field-past : (w : ℕ) (l : List ℕ) (at : ℕ) → length l ≤ at → field w l at ≡ 0

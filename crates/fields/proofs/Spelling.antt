@@ -37,6 +37,13 @@ bytes-zeros (suc n) (suc i) = bytes-zeros n i
 pub bytes-drop : (l : List ℕ) (n : ℕ) → Bytes l → Bytes (drop n l)
 bytes-drop l n small i = rw (getD-drop n l i 0) (small (n + i))
 
+pub bytes-set : (l : List ℕ) (i x : ℕ) → Bytes l → x < 256 → Bytes (set l i x)
+bytes-set [] i x small h j = small j
+bytes-set (y ∷ l) zero x small h zero = h
+bytes-set (y ∷ l) zero x small h (suc j) = small (suc j)
+bytes-set (y ∷ l) (suc i) x small h zero = small zero
+bytes-set (y ∷ l) (suc i) x small h (suc j) = bytes-set l i x (λ k. small (suc k)) h j
+
 pub bytes-spelled : (w n : ℕ) → Bytes (bytesOf w n)
 unfolding bytesOf
 bytes-spelled zero n i = omega arith

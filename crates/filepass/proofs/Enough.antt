@@ -1,62 +1,31 @@
 -- Of a file at most `enoughBytes` bytes are read: the most blocks that a file has, and one byte more. That is enough:
--- the answer to so much of a file is the answer to the file, however long it is (`read-enough`). Assumes nothing.
+-- the answer to so much of a file is the answer to the file, however long it is (`read-enough`). The same holds of
+-- reading it into lent buffers (`into-enough`). Assumes nothing.
 use mathlib.Core.Path.{_≡_, refl, sym, ap, _∙_}
 use mathlib.Core.Bool.{Bool, true, false}
 use mathlib.Core.Logic.{⊎-elim}
 use mathlib.Core.List.{List, []}
-use Prim.Native.Nat.{ℕ, zero, suc, _+_, _*_, _-_, _<_, _≤_, min}
+use Prim.Native.Nat.{ℕ, _+_, _*_, _-_, _<_, _≤_}
 use native.Mathlib.Omega.{arith}
 use lib.ListN.{length, take, drop, length-take}
-use lib.Seq.{take-all, take-take}
+use lib.Seq.{take-all}
 use lib.Dec.{leb}
-use borrow.Author.Tests.{le-leb, lt-leb}
-use Rattle.fields.proofs.Basics.{drop-take, le-or-lt}
-use Rattle.fields.proofs.Fields.{field-take}
+use borrow.Author.Tests.{lt-leb}
+use Rattle.fields.proofs.Basics.{le-or-lt}
 use Rattle.table.specs.Numbers.{blockCounts, bytesLeftOver}
 use Rattle.table.specs.Answer.{Answer, accepted, refused, andThen}
 use Rattle.table.specs.Check.{mostNodes, mostNames, Handing, inDialect, turnedAway, givenOf, inGiven}
 use Rattle.table.proofs.Answers.{after-both}
 use Rattle.blocks.specs.Block.{demand, judge}
-use Rattle.blocks.specs.Run.{blocksFor, judgeBlocks, judgeRun}
+use Rattle.blocks.specs.Run.{blocksFor, judgeRun}
 use Rattle.tablefile.specs.File.{Content, mostBlocks}
 use Rattle.tablefile.specs.Reading.{headerAt, contentAt, countsFit, blocksCheck, frontCheck, soundCheck, readCheck}
-use Rattle.tablefile.proofs.Fronts.{first-is, taken-is, counts-small}
+use Rattle.tablefile.specs.Lending.{intoCheck, handed}
+use Rattle.blocks.proofs.Parts.{judge-front, run-front}
+use Rattle.tablefile.proofs.Fronts.{header-front, first-is, taken-is, counts-small}
 use Rattle.tablefile.proofs.Accepted.{read-whole, read-fronted}
 use Rattle.filepass.specs.Sizes.{enoughBytes}
 use Rattle.filepass.specs.Passing.{answerOf, ifRead, wordsAfter}
-
--- a block is judged by its 512 bytes
-judge-part : (number used m : ℕ) (bs : List ℕ) → 512 ≤ m → judge number used (take m bs) ≡ judge number used bs
-unfolding judge
-judge-part number used m bs h =
-    ⊎-elim
-    (λ (p : 512 ≤ length bs). rw (
-      le-leb 512 (length (take m bs)) (simp length-take (omega arith)),
-      le-leb 512 (length bs) p,
-      take-take 512 m bs h,
-    ) refl)
-    (λ (p : length bs < 512). rw (
-      lt-leb 512 (length (take m bs)) (simp length-take (omega arith)),
-      lt-leb 512 (length bs) p,
-    ) refl)
-    (le-or-lt 512 (length bs))
-
--- and a run by those of its blocks
-blocks-part : (n number total m : ℕ) (bs : List ℕ) → 512 * n ≤ m
-    → judgeBlocks n number total (take m bs) ≡ judgeBlocks n number total bs
-unfolding judgeBlocks
-blocks-part zero number total m bs h = refl
-blocks-part (suc n) number total m bs h =
-    let rest : judgeBlocks n (number + 1) (total - 504) (drop 512 (take m bs))
-    ≡ judgeBlocks n (number + 1) (total - 504) (drop 512 bs) =
-    rw (drop-take 512 m bs) (blocks-part n (number + 1) (total - 504) (m - 512) (drop 512 bs) (omega arith)) in
-    rw (judge-part number (min 504 total) m bs (omega arith), rest) refl
-
-run-part : (number total a m : ℕ) (bs : List ℕ) → a + 512 * blocksFor total ≤ m
-    → judgeRun number total (drop a (take m bs)) ≡ judgeRun number total (drop a bs)
-unfolding judgeRun
-run-part number total a m bs h =
-    rw (drop-take a m bs) (blocks-part (blocksFor total) number total (m - a) (drop a bs) (omega arith))
 
 -- LAW: the most blocks are those of the most names and the most nodes
 pub most-blocks : mostBlocks ≡ 1 + blocksFor mostNames + blocksFor (24 * mostNodes)
@@ -95,12 +64,7 @@ read-plain bs =
 -- a file that is longer than what is read of it
 module _ (m : ℕ) (bs : List ℕ) (enough : 512 * mostBlocks < m) (longer : m < length bs) where
   header-part : headerAt (take m bs) ≡ headerAt bs
-  unfolding headerAt
-  header-part = rw (
-    field-take 2 bs m 4 (omega arith),
-    field-take 2 bs m 6 (omega arith),
-    field-take 2 bs m 2 (omega arith),
-  ) refl
+  header-part = header-front m bs (omega arith)
 
   -- what comes after the counts of block 0, for some bytes of which these are the counts
   later : List ℕ → Answer
@@ -114,9 +78,9 @@ module _ (m : ℕ) (bs : List ℕ) (enough : 512 * mostBlocks < m) (longer : m <
   later-part fit =
       let small = counts-small (headerAt bs .nodes) (headerAt bs .names) fit in
       let short : headerAt bs .taken ≤ 512 * mostBlocks = omega (arith, small, taken-is bs, first-is bs) in
-      let names = run-part 1 (headerAt bs .names) 512 m bs (omega (arith, small)) in
-      let nodes = run-part (headerAt bs .first) (24 * headerAt bs .nodes) (512 * headerAt bs .first) m bs
-      (omega (arith, taken-is bs, short)) in
+      let names = run-front (headerAt bs .names) 512 m bs (omega (arith, small)) 1 in
+      let nodes = run-front (24 * headerAt bs .nodes) (512 * headerAt bs .first) m bs
+      (omega (arith, taken-is bs, short)) (headerAt bs .first) in
       let part-left = lt-leb (length (take m bs)) (headerAt bs .taken) (simp length-take (omega (arith, short))) in
       let left = lt-leb (length bs) (headerAt bs .taken) (omega (arith, short)) in
       rw (names, nodes, part-left, left) refl
@@ -143,8 +107,8 @@ module _ (m : ℕ) (bs : List ℕ) (enough : 512 * mostBlocks < m) (longer : m <
   whole-part : (fit : Bool) → countsFit (headerAt bs .nodes) (headerAt bs .names) ≡ fit
       → whole (take m bs) fit ≡ whole bs fit
   unfolding whole
-  whole-part false e = rw (judge-part 0 (4 + headerAt bs .dialect) m bs (omega arith)) refl
-  whole-part true e = rw (judge-part 0 (4 + headerAt bs .dialect) m bs (omega arith), later-part e) refl
+  whole-part false e = rw (judge-front 0 (4 + headerAt bs .dialect) m bs (omega arith)) refl
+  whole-part true e = rw (judge-front 0 (4 + headerAt bs .dialect) m bs (omega arith), later-part e) refl
 
   pub longer-part : readCheck (take m bs) ≡ readCheck bs
   longer-part =
@@ -171,6 +135,25 @@ module _ (m : ℕ) (bs : List ℕ) (enough : 512 * mostBlocks < m) (longer : m <
   unfolding wordsAfter
   longer-words xs = refused-both (λ a next. ifRead a xs next) (λ n vs x y. refl) _ _
 
+  pub longer-into : (table names : ℕ) → intoCheck (take m bs) table names ≡ intoCheck bs table names
+  unfolding intoCheck
+  longer-into table names = refused-both andThen (λ n vs x y. refl) _ _
+
+  -- where a check comes behind the reader's, a buffer stays if the reader refuses
+  handed-behind : (a : Answer) (next : Unit {0} → Answer) (held buffer : List ℕ)
+      → handed (andThen a next) held buffer ≡ ifRead a buffer (λ _. handed (next tt) held buffer)
+  unfolding handed
+  handed-behind (accepted vs) next held buffer = refl
+  handed-behind (refused n vs) next held buffer = refl
+
+  pub longer-handed : (table names : ℕ) (part held buffer : List ℕ)
+      → handed (intoCheck (take m bs) table names) part buffer ≡ handed (intoCheck bs table names) held buffer
+  unfolding intoCheck
+  longer-handed table names part held buffer =
+      handed-behind (readCheck (take m bs)) _ part buffer
+      ∙ refused-both (λ a next. ifRead a buffer next) (λ n vs x y. refl) _ _
+      ∙ sym (handed-behind (readCheck bs) _ held buffer)
+
 -- THEOREM: what is answered to the first bytes of a file is what is answered to the file, and the words are the same
 pub read-enough : (file xs : List ℕ) → (answerOf (take enoughBytes file) ≡ answerOf file)
     × (wordsAfter (take enoughBytes file) xs ≡ wordsAfter file xs)
@@ -180,5 +163,24 @@ read-enough file xs =
     (λ (h : enoughBytes < length file). (
       longer-answer enoughBytes file (omega arith) h,
       longer-words enoughBytes file (omega arith) h xs,
+    ))
+    (le-or-lt (length file) enoughBytes)
+
+-- THEOREM: so it is where a file is read into buffers, with the table and the names at exit
+pub into-enough : (file t ns : List ℕ) → let part = take enoughBytes file in
+    let answer = intoCheck file (length t) (length ns) in
+    let answer-part = intoCheck part (length t) (length ns) in
+    (answer-part ≡ answer)
+    × ((handed answer-part (contentAt part .table) t ≡ handed answer (contentAt file .table) t)
+    × (handed answer-part (contentAt part .names) ns ≡ handed answer (contentAt file .names) ns))
+into-enough file t ns =
+    ⊎-elim
+    (λ (h : length file ≤ enoughBytes). rw (take-all enoughBytes file h) (refl, (refl, refl)))
+    (λ (h : enoughBytes < length file). (
+      longer-into enoughBytes file (omega arith) h (length t) (length ns),
+      (
+        longer-handed enoughBytes file (omega arith) h (length t) (length ns) _ _ t,
+        longer-handed enoughBytes file (omega arith) h (length t) (length ns) _ _ ns,
+      ),
     ))
     (le-or-lt (length file) enoughBytes)

@@ -1,24 +1,20 @@
-// A table file to its answer: the reader, then the module pass over what it holds, with the errors in a lent list.
+// A table file to its answer: it is unpacked, then the module job runs on what it holds, with the errors in a lent
+// list.
 use blocks::BLOCK_BYTES;
-use dialect::Decoded;
-use errors::Listing;
 use errors::WIDTH;
 use forest::RECORD;
 use table::MOST_BYTES;
 use table::MOST_NAMES;
 use table::MOST_NODES;
 use table::Refusal;
-use table::numbers;
 use tablefile::MOST_BLOCKS;
 use tablefile::Verdict;
+use validate::Listed;
 ghost use mathlib.Core.Path.{_≡_};
-ghost use mathlib.Core.List.{[]};
 ghost use lib.ListN.{length, take};
-ghost use Rattle.table.specs.Answer.{accepted};
-ghost use Rattle.table.specs.Check.{givenCheck};
-ghost use Rattle.validate.specs.Job.{errorsAfter};
+ghost use Rattle.validate.specs.Job.{listed};
 ghost use Rattle.filepass.specs.Sizes.{enoughBytes, enoughWords};
-ghost use Rattle.filepass.specs.Passing.{passed, heldAnswer, answerOf, wordsAfter};
+ghost use Rattle.filepass.specs.Passing.{passed, behind, answerOf, wordsAfter};
 
 // How many bytes of a file tell its answer: 117 blocks, the most that a file has, and one byte.
 pub const ENOUGH_BYTES: usize = BLOCK_BYTES * MOST_BLOCKS + 1;
@@ -39,17 +35,18 @@ pub fn check_file(file: &[u8], errors: &mut [u32]) -> Passed
 {
     let mut table = [0u8; MOST_BYTES];
     let mut names = [0u8; MOST_NAMES];
-    let found = tablefile::unpack(file, &mut table, &mut names);
-    if let Verdict::Refused(why) = found {
+    let unpacked = tablefile::unpack(file, &mut table, &mut names);
+    if let Verdict::Refused(why) = unpacked {
         return Passed::Refused(why);
     }
     let h = tablefile::header(file);
-    list(
+    let found = validate::module(
         front(&table, RECORD * h.nodes),
         front(&names, h.names),
         tablefile::dialect_bytes(file),
         errors,
-    )
+    );
+    told(h.nodes as u32, found)
 }
 
 // The same of the bytes that were read of a file, in a buffer and a list that are large enough for every file.
@@ -66,20 +63,16 @@ pub fn check_read(
     check_file(front(buffer, len), errors)
 }
 
-// The module pass over what a file holds. The reader has looked at 1 to 5.
-fn list(table: &[u8], names: &[u8], dialect: &[u8], errors: &mut [u32]) -> Passed
-    requires { ⌜ givenCheck (now table) (now names) (now dialect) ≡ accepted [] ⌝ }
-    ensures { λ r. ⌜ passed r ≡ heldAnswer (now (table .entry)) (now (names .entry)) (now (dialect .entry)) ⌝ }
-    ensures { λ r. ⌜ now (errors .exit) ≡
-        errorsAfter (now (table .entry)) (now (names .entry)) (now (dialect .entry)) (now (errors .entry)) ⌝ }
+// The answer to a file of so many nodes, of which a job answered this.
+fn told(nodes: u32, found: Listed) -> Passed
+    ensures { λ r. ⌜ passed r ≡ behind nodes (listed found) ⌝ }
 {
-    let decoded = dialect::from_bytes(dialect);
-    match decoded {
-        Decoded::Valid(d) => Passed::Listed {
-            nodes: (table.len() / RECORD) as u32,
-            total: validate::pass(Listing::Module, table, names, d, errors),
+    match found {
+        Listed::Total(total) => Passed::Listed {
+            nodes: nodes,
+            total: total,
         },
-        Decoded::Invalid => Passed::Refused(Refusal::Bare(numbers::BAD_DIALECT)),
+        Listed::Refused(why) => Passed::Refused(why),
     }
 }
 

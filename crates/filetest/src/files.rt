@@ -1,4 +1,5 @@
 // The files of data/files.bin, each behind its label. They stand in words in files.txt, and tools/tables.py makes them.
+use crate::lent;
 use crate::say;
 use crate::say_number;
 use blocks::BLOCK_BYTES;
@@ -45,6 +46,7 @@ fn one(fd: i32) -> bool {
         let l = tablefile::read(front(&file, file_len));
         say_answer(l);
         say_again(l, front(&file, file_len));
+        lent::say_jobs(front(&file, file_len));
     }
     say(b"\n");
     true

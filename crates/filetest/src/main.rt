@@ -1,9 +1,11 @@
 // Tries the reader of table files. First an accepted file: whole, with each of its bytes changed to eight other values,
 // cut at every length, and with a byte more; it prints how often the reader gave which answer. Document 01: any one
 // changed byte is refused with 72, and a file cut short with 70. Then the files of data/files.bin: both sides of each
-// limit and of each rule, one answer a line.
+// limit and of each rule, one answer a line, with what every job over a file answers and whether it left its lent
+// memory as it was.
 mod changes;
 mod files;
+mod lent;
 
 use libc::STDOUT_FILENO;
 

@@ -2,14 +2,14 @@
 -- Assumes nothing.
 use mathlib.Core.Path.{_≡_, refl, sym, ap, _∙_}
 use mathlib.Core.Bool.{Bool, true, false}
-use mathlib.Core.List.{List, [], _∷_, _++_}
+use mathlib.Core.List.{List, [], _∷_, _++_, append-assoc, append-nil}
 use Prim.Native.Nat.{ℕ, _+_, _<_, _≤_}
 use native.Mathlib.Omega.{arith}
 use Rattle.fields.specs.Choice.{if'}
 use Rattle.fields.proofs.Basics.{never}
-use Rattle.forest.specs.Names.{FirstPassing}
+use Rattle.forest.specs.Names.{NonePasses, FirstPassing}
 use Rattle.forest.specs.declared.Found.{Found}
-use Rattle.forest.specs.declared.Found.the-variants.{At}
+use Rattle.forest.specs.declared.Found.the-variants.{At, Nothing}
 use Rattle.forest.proofs.Marked.{Searches}
 
 -- LAW: what a search finds is the first that has the name
@@ -39,6 +39,62 @@ module _ {A : Type 0} {find : List ℕ → List A → Found} {has : List ℕ →
           passes = f .passes;
           at = f .at;
         }
+
+-- LAWS: what was found is found with more behind it, and what has the name is found
+module _ {A : Type 0} {find : List ℕ → List A → Found} {has : List ℕ → A → Bool} (s : Searches find has) (x : List ℕ)
+  where
+    found-more : (l m : List A) {i : ℕ} → find x l ≡ At i → find x (l ++ m) ≡ At i
+    found-more [] m e = let nothing = sym (s .none x) ∙ e in never (cc)
+    found-more (p ∷ l) m {i} e = s .first x p (l ++ m) ∙ go (has x p) (sym (s .first x p l) ∙ e)
+        (λ rest. found-more l m rest)
+      where
+        go : (b : Bool) → if' b (λ _. At (s .node p)) (λ _. find x l) ≡ At i
+            → (find x l ≡ At i → find x (l ++ m) ≡ At i)
+            → if' b (λ _. At (s .node p)) (λ _. find x (l ++ m)) ≡ At i
+        go true e rest = e
+        go false e rest = rest e
+
+    some-found : (l : List A) (q : A) → has x q ≡ true → (i : ℕ) × (find x (l ++ q ∷ []) ≡ At i)
+    some-found [] q h = (s .node q, s .first x q [] ∙ rw h refl)
+    some-found (p ∷ l) q h = go (has x p) refl (some-found l q h)
+      where
+        go : (b : Bool) → has x p ≡ b → (i : ℕ) × (find x (l ++ q ∷ []) ≡ At i)
+            → (i : ℕ) × (find x (p ∷ (l ++ q ∷ [])) ≡ At i)
+        go true e rest = (s .node p, s .first x p (l ++ q ∷ []) ∙ rw e refl)
+        go false e rest = (rest .0, s .first x p (l ++ q ∷ []) ∙ rw e (rest .1))
+
+-- a list, after some that are read, in which no entry repeats a name of those before it
+abbrev pub Fresh : {A : Type 0} → (List A → A → Found) → List A → List A → Type 0
+Fresh repeats before [] = Unit {0}
+Fresh repeats before (p ∷ l) = (repeats before p ≡ Nothing) × Fresh repeats (before ++ p ∷ []) l
+
+-- LAW: in such a list the first that has a name is the only one
+module _ {A : Type 0} {find : List ℕ → List A → Found} {has : List ℕ → A → Bool} (s : Searches find has)
+    (repeats : List A → A → Found)
+    (looks : (x : List ℕ) (l : List A) (p : A) → has x p ≡ true → repeats l p ≡ find x l) where
+  none-after : (x : List ℕ) (seen l : List A) {i : ℕ} → find x seen ≡ At i → Fresh repeats seen l
+      → NonePasses (has x) l
+  none-after x seen [] e f = tt
+  none-after x seen (p ∷ l) {i} e f = go (has x p) refl
+      (none-after x (seen ++ p ∷ []) l (found-more s x seen (p ∷ []) e) (f .1))
+    where
+      go : (b : Bool) → has x p ≡ b → NonePasses (has x) l → NonePasses (has x) (p ∷ l)
+      go true h rest = let hit : At i ≡ Nothing = sym e ∙ sym (looks x seen p h) ∙ f .0 in never (cc)
+      go false h rest = (h, rest)
+
+  fresh-behind : (before b m : List A) → Fresh repeats before (b ++ m) → Fresh repeats (before ++ b) m
+  fresh-behind before [] m f = rw (append-nil before) f
+  fresh-behind before (p ∷ b) m f =
+      rw (append-assoc before (p ∷ []) b) at (fresh-behind (before ++ p ∷ []) b m (f .1))
+
+  pub only-one : (x : List ℕ) (l : List A) {i : ℕ} (f : FirstPassing (has x) (s .node) l i) → Fresh repeats [] l
+      → NonePasses (has x) (f .after)
+  only-one x l f fresh =
+      let parts : l ≡ (f .before ++ f .there ∷ []) ++ f .after =
+      f .cut ∙ sym (append-assoc (f .before) (f .there ∷ []) (f .after)) in
+      let whole : Fresh repeats [] ((f .before ++ f .there ∷ []) ++ f .after) = rw parts at fresh in
+      none-after x (f .before ++ f .there ∷ []) (f .after) (some-found s x (f .before) (f .there) (f .passes) .1)
+      (fresh-behind [] (f .before ++ f .there ∷ []) (f .after) whole)
 
 -- the indices of a list rise, from m on
 abbrev pub Rising : {A : Type 0} → (A → ℕ) → ℕ → List A → Type 0

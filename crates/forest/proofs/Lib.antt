@@ -1,4 +1,5 @@
 pub mod Stretch
+pub mod Prefix
 pub mod Named
 pub mod Marked
 pub mod Firsts

@@ -93,6 +93,12 @@ unfoldable pub roots : Forest → List Node
 roots none = []
 roots (node r ks then ts) = r ∷ roots ts
 
+-- the first k trees
+unfoldable pub firsts : ℕ → Forest → Forest
+firsts zero f = none
+firsts (suc k) none = none
+firsts (suc k) (t then ts) = t then firsts k ts
+
 -- all nodes, a node before its children
 unfoldable mutual
   pub nodes : Forest → List Node

@@ -42,8 +42,8 @@ params-carries t ns node room =
     go (def.repeated i r) h = (λ e. refl, λ d. absurd (d refl))
     go (def.internal x r) h = (λ e. absurd (omega (arith, e)), λ d. omega arith)
 
--- THEOREM: and the parameter that it refuses has the name of an earlier one in the list, the first of which it carries;
--- that one has a smaller node
+-- THEOREM: and the parameter that it refuses has the name of one earlier one in the list, whose node it carries; that
+-- is the only one, and has a smaller node
 pub params-twice : (t ns : List ℕ) (node room : ℕ) {vs : List ℕ}
     → paramsOf t ns node room ≡ refused duplicatedParameter vs
     → (i : ℕ) × ((r : Node) × ((vs ≡ r .at ∷ r .begin ∷ r .stop ∷ i ∷ []) × NamedTwice (listOf t ns node) i r))

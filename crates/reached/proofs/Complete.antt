@@ -7,9 +7,9 @@ use Prim.Native.Nat.{ℕ, zero, suc, _+_, _<_, _≤_}
 use native.Mathlib.Omega.{arith}
 use lib.ListN.{length, getD, replicate, length-replicate}
 use lib.Dec.{ltb}
-use borrow.Author.Tests.{lt-ltb, le-leb}
+use borrow.Author.Tests.{le-leb}
 use Rattle.fields.specs.Choice.{if'}
-use Rattle.fields.proofs.Basics.{never, le-or-lt}
+use Rattle.fields.proofs.Basics.{never}
 use Rattle.forest.specs.Forest.{Node}
 use Rattle.table.specs.Answer.{accepted}
 use Rattle.table.specs.declared.Place.{Place}
@@ -18,7 +18,7 @@ use Rattle.table.specs.declared.Wanted.the-variants.{Call}
 use Rattle.table.proofs.Entering.{sound-entry}
 use Rattle.deflist.specs.Written.{Name, Param}
 use Rattle.deflist.specs.Unpack as outcome
-use Rattle.deflist.specs.Unpack.{unpack, modes, modeArgs, modeKwargs}
+use Rattle.deflist.specs.Unpack.{unpack, modeArgs, modeKwargs}
 use Rattle.deflist.specs.declared.Counts.{Counts}
 use Rattle.parameters.specs.Indices.{placeOf, countedOf}
 use Rattle.parameters.specs.Params.{listOf}
@@ -34,7 +34,7 @@ use Rattle.bind.specs.declared.Reach.the-variants.{Fills, Nowhere}
 use Rattle.reached.specs.Said.{IsAt, CanBeNamed, ByPlace}
 use Rattle.reached.specs.Rules.{Named, Star, Placed, Matching, Rules}
 use Rattle.reached.proofs.Walk.{was-empty, Nodes}
-use Rattle.reached.proofs.Params.{within, same-at, mode-at, name-missed, one-name}
+use Rattle.reached.proofs.Params.{within, same-at, mode-at}
 use Rattle.reached.proofs.Reaching as reaching
 use Rattle.reached.proofs.Nodes.{call-rising}
 use Rattle.reached.proofs.Accepts.{Free, along-accepts, star-accepts, empty-accepts}
@@ -97,34 +97,11 @@ module _ (t ns : List ℕ) (call def : ℕ) (list : List ℕ) (rules : Rules t n
   abbrev m : Matching fs qs
   m = rules .matching
 
-  -- a place below the positional count
-  below : (k : ℕ) → Placed fs k → k < c .«num_positional» .0
-  below k p = go (le-or-lt (c .«num_positional» .0) k)
-    where
-      no : ByPlace (p .param) → (p .param .mode ≡ getD (modes ps) k 0) → 2 < getD (modes ps) k 0
-          → k < c .«num_positional» .0
-      no (inl x) e h = absurd (omega arith)
-      no (inr x) e h = absurd (omega arith)
-
-      go : (c .«num_positional» .0 ≤ k) ⊎ (k < c .«num_positional» .0) → k < c .«num_positional» .0
-      go (inr h) = h
-      go (inl h) = no (p .byPlace) (mode-at ps k (p .param) (p .there))
-          (reaching.st ps c counted .back k h (within fs k (p .param) (p .there)))
-
   placed-fills : (k : ℕ) (r : Node) → Placed fs k → reaches d fs k (positional r) ≡ Fills k
-  unfolding reaches countedOf
-  placed-fills k r p = rw (lt-ltb k (c .«num_positional» .0) (below k p)) refl
+  placed-fills = reaching.placed-fills ps c counted
 
-  -- the parameter of a name is found
   named-fills : (k : ℕ) (r : Node) (x : Name) (i : ℕ) → Named fs x i → reaches d fs k (named r x) ≡ Fills i
-  unfolding reaches
-  named-fills k r x i n = go (namedFrom 0 x fs) refl
-    where
-      go : (q : Place) → namedFrom 0 x fs ≡ q → byName q (d .kwargs) ≡ Fills i
-      go (At j) e =
-          let f = reaching.named-sits ps c counted x j e in
-          ap Fills (one-name ps c counted j i (f .param) (n .param) (f .there) (n .there) (f .name ∙ sym (n .name)))
-      go Nothing e = absurd (name-missed fs x 0 e i (n .param) (n .there) (n .canBe) (n .name))
+  named-fills = reaching.named-fills ps c counted
 
   -- no argument reaches nothing
   star-some : (k : ℕ) → Star fs modeArgs → byPlace d k ≡ Nowhere → ⊥
@@ -162,19 +139,12 @@ module _ (t ns : List ℕ) (call def : ℕ) (list : List ℕ) (rules : Rules t n
   somewhere k (args r) at e = m .noArgs k r at
   somewhere k (kwargs r) at e = m .noKwargs k r at
 
-  -- what fills, and that no two fill the same
-  by-place : (k i : ℕ) (r : Node) → reaches d fs k (positional r) ≡ Fills i → (i ≡ k) × Placed fs k
-  unfolding reaches
-  by-place k i r e =
-      let h = reaching.place-filled ps c counted k i e in
-      let s = reaching.front-sits ps c counted k (h .1) in
-      (h .0, record { param = s .param; there = s .there; byPlace = s .kind })
-
+  -- no two fill the same
   by-name : (k i : ℕ) (r : Node) (x : Name) → reaches d fs k (named r x) ≡ Fills i → Named fs x i
-  unfolding reaches
-  by-name k i r x e =
-      let f = reaching.named-sits ps c counted x i (reaching.name-filled ps c counted (namedFrom 0 x fs) i e) in
-      record { param = f .param; there = f .there; canBe = f .canBe; name = f .name }
+  by-name = reaching.named-by ps c counted
+
+  by-place : (k i : ℕ) (r : Node) → reaches d fs k (positional r) ≡ Fills i → (i ≡ k) × Placed fs k
+  by-place = reaching.placed-by ps c counted
 
   not-both : (k l i : ℕ) (r s : Node) (x : Name) → IsAt qs k (positional r) → IsAt qs l (named s x)
       → reaches d fs k (positional r) ≡ Fills i → reaches d fs l (named s x) ≡ Fills i → ⊥

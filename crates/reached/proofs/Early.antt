@@ -1,5 +1,9 @@
--- The checks before the binding give no number of 80 or more. Assumes nothing.
+-- The checks before the binding give no number of 80 or more: the entry at most 7 (`early-entry`), a list of parameters
+-- less than 20 (`early-list`), a list of arguments 20 to 24 or the 0 of an internal error (`call-numbers`). Each is
+-- shown rule by rule, then along the list. Assumes nothing.
+use mathlib.Core.Path.{_≡_, refl}
 use mathlib.Core.Bool.{Bool, true, false}
+use mathlib.Core.Logic.{_⊎_, inl, inr}
 use mathlib.Core.List.{List, [], _∷_, _++_}
 use Prim.Native.Nat.{ℕ, _+_, _<_}
 use native.Mathlib.Omega.{arith}
@@ -84,12 +88,12 @@ early-entry t ns call def n =
 -- 10 to 18
 abbrev EarlyCheck : checks.Check → Type 0
 EarlyCheck Fine = Unit {0}
-EarlyCheck (Broken n) = n < 80
+EarlyCheck (Broken n) = n < 20
 EarlyCheck (Twice i) = Unit {0}
 
 abbrev pub EarlyOutcome : list.Outcome → Type 0
 EarlyOutcome (list.accepted c) = Unit {0}
-EarlyOutcome (list.refused n r) = n < 80
+EarlyOutcome (list.refused n r) = n < 20
 EarlyOutcome (list.repeated i r) = Unit {0}
 EarlyOutcome (list.internal e r) = Unit {0}
 
@@ -126,7 +130,7 @@ early-first Nothing x e = e
 
 abbrev EarlyStep : list.Step → Type 0
 EarlyStep (list.on u) = Unit {0}
-EarlyStep (list.stop n) = n < 80
+EarlyStep (list.stop n) = n < 20
 EarlyStep (list.again i) = Unit {0}
 EarlyStep (list.broken e) = Unit {0}
 
@@ -200,52 +204,68 @@ early-list (p ∷ ps) = go (list.isSlash (kindIn p))
     go false e = e
 
 -- 20 to 24
+abbrev InCall : ℕ → Type 0
+InCall n = (n ≡ 0) ⊎ ((19 < n) × (n < 25))
+
+abbrev pub CallNumber : Answer → Type 0
+CallNumber (accepted vs) = Unit {0}
+CallNumber (refused n vs) = InCall n
+
 abbrev EarlyKept : callChecks.Check → Type 0
 EarlyKept Kept = Unit {0}
-EarlyKept (Stopped n) = n < 80
+EarlyKept (Stopped n) = (19 < n) × (n < 25)
 EarlyKept (Repeated i) = Unit {0}
 
 early-form : (s : ArgsStage) (f : Found) (k : forms.Kind) → EarlyKept (call.rule s f k)
 early-form AtPositional f Positional = tt
-early-form AtNamed f Positional = omega arith
-early-form AtArgs f Positional = omega arith
-early-form AtKwargs f Positional = omega arith
+early-form AtNamed f Positional = (omega arith, omega arith)
+early-form AtArgs f Positional = (omega arith, omega arith)
+early-form AtKwargs f Positional = (omega arith, omega arith)
 early-form AtPositional (At i) Named = tt
 early-form AtPositional Nothing Named = tt
 early-form AtNamed (At i) Named = tt
 early-form AtNamed Nothing Named = tt
-early-form AtArgs f Named = omega arith
-early-form AtKwargs f Named = omega arith
+early-form AtArgs f Named = (omega arith, omega arith)
+early-form AtKwargs f Named = (omega arith, omega arith)
 early-form AtPositional f Star = tt
 early-form AtNamed f Star = tt
-early-form AtArgs f Star = omega arith
-early-form AtKwargs f Star = omega arith
+early-form AtArgs f Star = (omega arith, omega arith)
+early-form AtKwargs f Star = (omega arith, omega arith)
 early-form AtPositional f StarStar = tt
 early-form AtNamed f StarStar = tt
 early-form AtArgs f StarStar = tt
-early-form AtKwargs f StarStar = omega arith
+early-form AtKwargs f StarStar = (omega arith, omega arith)
 
-early-walk : (before : List written.Argument) (w : Walk) (l : List written.Argument)
-    → Early (outcomeAnswer (call.run before w l))
+number-walk : (before : List written.Argument) (w : Walk) (l : List written.Argument)
+    → CallNumber (outcomeAnswer (call.run before w l))
 unfolding callRun callCheck
-early-walk before w [] = go (eqb (call.total (w .counts)) (length before))
+number-walk before w [] = go (eqb (call.total (w .counts)) (length before))
   where
-    go : (b : Bool) → Early (outcomeAnswer (if' b (λ _. call.unpacked (w .counts)) (λ _. call.internalError)))
+    go : (b : Bool) → CallNumber (outcomeAnswer (if' b (λ _. call.unpacked (w .counts)) (λ _. call.internalError)))
     go true = tt
-    go false = omega arith
-early-walk before w (p ∷ ps) = go (call.check before (w .stage) p) (call.taken (w .counts) (written.kindIn p))
+    go false = inl refl
+number-walk before w (p ∷ ps) = go (call.check before (w .stage) p) (call.taken (w .counts) (written.kindIn p))
     (early-form (w .stage) (call.repeats before p) (written.kindIn p))
-    (early-walk (before ++ p ∷ []) (call.advance w (length before) (written.kindIn p)) ps)
+    (number-walk (before ++ p ∷ []) (call.advance w (length before) (written.kindIn p)) ps)
   where
     go : (x : callChecks.Check) (b : Bool) → EarlyKept x
-        → Early (outcomeAnswer (call.run (before ++ p ∷ []) (call.advance w (length before) (written.kindIn p)) ps))
-        → Early (outcomeAnswer (call.unlessBroken x (written.nodeIn p) (λ _. if' b (λ _. call.internalError) (λ _.
+        → CallNumber (outcomeAnswer
+        (call.run (before ++ p ∷ []) (call.advance w (length before) (written.kindIn p)) ps))
+        → CallNumber (outcomeAnswer (call.unlessBroken x (written.nodeIn p) (λ _. if' b (λ _. call.internalError) (λ _.
         call.run (before ++ p ∷ []) (call.advance w (length before) (written.kindIn p)) ps))))
-    go Kept true e rest = omega arith
+    go Kept true e rest = inl refl
     go Kept false e rest = rest
-    go (Stopped n) b e rest = e
-    go (Repeated i) b e rest = omega arith
+    go (Stopped n) b e rest = inr e
+    go (Repeated i) b e rest = inr (omega arith, omega arith)
+
+pub call-numbers : (l : List written.Argument) → CallNumber (outcomeAnswer (call.unpack l))
+unfolding callUnpack
+call-numbers l = number-walk [] call.start l
 
 pub early-call : (l : List written.Argument) → Early (outcomeAnswer (call.unpack l))
-unfolding callUnpack
-early-call l = early-walk [] call.start l
+early-call l = go (outcomeAnswer (call.unpack l)) (call-numbers l)
+  where
+    go : (a : Answer) → CallNumber a → Early a
+    go (accepted vs) c = tt
+    go (refused n vs) (inl e) = omega arith
+    go (refused n vs) (inr h) = omega arith

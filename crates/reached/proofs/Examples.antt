@@ -1,6 +1,7 @@
 -- The corner cases of W-204, all rows in one statement. Assumes nothing.
 use mathlib.Core.Path.{_≡_, refl}
 use mathlib.Core.List.{map}
+use lib.ListN.{length}
 use Rattle.forest.specs.Names.{same}
 use Rattle.deflist.specs.Unpack.{hasName, firstSame, repeats, advance, step, finish, run, slashFrom, start, unpack}
 use Rattle.parameters.specs.Indices.{countedOf}
@@ -17,3 +18,7 @@ unfolding same hasName firstSame repeats advance step finish run slashFrom start
     callRepeats check callAdvance callRun callUnpack flatsFrom flats namedFrom reaches unreached turn along starCheck
     emptyCheck binding listsBound
 corner-cases = refl
+
+-- THEOREM: and so many rows there are
+pub how-many : length rows ≡ 18
+how-many = refl

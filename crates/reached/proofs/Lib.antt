@@ -9,4 +9,8 @@ pub mod Early
 pub mod Refusals
 pub mod Stops
 pub mod Reached
+pub mod Ruled
+pub mod Reported
+pub mod Kept
 pub mod Examples
+pub mod Example

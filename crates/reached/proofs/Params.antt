@@ -41,6 +41,9 @@ pub within : {A : Type 0} (l : List A) (i : ℕ) (x : A) → IsAt l i x → i < 
 within (y ∷ l) zero x e = omega arith
 within (y ∷ l) (suc i) x e = omega (arith, within l i x e)
 
+pub moved : {A : Type 0} (l : List A) (i j : ℕ) (x : A) → i ≡ j → IsAt l i x → IsAt l j x
+moved l i j x e at = rw e at at
+
 pub same-at : {A : Type 0} (l : List A) (i : ℕ) (x y : A) → IsAt l i x → IsAt l i y → x ≡ y
 same-at (z ∷ l) zero x y e f = sym e ∙ f
 same-at (z ∷ l) (suc i) x y e f = same-at l i x y e f

@@ -8,9 +8,10 @@ use Prim.Native.Nat.{ℕ, _<_, _≤_}
 use native.Mathlib.Omega.{arith}
 use lib.ListN.{length, getD}
 use lib.Dec.{ltb}
-use borrow.Author.Tests.{ltb-true, ltb-false}
-use Rattle.fields.proofs.Basics.{never}
+use borrow.Author.Tests.{lt-ltb, ltb-true, ltb-false}
+use Rattle.fields.proofs.Basics.{never, le-or-lt}
 use Rattle.fields.specs.Choice.{if'}
+use Rattle.forest.specs.Forest.{Node}
 use Rattle.table.specs.declared.Place.{Place}
 use Rattle.table.specs.declared.Place.the-variants.{At, Nothing}
 use Rattle.deflist.specs.Written.{Name, Param}
@@ -24,7 +25,9 @@ use Rattle.bind.specs.Binding.{namedFrom, collected, byPlace, byName, reaches}
 use Rattle.bind.specs.declared.Reach.the-variants.{Fills, Joins}
 use Rattle.bind.proofs.Entry.{flats-long}
 use Rattle.reached.specs.Said.{IsAt, Ordinary, ByPlace, Starred}
-use Rattle.reached.proofs.Params.{there, within, mode-at, Stands, stands, Found, name-found}
+use Rattle.reached.specs.Rules.{Named, Placed}
+use Rattle.reached.proofs.Params.{there, within, mode-at, Stands, stands, Found, name-found, name-missed}
+use Rattle.reached.proofs.Params.{one-name}
 
 module _ (ps : List Param) (c : Counts) (outcome : unpack ps ≡ accepted c) where
   abbrev pub d : DefParamIndices
@@ -148,3 +151,48 @@ module _ (ps : List Param) (c : Counts) (outcome : unpack ps ≡ accepted c) whe
 
   pub small : (k : ℕ) (a : Argument) (i : ℕ) → reaches d (flats ps) k a ≡ Fills i → i < countedOf c .flat
   small k a i e = let s = fills-ordinary k a i e in omega (arith, flat-is, within (flats ps) i (s .param) (s .there))
+
+  -- LAWS: what is filled by its place, and by its name, in the words of the rules; and that it is reached so
+  pub placed-by : (k i : ℕ) (r : Node) → reaches d (flats ps) k (positional r) ≡ Fills i
+      → (i ≡ k) × Placed (flats ps) k
+  unfolding reaches
+  placed-by k i r e =
+      let h = place-filled k i e in
+      let s = front-sits k (h .1) in
+      (h .0, record { param = s .param; there = s .there; byPlace = s .kind })
+
+  pub named-by : (k i : ℕ) (r : Node) (x : Name) → reaches d (flats ps) k (named r x) ≡ Fills i
+      → Named (flats ps) x i
+  unfolding reaches
+  named-by k i r x e =
+      let f = named-sits x i (name-filled (namedFrom 0 x (flats ps)) i e) in
+      record { param = f .param; there = f .there; canBe = f .canBe; name = f .name }
+
+  -- a place below the positional count
+  below : (k : ℕ) → Placed (flats ps) k → k < c .«num_positional» .0
+  below k p = go (le-or-lt (c .«num_positional» .0) k)
+    where
+      no : ByPlace (p .param) → (p .param .mode ≡ getD (modes ps) k 0) → 2 < getD (modes ps) k 0
+          → k < c .«num_positional» .0
+      no (inl x) e h = absurd (omega arith)
+      no (inr x) e h = absurd (omega arith)
+
+      go : (c .«num_positional» .0 ≤ k) ⊎ (k < c .«num_positional» .0) → k < c .«num_positional» .0
+      go (inr h) = h
+      go (inl h) = no (p .byPlace) (mode-at ps k (p .param) (p .there))
+          (st .back k h (within (flats ps) k (p .param) (p .there)))
+
+  pub placed-fills : (k : ℕ) (r : Node) → Placed (flats ps) k → reaches d (flats ps) k (positional r) ≡ Fills k
+  unfolding reaches countedOf
+  placed-fills k r p = rw (lt-ltb k (c .«num_positional» .0) (below k p)) refl
+
+  pub named-fills : (k : ℕ) (r : Node) (x : Name) (i : ℕ) → Named (flats ps) x i
+      → reaches d (flats ps) k (named r x) ≡ Fills i
+  unfolding reaches
+  named-fills k r x i n = go (namedFrom 0 x (flats ps)) refl
+    where
+      go : (q : Place) → namedFrom 0 x (flats ps) ≡ q → byName q (d .kwargs) ≡ Fills i
+      go (At j) e =
+          let f = named-sits x j e in
+          ap Fills (one-name ps c outcome j i (f .param) (n .param) (f .there) (n .there) (f .name ∙ sym (n .name)))
+      go Nothing e = absurd (name-missed (flats ps) x 0 e i (n .param) (n .there) (n .canBe) (n .name))

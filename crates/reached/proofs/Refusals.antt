@@ -1,4 +1,6 @@
--- What 82 and 83 say. Assumes nothing.
+-- A refusal of 80 or more is of the binding itself (`late`), and there of one of its three steps (`steps`): the search
+-- for a star, which gives 80, the walk along the arguments, or the search for an empty parameter, which gives 84. So 81
+-- to 83 are the walk's (`walking`). Assumes nothing.
 use mathlib.Core.Path.{_≡_, refl, _∙_}
 use mathlib.Core.Bool.{Bool, true, false, not, _&&_}
 use mathlib.Core.Logic.{_⊎_, inl, inr}
@@ -42,7 +44,7 @@ with-refused (accepted us) next e = inr (us, (refl, e))
 with-refused (refused m us) next e = inl e
 
 -- 80 and 84 are other numbers
-star-number : (l : List Argument) (n : ℕ) {vs : List ℕ} → starCheck l ≡ refused n vs → n ≡ 80
+pub star-number : (l : List Argument) (n : ℕ) {vs : List ℕ} → starCheck l ≡ refused n vs → n ≡ 80
 unfolding starCheck
 star-number [] n e = never (cc)
 star-number (positional r ∷ l) n e = star-number l n e
@@ -50,7 +52,7 @@ star-number (named r x ∷ l) n e = star-number l n e
 star-number (args r ∷ l) n e = cc
 star-number (kwargs r ∷ l) n e = cc
 
-empty-number : (k : ℕ) (fs : List FlatParam) (us : List ℕ) (n : ℕ) {vs : List ℕ} → emptyCheck k fs us ≡ refused n vs
+pub empty-number : (k : ℕ) (fs : List FlatParam) (us : List ℕ) (n : ℕ) {vs : List ℕ} → emptyCheck k fs us ≡ refused n vs
     → n ≡ 84
 unfolding emptyCheck
 empty-number k [] us n e = never (cc)
@@ -61,6 +63,15 @@ empty-number k (p ∷ fs) us n {vs} e = go (not (p .default) && eqb (getD us k 0
         → (emptyCheck (k + 1) fs us ≡ refused n vs → n ≡ 84) → n ≡ 84
     go true e rest = cc
     go false e rest = rest e
+
+-- the lists keep their own rules, and the binding refuses
+pub record Late (t ns : List ℕ) (call def : ℕ) (n : ℕ) (vs : List ℕ) : Type 0 where
+  pub counts : Counts
+  pub outcome : unpack (listOf t ns def) ≡ outcome.accepted counts
+  pub callValues : List ℕ
+  pub inOrder : outcomeAnswer (calling.unpack (argumentsAt t ns call)) ≡ accepted callValues
+  pub refuses : binding (countedOf counts) (flatsAt t ns def)
+      (noWords (countedOf counts) (argumentsAt t ns call)) (argumentsAt t ns call) ≡ refused n vs
 
 -- a refusal 81 to 83 is the walk's
 pub record Walking (t ns : List ℕ) (call def : ℕ) (n : ℕ) (vs : List ℕ) : Type 0 where
@@ -75,67 +86,89 @@ module _ (t ns : List ℕ) (call def : ℕ) where
   abbrev qs : List Argument
   qs = argumentsAt t ns call
 
-  abbrev fold : Counts → Answer
-  fold c = along (countedOf c .flat) (countedOf c .indices) (flatsAt t ns def) 0 (noWords (countedOf c) qs) qs
-
-  pub walking : (room n : ℕ) {vs : List ℕ} → bindOf t ns call def room ≡ refused n vs → 80 < n
-      → n < 84 → Walking t ns call def n vs
-  unfolding bindOf wordsOf listsBound binding
-  walking room n {vs} e low high = by-words (wordsOf t ns call def room) refl e
+  pub late : (room n : ℕ) {vs : List ℕ} → bindOf t ns call def room ≡ refused n vs → 80 ≤ n → Late t ns call def n vs
+  unfolding bindOf wordsOf listsBound
+  late room n {vs} e low = by-words (wordsOf t ns call def room) refl e
     where
-      by-walk : (c : Counts) → unpack (listOf t ns def) ≡ outcome.accepted c → {cs : List ℕ}
-          → outcomeAnswer (calling.unpack qs) ≡ accepted cs
-          → binding (countedOf c) (flatsAt t ns def) (noWords (countedOf c) qs) qs ≡ refused n vs
-          → Walking t ns call def n vs
-      by-walk c u {cs} o b = first (either (starCheck qs) _ b)
-        where
-          third : (us : List ℕ) → andThen (emptyCheck 0 (flatsAt t ns def) us) (λ _. accepted us) ≡ refused n vs
-              → Walking t ns call def n vs
-          third us x = go (either (emptyCheck 0 (flatsAt t ns def) us) _ x)
-            where
-              go : (emptyCheck 0 (flatsAt t ns def) us ≡ refused n vs)
-                  ⊎ ((ws : List ℕ) × ((emptyCheck 0 (flatsAt t ns def) us ≡ accepted ws)
-                  × (accepted us ≡ refused n vs)))
-                  → Walking t ns call def n vs
-              go (inl y) = absurd (omega (arith, empty-number 0 (flatsAt t ns def) us n y))
-              go (inr y) = let z : accepted us ≡ refused n vs = y .1 .1 in never (cc)
-
-          second : (fold c ≡ refused n vs) ⊎ ((us : List ℕ) × ((fold c ≡ accepted us)
-              × (andThen (emptyCheck 0 (flatsAt t ns def) us) (λ _. accepted us) ≡ refused n vs)))
-              → Walking t ns call def n vs
-          second (inl y) = record { counts = c; outcome = u; callValues = cs; inOrder = o; stops = y }
-          second (inr y) = third (y .0) (y .1 .1)
-
-          first : (starCheck qs ≡ refused n vs) ⊎ ((us : List ℕ) × ((starCheck qs ≡ accepted us)
-              × (andWith (fold c) (λ us. andThen (emptyCheck 0 (flatsAt t ns def) us) (λ _. accepted us))
-              ≡ refused n vs)))
-              → Walking t ns call def n vs
-          first (inl y) = absurd (omega (arith, star-number qs n y))
-          first (inr y) = second (with-refused (fold c) _ (y .1 .1))
-
       by-counts : (o : outcome.Outcome) → unpack (listOf t ns def) ≡ o → EarlyOutcome o
           → counting o (λ c. andThen (outcomeAnswer (calling.unpack qs)) (λ _.
-          binding c (flatsAt t ns def) (noWords c qs) qs)) ≡ refused n vs → Walking t ns call def n vs
+          binding c (flatsAt t ns def) (noWords c qs) qs)) ≡ refused n vs → Late t ns call def n vs
       by-counts (outcome.accepted c) u early b = go (either (outcomeAnswer (calling.unpack qs)) _ b)
         where
           go : (outcomeAnswer (calling.unpack qs) ≡ refused n vs)
               ⊎ ((us : List ℕ) × ((outcomeAnswer (calling.unpack qs) ≡ accepted us)
               × (binding (countedOf c) (flatsAt t ns def) (noWords (countedOf c) qs) qs ≡ refused n vs)))
-              → Walking t ns call def n vs
-          go (inl y) = absurd (not-early (outcomeAnswer (calling.unpack qs)) n (early-call qs) y (omega arith))
-          go (inr y) = by-walk c u (y .1 .0) (y .1 .1)
+              → Late t ns call def n vs
+          go (inl y) = absurd (not-early (outcomeAnswer (calling.unpack qs)) n (early-call qs) y low)
+          go (inr y) =
+              record { counts = c; outcome = u; callValues = y .0; inOrder = y .1 .0; refuses = y .1 .1 }
       by-counts (outcome.refused m r) u early b = let same : m ≡ n = cc in absurd (omega arith)
       by-counts (outcome.repeated i r) u early b = let same : n ≡ 11 = cc in absurd (omega arith)
       by-counts (outcome.internal x r) u early b = let same : n ≡ 0 = cc in absurd (omega arith)
 
       by-words : (a : Answer) → wordsOf t ns call def room ≡ a → answeredAt a t ns call def ≡ refused n vs
-          → Walking t ns call def n vs
+          → Late t ns call def n vs
       by-words (accepted ws) w e = never (cc)
       by-words (refused m us) w e = go (either (entryOf t ns call def room) _ (w ∙ e))
         where
           go : (entryOf t ns call def room ≡ refused n vs)
               ⊎ ((us : List ℕ) × ((entryOf t ns call def room ≡ accepted us)
-              × (listsBound (listOf t ns def) qs ≡ refused n vs))) → Walking t ns call def n vs
+              × (listsBound (listOf t ns def) qs ≡ refused n vs))) → Late t ns call def n vs
           go (inl y) = absurd
-              (not-early (entryOf t ns call def room) n (early-entry t ns call def room) y (omega arith))
+              (not-early (entryOf t ns call def room) n (early-entry t ns call def room) y low)
           go (inr y) = by-counts (unpack (listOf t ns def)) refl (early-list (listOf t ns def)) (y .1 .1)
+
+  abbrev fold : Counts → Answer
+  fold c = along (countedOf c .flat) (countedOf c .indices) (flatsAt t ns def) 0 (noWords (countedOf c) qs) qs
+
+  -- the step that refuses: those before it accept
+  abbrev pub Steps : Counts → ℕ → List ℕ → Type 0
+  Steps c n vs = (starCheck qs ≡ refused n vs)
+      ⊎ ((us : List ℕ) × ((starCheck qs ≡ accepted us)
+      × ((fold c ≡ refused n vs)
+      ⊎ ((ws : List ℕ) × ((fold c ≡ accepted ws) × (emptyCheck 0 (flatsAt t ns def) ws ≡ refused n vs))))))
+
+  pub steps : (c : Counts) (n : ℕ) {vs : List ℕ}
+      → binding (countedOf c) (flatsAt t ns def) (noWords (countedOf c) qs) qs ≡ refused n vs → Steps c n vs
+  unfolding binding
+  steps c n {vs} b = first (either (starCheck qs) _ b)
+    where
+      third : (us : List ℕ) → andThen (emptyCheck 0 (flatsAt t ns def) us) (λ _. accepted us) ≡ refused n vs
+          → emptyCheck 0 (flatsAt t ns def) us ≡ refused n vs
+      third us x = go (either (emptyCheck 0 (flatsAt t ns def) us) _ x)
+        where
+          go : (emptyCheck 0 (flatsAt t ns def) us ≡ refused n vs)
+              ⊎ ((ws : List ℕ) × ((emptyCheck 0 (flatsAt t ns def) us ≡ accepted ws)
+              × (accepted us ≡ refused n vs)))
+              → emptyCheck 0 (flatsAt t ns def) us ≡ refused n vs
+          go (inl y) = y
+          go (inr y) = let z : accepted us ≡ refused n vs = y .1 .1 in never (cc)
+
+      second : (us : List ℕ) → starCheck qs ≡ accepted us
+          → (fold c ≡ refused n vs) ⊎ ((ws : List ℕ) × ((fold c ≡ accepted ws)
+          × (andThen (emptyCheck 0 (flatsAt t ns def) ws) (λ _. accepted ws) ≡ refused n vs)))
+          → Steps c n vs
+      second us s (inl y) = inr (us, (s, inl y))
+      second us s (inr y) = inr (us, (s, inr (y .0, (y .1 .0, third (y .0) (y .1 .1)))))
+
+      first : (starCheck qs ≡ refused n vs) ⊎ ((us : List ℕ) × ((starCheck qs ≡ accepted us)
+          × (andWith (fold c) (λ us. andThen (emptyCheck 0 (flatsAt t ns def) us) (λ _. accepted us))
+          ≡ refused n vs)))
+          → Steps c n vs
+      first (inl y) = inl y
+      first (inr y) = second (y .0) (y .1 .0) (with-refused (fold c) _ (y .1 .1))
+
+  pub walking : (room n : ℕ) {vs : List ℕ} → bindOf t ns call def room ≡ refused n vs → 80 < n
+      → n < 84 → Walking t ns call def n vs
+  walking room n {vs} e low high = let l = late room n e (omega arith) in go l (steps (l .counts) n (l .refuses))
+    where
+      go : (l : Late t ns call def n vs) → Steps (l .counts) n vs → Walking t ns call def n vs
+      go l (inl y) = absurd (omega (arith, star-number qs n y))
+      go l (inr (us, (s, inl y))) = record {
+        counts = l .counts;
+        outcome = l .outcome;
+        callValues = l .callValues;
+        inOrder = l .inOrder;
+        stops = y;
+      }
+      go l (inr (us, (s, inr y))) = absurd (omega (arith, empty-number 0 (flatsAt t ns def) (y .0) n (y .1 .1)))

@@ -36,24 +36,21 @@ use Rattle.bind.specs.Job.{argumentsAt, bindOf, noWords}
 use Rattle.bind.specs.declared.Reach.{Reach}
 use Rattle.bind.specs.declared.Reach.the-variants.{Fills, Joins, Nowhere}
 use Rattle.reached.specs.Said.{IsAt, flatsAt, Against}
+use Rattle.reached.specs.Refused.{spanned}
 use Rattle.reached.proofs.Walk.{took, took-other}
 use Rattle.reached.proofs.Params.{within, same-at, mode-at, Found}
 use Rattle.reached.proofs.Reaching as reaching
 use Rattle.reached.proofs.Complete.{two-names-in, zeros}
 use Rattle.reached.proofs.Refusals.{Walking, walking}
 
--- what a refusal carries
-abbrev spanned : Node → List ℕ
-spanned r = r .at ∷ r .begin ∷ r .stop ∷ []
-
 module _ (flat : ℕ) (d : DefParamIndices) (fs : List FlatParam)
     (small : (k : ℕ) (a : Argument) (i : ℕ) → reaches d fs k a ≡ Fills i → i < flat) where
   -- a parameter was filled before: at first, or by an earlier argument
-  abbrev Before : ℕ → List ℕ → List Argument → ℕ → ℕ → Type 0
+  abbrev pub Before : ℕ → List ℕ → List Argument → ℕ → ℕ → Type 0
   Before k ws qs j i = (0 < getD ws i 0)
       ⊎ ((l : ℕ) × ((b : Argument) × ((l < j) × (IsAt qs l b × (reaches d fs (k + l) b ≡ Fills i)))))
 
-  abbrev Why : ℕ → List ℕ → List Argument → ℕ → Argument → ℕ → Type 0
+  abbrev pub Why : ℕ → List ℕ → List Argument → ℕ → Argument → ℕ → Type 0
   Why k ws qs j a n = ((reaches d fs (k + j) a ≡ Nowhere) × (n ≡ unreached (kindIn a)))
       ⊎ ((i : ℕ) × ((reaches d fs (k + j) a ≡ Fills i) × ((n ≡ alreadyFilled) × Before k ws qs j i)))
 
@@ -64,6 +61,7 @@ module _ (flat : ℕ) (d : DefParamIndices) (fs : List FlatParam)
     pub there : IsAt qs number argument
     pub why : Why k ws qs number argument n
     pub carries : vs ≡ spanned (nodeIn argument)
+    pub before : (j : ℕ) (b : Argument) → j < number → IsAt qs j b → reaches d fs (k + j) b ≡ Nowhere → ⊥
 
   turn-stops : (place : ℕ) (r : Reach) (a : Argument) (ws : List ℕ) {n : ℕ} {vs : List ℕ}
       → turn place r (kindIn a) (nodeIn a) ws ≡ refused n vs
@@ -140,13 +138,29 @@ module _ (flat : ℕ) (d : DefParamIndices) (fs : List FlatParam)
             ),
           )
 
+      -- those before it reach something
+      passed : (us : List ℕ) → turn (flat + k) (reaches d fs k a) (kindIn a) (nodeIn a) ws ≡ accepted us → (m : ℕ)
+          → ((j : ℕ) (b : Argument) → j < m → IsAt qs j b → reaches d fs (k + 1 + j) b ≡ Nowhere → ⊥) → (j : ℕ)
+          (b : Argument) → j < suc m → IsAt (a ∷ qs) j b → reaches d fs (k + j) b ≡ Nowhere → ⊥
+      passed us t m rest zero b h at x =
+          let mine : reaches d fs k a ≡ Nowhere = rw (here, at) x in
+          rw mine at (took (flat + k) (reaches d fs k a) a ws us t)
+      passed us t m rest (suc j) b h at x = rest j b (omega arith) at (rw (next j) x)
+
       go : (y : Answer) → turn (flat + k) (reaches d fs k a) (kindIn a) (nodeIn a) ws ≡ y
           → andWith y (λ us. along flat d fs (k + 1) us qs) ≡ refused n vs
           → ((us : List ℕ) → along flat d fs (k + 1) us qs ≡ refused n vs → Stopped (k + 1) us qs n vs)
           → Stopped k ws (a ∷ qs) n vs
       go (refused m us) t e rest =
           let s = turn-stops (flat + k) (reaches d fs k a) a ws (t ∙ e) in
-          record { number = 0; argument = a; there = refl; why = first (s .0); carries = s .1 }
+          record {
+            number = 0;
+            argument = a;
+            there = refl;
+            why = first (s .0);
+            carries = s .1;
+            before = λ j b h at x. absurd (omega arith);
+          }
       go (accepted us) t e rest =
           let s = rest us e in
           record {
@@ -155,7 +169,18 @@ module _ (flat : ℕ) (d : DefParamIndices) (fs : List FlatParam)
             there = s .there;
             why = later us t (s .number) (s .argument) (s .why);
             carries = s .carries;
+            before = passed us t (s .number) (s .before);
           }
+
+-- a star fills nothing
+pub stars : (d : DefParamIndices) (fs : List FlatParam) (k i : ℕ) (r : Node) → reaches d fs k (args r) ≡ Fills i → ⊥
+unfolding reaches
+stars d fs k i r e = never (cc)
+
+pub star-stars : (d : DefParamIndices) (fs : List FlatParam) (k i : ℕ) (r : Node) → reaches d fs k (kwargs r) ≡ Fills i
+    → ⊥
+unfolding reaches
+star-stars d fs k i r e = never (cc)
 
 -- in an accepted call no named argument stands before a positional one
 abbrev NoPositional : List Kind → Type 0
@@ -202,7 +227,7 @@ none-behind c = go (c .«num_named»)
     go (suc n) = ((λ e. never (cc)), go n)
 
 -- an accepted call is in order
-call-ordered : (qs : List Argument) {cs : List ℕ} → outcomeAnswer (calling.unpack qs) ≡ accepted cs
+pub call-ordered : (qs : List Argument) {cs : List ℕ} → outcomeAnswer (calling.unpack qs) ≡ accepted cs
     → (c : CallArgs) × Ordered qs c
 call-ordered qs {cs} e = go (calling.unpack qs) refl e
   where
@@ -236,10 +261,10 @@ module _ (t ns : List ℕ) (call def room : ℕ) where
     abbrev none-yet : List ℕ
     none-yet = noWords (countedOf (w .counts)) qs
 
-    small : (k : ℕ) (a : Argument) (i : ℕ) → reaches d fs k a ≡ Fills i → i < flat
+    pub small : (k : ℕ) (a : Argument) (i : ℕ) → reaches d fs k a ≡ Fills i → i < flat
     small = reaching.small ps (w .counts) (w .outcome)
 
-    stop : Stopped flat d fs small 0 none-yet qs n vs
+    pub stop : Stopped flat d fs small 0 none-yet qs n vs
     stop = stop-at flat d fs small 0 none-yet qs n vs (w .stops)
 
     -- a named argument that reaches nothing: there is no `**kwargs`
@@ -261,7 +286,7 @@ module _ (t ns : List ℕ) (call def room : ℕ) where
     order : (c : CallArgs) × Ordered qs c
     order = call-ordered qs (w .inOrder)
 
-    in-turn : (j l : ℕ) (r s : Node) (x : Name) → IsAt qs j (positional r) → IsAt qs l (named s x) → j < l
+    pub in-turn : (j l : ℕ) (r s : Node) (x : Name) → IsAt qs j (positional r) → IsAt qs l (named s x) → j < l
     in-turn j l r s x at bt =
         let c = order .0 in
         let rest : List Kind = replicate (c .«num_named») Named
@@ -279,22 +304,14 @@ module _ (t ns : List ℕ) (call def room : ℕ) where
     by-name k i r x e = reaching.named-sits ps (w .counts) (w .outcome) x i
         (reaching.name-filled ps (w .counts) (w .outcome) (namedFrom 0 x fs) i e)
 
-    stars : (k i : ℕ) (r : Node) → reaches d fs k (args r) ≡ Fills i → ⊥
-    unfolding reaches
-    stars k i r e = never (cc)
-
-    star-stars : (k i : ℕ) (r : Node) → reaches d fs k (kwargs r) ≡ Fills i → ⊥
-    unfolding reaches
-    star-stars k i r e = never (cc)
-
     against : (k l i : ℕ) (a b : Argument) → IsAt qs k a → IsAt qs l b → l < k → reaches d fs k a ≡ Fills i
         → reaches d fs l b ≡ Fills i → vs ≡ spanned (nodeIn a) → Against fs qs vs
-    against k l i (args r) b at bt h e f v = absurd (stars k i r e)
-    against k l i (kwargs r) b at bt h e f v = absurd (star-stars k i r e)
-    against k l i (positional r) (args s) at bt h e f v = absurd (stars l i s f)
-    against k l i (positional r) (kwargs s) at bt h e f v = absurd (star-stars l i s f)
-    against k l i (named r x) (args s) at bt h e f v = absurd (stars l i s f)
-    against k l i (named r x) (kwargs s) at bt h e f v = absurd (star-stars l i s f)
+    against k l i (args r) b at bt h e f v = absurd (stars d fs k i r e)
+    against k l i (kwargs r) b at bt h e f v = absurd (star-stars d fs k i r e)
+    against k l i (positional r) (args s) at bt h e f v = absurd (stars d fs l i s f)
+    against k l i (positional r) (kwargs s) at bt h e f v = absurd (star-stars d fs l i s f)
+    against k l i (named r x) (args s) at bt h e f v = absurd (stars d fs l i s f)
+    against k l i (named r x) (kwargs s) at bt h e f v = absurd (star-stars d fs l i s f)
     against k l i (positional r) (positional s) at bt h e f v = absurd
         (omega (arith, by-place k i r e, by-place l i s f))
     against k l i (positional r) (named s x) at bt h e f v = absurd (omega (arith, in-turn k l r s x at bt))

@@ -1,3 +1,5 @@
 pub mod Said
 pub mod Cases
 pub mod Rules
+pub mod Refused
+pub mod Example

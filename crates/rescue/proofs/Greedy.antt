@@ -1,221 +1,222 @@
--- Where a cut passes, so does each shorter one that is a row of whole children: fewer children are sound where more
--- are. Assumes nothing.
+-- Which cuts pass. A child is `keepable` by itself, in the context of its table: a statement whose nodes are sound and
+-- not too deep. The cut to k children passes exactly where the root's fields are sound and each of its first k children
+-- is keepable (`cut-accepted`, `cut-keepable`): the check of the cut is one of its forest, and that is the root and
+-- these children. Inductions are on the forest. Assumes nothing.
 use mathlib.Core.Path.{_≡_, refl, sym, ap, _∙_}
-use mathlib.Core.Bool.{Bool, true, false}
-use mathlib.Core.Logic.{⊎-elim}
-use mathlib.Core.List.{List}
-use Prim.Native.Nat.{ℕ, zero, suc, _+_, _-_, _*_, _/_, _<_, _≤_}
-use native.Mathlib.Nat.{add-zero}
+use mathlib.Core.Bool.{Bool, true, false, _&&_}
+use mathlib.Core.List.{List, [], append-nil}
+use Prim.Native.Nat.{ℕ, zero, suc, _+_, _*_, _/_, _≤_}
+use native.Mathlib.Nat.{sub-zero}
 use native.Mathlib.Omega.{arith}
-use lib.ListN.{length, take, drop, length-drop}
-use lib.Seq.{length-take-le, take-take, drop-drop}
+use lib.ListN.{length, replicate}
 use lib.Dec.{eqb}
-use borrow.Author.Tests.{eqb-true, eqb-false, le-leb}
-use Rattle.fields.proofs.Basics.{and-left, and-right, and-both, drop-take, le-or-lt}
-use Rattle.forest.specs.Forest.{nodeOf, spanOf, kidsOf, restOf, node, Forest, none, _then_, forest, roots}
-use Rattle.forest.specs.declared.Found.the-variants.{Nothing}
-use Rattle.forest.proofs.Stretch.{forest-tree, forest-induction, length-kids, length-rest}
+use borrow.Author.Tests.{eq-eqb}
+use Rattle.fields.specs.Choice.{if'}
+use Rattle.fields.proofs.Basics.{never, and-left, and-right, and-both}
+use Rattle.forest.specs.Forest.{sizeOf, nodeOf, Tree, node, Forest, none, _then_, forest, firsts, count, roots}
+use Rattle.forest.specs.Names.{same}
+use Rattle.forest.specs.declared.Found.{Found}
+use Rattle.forest.specs.declared.Found.the-variants.{At, Nothing}
 use Rattle.soundness.specs.KindNumbers.{kindStatements}
-use Rattle.soundness.specs.Sound.{Context, contextOf, soundAt, recordSound, firstFalse, firstUnsound}
-use Rattle.soundness.proofs.SoundTables.{allSound, treeSound, Sound, sound-table, sound-first, sound-kids}
-use Rattle.soundness.proofs.SoundTables.{sound-rest, sound-size}
-use Rattle.table.proofs.Checking.{Clean}
+use Rattle.soundness.specs.Kinds.{statement, any, kindOf, kindIn, classOf}
+use Rattle.soundness.specs.Sound.{Context, context, contextOf, fieldsSound, wholeTrees, classes, permitted}
+use Rattle.soundness.specs.Sound.{wanted, permits, kidsSound, soundNode, rootSound, clear}
+use Rattle.soundness.proofs.Search.{clear-is}
+use Rattle.soundness.proofs.SoundTables.{allSound, treeSound, Sound, node-size, sound-table, sound-clean}
+use Rattle.table.specs.Answer.{accepted}
+use Rattle.table.specs.Check.{checkOf}
+use Rattle.table.specs.Depth.{weight, classWeight, orElse, firstDeep, deepIn}
+use Rattle.table.proofs.Checking.{accepted-clean}
 use Rattle.table.proofs.Theorems.{clean-accepted}
-use Rattle.rescue.specs.Cut.{cutTo, cutPasses}
-use Rattle.rescue.specs.Steps.{wholeStatements, Between}
-use Rattle.rescue.proofs.Rows.{joined, forest-joined, sound-longer}
-use Rattle.rescue.proofs.Cuts.{length-cut, kids-cut, cut-clean, root-sound, root-fields, record-other}
-use Rattle.rescue.proofs.Flat.{cut-flat-shorter}
+use Rattle.rescue.specs.Cut.{children, cutTo}
+use Rattle.rescue.specs.Steps.{keepable, leading}
+use Rattle.rescue.proofs.Cuts.{cut-length, cut-short, cut-size, cut-kind, cut-fields, cut-forest}
 
--- a test that holds at each of n numbers fails at none
-all-hold : (p : ℕ → Bool) (n i : ℕ) → ((j : ℕ) → i ≤ j → j < i + n → p j ≡ true) → firstFalse p i n ≡ Nothing
-unfolding firstFalse
-all-hold p zero i holds = refl
-all-hold p (suc n) i holds = rw (holds i (omega arith) (omega arith))
-    (all-hold p n (i + 1) (λ j h k. holds j (omega arith) (omega arith)))
+-- a test of each tree
+unfoldable pub each : (Tree → Bool) → Forest → Bool
+each p none = true
+each p (t then ts) = p t && each p ts
 
--- two rows are sound where both are
-sound-joined : (x : ℕ → Context) (f g : Forest) → allSound x (joined f g) ≡ true → allSound x f ≡ true
-unfolding joined allSound
-sound-joined x none g e = refl
-sound-joined x (t then ts) g e =
-    and-both (treeSound x t) (allSound x ts) (and-left (treeSound x t) (allSound x (joined ts g)) e)
-    (sound-joined x ts g (and-right (treeSound x t) (allSound x (joined ts g)) e))
+-- LAW: trees that can be kept are what the check of a table asks of a root's children
+pub record Keepable (x : Context) (f : Forest) : Type 0 where
+  pub sound : allSound (λ i. x) f ≡ true
+  pub whole : wholeTrees f ≡ true
+  pub statements : same (classes f) (replicate (length (classes f)) statement) ≡ true
+  pub flat : firstDeep 1 f ≡ Nothing
 
--- the first n records of a sound stretch are sound, if they are whole statements
-module _ (x : ℕ → Context) (i n : ℕ) (bs : List ℕ) (there : 24 * n ≤ length bs)
-    (whole : wholeStatements (forest i (take (24 * n) bs)) ≡ true) (s : Sound x i bs) where
-  sound-front : Sound x i (take (24 * n) bs)
-  sound-front = record {
-    records = omega (arith, length-take-le (24 * n) bs there);
-    nodes = sound-joined x (forest i (take (24 * n) bs)) (forest (i + n) (drop (24 * n) bs))
-        (sym (ap (allSound x) (forest-joined i n bs there whole)) ∙ s .nodes);
-  }
+each-says : (x : Context) (f : Forest) → each (keepable x) f ≡ true → Keepable x f
+unfolding each keepable allSound wholeTrees classes same firstDeep
+each-says x none e = record { sound = refl; whole = refl; statements = refl; flat = refl }
+each-says x (node r ks then ts) e =
+    let here = and-left (keepable x (node r ks)) _ e in
+    let rest = each-says x ts (and-right (keepable x (node r ks)) _ e) in
+    let class : Bool = eqb (classOf (r .kind)) statement in
+    let both = and-right class _ here in
+    let tree : treeSound (λ i. x) (node r ks) ≡ true = and-left _ _ both in
+    let flat = and-right (treeSound (λ i. x) (node r ks)) _ both in
+    let size = node-size x r ks (and-left _ _ tree) in
+    record {
+      sound = and-both _ _ tree (rest .sound);
+      whole = and-both _ _ (eq-eqb (r .size) (1 + count ks) size) (rest .whole);
+      statements = and-both _ _ (and-left class _ here) (rest .statements);
+      flat = rw (clear-is (deepIn 1 (node r ks)) flat) (rest .flat);
+    }
 
-kid-there : (span long j : ℕ) → span ≤ long → 1 ≤ j → 24 * j + 24 ≤ span
-    → span - 24 - 24 * (j - 1) ≤ long - 24 * j
-kid-there span long j h some k = omega arith
+or-else : (x y : Found) → orElse x (λ _. y) ≡ Nothing → (clear x ≡ true) × (y ≡ Nothing)
+or-else (At i) y e = never (cc)
+or-else Nothing y e = (refl, e)
 
-kid-least : (span j : ℕ) → 1 ≤ j → 24 * j + 24 ≤ span → 24 ≤ span - 24 - 24 * (j - 1)
-kid-least span j some k = omega arith
+says-each : (x : Context) (f : Forest) → allSound (λ i. x) f ≡ true
+    → same (classes f) (replicate (length (classes f)) statement) ≡ true → firstDeep 1 f ≡ Nothing
+    → each (keepable x) f ≡ true
+unfolding each keepable allSound classes same firstDeep
+says-each x none s c d = refl
+says-each x (node r ks then ts) s c d =
+    let deep = or-else (deepIn 1 (node r ks)) (firstDeep 1 ts) d in
+    let class : Bool = eqb (classOf (r .kind)) statement in
+    let rest = says-each x ts (and-right (treeSound (λ i. x) (node r ks)) _ s) (and-right class _ c) (deep .1) in
+    let tree : treeSound (λ i. x) (node r ks) ≡ true = and-left _ _ s in
+    and-both _ _ (and-both class _ (and-left class _ c) (and-both _ _ tree (deep .0))) rest
 
--- a record of a sound stretch: the first, one under it, or one behind
-module _ (x : ℕ → Context) (i : ℕ) (bs : List ℕ) (s : Sound x i bs) (big : 24 ≤ length bs) (j : ℕ) where
-  abbrev At-j : Type 0
-  At-j = soundAt (x (i + j)) (i + j) (drop (24 * j) bs) ≡ true
+-- fewer trees, and the leading ones
+pub each-fewer : (p : Tree → Bool) (j k : ℕ) (f : Forest) → j ≤ k → each p (firsts k f) ≡ true
+    → each p (firsts j f) ≡ true
+unfolding each firsts
+each-fewer p zero k f h e = refl
+each-fewer p (suc j) zero f h e = absurd (omega arith)
+each-fewer p (suc j) (suc k) none h e = refl
+each-fewer p (suc j) (suc k) (t then ts) h e =
+    and-both _ _ (and-left (p t) _ e) (each-fewer p j k ts (omega arith) (and-right (p t) _ e))
 
-  first-sound : j ≡ 0 → At-j
-  unfolding soundAt
-  first-sound e = rw (e, add-zero) (sound-first x i bs s big)
-
-  span-there : spanOf bs ≤ length bs
-  span-there = omega arith
-
-  kid-sound : (j ≡ 0 → ⊥) → j < spanOf bs / 24
-      → (j - 1 < length (kidsOf bs) / 24
-      → soundAt (x (i + 1 + (j - 1))) (i + 1 + (j - 1)) (drop (24 * (j - 1)) (kidsOf bs)) ≡ true) → At-j
-  unfolding kidsOf
-  kid-sound some h ks =
-      let z = sound-size x i bs s big in
-      let inside : 24 * j + 24 ≤ spanOf bs = omega arith in
-      let least : 1 ≤ j = omega arith in
-      let k : ℕ = spanOf bs - 24 - 24 * (j - 1) in
-      let index : i + 1 + (j - 1) ≡ i + j = omega arith in
-      let place : 24 + 24 * (j - 1) ≡ 24 * j = omega arith in
-      let part : drop (24 * (j - 1)) (kidsOf bs) ≡ take k (drop (24 * j) bs) =
-      drop-take (24 * (j - 1)) (spanOf bs - 24) (drop 24 bs)
-      ∙ ap (take k) (drop-drop (24 * (j - 1)) 24 bs ∙ ap (λ (n : ℕ). drop n bs) place) in
-      let here : soundAt (x (i + j)) (i + j) (take k (drop (24 * j) bs)) ≡ true =
-      rw (index, part) at (ks (omega (arith, length-kids bs))) in
-      sound-longer (x (i + j)) (i + j) k (drop (24 * j) bs) (kid-least (spanOf bs) j least inside)
-      (simp length-drop (kid-there (spanOf bs) (length bs) j span-there least inside)) here
-
-  rest-sound : spanOf bs / 24 ≤ j → j < length bs / 24
-      → (j - spanOf bs / 24 < length (restOf bs) / 24
-      → soundAt (x (i + spanOf bs / 24 + (j - spanOf bs / 24))) (i + spanOf bs / 24 + (j - spanOf bs / 24))
-      (drop (24 * (j - spanOf bs / 24)) (restOf bs)) ≡ true) → At-j
-  unfolding restOf
-  rest-sound h within rs =
-      let z = sound-size x i bs s big in
-      let index : i + spanOf bs / 24 + (j - spanOf bs / 24) ≡ i + j = omega arith in
-      let place : spanOf bs + 24 * (j - spanOf bs / 24) ≡ 24 * j = omega arith in
-      let part : drop (24 * (j - spanOf bs / 24)) (restOf bs) ≡ drop (24 * j) bs =
-      drop-drop (24 * (j - spanOf bs / 24)) (spanOf bs) bs ∙ ap (λ (n : ℕ). drop n bs) place in
-      rw (index, part) at (rs (omega (arith, length-rest bs)))
-
--- LAW: each record of a sound stretch is sound
-each-sound : (x : ℕ → Context) (i : ℕ) (bs : List ℕ) → Sound x i bs → (j : ℕ) → j < length bs / 24
-    → soundAt (x (i + j)) (i + j) (drop (24 * j) bs) ≡ true
-each-sound x =
-    forest-induction (λ i bs. Sound x i bs → (j : ℕ) → j < length bs / 24
-    → soundAt (x (i + j)) (i + j) (drop (24 * j) bs) ≡ true)
-    (λ i bs short s j h. absurd (omega arith))
-    (λ i bs big ks rs s j h. at i bs big s j h (ks (sound-kids x i bs s big)) (rs (sound-rest x i bs s big)))
+pub leading-each : (p : Tree → Bool) (f : Forest) → each p (firsts (leading p f) f) ≡ true
+unfolding each firsts leading
+leading-each p none = refl
+leading-each p (t then ts) = go (p t) refl (leading-each p ts)
   where
-    at : (i : ℕ) (bs : List ℕ) → 24 ≤ length bs → Sound x i bs → (j : ℕ) → j < length bs / 24
-        → ((j : ℕ) → j < length (kidsOf bs) / 24
-        → soundAt (x (i + 1 + j)) (i + 1 + j) (drop (24 * j) (kidsOf bs)) ≡ true)
-        → ((j : ℕ) → j < length (restOf bs) / 24
-        → soundAt (x (i + spanOf bs / 24 + j)) (i + spanOf bs / 24 + j) (drop (24 * j) (restOf bs)) ≡ true)
-        → soundAt (x (i + j)) (i + j) (drop (24 * j) bs) ≡ true
-    at i bs big s j h ks rs = go (eqb j 0) refl
-      where
-        go : (b : Bool) → eqb j 0 ≡ b → soundAt (x (i + j)) (i + j) (drop (24 * j) bs) ≡ true
-        go true e = first-sound x i bs s big j (eqb-true j 0 e)
-        go false e = ⊎-elim
-            (λ (k : spanOf bs / 24 ≤ j). rest-sound x i bs s big j k h (rs (j - spanOf bs / 24)))
-            (λ (k : j < spanOf bs / 24). kid-sound x i bs s big j (eqb-false j 0 e) k (ks (j - 1)))
-            (le-or-lt (spanOf bs / 24) j)
+    go : (b : Bool) → p t ≡ b → each p (firsts (leading p ts) ts) ≡ true
+        → each p (firsts (if' b (λ _. suc (leading p ts)) (λ _. 0)) (t then ts)) ≡ true
+    go true e rest = and-both _ _ e rest
+    go false e rest = refl
 
--- LAW: more records of whole statements are more statements
-roots-joined : (f g : Forest) → length (roots (joined f g)) ≡ length (roots f) + length (roots g)
-unfolding joined roots
-roots-joined none g = omega arith
-roots-joined (node r ks then ts) g = omega (arith, roots-joined ts g)
+pub each-leading : (p : Tree → Bool) (k : ℕ) (f : Forest) → k ≤ length (roots f) → each p (firsts k f) ≡ true
+    → k ≤ leading p f
+unfolding each firsts leading roots
+each-leading p zero f h e = omega arith
+each-leading p (suc k) none h e = absurd (omega arith)
+each-leading p (suc k) (node r ks then ts) h e =
+    rw (and-left (p (node r ks)) _ e)
+    (omega (arith, each-leading p k ts (omega arith) (and-right (p (node r ks)) _ e)))
 
-some-root : (i : ℕ) (bs : List ℕ) → 24 ≤ length bs → 1 ≤ length (roots (forest i bs))
-unfolding roots
-some-root i bs big = rw (forest-tree i bs big) (omega arith)
+pub leading-few : (p : Tree → Bool) (f : Forest) → leading p f ≤ length (roots f)
+unfolding leading roots
+leading-few p none = omega arith
+leading-few p (node r ks then ts) = go (p (node r ks)) (leading-few p ts)
+  where
+    go : (b : Bool) → leading p ts ≤ length (roots ts)
+        → if' b (λ _. suc (leading p ts)) (λ _. 0) ≤ suc (length (roots ts))
+    go true h = omega arith
+    go false h = omega arith
 
-pub more-statements : (row : List ℕ) (m n : ℕ) → 1 ≤ m → m < n → 24 * (n - 1) ≤ length row → Between row 1 m
-    → length (roots (forest 1 (take (24 * (m - 1)) row))) < length (roots (forest 1 (take (24 * (n - 1)) row)))
-more-statements row m n some less there whole =
-    let all : List ℕ = take (24 * (n - 1)) row in
-    let rest : List ℕ = drop (24 * (m - 1)) all in
-    let long : length all ≡ 24 * (n - 1) = length-take-le (24 * (n - 1)) row there in
-    let part : take (24 * (m - 1)) all ≡ take (24 * (m - 1)) row = take-take (24 * (m - 1)) (24 * (n - 1)) row
-    (omega arith) in
-    let front : wholeStatements (forest 1 (take (24 * (m - 1)) all)) ≡ true = rw part whole in
-    let both = ap (λ (f : Forest). length (roots f)) (forest-joined 1 (m - 1) all (omega arith) front)
-    ∙ roots-joined (forest 1 (take (24 * (m - 1)) all)) (forest (1 + (m - 1)) rest) in
-    let same = ap (λ (l : List ℕ). length (roots (forest 1 l))) part in
-    omega (arith, both, same, some-root (1 + (m - 1)) rest (simp length-drop (omega arith)))
+-- what a Statements asks of its children
+class-statements : classOf kindStatements ≡ statement
+unfolding kindOf kindIn
+class-statements = refl
 
--- a cut that passes, and a shorter row of its children
-module _ (t names : List ℕ) (m n : ℕ) (room : 24 * n ≤ length t) (less : m ≤ n) (some : 2 ≤ m)
-    (kind : nodeOf 0 t .kind ≡ kindStatements) (whole : Between (drop 24 t) 1 m) (p : cutPasses t names n ≡ true) where
-  clean : Clean (cutTo n t) names
-  clean = cut-clean t names n p .1
+weight-statements : weight kindStatements ≡ 1
+unfolding weight classWeight kindOf kindIn
+weight-statements = refl
 
-  abbrev x : ℕ → Context
-  x = contextOf (cutTo n t) names
+rule-statements : (d : ℕ) → kindOf kindStatements .kids d ≡ any statement
+unfolding kindOf kindIn
+rule-statements d = refl
 
-  long : length (take (24 * (n - 1)) (drop 24 t)) ≡ 24 * (n - 1)
-  long = length-take-le (24 * (n - 1)) (drop 24 t) (simp length-drop (omega arith))
+kids-are : (d : ℕ) (f : Forest) → kidsSound (kindOf kindStatements .kids d) f
+    ≡ (wholeTrees f && same (classes f) (replicate (length (classes f)) statement))
+unfolding kidsSound permits permitted wanted
+kids-are d f = rw (rule-statements d, sub-zero, append-nil) refl
 
-  part : take (24 * (m - 1)) (take (24 * (n - 1)) (drop 24 t)) ≡ take (24 * (m - 1)) (drop 24 t)
-  part = take-take (24 * (m - 1)) (24 * (n - 1)) (drop 24 t) (omega arith)
+-- the cut of a table that begins with a Statements
+module _ (t names : List ℕ) (some : 24 ≤ length t) (whole : 24 * (length t / 24) ≡ length t)
+    (kind : nodeOf 0 t .kind ≡ kindStatements) (k : ℕ) where
+  abbrev x : Context
+  x = context (length names)
 
-  row-sound : Sound x 1 (take (24 * (m - 1)) (drop 24 t))
-  row-sound =
-      let all = sound-table (cutTo n t) names (clean .unsound) (clean .least) in
-      let row : Sound x 1 (take (24 * (n - 1)) (drop 24 t)) =
-      rw (kids-cut t n room (omega arith)) at (sound-kids x 0 (cutTo n t) all (clean .least)) in
-      rw part at (sound-front x 1 (m - 1) (take (24 * (n - 1)) (drop 24 t)) (omega (arith, long)) (rw part whole) row)
+  abbrev kids : Forest
+  kids = firsts k (children t)
 
-  other-sound : (j : ℕ) → 1 ≤ j → j < m → recordSound (cutTo m t) names j ≡ true
-  unfolding contextOf
-  other-sound j h k =
-      let row : List ℕ = take (24 * (m - 1)) (drop 24 t) in
-      let size : length row ≡ 24 * (m - 1) = length-take-le (24 * (m - 1)) (drop 24 t)
-      (simp length-drop (omega arith)) in
-      let index : 1 + (j - 1) ≡ j = omega arith in
-      let left : 24 * (m - 1) - 24 * (j - 1) ≡ 24 * (m - j) = omega arith in
-      let place : 24 + 24 * (j - 1) ≡ 24 * j = omega arith in
-      let behind : drop (24 * (j - 1)) row ≡ take (24 * (m - j)) (drop (24 * j) t) =
-      drop-take (24 * (j - 1)) (24 * (m - 1)) (drop 24 t)
-      ∙ rw (left, drop-drop (24 * (j - 1)) 24 t, place) refl in
-      record-other t names m j h k (omega arith)
-      ∙ (rw (index, behind) at (each-sound x 1 row row-sound (j - 1) (omega arith)))
+  kind-cut : nodeOf 0 (cutTo k t) .kind ≡ kindStatements
+  kind-cut = cut-kind k t some whole ∙ kind
 
-  each-record : (j : ℕ) → j < m → recordSound (cutTo m t) names j ≡ true
-  each-record j h = go (eqb j 0) refl
+  root-is : soundNode x (nodeOf 0 (cutTo k t)) kids
+      ≡ (fieldsSound x (nodeOf 0 t)
+      && (wholeTrees kids && same (classes kids) (replicate (length (classes kids)) statement)))
+  unfolding soundNode
+  root-is = rw (
+    cut-fields k t some whole x,
+    eq-eqb (sizeOf (cutTo k t)) (1 + count kids) (cut-size k t some whole),
+    kind-cut,
+    kids-are (nodeOf 0 (cutTo k t) .detail) kids,
+  ) refl
+
+  all-is : allSound (λ i. x) (forest 0 (cutTo k t))
+      ≡ ((soundNode x (nodeOf 0 (cutTo k t)) kids && allSound (λ i. x) kids) && true)
+  unfolding allSound
+  all-is = ap (allSound (λ i. x)) (cut-forest k t some whole)
+
+  deep-is : firstDeep 0 (forest 0 (cutTo k t)) ≡ firstDeep 1 kids
+  unfolding firstDeep
+  deep-is = ap (firstDeep 0) (cut-forest k t some whole) ∙ rw (kind-cut, weight-statements) (go (firstDeep 1 kids))
     where
-      go : (b : Bool) → eqb j 0 ≡ b → recordSound (cutTo m t) names j ≡ true
-      go true e =
-          let at : j ≡ 0 = eqb-true j 0 e in
-          rw at (root-sound t names m (omega arith) (omega arith) kind
-          (root-fields t names n room (omega arith) kind clean) whole)
-      go false e = let apart = eqb-false j 0 e in other-sound j (omega arith) h
+      go : (y : Found) → orElse y (λ _. Nothing) ≡ y
+      go (At i) = refl
+      go Nothing = refl
 
-  size : length (cutTo m t) ≡ 24 * m
-  size = length-cut t m (omega arith) (omega arith)
+  root-covers : rootSound (cutTo k t) ≡ true
+  unfolding rootSound
+  root-covers = and-both _ _
+      (eq-eqb (classOf (nodeOf 0 (cutTo k t) .kind)) statement (ap classOf kind-cut ∙ class-statements))
+      (eq-eqb (24 * sizeOf (cutTo k t)) (length (cutTo k t))
+      (omega (arith, cut-size k t some whole, cut-length k t some whole)))
 
-  unsound : firstUnsound (cutTo m t) names ≡ Nothing
-  unfolding firstUnsound
-  unsound = all-hold (recordSound (cutTo m t) names) (length (cutTo m t) / 24) 0
-      (λ j h k. each-record j (omega (arith, size)))
-
-  -- THEOREM: fewer children are kept where more are
-  pub fewer-pass : cutPasses t names m ≡ true
-  unfolding cutPasses
-  fewer-pass =
-      let short : Clean (cutTo m t) names = record {
-        least = omega (arith, size);
-        most = omega (arith, size, clean .most, length-cut t n room (omega arith));
-        whole = omega (arith, size);
-        few = clean .few;
-        unsound = unsound;
-        deep = cut-flat-shorter t m n room (omega arith) less whole (clean .deep);
+  -- LAW: the cut passes where the root's fields are sound and each of the children can be kept
+  pub cut-accepted : length t ≤ 50400 → length names ≤ 8064
+      → fieldsSound x (nodeOf 0 t) ≡ true → each (keepable x) kids ≡ true
+      → checkOf (cutTo k t) names ≡ accepted []
+  unfolding contextOf
+  cut-accepted few named fields good =
+      let says : Keepable x kids = each-says x kids good in
+      let long = cut-length k t some whole in
+      let sound : Sound (λ i. x) 0 (cutTo k t) = record {
+        records = omega arith;
+        nodes = all-is ∙ rw (root-is, fields, says .whole, says .statements, says .sound) refl;
       } in
-      rw (le-leb 2 m some, clean-accepted (cutTo m t) names short) refl
+      clean-accepted (cutTo k t) names record {
+        least = omega arith;
+        most = omega (arith, cut-short k t some whole);
+        whole = omega arith;
+        few = named;
+        unsound = sound-clean (cutTo k t) names root-covers sound;
+        deep = deep-is ∙ says .flat;
+      }
+
+  -- LAW: and only there
+  pub record Passed : Type 0 where
+    pub named : length names ≤ 8064
+    pub fields : fieldsSound x (nodeOf 0 t) ≡ true
+    pub good : each (keepable x) kids ≡ true
+
+  pub cut-keepable : {vs : List ℕ} → checkOf (cutTo k t) names ≡ accepted vs → Passed
+  unfolding contextOf
+  cut-keepable e =
+      let clean = accepted-clean (cutTo k t) names e in
+      let all = sym all-is ∙ sound-table (cutTo k t) names (clean .unsound) (clean .least) .nodes in
+      let root = soundNode x (nodeOf 0 (cutTo k t)) kids in
+      let both = and-left (root && allSound (λ i. x) kids) true all in
+      let parts = sym root-is ∙ and-left root (allSound (λ i. x) kids) both in
+      let fields = fieldsSound x (nodeOf 0 t) in
+      record {
+        named = clean .few;
+        fields = and-left fields _ parts;
+        good = says-each x kids (and-right root (allSound (λ i. x) kids) both)
+            (and-right (wholeTrees kids) _ (and-right fields _ parts)) (sym deep-is ∙ clean .deep);
+      }

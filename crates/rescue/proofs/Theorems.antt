@@ -1,236 +1,412 @@
--- Rescuing a cut file, as request W-205 asks for it, over the promises of rescue and reader, for every input:
--- the output is accepted by the reader and holds the names and the dialect of the header;
--- it is the input's first blocks where those pass, and then nothing is dropped;
--- otherwise no larger number of leading children passes, and fewer children pass where more do;
--- the rescue of a rescued file is that file, with nothing dropped;
--- a file that the reader accepts is given back as it is;
--- a refusal changes no byte, and bytes past the output always stay. Assumes nothing.
+-- The claims of specs/Claims.antt, proved for every input. An accepted answer says that the header is good, that
+-- something is kept, and that it fits (`says`); a refusal says which of the tests failed first. What is kept is one
+-- definition, so each claim is a law about `kept bs`: largest by the laws of the search, read back and given back by
+-- the file's laws. Assumes nothing.
 use mathlib.Core.Path.{_≡_, refl, sym, ap, _∙_}
 use mathlib.Core.Bool.{Bool, true, false}
 use mathlib.Core.Logic.{⊎-elim}
-use mathlib.Core.List.{List, [], _++_}
-use Prim.Native.Nat.{ℕ, zero, suc, _*_, _-_, _/_, _<_, _≤_}
+use mathlib.Core.List.{List, [], _∷_, _++_}
+use Prim.Native.Nat.{ℕ, _+_, _-_, _/_, _<_, _≤_}
 use native.Mathlib.Omega.{arith}
-use lib.ListN.{length, getD, take, drop, length-drop}
+use lib.ListN.{length, getD, take, drop, length-take}
 use lib.Seq.{take-at, drop-at}
-use borrow.Author.Tests.{eq-eqb}
-use Rattle.fields.specs.Choice.{if'}
-use Rattle.fields.proofs.Basics.{le-or-lt}
+use lib.Dec.{leb}
+use borrow.Author.Tests.{leb-true, leb-false, le-leb, lt-leb, eq-eqb}
+use Rattle.fields.proofs.Basics.{never, clash, le-or-lt}
 use Rattle.fields.proofs.Spelling.{Bytes}
-use Rattle.forest.specs.Forest.{nodeOf, forest, roots}
+use Rattle.forest.specs.Forest.{nodeOf, Forest, roots}
+use Rattle.forest.proofs.Prefix.{firsts-roots}
 use Rattle.soundness.specs.KindNumbers.{kindStatements}
-use Rattle.table.specs.Answer.{accepted, refusal}
-use Rattle.table.specs.declared.Refusal.{Refusal}
-use Rattle.tablefile.specs.Reading.{headerAt, contentAt, readCheck}
+use Rattle.table.specs.Numbers.{shortBuffer, badHeader, nothingKept, bytesLeftOver}
+use Rattle.table.specs.Answer.{Answer, accepted, refused, passes, andThen, refusal}
+use Rattle.table.specs.declared.Refusal.the-variants.{Bare}
+use Rattle.table.proofs.Answers.{passed-both, never-passed}
+use Rattle.table.proofs.Checking.{accepted-clean}
+use Rattle.table.proofs.Entering.{given-known, given-passed}
+use Rattle.blocks.specs.Block.{demand, judge}
+use Rattle.blocks.proofs.Blocks.{passes as passed-block}
 use Rattle.tablefile.specs.File.{Content, fileOf}
-use Rattle.tablefile.specs.Loading.{loadedOf, held}
-use Rattle.tablefile.specs.declared.Loaded.{Loaded}
+use Rattle.tablefile.specs.Reading.{headerAt, contentAt, countsFit, frontCheck, soundCheck, readCheck}
+use Rattle.tablefile.specs.Loading.{loadedOf}
 use Rattle.tablefile.specs.declared.Verdict.the-variants as verdicts
-use Rattle.tablefile.proofs.Loads.{held-is}
+use Rattle.tablefile.proofs.Fronts.{Fronted, first-is, taken-is, dialect-few, table-length}
+use Rattle.tablefile.proofs.Accepted.{read-fronted, read-whole, read-is-sound, SoundContent, back-accepted, back-holds}
 use Rattle.tablefile.proofs.Theorems.{Read, file-read-back}
+use Rattle.writer.specs.Writing.{bytesFor}
+use Rattle.writer.proofs.Building.{length-file}
 use Rattle.writer.proofs.Over.{over-front}
 use Rattle.rescue.specs.declared.Kept.{Kept}
 use Rattle.rescue.specs.declared.Rescued.{Rescued}
 use Rattle.rescue.specs.declared.Rescued.the-variants.{Accepted, Refused}
-use Rattle.rescue.specs.Good.{passes, wholeCheck, goodTable}
-use Rattle.rescue.specs.Cut.{cutTo, cutPasses, within, largest, largestCut}
-use Rattle.rescue.specs.Job.{nodesKept, tableKept, contentKept, fileKept, statementsOf}
-use Rattle.rescue.specs.Job.{rescueOf, fileAfter, told, rescued}
-use Rattle.rescue.specs.Steps.{Between}
-use Rattle.rescue.proofs.Cuts.{kind-cut, kids-cut, cut-clean, root-children}
-use Rattle.rescue.proofs.Cutting.{within-says}
-use Rattle.rescue.proofs.Jobs.{whole-nodes, whole-file, cut-nodes, cut-says}
-use Rattle.rescue.proofs.Greedy.{fewer-pass, more-statements}
-use Rattle.rescue.proofs.Outputs.{Says, rescued-says, says-rescued, kept-length, kept-bytes, kept-file}
-use Rattle.rescue.proofs.Outputs.{kept-content, kept-read, kept-held, read-head, read-some, read-file}
-use Rattle.rescue.proofs.Outputs.{read-bytes, read-told}
+use Rattle.rescue.specs.Good.{headGood, blocksPass, goodTable}
+use Rattle.rescue.specs.Cut.{children, cutTo, childrenKept}
+use Rattle.rescue.specs.Job.{tableKept, kept, statementsOf, toldOf, rescueOf, fileAfter, told, rescued}
+use Rattle.rescue.specs.Claims.{Rescue, Passes, Largest, LargestNumber, BadHeader, Nothing, NothingKept}
+use Rattle.rescue.specs.Claims.{ReadBack, GivenBack, Again, OnlySize, Counted, Counts, PastStays}
 use Rattle.rescue.proofs.Promises.{rescued-injective}
+use Rattle.rescue.proofs.Cuts.{cut-length, cut-children, cut-kind, cut-byte}
+use Rattle.rescue.proofs.Largest.{keeps, none-larger}
+use Rattle.rescue.proofs.Keeping.{names-long, whole-checked, whole-kept, whole-fronted, whole-file, cut-some}
+use Rattle.rescue.proofs.Keeping.{cut-kept, good-some, good-whole, kept-content, kept-read, kept-held}
 
--- the promise of `rescue`: the answer, and the buffer after
-abbrev pub Rescue : List ℕ → List ℕ → Rescued → List ℕ → Type 0
-Rescue bs buffer r after = (rescued r ≡ rescueOf bs (length buffer)) × (after ≡ fileAfter bs buffer)
+-- the answer by its three tests
+abbrev pub steps : Bool → Bool → Bool → List ℕ → Answer
+steps a b c vs = andThen (demand a badHeader) (λ _. andThen (demand b nothingKept) (λ _.
+    andThen (demand c shortBuffer) (λ _. accepted vs)))
 
-module _ (bs buffer : List ℕ) (r : Rescued) (after : List ℕ) (p : Rescue bs buffer r after) where
-  -- what an accepted rescue says, and what it leaves
-  module _ {k : Kept} (good : r ≡ Accepted k) where
-    answer-is : rescueOf bs (length buffer) ≡ accepted (told k)
-    answer-is = sym (p .0) ∙ ap rescued good
+module _ (bs : List ℕ) (room : ℕ) where
+  abbrev pub size : ℕ
+  size = bytesFor (length (tableKept bs)) (headerAt bs .names)
 
-    says : Says bs (length buffer) (told k)
-    says = rescued-says bs (length buffer) answer-is
+  pub rescue-is : rescueOf bs room
+      ≡ steps (headGood bs) (leb 1 (length (tableKept bs))) (leb size room) (toldOf bs (tableKept bs))
+  unfolding rescueOf
+  rescue-is = refl
 
-    pub bytes-told : k .bytes ≡ length (fileKept bs)
-    bytes-told = ap (λ (vs : List ℕ). getD vs 0 0) (says .told) ∙ sym (kept-bytes bs (says .head) (says .some))
+  -- what an accepted rescue says
+  pub record Says (vs : List ℕ) : Type 0 where
+    pub head : headGood bs ≡ true
+    pub some : 1 ≤ length (tableKept bs)
+    pub fits : size ≤ room
+    pub told : vs ≡ toldOf bs (tableKept bs)
 
-    pub statements-told : k .statements ≡ statementsOf (tableKept bs)
-    statements-told = ap (λ (vs : List ℕ). getD vs 1 0) (says .told)
+  pub says : {vs : List ℕ} → rescueOf bs room ≡ accepted vs → Says vs
+  says {vs} e = go (headGood bs) (leb 1 (length (tableKept bs))) (leb size room) refl refl refl (sym rescue-is ∙ e)
+    where
+      go : (a b c : Bool) → headGood bs ≡ a → leb 1 (length (tableKept bs)) ≡ b → leb size room ≡ c
+          → steps a b c (toldOf bs (tableKept bs)) ≡ accepted vs → Says vs
+      go true true true a-is b-is c-is e = record {
+        head = a-is;
+        some = leb-true 1 (length (tableKept bs)) b-is;
+        fits = leb-true size room c-is;
+        told = cc;
+      }
+      go true true false a-is b-is c-is e = never-passed e
+      go true false c a-is b-is c-is e = never-passed e
+      go false b c a-is b-is c-is e = never-passed e
 
-    pub nodes-told : k .nodes ≡ length (tableKept bs) / 24
-    nodes-told =
-        let n : k .nodes ≡ nodesKept bs = ap (λ (vs : List ℕ). getD vs 2 0) (says .told) in
-        omega (arith, kept-length bs (says .head) (says .some))
+  pub said : headGood bs ≡ true → 1 ≤ length (tableKept bs) → size ≤ room
+      → rescueOf bs room ≡ accepted (toldOf bs (tableKept bs))
+  said head some fits = rescue-is
+      ∙ rw (head, le-leb 1 (length (tableKept bs)) some, le-leb size room fits) refl
 
-    pub dropped-told : k .dropped ≡ headerAt bs .nodes - nodesKept bs
-    dropped-told = ap (λ (vs : List ℕ). getD vs 3 0) (says .told)
+  -- 7, 90 and 91
+  pub short-room : headGood bs ≡ true → 1 ≤ length (tableKept bs) → room < size
+      → rescueOf bs room ≡ refused shortBuffer []
+  short-room head some less = rescue-is
+      ∙ rw (head, le-leb 1 (length (tableKept bs)) some, lt-leb size room less) refl
 
-    -- LAW: the output, and behind it what stood there
-    pub rescued-is : after ≡ fileKept bs ++ drop (k .bytes) buffer
-    unfolding fileAfter
-    rescued-is = p .1 ∙ rw (answer-is, bytes-told) (over-front (fileKept bs) buffer)
+  pub bad-head : headGood bs ≡ false → rescueOf bs room ≡ refused badHeader []
+  bad-head e = rescue-is ∙ rw e refl
 
-    pub rescued-front : take (k .bytes) after ≡ fileKept bs
-    rescued-front = ap (take (k .bytes)) rescued-is
-        ∙ take-at (fileKept bs) (drop (k .bytes) buffer) (k .bytes) (sym bytes-told)
+  head-bad : rescueOf bs room ≡ refused badHeader [] → headGood bs ≡ false
+  head-bad e = go (headGood bs) (leb 1 (length (tableKept bs))) (leb size room) (sym rescue-is ∙ e)
+    where
+      go : (a b c : Bool) → steps a b c (toldOf bs (tableKept bs)) ≡ refused badHeader [] → a ≡ false
+      go true true true e = never (cc)
+      go true true false e = let n : shortBuffer ≡ badHeader = cc in absurd (omega arith)
+      go true false c e = let n : nothingKept ≡ badHeader = cc in absurd (omega arith)
+      go false b c e = refl
 
-    -- LAW: bytes past the output stay
-    pub past-stays : drop (k .bytes) after ≡ drop (k .bytes) buffer
-    past-stays = ap (drop (k .bytes)) rescued-is
-        ∙ drop-at (fileKept bs) (drop (k .bytes) buffer) (k .bytes) (sym bytes-told)
+  pub kept-nothing : headGood bs ≡ true → length (tableKept bs) < 1 → rescueOf bs room ≡ refused nothingKept []
+  kept-nothing head none = rescue-is ∙ rw (head, lt-leb 1 (length (tableKept bs)) none) refl
 
-    -- THEOREM: the reader accepts the output, and it holds the table that is kept, and names and dialect of the header
-    module _ (small : Bytes bs) (s : Loaded) (read : Read (take (k .bytes) after) s) where
-      pub reads-back : s ≡ loadedOf verdicts.Accepted (contentKept bs) (k .bytes)
-      reads-back =
-          let file : fileKept bs ≡ fileOf (contentKept bs) = kept-file bs (says .head) (says .some) small in
-          let read′ : Read (fileOf (contentKept bs)) s = rw (rescued-front, file) at read in
-          file-read-back (contentKept bs) s (kept-content bs (says .head) (says .some) small) read′
-          ∙ ap (loadedOf verdicts.Accepted (contentKept bs)) (sym (bytes-told ∙ ap length file))
+  nothing-kept : rescueOf bs room ≡ refused nothingKept [] → (headGood bs ≡ true) × (length (tableKept bs) < 1)
+  nothing-kept e = go (headGood bs) (leb 1 (length (tableKept bs))) (leb size room) refl refl (sym rescue-is ∙ e)
+    where
+      go : (a b c : Bool) → headGood bs ≡ a → leb 1 (length (tableKept bs)) ≡ b
+          → steps a b c (toldOf bs (tableKept bs)) ≡ refused nothingKept []
+          → (headGood bs ≡ true) × (length (tableKept bs) < 1)
+      go true true true a-is b-is e = never (cc)
+      go true true false a-is b-is e = let n : shortBuffer ≡ nothingKept = cc in absurd (omega arith)
+      go true false c a-is b-is e = (a-is, leb-false 1 (length (tableKept bs)) b-is)
+      go false b c a-is b-is e = let n : badHeader ≡ nothingKept = cc in absurd (omega arith)
 
-      pub not-refused : s .verdict ≡ verdicts.Accepted
-      unfolding loadedOf
-      not-refused = ap (λ (l : Loaded). l .verdict) reads-back
+-- CLAIM 2
+pub bad-header : BadHeader
+bad-header bs buffer r after p = (
+  λ e. rescued-injective r (Refused (Bare badHeader)) (p .0 ∙ bad-head bs (length buffer) e),
+  λ e. head-bad bs (length buffer) (sym (p .0) ∙ ap rescued e),
+)
 
-      pub same-names : held s .names ≡ contentAt bs .names
-      same-names = ap (λ (l : Loaded). held l .names) reads-back
-          ∙ ap (λ (c : Content). c .names) (held-is (contentKept bs) (k .bytes))
+-- a cut that passes is kept, or a larger one
+module _ (bs : List ℕ) (w : blocksPass bs ≡ false) where
+  abbrev t : List ℕ
+  t = goodTable bs
 
-      pub same-dialect : held s .dialect ≡ contentAt bs .dialect
-      same-dialect = ap (λ (l : Loaded). held l .dialect) reads-back
-          ∙ ap (λ (c : Content). c .dialect) (held-is (contentKept bs) (k .bytes))
+  abbrev names : List ℕ
+  names = contentAt bs .names
 
-    -- THEOREM: it is the input's first blocks where those pass, and then nothing is dropped
-    module _ (whole : passes (wholeCheck bs) ≡ true) where
-      pub first-blocks : take (k .bytes) after ≡ take (headerAt bs .taken) bs
-      first-blocks = rescued-front ∙ whole-file bs whole
+  at-least : (j : ℕ) → Passes bs j → j ≤ childrenKept t names
+  at-least j (kind, there, passed) = ⊎-elim (λ (h : j ≤ childrenKept t names). h)
+      (λ (h : childrenKept t names < j). clash (ap passes passed) (none-larger t names j kind h there))
+      (le-or-lt j (childrenKept t names))
 
-      pub nothing-dropped : k .dropped ≡ 0
-      nothing-dropped = omega (arith, dropped-told, whole-nodes bs whole)
+  some-kept : 1 ≤ childrenKept t names → 1 ≤ length (tableKept bs)
+  some-kept some =
+      let kind = keeps t names some .kind in
+      let long = cut-length (childrenKept t names) t (good-some bs kind) (good-whole bs) in
+      let is : tableKept bs ≡ cutTo (childrenKept t names) t =
+      rw (cut-kept bs w, le-leb 1 (childrenKept t names) some) refl in
+      omega (arith, ap length is)
 
-  -- LAW: a refusal changes no byte
-  pub refusal-keeps : {why : Refusal} → r ≡ Refused why → after ≡ buffer
-  unfolding fileAfter
-  refusal-keeps {why} e =
-      let is : rescueOf bs (length buffer) ≡ refusal why = sym (p .0) ∙ ap rescued e in
-      p .1 ∙ rw is refl
+  none-kept : childrenKept t names < 1 → length (tableKept bs) < 1
+  none-kept none =
+      let is : tableKept bs ≡ [] = rw (cut-kept bs w, lt-leb 1 (childrenKept t names) none) refl in
+      omega (arith, ap length is)
 
--- THEOREM: where the blocks do not pass, what is kept is the largest: it passes 1 to 4 with a child or more, and no
--- larger number of records among which children are kept does
-largest-none : (q : ℕ → Bool) (n m : ℕ) → largest q n < m → m ≤ n → q m ≡ false
-unfolding largest
-largest-none q zero m h g = absurd (omega arith)
-largest-none q (suc n) m h g = go (q (suc n)) refl h (largest-none q n m)
+-- CLAIM 3
+nothing : (bs : List ℕ) → headGood bs ≡ true → length (tableKept bs) < 1 → Nothing bs
+nothing bs head empty = go (blocksPass bs) refl
   where
-    go : (b : Bool) → q (suc n) ≡ b → if' b (λ _. suc n) (λ _. largest q n) < m
-        → (largest q n < m → m ≤ n → q m ≡ false) → q m ≡ false
-    go true e h rest = absurd (omega arith)
-    go false e h rest = ⊎-elim (λ (k : m ≤ n). rest h k)
-        (λ (k : n < m). let at : m ≡ suc n = omega arith in rw at e) (le-or-lt m n)
+    go : (b : Bool) → blocksPass bs ≡ b → Nothing bs
+    go true w =
+        let long = accepted-clean (contentAt bs .table) (contentAt bs .names) (whole-checked bs w) .least in
+        absurd (omega (arith, ap (λ (c : Content). length (c .table)) (whole-kept bs w)))
+    go false w = record {
+      head = head;
+      blocks = w;
+      none = λ j some p. omega (arith, at-least bs w j p, some-kept bs w (omega (arith, at-least bs w j p)));
+    }
 
-module _ (bs : List ℕ) (cut : passes (wholeCheck bs) ≡ false) where
-  pub kept-passes : 1 ≤ nodesKept bs → cutPasses (goodTable bs) (contentAt bs .names) (nodesKept bs) ≡ true
-  kept-passes some = cut-says bs cut some .0
+none-passes : (bs : List ℕ) → Nothing bs → length (tableKept bs) < 1
+none-passes bs n =
+    none-kept bs (n .blocks) (⊎-elim
+    (λ (h : 1 ≤ childrenKept (goodTable bs) (contentAt bs .names)).
+    let k = keeps (goodTable bs) (contentAt bs .names) h in
+    absurd (n .none (childrenKept (goodTable bs) (contentAt bs .names)) h (k .kind, k .there, k .passed)))
+    (λ (h : childrenKept (goodTable bs) (contentAt bs .names) < 1). h)
+    (le-or-lt 1 (childrenKept (goodTable bs) (contentAt bs .names))))
 
-  pub none-larger : (m : ℕ) → nodesKept bs < m → m ≤ within (goodTable bs)
-      → cutPasses (goodTable bs) (contentAt bs .names) m ≡ false
-  unfolding largestCut
-  none-larger m h g = largest-none (cutPasses (goodTable bs) (contentAt bs .names)) (within (goodTable bs)) m
-      (rw (cut-nodes bs cut) at h) g
+pub nothing-can-be-kept : NothingKept
+nothing-can-be-kept bs buffer r after p = (
+  λ n. rescued-injective r (Refused (Bare nothingKept))
+      (p .0 ∙ kept-nothing bs (length buffer) (n .head) (none-passes bs n)),
+  λ e. let is = nothing-kept bs (length buffer) (sym (p .0) ∙ ap rescued e) in nothing bs (is .0) (is .1),
+)
 
--- THEOREM: greedy is largest: where a number of leading children passes, so does each smaller one
-pub fewer-children : (t names : List ℕ) (m n : ℕ) → m ≤ n → n ≤ within t → cutPasses t names n ≡ true → 2 ≤ m
-    → Between (drop 24 t) 1 m → cutPasses t names m ≡ true
-fewer-children t names m n less upto passed some whole =
-    let says = within-says t (omega arith) in
-    fewer-pass t names m n (omega (arith, says .1)) less some (says .0) whole passed
+-- CLAIM 1: the statements of the cut to k children are k
+module _ (bs : List ℕ) (w : blocksPass bs ≡ false) (some : 1 ≤ length (tableKept bs)) where
+  abbrev own : ℕ
+  own = childrenKept (goodTable bs) (contentAt bs .names)
 
--- THEOREM: the most records are the most children: a cut of more records has more statements
-module _ (t : List ℕ) (k : ℕ) (room : 24 * k ≤ length t) (some : 1 ≤ k) (kind : nodeOf 0 t .kind ≡ kindStatements) where
-  statements-cut : statementsOf (cutTo k t) ≡ length (roots (forest 1 (take (24 * (k - 1)) (drop 24 t))))
+  pub own-statements : statementsOf (tableKept bs) ≡ own
   unfolding statementsOf
-  statements-cut = rw (
-    eq-eqb (nodeOf 0 (cutTo k t) .kind) kindStatements (kind-cut t k room some ∙ kind),
-    kids-cut t k room some,
+  own-statements =
+      let cut = cut-some bs w some in
+      let k = keeps (goodTable bs) (contentAt bs .names) (cut .0) in
+      let big = good-some bs k.kind in
+      let kind : nodeOf 0 (cutTo own (goodTable bs)) .kind ≡ kindStatements =
+      cut-kind own (goodTable bs) big (good-whole bs) ∙ k.kind in
+      rw (cut .1, eq-eqb (nodeOf 0 (cutTo own (goodTable bs)) .kind) kindStatements kind)
+      (ap (λ (f : Forest). length (roots f)) (cut-children own (goodTable bs) big (good-whole bs))
+      ∙ firsts-roots own (children (goodTable bs)) k.there)
+
+  largest : (k : Kept) → k .statements ≡ statementsOf (tableKept bs) → Largest bs k
+  largest k is =
+      let cut = cut-some bs w some in
+      let keep = keeps (goodTable bs) (contentAt bs .names) (cut .0) in
+      let s : k .statements ≡ own = is ∙ own-statements in
+      record {
+        some = omega (arith, cut .0);
+        passed = rw s (keep.kind, keep.there, keep.passed);
+        cut = rw s (cut .1);
+        none = λ j less p. omega (arith, at-least bs w j p);
+      }
+
+-- what is told, and the buffer after
+module _ (bs buffer : List ℕ) (r : Rescued) (after : List ℕ) (p : Rescue bs buffer r after) (k : Kept)
+    (good : r ≡ Accepted k) where
+  answer-is : rescueOf bs (length buffer) ≡ accepted (told k)
+  answer-is = sym (p .0) ∙ ap rescued good
+
+  pub all-says : Says bs (length buffer) (told k)
+  all-says = says bs (length buffer) answer-is
+
+  pub all-counted : Counted bs k
+  all-counted =
+      let at : (i : ℕ) → getD (told k) i 0 ≡ getD (toldOf bs (tableKept bs)) i 0 =
+      λ i. ap (λ (vs : List ℕ). getD vs i 0) (all-says .told) in
+      record {
+        statements = at 1;
+        nodes = at 2;
+        dropped = at 3 ∙ ap (λ (n : ℕ). headerAt bs .nodes - n) (sym (at 2));
+        after = at 4;
+      }
+
+  nine : length (contentAt bs .dialect) ≤ 9
+  unfolding contentAt
+  nine = simp length-take (omega (arith, dialect-few bs))
+
+  pub bytes-told : k .bytes ≡ length (fileOf (kept bs))
+  bytes-told = ap (λ (vs : List ℕ). getD vs 0 0) (all-says .told)
+      ∙ sym (length-file (tableKept bs) (contentAt bs .names) (contentAt bs .dialect) nine
+      ∙ rw (names-long bs (all-says .head)) refl)
+
+  rescued-is : after ≡ fileOf (kept bs) ++ drop (k .bytes) buffer
+  unfolding fileAfter
+  rescued-is = p .1 ∙ rw (answer-is, bytes-told) (over-front (fileOf (kept bs)) buffer)
+
+  pub front-is : take (k .bytes) after ≡ fileOf (kept bs)
+  front-is = ap (take (k .bytes)) rescued-is
+      ∙ take-at (fileOf (kept bs)) (drop (k .bytes) buffer) (k .bytes) (sym bytes-told)
+
+  pub past-is : drop (k .bytes) after ≡ drop (k .bytes) buffer
+  past-is = ap (drop (k .bytes)) rescued-is
+      ∙ drop-at (fileOf (kept bs)) (drop (k .bytes) buffer) (k .bytes) (sym bytes-told)
+
+pub counts : Counts
+counts bs buffer r after p k good = all-counted bs buffer r after p k good
+
+pub largest-number : LargestNumber
+largest-number bs buffer r after p k good w = largest bs w (all-says bs buffer r after p k good .some) k
+    (all-counted bs buffer r after p k good .statements)
+
+pub past-stays : PastStays
+unfolding fileAfter
+past-stays bs buffer r after p = (
+  λ k good. past-is bs buffer r after p k good,
+  λ why e. let is : rescueOf bs (length buffer) ≡ refusal why = sym (p .0) ∙ ap rescued e in p .1 ∙ rw is refl,
+)
+
+-- CLAIM 4
+pub read-back : ReadBack
+read-back bs buffer r after p k good small s read =
+    let says = all-says bs buffer r after p k good in
+    let read' : Read (fileOf (kept bs)) s = rw (front-is bs buffer r after p k good) at read in
+    file-read-back (kept bs) s (kept-content bs (says .head) (says .some) small) read'
+    ∙ ap (loadedOf verdicts.Accepted (kept bs)) (sym (bytes-told bs buffer r after p k good))
+
+-- CLAIM 5
+pub given-back : GivenBack
+given-back bs buffer r after p k good small w = record {
+  blocks = front-is bs buffer r after p k good ∙ whole-file bs w small;
+  nothing = omega (
+    arith,
+    all-counted bs buffer r after p k good .dropped,
+    all-counted bs buffer r after p k good .nodes,
+    ap (λ (c : Content). length (c .table)) (whole-kept bs w),
+    table-length bs (whole-fronted bs w),
+  );
+}
+
+-- CLAIM 7
+pub only-size : OnlySize
+only-size bs w i inside low high =
+    let cut = cut-some bs w (omega arith) in
+    let own : ℕ = childrenKept (goodTable bs) (contentAt bs .names) in
+    let big = good-some bs (keeps (goodTable bs) (contentAt bs .names) (cut .0) .kind) in
+    let long = cut-length own (goodTable bs) big (good-whole bs) in
+    rw (cut .1) (cut-byte own (goodTable bs) big (good-whole bs) i (omega (arith, ap length (cut .1))) low high)
+
+-- a file that the reader accepts has a good header, and its blocks pass
+module _ (file : List ℕ) (e : readCheck file ≡ accepted []) where
+  fronted : Fronted file
+  fronted = read-fronted file e
+
+  pub read-passes : blocksPass file ≡ true
+  unfolding blocksPass readCheck
+  read-passes =
+      let both = passed-both (frontCheck file) (λ _. andThen (demand (leb (length file) (headerAt file .taken))
+      bytesLeftOver) (λ _. soundCheck (contentAt file))) e in
+      rw (both .1, read-is-sound file e) refl
+
+  counts-fit : countsFit (headerAt file .nodes) (headerAt file .names) ≡ true
+  unfolding countsFit
+  counts-fit = rw (
+    le-leb 1 (headerAt file .nodes) (fronted .counts .0),
+    le-leb (headerAt file .nodes) 2100 (fronted .counts .1),
+    le-leb (headerAt file .names) 8064 (fronted .counts .2),
   ) refl
 
-pub more-children : (t names : List ℕ) (m n : ℕ) → m < n → n ≤ within t → cutPasses t names m ≡ true
-    → statementsOf (cutTo m t) < statementsOf (cutTo n t)
-more-children t names m n less upto passed =
-    let says = within-says t (omega arith) in
-    let clean = cut-clean t names m passed in
-    let there : 24 * (n - 1) ≤ length (drop 24 t) = simp length-drop (omega (arith, says .1)) in
-    let row = root-children t names m (omega (arith, says .1)) (omega (arith, clean .0)) (says .0) (clean .1) in
-    rw (
-      statements-cut t m (omega (arith, says .1)) (omega (arith, clean .0)) (says .0),
-      statements-cut t n (omega (arith, says .1)) (omega arith) (says .0),
-    ) (more-statements (drop 24 t) m n (omega (arith, clean .0)) less there row)
-
--- THEOREM: a file that the reader accepts is given back as it is, and nothing is dropped
-module _ (file : List ℕ) (e : readCheck file ≡ accepted []) (buffer : List ℕ) (r : Rescued) (after : List ℕ)
-    (p : Rescue file buffer r after) (room : length file ≤ length buffer) where
-  abbrev all : Kept
-  all = record {
-    bytes = length file;
-    statements = statementsOf (contentAt file .table);
-    nodes = length (contentAt file .table) / 24;
-    dropped = 0;
-    after = 0;
-  }
-
-  pub given-back : r ≡ Accepted all
-  given-back = rescued-injective r (Accepted all)
-      (p .0 ∙ says-rescued file (length buffer) (read-head file e) (read-some file e) (omega (arith, read-bytes file e))
-      ∙ ap accepted (read-told file e))
-
-  pub same-file : after ≡ file ++ drop (length file) buffer
-  same-file = rescued-is file buffer r after p given-back
-      ∙ ap (λ (x : List ℕ). x ++ drop (length file) buffer) (read-file file e)
-
--- THEOREM: the rescue of a rescued file is that file, with nothing dropped
-module _ (bs : List ℕ) (small : Bytes bs) (buffer : List ℕ) (r : Rescued) (after : List ℕ)
-    (p : Rescue bs buffer r after) {k : Kept} (good : r ≡ Accepted k) (buffer′ : List ℕ) (r′ : Rescued)
-    (after′ : List ℕ) (p′ : Rescue (take (k .bytes) after) buffer′ r′ after′) (room : k .bytes ≤ length buffer′) where
-  again : Rescue (fileKept bs) buffer′ r′ after′
-  again = rw (rescued-front bs buffer r after p good) at p′
-
-  said : Says bs (length buffer) (told k)
-  said = says bs buffer r after p good
-
-  accepted-again : readCheck (fileKept bs) ≡ accepted []
-  accepted-again = kept-read bs (said .head) (said .some) small
-
-  fits : length (fileKept bs) ≤ length buffer′
-  fits = omega (arith, bytes-told bs buffer r after p good)
-
-  pub rescued-again : r′ ≡ Accepted record {
-    bytes = k .bytes;
-    statements = k .statements;
-    nodes = k .nodes;
-    dropped = 0;
-    after = 0;
-  }
-  rescued-again =
-      let held : contentAt (fileKept bs) ≡ contentKept bs = kept-held bs (said .head) (said .some) small in
-      given-back (fileKept bs) accepted-again buffer′ r′ after′ again fits
-      ∙ rw (
-        held,
-        bytes-told bs buffer r after p good,
-        statements-told bs buffer r after p good,
-        nodes-told bs buffer r after p good,
+  pub read-head : headGood file ≡ true
+  unfolding headGood
+  read-head =
+      let given = given-passed (contentAt file .table) (contentAt file .names) (contentAt file .dialect)
+      (read-is-sound file e) in
+      let known = given-known (contentAt file .table) (contentAt file .names) (contentAt file .dialect) (given .1) in
+      rw (
+        passed-block 0 (4 + headerAt file .dialect) file (fronted .header),
+        counts-fit,
+        known .1,
+        fronted .names,
       ) refl
 
-  pub same-again : take (k .bytes) after′ ≡ take (k .bytes) after
-  same-again =
-      ap (take (k .bytes)) (same-file (fileKept bs) accepted-again buffer′ r′ after′ again fits)
-      ∙ take-at (fileKept bs) (drop (length (fileKept bs)) buffer′) (k .bytes)
-      (sym (bytes-told bs buffer r after p good))
-      ∙ sym (rescued-front bs buffer r after p good)
+  pub read-kept : tableKept file ≡ contentAt file .table
+  read-kept = ap (λ (c : Content). c .table) (whole-kept file read-passes)
+
+  pub read-bytes : bytesFor (length (tableKept file)) (headerAt file .names) ≡ length file
+  read-bytes = rw (read-kept, table-length file fronted)
+      (omega (arith, read-whole file e, taken-is file, first-is file))
+
+  pub read-told : toldOf file (tableKept file)
+      ≡ length file ∷ statementsOf (contentAt file .table) ∷ length (contentAt file .table) / 24 ∷ 0 ∷ 0 ∷ []
+  read-told =
+      let dropped : headerAt file .nodes - length (contentAt file .table) / 24 ≡ 0 = omega
+      (arith, table-length file fronted) in
+      let after : length file - headerAt file .taken ≡ 0 = omega (arith, read-whole file e) in
+      rw (read-bytes, read-kept, dropped, after) refl
+
+  pub read-rescued : (room : ℕ) → length file ≤ room → rescueOf file room
+      ≡ accepted (length file ∷ statementsOf (contentAt file .table) ∷ length (contentAt file .table) / 24 ∷ 0 ∷ 0 ∷ [])
+  read-rescued room fits =
+      said file room read-head
+      (omega (arith, ap length read-kept, table-length file fronted, fronted .counts .0))
+      (omega (arith, read-bytes))
+      ∙ ap accepted read-told
+
+-- CLAIM 6: what is written is a file that the reader accepts, of the table that is kept
+module _ (bs buffer : List ℕ) (r : Rescued) (after : List ℕ) (p : Rescue bs buffer r after) (k : Kept)
+    (good : r ≡ Accepted k) (small : Bytes bs) where
+  abbrev file : List ℕ
+  file = fileOf (kept bs)
+
+  abbrev same : Kept
+  same = record { bytes = k .bytes; statements = k .statements; nodes = k .nodes; dropped = 0; after = 0 }
+
+  head-and-some : Says bs (length buffer) (told k)
+  head-and-some = all-says bs buffer r after p k good
+
+  file-read : readCheck file ≡ accepted []
+  file-read = kept-read bs (head-and-some .head) (head-and-some .some) small
+
+  file-held : contentAt file ≡ kept bs
+  file-held = kept-held bs (head-and-some .head) (head-and-some .some) small
+
+  answer-again : (room : ℕ) → k .bytes ≤ room → rescueOf file room ≡ rescued (Accepted same)
+  answer-again room fits =
+      let long = bytes-told bs buffer r after p k good in
+      let counted = all-counted bs buffer r after p k good in
+      let held : contentAt file .table ≡ tableKept bs = ap (λ (c : Content). c .table) file-held in
+      read-rescued file file-read room (omega (arith, long))
+      ∙ rw (held, long, counted .statements, counted .nodes) refl
+
+pub again : Again
+again bs buffer r after p k good small buffer′ r′ later p′ room =
+    let front = front-is bs buffer r after p k good in
+    let q : Rescue (fileOf (kept bs)) buffer′ r′ later = rw front at p′ in
+    let all : Kept = same bs buffer r after p k good small in
+    let is : r′ ≡ Accepted all = rescued-injective r′ (Accepted all)
+    (q .0 ∙ answer-again bs buffer r after p k good small (length buffer′) room) in
+    let whole = whole-kept _ (read-passes _ (file-read bs buffer r after p k good small)) in (
+      is,
+      front-is _ buffer′ r′ later q all is
+          ∙ ap fileOf (whole ∙ file-held bs buffer r after p k good small) ∙ sym front,
+    )
+
+-- the claims are not empty: no bytes at all are 90, and the file of any sound content is accepted
+pub empty-is-90 : (room : ℕ) → rescueOf [] room ≡ refused badHeader []
+unfolding headGood judge
+empty-is-90 room = bad-head [] room refl
+
+pub sound-is-accepted : (c : Content) → SoundContent c → (buffer : List ℕ) → length (fileOf c) ≤ length buffer
+    → Rescue (fileOf c) buffer (Accepted record {
+      bytes = length (fileOf c);
+      statements = statementsOf (c .table);
+      nodes = length (c .table) / 24;
+      dropped = 0;
+      after = 0;
+    }) (fileAfter (fileOf c) buffer)
+sound-is-accepted c s buffer fits =
+    let held : contentAt (fileOf c) .table ≡ c .table = ap (λ (d : Content). d .table) (back-holds c s) in
+    (sym (read-rescued (fileOf c) (back-accepted c s) (length buffer) fits ∙ rw held refl), refl)

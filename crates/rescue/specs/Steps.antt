@@ -1,65 +1,77 @@
 -- What the contracts of private functions speak of. No answer is defined by it.
 use mathlib.Core.Path.{_≡_}
 use mathlib.Core.Bool.{Bool, true, _&&_}
-use mathlib.Core.List.{List, [], _∷_}
-use Prim.Native.Nat.{ℕ, _*_, _-_, _≤_, max}
-use lib.ListN.{take, drop}
-use lib.Dec.{leb, eqb}
+use mathlib.Core.List.{List}
+use Prim.Native.Nat.{ℕ, suc, _*_, _/_, _≤_, min}
+use lib.ListN.{length, take}
+use lib.Dec.{eqb}
 use Rattle.fields.specs.Choice.{if'}
-use Rattle.forest.specs.Forest.{recordBytes, sizeOf, nodeOf, node, Forest, none, _then_, forest}
+use Rattle.forest.specs.Forest.{recordBytes, nodeOf, Tree, node, Forest, none, _then_, forest, firsts, count}
 use Rattle.soundness.specs.Kinds.{statement, classOf}
-use Rattle.soundness.specs.Sound.{wholeTree}
-use Rattle.table.specs.Answer.{Answer, accepted, refused}
-use Rattle.table.specs.declared.Place.{Place}
-use Rattle.table.specs.declared.Place.the-variants.{At, Nothing}
+use Rattle.soundness.specs.Sound.{Context, unsoundIn, clear}
+use Rattle.soundness.proofs.SoundTables.{treeSound}
+use Rattle.table.specs.Check.{mostBytes}
+use Rattle.table.specs.Depth.{firstDeep, deepIn}
+use Rattle.blocks.specs.Block.{contentBytes}
+use Rattle.blocks.specs.Run.{blocksFor, goodBlocks}
 use Rattle.tablefile.specs.Reading.{headerAt, contentAt}
 use Rattle.tablefile.specs.declared.Heading.{Heading}
-use Rattle.rescue.specs.Good.{headCheck}
-use Rattle.rescue.specs.Job.{nodesKept, tableKept}
+use Rattle.rescue.specs.Good.{headGood, blocksPass, goodTable}
+use Rattle.rescue.specs.Cut.{largestCut}
+use Rattle.rescue.specs.Job.{tableKept}
 
--- a file whose header passes, what its block 0 says, and its names
+-- a child that can be kept: a statement, its nodes are sound in the context of the table, and none is too deep under a
+-- root Statements
+unfoldable pub keepable : Context → Tree → Bool
+keepable x (node r ks) =
+    eqb (classOf (r .kind)) statement && (treeSound (λ i. x) (node r ks) && clear (deepIn 1 (node r ks)))
+
+-- the same of the child's stretch, as code tests it
+unfoldable pub keepableAt : Context → List ℕ → Bool
+keepableAt x c =
+    eqb (classOf (nodeOf 0 c .kind)) statement && (clear (unsoundIn x c) && clear (firstDeep 1 (forest 0 c)))
+
+-- how many leading trees pass a test
+unfoldable pub leading : (Tree → Bool) → Forest → ℕ
+leading p none = 0
+leading p (t then ts) = if' (p t) (λ _. suc (leading p ts)) (λ _. 0)
+
+-- how many bytes the leading children that can be kept have
+unfoldable pub leadingBytes : (Tree → Bool) → Forest → ℕ
+leadingBytes p f = recordBytes * count (firsts (leading p f) f)
+
+-- what is kept of the records in good node blocks
+unfoldable pub keptIf : Bool → List ℕ → List ℕ → List ℕ
+keptIf whole t names = if' whole (λ _. t) (λ _. largestCut t names)
+
+-- the first r bytes of a buffer are so many, and are these
+pub record Front (kept buffer : List ℕ) (r : ℕ) : Type 0 where
+  pub size : r ≡ length kept
+  pub front : take r buffer ≡ kept
+
+-- whole records, no more than a table has
+pub record Records (t : List ℕ) : Type 0 where
+  pub whole : recordBytes * (length t / recordBytes) ≡ length t
+  pub few : length t ≤ mostBytes
+
+-- how many bytes the good blocks of a run hold
+unfoldable pub goodBytes : ℕ → ℕ → List ℕ → ℕ
+goodBytes first total bs = min (contentBytes * goodBlocks (blocksFor total) first total bs) total
+
+-- a file whose header is good, what its block 0 says, and its names
 pub record Ready (bs : List ℕ) (h : Heading) (names : List ℕ) : Type 0 where
   pub heading : h ≡ headerAt bs
-  pub head : headCheck bs ≡ accepted []
+  pub head : headGood bs ≡ true
   pub called : names ≡ contentAt bs .names
 
--- and the table that is kept of it
-pub record Keeping (bs : List ℕ) (h : Heading) (names t : List ℕ) : Type 0 where
+-- and its records in good node blocks
+pub record Goods (bs : List ℕ) (h : Heading) (names t : List ℕ) : Type 0 where
+  pub ready : Ready bs h names
+  pub table : t ≡ goodTable bs
+
+-- or the table that is kept of it, and whether that is all
+pub record Keeping (bs : List ℕ) (h : Heading) (names t : List ℕ) (whole : Bool) : Type 0 where
   pub ready : Ready bs h names
   pub table : t ≡ tableKept bs
-  pub some : 1 ≤ nodesKept bs
-
--- whether nodes side by side are statements, each as long as its record says
-unfoldable pub wholeStatements : Forest → Bool
-wholeStatements none = true
-wholeStatements (node c ks then cs) =
-    (wholeTree c ks && eqb (classOf (c .kind)) statement) && wholeStatements cs
-
--- the records from a up to n are such statements, of a row: what stands behind the root
-abbrev pub Between : List ℕ → ℕ → ℕ → Type 0
-Between row a n =
-    wholeStatements (forest a (take (recordBytes * (n - a)) (drop (recordBytes * (a - 1)) row))) ≡ true
-
--- the root and its first children are r records: as many as there can be up to a limit
-pub record Ending (row : List ℕ) (limit r : ℕ) : Type 0 where
-  pub least : 1 ≤ r
-  pub upto : r ≤ max 1 limit
-  pub whole : Between row 1 r
-  pub furthest : (n : ℕ) → n ≤ limit → Between row 1 n → n ≤ r
-
--- the size of the record that a stretch begins with, if it is a statement within so many records; else 0
-unfoldable pub stepOf : ℕ → List ℕ → ℕ
-stepOf left bs =
-    if' (leb 1 (sizeOf bs) && (leb (sizeOf bs) left && eqb (classOf (nodeOf 0 bs .kind)) statement))
-    (λ _. sizeOf bs) (λ _. 0)
-
--- a place as a number: 0 for none
-abbrev pub placeOf : Place → ℕ
-placeOf (At i) = i
-placeOf Nothing = 0
-
--- how far n records pass a check: up to the node that it refuses
-abbrev pub reachOf : Answer → ℕ → ℕ
-reachOf (accepted vs) n = n
-reachOf (refused m []) n = 0
-reachOf (refused m (i ∷ vs)) n = i
+  pub some : 1 ≤ length t
+  pub passed : whole ≡ blocksPass bs

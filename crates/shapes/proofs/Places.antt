@@ -17,7 +17,8 @@ use Rattle.types.specs.Forms.{listShape, readsAs, argumentsOnly}
 use Rattle.types.specs.declared.How.{How}
 use Rattle.types.specs.declared.How.the-variants.{Unread, AsType, AsArgument}
 use Rattle.types.specs.declared.Reads.{Reads}
-use Rattle.shapes.specs.Shapes.{Shape, shapeAt, shapesOf, shapesChild, shapesEach, written, shapeOr, Rising}
+use Rattle.shapes.specs.Shapes.{Shape, shapeAt, shapesOf, shapesEach, written, shapeOr, Rising}
+use Rattle.shapes.proofs.Writing.{shapesChild}
 
 -- no shapes, shapes of two parts one after the other, and a wider range
 rising-none : (lo hi : ℕ) → Rising lo hi []

@@ -12,14 +12,16 @@ use Rattle.forest.specs.Forest.{Node, nodeOf, kidsOf, restOf, spanOf, Forest, f
 use Rattle.forest.proofs.Stretch.{forest-none, forest-tree, forest-induction}
 use Rattle.soundness.specs.KindNumbers.{kindList}
 use Rattle.types.specs.Forms.{formOf, shapeOf, listShape, readsAs, readsOf, argumentsOnly}
-use Rattle.types.specs.Types.{atNode, «unpack», unpackChild, unpackEach}
+use Rattle.types.specs.Types.{atNode, «unpack», unpackEach}
 use Rattle.types.specs.declared.Form.{Form}
 use Rattle.types.specs.declared.Form.the-variants.{Ellipsis, Path, Index, Index2, List, Union, Tuple, Other}
 use Rattle.types.specs.declared.How.{How}
 use Rattle.types.specs.declared.How.the-variants.{Unread, AsType, AsArgument}
 use Rattle.types.specs.declared.Reads.{Reads}
-use Rattle.shapes.specs.Shapes.{Shape, shapeAt, shapesOf, shapesChild, shapesEach, Proper}
+use Rattle.shapes.specs.Shapes.{Shape, shapeAt, shapesOf, shapesEach, Proper}
 use Rattle.shapes.proofs.Jobs.{Passes, both-pass}
+use Rattle.shapes.proofs.Writing.{shapesChild}
+use Rattle.types.proofs.Reading.{unpackChild}
 
 proper-none : Proper L.[]
 unfolding Proper

@@ -1,20 +1,25 @@
--- Laws of the shapes of a stretch, in the terms of code: one for each return of the writing walk. Assumes nothing.
+-- Laws of the shapes of a stretch, in the terms of code: one for each return of the writing walk. Both rules write the
+-- shape of their node and then walk its children from left to right. At each turn what is left makes of the buffer what
+-- all children make of the first one (`Writing`), since shapes are written one after the other (`written-append`). The
+-- caller of a rule chooses it by the child's kind, which gives the same as the definition (types' `by-rule`).
+-- Assumes nothing.
 use mathlib.Core.Path.{_≡_, refl, sym, ap, _∙_}
 use mathlib.Core.List.{List, [], _∷_, _++_}
 use Prim.Native.Nat.{ℕ, _+_, _-_, _/_, _<_, _≤_}
 use native.Mathlib.Omega.{arith}
 use lib.ListN.{length, take, drop, set, length-set}
-use borrow.Author.Tests.{eq-eqb}
-use Rattle.forest.specs.Forest.{nodeOf, spanOf, forest, treeOf}
+use borrow.Author.Tests.{eq-eqb, ne-eqb}
+use Rattle.forest.specs.Forest.{nodeOf, spanOf, Tree, forest, treeOf}
 use Rattle.forest.proofs.Stretch.{forest-none, kids-part, rest-part, length-kids, length-rest}
 use Rattle.soundness.specs.KindNumbers.{kindList}
-use Rattle.types.specs.Forms.{formOf, shapeOf, listShape, readsAs, readsOf, argumentsOnly}
-use Rattle.types.proofs.Reading.{first-and-rest, no-list}
+use Rattle.types.specs.Forms.{formOf, shapeOf, listShape, readsAs, readsOf, ruleOf}
+use Rattle.types.specs.Forms.{argumentsOnly, ofChild}
+use Rattle.types.proofs.Reading.{first-and-rest, by-rule, argument-list, falls}
 use Rattle.types.specs.declared.Form.{Form}
 use Rattle.types.specs.declared.How.{How}
 use Rattle.types.specs.declared.How.the-variants.{Unread, AsType, AsArgument}
 use Rattle.types.specs.declared.Reads.{Reads}
-use Rattle.shapes.specs.Shapes.{Shape, shapesOf, shapesChild, shapesEach, written}
+use Rattle.shapes.specs.Shapes.{Shape, shapesOf, shapesArgument, shapesEach, written}
 
 -- LAW: some shapes are written, then others
 pub written-append : (ss us : List Shape) (s : List ℕ) → written (ss ++ us) s ≡ written us (written ss s)
@@ -28,74 +33,114 @@ unfolding written
 written-length [] s = refl
 written-length (x ∷ ss) s = written-length ss (set s (x .at) (x .shape)) ∙ length-set s (x .at) (x .shape)
 
--- a buffer with room for a subtree has room for its children, once the node's own shape is set
-pub kids-room : (i v : ℕ) (t s : List ℕ) → 24 ≤ length t → i + length t / 24 ≤ length s → {e : ℕ} → e ≡ spanOf t
-    → i + 1 + length (take (e - 24) (drop 24 t)) / 24 ≤ length (set s i v)
-kids-room i v t s big room {e} e-is =
-    rw (kids-part e t e-is) (omega (arith, length-kids t, length-set s i v))
+-- a child as it is read
+abbrev pub shapesChild : How → Tree → List Shape
+shapesChild how t = ofChild how [] (λ _. shapesOf t) (λ _. shapesArgument t)
 
--- the type that a stretch begins with: its own shape, then those of its children
-pub write-on : (i : ℕ) (t s : List ℕ) {f : Form} → f ≡ formOf (nodeOf 0 t .kind) (nodeOf 0 t .detail)
-    → {v : ℕ} → v ≡ shapeOf f → {reads : Reads} → reads ≡ readsOf f → {e : ℕ} → e ≡ spanOf t → {r : List ℕ}
-    → r ≡ written (shapesEach reads (forest (i + 1) (take (e - 24) (drop 24 t)))) (set s i v)
-    → r ≡ written (shapesOf (treeOf i t)) s
-unfolding shapesOf written
-write-on i t s f-is v-is reads-is {e} e-is r-is = r-is ∙ rw (kids-part e t e-is, v-is, reads-is, f-is) refl
+-- a child, by the rule that its caller chooses
+module _ (i : ℕ) (t s : List ℕ) (how : How) {rule : How} {k : ℕ} (k-is : k ≡ nodeOf 0 t .kind)
+    (rule-is : rule ≡ ruleOf how k) where
+  chosen : shapesChild rule (treeOf i t) ≡ shapesChild how (treeOf i t)
+  unfolding shapesOf
+  chosen = rw (rule-is, k-is) (by-rule (nodeOf 0 t .kind) [] _ _ how)
 
--- a child, by how it is read
-module _ (i : ℕ) (t s : List ℕ) {how : How} where
-  pub child-unread : how ≡ Unread → s ≡ written (shapesChild how (treeOf i t)) s
+  as-chosen : {h : How} → rule ≡ h → written (shapesChild h (treeOf i t)) s ≡ written (shapesChild how (treeOf i t)) s
+  as-chosen e = ap (λ (x : How). written (shapesChild x (treeOf i t)) s) (sym e)
+      ∙ ap (λ (ss : List Shape). written ss s) chosen
+
+  pub child-is-list : rule ≡ AsArgument → nodeOf 0 t .kind ≡ kindList
+  child-is-list h = sym k-is ∙ argument-list how k (sym rule-is ∙ h)
+
+  pub child-unread : rule ≡ Unread → s ≡ written (shapesChild how (treeOf i t)) s
   unfolding written
-  child-unread h = rw h refl
+  child-unread h = as-chosen h
 
   module _ {r : List ℕ} where
-    pub child-type : how ≡ AsType → r ≡ written (shapesOf (treeOf i t)) s
+    pub child-type : rule ≡ AsType → r ≡ written (shapesOf (treeOf i t)) s
         → r ≡ written (shapesChild how (treeOf i t)) s
-    child-type h r-is = rw h r-is
+    child-type h r-is = r-is ∙ as-chosen h
 
-    module _ (h : how ≡ AsArgument) {k : ℕ} (k-is : k ≡ nodeOf 0 t .kind) where
-      pub child-list : k ≡ kindList → {e : ℕ} → e ≡ spanOf t
-          → r ≡ written (shapesEach argumentsOnly (forest (i + 1) (take (e - 24) (drop 24 t)))) (set s i listShape)
-          → r ≡ written (shapesChild how (treeOf i t)) s
-      unfolding shapesOf written
-      child-list list {e} e-is r-is = r-is ∙ rw (kids-part e t e-is, h, ← k-is, eq-eqb k kindList list) refl
+    pub child-list : rule ≡ AsArgument → r ≡ written (shapesArgument (treeOf i t)) s
+        → r ≡ written (shapesChild how (treeOf i t)) s
+    child-list h r-is = r-is ∙ as-chosen h
 
-      pub child-argument : (k ≡ kindList → ⊥) → r ≡ written (shapesOf (treeOf i t)) s
-          → r ≡ written (shapesChild how (treeOf i t)) s
-      unfolding shapesOf
-      child-argument other r-is = rw h (r-is ∙ ap (λ (ss : List Shape). written ss s) (no-list t k-is other _ _))
+-- an item of a List of arguments that is no List itself
+pub item-type : (i : ℕ) (t s : List ℕ) {k : ℕ} → k ≡ nodeOf 0 t .kind → (k ≡ kindList → ⊥)
+    → {r : List ℕ} → r ≡ written (shapesOf (treeOf i t)) s → r ≡ written (shapesChild AsArgument (treeOf i t)) s
+unfolding shapesOf
+item-type i t s {k} k-is other r-is = r-is ∙ rw (← k-is, ne-eqb k kindList other) refl
 
--- children side by side: at each turn what is left makes of the buffer s what the whole makes of the first one
-pub record Writing (reads : Reads) (t : List ℕ) (at : ℕ) (s₀ left : List ℕ) (place : ℕ) (how : How) (s : List ℕ)
-    : Type 0 where
+-- the children of a node side by side: at each turn what is left is a proper part of the node's subtree, and makes of
+-- the buffer s what the whole makes of the first one
+pub record Writing (others : How) (t : List ℕ) (at : ℕ) (whole : List ℕ) (size : ℕ) (left : List ℕ) (place : ℕ)
+    (how : How) (s : List ℕ) : Type 0 where
   pub room : place + length left / 24 ≤ length s
-  pub part : length left ≤ length t
-  pub long : length s ≡ length s₀
-  pub same : written (shapesEach (readsAs how (reads .others)) (forest place left)) s
-      ≡ written (shapesEach reads (forest at t)) s₀
+  pub upto : place + length left / 24 ≤ at + length t / 24
+  pub part : length left + 24 ≤ spanOf t
+  pub long : length s ≡ size
+  pub same : written (shapesEach (readsAs how others) (forest place left)) s ≡ whole
 
-module _ {reads : Reads} {t : List ℕ} {at : ℕ} {s₀ : List ℕ} where
-  pub each-start : at + length t / 24 ≤ length s₀ → Writing reads t at s₀ t at (reads .first) s₀
-  each-start h = record { room = h; part = omega arith; long = refl; same = refl }
+-- the children of a node whose own shape v is set
+abbrev pub kidsWritten : Reads → ℕ → List ℕ → ℕ → List ℕ → List ℕ
+kidsWritten reads i t e s = written (shapesEach reads (forest (i + 1) (take (e - 24) (drop 24 t)))) s
 
-  module _ {left : List ℕ} {place : ℕ} {how : How} {s : List ℕ} (w : Writing reads t at s₀ left place how s) where
-    pub each-end : length left < 24 → s ≡ written (shapesEach reads (forest at t)) s₀
-    unfolding shapesOf written
-    each-end short = rw (← w .same, forest-none place left short) refl
+module _ (i v : ℕ) (t s : List ℕ) {e : ℕ} (e-is : e ≡ spanOf t) where
+  pub kids-start : 24 ≤ length t → i + length t / 24 ≤ length s → (reads : Reads)
+      → Writing (reads .others) t i (kidsWritten reads i t e (set s i v)) (length (set s i v))
+      (take (e - 24) (drop 24 t)) (i + 1) (reads .first) (set s i v)
+  kids-start big room reads = record {
+    room = rw (kids-part e t e-is) (omega (arith, length-kids t, length-set s i v));
+    upto = rw (kids-part e t e-is) (omega (arith, length-kids t));
+    part = rw (kids-part e t e-is) (omega (arith, length-kids t));
+    long = refl;
+    same = refl;
+  }
 
-    pub each-long : length s ≡ length s₀
-    each-long = w .long
+  pub items-start : 24 ≤ length t → i + length t / 24 ≤ length s
+      → Writing AsArgument t i (kidsWritten argumentsOnly i t e (set s i v)) (length (set s i v))
+      (take (e - 24) (drop 24 t)) (i + 1) AsArgument (set s i v)
+  items-start big room = kids-start big room argumentsOnly
 
-    pub each-on : 24 ≤ length left → {u : List ℕ} → u ≡ written (shapesChild how (treeOf place left)) s
-        → {e : ℕ} → e ≡ spanOf left
-        → Writing reads t at s₀ (take (length left - e) (drop e left)) (place + e / 24) (reads .others) u
-    unfolding shapesOf
-    each-on big u-is {e} e-is = record {
-      room = rw (rest-part e left e-is, u-is, written-length (shapesChild how (treeOf place left)) s)
-          (omega (arith, length-rest left, w .room));
-      part = rw (rest-part e left e-is) (omega (arith, length-rest left, w .part));
-      long = rw u-is (written-length (shapesChild how (treeOf place left)) s ∙ w .long);
-      same = rw u-is (sym (written-append (shapesChild how (treeOf place left)) _ s)
-          ∙ ap (λ (ss : List Shape). written ss s) (sym (first-and-rest shapesEach shapesChild (λ x y. x ++ y)
-          (λ z x ts. refl) (readsAs how (reads .others)) place left big e-is)) ∙ w .same);
-    }
+  -- with them it is a type
+  pub type-written : {f : Form} → f ≡ formOf (nodeOf 0 t .kind) (nodeOf 0 t .detail) → v ≡ shapeOf f
+      → {reads : Reads} → reads ≡ readsOf f → {r : List ℕ} → r ≡ kidsWritten reads i t e (set s i v)
+      → r ≡ written (shapesOf (treeOf i t)) s
+  unfolding shapesOf written
+  type-written f-is v-is reads-is r-is = r-is ∙ rw (kids-part e t e-is, v-is, reads-is, f-is) refl
+
+-- or a List of arguments
+pub list-written : (i : ℕ) (t s : List ℕ) {e : ℕ} → e ≡ spanOf t → nodeOf 0 t .kind ≡ kindList
+    → {r : List ℕ} → r ≡ kidsWritten argumentsOnly i t e (set s i listShape)
+    → r ≡ written (shapesArgument (treeOf i t)) s
+unfolding shapesOf written
+list-written i t s {e} e-is list r-is =
+    r-is ∙ rw (kids-part e t e-is, eq-eqb (nodeOf 0 t .kind) kindList list) refl
+
+module _ {others : How} {t : List ℕ} {i : ℕ} {whole : List ℕ} {size : ℕ} {left : List ℕ} {place : ℕ} {how : How}
+    {s : List ℕ} (w : Writing others t i whole size left place how s) where
+  pub each-end : length left < 24 → s ≡ whole
+  unfolding shapesOf written
+  each-end short = rw (← w .same, forest-none place left short) refl
+
+  pub each-falls : spanOf left < spanOf t
+  each-falls = falls t left (w .part)
+
+  pub each-on : 24 ≤ length left → {u : List ℕ} → u ≡ written (shapesChild how (treeOf place left)) s
+      → {e : ℕ} → e ≡ spanOf left
+      → Writing others t i whole size (take (length left - e) (drop e left)) (place + e / 24) others u
+  unfolding shapesOf
+  each-on big u-is {e} e-is = record {
+    room = rw (rest-part e left e-is, u-is, written-length (shapesChild how (treeOf place left)) s)
+        (omega (arith, length-rest left, w .room));
+    upto = rw (rest-part e left e-is) (omega (arith, length-rest left, w .upto));
+    part = rw (rest-part e left e-is) (omega (arith, length-rest left, w .part));
+    long = rw u-is (written-length (shapesChild how (treeOf place left)) s ∙ w .long);
+    same = rw u-is (sym (written-append (shapesChild how (treeOf place left)) _ s)
+        ∙ ap (λ (ss : List Shape). written ss s) (sym (first-and-rest shapesEach shapesChild (λ x y. x ++ y)
+        (λ z x ts. refl) (readsAs how others) place left big e-is)) ∙ w .same);
+  }
+
+-- the buffer keeps the length that it had before the node's own shape was set
+pub still-long : (s₀ : List ℕ) (v : ℕ) {others : How} {t : List ℕ} {i : ℕ} {whole left : List ℕ} {place : ℕ} {how : How}
+    {s : List ℕ} → Writing others t i whole (length (set s₀ i v)) left place how s → length s ≡ length s₀
+still-long s₀ v {i = i} w = w .long ∙ length-set s₀ i v

@@ -12,7 +12,6 @@ use Rattle.forest.specs.Forest.{Node, Tree, node, Forest, none, _then_}
 use Rattle.soundness.specs.KindNumbers.{kindList}
 use Rattle.table.specs.Answer.{Answer, accepted, refused}
 use Rattle.types.specs.Forms.{formOf, shapeOf, listShape, readsAs, readsOf, argumentsOnly, ofChild}
-use Rattle.types.specs.declared.How.{How}
 use Rattle.types.specs.declared.Reads.{Reads}
 
 -- a node that is read, by its index, and its shape
@@ -44,10 +43,6 @@ unfoldable mutual
   shapesEach reads (t then ts) =
       ofChild (reads .first) [] (λ _. shapesOf t) (λ _. shapesArgument t)
       ++ shapesEach (readsAs (reads .others) (reads .others)) ts
-
--- a child as it is read
-abbrev pub shapesChild : How → Tree → List Shape
-shapesChild how t = ofChild how [] (λ _. shapesOf t) (λ _. shapesArgument t)
 
 -- a buffer after shapes are written, each at its index; other bytes stay
 unfoldable pub written : List Shape → List ℕ → List ℕ

@@ -28,7 +28,7 @@ pub fn type_shape(
         return judged;
     }
     let t = table::stretch(table, node);
-    walk::write_type(t, 0, shapes);
+    walk::write(t, 0, shapes);
     judged
 }
 

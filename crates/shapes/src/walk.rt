@@ -7,19 +7,20 @@
 use forest::RECORD;
 use soundness::kinds;
 use types::How;
-use types::Reads;
 use types::forms;
 ghost use mathlib.Core.Path.{_≡_};
 ghost use Prim.Native.Nat.{_+_, _/_, _≤_};
 ghost use lib.ListN.{length};
-ghost use Rattle.forest.specs.Forest.{recordBytes, treeOf, forest};
-ghost use Rattle.shapes.specs.Shapes.{shapesOf, shapesChild, shapesEach, written};
+ghost use Rattle.forest.specs.Forest.{recordBytes, nodeOf, treeOf};
+ghost use Rattle.soundness.specs.KindNumbers.{kindList};
+ghost use Rattle.shapes.specs.Shapes.{shapesOf, shapesArgument, written};
 
 // The shape of a List that is an argument.
 const LIST: u8 = 5;
 
-// Writes the shapes of the type that a stretch begins with, its own at the place at.
-pub(crate) fn write_type(t: &[u8], at: usize, shapes: &mut [u8])
+// Writes the shapes of the type that a stretch begins with, its own at the place at. A child that is read is a List of
+// arguments or a type: this function decides which, and the subtree is smaller at each call.
+pub(crate) fn write(t: &[u8], at: usize, shapes: &mut [u8])
     requires { ⌜ (recordBytes ≤ length (now t)) × (at + length (now t) / recordBytes ≤ length (now shapes)) ⌝ }
     ensures { λ r. ⌜ now (shapes .exit) ≡ written (shapesOf (treeOf at (now (t .entry)))) (now (shapes .entry)) ⌝ }
 {
@@ -28,48 +29,47 @@ pub(crate) fn write_type(t: &[u8], at: usize, shapes: &mut [u8])
     shapes[at] = shape;
     let reads = forms::reads_of(form);
     let e = forest::span(t);
-    write_each(reads, &t[RECORD..e], at + 1, shapes)
-}
-
-// Writes the shapes of a child as it is read: as a type, or as an argument of an Index2, which is a List of arguments
-// or a type.
-fn write_child(how: How, t: &[u8], at: usize, shapes: &mut [u8])
-    requires { ⌜ (recordBytes ≤ length (now t)) × (at + length (now t) / recordBytes ≤ length (now shapes)) ⌝ }
-    ensures { λ r. ⌜ now (shapes .exit) ≡
-        written (shapesChild how (treeOf at (now (t .entry)))) (now (shapes .entry)) ⌝ }
-{
-    match how {
-        How::Unread => {}
-        How::AsType => write_type(t, at, shapes),
-        How::AsArgument => {
-            if forest::kind(t) == kinds::LIST {
-                shapes[at] = LIST;
-                let reads = Reads {
-                    first: How::AsArgument,
-                    others: How::AsArgument,
-                };
-                let e = forest::span(t);
-                return write_each(reads, &t[RECORD..e], at + 1, shapes);
-            }
-            write_type(t, at, shapes)
+    let mut left = &t[RECORD..e];
+    let mut place = at + 1;
+    let mut how = reads.first;
+    while RECORD <= left.len() {
+        let child = left;
+        let here = place;
+        let rule = forms::rule_of(how, forest::kind(child));
+        let child_bytes = forest::span(child);
+        left = &child[child_bytes..];
+        place += child_bytes / RECORD;
+        how = reads.others;
+        match rule {
+            How::Unread => {}
+            How::AsType => write(child, here, shapes),
+            How::AsArgument => write_argument(child, here, shapes),
         }
     }
 }
 
-// Writes the shapes of the children side by side in a stretch, the first of them at the place at.
-fn write_each(reads: Reads, t: &[u8], at: usize, shapes: &mut [u8])
-    requires { ⌜ at + length (now t) / recordBytes ≤ length (now shapes) ⌝ }
+// Writes the shapes of the List of arguments that a stretch begins with, its own at the place at. An item is a List of
+// arguments again, or a type.
+fn write_argument(t: &[u8], at: usize, shapes: &mut [u8])
+    requires { ⌜ (recordBytes ≤ length (now t)) × (at + length (now t) / recordBytes ≤ length (now shapes)) ⌝ }
+    requires { ⌜ nodeOf 0 (now t) .kind ≡ kindList ⌝ }
     ensures { λ r. ⌜ now (shapes .exit) ≡
-        written (shapesEach reads (forest at (now (t .entry)))) (now (shapes .entry)) ⌝ }
+        written (shapesArgument (treeOf at (now (t .entry)))) (now (shapes .entry)) ⌝ }
 {
-    let mut left = t;
-    let mut place = at;
-    let mut how = reads.first;
+    shapes[at] = LIST;
+    let e = forest::span(t);
+    let mut left = &t[RECORD..e];
+    let mut place = at + 1;
     while RECORD <= left.len() {
-        write_child(how, left, place, shapes);
-        let e = forest::span(left);
-        left = &left[e..];
-        place += e / RECORD;
-        how = reads.others;
+        let item = left;
+        let here = place;
+        let item_bytes = forest::span(item);
+        left = &item[item_bytes..];
+        place += item_bytes / RECORD;
+        if forest::kind(item) == kinds::LIST {
+            write_argument(item, here, shapes);
+        } else {
+            write(item, here, shapes);
+        }
     }
 }

@@ -5,7 +5,7 @@ use Prim.Native.Nat.{ℕ}
 use Rattle.fields.proofs.Coincide.{coincide}
 use Rattle.forest.specs.declared.Found.{Found}
 use Rattle.soundness.specs.Kinds.{classOf}
-use Rattle.soundness.specs.Sound.{firstUnsound}
+use Rattle.soundness.specs.Sound.{context, firstUnsound, unsoundIn}
 
 -- of `class`
 pub class-one : (kind : ℕ) {r s : ℕ} → r ≡ classOf kind → s ≡ classOf kind → r ≡ s
@@ -15,3 +15,8 @@ class-one kind = coincide
 pub first-unsound-one : (table names : List ℕ) {r s : Found} → r ≡ firstUnsound table names
     → s ≡ firstUnsound table names → r ≡ s
 first-unsound-one table names = coincide
+
+-- of `first_unsound_in`
+pub first-unsound-in-one : (subtree : List ℕ) (names : ℕ) {r s : Found} → r ≡ unsoundIn (context names) subtree
+    → s ≡ unsoundIn (context names) subtree → r ≡ s
+first-unsound-in-one subtree names = coincide

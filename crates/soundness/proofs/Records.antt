@@ -13,7 +13,8 @@ use Rattle.fields.proofs.Basics.{and-left, and-right, never}
 use Rattle.fields.specs.Choice.{if'}
 use Rattle.forest.specs.Forest.{Node, sizeOf, nodeOf, spanOf, kidsOf, restOf, forest, count}
 use Rattle.forest.specs.Names.{same}
-use Rattle.forest.specs.declared.Found.the-variants.{At}
+use Rattle.forest.specs.declared.Found.{Found}
+use Rattle.forest.specs.declared.Found.the-variants.{At, Nothing}
 use Rattle.fields.proofs.Fields.{tail-part}
 use Rattle.forest.proofs.Stretch.{forest-none, forest-tree, forest-induction, count-forest, length-kids}
 use Rattle.forest.proofs.Stretch.{length-rest, kids-part, rest-part, node-take, size-take}
@@ -21,10 +22,10 @@ use Rattle.forest.proofs.Named.{same-length}
 use Rattle.soundness.specs.Kinds.{Children, kindOf, classOf}
 use Rattle.soundness.specs.Sound.{Context, fieldsSound, wholeTrees, classes, permitted, fixed, between}
 use Rattle.soundness.specs.Sound.{wanted, permits, kidsSound, soundNode, soundAt, context, contextOf}
-use Rattle.soundness.specs.Sound.{rootSound, recordSound, firstFalse, firstUnsound}
+use Rattle.soundness.specs.Sound.{rootSound, recordSound, firstFalse, firstUnsound, soundIn, unsoundIn}
 use Rattle.soundness.specs.Packed.{ruleOf, numberSound, LastFrom, childSound, childOf}
 use Rattle.soundness.proofs.Packing.{length-wanted}
-use Rattle.soundness.proofs.Search.{Looking, look-start, look-here, look-on}
+use Rattle.soundness.proofs.Search.{Looking, look-start, look-here, look-on, look-end, first-same}
 
 -- whether children are whole, and their classes, do not depend on their indices
 pub classes-index : (i : ℕ) (bs : List ℕ) (j : ℕ) → classes (forest i bs) ≡ classes (forest j bs)
@@ -352,7 +353,33 @@ module _ (x : Context) (t : List ℕ) where
             detail-is ∙ ap (λ (r : Node). r .detail) head-is,
           ) refl)
 
--- record i of a table, as code tests it
+-- record i of a stretch, as code tests it
+module _ (x : Context) (t : List ℕ) {n i : ℕ} (s : Looking (soundIn x t) n i) (h : i < n) {r : Bool}
+    (r-is : r ≡ soundAt x 0 (take (length t - 24 * i) (drop (24 * i) t))) where
+  record-test : soundIn x t i ≡ r
+  unfolding soundIn
+  record-test = sound-index x (drop (24 * i) t) i ∙ ap (soundAt x 0) (sym (tail-part (24 * i) t)) ∙ sym r-is
+
+  pub record-here : r ≡ false → At i ≡ firstFalse (soundIn x t) 0 n
+  record-here e = look-here s h (record-test ∙ e)
+
+  pub record-on : r ≡ true → Looking (soundIn x t) n (i + 1)
+  record-on e = look-on s h (record-test ∙ e)
+
+-- a table: no record, a root that is not sound, or what is asked of each record
+in-table : (t names : List ℕ) → rootSound t ≡ true → (i : ℕ)
+    → soundIn (context (length names)) t i ≡ recordSound t names i
+unfolding soundIn recordSound contextOf
+in-table t names root i = go (eqb i 0)
+  where
+    go : (z : Bool) {r : Bool} → r ≡ (if' z (λ _. rootSound t) (λ _. true) && r)
+    go true = rw root refl
+    go false = refl
+
+pub first-none : (t names : List ℕ) → length t < 24 → Nothing ≡ firstUnsound t names
+unfolding firstUnsound
+first-none t names short = look-end (look-start (recordSound t names) (length t / 24)) (omega arith)
+
 module _ (t names : List ℕ) {b : Bool} (b-is : b ≡ rootSound t) where
   pub root-first : b ≡ false → 24 ≤ length t → At 0 ≡ firstUnsound t names
   unfolding firstUnsound recordSound
@@ -360,21 +387,7 @@ module _ (t names : List ℕ) {b : Bool} (b-is : b ≡ rootSound t) where
       let bad : rootSound t ≡ false = cc in
       look-here (look-start (recordSound t names) (length t / 24)) (omega arith) (rw bad refl)
 
-  module _ (b-yes : b ≡ true) {n i : ℕ} (s : Looking (recordSound t names) n i) (h : i < n) {r : Bool}
-      (r-is : r ≡ soundAt (context (length names)) 0 (take (length t - 24 * i) (drop (24 * i) t))) where
-    record-test : recordSound t names i ≡ r
-    unfolding recordSound contextOf
-    record-test =
-        let here = sound-index (context (length names)) (drop (24 * i) t) i
-        ∙ ap (soundAt (context (length names)) 0) (sym (tail-part (24 * i) t)) in
-        rw (here, ← r-is) (go (eqb i 0))
-      where
-        go : (z : Bool) {r : Bool} → (if' z (λ _. rootSound t) (λ _. true) && r) ≡ r
-        go true = rw (← b-is, b-yes) refl
-        go false = refl
-
-    pub record-here : r ≡ false → At i ≡ firstFalse (recordSound t names) 0 n
-    record-here e = look-here s h (record-test ∙ e)
-
-    pub record-on : r ≡ true → Looking (recordSound t names) n (i + 1)
-    record-on e = look-on s h (record-test ∙ e)
+  pub root-then : b ≡ true → {r : Found} → r ≡ unsoundIn (context (length names)) t → r ≡ firstUnsound t names
+  unfolding firstUnsound unsoundIn
+  root-then b-yes r-is = r-is
+      ∙ first-same _ _ (length t / 24) 0 (in-table t names (sym b-is ∙ b-yes))

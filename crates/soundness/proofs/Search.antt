@@ -6,9 +6,10 @@ use native.Mathlib.Nat.{sub-zero}
 use native.Mathlib.Omega.{arith}
 use lib.Dec.{eqb}
 use borrow.Author.Tests.{eqb-true, eqb-false}
-use Rattle.fields.proofs.Basics.{never}
+use Rattle.fields.proofs.Basics.{never, clash}
+use Rattle.forest.specs.declared.Found.{Found}
 use Rattle.forest.specs.declared.Found.the-variants.{At, Nothing}
-use Rattle.soundness.specs.Sound.{firstFalse}
+use Rattle.soundness.specs.Sound.{firstFalse, clear}
 
 first-on : (p : ℕ → Bool) (i n : ℕ) → p i ≡ true → firstFalse p i (suc n) ≡ firstFalse p (i + 1) n
 unfolding firstFalse
@@ -39,6 +40,16 @@ module _ {p : ℕ → Bool} {n i : ℕ} (s : Looking p n i) where
   unfolding firstFalse
   look-end h = let m : n - i ≡ 0 = omega arith in rw m at (s .rest)
 
+-- two tests that agree everywhere
+pub first-same : (p q : ℕ → Bool) (n i : ℕ) → ((j : ℕ) → p j ≡ q j) → firstFalse p i n ≡ firstFalse q i n
+unfolding firstFalse
+first-same p q zero i same = refl
+first-same p q (suc n) i same = rw (same i, first-same p q n (i + 1) same) refl
+
+pub clear-is : (x : Found) → clear x ≡ true → x ≡ Nothing
+clear-is (At i) e = clash e refl
+clear-is Nothing e = refl
+
 -- LAW: where none is found, the test holds everywhere; where one is found, it fails there and holds before
 none-from : (p : ℕ → Bool) (n i : ℕ) → firstFalse p i n ≡ Nothing → (j : ℕ) → i ≤ j → j < i + n → p j ≡ true
 none-from p zero i e j h g = absurd (omega arith)
@@ -57,6 +68,16 @@ none-from p (suc n) i e j h g = split (p i) refl (λ t. none-from p n (i + 1) t 
 
 pub none-found : (p : ℕ → Bool) (n : ℕ) → firstFalse p 0 n ≡ Nothing → (j : ℕ) → j < n → p j ≡ true
 none-found p n e j h = none-from p n 0 e j (omega arith) (omega arith)
+
+-- and where it holds everywhere, none is found
+all-from : (p : ℕ → Bool) (n i : ℕ) → ((j : ℕ) → i ≤ j → j < i + n → p j ≡ true) → firstFalse p i n ≡ Nothing
+unfolding firstFalse
+all-from p zero i holds = refl
+all-from p (suc n) i holds = first-on p i n (holds i (omega arith) (omega arith))
+    ∙ all-from p n (i + 1) (λ j h k. holds j (omega arith) (omega arith))
+
+pub all-found : (p : ℕ → Bool) (n : ℕ) → ((j : ℕ) → j < n → p j ≡ true) → firstFalse p 0 n ≡ Nothing
+all-found p n holds = all-from p n 0 (λ j h k. holds j (omega arith))
 
 pub record First (p : ℕ → Bool) (i n k : ℕ) : Type 0 where
   pub from : i ≤ k

@@ -1,7 +1,12 @@
--- A table with no unsound record is a forest whose every node is sound, and so is the stretch of each of its nodes.
+-- A table with no unsound record is a forest whose every node is sound, and so is the stretch of each of its nodes
+-- (`sound-table`, `sound-subtree`): a record's children are found by stepping over their sizes, and what is sound is as
+-- long as it says, so that the records are the forest's nodes. The induction is on the records of a stretch.
+-- The other way round, where the root covers the table and all nodes are sound, no record is unsound (`sound-clean`);
+-- so too for a subtree whose records have one context (`clear-sound`), wherever it stands (`sound-anywhere`).
 -- Assumes nothing.
 use mathlib.Core.Path.{_≡_, refl, sym, ap, _∙_}
-use mathlib.Core.Bool.{Bool, true, _&&_}
+use mathlib.Core.Bool.{Bool, true, false, _&&_}
+use mathlib.Core.Logic.{⊎-elim}
 use mathlib.Core.List.{List}
 use Prim.Native.Nat.{ℕ, zero, suc, _+_, _-_, _*_, _/_, _<_, _≤_}
 use native.Mathlib.Omega.{arith}
@@ -9,21 +14,21 @@ use lib.ListN.{length, take, drop, length-drop}
 use lib.Seq.{take-all, take-take, drop-drop, length-take-le}
 use lib.Dec.{eqb}
 use borrow.Author.Tests.{eqb-true, eq-eqb}
-use Rattle.fields.proofs.Basics.{and-both, and-left, and-right, drop-take}
+use Rattle.fields.proofs.Basics.{and-both, and-left, and-right, both-ways, drop-take, le-or-lt}
 use Rattle.fields.specs.Choice.{if'}
 use Rattle.forest.specs.Forest.{Node, sizeOf, spanOf, nodeOf, kidsOf, restOf, Tree, node, Forest, none, _then_}
 use Rattle.forest.specs.Forest.{forest, count}
 use Rattle.forest.specs.Names.{same}
 use Rattle.forest.specs.declared.Found.the-variants.{Nothing}
 use Rattle.forest.proofs.Stretch.{node-take, size-take, length-kids, length-rest, forest-none}
-use Rattle.forest.proofs.Stretch.{forest-tree, count-forest, record-or-none}
+use Rattle.forest.proofs.Stretch.{forest-tree, forest-induction, count-forest, record-or-none}
 use Rattle.forest.proofs.Named.{same-bytes-equal}
 use Rattle.soundness.specs.Kinds.{statement, Children, kindOf, classOf}
 use Rattle.soundness.specs.Sound.{Context, fieldsSound, wholeTree, wholeTrees, classes, permitted, between}
 use Rattle.soundness.specs.Sound.{wanted, permits, kidsSound, soundNode, soundAt, rootSound, contextOf}
-use Rattle.soundness.specs.Sound.{recordSound, firstUnsound}
-use Rattle.soundness.proofs.Search.{none-found}
-use Rattle.soundness.proofs.Records.{whole-size}
+use Rattle.soundness.specs.Sound.{recordSound, firstUnsound, soundIn, unsoundIn, clear}
+use Rattle.soundness.proofs.Search.{none-found, all-found, clear-is}
+use Rattle.soundness.proofs.Records.{whole-size, sound-index}
 
 -- THEOREM: a record is whole exactly where its size is at least 1 and its subtree does not pass the end of what is
 -- there
@@ -288,3 +293,98 @@ module _ (x : ℕ → Context) (i : ℕ) (bs : List ℕ) (s : Sound x i bs) (big
     nodes = and-right (soundNode (x i) (nodeOf i bs) (forest (i + 1) (kidsOf bs))
         && allSound x (forest (i + 1) (kidsOf bs))) _ parts;
   }
+
+-- LAW: where every node of a stretch of a table is sound, so is each of its records: it is the first, one under it, or
+-- one behind
+module _ (x : ℕ → Context) (t : List ℕ) where
+  each-in : (k i m : ℕ) → m ≤ k → 24 * (i + m) ≤ length t → allSound x (forest i (stretch t i m)) ≡ true
+      → (j : ℕ) → i ≤ j → j < i + m → soundAt (x j) j (drop (24 * j) t) ≡ true
+  unfolding soundAt
+  each-in zero i m hk room sound j h g = absurd (omega arith)
+  each-in (suc k) i m hk room sound j h g =
+      let long = length-stretch t i m room in
+      let big : 24 ≤ length (stretch t i m) = omega arith in
+      let s : Sound x i (stretch t i m) = record { records = omega arith; nodes = sound } in
+      let n : ℕ = sizeOf (stretch t i m) in
+      let z = sound-size x i (stretch t i m) s big in
+      let after : i + spanOf (stretch t i m) / 24 ≡ i + n = omega arith in
+      let kids = rw (kids-are t i m room (omega arith) (z .2) (z .0))
+      at (sound-kids x i (stretch t i m) s big .nodes) in
+      let rest = rw (rest-is t i m room (omega arith) (z .2) (z .0), after)
+      at (sound-rest x i (stretch t i m) s big .nodes) in
+      ⊎-elim (λ (far : i + n ≤ j). each-in k (i + n) (m - n) (omega arith) (omega arith) rest j far (omega arith))
+      (λ (near : j < i + n). ⊎-elim
+      (λ (under : i + 1 ≤ j). each-in k (i + 1) (n - 1) (omega arith) (omega arith) kids j under (omega arith))
+      (λ (here : j < i + 1).
+      let at : j ≡ i = omega arith in
+      rw at (rw (kids-same t i m room (omega arith) (z .2) (z .0), node-take i (24 * m) (drop (24 * i) t) (omega arith))
+      at (sound-first x i (stretch t i m) s big)))
+      (le-or-lt (i + 1) j))
+      (le-or-lt (i + n) j)
+
+record-in : (t names : List ℕ) → rootSound t ≡ true → (j : ℕ)
+    → soundAt (contextOf t names j) j (drop (24 * j) t) ≡ true → recordSound t names j ≡ true
+unfolding recordSound
+record-in t names root j e = rw (root, e) (go (eqb j 0))
+  where
+    go : (b : Bool) → (if' b (λ _. true) (λ _. true) && true) ≡ true
+    go true = refl
+    go false = refl
+
+-- THEOREM: a table that its root covers, and whose nodes are all sound, has no unsound record
+pub sound-clean : (t names : List ℕ) → rootSound t ≡ true → Sound (contextOf t names) 0 t
+    → firstUnsound t names ≡ Nothing
+unfolding firstUnsound
+sound-clean t names root s =
+    let n : ℕ = length t / 24 in
+    let all : take (24 * n) t ≡ t = take-all (24 * n) t (omega (arith, s .records)) in
+    let nodes : allSound (contextOf t names) (forest 0 (stretch t 0 n)) ≡ true = rw all (s .nodes) in
+    all-found (recordSound t names) n
+    (λ j h. record-in t names root j (each-in (contextOf t names) t n 0 n (omega arith) (omega (arith, s .records))
+    nodes j (omega arith) (omega arith)))
+
+-- LAW: a subtree that fills its stretch has no unsound record exactly where all its nodes are sound
+module _ (x : Context) (bs : List ℕ) (one : spanOf bs ≡ length bs) (records : 24 * (length bs / 24) ≡ length bs) where
+  abbrev n : ℕ
+  n = length bs / 24
+
+  all-bytes : stretch bs 0 n ≡ bs
+  all-bytes = take-all (24 * n) bs (omega arith)
+
+  nothing-sound : unsoundIn x bs ≡ Nothing → allSound (λ i. x) (forest 0 bs) ≡ true
+  unfolding unsoundIn soundIn soundAt
+  nothing-sound clean =
+      record-or-none bs (all-none (λ i. x) 0 bs) λ big.
+      let each : (j : ℕ) → j < n → soundAt x j (drop (24 * j) bs) ≡ true = none-found (soundIn x bs) n clean in
+      let size = node-size x (nodeOf 0 bs) (forest 1 (kidsOf bs)) (each 0 (omega arith)) in
+      let long : length bs ≡ 24 * sizeOf bs = omega (arith, count-forest 1 (kidsOf bs), length-kids bs) in
+      rw all-bytes at (all-in (λ i. x) bs each n 0 n (omega arith) (omega arith)
+      (rw all-bytes (one-whole 0 bs (omega arith) long)))
+
+  sound-nothing : allSound (λ i. x) (forest 0 bs) ≡ true → unsoundIn x bs ≡ Nothing
+  unfolding unsoundIn soundIn
+  sound-nothing sound = all-found (soundIn x bs) n (λ j h. each-in (λ i. x) bs n 0 n (omega arith) (omega arith)
+      (rw all-bytes sound) j (omega arith) (omega arith))
+
+  pub clear-sound : clear (unsoundIn x bs) ≡ allSound (λ i. x) (forest 0 bs)
+  clear-sound = both-ways _ _ (λ e. nothing-sound (clear-is (unsoundIn x bs) e)) (λ e. rw (sound-nothing e) refl)
+
+-- LAW: where all records have the same context, the index of the first does not matter
+here-anywhere : (x : Context) (bs : List ℕ) (i j : ℕ) → soundNode x (nodeOf i bs) (forest (i + 1) (kidsOf bs))
+    ≡ soundNode x (nodeOf j bs) (forest (j + 1) (kidsOf bs))
+unfolding soundAt
+here-anywhere x bs i j = sound-index x bs i ∙ sym (sound-index x bs j)
+
+pub sound-anywhere : (x : Context) (i : ℕ) (bs : List ℕ) (j : ℕ)
+    → allSound (λ k. x) (forest i bs) ≡ allSound (λ k. x) (forest j bs)
+unfolding allSound
+sound-anywhere x =
+    forest-induction (λ i bs. (j : ℕ) → allSound (λ k. x) (forest i bs) ≡ allSound (λ k. x) (forest j bs))
+    (λ i bs s j. rw (forest-none i bs s, forest-none j bs s) refl)
+    (λ i bs big ks rs j. rw (
+      forest-tree i bs big,
+      forest-tree j bs big,
+      ks (j + 1),
+      rs (j + spanOf bs / 24),
+      here-anywhere x bs i j,
+    ) refl)

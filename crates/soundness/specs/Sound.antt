@@ -1,5 +1,5 @@
 -- When a record is sound, and the first that is not, as document 01 says it. These are definitions.
-use mathlib.Core.Bool.{Bool, true, _&&_}
+use mathlib.Core.Bool.{Bool, true, false, _&&_}
 use mathlib.Core.List.{List, [], _∷_, _++_}
 use Prim.Native.Nat.{ℕ, zero, suc, _+_, _-_, _*_, _/_, _%_}
 use lib.ListN.{length, drop, replicate}
@@ -113,3 +113,16 @@ firstFalse p i (suc n) = if' (p i) (λ _. firstFalse p (i + 1) n) (λ _. At i)
 -- the first unsound record in index order
 unfoldable pub firstUnsound : List ℕ → List ℕ → Found
 firstUnsound t names = firstFalse (recordSound t names) 0 (length t / recordBytes)
+
+-- record i of a stretch, all of whose records have the same context
+unfoldable pub soundIn : Context → List ℕ → ℕ → Bool
+soundIn x bs i = soundAt x i (drop (recordBytes * i) bs)
+
+-- the first unsound record of such a stretch: a subtree, judged in the context of its table
+unfoldable pub unsoundIn : Context → List ℕ → Found
+unsoundIn x bs = firstFalse (soundIn x bs) 0 (length bs / recordBytes)
+
+-- whether a search found nothing
+abbrev pub clear : Found → Bool
+clear (At i) = false
+clear Nothing = true

@@ -8,7 +8,7 @@ mod sound;
 use forest::Found;
 ghost use mathlib.Core.Path.{_≡_};
 ghost use Rattle.soundness.specs.Kinds.{classOf};
-ghost use Rattle.soundness.specs.Sound.{firstUnsound};
+ghost use Rattle.soundness.specs.Sound.{context, firstUnsound, unsoundIn};
 
 // The class of a kind, by the numbers of `classes`; 0 for no kind.
 pub fn class(kind: u8) -> u8
@@ -22,4 +22,12 @@ pub fn first_unsound(table: &[u8], names: &[u8]) -> Found
     ensures { λ r. ⌜ r ≡ firstUnsound (now (table .entry)) (now (names .entry)) ⌝ }
 {
     sound::first_unsound(table, names)
+}
+
+// The first unsound record of a subtree, in a table that has `names` name bytes. Unlike `first_unsound` it does not ask
+// that the first record is a statement and covers the bytes.
+pub fn first_unsound_in(subtree: &[u8], names: usize) -> Found
+    ensures { λ r. ⌜ r ≡ unsoundIn (context names) (now (subtree .entry)) ⌝ }
+{
+    sound::first_unsound_in(subtree, names)
 }

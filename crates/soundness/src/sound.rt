@@ -11,7 +11,7 @@ ghost use lib.Dec.{leb};
 ghost use lib.ListN.{length};
 ghost use Rattle.forest.specs.Forest.{recordBytes, nodeOf, forest};
 ghost use Rattle.soundness.specs.Sound.{context, nameSound, spanSound, sourceSound, fieldsSound, classes};
-ghost use Rattle.soundness.specs.Sound.{kidsSound, soundAt, rootSound, firstUnsound};
+ghost use Rattle.soundness.specs.Sound.{kidsSound, soundAt, rootSound, firstUnsound, unsoundIn};
 ghost use Rattle.soundness.specs.Packed.{backsIn, childrenOf, ruleOf, numberSound, LastFrom, classAt, childOf};
 
 // A name within the lent names where the kind has one; elsewhere length and start are zero.
@@ -200,18 +200,24 @@ fn root_sound(table: &[u8]) -> bool
 pub(crate) fn first_unsound(table: &[u8], names: &[u8]) -> Found
     ensures { λ r. ⌜ r ≡ firstUnsound (now (table .entry)) (now (names .entry)) ⌝ }
 {
-    let n = table.len() / RECORD;
-    let m = names.len();
-    if n == 0 {
+    if table.len() < RECORD {
         return Found::Nothing;
     }
     if !root_sound(table) {
         return Found::At(0);
     }
+    first_unsound_in(table, names.len())
+}
+
+// The first unsound record of a subtree, in a table that has `names` name bytes.
+pub(crate) fn first_unsound_in(subtree: &[u8], names: usize) -> Found
+    ensures { λ r. ⌜ r ≡ unsoundIn (context names) (now (subtree .entry)) ⌝ }
+{
+    let n = subtree.len() / RECORD;
     let mut i = 0;
     while i < n {
         let a = RECORD * i;
-        if !record_sound(&table[a..], m) {
+        if !record_sound(&subtree[a..], names) {
             return Found::At(i);
         }
         i += 1;

@@ -21,6 +21,11 @@ use Rattle.writer.specs.Writing.{writeOf, fileAfter}
 use Rattle.rescue.specs.Job.{rescueOf, fileAfter as rescuedAfter}
 use Rattle.starlark_checks.specs.Words.{number, words, callWords, rescueWords, laid}
 use Rattle.starlark_checks.specs.Words.{readOf, passWords}
+use Rattle.starlark_checks.specs.Version.{version}
+
+-- of `starlark_version`
+pub starlark-version-one : {r s : ℕ} → r ≡ version → s ≡ version → r ≡ s
+starlark-version-one = coincide
 
 -- of `starlark_table`
 pub starlark-table-one : (table names out : List ℕ) {r s : ℕ} {out-r out-s : List ℕ}

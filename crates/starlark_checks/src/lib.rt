@@ -38,6 +38,14 @@ ghost use Rattle.writer.specs.Writing.{writeOf, fileAfter};
 ghost use Rattle.rescue.specs.Job.{rescueOf, fileAfter as rescuedAfter, told};
 ghost use Rattle.starlark_checks.specs.Words.{number, words, callWords, rescueWords, laid, Fit, placeIn};
 ghost use Rattle.starlark_checks.specs.Words.{heldValues, readOf, passWords};
+ghost use Rattle.starlark_checks.specs.Version.{version};
+
+// The version of the library.
+const MAJOR: u32 = 0;
+
+const MINOR: u32 = 2;
+
+const PATCH: u32 = 0;
 
 // A refusal: what it carries, and its number.
 fn put_refused(r: Refusal, out: &mut [u32; 12]) -> u32
@@ -163,6 +171,14 @@ fn put_held(file: &[u8], out: &mut [u32; 12]) -> u32
     out[4] = fields::word(dialect, 4);
     out[5] = fields::word(dialect, 8);
     0
+}
+
+// The version of the library: major * 65536 + minor * 256 + patch.
+#[no_mangle]
+pub extern "C" fn starlark_version() -> u32
+    ensures { λ r. ⌜ r ≡ version ⌝ }
+{
+    MAJOR * 65_536 + MINOR * 256 + PATCH
 }
 
 // The table check.

@@ -4,9 +4,9 @@ use mathlib.Core.Path.{_≡_, refl, sym, ap, _∙_}
 use mathlib.Core.Bool.{Bool, true, false}
 use mathlib.Core.List.{List, [], _∷_}
 use Prim.Native.Nat.{ℕ}
-use Rattle.fields.proofs.Basics.{never}
+use Rattle.fields.proofs.Basics.{never, clash}
 use Rattle.fields.specs.Choice.{if'}
-use Rattle.table.specs.Answer.{Answer, accepted, refused, andThen, numberOf, carried, refusal}
+use Rattle.table.specs.Answer.{Answer, accepted, refused, passes, andThen, numberOf, carried, refusal}
 use Rattle.table.specs.Answer.{checked, nodeIn, extentIn, earlierIn, earlierValues}
 use Rattle.table.specs.Check.{given}
 use Rattle.table.specs.declared.Span.{Span}
@@ -70,6 +70,11 @@ refusal-injective (Spanned n k s f) (Spanned m l u g) e =
 pub refused-there : (n k : ℕ) (vs : List ℕ) {s u : Span} {x : Answer} → x ≡ refused n (k ∷ s .begin ∷ s .end ∷ vs)
     → s ≡ u → x ≡ refused n (k ∷ u .begin ∷ u .end ∷ vs)
 refused-there n k vs x-is s-is = x-is ∙ ap (λ (u : Span). refused n (k ∷ u .begin ∷ u .end ∷ vs)) s-is
+
+-- an answer that passes
+pub passes-is : (a : Answer) → passes a ≡ true → (vs : List ℕ) × (a ≡ accepted vs)
+passes-is (accepted vs) e = (vs, refl)
+passes-is (refused n vs) e = clash e refl
 
 -- a refusal is no acceptance
 pub never-passed : {P : Type 0} {n : ℕ} {vs ws : List ℕ} → refused n vs ≡ accepted ws → P

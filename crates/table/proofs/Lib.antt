@@ -1,6 +1,7 @@
 pub mod Answers
 pub mod Deep
 pub mod Depths
+pub mod Anywhere
 pub mod Nodes
 pub mod Checking
 pub mod Theorems

@@ -11,6 +11,7 @@ use Rattle.soundness.specs.Kinds.{classOf}
 use Rattle.table.specs.Answer.{refused, refusedAt, numberOf, refusal, checked, spanAt, nodeIn, extentIn}
 use Rattle.table.specs.Answer.{earlierIn, earlierValues}
 use Rattle.table.specs.Naming.{bearsName, firstNamed}
+use Rattle.table.specs.Depth.{firstDeep}
 use Rattle.table.specs.declared.Entries.{Entries}
 use Rattle.table.specs.Check.{checkOf, given, givenOf, nodeFits, stretchOf, entryCheck}
 use Rattle.table.specs.Check.{mostBytes, isHeaded}
@@ -41,6 +42,11 @@ refused-at-one number node t = coincide-by refusal refusal-injective
 pub node-fits-one : (table : List ℕ) (node : ℕ) (wanted : Wanted) {r s : Bool} → r ≡ nodeFits table node wanted
     → s ≡ nodeFits table node wanted → r ≡ s
 node-fits-one table node wanted = coincide
+
+-- of `deep_under_root`
+pub deep-under-root-one : (t : List ℕ) {r s : Found} → r ≡ firstDeep 1 (forest 0 t) → s ≡ firstDeep 1 (forest 0 t)
+    → r ≡ s
+deep-under-root-one t = coincide
 
 -- of `stretch`, whose answer is a part of the lent table
 pub stretch-one : (table : List ℕ) (node : ℕ) {r s : List ℕ} → r ≡ stretchOf table node → s ≡ stretchOf table node

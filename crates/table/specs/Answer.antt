@@ -1,5 +1,6 @@
 -- What an answer means: document 01's number and values. These are definitions.
 use mathlib.Core.Path.{_≡_}
+use mathlib.Core.Bool.{Bool, true, false}
 use mathlib.Core.List.{List, [], _∷_}
 use Prim.Native.Nat.{ℕ, _≤_}
 use lib.ListN.{length}
@@ -24,6 +25,16 @@ pub data Answer : Type 0 where
 abbrev pub andThen : Answer → (Unit {0} → Answer) → Answer
 andThen (accepted vs) next = next tt
 andThen (refused n vs) next = refused n vs
+
+-- whether it is accepted
+abbrev pub passes : Answer → Bool
+passes (accepted vs) = true
+passes (refused n vs) = false
+
+-- whether an answer is a refusal
+abbrev pub isRefused : Answer → Bool
+isRefused (accepted vs) = false
+isRefused (refused n vs) = true
 
 -- a refusal at a node, with its span
 abbrev pub refusedAt : ℕ → Node → Answer

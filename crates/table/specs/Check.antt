@@ -64,13 +64,20 @@ abbrev pub noneFound : ℕ → Found → Answer
 noneFound n (At i) = refused n (i ∷ [])
 noneFound n Nothing = accepted []
 
+-- 3 and 4: what the searches for an unsound record and for a node that is too deep answer
+abbrev pub unsoundCheck : Found → Answer
+unsoundCheck f = noneFound unsoundRecord f
+
+abbrev pub deepCheck : Found → Answer
+deepCheck f = noneFound tooDeep f
+
 -- the check: 1, 2, 3 the first unsound record, 4 the first node that is too deep
 unfoldable pub checkOf : List ℕ → List ℕ → Answer
 checkOf t names =
     andThen (lengthCheck (length t)) (λ _.
     andThen (namesCheck (length names)) (λ _.
-    andThen (noneFound unsoundRecord (firstUnsound t names)) (λ _.
-    noneFound tooDeep (firstDeep 0 (forest 0 t)))))
+    andThen (unsoundCheck (firstUnsound t names)) (λ _.
+    deepCheck (firstDeep 0 (forest 0 t)))))
 
 -- what a job in a dialect is given: the dialect, or the refusal that turns it away
 pub data Handing : Type 0 where
@@ -81,11 +88,15 @@ abbrev pub given : Given → Handing
 given (In d) = inDialect d
 given (Refused r) = turnedAway (numberOf r) (carried r)
 
--- after 1 to 4, 5: the bytes give no dialect
+-- 5: the bytes give no dialect
+abbrev pub decoded : Decoded → Handing
+decoded (Valid d) = inDialect d
+decoded Invalid = turnedAway badDialect []
+
+-- the same after 1 to 4
 abbrev pub handing : Answer → Decoded → Handing
 handing (refused n vs) x = turnedAway n vs
-handing (accepted vs) Invalid = turnedAway badDialect []
-handing (accepted vs) (Valid d) = inDialect d
+handing (accepted vs) x = decoded x
 
 unfoldable pub givenOf : List ℕ → List ℕ → List ℕ → Handing
 givenOf t names bytes = handing (checkOf t names) (fromBytes bytes)

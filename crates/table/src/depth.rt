@@ -33,7 +33,7 @@ fn weight_of(t: &[u8]) -> usize
 
 // The nodes of a stretch whose first record has the index at; depth is their parent's. Children by recursion, which the
 // depth limit ends; siblings in a loop.
-fn deep_from(t: &[u8], at: usize, depth: usize) -> Found
+pub(crate) fn deep_from(t: &[u8], at: usize, depth: usize) -> Found
     requires { ⌜ (recordBytes * at + length (now t) < 2 ^ 63) × (depth ≤ 64) ⌝ }
     ensures { λ r. ⌜ r ≡ firstDeep depth (forest at (now (t .entry))) ⌝ }
 {

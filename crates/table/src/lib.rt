@@ -11,7 +11,8 @@ use forest::RECORD;
 use soundness::classes;
 use soundness::kinds;
 ghost use mathlib.Core.Path.{_≡_};
-ghost use Rattle.forest.specs.Forest.{nodeOf};
+ghost use Rattle.forest.specs.Forest.{nodeOf, forest};
+ghost use Rattle.table.specs.Depth.{firstDeep};
 ghost use Rattle.soundness.specs.Kinds.{classOf};
 ghost use mathlib.Core.List.{_∷_};
 ghost use lib.ListN.{take};
@@ -119,6 +120,13 @@ pub fn check(table: &[u8], names: &[u8]) -> Checked
         });
     }
     Checked::Sound
+}
+
+// The first node that is too deep among children of the root: t is their stretch.
+pub fn deep_under_root(t: &[u8]) -> Found
+    ensures { λ r. ⌜ r ≡ firstDeep 1 (forest 0 (now (t .entry))) ⌝ }
+{
+    depth::deep_from(t, 0, 1)
 }
 
 // The class of the record that a stretch begins with, by the numbers of `soundness::classes`; 0 for no kind.

@@ -1,15 +1,19 @@
 -- Laws of the bytes that the reader copies, in the terms of code. Assumes nothing.
 use mathlib.Core.Path.{_≡_, refl, sym, ap, _∙_}
+use mathlib.Core.Bool.{and-false}
 use mathlib.Core.List.{List, _++_, append-assoc, append-nil}
-use Prim.Native.Nat.{ℕ, zero, suc, _+_, _*_, _-_, _<_, _≤_, min}
+use Prim.Native.Nat.{ℕ, zero, suc, _+_, _*_, _-_, _/_, _<_, _≤_, min}
 use native.Mathlib.Omega.{arith}
 use lib.ListN.{length, take, drop, replicate, length-append, length-drop, drop-of-length-le, take-append-drop}
 use lib.Seq.{length-take-le, take-at, drop-at, drop-drop}
+use lib.Dec.{leb}
+use borrow.Author.Tests.{le-leb, lt-leb}
 use borrow.Rule.Slice.PartMut.{putMid}
 use Rattle.fields.proofs.Fields.{tail-part}
 use Rattle.blocks.specs.Run.{blocksFor, contentIn, contentOf}
 use Rattle.blocks.proofs.Runs.{blocks-more, content-nothing, content-long, content-full, content-next}
 use Rattle.tablefile.specs.Loading.{laid}
+use Rattle.tablefile.specs.Lending.{copied}
 
 -- zeros from a place on are zeros
 pub drop-zeros : (n m : ℕ) → drop {A = ℕ} m (replicate n 0) ≡ replicate (n - m) 0
@@ -120,3 +124,35 @@ module _ (bs : List ℕ) (len : ℕ) (h : 512 ≤ length bs) (few : len ≤ 9) w
   pub dialect-laid : {out : List ℕ} → out ≡ take len (take (length bs - 8) (drop 8 bs)) ++ drop len (replicate 9 0)
       → out ≡ laid 9 (take len (drop 8 bs))
   dialect-laid e = (rw (tail-part 8 bs) at e) ∙ laid-over 9 (take len (drop 8 bs)) dialect-long
+
+-- the content of a run, copied where it is there and fits: code counts the blocks
+pub copied-there : (first len n : ℕ) {k : ℕ} → first ≤ n / 512 → k ≡ blocksFor len → k ≤ n / 512 - first
+    → 512 * (first + blocksFor len) ≤ n
+copied-there first len n h k-is g = omega arith
+
+module _ (first len : ℕ) (bs buffer : List ℕ) where
+  copied-missing : length bs < 512 * (first + blocksFor len) → buffer ≡ copied first len bs buffer
+  unfolding copied
+  copied-missing h = rw (lt-leb (512 * (first + blocksFor len)) (length bs) h) refl
+
+  pub copied-far : length bs / 512 < first → buffer ≡ copied first len bs buffer
+  copied-far h = copied-missing (omega arith)
+
+  pub copied-cut : first ≤ length bs / 512 → {k : ℕ} → k ≡ blocksFor len → length bs / 512 - first < k
+      → buffer ≡ copied first len bs buffer
+  copied-cut h k-is g = copied-missing (omega arith)
+
+  pub copied-long : length buffer < len → buffer ≡ copied first len bs buffer
+  unfolding copied
+  copied-long h = rw (lt-leb len (length buffer) h, and-false (leb (512 * (first + blocksFor len)) (length bs))) refl
+
+  -- LAW: where the blocks are there and the buffer has room, the content is copied
+  pub copied-is : 512 * (first + blocksFor len) ≤ length bs → len ≤ length buffer
+      → copied first len bs buffer ≡ contentOf len (drop (512 * first) bs) ++ drop len buffer
+  unfolding copied
+  copied-is h g = rw (le-leb (512 * (first + blocksFor len)) (length bs) h, le-leb len (length buffer) g) refl
+
+  pub copied-all : first ≤ length bs / 512 → {k : ℕ} → k ≡ blocksFor len → k ≤ length bs / 512 - first
+      → len ≤ length buffer → {after : List ℕ}
+      → after ≡ contentOf len (drop (512 * first) bs) ++ drop len buffer → after ≡ copied first len bs buffer
+  copied-all h k-is g room is = is ∙ sym (copied-is (copied-there first len (length bs) h k-is g) room)

@@ -9,7 +9,7 @@ use lib.Dec.{eqb, leb}
 use borrow.Author.Tests.{eq-eqb, ne-eqb, leb-true}
 use Rattle.fields.specs.Choice.{if'}
 use Rattle.fields.specs.Field.{field}
-use Rattle.fields.proofs.Fields.{tail-part}
+use Rattle.fields.proofs.Fields.{field-take, tail-part}
 use Rattle.fields.proofs.Basics.{and-left, and-right}
 use Rattle.dialect.specs.declared.Dialect.{Dialect}
 use Rattle.table.specs.Numbers.{blockCounts}
@@ -49,6 +49,15 @@ pub header-is : (bs : List ℕ) {nodes names used d k m : ℕ} → nodes ≡ fie
 unfolding headerAt
 header-is bs nodes-is names-is used-is d-is k-is m-is =
     rw (m-is, k-is, d-is, used-is, names-is, nodes-is) refl
+
+-- a part that holds block 0's counts says the same
+pub header-front : (n : ℕ) (bs : List ℕ) → 8 ≤ n → headerAt (take n bs) ≡ headerAt bs
+unfolding headerAt
+header-front n bs h = rw (
+  field-take 2 bs n 4 (omega arith),
+  field-take 2 bs n 6 (omega arith),
+  field-take 2 bs n 2 (omega arith),
+) refl
 
 -- where that puts the blocks
 module _ (bs : List ℕ) where

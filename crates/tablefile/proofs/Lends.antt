@@ -1,19 +1,25 @@
--- Laws of a file that is read into lent buffers, in the terms of code. Assumes nothing.
+-- Reading into lent memory, in the terms of code. The whole check is 70 to 75, then 1 to 5 (`read-steps`), then 7
+-- (`into-steps`). `unpack` looks at 70 to 75 alone: where they refuse, the arrays stay (`unpack-kept`), else they get
+-- what the file holds (`unpack-table-done`, `unpack-names-done`); `unpacked-table` and `unpacked-names` are for a job
+-- that runs on them. `read_into` unpacks into arrays of its own, which then hold the file (`read-holds`); 1 to 5 and 7
+-- on them are the rest of the check (`into-so`), and only where all is passed a buffer changes (`into-kept`,
+-- `into-table-done`, `into-names-done`). Assumes nothing.
 use mathlib.Core.Path.{_≡_, refl, sym, ap, _∙_}
-use mathlib.Core.Bool.{Bool, true, _&&_}
+use mathlib.Core.Bool.{Bool, true, false, _&&_}
 use mathlib.Core.List.{List, [], _++_}
 use Prim.Native.Nat.{ℕ, _+_, _*_, _-_, _^_, _<_, _≤_}
 use native.Mathlib.Omega.{arith}
-use lib.ListN.{length, take, drop, replicate, length-append, length-drop, length-replicate, drop-of-length-le}
+use lib.ListN.{length, take, drop, replicate, length-append, length-take, length-drop, length-replicate}
+use lib.ListN.{drop-of-length-le}
 use lib.Seq.{take-all, take-at}
 use lib.Dec.{leb}
-use borrow.Author.Tests.{le-leb, lt-leb}
+use borrow.Author.Tests.{le-leb, lt-leb, leb-true}
 use Rattle.fields.specs.Field.{field}
+use Rattle.fields.proofs.Basics.{clash, and-left, and-right}
 use Rattle.fields.proofs.Fields.{tail-part}
 use Rattle.table.specs.Numbers.{shortBuffer, bytesLeftOver}
-use Rattle.table.specs.Answer.{Answer, accepted, refused, andThen, refusal}
-use Rattle.table.specs.declared.Refusal.{Refusal}
-use Rattle.table.proofs.Answers.{after-both, passed-both}
+use Rattle.table.specs.Answer.{Answer, accepted, refused, andThen, isRefused}
+use Rattle.table.proofs.Answers.{after-both, passed-both, test-passed}
 use Rattle.blocks.specs.Block.{demand, judged}
 use Rattle.blocks.specs.Run.{blocksFor, contentOf}
 use Rattle.blocks.specs.declared.Judged.{Judged}
@@ -22,7 +28,7 @@ use Rattle.blocks.specs.declared.Judged.the-variants as judgements
 use Rattle.tablefile.specs.Reading.{dialectIn, headerAt, contentAt, blocksCheck, frontCheck, soundCheck}
 use Rattle.tablefile.specs.Reading.{readCheck}
 use Rattle.tablefile.specs.Loading.{verdict}
-use Rattle.tablefile.specs.Lending.{fileCheck, intoCheck, handed}
+use Rattle.tablefile.specs.Lending.{fileCheck, intoCheck, handed, Holds}
 use Rattle.tablefile.specs.declared.Heading.{Heading}
 use Rattle.tablefile.specs.declared.Verdict.{Verdict}
 use Rattle.tablefile.specs.declared.Verdict.the-variants.{Accepted, Refused}
@@ -54,6 +60,31 @@ module _ (bs : List ℕ) where
     unfolding contentAt
     dialect-there = let e : len - 0 ≡ len = omega arith in rw (tail-part 8 bs, ← so-many, e) refl
 
+-- an answer y that is x, and whether it is a refusal
+module _ {x y : Answer} (y-is : y ≡ x) {q : Bool} (q-is : q ≡ isRefused y) where
+  handed-kept : q ≡ true → (bs buffer : List ℕ) → buffer ≡ handed x bs buffer
+  unfolding handed
+  handed-kept h bs buffer = rw (← y-is) (go y (sym q-is ∙ h))
+    where
+      go : (z : Answer) → isRefused z ≡ true → buffer ≡ handed z bs buffer
+      go (accepted us) e = clash e refl
+      go (refused n us) e = refl
+
+  good-is : q ≡ false → (us : List ℕ) × (x ≡ accepted us)
+  good-is h = rw (← y-is) (go y (sym q-is ∙ h))
+    where
+      go : (z : Answer) → isRefused z ≡ false → (us : List ℕ) × (z ≡ accepted us)
+      go (accepted us) e = (us, refl)
+      go (refused n us) e = clash refl e
+
+  -- it is not followed by anything else where it is one
+  stops : q ≡ true → (next : Unit {0} → Answer) → y ≡ andThen x next
+  stops h next = rw (← y-is) (go y (sym q-is ∙ h))
+    where
+      go : (z : Answer) → isRefused z ≡ true → z ≡ andThen z next
+      go (accepted us) e = clash e refl
+      go (refused n us) e = refl
+
 -- 70 to 75, step by step
 module _ (bs : List ℕ) {h : Heading} (h-is : h ≡ headerAt bs) (j : Judged) (j-is : judged j ≡ blocksCheck h bs) where
   front-is : judged j ≡ frontCheck bs
@@ -78,6 +109,50 @@ unfolding readCheck fileCheck
 read-steps bs = sym (after-both (frontCheck bs)
     (λ _. demand (leb (length bs) (headerAt bs .taken)) bytesLeftOver) (λ _. soundCheck (contentAt bs)))
 
+-- and 7 behind that is the job
+into-steps : (bs : List ℕ) (a b : ℕ) → intoCheck bs a b ≡ andThen (fileCheck bs) (λ _.
+    andThen (soundCheck (contentAt bs)) (λ _.
+    demand (leb (24 * headerAt bs .nodes) a && leb (headerAt bs .names) b) shortBuffer))
+unfolding intoCheck
+into-steps bs a b =
+    let room : Unit {0} → Answer =
+    λ _. demand (leb (24 * headerAt bs .nodes) a && leb (headerAt bs .names) b) shortBuffer in
+    ap (λ (x : Answer). andThen x room) (read-steps bs)
+    ∙ after-both (fileCheck bs) (λ _. soundCheck (contentAt bs)) room
+
+-- where 7 is passed, table and names fit
+room-there : (x : Answer) (t a n b : ℕ) {us : List ℕ}
+    → andThen x (λ _. demand (leb t a && leb n b) shortBuffer) ≡ accepted us → (t ≤ a) × (n ≤ b)
+room-there x t a n b e =
+    let fits : (leb t a && leb n b) ≡ true = test-passed (leb t a && leb n b) shortBuffer
+    (passed-both x (λ _. demand (leb t a && leb n b) shortBuffer) e .2) in
+    (leb-true t a (and-left (leb t a) (leb n b) fits), leb-true n b (and-right (leb t a) (leb n b) fits))
+
+-- 7 behind an answer, step by step
+module _ (x : Answer) {q : Bool} (q-is : q ≡ isRefused x) (t a n b : ℕ) where
+  pub room-before : q ≡ true → x ≡ andThen x (λ _. demand (leb t a && leb n b) shortBuffer)
+  room-before h = stops refl q-is h (λ _. demand (leb t a && leb n b) shortBuffer)
+
+  module _ (h : q ≡ false) where
+    passed : (us : List ℕ) × (x ≡ accepted us)
+    passed = good-is {x = x} {y = x} refl q-is h
+
+    pub room-enough : (leb t a && leb n b) ≡ true
+        → accepted [] ≡ andThen x (λ _. demand (leb t a && leb n b) shortBuffer)
+    room-enough fits = rw (passed .1, fits) refl
+
+    pub room-short : (leb t a && leb n b) ≡ false
+        → refused shortBuffer [] ≡ andThen x (λ _. demand (leb t a && leb n b) shortBuffer)
+    room-short fits = rw (passed .1, fits) refl
+
+-- 70 to 75 give no values
+file-plain : (bs : List ℕ) {us : List ℕ} → fileCheck bs ≡ accepted us → fileCheck bs ≡ accepted []
+unfolding fileCheck
+file-plain bs e =
+    let left : Bool = leb (length bs) (headerAt bs .taken) in
+    let both = passed-both (frontCheck bs) (λ _. demand left bytesLeftOver) e in
+    rw (both .1, test-passed left bytesLeftOver (both .2)) refl
+
 pub file-fronted : (bs : List ℕ) → fileCheck bs ≡ accepted [] → Fronted bs
 unfolding fileCheck
 file-fronted bs e =
@@ -88,7 +163,7 @@ module _ (bs buffer : List ℕ) {n : ℕ} (long : length bs ≡ n) where
   front-of : take n (bs ++ drop n buffer) ≡ bs
   front-of = take-at bs (drop n buffer) n long
 
-  handed-is : {x : Answer} {ys : List ℕ} → x ≡ accepted [] → ys ≡ bs ++ drop n buffer → ys ≡ handed x bs buffer
+  handed-is : {x : Answer} {us ys : List ℕ} → x ≡ accepted us → ys ≡ bs ++ drop n buffer → ys ≡ handed x bs buffer
   unfolding handed
   handed-is x-is ys-is = ys-is ∙ rw (x-is, long) refl
 
@@ -105,191 +180,183 @@ handed-long x bs buffer {us} {ys} x-is fits ys-is =
     let so : ys ≡ bs ++ drop (length bs) buffer = ys-is ∙ rw x-is refl in
     rw so (simp (length-append, length-drop) (omega arith))
 
-handed-kept : (bs buffer : List ℕ) {x : Answer} {n : ℕ} {vs : List ℕ} → x ≡ refused n vs → buffer ≡ handed x bs buffer
-unfolding handed
-handed-kept bs buffer x-is = rw x-is refl
+-- a file whose 70 to 75 are passed: how long its parts are, and the arrays that `unpack` leaves
+module _ (bs : List ℕ) (good : fileCheck bs ≡ accepted []) {h : Heading} (h-is : h ≡ headerAt bs) where
+  fronted-so : Fronted bs
+  fronted-so = file-fronted bs good
 
--- what `unpack` promises
-abbrev Unpacked : List ℕ → List ℕ → List ℕ → Answer → List ℕ → List ℕ → Type 0
-Unpacked bs t ns x t′ ns′ = (x ≡ readCheck bs)
-    × ((t′ ≡ handed (fileCheck bs) (contentAt bs .table) t) × (ns′ ≡ handed (fileCheck bs) (contentAt bs .names) ns))
+  few : (24 * h .nodes ≤ 50400) × (h .names ≤ 8064)
+  few = rw h-is (omega (arith, fronted-so .counts), omega (arith, fronted-so .counts))
 
--- a file into two arrays, step by step
-module _ (bs : List ℕ) {h : Heading} (h-is : h ≡ headerAt bs) (j : Judged) (j-is : judged j ≡ fileCheck bs) where
-  pub unpack-refused : (t ns : List ℕ) {n : ℕ} → j ≡ judgements.Refused n → Unpacked bs t ns (refused n []) t ns
-  unpack-refused t ns {n} e =
-      let told : fileCheck bs ≡ refused n [] = sym j-is ∙ ap judged e in
-      (sym (read-steps bs ∙ rw told refl), (handed-kept _ t told, handed-kept _ ns told))
+  t-long : length (contentAt bs .table) ≡ 24 * h .nodes
+  t-long = rw h-is (table-length bs fronted-so)
 
-  module _ (j-good : j ≡ Passed) where
+  ns-long : length (contentAt bs .names) ≡ h .names
+  ns-long = rw h-is (names-length bs fronted-so)
+
+  module _ {w : List ℕ} where
+    table-array : w ≡ handed (fileCheck bs) (contentAt bs .table) (replicate 50400 0) → length w ≡ 50400
+    table-array w-is = handed-long _ _ (replicate 50400 0) good
+        (omega (arith, t-long, few, length-replicate {A = ℕ} 50400 0)) w-is ∙ length-replicate {A = ℕ} 50400 0
+
+    names-array : w ≡ handed (fileCheck bs) (contentAt bs .names) (replicate 8064 0) → length w ≡ 8064
+    names-array w-is = handed-long _ _ (replicate 8064 0) good
+        (omega (arith, ns-long, few, length-replicate {A = ℕ} 8064 0)) w-is ∙ length-replicate {A = ℕ} 8064 0
+
+-- a file into two arrays, step by step: x is what 70 to 75 say
+module _ (bs : List ℕ) {h : Heading} (h-is : h ≡ headerAt bs) {x : Answer} (x-is : x ≡ fileCheck bs) {q : Bool}
+    (q-is : q ≡ isRefused x) where
+  pub unpack-kept : q ≡ true → (xs buffer : List ℕ) → buffer ≡ handed (fileCheck bs) xs buffer
+  unpack-kept = handed-kept x-is q-is
+
+  module _ (no : q ≡ false) where
     good : fileCheck bs ≡ accepted []
-    good = sym j-is ∙ ap judged j-good
+    good = file-plain bs (good-is x-is q-is no .1)
 
     its-front : Fronted bs
     its-front = file-fronted bs good
 
     pub unpack-fits : 24 * h .nodes < 2 ^ 64
-    unpack-fits = rw h-is (omega (arith, its-front .counts))
+    unpack-fits = omega (arith, few bs good h-is)
 
     pub unpack-table : (t : List ℕ) → length t ≡ 50400
         → (512 * (h .first + blocksFor (24 * h .nodes)) ≤ length bs) × (24 * h .nodes ≤ length t)
-    unpack-table t long = rw h-is
-        (omega (arith, taken-is bs, taken-there bs its-front), omega (arith, its-front .counts))
+    unpack-table t long =
+        (rw h-is (omega (arith, taken-is bs, taken-there bs its-front)), omega (arith, few bs good h-is))
 
     pub unpack-names : (ns : List ℕ) → length ns ≡ 8064
         → (512 * (1 + blocksFor (h .names)) ≤ length bs) × (h .names ≤ length ns)
-    unpack-names ns long = rw h-is
-        (omega (arith, first-is bs, first-there bs its-front), omega (arith, its-front .counts))
+    unpack-names ns long =
+        (rw h-is (omega (arith, first-is bs, first-there bs its-front)), omega (arith, few bs good h-is))
 
-    long-t : length (contentAt bs .table) ≡ 24 * h .nodes
-    long-t = rw h-is (table-length bs its-front)
+    pub unpack-table-done : (t : List ℕ) {t′ : List ℕ}
+        → t′ ≡ contentOf (24 * h .nodes) (drop (512 * h .first) bs) ++ drop (24 * h .nodes) t
+        → t′ ≡ handed (fileCheck bs) (contentAt bs .table) t
+    unfolding contentAt
+    unpack-table-done t t-is = handed-is _ t (t-long bs good h-is) good (t-is ∙ rw h-is refl)
 
-    long-ns : length (contentAt bs .names) ≡ h .names
-    long-ns = rw h-is (names-length bs its-front)
+    pub unpack-names-done : (ns : List ℕ) {ns′ : List ℕ}
+        → ns′ ≡ contentOf (h .names) (drop 512 bs) ++ drop (h .names) ns
+        → ns′ ≡ handed (fileCheck bs) (contentAt bs .names) ns
+    unfolding contentAt
+    unpack-names-done ns ns-is = handed-is _ ns (ns-long bs good h-is) good (ns-is ∙ rw h-is refl)
 
-    module _ (t ns : List ℕ) {t′ ns′ d : List ℕ}
-        (t-is : t′ ≡ contentOf (24 * h .nodes) (drop (512 * h .first) bs) ++ drop (24 * h .nodes) t)
-        (ns-is : ns′ ≡ contentOf (h .names) (drop 512 bs) ++ drop (h .names) ns)
-        (d-is : d ≡ contentAt bs .dialect) where
-      t-so : t′ ≡ contentAt bs .table ++ drop (24 * h .nodes) t
-      unfolding contentAt
-      t-so = t-is ∙ rw h-is refl
+-- the arrays that `unpack` has filled, for who runs a job on them: v is what it answered
+module _ (bs : List ℕ) (v : Verdict) (v-is : verdict v ≡ fileCheck bs) (v-good : v ≡ Accepted) {h : Heading}
+    (h-is : h ≡ headerAt bs) where
+  pub unpacked-good : fileCheck bs ≡ accepted []
+  unpacked-good = sym v-is ∙ ap verdict v-good
 
-      ns-so : ns′ ≡ contentAt bs .names ++ drop (h .names) ns
-      unfolding contentAt
-      ns-so = ns-is ∙ rw h-is refl
+  pub unpacked-few : (24 * h .nodes ≤ 50400) × (h .names ≤ 8064)
+  unpacked-few = few bs unpacked-good h-is
 
-      pub unpack-within : (24 * h .nodes ≤ length t′) × (h .names ≤ length ns′) × (length d ≤ length d)
-      unpack-within = (
-        rw t-so (omega (arith, length-append (contentAt bs .table) (drop (24 * h .nodes) t), long-t)),
-        rw ns-so (omega (arith, length-append (contentAt bs .names) (drop (h .names) ns), long-ns)),
-        omega arith,
-      )
+  pub unpacked-nodes : length (contentAt bs .table) ≡ 24 * h .nodes
+  unpacked-nodes = t-long bs unpacked-good h-is
 
-      pub unpack-done : {x : Answer}
-          → x ≡ soundCheck (record {
-            table = take (24 * h .nodes) t′;
-            names = take (h .names) ns′;
-            dialect = take (length d) d;
-          }) → Unpacked bs t ns x t′ ns′
-      unpack-done {x} x-is =
-          let table : take (24 * h .nodes) t′ ≡ contentAt bs .table =
-          rw t-so (front-of (contentAt bs .table) t long-t) in
-          let names : take (h .names) ns′ ≡ contentAt bs .names =
-          rw ns-so (front-of (contentAt bs .names) ns long-ns) in
-          let dialect : take (length d) d ≡ contentAt bs .dialect = take-all (length d) d (omega arith) ∙ d-is in
-          let sound : x ≡ soundCheck (contentAt bs) = rw (table, names, dialect) at x-is in (
-            sym (read-steps bs ∙ rw good (sym sound)),
-            (handed-is _ t long-t good t-so, handed-is _ ns long-ns good ns-so),
-          )
+  module _ {w : List ℕ} where
+    pub unpacked-table-long : w ≡ handed (fileCheck bs) (contentAt bs .table) (replicate 50400 0) → 50400 ≡ length w
+    unpacked-table-long w-is = sym (table-array bs unpacked-good h-is w-is)
 
--- what `read_into` promises
-abbrev Into : List ℕ → List ℕ → List ℕ → Answer → List ℕ → List ℕ → Type 0
-Into bs t ns x t′ ns′ =
-    let check : Answer = intoCheck bs (length t) (length ns) in
-    (x ≡ check) × ((t′ ≡ handed check (contentAt bs .table) t) × (ns′ ≡ handed check (contentAt bs .names) ns))
+    pub unpacked-names-long : w ≡ handed (fileCheck bs) (contentAt bs .names) (replicate 8064 0) → 8064 ≡ length w
+    unpacked-names-long w-is = sym (names-array bs unpacked-good h-is w-is)
 
--- a file into lent buffers, step by step: v is what `unpack` found
-module _ (bs : List ℕ) (v : Verdict) (v-is : verdict v ≡ readCheck bs) where
-  kept : (t ns : List ℕ) {n : ℕ} {vs : List ℕ} → intoCheck bs (length t) (length ns) ≡ refused n vs
-      → Into bs t ns (refused n vs) t ns
-  kept t ns told = (sym told, (handed-kept _ t told, handed-kept _ ns told))
+    pub unpacked-table : w ≡ handed (fileCheck bs) (contentAt bs .table) (replicate 50400 0)
+        → take (24 * h .nodes) w ≡ contentAt bs .table
+    unpacked-table = handed-front _ _ _ unpacked-good (t-long bs unpacked-good h-is)
 
-  told-refused : (a b : ℕ) {why : Refusal} → v ≡ Refused why → intoCheck bs a b ≡ refusal why
-  unfolding intoCheck
-  told-refused a b e = rw (← v-is, e) refl
+    pub unpacked-names : w ≡ handed (fileCheck bs) (contentAt bs .names) (replicate 8064 0)
+        → take (h .names) w ≡ contentAt bs .names
+    unpacked-names = handed-front _ _ _ unpacked-good (ns-long bs unpacked-good h-is)
 
-  pub into-refused : (t ns : List ℕ) {why : Refusal} → v ≡ Refused why → Into bs t ns (refusal why) t ns
-  into-refused t ns e = kept t ns (told-refused (length t) (length ns) e)
+-- a file into lent buffers, step by step: x is what `unpack` found, and p whether that is a refusal
+module _ (bs : List ℕ) {x : Answer} (x-is : x ≡ fileCheck bs) {p : Bool} (p-is : p ≡ isRefused x) where
+  module _ (e : p ≡ true) (a b : ℕ) where
+    pub unread-so : x ≡ intoCheck bs a b
+    unread-so = stops x-is p-is e _ ∙ sym (into-steps bs a b)
 
-  module _ (v-good : v ≡ Accepted) {h : Heading} (h-is : h ≡ headerAt bs) where
-    passed : readCheck bs ≡ accepted []
-    passed = sym v-is ∙ ap verdict v-good
+    pub unread-kept : (xs buffer : List ℕ) → buffer ≡ handed (intoCheck bs a b) xs buffer
+    unread-kept = handed-kept unread-so p-is e
 
-    file-good : (us : List ℕ) × (fileCheck bs ≡ accepted us)
-    file-good =
-        let both = passed-both (fileCheck bs) (λ _. soundCheck (contentAt bs)) (sym (read-steps bs) ∙ passed) in
-        (both .0, both .1)
+  module _ (yes : p ≡ false) {wt wn : List ℕ}
+      (wt-is : wt ≡ handed (fileCheck bs) (contentAt bs .table) (replicate 50400 0))
+      (wn-is : wn ≡ handed (fileCheck bs) (contentAt bs .names) (replicate 8064 0)) where
+    read-good : fileCheck bs ≡ accepted []
+    read-good = file-plain bs (good-is x-is p-is yes .1)
 
-    its : Fronted bs
-    its = read-fronted bs passed
+    pub read-table-long : 50400 ≡ length wt
+    read-table-long = sym (table-array bs read-good refl wt-is)
 
-    pub into-fits : 24 * h .nodes < 2 ^ 64
-    into-fits = rw h-is (omega (arith, its .counts))
+    pub read-names-long : 8064 ≡ length wn
+    read-names-long = sym (names-array bs read-good refl wn-is)
 
-    t-long : length (contentAt bs .table) ≡ 24 * h .nodes
-    t-long = rw h-is (table-length bs its)
+    pub read-holds : Holds bs wt wn
+    read-holds = record {
+      passed = read-good;
+      table = handed-front _ _ _ read-good refl wt-is;
+      names = handed-front _ _ _ read-good refl wn-is;
+    }
 
-    ns-long : length (contentAt bs .names) ≡ h .names
-    ns-long = rw h-is (names-length bs its)
+-- what arrays hold into lent buffers, step by step
+module _ {bs wt wn : List ℕ} (holds : Holds bs wt wn) {h : Heading} (h-is : h ≡ headerAt bs) where
+  pub into-fits : 24 * h .nodes < 2 ^ 64
+  into-fits = omega (arith, few bs (holds .passed) h-is)
 
-    few : (24 * h .nodes ≤ 50400) × (h .names ≤ 8064)
-    few = rw h-is (omega (arith, its .counts), omega (arith, its .counts))
+  its-table : take (24 * h .nodes) wt ≡ contentAt bs .table
+  its-table = rw (← t-long bs (holds .passed) h-is) (holds .table)
 
-    -- the arrays keep their lengths, and hold table and names
-    module _ {w : List ℕ} where
-      pub into-table-long : w ≡ handed (fileCheck bs) (contentAt bs .table) (replicate 50400 0) → 50400 ≡ length w
-      into-table-long w-is = sym (handed-long _ _ (replicate 50400 0) (file-good .1)
-          (omega (arith, t-long, few, length-replicate {A = ℕ} 50400 0)) w-is
-          ∙ length-replicate {A = ℕ} 50400 0)
+  its-names : take (h .names) wn ≡ contentAt bs .names
+  its-names = rw (← ns-long bs (holds .passed) h-is) (holds .names)
 
-      pub into-names-long : w ≡ handed (fileCheck bs) (contentAt bs .names) (replicate 8064 0) → 8064 ≡ length w
-      into-names-long w-is = sym (handed-long _ _ (replicate 8064 0) (file-good .1)
-          (omega (arith, ns-long, few, length-replicate {A = ℕ} 8064 0)) w-is
-          ∙ length-replicate {A = ℕ} 8064 0)
+  pub into-table-within : 24 * h .nodes ≤ length wt
+  into-table-within =
+      omega (arith, length-take (24 * h .nodes) wt, ap length its-table, t-long bs (holds .passed) h-is)
 
-      pub into-table : w ≡ handed (fileCheck bs) (contentAt bs .table) (replicate 50400 0)
-          → take (24 * h .nodes) w ≡ contentAt bs .table
-      into-table = handed-front _ _ _ (file-good .1) t-long
+  pub into-names-within : h .names ≤ length wn
+  into-names-within = omega (arith, length-take (h .names) wn, ap length its-names, ns-long bs (holds .passed) h-is)
 
-      pub into-names : w ≡ handed (fileCheck bs) (contentAt bs .names) (replicate 8064 0)
-          → take (h .names) w ≡ contentAt bs .names
-      into-names = handed-front _ _ _ (file-good .1) ns-long
+  -- s is what 1 to 5 say of them, j the same with 7 for buffers of a and b bytes, and q whether that is a refusal
+  module _ {d : List ℕ} (d-is : d ≡ contentAt bs .dialect) {s : Answer}
+      (s-is : s ≡ soundCheck (record {
+        table = take (24 * h .nodes) wt;
+        names = take (h .names) wn;
+        dialect = take (length d) d;
+      })) (a b : ℕ) {j : Answer}
+      (j-is : j ≡ andThen s (λ _. demand (leb (24 * h .nodes) a && leb (h .names) b) shortBuffer)) where
+    sound-so : s ≡ soundCheck (contentAt bs)
+    sound-so =
+        let dialect : take (length d) d ≡ contentAt bs .dialect = take-all (length d) d (omega arith) ∙ d-is in
+        rw (its-table, its-names, dialect) at s-is
 
-      pub into-put-table : w ≡ handed (fileCheck bs) (contentAt bs .table) (replicate 50400 0)
-          → {room : ℕ} → 24 * h .nodes ≤ room → (24 * h .nodes ≤ length w) × (24 * h .nodes ≤ room)
-      into-put-table w-is fits = (omega (arith, into-table-long w-is, few), fits)
+    pub into-so : j ≡ intoCheck bs a b
+    into-so = j-is ∙ rw (sound-so, h-is) (sym (into-steps bs a b ∙ rw (holds .passed) refl))
 
-      pub into-put-names : w ≡ handed (fileCheck bs) (contentAt bs .names) (replicate 8064 0)
-          → {room : ℕ} → h .names ≤ room → (h .names ≤ length w) × (h .names ≤ room)
-      into-put-names w-is fits = (omega (arith, into-names-long w-is, few), fits)
+    module _ {q : Bool} (q-is : q ≡ isRefused j) where
+      pub into-kept : q ≡ true → (xs buffer : List ℕ) → buffer ≡ handed (intoCheck bs a b) xs buffer
+      into-kept = handed-kept into-so q-is
 
-    module _ (t ns : List ℕ) where
-      told-by : {a b : Bool} {x : Answer} → leb (24 * headerAt bs .nodes) (length t) ≡ a
-          → leb (headerAt bs .names) (length ns) ≡ b → demand (a && b) shortBuffer ≡ x
-          → intoCheck bs (length t) (length ns) ≡ x
-      unfolding intoCheck
-      told-by a-is b-is x-is = rw (passed, a-is, b-is) x-is
+      module _ (no : q ≡ false) where
+        room : (24 * h .nodes ≤ a) × (h .names ≤ b)
+        room = room-there s _ _ _ _ (sym j-is ∙ good-is refl q-is no .1)
 
-      pub into-short-table : length t < 24 * h .nodes → Into bs t ns (refused shortBuffer []) t ns
-      into-short-table k =
-          kept t ns (told-by (lt-leb (24 * headerAt bs .nodes) (length t) (rw h-is at k)) refl refl)
+        pub into-table-room : 24 * h .nodes ≤ a
+        into-table-room = room .0
 
-      module _ (t-fits : 24 * h .nodes ≤ length t) where
-        t-true : leb (24 * headerAt bs .nodes) (length t) ≡ true
-        t-true = le-leb (24 * headerAt bs .nodes) (length t) (rw h-is at t-fits)
+        pub into-names-room : h .names ≤ b
+        into-names-room = room .1
 
-        pub into-short-names : length ns < h .names → Into bs t ns (refused shortBuffer []) t ns
-        into-short-names k =
-            kept t ns (told-by t-true (lt-leb (headerAt bs .names) (length ns) (rw h-is at k)) refl)
+        good-so : (us : List ℕ) × (intoCheck bs a b ≡ accepted us)
+        good-so = good-is into-so q-is no
 
-        pub into-done : h .names ≤ length ns → (z zn : List ℕ) {wt wn t′ ns′ : List ℕ}
-            → wt ≡ handed (fileCheck bs) (contentAt bs .table) z → wn ≡ handed (fileCheck bs) (contentAt bs .names) zn
-            → t′ ≡ take (24 * h .nodes) wt ++ drop (24 * h .nodes) t → ns′ ≡ take (h .names) wn ++ drop (h .names) ns
-            → Into bs t ns (accepted []) t′ ns′
-        into-done ns-fits z zn {wt} {wn} wt-is wn-is t-is ns-is =
-            let told : intoCheck bs (length t) (length ns) ≡ accepted [] =
-            told-by t-true (le-leb (headerAt bs .names) (length ns) (rw h-is at ns-fits)) refl in
-            let its-table : take (24 * h .nodes) wt ≡ contentAt bs .table =
-            handed-front _ _ z (file-good .1) t-long wt-is in
-            let its-names : take (h .names) wn ≡ contentAt bs .names =
-            handed-front _ _ zn (file-good .1) ns-long wn-is in (
-              sym told,
-              (
-                handed-is _ t t-long told (t-is ∙ rw its-table refl),
-                handed-is _ ns ns-long told (ns-is ∙ rw its-names refl),
-              ),
-            )
+        pub into-table-done : (t : List ℕ) {t′ : List ℕ}
+            → t′ ≡ take (24 * h .nodes) wt ++ drop (24 * h .nodes) t
+            → t′ ≡ handed (intoCheck bs a b) (contentAt bs .table) t
+        into-table-done t t-is =
+            handed-is _ t (t-long bs (holds .passed) h-is) (good-so .1) (t-is ∙ rw its-table refl)
+
+        pub into-names-done : (ns : List ℕ) {ns′ : List ℕ} → ns′ ≡ take (h .names) wn ++ drop (h .names) ns
+            → ns′ ≡ handed (intoCheck bs a b) (contentAt bs .names) ns
+        into-names-done ns ns-is =
+            handed-is _ ns (ns-long bs (holds .passed) h-is) (good-so .1) (ns-is ∙ rw its-names refl)
 
 -- LAW: a file that the reader accepts is handed over exactly where table and names fit
 module _ (bs : List ℕ) (passed : readCheck bs ≡ accepted []) (a b : ℕ) where

@@ -6,3 +6,4 @@ pub mod Lends
 pub mod Accepted
 pub mod Theorems
 pub mod Promises
+pub mod Example

@@ -97,9 +97,6 @@ module _ (bs : List ℕ) {h : Heading} (h-is : h ≡ headerAt bs) (j : Judged) (
   judged-is : judged j ≡ frontCheck bs
   judged-is = rw h-is at j-is
 
-  pub front-refused : {n : ℕ} → j ≡ judgements.Refused n → refused n [] ≡ frontCheck bs
-  front-refused e = sym (ap judged e) ∙ judged-is
-
   pub read-front : {n : ℕ} → j ≡ judgements.Refused n → refused n [] ≡ readCheck bs
   unfolding readCheck
   read-front e = rw (← judged-is, e) refl

@@ -1,14 +1,15 @@
 -- Two answers that meet the promise of a public function coincide. Assumes nothing.
 use mathlib.Core.Path.{_≡_, sym, ap, _∙_}
+use mathlib.Core.Bool.{Bool}
 use mathlib.Core.List.{List}
 use Prim.Native.Nat.{ℕ}
 use lib.ListN.{length}
 use Rattle.fields.proofs.Coincide.{coincide, coincide-by}
 use Rattle.table.specs.Answer.{Answer}
 use Rattle.tablefile.specs.File.{Content}
-use Rattle.tablefile.specs.Reading.{headerAt, contentAt, frontCheck, readCheck}
+use Rattle.tablefile.specs.Reading.{headerAt, contentAt, countsFit, readCheck}
 use Rattle.tablefile.specs.Loading.{verdict, loadedOf}
-use Rattle.tablefile.specs.Lending.{fileCheck, intoCheck, handed}
+use Rattle.tablefile.specs.Lending.{fileCheck, intoCheck, handed, copied}
 use Rattle.tablefile.specs.declared.Verdict.{Verdict}
 use Rattle.tablefile.specs.declared.Loaded.{Loaded}
 use Rattle.tablefile.specs.declared.Heading.{Heading}
@@ -24,12 +25,6 @@ one x c n r s p f q g =
 pub header-one : (bytes : List ℕ) {r s : Heading} → r ≡ headerAt bytes → s ≡ headerAt bytes → r ≡ s
 header-one bytes = coincide
 
--- of `front`, the bytes as lent
-pub front-one : (bytes : List ℕ) {r s : Loaded} → verdict (r .verdict) ≡ frontCheck bytes
-    → r ≡ loadedOf (r .verdict) (contentAt bytes) (headerAt bytes .taken) → verdict (s .verdict) ≡ frontCheck bytes
-    → s ≡ loadedOf (s .verdict) (contentAt bytes) (headerAt bytes .taken) → r ≡ s
-front-one bytes {r} {s} = one _ _ _ r s
-
 -- of `read`, the file as lent
 pub read-one : (file : List ℕ) {r s : Loaded} → verdict (r .verdict) ≡ readCheck file
     → r ≡ loadedOf (r .verdict) (contentAt file) (headerAt file .taken) → verdict (s .verdict) ≡ readCheck file
@@ -38,8 +33,8 @@ read-one file {r} {s} = one _ _ _ r s
 
 -- of `unpack`, the file and the arrays as lent
 pub unpack-one : (file table names : List ℕ) {r s : Verdict} {table-r table-s : List ℕ} {names-r names-s : List ℕ}
-    → verdict r ≡ readCheck file → table-r ≡ handed (fileCheck file) (contentAt file .table) table
-    → names-r ≡ handed (fileCheck file) (contentAt file .names) names → verdict s ≡ readCheck file
+    → verdict r ≡ fileCheck file → table-r ≡ handed (fileCheck file) (contentAt file .table) table
+    → names-r ≡ handed (fileCheck file) (contentAt file .names) names → verdict s ≡ fileCheck file
     → table-s ≡ handed (fileCheck file) (contentAt file .table) table
     → names-s ≡ handed (fileCheck file) (contentAt file .names) names
     → (r ≡ s) × (table-r ≡ table-s) × (names-r ≡ names-s)
@@ -62,3 +57,12 @@ read-into-one file table names r-is t-is n-is s-is t-are n-are =
 pub dialect-bytes-one : (file : List ℕ) {r s : List ℕ} → r ≡ contentAt file .dialect → s ≡ contentAt file .dialect
     → r ≡ s
 dialect-bytes-one file = coincide
+
+-- of `copy_content`, the bytes and the buffer as lent
+pub copy-content-one : (bytes : List ℕ) (first len : ℕ) (out : List ℕ) {out-r out-s : List ℕ}
+    → out-r ≡ copied first len bytes out → out-s ≡ copied first len bytes out → out-r ≡ out-s
+copy-content-one bytes first len out = coincide
+
+-- of `counts_fit`
+pub counts-fit-one : (nodes names : ℕ) {r s : Bool} → r ≡ countsFit nodes names → s ≡ countsFit nodes names → r ≡ s
+counts-fit-one nodes names = coincide

@@ -6,7 +6,7 @@ use mathlib.Core.List.{List, [], _++_}
 use Prim.Native.Nat.{ℕ, _<_}
 use lib.ListN.{length, getD, take, set}
 use Rattle.table.specs.Numbers.{blockCheck}
-use Rattle.table.specs.Answer.{accepted}
+use Rattle.table.specs.Answer.{accepted, refused}
 use Rattle.table.specs.declared.Refusal.the-variants.{Bare}
 use Rattle.fields.proofs.Spelling.{Bytes}
 use Rattle.tablefile.specs.File.{Content, fileOf}
@@ -21,12 +21,9 @@ use Rattle.tablefile.proofs.Loads.{held-is}
 use Rattle.tablefile.proofs.Accepted.{verdict-injective, read-is-sound, read-is-file, read-changed}
 use Rattle.tablefile.proofs.Accepted.{SoundContent, back-holds, back-taken, back-accepted}
 
--- the promise of `read`, and of `front`
+-- the promise of `read`
 abbrev pub Read : List ℕ → Loaded → Type 0
 Read bs r = (verdict (r .verdict) ≡ readCheck bs) × (r ≡ loadedOf (r .verdict) (contentAt bs) (headerAt bs .taken))
-
-abbrev pub Front : List ℕ → Loaded → Type 0
-Front bs r = (verdict (r .verdict) ≡ frontCheck bs) × (r ≡ loadedOf (r .verdict) (contentAt bs) (headerAt bs .taken))
 
 -- an answer that is accepted holds what stands there
 pub holds : (bs : List ℕ) (r : Loaded) → r ≡ loadedOf (r .verdict) (contentAt bs) (headerAt bs .taken)
@@ -65,31 +62,19 @@ changed-byte file r i v s p good h other q =
     (q .0 ∙ read-changed file (sym (p .0) ∙ ap verdict good) i v h other) in
     q .1 ∙ ap (λ (w : Verdict). loadedOf w (contentAt (set file i v)) (headerAt (set file i v) .taken)) told
 
--- the same of the file at the front: what it takes is the file of its answer
-pub front-accepted-is-file : (bytes : List ℕ) (r : Loaded) → Bytes bytes → Front bytes r → r .verdict ≡ Accepted
-    → take (r .taken) bytes ≡ fileOf (held r)
-unfolding loadedOf
-front-accepted-is-file bytes r small p good =
-    let taken : r .taken ≡ headerAt bytes .taken = ap (λ (l : Loaded). l .taken)
-    (p .1 ∙ ap (λ (w : Verdict). loadedOf w (contentAt bytes) (headerAt bytes .taken)) good) in
-    ap (λ (n : ℕ). take n bytes) taken
-    ∙ front-is-file bytes small (fronted bytes (sym (p .0) ∙ ap verdict good))
-    ∙ ap fileOf (sym (holds bytes r (p .1) good))
+-- the same of the one file at the front of some bytes, which `frontCheck` judges: what it takes is the file of what it
+-- holds
+module _ (bytes : List ℕ) (good : frontCheck bytes ≡ accepted []) where
+  pub front-accepted-is-file : Bytes bytes → take (headerAt bytes .taken) bytes ≡ fileOf (contentAt bytes)
+  front-accepted-is-file small = front-is-file bytes small (fronted bytes good)
 
--- the file of a content within the limits is read as that content, whatever stands behind it
-pub front-read-back : (c : Content) (rest : List ℕ) (r : Loaded) → Fits c → Front (fileOf c ++ rest) r
-    → r ≡ loadedOf Accepted c (length (fileOf c))
-front-read-back c rest r fit p =
-    let good : r .verdict ≡ Accepted = verdict-injective (r .verdict) Accepted (p .0 ∙ file-passes c fit rest) in
-    p .1 ∙ rw (good, file-holds c fit rest, file-taken c fit rest) refl
+  -- any one byte of it changed to any other value is refused with 72
+  pub front-changed-byte : (i v : ℕ) → i < headerAt bytes .taken → (v ≡ getD bytes i 0 → ⊥)
+      → frontCheck (set bytes i v) ≡ refused blockCheck []
+  front-changed-byte i v h other = front-changed bytes (fronted bytes good) i v other h
 
--- and any one byte of it changed to any other value is refused with 72
-pub front-changed-byte : (bytes : List ℕ) (r : Loaded) (i v : ℕ) (s : Loaded) → Front bytes r
-    → r .verdict ≡ Accepted → i < headerAt bytes .taken → (v ≡ getD bytes i 0 → ⊥) → Front (set bytes i v) s
-    → s ≡ loadedOf (Refused (Bare blockCheck)) none 0
-unfolding loadedOf
-front-changed-byte bytes r i v s p good h other q =
-    let told : s .verdict ≡ Refused (Bare blockCheck) =
-    verdict-injective (s .verdict) (Refused (Bare blockCheck))
-    (q .0 ∙ front-changed bytes (fronted bytes (sym (p .0) ∙ ap verdict good)) i v other h) in
-    q .1 ∙ ap (λ (w : Verdict). loadedOf w (contentAt (set bytes i v)) (headerAt (set bytes i v) .taken)) told
+-- and the file of a content within the limits is read as that content, whatever stands behind it
+pub front-read-back : (c : Content) (rest : List ℕ) → Fits c
+    → (frontCheck (fileOf c ++ rest) ≡ accepted []) × (contentAt (fileOf c ++ rest) ≡ c)
+    × (headerAt (fileOf c ++ rest) .taken ≡ length (fileOf c))
+front-read-back c rest fit = (file-passes c fit rest, file-holds c fit rest, file-taken c fit rest)

@@ -11,15 +11,18 @@ use table::numbers;
 ghost use mathlib.Core.Path.{_≡_};
 ghost use mathlib.Core.List.{[], _++_};
 ghost use Prim.Native.Nat.{_+_, _*_, _≤_};
+ghost use mathlib.Core.Bool.{_&&_};
 ghost use lib.ListN.{length, take, drop};
-ghost use Rattle.table.specs.Answer.{accepted};
+ghost use lib.Dec.{leb};
+ghost use Rattle.table.specs.Numbers.{shortBuffer};
+ghost use Rattle.table.specs.Answer.{accepted, andThen, isRefused};
 ghost use Rattle.table.specs.Check.{mostBytes, mostNames};
-ghost use Rattle.blocks.specs.Block.{blockBytes, judged};
+ghost use Rattle.blocks.specs.Block.{blockBytes, demand, judged};
 ghost use Rattle.blocks.specs.Run.{blocksFor, contentOf};
 ghost use Rattle.tablefile.specs.Reading.{dialectIn, headerAt, contentAt, countsFit, blocksCheck, frontCheck};
 ghost use Rattle.tablefile.specs.Reading.{soundCheck, readCheck};
 ghost use Rattle.tablefile.specs.Loading.{verdict, laid, loadedOf, none};
-ghost use Rattle.tablefile.specs.Lending.{fileCheck, intoCheck, handed};
+ghost use Rattle.tablefile.specs.Lending.{fileCheck, intoCheck, handed, copied, Holds};
 ghost use Rattle.tablefile.specs.declared.Verdict.the-variants.{Accepted, Refused};
 
 // The most blocks that a file has: block 0, 16 with 8,064 name bytes, 100 with 2,100 nodes.
@@ -72,21 +75,7 @@ pub fn header(bytes: &[u8]) -> Heading
     }
 }
 
-// The file at the front of some bytes: 70, 72, 71, 73 for each block, 74 after block 0; and how many bytes it takes.
-pub fn front(bytes: &[u8]) -> Loaded
-    ensures { λ r. ⌜ verdict (r .verdict) ≡ frontCheck (now (bytes .entry)) ⌝ }
-    ensures { λ r. ⌜ r ≡
-        loadedOf (r .verdict) (contentAt (now (bytes .entry))) (headerAt (now (bytes .entry)) .taken) ⌝ }
-{
-    let h = header(bytes);
-    let first = judge_front(bytes, h);
-    if let Judged::Refused(number) = first {
-        return refused(Refusal::Bare(number));
-    }
-    load(bytes, h)
-}
-
-// A file: as at the front, then 75 for bytes left over, then 1 to 5.
+// A file by value: 70, 72, 71, 73 for each block, 74 after block 0, 75 for bytes left over, then 1 to 5.
 pub fn read(file: &[u8]) -> Loaded
     ensures { λ r. ⌜ verdict (r .verdict) ≡ readCheck (now (file .entry)) ⌝ }
     ensures { λ r. ⌜ r ≡ loadedOf (r .verdict) (contentAt (now (file .entry))) (headerAt (now (file .entry)) .taken) ⌝ }
@@ -117,25 +106,23 @@ pub fn read(file: &[u8]) -> Loaded
     l
 }
 
-// A file into two arrays that are large enough for every file, with the judgement of `read`. Where 70 to 75 are passed,
-// table and names stand at their fronts, also if 1 to 5 then refuse them; else the arrays are as they were.
+// A file into two arrays that are large enough for every file: 70 to 75. A refusal changes no byte. Else table and
+// names stand at the fronts of the arrays, not checked: the job that gets them looks at 1 to 5.
 pub fn unpack(file: &[u8], table: &mut [u8; MOST_BYTES], names: &mut [u8; MOST_NAMES]) -> Verdict
-    ensures { λ r. ⌜ verdict r ≡ readCheck (now (file .entry)) ⌝ }
+    ensures { λ r. ⌜ verdict r ≡ fileCheck (now (file .entry)) ⌝ }
     ensures { λ r. ⌜ now (table .exit) ≡
         handed (fileCheck (now (file .entry))) (contentAt (now (file .entry)) .table) (now (table .entry)) ⌝ }
     ensures { λ r. ⌜ now (names .exit) ≡
         handed (fileCheck (now (file .entry))) (contentAt (now (file .entry)) .names) (now (names .entry)) ⌝ }
 {
     let h = header(file);
-    let first = judge_file(file, h);
-    if let Judged::Refused(n) = first {
-        return Verdict::Refused(Refusal::Bare(n));
+    let judged = judge_file(file, h);
+    if is_refused(judged) {
+        return judged;
     }
-    let len = RECORD * h.nodes;
-    copy(file, h.first, len, table);
+    copy(file, h.first, RECORD * h.nodes, table);
     copy(file, 1, h.names, names);
-    let dialect = dialect_bytes(file);
-    check(table, len, names, h.names, dialect, dialect.len())
+    judged
 }
 
 // A file into lent buffers: the refusals of `read`, then 7 for a buffer that is shorter than the table or the names. A
@@ -152,21 +139,29 @@ pub fn read_into(file: &[u8], table: &mut [u8], names: &mut [u8]) -> Verdict
 {
     let mut whole_table = [0u8; MOST_BYTES];
     let mut whole_names = [0u8; MOST_NAMES];
-    let found = unpack(file, &mut whole_table, &mut whole_names);
-    if let Verdict::Refused(why) = found {
-        return Verdict::Refused(why);
+    let unpacked = unpack(file, &mut whole_table, &mut whole_names);
+    if is_refused(unpacked) {
+        return unpacked;
     }
-    let h = header(file);
-    let len = RECORD * h.nodes;
-    if table.len() < len {
-        return Verdict::Refused(Refusal::Bare(numbers::SHORT_BUFFER));
+    hand_over(file, &whole_table, &whole_names, table, names)
+}
+
+// Copies len content bytes, of the blocks numbered from `first` on, to the front of out. If a block is missing, or out
+// is shorter than len, no byte changes.
+pub fn copy_content(bytes: &[u8], first: usize, len: usize, out: &mut [u8])
+    ensures { λ r. ⌜ now (out .exit) ≡ copied first len (now (bytes .entry)) (now (out .entry)) ⌝ }
+{
+    let there = bytes.len() / BLOCK_BYTES;
+    if there < first {
+        return;
     }
-    if names.len() < h.names {
-        return Verdict::Refused(Refusal::Bare(numbers::SHORT_BUFFER));
+    if there - first < blocks::blocks_for(len) {
+        return;
     }
-    put(&whole_table, len, table);
-    put(&whole_names, h.names, names);
-    Verdict::Accepted
+    if out.len() < len {
+        return;
+    }
+    copy(bytes, first, len, out)
 }
 
 // The dialect bytes of a file, were its first bytes its block 0: nine or none, or as many as are there.
@@ -185,18 +180,66 @@ pub fn dialect_bytes(file: &[u8]) -> &[u8]
 }
 
 // 70 to 75: the blocks of the file at the front, then bytes left over.
-fn judge_file(file: &[u8], h: Heading) -> Judged
+fn judge_file(file: &[u8], h: Heading) -> Verdict
     requires { ⌜ h ≡ headerAt (now file) ⌝ }
-    ensures { λ r. ⌜ judged r ≡ fileCheck (now (file .entry)) ⌝ }
+    ensures { λ r. ⌜ verdict r ≡ fileCheck (now (file .entry)) ⌝ }
 {
     let first = judge_front(file, h);
     if let Judged::Refused(n) = first {
-        return Judged::Refused(n);
+        return Verdict::Refused(Refusal::Bare(n));
     }
     if h.taken < file.len() {
-        return Judged::Refused(numbers::BYTES_LEFT_OVER);
+        return Verdict::Refused(Refusal::Bare(numbers::BYTES_LEFT_OVER));
     }
-    Judged::Passed
+    Verdict::Accepted
+}
+
+// 1 to 5, then 7, of what was unpacked of a file into two arrays; then puts table and names into the lent buffers.
+fn hand_over(file: &[u8], t: &[u8], n: &[u8], table: &mut [u8], names: &mut [u8]) -> Verdict
+    requires { ⌜ Holds (now file) (now t) (now n) ⌝ }
+    ensures { λ r. ⌜ verdict r ≡
+        intoCheck (now (file .entry)) (length (now (table .entry))) (length (now (names .entry))) ⌝ }
+    ensures { λ r. ⌜ now (table .exit) ≡
+        handed (intoCheck (now (file .entry)) (length (now (table .entry))) (length (now (names .entry))))
+        (contentAt (now (file .entry)) .table) (now (table .entry)) ⌝ }
+    ensures { λ r. ⌜ now (names .exit) ≡
+        handed (intoCheck (now (file .entry)) (length (now (table .entry))) (length (now (names .entry))))
+        (contentAt (now (file .entry)) .names) (now (names .entry)) ⌝ }
+{
+    let h = header(file);
+    let len = RECORD * h.nodes;
+    let dialect = dialect_bytes(file);
+    let sound = check(t, len, n, h.names, dialect, dialect.len());
+    let answer = judge_room(sound, len, table.len(), h.names, names.len());
+    if is_refused(answer) {
+        return answer;
+    }
+    put(t, len, table);
+    put(n, h.names, names);
+    answer
+}
+
+// A verdict, then 7 for buffers of a and b bytes that are to hold t and n.
+fn judge_room(found: Verdict, t: usize, a: usize, n: usize, b: usize) -> Verdict
+    ensures { λ r. ⌜ verdict r ≡ andThen (verdict found) (λ _. demand (leb t a && leb n b) shortBuffer) ⌝ }
+{
+    if is_refused(found) {
+        return found;
+    }
+    if (t <= a) & (n <= b) {
+        return Verdict::Accepted;
+    }
+    Verdict::Refused(Refusal::Bare(numbers::SHORT_BUFFER))
+}
+
+// Whether a verdict is a refusal.
+fn is_refused(found: Verdict) -> bool
+    ensures { λ r. ⌜ r ≡ isRefused (verdict found) ⌝ }
+{
+    match found {
+        Verdict::Accepted => false,
+        Verdict::Refused(_) => true,
+    }
 }
 
 // The blocks of the file at the front, each in its turn.
@@ -278,7 +321,7 @@ fn dialect_in(used: u16) -> usize
 }
 
 // Whether counts are within the limits.
-fn counts_fit(nodes: usize, names: usize) -> bool
+pub fn counts_fit(nodes: usize, names: usize) -> bool
     ensures { λ r. ⌜ r ≡ countsFit nodes names ⌝ }
 {
     (1 <= nodes) & ((nodes <= MOST_NODES) & (names <= MOST_NAMES))

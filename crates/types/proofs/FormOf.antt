@@ -1,4 +1,5 @@
--- Laws of the form of a kind and of how a form reads its children: one for each return of form_of, form and reads_of.
+-- Laws of the form of a kind, of how a form reads its children and by which rule: one for each return of form_of, form,
+-- reads_of and rule_of.
 -- Assumes nothing.
 use mathlib.Core.Path.{_≡_, refl, _∙_}
 use mathlib.Core.Bool.{true, false, _&&_, _||_}
@@ -8,8 +9,10 @@ use borrow.Author.Tests.{ne-eqb}
 use Rattle.fields.specs.Choice.{if'}
 use Rattle.soundness.specs.KindNumbers.{kindTuple, kindDot, kindIndex, kindIndex2, kindIdentifier}
 use Rattle.soundness.specs.KindNumbers.{kindEllipsis, kindOp, kindList}
-use Rattle.types.specs.Forms.{formOf, readsOf}
+use Rattle.types.specs.Forms.{formOf, readsOf, ruleOf}
 use Rattle.types.specs.declared.Form.{Form}
+use Rattle.types.specs.declared.How.{How}
+use Rattle.types.specs.declared.How.the-variants.{Unread, AsType, AsArgument}
 use Rattle.types.specs.declared.Reads.{Reads}
 use Rattle.types.specs.declared.Form.the-variants.{Ellipsis, Path, Index, Index2, List, Union, Tuple}
 use Rattle.types.specs.declared.Form.the-variants.{Other}
@@ -64,3 +67,21 @@ form-same p q f-is = f-is ∙ rw (p, q) refl
 -- a form that is known reads its children as its line of the definition says
 pub reads-told : (f g : Form) (r : Reads) → f ≡ g → r ≡ readsOf g → r ≡ readsOf f
 reads-told f g r h r-is = rw h r-is
+
+-- the rule by which a child of a kind is read
+module _ {how : How} (k : ℕ) where
+  pub rule-unread : how ≡ Unread → Unread ≡ ruleOf how k
+  unfolding ruleOf
+  rule-unread h = rw h refl
+
+  pub rule-type : how ≡ AsType → AsType ≡ ruleOf how k
+  unfolding ruleOf
+  rule-type h = rw h refl
+
+  pub rule-list : how ≡ AsArgument → k ≡ kindList → AsArgument ≡ ruleOf how k
+  unfolding ruleOf
+  rule-list h list = rw (h, list) refl
+
+  pub rule-other : how ≡ AsArgument → (k ≡ kindList → ⊥) → AsType ≡ ruleOf how k
+  unfolding ruleOf
+  rule-other h other = rw (h, ne-eqb k kindList other) refl

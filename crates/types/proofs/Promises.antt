@@ -7,10 +7,11 @@ use Rattle.forest.specs.Forest.{nodeOf, treeOf}
 use Rattle.dialect.specs.declared.Dialect.{Dialect}
 use Rattle.table.specs.Check.{headedOf}
 use Rattle.table.proofs.Answers.{refusal-injective, never-accepted}
-use Rattle.types.specs.Forms.{formOf, shapeOf, readsOf}
+use Rattle.types.specs.Forms.{formOf, shapeOf, readsOf, ruleOf}
 use Rattle.types.specs.Types.{«dialect_check_type»}
 use Rattle.types.specs.Jobs.{shaped, typeShapeOf}
 use Rattle.types.specs.declared.Form.{Form}
+use Rattle.types.specs.declared.How.{How}
 use Rattle.types.specs.declared.Reads.{Reads}
 use Rattle.types.specs.declared.Shaped.{Shaped}
 use Rattle.types.specs.declared.Shaped.the-variants.{Accepted, Refused}
@@ -34,7 +35,7 @@ pub judge-type-one : (names : List ℕ) (d : Dialect) (t : List ℕ) (node : ℕ
     → shaped s ≡ «dialect_check_type» names (d .«enable_types») (treeOf node (headedOf node t)) → r ≡ s
 judge-type-one names d t node = coincide-by shaped shaped-injective
 
--- of `forms::form`, `forms::shape_of` and `forms::reads_of`
+-- of `forms::form`, `forms::shape_of`, `forms::reads_of` and `forms::rule_of`
 pub form-one : (t : List ℕ) {r s : Form} → r ≡ formOf (nodeOf 0 t .kind) (nodeOf 0 t .detail)
     → s ≡ formOf (nodeOf 0 t .kind) (nodeOf 0 t .detail) → r ≡ s
 form-one t = coincide
@@ -44,3 +45,6 @@ shape-of-one form = coincide
 
 pub reads-of-one : (form : Form) {r s : Reads} → r ≡ readsOf form → s ≡ readsOf form → r ≡ s
 reads-of-one form = coincide
+
+pub rule-of-one : (how : How) (kind : ℕ) {r s : How} → r ≡ ruleOf how kind → s ≡ ruleOf how kind → r ≡ s
+rule-of-one how kind = coincide

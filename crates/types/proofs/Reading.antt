@@ -1,20 +1,26 @@
--- Laws of the type rule and the argument rule over a stretch, in the terms of code: one for each return.
+-- Laws of the type rule and the argument rule over a stretch, in the terms of code: one for each return. Both rules
+-- walk the children of their node from left to right, and at each turn what is left gives the whole answer (`Judging`).
+-- The caller of a rule chooses it by the child's kind, where the definition calls the argument rule for every argument
+-- and reads as a type what is no List; both give the same (`by-rule`). What is left is a proper part of the node's
+-- subtree (`part`), so that each call is on a smaller one (`falls`).
 -- Assumes nothing.
 use mathlib.Core.Path.{_≡_, refl, sym, ap, _∙_}
+use mathlib.Core.Bool.{Bool, true, false}
 use mathlib.Core.List.{List, []}
 use Prim.Native.Nat.{ℕ, _+_, _-_, _*_, _/_, _<_, _≤_}
 use native.Mathlib.Omega.{arith}
 use lib.ListN.{length, take, drop}
 use lib.Dec.{eqb}
-use borrow.Author.Tests.{eq-eqb, ne-eqb}
+use borrow.Author.Tests.{eq-eqb, ne-eqb, eqb-true}
+use Rattle.fields.proofs.Basics.{never}
 use Rattle.fields.specs.Choice.{if'}
 use Rattle.forest.specs.Forest.{nodeOf, spanOf, kidsOf, restOf, Tree, Forest, _then_, forest, treeOf}
-use Rattle.forest.proofs.Stretch.{forest-none, forest-tree, kids-part, rest-part, length-rest}
+use Rattle.forest.proofs.Stretch.{forest-none, forest-tree, kids-part, rest-part, length-kids, length-rest}
 use Rattle.soundness.specs.KindNumbers.{kindList}
 use Rattle.table.specs.Answer.{Answer, accepted, andThen, refusal}
 use Rattle.table.specs.declared.Refusal.{Refusal}
-use Rattle.types.specs.Forms.{formOf, readsAs, readsOf, argumentsOnly}
-use Rattle.types.specs.Types.{atNode, «unpack», unpackChild, unpackEach}
+use Rattle.types.specs.Forms.{formOf, readsAs, readsOf, ruleOf, ofChild}
+use Rattle.types.specs.Types.{atNode, «unpack», «unpack_argument», unpackEach}
 use Rattle.types.specs.Jobs.{shaped}
 use Rattle.types.specs.declared.Form.{Form}
 use Rattle.types.specs.declared.How.{How}
@@ -40,10 +46,68 @@ rest-within : (i : ℕ) {e : ℕ} (bs : List ℕ) → 24 * i + length bs ≤ 504
     → 24 * (i + e / 24) + length (take (length bs - e) (drop e bs)) ≤ 50400
 rest-within i {e} bs h e-is = rw (rest-part e bs e-is) (omega (arith, length-rest bs))
 
--- LAW: an argument that is no List is read as a type; the same for both walks
-pub no-list : {A : Type 0} (t : List ℕ) {k : ℕ} → k ≡ nodeOf 0 t .kind → (k ≡ kindList → ⊥) → (list type : A)
-    → type ≡ if' (eqb (nodeOf 0 t .kind) kindList) (λ _. list) (λ _. type)
-no-list t {k} k-is other list type = rw (← k-is, ne-eqb k kindList other) refl
+-- LAW: a child read by the rule that its caller chooses gives what it gives as it is read; the same for both walks
+module _ {A : Type 0} (k : ℕ) (nothing type list : A) where
+  pub by-rule : (how : How)
+      → ofChild (ruleOf how k) nothing (λ _. type) (λ _. if' (eqb k kindList) (λ _. list) (λ _. type))
+      ≡ ofChild how nothing (λ _. type) (λ _. if' (eqb k kindList) (λ _. list) (λ _. type))
+  unfolding ruleOf
+  by-rule Unread = refl
+  by-rule AsType = refl
+  by-rule AsArgument = go (eqb k kindList)
+    where
+      go : (b : Bool) → ofChild (if' b (λ _. AsArgument) (λ _. AsType)) nothing (λ _. type)
+          (λ _. if' b (λ _. list) (λ _. type)) ≡ if' b (λ _. list) (λ _. type)
+      go true = refl
+      go false = refl
+
+-- LAW: the argument rule is chosen for a List alone
+pub argument-list : (how : How) (k : ℕ) → ruleOf how k ≡ AsArgument → k ≡ kindList
+unfolding ruleOf
+argument-list Unread k e = never (cc)
+argument-list AsType k e = never (cc)
+argument-list AsArgument k e = go (eqb k kindList) refl e
+  where
+    go : (b : Bool) → eqb k kindList ≡ b → if' b (λ _. AsArgument) (λ _. AsType) ≡ AsArgument → k ≡ kindList
+    go true is e = eqb-true k kindList is
+    go false is e = never (cc)
+
+-- LAW: a subtree within the children of another is smaller
+pub falls : (t left : List ℕ) → length left + 24 ≤ spanOf t → spanOf left < spanOf t
+falls t left h = omega arith
+
+-- a child as it is read
+abbrev pub unpackChild : How → List ℕ → Tree → Answer
+unpackChild how names t = ofChild how (accepted []) (λ _. «unpack» names t) (λ _. «unpack_argument» names t)
+
+-- a child, by the rule that its caller chooses
+module _ (names : List ℕ) (i : ℕ) (t : List ℕ) (how : How) {rule : How} {k : ℕ} (k-is : k ≡ nodeOf 0 t .kind)
+    (rule-is : rule ≡ ruleOf how k) where
+  chosen : unpackChild rule names (treeOf i t) ≡ unpackChild how names (treeOf i t)
+  unfolding «unpack»
+  chosen = rw (rule-is, k-is) (by-rule (nodeOf 0 t .kind) (accepted []) _ _ how)
+
+  pub child-is-list : rule ≡ AsArgument → nodeOf 0 t .kind ≡ kindList
+  child-is-list h = sym k-is ∙ argument-list how k (sym rule-is ∙ h)
+
+  pub child-unread : rule ≡ Unread → accepted [] ≡ unpackChild how names (treeOf i t)
+  child-unread h = ap (λ (x : How). unpackChild x names (treeOf i t)) (sym h) ∙ chosen
+
+  module _ {r : Answer} where
+    pub child-type : rule ≡ AsType → r ≡ «unpack» names (treeOf i t) → r ≡ unpackChild how names (treeOf i t)
+    child-type h r-is = r-is ∙ ap (λ (x : How). unpackChild x names (treeOf i t)) (sym h) ∙ chosen
+
+    pub child-list : rule ≡ AsArgument → r ≡ «unpack_argument» names (treeOf i t)
+        → r ≡ unpackChild how names (treeOf i t)
+    child-list h r-is = r-is ∙ ap (λ (x : How). unpackChild x names (treeOf i t)) (sym h) ∙ chosen
+
+-- the children of a node side by side: at each turn what is left is a proper part of the node's subtree, and gives the
+-- whole answer
+pub record Judging (names : List ℕ) (others : How) (t : List ℕ) (whole : Answer) (left : List ℕ) (at : ℕ) (how : How)
+    : Type 0 where
+  pub within : 24 * at + length left ≤ 50400
+  pub part : length left + 24 ≤ spanOf t
+  pub same : unpackEach (readsAs how others) names (forest at left) ≡ whole
 
 -- the type that a stretch begins with: what is refused at its node, then its children
 module _ (names : List ℕ) (i : ℕ) (t : List ℕ) (here : Shaped)
@@ -53,69 +117,66 @@ module _ (names : List ℕ) (i : ℕ) (t : List ℕ) (here : Shaped)
   unfolding «unpack»
   unpack-stop h = rw (← here-is, h) refl
 
-  pub unpack-on : here ≡ Accepted → {f : Form} → f ≡ formOf (nodeOf 0 t .kind) (nodeOf 0 t .detail)
-      → {reads : Reads} → reads ≡ readsOf f → {e : ℕ} → e ≡ spanOf t
-      → {r : Answer} → r ≡ unpackEach reads names (forest (i + 1) (take (e - 24) (drop 24 t)))
-      → r ≡ «unpack» names (treeOf i t)
+  pub unpack-start : 24 ≤ length t → 24 * i + length t ≤ 50400 → here ≡ Accepted
+      → {f : Form} → f ≡ formOf (nodeOf 0 t .kind) (nodeOf 0 t .detail) → {reads : Reads} → reads ≡ readsOf f
+      → {e : ℕ} → e ≡ spanOf t
+      → Judging names (reads .others) t («unpack» names (treeOf i t)) (take (e - 24) (drop 24 t)) (i + 1) (reads .first)
   unfolding «unpack»
-  unpack-on h f-is reads-is {e} e-is r-is = r-is ∙ rw (kids-part e t e-is, reads-is, f-is, ← here-is, h) refl
+  unpack-start long fits h f-is reads-is {e} e-is = record {
+    within = rw (kids-part e t e-is) (omega (arith, length-kids t));
+    part = rw (kids-part e t e-is) (omega (arith, length-kids t));
+    same = rw (kids-part e t e-is, reads-is, f-is, ← here-is, h) refl;
+  }
 
--- a child, by how it is read
-module _ (names : List ℕ) (i : ℕ) (t : List ℕ) {how : How} where
-  pub child-unread : how ≡ Unread → accepted [] ≡ unpackChild how names (treeOf i t)
-  child-unread h = rw h refl
+-- the List of arguments that a stretch begins with
+module _ (names : List ℕ) (i : ℕ) (t : List ℕ) where
+  pub argument-start : 24 ≤ length t → 24 * i + length t ≤ 50400 → nodeOf 0 t .kind ≡ kindList → {e : ℕ} → e ≡ spanOf t
+      → Judging names AsArgument t («unpack_argument» names (treeOf i t)) (take (e - 24) (drop 24 t)) (i + 1) AsArgument
+  unfolding «unpack»
+  argument-start long fits list {e} e-is = record {
+    within = rw (kids-part e t e-is) (omega (arith, length-kids t));
+    part = rw (kids-part e t e-is) (omega (arith, length-kids t));
+    same = rw (kids-part e t e-is, eq-eqb (nodeOf 0 t .kind) kindList list) refl;
+  }
 
-  module _ {r : Answer} where
-    pub child-type : how ≡ AsType → r ≡ «unpack» names (treeOf i t) → r ≡ unpackChild how names (treeOf i t)
-    child-type h r-is = rw h r-is
+  pub item-type : {k : ℕ} → k ≡ nodeOf 0 t .kind → (k ≡ kindList → ⊥) → {r : Answer} → r ≡ «unpack» names (treeOf i t)
+      → r ≡ unpackChild AsArgument names (treeOf i t)
+  unfolding «unpack»
+  item-type {k} k-is other r-is = r-is ∙ rw (← k-is, ne-eqb k kindList other) refl
 
-    module _ (h : how ≡ AsArgument) {k : ℕ} (k-is : k ≡ nodeOf 0 t .kind) where
-      pub child-list : k ≡ kindList → {e : ℕ} → e ≡ spanOf t
-          → r ≡ unpackEach argumentsOnly names (forest (i + 1) (take (e - 24) (drop 24 t)))
-          → r ≡ unpackChild how names (treeOf i t)
-      unfolding «unpack»
-      child-list list {e} e-is r-is = r-is ∙ rw (kids-part e t e-is, h, ← k-is, eq-eqb k kindList list) refl
+module _ {names : List ℕ} {others : How} {t : List ℕ} {whole : Answer} {left : List ℕ} {at : ℕ} {how : How}
+    (j : Judging names others t whole left at how) where
+  pub each-end : length left < 24 → accepted [] ≡ whole
+  unfolding «unpack»
+  each-end short = rw (← j .same, forest-none at left short) refl
 
-      pub child-argument : (k ≡ kindList → ⊥) → r ≡ «unpack» names (treeOf i t)
-          → r ≡ unpackChild how names (treeOf i t)
-      unfolding «unpack»
-      child-argument other r-is = rw h (r-is ∙ no-list t k-is other _ _)
+  pub each-falls : spanOf left < spanOf t
+  each-falls = falls t left (j .part)
 
--- children side by side: at each turn what is left gives the whole answer
-pub record Judging (names : List ℕ) (reads : Reads) (t : List ℕ) (node : ℕ) (left : List ℕ) (at : ℕ) (how : How)
-    : Type 0 where
-  pub within : 24 * at + length left ≤ 50400
-  pub part : length left ≤ length t
-  pub same : unpackEach (readsAs how (reads .others)) names (forest at left)
-      ≡ unpackEach reads names (forest node t)
-
-module _ {names : List ℕ} {reads : Reads} {t : List ℕ} {node : ℕ} where
-  pub each-start : 24 * node + length t ≤ 50400 → Judging names reads t node t node (reads .first)
-  each-start h = record { within = h; part = omega arith; same = refl }
-
-  module _ {left : List ℕ} {at : ℕ} {how : How} (j : Judging names reads t node left at how) where
-    pub each-end : length left < 24 → accepted [] ≡ unpackEach reads names (forest node t)
+  module _ (big : 24 ≤ length left) (child : Shaped)
+      (child-is : shaped child ≡ unpackChild how names (treeOf at left)) where
+    step : {e : ℕ} → e ≡ spanOf left → unpackEach (readsAs how others) names (forest at left)
+        ≡ andThen (shaped child) (λ _. unpackEach (readsAs others others) names
+        (forest (at + e / 24) (take (length left - e) (drop e left))))
     unfolding «unpack»
-    each-end short = rw (← j .same, forest-none at left short) refl
+    step e-is = first-and-rest (λ z ts. unpackEach z names ts) (λ h x. unpackChild h names x)
+        (λ x y. andThen x (λ _. y)) (λ z x ts. refl) (readsAs how others) at left big e-is
+        ∙ rw child-is refl
 
-    module _ (big : 24 ≤ length left) (child : Shaped)
-        (child-is : shaped child ≡ unpackChild how names (treeOf at left)) where
-      step : {e : ℕ} → e ≡ spanOf left → unpackEach (readsAs how (reads .others)) names (forest at left)
-          ≡ andThen (shaped child) (λ _. unpackEach (readsAs (reads .others) (reads .others)) names
-          (forest (at + e / 24) (take (length left - e) (drop e left))))
-      unfolding «unpack»
-      step e-is = first-and-rest (λ z ts. unpackEach z names ts) (λ h x. unpackChild h names x)
-          (λ x y. andThen x (λ _. y)) (λ z x ts. refl) (readsAs how (reads .others)) at left big e-is
-          ∙ rw child-is refl
+    pub each-stop : {why : Refusal} → child ≡ Refused why → refusal why ≡ whole
+    each-stop h = sym (sym (j .same) ∙ step refl ∙ rw h refl)
 
-      pub each-stop : {why : Refusal} → child ≡ Refused why
-          → refusal why ≡ unpackEach reads names (forest node t)
-      each-stop h = sym (sym (j .same) ∙ step refl ∙ rw h refl)
+    pub each-on : child ≡ Accepted → {e : ℕ} → e ≡ spanOf left
+        → Judging names others t whole (take (length left - e) (drop e left)) (at + e / 24) others
+    each-on h {e} e-is = record {
+      within = rest-within at left (j .within) e-is;
+      part = rw (rest-part e left e-is) (omega (arith, length-rest left, j .part));
+      same = sym (sym (j .same) ∙ step e-is ∙ rw h refl);
+    }
 
-      pub each-on : child ≡ Accepted → {e : ℕ} → e ≡ spanOf left
-          → Judging names reads t node (take (length left - e) (drop e left)) (at + e / 24) (reads .others)
-      each-on h {e} e-is = record {
-        within = rest-within at left (j .within) e-is;
-        part = rw (rest-part e left e-is) (omega (arith, length-rest left, j .part));
-        same = sym (sym (j .same) ∙ step e-is ∙ rw h refl);
-      }
+  -- a child that is not read
+  pub each-skip : 24 ≤ length left → {k : ℕ} → k ≡ nodeOf 0 left .kind → {rule : How} → rule ≡ ruleOf how k
+      → rule ≡ Unread → {e : ℕ} → e ≡ spanOf left
+      → Judging names others t whole (take (length left - e) (drop e left)) (at + e / 24) others
+  each-skip big k-is rule-is h e-is =
+      each-on big Accepted (child-unread names at left how k-is rule-is h) refl e-is

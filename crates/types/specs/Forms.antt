@@ -56,6 +56,12 @@ readsOf Union = readsAs AsType AsType
 readsOf Tuple = readsAs AsType AsType
 readsOf Other = readsAs Unread Unread
 
+-- by which rule a child of a kind is read: an argument that is no List is read as a type
+unfoldable pub ruleOf : How → ℕ → How
+ruleOf Unread kind = Unread
+ruleOf AsType kind = AsType
+ruleOf AsArgument kind = if' (eqb kind kindList) (λ _. AsArgument) (λ _. AsType)
+
 -- a List that is an argument: all its children are arguments
 abbrev pub argumentsOnly : Reads
 argumentsOnly = readsAs AsArgument AsArgument

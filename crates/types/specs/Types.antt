@@ -14,7 +14,6 @@ use Rattle.table.specs.Numbers.{invalidType, emptyListInType, typesDisabled}
 use Rattle.table.specs.Answer.{Answer, accepted, andThen, refusedAt}
 use Rattle.types.specs.Forms.{formOf, readsAs, readsOf, argumentsOnly, ofChild}
 use Rattle.types.specs.Paths.{«unpack_path»}
-use Rattle.types.specs.declared.How.{How}
 use Rattle.types.specs.declared.Reads.{Reads}
 use Rattle.types.specs.declared.Form.{Form}
 use Rattle.types.specs.declared.Form.the-variants.{Ellipsis, Path, Index, Index2, List, Union, Tuple, Other}
@@ -68,10 +67,6 @@ unfoldable mutual
   unpackEach reads names (t then ts) =
       andThen (ofChild (reads .first) (accepted L.[]) (λ _. «unpack» names t) (λ _. «unpack_argument» names t)) (λ _.
       unpackEach (readsAs (reads .others) (reads .others)) names ts)
-
--- a child as it is read
-abbrev pub unpackChild : How → L.List ℕ → Tree → Answer
-unpackChild how names t = ofChild how (accepted L.[]) (λ _. «unpack» names t) (λ _. «unpack_argument» names t)
 
 -- 45 at the type, where the dialect has none
 abbrev pub typesCheck : DialectTypes → Node → Answer

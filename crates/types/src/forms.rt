@@ -10,7 +10,7 @@ use crate::Reads;
 use soundness::kinds;
 ghost use mathlib.Core.Path.{_≡_};
 ghost use Rattle.forest.specs.Forest.{nodeOf};
-ghost use Rattle.types.specs.Forms.{formOf, shapeOf, readsAs, readsOf};
+ghost use Rattle.types.specs.Forms.{formOf, shapeOf, readsAs, readsOf, ruleOf};
 
 // The form of the record that a stretch begins with.
 pub fn form(t: &[u8]) -> Form
@@ -76,6 +76,22 @@ pub fn reads_of(form: Form) -> Reads
         Form::Union => reads(How::AsType, How::AsType),
         Form::Tuple => reads(How::AsType, How::AsType),
         Form::Other => reads(How::Unread, How::Unread),
+    }
+}
+
+// The rule by which a child is read, by its kind: an argument that is no List is read as a type.
+pub fn rule_of(how: How, kind: u8) -> How
+    ensures { λ r. ⌜ r ≡ ruleOf how kind ⌝ }
+{
+    match how {
+        How::Unread => How::Unread,
+        How::AsType => How::AsType,
+        How::AsArgument => {
+            if kind == kinds::LIST {
+                return How::AsArgument;
+            }
+            How::AsType
+        }
     }
 }
 

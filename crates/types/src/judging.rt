@@ -7,7 +7,6 @@
 // Licensed under Apache-2.0.
 use crate::Form;
 use crate::How;
-use crate::Reads;
 use crate::Shaped;
 use crate::forms;
 use crate::paths;
@@ -17,10 +16,11 @@ use table::numbers;
 ghost use mathlib.Core.Path.{_≡_};
 ghost use Prim.Native.Nat.{_+_};
 ghost use Rattle.forest.specs.Forest.{nodeOf, kidsOf, treeOf, forest};
-ghost use Rattle.table.specs.Check.{Within, Headed};
+ghost use Rattle.soundness.specs.KindNumbers.{kindList};
+ghost use Rattle.table.specs.Check.{Headed};
 ghost use Rattle.types.specs.Forms.{formOf};
 ghost use Rattle.types.specs.Types.{indexBase, index2Base, listLength, atNode};
-ghost use Rattle.types.specs.Types.{«unpack», unpackChild, unpackEach};
+ghost use Rattle.types.specs.Types.{«unpack», «unpack_argument»};
 ghost use Rattle.types.specs.Jobs.{shaped};
 
 // The base of the Index that a stretch begins with.
@@ -91,7 +91,8 @@ fn at_node(names: &[u8], t: &[u8], node: usize) -> Shaped
     }
 }
 
-// The type that a stretch begins with.
+// The type that a stretch begins with. A child that is read is a List of arguments or a type: this function decides
+// which, and each of the two rules gets a part of the children alone, so that the subtree is smaller at each call.
 pub(crate) fn unpack(names: &[u8], t: &[u8], node: usize) -> Shaped
     requires { ⌜ Headed node (now t) ⌝ }
     ensures { λ r. ⌜ shaped r ≡ «unpack» (now (names .entry)) (treeOf node (now (t .entry))) ⌝ }
@@ -102,48 +103,61 @@ pub(crate) fn unpack(names: &[u8], t: &[u8], node: usize) -> Shaped
     }
     let reads = forms::reads_of(forms::form(t));
     let e = forest::span(t);
-    unpack_each(names, reads, &t[RECORD..e], node + 1)
-}
-
-// A child as it is read: as a type, or as an argument of an Index2, which is a List of arguments or a type.
-fn unpack_child(names: &[u8], how: How, t: &[u8], node: usize) -> Shaped
-    requires { ⌜ Headed node (now t) ⌝ }
-    ensures { λ r. ⌜ shaped r ≡ unpackChild how (now (names .entry)) (treeOf node (now (t .entry))) ⌝ }
-{
-    match how {
-        How::Unread => Shaped::Accepted,
-        How::AsType => unpack(names, t, node),
-        How::AsArgument => {
-            if forest::kind(t) == kinds::LIST {
-                let e = forest::span(t);
-                let reads = Reads {
-                    first: How::AsArgument,
-                    others: How::AsArgument,
-                };
-                return unpack_each(names, reads, &t[RECORD..e], node + 1);
-            }
-            unpack(names, t, node)
-        }
-    }
-}
-
-// The children side by side in a stretch, left to right.
-fn unpack_each(names: &[u8], reads: Reads, t: &[u8], node: usize) -> Shaped
-    requires { ⌜ Within node (now t) ⌝ }
-    ensures { λ r. ⌜ shaped r ≡ unpackEach reads (now (names .entry)) (forest node (now (t .entry))) ⌝ }
-{
-    let mut left = t;
-    let mut at = node;
+    let mut left = &t[RECORD..e];
+    let mut at = node + 1;
     let mut how = reads.first;
     while RECORD <= left.len() {
-        let child = unpack_child(names, how, left, at);
-        if let Shaped::Refused(why) = child {
-            return Shaped::Refused(why);
-        }
-        let e = forest::span(left);
-        left = &left[e..];
-        at += e / RECORD;
+        let child = left;
+        let place = at;
+        let rule = forms::rule_of(how, forest::kind(child));
+        let child_bytes = forest::span(child);
+        left = &child[child_bytes..];
+        at += child_bytes / RECORD;
         how = reads.others;
+        match rule {
+            How::Unread => {}
+            How::AsType => {
+                let judged = unpack(names, child, place);
+                if let Shaped::Refused(why) = judged {
+                    return Shaped::Refused(why);
+                }
+            }
+            How::AsArgument => {
+                let judged = unpack_argument(names, child, place);
+                if let Shaped::Refused(why) = judged {
+                    return Shaped::Refused(why);
+                }
+            }
+        }
+    }
+    Shaped::Accepted
+}
+
+// The List of arguments that a stretch begins with. An item is a List of arguments again, or a type.
+fn unpack_argument(names: &[u8], t: &[u8], node: usize) -> Shaped
+    requires { ⌜ Headed node (now t) × (nodeOf 0 (now t) .kind ≡ kindList) ⌝ }
+    ensures { λ r. ⌜ shaped r ≡ «unpack_argument» (now (names .entry)) (treeOf node (now (t .entry))) ⌝ }
+{
+    let e = forest::span(t);
+    let mut left = &t[RECORD..e];
+    let mut at = node + 1;
+    while RECORD <= left.len() {
+        let item = left;
+        let place = at;
+        let item_bytes = forest::span(item);
+        left = &item[item_bytes..];
+        at += item_bytes / RECORD;
+        if forest::kind(item) == kinds::LIST {
+            let judged = unpack_argument(names, item, place);
+            if let Shaped::Refused(why) = judged {
+                return Shaped::Refused(why);
+            }
+        } else {
+            let judged = unpack(names, item, place);
+            if let Shaped::Refused(why) = judged {
+                return Shaped::Refused(why);
+            }
+        }
     }
     Shaped::Accepted
 }

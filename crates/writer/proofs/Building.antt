@@ -1,5 +1,9 @@
--- Laws of what is laid one after another: a block from its parts, block 0, a run from its blocks, a file from its runs.
--- Assumes nothing.
+-- What is laid one after another: a block from its parts (`block-whole`), block 0 (`header-whole`), a run from its
+-- blocks, a file from its runs (`file-whole`). The loop of a run keeps that what is left of the content, laid behind
+-- the blocks that are done, makes the whole run (`Writing`): a turn writes the first block of what is left
+-- (`run-first`) and moves on by 512 bytes (`run-on`). Each function writes at the front of what it is lent, so that a
+-- part that is lent from a place on is laid over that place (`over-part`), and two parts one after the other are both
+-- (`over-next`). Assumes nothing.
 use mathlib.Core.Path.{_≡_, refl, sym, ap, _∙_}
 use mathlib.Core.Logic.{⊎-elim}
 use mathlib.Core.List.{List, [], _++_, append-assoc}
@@ -19,7 +23,7 @@ use Rattle.blocks.specs.Run.{blocksFor, blocksOf, runOf}
 use Rattle.blocks.proofs.Sums.{weighed-front}
 use Rattle.blocks.proofs.Blocks.{length-front, length-block, take-min}
 use Rattle.blocks.proofs.Runs.{blocks-more, length-run}
-use Rattle.tablefile.specs.File.{headerOf, fileOf}
+use Rattle.tablefile.specs.File.{headerOf, fileOf, mostBlocks}
 use Rattle.tablefile.proofs.Copies.{drop-zeros}
 use Rattle.writer.specs.Writing.{holding, bytesFor, over}
 use Rattle.writer.proofs.Over.{over-none, over-front, length-over, over-next, over-part}
@@ -155,58 +159,75 @@ drop-used left = ⊎-elim
 pub used-fits : (left : List ℕ) {used : ℕ} → used ≡ min 504 (length left) → length (take (used - 0) left) ≤ 504
 used-fits left used-is = simp length-take (omega arith)
 
--- the loop over blocks: what is left, laid over the file as it is, makes the whole
-pub record Writing (d content : List ℕ) (first : ℕ) (file left : List ℕ) (number : ℕ) : Type 0 where
-  pub room : 512 * (number + blocksFor (length left)) ≤ length file
-  pub long : length file ≡ length d
-  pub same : over (512 * number) (runOf number left) file ≡ over (512 * first) (runOf first content) d
+-- the loop over blocks: what is left, laid over the bytes as they are, makes the whole
+pub record Writing (d content : List ℕ) (first : ℕ) (out left : List ℕ) (done : ℕ) : Type 0 where
+  pub room : 512 * (done + blocksFor (length left)) ≤ length out
+  pub few : first ≤ mostBlocks
+  pub long : length out ≡ length d
+  pub same : over (512 * done) (runOf (first + done) left) out ≡ over 0 (runOf first content) d
 
-pub run-start : (d content : List ℕ) (first : ℕ) → 512 * (first + blocksFor (length content)) ≤ length d
-    → Writing d content first d content first
-run-start d content first h = record { room = h; long = refl; same = refl }
+pub run-start : (d content : List ℕ) (first : ℕ)
+    → (512 * blocksFor (length content) ≤ length d) × (first ≤ mostBlocks) → Writing d content first d content 0
+run-start d content first h = record {
+  room = omega (arith, h .0);
+  few = h .1;
+  long = refl;
+  same = rw (add-zero first) refl;
+}
 
-module _ {d content : List ℕ} {first : ℕ} {file left : List ℕ} {number : ℕ}
-    (s : Writing d content first file left number) where
-  pub run-end : length left ≤ 0 → file ≡ over (512 * first) (runOf first content) d
-  run-end h = sym (over-none (512 * number) file)
-      ∙ ap (λ (x : List ℕ). over (512 * number) x file) (sym (run-none number left (omega arith))) ∙ s .same
+module _ {d content : List ℕ} {first : ℕ} {out left : List ℕ} {done : ℕ}
+    (s : Writing d content first out left done) where
+  pub run-end : length left ≤ 0 → out ≡ over 0 (runOf first content) d
+  run-end h = sym (over-none (512 * done) out)
+      ∙ ap (λ (x : List ℕ). over (512 * done) x out) (sym (run-none (first + done) left (omega arith))) ∙ s .same
 
   module _ (more : 0 < length left) where
-    run-room : 512 * number + 512 ≤ length file
+    run-room : 512 * done + 512 ≤ length out
     run-room = omega (arith, s .room, blocks-more (length left) more)
 
-    pub run-block : 512 ≤ length (take (length file - 512 * number) (drop (512 * number) file))
-    run-block = rw (tail-part (512 * number) file) (simp length-drop (omega (arith, run-room)))
+    pub run-block : 512 ≤ length (take (length out - 512 * done) (drop (512 * done) out))
+    run-block = rw (tail-part (512 * done) out) (simp length-drop (omega (arith, run-room)))
+
+    -- the block that is written next, and what the loop is then
+    abbrev block : List ℕ
+    block = blockOf (first + done) (take 504 left)
+
+    block-long : length block ≡ 512
+    block-long = length-block (first + done) (take 504 left) (simp length-take (omega arith))
+
+    run-next : Writing d content first (over (512 * done) block out) (drop 504 left) (done + 1)
+    run-next =
+        let next : 512 * (done + 1) ≡ 512 * done + length block = omega (arith, block-long) in
+        let onward : first + (done + 1) ≡ first + done + 1 = omega arith in
+        let fits : 512 * done + length block ≤ length out = omega (arith, run-room, block-long) in
+        let others : blocksFor (length (drop 504 left)) ≡ blocksFor (length left - 504) =
+        ap blocksFor (length-drop 504 left) in
+        let long : length (over (512 * done) block out) ≡ length out = length-over (512 * done) block out fits in
+        record {
+          room = omega (arith, s .room, blocks-more (length left) more);
+          few = s .few;
+          long = long ∙ s .long;
+          same = ap (λ (n : ℕ). over (512 * (done + 1)) (runOf n (drop 504 left)) (over (512 * done) block out)) onward
+              ∙ ap (λ (n : ℕ). over n (runOf (first + done + 1) (drop 504 left)) (over (512 * done) block out)) next
+              ∙ over-next (512 * done) block out (omega (arith, run-room)) (runOf (first + done + 1) (drop 504 left))
+              ∙ ap (λ (x : List ℕ). over (512 * done) x out) (sym (run-first (first + done) left more)) ∙ s .same;
+        }
 
     pub run-on : {used : ℕ} → used ≡ min 504 (length left) → {ys : List ℕ}
-        → ys ≡ over 0 (blockOf number (take (used - 0) (drop 0 left)))
-        (take (length file - 512 * number) (drop (512 * number) file))
-        → Writing d content first (putMid (512 * number) (length file - 512 * number) file ys)
-        (take (length left - used) (drop used left)) (number + 1)
+        → ys ≡ over 0 (blockOf (first + done) (take (used - 0) (drop 0 left)))
+        (take (length out - 512 * done) (drop (512 * done) out))
+        → Writing d content first (putMid (512 * done) (length out - 512 * done) out ys)
+        (take (length left - used) (drop used left)) (done + 1)
     run-on {used} used-is {ys} ys-is =
-        let b : List ℕ = blockOf number (take 504 left) in
-        let r : List ℕ = runOf (number + 1) (drop 504 left) in
         let all : used - 0 ≡ min 504 (length left) = omega arith in
         let part : take (used - 0) (drop 0 left) ≡ take 504 left = ap (λ (n : ℕ). take n left) all
         ∙ sym (take-min 504 (length left) left) ∙ ap (take 504) (take-length left) in
         let after : take (length left - used) (drop used left) ≡ drop 504 left = tail-part used left
         ∙ ap (λ (n : ℕ). drop n left) used-is ∙ drop-used left in
-        let ys-so : ys ≡ over 0 b (take (length file - 512 * number) (drop (512 * number) file)) = rw part at ys-is in
-        let new : putMid (512 * number) (length file - 512 * number) file ys ≡ over (512 * number) b file =
-        over-part (512 * number) b file (omega (arith, run-room)) ys-so in
-        let block : length b ≡ 512 = length-block number (take 504 left) (simp length-take (omega arith)) in
-        let long : length (over (512 * number) b file) ≡ length file =
-        length-over (512 * number) b file (omega (arith, run-room)) in
-        let next : 512 * (number + 1) ≡ 512 * number + length b = omega arith in
-        let others : blocksFor (length (drop 504 left)) ≡ blocksFor (length left - 504) =
-        ap blocksFor (length-drop 504 left) in
-        rw (new, after) record {
-          room = omega (arith, s .room, blocks-more (length left) more);
-          long = long ∙ s .long;
-          same = ap (λ (n : ℕ). over n r (over (512 * number) b file)) next
-              ∙ over-next (512 * number) b file (omega (arith, run-room)) r
-              ∙ ap (λ (x : List ℕ). over (512 * number) x file) (sym (run-first number left more)) ∙ s .same;
-        }
+        let ys-so : ys ≡ over 0 block (take (length out - 512 * done) (drop (512 * done) out)) = rw part at ys-is in
+        let new : putMid (512 * done) (length out - 512 * done) out ys ≡ over (512 * done) block out =
+        over-part (512 * done) block out (omega (arith, run-room)) ys-so in
+        rw (new, after) run-next
 
 -- a file: block 0, the names' run, the nodes' run
 header-long : (t names ds : List ℕ) → length ds ≤ 9 → length (blockOf 0 (headerOf (holding t names ds))) ≡ 512
@@ -221,7 +242,10 @@ length-file t names ds h =
     let first : ℕ = 1 + blocksFor (length names) in
     simp (length-append, header-long t names ds h, length-run 1 names, length-run first t) (omega arith)
 
-module _ (t names ds d : List ℕ) (pre : (length ds ≤ 9) × (bytesFor (length t) (length names) ≤ length d)) where
+-- the file as three functions write it: each is lent what stands from its place on
+module _ (t names ds d : List ℕ) (pre : (length ds ≤ 9)
+    × (1 + blocksFor (length names) + blocksFor (length t) ≤ mostBlocks)
+    × (bytesFor (length t) (length names) ≤ length d)) where
   abbrev header : List ℕ
   header = blockOf 0 (headerOf (holding t names ds))
 
@@ -232,7 +256,7 @@ module _ (t names ds d : List ℕ) (pre : (length ds ≤ 9) × (bytesFor (length
   first = 1 + blocksFor (length names)
 
   room : 512 * (first + blocksFor (length t)) ≤ length d
-  room = pre .1
+  room = pre .2
 
   header-is : length header ≡ 512
   header-is = header-long t names ds (pre .0)
@@ -241,24 +265,36 @@ module _ (t names ds d : List ℕ) (pre : (length ds ≤ 9) × (bytesFor (length
   begun-long = simp length-append (omega (arith, header-is, length-run 1 names))
 
   module _ {f₁ : List ℕ} (f₁-is : f₁ ≡ over 0 header d) where
-    pub names-room : 512 * first ≤ length f₁
-    names-room = rw f₁-is (omega (arith, room, length-over 0 header d (omega (arith, room, header-is))))
+    f₁-long : length f₁ ≡ length d
+    f₁-long = rw f₁-is (length-over 0 header d (omega (arith, room, header-is)))
 
-    module _ {f₂ : List ℕ} (f₂-is : f₂ ≡ over (512 * 1) (runOf 1 names) f₁) {k : ℕ}
-        (k-is : k ≡ blocksFor (length names)) where
+    names-place : 512 ≤ length f₁
+    names-place = omega (arith, room, f₁-long)
+
+    module _ {ys : List ℕ} (ys-is : ys ≡ over 0 (runOf 1 names) (take (length f₁ - 512) (drop 512 f₁))) where
+      abbrev f₂ : List ℕ
+      f₂ = putMid 512 (length f₁ - 512) f₁ ys
+
       f₂-so : f₂ ≡ over 0 begun d
       f₂-so =
-          let at : 512 * 1 ≡ 0 + length header = omega (arith, header-is) in
-          f₂-is ∙ rw (f₁-is, at) (over-next 0 header d (omega arith) (runOf 1 names))
+          let at : 512 ≡ 0 + length header = omega (arith, header-is) in
+          over-part 512 (runOf 1 names) f₁ names-place ys-is
+          ∙ rw (f₁-is, at) (over-next 0 header d (omega arith) (runOf 1 names))
 
-      pub nodes-room : 512 * (1 + k + blocksFor (length t)) ≤ length f₂
-      nodes-room = rw (f₂-so, k-is) (omega (arith, room, length-over 0 begun d (omega (arith, room, begun-long))))
+      f₂-long : length f₂ ≡ length d
+      f₂-long = rw f₂-so (length-over 0 begun d (omega (arith, room, begun-long)))
 
-      -- LAW: that is the file
-      pub file-whole : {f₃ : List ℕ} → f₃ ≡ over (512 * (1 + k)) (runOf (1 + k) t) f₂
-          → f₃ ≡ over 0 (fileOf (holding t names ds)) d
-      unfolding fileOf
-      file-whole f₃-is =
-          let at : 512 * first ≡ 0 + length begun = omega (arith, begun-long) in
-          f₃-is ∙ rw (f₂-so, k-is, at) (over-next 0 begun d (omega arith) (runOf first t))
-          ∙ ap (λ (x : List ℕ). over 0 x d) (append-assoc header (runOf 1 names) (runOf first t))
+      module _ {k : ℕ} (k-is : k ≡ blocksFor (length names)) where
+        nodes-place : 512 * (1 + k) ≤ length f₂
+        nodes-place = rw k-is (omega (arith, room, f₂-long))
+
+        -- LAW: that is the file
+        pub file-whole : {zs : List ℕ}
+            → zs ≡ over 0 (runOf (1 + k) t) (take (length f₂ - 512 * (1 + k)) (drop (512 * (1 + k)) f₂))
+            → putMid (512 * (1 + k)) (length f₂ - 512 * (1 + k)) f₂ zs ≡ over 0 (fileOf (holding t names ds)) d
+        unfolding fileOf
+        file-whole zs-is =
+            let at : 512 * first ≡ 0 + length begun = omega (arith, begun-long) in
+            over-part (512 * (1 + k)) (runOf (1 + k) t) f₂ nodes-place zs-is
+            ∙ rw (f₂-so, k-is, at) (over-next 0 begun d (omega arith) (runOf first t))
+            ∙ ap (λ (x : List ℕ). over 0 x d) (append-assoc header (runOf 1 names) (runOf first t))

@@ -3,15 +3,15 @@ use mathlib.Core.Path.{_≡_, refl, sym, _∙_}
 use mathlib.Core.Bool.{Bool, true, false}
 use mathlib.Core.Logic.{⊎-elim}
 use mathlib.Core.List.{List, [], _∷_}
-use Prim.Native.Nat.{ℕ, _+_, _*_, _<_, _≤_}
+use Prim.Native.Nat.{ℕ, _+_, _*_, _<_, _≤_, _^_}
 use native.Mathlib.Omega.{arith}
 use lib.ListN.{length}
 use lib.Dec.{leb}
 use borrow.Author.Tests.{le-leb, lt-leb, leb-true}
-use Rattle.fields.proofs.Basics.{clash}
+use Rattle.fields.proofs.Basics.{clash, and-left, and-right}
 use Rattle.dialect.specs.declared.Dialect.{Dialect}
 use Rattle.table.specs.Numbers.{shortBuffer}
-use Rattle.table.specs.Answer.{Answer, accepted, refused, andThen, refusal}
+use Rattle.table.specs.Answer.{Answer, accepted, refused, andThen, isRefused, refusal}
 use Rattle.table.specs.Check.{Handing, inDialect, turnedAway, given, givenOf, inGiven}
 use Rattle.table.specs.declared.Refusal.{Refusal}
 use Rattle.table.specs.declared.Given.{Given}
@@ -21,7 +21,8 @@ use Rattle.blocks.specs.Run.{blocksFor}
 use Rattle.tablefile.specs.File.{fileOf, mostBlocks}
 use Rattle.tablefile.specs.Reading.{soundCheck}
 use Rattle.tablefile.proofs.Accepted.{dialect-lengths}
-use Rattle.writer.specs.Writing.{holding, bytesFor, roomCheck, writeOf, over, afterwards, fileAfter, isRefused}
+use Rattle.writer.specs.Writing.{holding, bytesFor, roomCheck, writeOf, over, afterwards, fileAfter}
+use Rattle.writer.specs.Writing.{fitsIn, laidOver}
 use Rattle.fields.specs.Choice.{if'}
 
 -- how many bytes a file takes, in the terms of code
@@ -114,9 +115,97 @@ module _ (t names ds file : List ℕ) {a : Answer} (a-is : a ≡ writeOf t names
     pub write-nine : length ds ≤ 9
     write-nine = says .dialect
 
+    pub write-few : 1 + blocksFor (length names) + blocksFor (length t) ≤ mostBlocks
+    write-few = sound-few t names ds (says .sound) .0
+
     pub write-room : bytesFor (length t) (length names) ≤ length file
     write-room = says .fits
 
     pub write-done : {after : List ℕ} → after ≡ over 0 (fileOf (holding t names ds)) file
         → after ≡ fileAfter t names ds file
     write-done after-is = rw (says .answer) after-is
+
+-- a file that is written unchecked: what does not fit, and what does
+module _ (t n d room : ℕ) where
+  pub unfit-table : 50400 < t → false ≡ fitsIn t n d room
+  unfolding fitsIn
+  unfit-table h = rw (lt-leb t 50400 h) refl
+
+  module _ (few : t ≤ 50400) where
+    pub unfit-names : 8064 < n → false ≡ fitsIn t n d room
+    unfolding fitsIn
+    unfit-names h = rw (le-leb t 50400 few, lt-leb n 8064 h) refl
+
+    module _ (named : n ≤ 8064) where
+      pub unfit-dialect : 9 < d → false ≡ fitsIn t n d room
+      unfolding fitsIn
+      unfit-dialect h = rw (le-leb t 50400 few, le-leb n 8064 named, lt-leb d 9 h) refl
+
+      pub fit-one : {k : ℕ} → k ≡ blocksFor n → 1 + k < 2 ^ 64
+      unfolding blocksFor
+      fit-one k-is = omega arith
+
+      module _ {k m : ℕ} (k-is : k ≡ blocksFor n) (m-is : m ≡ blocksFor t) where
+        pub fit-bytes : 512 * (1 + k + m) < 2 ^ 64
+        unfolding blocksFor
+        fit-bytes = omega arith
+
+        pub fit-sum : 1 + k + m < 2 ^ 64
+        fit-sum = omega (arith, fit-bytes)
+
+      pub fit-room : d ≤ 9 → {k m : ℕ} → k ≡ blocksFor n → m ≡ blocksFor t
+          → leb (512 * (1 + k + m)) room ≡ fitsIn t n d room
+      unfolding fitsIn
+      fit-room nine k-is m-is = rw (k-is, m-is, le-leb t 50400 few, le-leb n 8064 named, le-leb d 9 nine) refl
+
+-- LAW: what fits, and that it is then written
+pub record Fitting (t n d room : ℕ) : Type 0 where
+  pub few : t ≤ 50400
+  pub named : n ≤ 8064
+  pub nine : d ≤ 9
+  pub there : bytesFor t n ≤ room
+
+module _ (t n d room : ℕ) where
+  pub fit-says : fitsIn t n d room ≡ true → Fitting t n d room
+  unfolding fitsIn
+  fit-says e =
+      let names = and-right (leb t 50400) _ e in
+      let dialect = and-right (leb n 8064) _ names in
+      record {
+        few = leb-true t 50400 (and-left (leb t 50400) _ e);
+        named = leb-true n 8064 (and-left (leb n 8064) _ names);
+        nine = leb-true d 9 (and-left (leb d 9) _ dialect);
+        there = leb-true (bytesFor t n) room (and-right (leb d 9) _ dialect);
+      }
+
+  pub says-fit : Fitting t n d room → fitsIn t n d room ≡ true
+  unfolding fitsIn
+  says-fit f = rw (
+    le-leb t 50400 (f .few),
+    le-leb n 8064 (f .named),
+    le-leb d 9 (f .nine),
+    le-leb (bytesFor t n) room (f .there),
+  ) refl
+
+pub fit-writes : (t n d room : ℕ) {q : Bool} → q ≡ fitsIn t n d room → q ≡ true
+    → (d ≤ 9) × (1 + blocksFor n + blocksFor t ≤ mostBlocks) × (bytesFor t n ≤ room)
+unfolding blocksFor
+fit-writes t n d room q-is e =
+    let f = fit-says t n d room (sym q-is ∙ e) in (f .nine, omega (arith, f .few, f .named), f .there)
+
+module _ (t names ds buffer : List ℕ) {q : Bool}
+    (q-is : q ≡ fitsIn (length t) (length names) (length ds) (length buffer)) where
+  pub unfit-keeps : q ≡ false → buffer ≡ laidOver (holding t names ds) buffer
+  unfolding laidOver
+  unfit-keeps e = rw (← q-is, e) refl
+
+  module _ (e : q ≡ true) where
+    pub fit-laid : {after : List ℕ} → after ≡ over 0 (fileOf (holding t names ds)) buffer
+        → after ≡ laidOver (holding t names ds) buffer
+    unfolding laidOver
+    fit-laid is = is ∙ rw (← q-is, e) refl
+
+pub laid-over : (t names ds buffer : List ℕ) → Fitting (length t) (length names) (length ds) (length buffer)
+    → laidOver (holding t names ds) buffer ≡ over 0 (fileOf (holding t names ds)) buffer
+unfolding laidOver
+laid-over t names ds buffer f = rw (says-fit _ _ _ _ f) refl

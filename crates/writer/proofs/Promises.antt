@@ -9,7 +9,7 @@ use Rattle.table.specs.Answer.{Answer, accepted, refused}
 use Rattle.table.proofs.Answers.{refusal-injective}
 use Rattle.writer.specs.declared.Written.{Written}
 use Rattle.writer.specs.declared.Written.the-variants.{Accepted, Refused}
-use Rattle.writer.specs.Writing.{writeOf, fileAfter, written}
+use Rattle.writer.specs.Writing.{holding, writeOf, fileAfter, laidOver, written}
 use Rattle.fields.proofs.Basics.{never}
 
 -- the first value of an answer
@@ -31,3 +31,9 @@ pub write-one : (table names dialect file : List ℕ) {r s : Written} {file-r fi
     → (r ≡ s) × (file-r ≡ file-s)
 write-one table names dialect file r-is file-is s-is file-are =
     (coincide-by written written-injective r-is s-is, coincide file-is file-are)
+
+-- of `write_unchecked`: the buffer at exit
+pub write-unchecked-one : (table names dialect file : List ℕ) {file-r file-s : List ℕ}
+    → file-r ≡ laidOver (holding table names dialect) file → file-s ≡ laidOver (holding table names dialect) file
+    → file-r ≡ file-s
+write-unchecked-one table names dialect file = coincide

@@ -13,7 +13,7 @@ use lib.Seq.{take-at, drop-at}
 use borrow.Author.Tests.{lt-leb}
 use Rattle.fields.proofs.Spelling.{Bytes}
 use Rattle.table.specs.Numbers.{shortBuffer}
-use Rattle.table.specs.Answer.{accepted}
+use Rattle.table.specs.Answer.{accepted, isRefused}
 use Rattle.table.specs.declared.Refusal.{Refusal}
 use Rattle.table.specs.declared.Refusal.the-variants.{Bare}
 use Rattle.tablefile.specs.File.{fileOf, mostBlocks}
@@ -28,7 +28,7 @@ use Rattle.tablefile.proofs.Lends.{into-passed}
 use Rattle.tablefile.proofs.Theorems.{Read, accepted-is-file, accepted-is-sound, file-read-back}
 use Rattle.writer.specs.declared.Written.{Written}
 use Rattle.writer.specs.declared.Written.the-variants.{Accepted, Refused}
-use Rattle.writer.specs.Writing.{holding, bytesFor, writeOf, fileAfter, isRefused, written}
+use Rattle.writer.specs.Writing.{holding, bytesFor, writeOf, fileAfter, written}
 use Rattle.writer.proofs.Over.{over-front}
 use Rattle.writer.proofs.Building.{length-file}
 use Rattle.writer.proofs.Jobs.{Says, passed-says, sound-few, sound-accepted}

@@ -1,5 +1,5 @@
 -- Writing a table file: the job's answer, and the buffer at exit. These are definitions.
-use mathlib.Core.Bool.{Bool, true, false}
+use mathlib.Core.Bool.{Bool, _&&_}
 use mathlib.Core.List.{List, [], _∷_, _++_}
 use Prim.Native.Nat.{ℕ, _+_, _*_}
 use lib.ListN.{length, take, drop}
@@ -7,6 +7,7 @@ use lib.Dec.{leb}
 use Rattle.fields.specs.Choice.{if'}
 use Rattle.table.specs.Numbers.{shortBuffer}
 use Rattle.table.specs.Answer.{Answer, accepted, refused, andThen, refusal}
+use Rattle.table.specs.Check.{mostBytes, mostNames}
 use Rattle.blocks.specs.Block.{blockBytes}
 use Rattle.blocks.specs.Run.{blocksFor}
 use Rattle.tablefile.specs.File.{Content, fileOf}
@@ -44,10 +45,16 @@ abbrev pub fileAfter : List ℕ → List ℕ → List ℕ → List ℕ → List 
 fileAfter t names bytes buffer =
     afterwards (writeOf t names bytes (length buffer)) (fileOf (holding t names bytes)) buffer
 
--- whether an answer is a refusal
-abbrev pub isRefused : Answer → Bool
-isRefused (accepted vs) = false
-isRefused (refused n vs) = true
+-- a table, names and dialect bytes of these lengths make a file, and it fits in `room` bytes
+unfoldable pub fitsIn : ℕ → ℕ → ℕ → ℕ → Bool
+fitsIn table names bytes room =
+    leb table mostBytes && (leb names mostNames && (leb bytes 9 && leb (bytesFor table names) room))
+
+-- the buffer after a file is written with no check of 1 to 5: the file over its front where it fits, else as it was
+unfoldable pub laidOver : Content → List ℕ → List ℕ
+laidOver c buffer =
+    if' (fitsIn (length (c .table)) (length (c .names)) (length (c .dialect)) (length buffer))
+    (λ _. over 0 (fileOf c) buffer) (λ _. buffer)
 
 -- what the answers of code mean
 abbrev pub written : Written → Answer

@@ -2,6 +2,8 @@
 use blocks::BLOCK_BYTES;
 use forest::RECORD;
 use table::Given;
+use table::MOST_BYTES;
+use table::MOST_NAMES;
 use table::Refusal;
 use table::numbers;
 ghost use mathlib.Core.Path.{_≡_};
@@ -9,11 +11,12 @@ ghost use mathlib.Core.List.{_++_};
 ghost use Prim.Native.Nat.{_+_, _*_, _%_, _≤_, _<_};
 ghost use lib.ListN.{length};
 ghost use Rattle.fields.specs.Field.{bytesOf};
+ghost use Rattle.table.specs.Answer.{isRefused};
 ghost use Rattle.blocks.specs.Block.{blockBytes, contentBytes, weighed, blockOf};
 ghost use Rattle.blocks.specs.Run.{blocksFor, runOf};
 ghost use Rattle.tablefile.specs.File.{headerOf, fileOf, mostBlocks};
-ghost use Rattle.writer.specs.Writing.{holding, bytesFor, roomCheck, writeOf, over, fileAfter};
-ghost use Rattle.writer.specs.Writing.{isRefused, written};
+ghost use Rattle.writer.specs.Writing.{holding, bytesFor, roomCheck, writeOf, over, fileAfter, fitsIn, laidOver};
+ghost use Rattle.writer.specs.Writing.{written};
 
 // The answer of the job: how many bytes are written, a multiple of 512, or why it is refused.
 pub enum Written {
@@ -35,6 +38,35 @@ pub fn write(table: &[u8], names: &[u8], dialect: &[u8], file: &mut [u8]) -> Wri
     }
     write_file(table, names, dialect, file);
     judged
+}
+
+// Writes the file of a table, names and dialect bytes that have passed 1 to 5: they are not checked again. If they are
+// longer than in any file, or the buffer is shorter than the file, no byte changes.
+pub fn write_unchecked(table: &[u8], names: &[u8], dialect: &[u8], file: &mut [u8])
+    ensures { λ r. ⌜ now (file .exit)
+        ≡ laidOver (holding (now (table .entry)) (now (names .entry)) (now (dialect .entry))) (now (file .entry)) ⌝ }
+{
+    if !fits(table.len(), names.len(), dialect.len(), file.len()) {
+        return;
+    }
+    write_file(table, names, dialect, file)
+}
+
+// Whether a table, names and dialect bytes of these lengths make a file, and it fits in `room` bytes.
+fn fits(table: usize, names: usize, dialect: usize, room: usize) -> bool
+    ensures { λ r. ⌜ r ≡ fitsIn table names dialect room ⌝ }
+{
+    if MOST_BYTES < table {
+        return false;
+    }
+    if MOST_NAMES < names {
+        return false;
+    }
+    if 9 < dialect {
+        return false;
+    }
+    let count = 1 + blocks::blocks_for(names) + blocks::blocks_for(table);
+    BLOCK_BYTES * count <= room
 }
 
 // 1 to 5, then 7 for so many bytes of room.
@@ -74,15 +106,17 @@ fn is_refused(answer: Written) -> bool
 // Writes the file at the front of a buffer: block 0, the blocks of the names, then those of the nodes.
 fn write_file(table: &[u8], names: &[u8], dialect: &[u8], file: &mut [u8])
     requires { ⌜ (length (now dialect) ≤ 9)
+        × (1 + blocksFor (length (now names)) + blocksFor (length (now table)) ≤ mostBlocks)
         × (bytesFor (length (now table)) (length (now names)) ≤ length (now file)) ⌝ }
     ensures { λ r. ⌜ now (file .exit)
         ≡ over 0 (fileOf (holding (now (table .entry)) (now (names .entry)) (now (dialect .entry))))
         (now (file .entry)) ⌝ }
 {
     write_header(table, names, dialect, file);
-    write_run(1, names, file);
+    write_run(1, names, &mut file[BLOCK_BYTES..]);
     let first = 1 + blocks::blocks_for(names.len());
-    write_run(first, table, file)
+    let at = BLOCK_BYTES * first;
+    write_run(first, table, &mut file[at..])
 }
 
 // Writes block 0 at the front of some bytes: the node count, the name byte count, and the dialect if there is one.
@@ -100,21 +134,20 @@ fn write_header(table: &[u8], names: &[u8], dialect: &[u8], out: &mut [u8])
     write_block(0, &header[0..used], out)
 }
 
-// Writes the blocks of a content into a file, numbered from a number on: each is lent the file from its place on, one
-// after another.
-fn write_run(first: usize, content: &[u8], file: &mut [u8])
-    requires { ⌜ blockBytes * (first + blocksFor (length (now content))) ≤ length (now file) ⌝ }
-    ensures { λ r. ⌜ now (file .exit)
-        ≡ over (blockBytes * first) (runOf first (now (content .entry))) (now (file .entry)) ⌝ }
+// Writes the blocks of a content at the front of some bytes, numbered from a number on: each is lent what stands from
+// its place on, one after another.
+fn write_run(first: usize, content: &[u8], out: &mut [u8])
+    requires { ⌜ (blockBytes * blocksFor (length (now content)) ≤ length (now out)) × (first ≤ mostBlocks) ⌝ }
+    ensures { λ r. ⌜ now (out .exit) ≡ over 0 (runOf first (now (content .entry))) (now (out .entry)) ⌝ }
 {
     let mut left = content;
-    let mut number = first;
+    let mut done = 0;
     while 0 < left.len() {
         let used = blocks::used_here(left.len());
-        let at = BLOCK_BYTES * number;
-        write_block(number, &left[0..used], &mut file[at..]);
+        let at = BLOCK_BYTES * done;
+        write_block(first + done, &left[0..used], &mut out[at..]);
         left = &left[used..];
-        number += 1;
+        done += 1;
     }
 }
 

@@ -163,19 +163,6 @@ impl<'a> Blocks<'a> {
     }
 }
 
-/// What the program tableaudit prints for a file: 3 and 4 with their node, and each error of the audit with its node.
-pub fn printed_audit(file: &[u8]) -> String {
-    let contents = match read(file) {
-        Ok(contents) => contents,
-        Err(Refusal { number, node: Some(node), .. }) => return format!("refused {number} {node}\n"),
-        Err(refusal) => return format!("refused {}\n", refusal.number),
-    };
-    let audited = crate::jobs::audit(&contents.table, &contents.names, &contents.dialect).audited;
-    let lines = audited.iter().map(|[number, node, begin, end]| format!("{number} {begin} {end} {node}\n"));
-    let nodes = contents.table.len() / RECORD_BYTES;
-    format!("nodes {nodes}\n{}errors {}\n", lines.collect::<String>(), audited.len())
-}
-
 /// What the program tablecheck prints for a file.
 pub fn printed(file: &[u8]) -> String {
     let contents = match read(file) {

@@ -109,7 +109,6 @@ fn items(options: &Options) -> Vec<Item<'static>> {
         part,
         parts,
         program: options.program.clone(),
-        auditor: options.auditor.clone(),
         rows: options.rows.clone(),
         python: options.python.clone(),
     };

@@ -15,8 +15,6 @@ pub struct Options {
     pub stop: bool,
     /// The program tablecheck to run on files.
     pub program: Option<String>,
-    /// The program tableaudit, which is run on them besides.
-    pub auditor: Option<String>,
     /// A source text that holds the port's three dialect rows.
     pub rows: Option<String>,
     /// The script that puts calls to Python.
@@ -41,7 +39,6 @@ impl Options {
             threads: 2,
             stop: false,
             program: None,
-            auditor: None,
             rows: None,
             python: None,
             record: None,
@@ -62,7 +59,6 @@ impl Options {
                 "--scale" => options.scale = number(&value()?)?.max(1),
                 "--stop" => options.stop = true,
                 "--program" => options.program = Some(value()?),
-                "--auditor" => options.auditor = Some(value()?),
                 "--rows" => options.rows = Some(value()?),
                 "--python" => options.python = Some(value()?),
                 "--record" => options.record = Some(value()?),

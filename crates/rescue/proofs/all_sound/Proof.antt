@@ -1,6 +1,6 @@
 -- `rescue::all_sound` meets its contract: too few records, or the check decides. Assumes nothing.
 use borrow.Author.Needs.{needs}
-use Rattle.rescue.proofs.Leaves.{all-short, all-passed, all-refused}
+use Rattle.rescue.proofs.Leaves.{all-short, all-there}
 use Rattle.rescue.proofs.all_sound.Statement.{statement}
 use Rattle.rescue.proofs.all_sound.Tie as tie
 
@@ -11,7 +11,4 @@ all-sound-spec =
     (λ c. search needs)
     (λ c. search all-short)  -- returns
     (λ c κs. search needs)
-    (λ c. search needs)
-    (λ c. search needs)
-    (λ c. search all-passed)  -- returns-2
-    (λ c. search all-refused))  -- returns-3
+    (λ c. search all-there))  -- returns-2

@@ -1,34 +1,32 @@
--- `rescue::cut` meets its contract: from the longest row of statements down, no cut above passes.
--- Assumes nothing.
+-- `rescue::cut` meets its contract: no Statements, no child, a root at fault, or the leading children. Assumes nothing.
 use borrow.Author.Needs.{needs}
-use Prim.Native.Nat.{_-_}
-use Rattle.rescue.proofs.Cutting.{Cutting, cut-few, cut-none, cut-within, cut-start, cut-long, cut-big}
-use Rattle.rescue.proofs.Cutting.{cut-small, cut-same, cut-is, cut-room, cut-stop, cut-less, cut-on, cut-end}
+use borrow.Author.Tests.{not-true, not-false}
+use Rattle.rescue.proofs.Cutting.{cut-other, cut-big, cut-from, cut-row, cut-zero, cut-word, cut-part}
+use Rattle.rescue.proofs.Cutting.{cut-same, cut-bad, cut-good}
 use Rattle.rescue.proofs.cut.Statement.{statement}
 use Rattle.rescue.proofs.cut.Tie as tie
-
-abbrev Inv-loop : tie.InvT-loop
-Inv-loop table₀ names most m₀ table m = Cutting table₀ names table m
-
-abbrev μ-loop : tie.MeasureT-loop
-μ-loop table₀ names most m₀ table m = m
 
 pub cut-spec : {M : Type 1} → statement M
 cut-spec =
     tie.close
     (tie.spec
-    Inv-loop
-    μ-loop
     (λ c κs. search needs)
     (λ c. search needs)
-    (λ c. search (cut-few, cut-none))  -- returns
-    (λ c κs. search cut-within)  -- ending-requires
-    (λ c. search cut-start)  -- loop-holds
-    (λ c κs. search (cut-big, cut-small))  -- try-cut-requires
-    (λ c. search cut-same)  -- same-length-2
-    (λ c. search (cut-stop, cut-is))  -- returns-2
-    (λ c κs. search cut-room)  -- ending-requires-2
-    (λ c. search cut-less)  -- loop-less
-    (λ c. search cut-on)  -- loop-again
-    (λ c. search cut-long)  -- same-length-3
-    (λ c. search (cut-end, cut-none)))  -- returns-3
+    (λ c. search cut-other)  -- returns
+    (λ c κs. search needs)
+    (λ c. search cut-from)  -- sub-leading
+    (λ c. search cut-from)  -- part-leading-start
+    (λ c. search needs)
+    (λ c κs. search cut-row)  -- leading-requires
+    (λ c. search needs)
+    (λ c. search cut-zero)  -- returns-2
+    (λ c. search needs)
+    (λ c κs. search (cut-big, cut-word))  -- resize-requires
+    (λ c. search needs)
+    (λ c. search needs)
+    (λ c. search cut-part)  -- part-sound-end
+    (λ c κs. search needs)
+    (λ c. search cut-same)  -- same-length-3
+    (λ c. search (cut-bad, not-true))  -- returns-3
+    (λ c. search cut-same)  -- same-length-4
+    (λ c. search (cut-good, not-false)))  -- returns-4

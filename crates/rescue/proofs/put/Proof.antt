@@ -1,7 +1,7 @@
 -- `rescue::put` meets its contract: out is filled from the front. Assumes nothing.
-use borrow.Author.Needs.{needs}
 use Prim.Native.Nat.{_-_}
 use native.Mathlib.Omega.{arith}
+use borrow.Author.Needs.{needs}
 use Rattle.blocks.proofs.Filling.{Filled, fill-start, fill-long, fill-on, fill-end}
 use Rattle.rescue.proofs.put.Statement.{statement}
 use Rattle.rescue.proofs.put.Tie as tie

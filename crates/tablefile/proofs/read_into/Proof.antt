@@ -1,7 +1,6 @@
--- `tablefile::read_into` meets its contract: each return is one step of the check. Assumes nothing.
+-- `tablefile::read_into` meets its contract: 70 to 75 refuse, or what was unpacked is handed over. Assumes nothing.
 use borrow.Author.Needs.{needs}
-use Rattle.tablefile.proofs.Lends.{into-refused, into-fits, into-short-table, into-short-names, into-table-long}
-use Rattle.tablefile.proofs.Lends.{into-names-long, into-put-table, into-put-names, into-done}
+use Rattle.tablefile.proofs.Lends.{unread-so, unread-kept, read-table-long, read-names-long, read-holds}
 use Rattle.tablefile.proofs.read_into.Statement.{statement}
 use Rattle.tablefile.proofs.read_into.Tie as tie
 
@@ -10,48 +9,16 @@ read-into-spec =
     tie.close
     (tie.spec
     (λ c κs. search needs)
-    (λ c. search needs)
-    (λ c.  -- returns
-    let unpack = c .before .before .before .unpack in
-    into-refused _ _ unpack.ensures.0 _ _ (c .before .found .given .1))
-    (λ c. search needs)
     (λ c κs. search needs)
-    (λ c. search into-fits)  -- mul-len
-    (λ c.  -- returns-2
-    let header = c .before .before .header in
-    let enum-told = c .before .before .before .enum-told in
-    let unpack = c .before .before .before .before .before .unpack in
-    into-short-table _ _ unpack.ensures.0 enum-told.given.1 header.ensures _ _ (c .if1 .taken))
-    (λ c.  -- returns-3
-    let if1 = c .before .before .if1 in
-    let header = c .before .before .before .before .header in
-    let enum-told = c .before .before .before .before .before .enum-told in
-    let back = c .before .before .before .before .before .before in
-    let unpack = back .before .unpack in
-    into-short-names _ _ unpack.ensures.0 enum-told.given.1 header.ensures _ _ if1.left (c .if2 .taken))
-    (λ c. search into-table-long)  -- slice-aggregate-put
-    (λ c κs.  -- put-requires
+    (λ c. search (unread-so, unread-kept))  -- returns
+    (λ c. search read-table-long)  -- slice-aggregate-hand-over
+    (λ c. search read-names-long)  -- slice-aggregate-hand-over-2
+    (λ c κs.  -- hand-over-requires
     let if1 = c .before .before .before .before .if1 in
+    let is-refused = c .before .before .before .before .before .is-refused in
     let back = c .before .before .before .before .before .before in
-    let enum-told = back .before .enum-told in
-    let unpack = back .before .before .before .unpack in
-    into-put-table _ _ unpack.ensures.0 enum-told.given.1 (back .header .ensures) unpack.ensures.1.0 if1.left)
-    (λ c. search into-names-long)  -- slice-aggregate-put-2
-    (λ c κs.  -- put-requires-2
-    let back = c .before .before .before .before .before .before in
-    let header = back .before .before .before .before .before .header in
-    let back2 = back .before .before .before .before .before .before in
-    let unpack = back2 .before .before .unpack in
-    into-put-names _ _ unpack.ensures.0 (back2 .enum-told .given .1) header.ensures unpack.ensures.1.1
-    (back .before .if2 .left))
+    let unpack = back .unpack in
+    read-holds _ unpack.ensures.0 is-refused.ensures if1.left unpack.ensures.1.0 unpack.ensures.1.1)
     (λ c. search needs)
     (λ c. search needs)
-    (λ c.  -- returns-4
-    let put2 = c .before .before .put2 in
-    let back = c .before .before .before .before .before .before in
-    let if2 = back .before .before .before .before .if2 in
-    let back2 = back .before .before .before .before .before .before in
-    let enum-told = back2 .before .before .before .enum-told in
-    let unpack = back2 .before .before .before .before .before .unpack in
-    into-done _ _ unpack.ensures.0 enum-told.given.1 (back2 .before .before .header .ensures) _ _ (back2 .if1 .left)
-    if2.left _ _ unpack.ensures.1.0 unpack.ensures.1.1 (back .before .put .ensures) put2.ensures))
+    (λ c. search needs))  -- returns-2

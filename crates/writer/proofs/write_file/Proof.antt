@@ -1,6 +1,6 @@
 -- `writer::write_file` meets its contract: block 0 and the two runs are the file. Assumes nothing.
 use borrow.Author.Needs.{needs}
-use Rattle.writer.proofs.Building.{names-room, nodes-room, file-whole}
+use Rattle.writer.proofs.Building.{file-whole}
 use Rattle.writer.proofs.write_file.Statement.{statement}
 use Rattle.writer.proofs.write_file.Tie as tie
 
@@ -9,9 +9,16 @@ write-file-spec =
     tie.close
     (tie.spec
     (λ c κs. search needs)
-    (λ c κs. search names-room)  -- write-run-requires
+    (λ c. search needs)
+    (λ c. search needs)
+    (λ c. search needs)
+    (λ c κs. search needs)
     (λ c κs. search needs)
     (λ c. search needs)
-    (λ c κs. search nodes-room)  -- write-run-requires-2
+    (λ c. search needs)
+    (λ c. search needs)
+    (λ c. search needs)
+    (λ c. search needs)
+    (λ c κs. search needs)
     (λ c. search needs)
     (λ c. search file-whole))  -- returns

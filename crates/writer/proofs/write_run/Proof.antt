@@ -1,4 +1,4 @@
--- `writer::write_run` meets its contract: what is left, laid over the file as it is, makes the whole. Assumes nothing.
+-- `writer::write_run` meets its contract: what is left, laid over what is there, makes the whole. Assumes nothing.
 use lib.ListN.{length}
 use borrow.Author.Needs.{needs}
 use Rattle.writer.proofs.Building.{Writing, used-fits, run-start, run-block, run-on, run-end}
@@ -6,10 +6,10 @@ use Rattle.writer.proofs.write_run.Statement.{statement}
 use Rattle.writer.proofs.write_run.Tie as tie
 
 abbrev Inv-loop : tie.InvT-loop
-Inv-loop first content file₀ left₀ number₀ file left number = Writing file₀ content first file left number
+Inv-loop first content out₀ left₀ done₀ out left done = Writing out₀ content first out left done
 
 abbrev μ-loop : tie.MeasureT-loop
-μ-loop first content file₀ left₀ number₀ file left number = length left
+μ-loop first content out₀ left₀ done₀ out left done = length left
 
 pub write-run-spec : {M : Type 1} → statement M
 write-run-spec =
@@ -19,6 +19,7 @@ write-run-spec =
     μ-loop
     (λ c. search run-start)  -- loop-holds
     (λ c κs. search needs)
+    (λ c. search needs)
     (λ c. search needs)
     (λ c. search needs)
     (λ c. search needs)

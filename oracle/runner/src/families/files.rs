@@ -24,18 +24,12 @@ use crate::grow;
 use crate::port::FILE;
 use crate::rng::Rng;
 
-/// Runs the programs on a file and compares all that they print. Without a program nothing is compared.
+/// Runs the program on a file and compares all that it prints. Without a program nothing is compared.
 pub fn compare_output(checker: &mut Checker, plan: &Plan, bytes: &[u8], by_name: bool) {
-    let programs: [(&Option<String>, fn(&[u8]) -> String); 2] =
-        [(&plan.program, file::printed), (&plan.auditor, file::printed_audit)];
-    for (program, printed) in programs {
-        if let Some(program) = program.as_ref().filter(|_| checker.wants_job(FILE)) {
-            compare_one(checker, program, &printed(bytes), bytes, by_name);
-        }
-    }
-}
-
-fn compare_one(checker: &mut Checker, program: &str, expected: &str, bytes: &[u8], by_name: bool) {
+    let Some(program) = plan.program.as_ref().filter(|_| checker.wants_job(FILE)) else {
+        return;
+    };
+    let expected = file::printed(bytes);
     let printed = if by_name { run_by_name(program, bytes) } else { run_by_input(program, bytes) };
     let printed = printed.unwrap_or_else(|error| panic!("{program} cannot be run: {error}"));
     let number = file::read(bytes).err().map_or(0, |refusal| refusal.number);

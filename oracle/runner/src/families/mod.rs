@@ -39,7 +39,6 @@ pub struct Plan {
     pub part: u64,
     pub parts: u64,
     pub program: Option<String>,
-    pub auditor: Option<String>,
     pub rows: Option<String>,
     /// The script that puts calls to Python.
     pub python: Option<String>,

@@ -1,0 +1,112 @@
+//! The functions of include/starlark.h, declared for Rust once. The crate has no link line: who uses it links an archive, a shared library or a
+//! stand-in. The header says what each function does and what the caller must see to; the crate `starlark-checks` is the safe wrapper.
+#![no_std]
+
+/// The words that a function answers in.
+pub type Words = [u32; 12];
+
+extern "C" {
+    pub fn starlark_version() -> u32;
+    pub fn starlark_table(table: *const u8, table_len: usize, names: *const u8, names_len: usize, out: *mut Words) -> u32;
+    pub fn starlark_params(
+        table: *const u8,
+        table_len: usize,
+        names: *const u8,
+        names_len: usize,
+        node: usize,
+        modes: *mut u8,
+        modes_len: usize,
+        out: *mut Words,
+    ) -> u32;
+    pub fn starlark_type(
+        table: *const u8,
+        table_len: usize,
+        names: *const u8,
+        names_len: usize,
+        dialect: *const u8,
+        dialect_len: usize,
+        node: usize,
+        shapes: *mut u8,
+        shapes_len: usize,
+        out: *mut Words,
+    ) -> u32;
+    pub fn starlark_module(
+        table: *const u8,
+        table_len: usize,
+        names: *const u8,
+        names_len: usize,
+        dialect: *const u8,
+        dialect_len: usize,
+        errors: *mut u32,
+        errors_len: usize,
+        out: *mut Words,
+    ) -> u32;
+    pub fn starlark_audit(
+        table: *const u8,
+        table_len: usize,
+        names: *const u8,
+        names_len: usize,
+        dialect: *const u8,
+        dialect_len: usize,
+        errors: *mut u32,
+        errors_len: usize,
+        out: *mut Words,
+    ) -> u32;
+    pub fn starlark_write(
+        table: *const u8,
+        table_len: usize,
+        names: *const u8,
+        names_len: usize,
+        dialect: *const u8,
+        dialect_len: usize,
+        file: *mut u8,
+        file_len: usize,
+        out: *mut Words,
+    ) -> u32;
+    pub fn starlark_rescue(input: *const u8, input_len: usize, file: *mut u8, file_len: usize, out: *mut Words) -> u32;
+    pub fn starlark_read(
+        file: *const u8,
+        file_len: usize,
+        table: *mut u8,
+        table_len: usize,
+        names: *mut u8,
+        names_len: usize,
+        out: *mut Words,
+    ) -> u32;
+    pub fn starlark_check_file(file: *const u8, file_len: usize, errors: *mut u32, errors_len: usize, out: *mut Words) -> u32;
+    pub fn starlark_bind(
+        table: *const u8,
+        table_len: usize,
+        names: *const u8,
+        names_len: usize,
+        call: usize,
+        def: usize,
+        list: *mut u32,
+        list_len: usize,
+        out: *mut Words,
+    ) -> u32;
+    pub fn starlark_call(
+        table: *const u8,
+        table_len: usize,
+        names: *const u8,
+        names_len: usize,
+        node: usize,
+        out: *mut Words,
+    ) -> u32;
+    pub fn starlark_target(
+        table: *const u8,
+        table_len: usize,
+        names: *const u8,
+        names_len: usize,
+        node: usize,
+        out: *mut Words,
+    ) -> u32;
+    pub fn starlark_assignment(
+        table: *const u8,
+        table_len: usize,
+        names: *const u8,
+        names_len: usize,
+        node: usize,
+        out: *mut Words,
+    ) -> u32;
+}

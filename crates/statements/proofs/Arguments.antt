@@ -1,0 +1,121 @@
+-- THE CALL JOB: 1 TO 4, 6, 20 TO 24
+--
+-- Theorems of crate `arguments` over the answer of `arguments::call`. What the records `Ordered`, `NamedTwice` and
+-- `FirstPassing` hold stands field by field. Each is proved by citing the theorem. Assumes nothing.
+use mathlib.Core.Path.{_≡_}
+use mathlib.Core.Bool.{true}
+use mathlib.Core.List.{List, [], _∷_, _++_}
+use Prim.Native.Nat.{ℕ, _+_, _<_}
+use Rattle.forest.specs.Forest.{Node, treeOf}
+use Rattle.forest.specs.Names.{Distinct, NonePasses}
+use Rattle.table.specs.Numbers.{repeatedNamed}
+use Rattle.table.specs.Answer.{accepted, refused, OnlyCarries}
+use Rattle.table.specs.Check.{checkOf, nodeFits, stretchOf}
+use Rattle.table.specs.declared.Wanted.the-variants.{Call}
+use Rattle.arguments.specs.Written.{Name, Argument, nodeIn, argumentsOf}
+use Rattle.arguments.specs.Call.{bit, given, hasName, unpack}
+use Rattle.arguments.specs.Accepted.{kindsOf, inOrder, Placed, namesOf, Expected}
+use Rattle.arguments.specs.Job.{nameSpan, callValues, callOf}
+use Rattle.arguments.specs.Twice.{indexOf}
+use Rattle.arguments.specs.declared.CallArgs.{CallArgs}
+use Rattle.arguments.proofs.AcceptedCalls as theorem
+use Rattle.arguments.proofs.Order as theorem-order
+use Rattle.arguments.proofs.Twice as theorem-twice
+
+-- "Both files' internal errors are shown never to arise": call.rs 82, 97, 112
+-- In words: no list of arguments is answered with an internal error.
+pub no-internal-error : (l : List Argument) → Expected (unpack l)
+no-internal-error = theorem-order.no-internal-error
+
+-- "Accepted: positional, then named, then at most one star, then at most one `**`; names distinct."
+-- In words: in a sound table, a call whose arguments stand so is accepted, with their numbers and places.
+pub ordered-accepted : (t names : List ℕ) (i : ℕ) (c : CallArgs) {vs : List ℕ}
+    → checkOf t names ≡ accepted vs
+    → nodeFits t i Call ≡ true
+    → kindsOf (argumentsOf names (treeOf i (stretchOf t i))) ≡ inOrder c
+    → Placed (c .star) (c .«num_pos» + c .«num_named»)
+    → Placed (c .«star_star») (c .«num_pos» + c .«num_named» + bit (given (c .star)))
+    → Distinct (namesOf (argumentsOf names (treeOf i (stretchOf t i))))
+    → callOf t names i ≡ accepted (callValues c)
+ordered-accepted t names i c e fits kinds star kw apart = theorem.ordered-accepted t names i c e fits
+    record { kinds = kinds; star-at = star; kwargs-at = kw; distinct = apart }
+
+-- "Accepted": and no other call is
+-- In words: an accepted call is a call of a sound table, its arguments stand so, and the answer has their numbers and
+-- places.
+pub accepted-is-ordered : (t names : List ℕ) (i : ℕ) (c : CallArgs)
+    → callOf t names i ≡ accepted (callValues c)
+    → (checkOf t names ≡ accepted [])
+    × (nodeFits t i Call ≡ true)
+    × (kindsOf (argumentsOf names (treeOf i (stretchOf t i))) ≡ inOrder c)
+    × Placed (c .star) (c .«num_pos» + c .«num_named»)
+    × Placed (c .«star_star») (c .«num_pos» + c .«num_named» + bit (given (c .star)))
+    × Distinct (namesOf (argumentsOf names (treeOf i (stretchOf t i))))
+accepted-is-ordered t names i c e =
+    let x = theorem.accepted-is-ordered t names i c e in
+    let o = x .2 in
+    (x .0, x .1, o .kinds, o .star-at, o .kwargs-at, o .distinct)
+
+-- "Answer: how many positional and named, and the argument places of star and `**`, if any": one answer
+-- In words: a list that stands in order with the numbers and places of a, and of c, has a and c the same.
+pub ordered-one : (l : List Argument) (a c : CallArgs)
+    → kindsOf l ≡ inOrder a
+    → Placed (a .star) (a .«num_pos» + a .«num_named»)
+    → Placed (a .«star_star») (a .«num_pos» + a .«num_named» + bit (given (a .star)))
+    → Distinct (namesOf l)
+    → kindsOf l ≡ inOrder c
+    → Placed (c .star) (c .«num_pos» + c .«num_named»)
+    → Placed (c .«star_star») (c .«num_pos» + c .«num_named» + bit (given (c .star)))
+    → a ≡ c
+ordered-one l a c kinds star kw apart kinds′ star′ kw′ = theorem.ordered-one l a c
+    record { kinds = kinds; star-at = star; kwargs-at = kw; distinct = apart }
+    record { kinds = kinds′; star-at = star′; kwargs-at = kw′; distinct = apart }
+
+-- W-203: "Refusals 11 and 22 carry that node besides what they carried; all other refusals carry none."
+-- In words: 22 carries four numbers, and any other refusal of the call job at most three.
+pub call-carries : (t names : List ℕ) (i : ℕ) → OnlyCarries repeatedNamed (callOf t names i)
+call-carries = theorem-twice.call-carries
+
+-- W-203: "The search for an equal earlier name shall answer the first such name's position."
+-- In words: 22 carries the node and the name's span of an argument of the call and then an earlier node. Of the
+-- arguments read before it, that node's has the same name, none before it has, and none after it has: it is the only
+-- one.
+pub call-twice : (t names : List ℕ) (i : ℕ) {vs : List ℕ}
+    → callOf t names i ≡ refused repeatedNamed vs
+    → (j : ℕ) × (r : Node)
+    × (vs ≡ r .at ∷ nameSpan r .begin ∷ nameSpan r .end ∷ j ∷ [])
+    × (read : List Argument) × (again : Argument) × (rest : List Argument) × (name : Name)
+    × (before : List Argument) × (there : Argument) × (after : List Argument)
+    × (argumentsOf names (treeOf i (stretchOf t i)) ≡ read ++ again ∷ rest)
+    × (nodeIn again ≡ r)
+    × (hasName name again ≡ true)
+    × (read ≡ before ++ there ∷ after)
+    × NonePasses (hasName name) before
+    × (hasName name there ≡ true)
+    × (indexOf there ≡ j)
+    × NonePasses (hasName name) after
+    × (j < r .at)
+call-twice t names i e =
+    let x = theorem-twice.call-twice t names i e in
+    let w = x .1 .1 .1 in
+    let f = w .earlier in (
+      x .0,
+      x .1 .0,
+      x .1 .1 .0,
+      w .read,
+      w .again,
+      w .rest,
+      w .name,
+      f .before,
+      f .there,
+      f .after,
+      w .cut,
+      w .here,
+      w .has,
+      f .cut,
+      f .none,
+      f .passes,
+      f .at,
+      w .only,
+      w .smaller,
+    )

@@ -1,0 +1,18 @@
+-- DOCUMENT 01: THE TABLE OF PROVED EXAMPLES
+--
+-- The table of crate `examples`: what is asked, and what is answered, a row for each. Assumes nothing.
+use mathlib.Core.Path.{_≡_}
+use mathlib.Core.List.{map}
+use lib.ListN.{length}
+use Rattle.examples.specs.Table.{Row, answer, table}
+use Rattle.examples.proofs.Examples as theorem
+
+-- document 01's table of proved examples
+-- In words: the definitions answer each row as the row shows.
+pub examples : map (λ (r : Row). answer (r .asked)) table ≡ map (λ (r : Row). r .shown) table
+examples = theorem.examples
+
+-- "14 rows"
+-- In words: the table has fourteen rows.
+pub how-many : length table ≡ 14
+how-many = theorem.how-many

@@ -1,0 +1,75 @@
+-- A TABLE FILE TO ITS ANSWER
+--
+-- Theorems of crate `filepass` over what `filepass::check_file` and `check_read` answer and leave in the list of words.
+-- Each is proved by citing the theorem. Assumes nothing.
+use mathlib.Core.Path.{_≡_}
+use mathlib.Core.List.{List, [], _∷_, _++_}
+use Prim.Native.Nat.{ℕ, _*_}
+use lib.ListN.{length, take, drop}
+use Rattle.table.specs.Answer.{accepted, refused}
+use Rattle.tablefile.specs.Reading.{headerAt, contentAt, readCheck}
+use Rattle.tablefile.specs.Lending.{intoCheck, handed}
+use Rattle.errors.specs.Errors.{width}
+use Rattle.errors.specs.declared.Listing.the-variants.{Module}
+use Rattle.errors.proofs.Storing.{allWords}
+use Rattle.validate.specs.Job.{errorsOf}
+use Rattle.filepass.specs.Sizes.{enoughBytes, enoughWords}
+use Rattle.filepass.specs.Passing.{answerOf, wordsAfter}
+use Rattle.filepass.proofs.Theorems as theorem
+use Rattle.filepass.proofs.Enough as theorem-enough
+
+-- "A refusal prints one line": a file that the reader refuses
+-- In words: its answer is the reader's refusal, and the list of words is as it was.
+pub refused-keeps : (file xs : List ℕ) {n : ℕ} {vs : List ℕ}
+    → readCheck file ≡ refused n vs
+    → (answerOf file ≡ refused n vs) × (wordsAfter file xs ≡ xs)
+refused-keeps = theorem.refused-keeps
+
+-- "Then 1 to 5, then the module pass": the module pass does not refuse what the reader accepted
+-- In words: an accepted file is answered with its number of nodes and of errors.
+pub accepted-is-listed : (file : List ℕ)
+    → readCheck file ≡ accepted []
+    → answerOf file
+    ≡ accepted (headerAt file .nodes
+    ∷ length (errorsOf (contentAt file .table) (contentAt file .names) (contentAt file .dialect)) ∷ [])
+accepted-is-listed = theorem.accepted-is-listed
+
+-- the program's list holds every error
+-- In words: a list of `enoughWords` words then holds all errors in order, and its other words are as they were.
+pub list-has-room : (file : List ℕ)
+    → readCheck file ≡ accepted []
+    → (xs : List ℕ)
+    → length xs ≡ enoughWords
+    → wordsAfter file xs
+    ≡ allWords Module (errorsOf (contentAt file .table) (contentAt file .names) (contentAt file .dialect))
+    ++ drop (width Module
+    * length (errorsOf (contentAt file .table) (contentAt file .names) (contentAt file .dialect))) xs
+list-has-room = theorem.list-has-room
+
+-- of a file of any length `enoughBytes` bytes are enough
+-- In words: what is answered to so much of a file is what is answered to the file, and the words are the same.
+pub read-enough : (file xs : List ℕ)
+    → (answerOf (take enoughBytes file) ≡ answerOf file)
+    × (wordsAfter (take enoughBytes file) xs ≡ wordsAfter file xs)
+read-enough = theorem-enough.read-enough
+
+-- so the program may read into one buffer of that size
+-- In words: where the first len bytes of a buffer are the file, or `enoughBytes` of it, they are answered as the file.
+pub read-is-whole : (file buffer xs : List ℕ) (len : ℕ)
+    → take len buffer ≡ take enoughBytes file
+    → (answerOf (take len buffer) ≡ answerOf file)
+    × (wordsAfter (take len buffer) xs ≡ wordsAfter file xs)
+read-is-whole = theorem.read-is-whole
+
+-- the same where a file is read into lent buffers
+-- In words: for `tablefile::read_into` so much of a file gives the answer of the file, and table and names at exit are
+-- the same.
+pub into-enough : (file t ns : List ℕ)
+    → (intoCheck (take enoughBytes file) (length t) (length ns) ≡ intoCheck file (length t) (length ns))
+    × (handed (intoCheck (take enoughBytes file) (length t) (length ns)) (contentAt (take enoughBytes file) .table) t
+    ≡ handed (intoCheck file (length t) (length ns)) (contentAt file .table) t)
+    × (handed (intoCheck (take enoughBytes file) (length t) (length ns)) (contentAt (take enoughBytes file) .names) ns
+    ≡ handed (intoCheck file (length t) (length ns)) (contentAt file .names) ns)
+into-enough file t ns =
+    let x = theorem-enough.into-enough file t ns in
+    (x .0, x .1 .0, x .1 .1)

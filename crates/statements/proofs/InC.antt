@@ -1,0 +1,94 @@
+-- TABLE FILES IN C
+--
+-- Theorems of crate `starlark_checks` over what `starlark_read` and `starlark_write` promise. `Read`, two equations,
+-- stands as two arrows. Each is proved by citing the theorem. Assumes nothing.
+use mathlib.Core.Path.{_≡_}
+use mathlib.Core.List.{List, [], _∷_, _++_}
+use Prim.Native.Nat.{ℕ, _/_, _<_, _≤_}
+use lib.ListN.{length, getD, take, drop}
+use Rattle.fields.specs.Field.{field}
+use Rattle.table.specs.Answer.{accepted}
+use Rattle.tablefile.specs.Reading.{headerAt, contentAt, readCheck}
+use Rattle.tablefile.specs.Loading.{verdict, loadedOf, held}
+use Rattle.tablefile.specs.declared.Loaded.{Loaded}
+use Rattle.tablefile.specs.declared.Verdict.the-variants.{Accepted}
+use Rattle.writer.specs.Writing.{writeOf, fileAfter}
+use Rattle.starlark_checks.specs.Words.{heldValues, readOf}
+use Rattle.starlark_checks.proofs.ReadBack.{tableAfter, namesAfter}
+use Rattle.starlark_checks.proofs.ReadBack as theorem
+
+-- `starlark_read` accepts what the reader accepts
+-- In words: of a file that the reader accepts, into buffers that table and names fit, it tells what the file holds.
+pub read-accepts : (file : List ℕ) (l : Loaded)
+    → verdict (l .verdict) ≡ readCheck file
+    → l ≡ loadedOf (l .verdict) (contentAt file) (headerAt file .taken)
+    → l .verdict ≡ Accepted
+    → (t ns : List ℕ)
+    → length (held l .table) ≤ length t
+    → length (held l .names) ≤ length ns
+    → readOf file (length t) (length ns) ≡ accepted (heldValues file)
+read-accepts file l v e = theorem.read-accepts file l (v, e)
+
+-- it hands over the table
+-- In words: the table's buffer then holds the reader's table, and behind it what stood there.
+pub read-table : (file : List ℕ) (l : Loaded)
+    → verdict (l .verdict) ≡ readCheck file
+    → l ≡ loadedOf (l .verdict) (contentAt file) (headerAt file .taken)
+    → l .verdict ≡ Accepted
+    → (t ns : List ℕ)
+    → length (held l .table) ≤ length t
+    → length (held l .names) ≤ length ns
+    → tableAfter file t ns ≡ held l .table ++ drop (length (held l .table)) t
+read-table file l v e = theorem.read-table file l (v, e)
+
+-- and the names
+-- In words: the names' buffer then holds the reader's names, and behind them what stood there.
+pub read-names : (file : List ℕ) (l : Loaded)
+    → verdict (l .verdict) ≡ readCheck file
+    → l ≡ loadedOf (l .verdict) (contentAt file) (headerAt file .taken)
+    → l .verdict ≡ Accepted
+    → (t ns : List ℕ)
+    → length (held l .table) ≤ length t
+    → length (held l .names) ≤ length ns
+    → namesAfter file t ns ≡ held l .names ++ drop (length (held l .names)) ns
+read-names file l v e = theorem.read-names file l (v, e)
+
+-- what `starlark_write` has written, `starlark_read` gives back: the counts and the dialect
+-- In words: it tells the number of nodes and of name bytes, whether there is a dialect, and its nine bytes in words.
+pub written-told : (t names ds buffer : List ℕ) {n : ℕ}
+    → writeOf t names ds (length buffer) ≡ accepted (n ∷ [])
+    → ((i : ℕ) → getD t i 0 < 256)
+    → ((i : ℕ) → getD names i 0 < 256)
+    → ((i : ℕ) → getD ds i 0 < 256)
+    → (room-t room-n : List ℕ)
+    → length t ≤ length room-t
+    → length names ≤ length room-n
+    → readOf (take n (fileAfter t names ds buffer)) (length room-t) (length room-n)
+    ≡ accepted (length t / 24 ∷ length names ∷ (length ds / 9) ∷ field 4 ds 0 ∷ field 4 ds 4 ∷ field 4 ds 8 ∷ [])
+written-told = theorem.written-told
+
+-- and the table
+-- In words: the table's buffer then holds the table that was written, and behind it what stood there.
+pub written-table : (t names ds buffer : List ℕ) {n : ℕ}
+    → writeOf t names ds (length buffer) ≡ accepted (n ∷ [])
+    → ((i : ℕ) → getD t i 0 < 256)
+    → ((i : ℕ) → getD names i 0 < 256)
+    → ((i : ℕ) → getD ds i 0 < 256)
+    → (room-t room-n : List ℕ)
+    → length t ≤ length room-t
+    → length names ≤ length room-n
+    → tableAfter (take n (fileAfter t names ds buffer)) room-t room-n ≡ t ++ drop (length t) room-t
+written-table = theorem.written-table
+
+-- and the names
+-- In words: the names' buffer then holds the names that were written, and behind them what stood there.
+pub written-names : (t names ds buffer : List ℕ) {n : ℕ}
+    → writeOf t names ds (length buffer) ≡ accepted (n ∷ [])
+    → ((i : ℕ) → getD t i 0 < 256)
+    → ((i : ℕ) → getD names i 0 < 256)
+    → ((i : ℕ) → getD ds i 0 < 256)
+    → (room-t room-n : List ℕ)
+    → length t ≤ length room-t
+    → length names ≤ length room-n
+    → namesAfter (take n (fileAfter t names ds buffer)) room-t room-n ≡ names ++ drop (length names) room-n
+written-names = theorem.written-names

@@ -1,0 +1,103 @@
+-- THE PARAMETER JOB: 1 TO 4, 6, 7, 10 TO 18
+--
+-- Theorems of crate `parameters` over the answer of `parameters::params` and the mode buffer at exit; the cut is below,
+-- in demand 3. What the records `NamedTwice` and `FirstPassing` hold stands field by field. Each is proved by citing
+-- the theorem. Assumes nothing.
+use mathlib.Core.Path.{_≡_}
+use mathlib.Core.Bool.{true}
+use mathlib.Core.List.{List, [], _∷_, _++_}
+use Prim.Native.Nat.{ℕ, _<_}
+use lib.ListN.{length}
+use Rattle.forest.specs.Forest.{Node}
+use Rattle.forest.specs.Names.{NonePasses}
+use Rattle.table.specs.Numbers.{duplicatedParameter}
+use Rattle.table.specs.Answer.{accepted, refused, OnlyCarries}
+use Rattle.table.specs.Check.{checkOf, nodeFits}
+use Rattle.table.specs.declared.Wanted.the-variants.{Parameters}
+use Rattle.deflist.specs.Written.{Name, Param, nodeIn}
+use Rattle.deflist.specs.Unpack.{hasName}
+use Rattle.deflist.specs.Reached.{reached, AllAtMost}
+use Rattle.deflist.specs.Twice.{indexOf}
+use Rattle.parameters.specs.Params.{listOf, paramsOf, modesAfter, AllBelow}
+use Rattle.parameters.proofs.Accepted as theorem
+use Rattle.parameters.proofs.Buffer as theorem-buffer
+use Rattle.parameters.proofs.Twice as theorem-twice
+
+-- "No refusal changes a buffer": modes
+-- In words: where the job refuses, the mode buffer at exit is the buffer at entry.
+pub refusal-keeps : (t names : List ℕ) (node : ℕ) (modes : List ℕ) {n : ℕ} {vs : List ℕ}
+    → paramsOf t names node (length modes) ≡ refused n vs
+    → modesAfter t names node modes ≡ modes
+refusal-keeps = theorem-buffer.refusal-keeps
+
+-- "Too many parameters" and the unwraps of def.rs cannot fire: in a table that passes the check
+-- In words: the list of a Def or Lambda of a sound table has fewer than 2,100 parameters.
+pub list-short : (t names : List ℕ) (node : ℕ)
+    → checkOf t names ≡ accepted []
+    → nodeFits t node Parameters ≡ true
+    → length (listOf t names node) < 2100
+list-short = theorem.list-short
+
+-- the same of every number that is counted on the way
+-- In words: in every state on the way along such a list, each number that is counted is at most 2,100.
+pub counts-small : (t names : List ℕ) (node : ℕ)
+    → checkOf t names ≡ accepted []
+    → nodeFits t node Parameters ≡ true
+    → AllAtMost 2100 (reached (listOf t names node))
+counts-small = theorem.counts-small
+
+-- the same of the answer
+-- In words: every number of an accepted answer is at most 2,100.
+pub accepted-small : (t names : List ℕ) (node room : ℕ) {vs : List ℕ}
+    → paramsOf t names node room ≡ accepted vs
+    → AllBelow 2100 vs
+accepted-small = theorem.accepted-small
+
+-- W-203: "Refusals 11 and 22 carry that node besides what they carried; all other refusals carry none."
+-- In words: 11 carries four numbers, and any other refusal of the parameter job at most three.
+pub params-carries : (t names : List ℕ) (node room : ℕ)
+    → OnlyCarries duplicatedParameter (paramsOf t names node room)
+params-carries = theorem-twice.params-carries
+
+-- W-203: "The search for an equal earlier name shall answer the first such name's position."
+-- In words: 11 carries the node and span of a parameter of the list and then an earlier node. Of the parameters read
+-- before it, that node's has the same name, none before it has, and none after it has: it is the only one.
+pub params-twice : (t names : List ℕ) (node room : ℕ) {vs : List ℕ}
+    → paramsOf t names node room ≡ refused duplicatedParameter vs
+    → (i : ℕ) × (r : Node)
+    × (vs ≡ r .at ∷ r .begin ∷ r .stop ∷ i ∷ [])
+    × (read : List Param) × (again : Param) × (rest : List Param) × (name : Name)
+    × (before : List Param) × (there : Param) × (after : List Param)
+    × (listOf t names node ≡ read ++ again ∷ rest)
+    × (nodeIn again ≡ r)
+    × (hasName name again ≡ true)
+    × (read ≡ before ++ there ∷ after)
+    × NonePasses (hasName name) before
+    × (hasName name there ≡ true)
+    × (indexOf there ≡ i)
+    × NonePasses (hasName name) after
+    × (i < r .at)
+params-twice t names node room e =
+    let x = theorem-twice.params-twice t names node room e in
+    let w = x .1 .1 .1 in
+    let f = w .earlier in (
+      x .0,
+      x .1 .0,
+      x .1 .1 .0,
+      w .read,
+      w .again,
+      w .rest,
+      w .name,
+      f .before,
+      f .there,
+      f .after,
+      w .cut,
+      w .here,
+      w .has,
+      f .cut,
+      f .none,
+      f .passes,
+      f .at,
+      w .only,
+      w .smaller,
+    )

@@ -1,0 +1,99 @@
+-- DEMAND 1: THE TABLE CHECK, 1 TO 4
+--
+-- Theorems of crate `table` over the answer of `table::check`. What the records `Clean`, `First` and `FirstDeeper` hold
+-- stands field by field. Each is proved by citing the theorem. Assumes nothing.
+use mathlib.Core.Path.{_≡_}
+use mathlib.Core.Bool.{true, false}
+use mathlib.Core.Logic.{_⊎_}
+use mathlib.Core.List.{List, [], _∷_}
+use Prim.Native.Nat.{ℕ, _+_, _*_, _/_, _<_, _≤_}
+use lib.ListN.{length, getD, drop}
+use Rattle.forest.specs.Forest.{nodeOf, forest}
+use Rattle.forest.specs.declared.Found.the-variants.{Nothing}
+use Rattle.soundness.specs.Kinds.{statement, expression, classOf}
+use Rattle.soundness.specs.Sound.{recordSound, firstUnsound}
+use Rattle.table.specs.Numbers.{unsoundRecord, tooDeep}
+use Rattle.table.specs.Answer.{accepted, refused}
+use Rattle.table.specs.Check.{checkOf}
+use Rattle.table.specs.Depth.{mostDepth, firstDeep, depths}
+use Rattle.table.proofs.Theorems as theorem
+use Rattle.table.proofs.Checking as theorem-checking
+
+-- "Within all this a table is sound."
+-- In words: a table of 1 to 2,100 whole records, with at most 8,064 name bytes, no unsound record and no node that is
+-- too deep is accepted.
+pub clean-accepted : (t names : List ℕ)
+    → 24 ≤ length t
+    → length t ≤ 50400
+    → 24 * (length t / 24) ≡ length t
+    → length names ≤ 8064
+    → firstUnsound t names ≡ Nothing
+    → firstDeep 0 (forest 0 t) ≡ Nothing
+    → checkOf t names ≡ accepted []
+clean-accepted t names least most whole few unsound deep = theorem.clean-accepted t names
+    record { least = least; most = most; whole = whole; few = few; unsound = unsound; deep = deep }
+
+-- "Within all this a table is sound": and no other is
+-- In words: an accepted table has 1 to 2,100 whole records, at most 8,064 name bytes, no unsound record and no node
+-- that is too deep.
+pub accepted-clean : (t names : List ℕ) {vs : List ℕ}
+    → checkOf t names ≡ accepted vs
+    → (24 ≤ length t)
+    × (length t ≤ 50400)
+    × (24 * (length t / 24) ≡ length t)
+    × (length names ≤ 8064)
+    × (firstUnsound t names ≡ Nothing)
+    × (firstDeep 0 (forest 0 t) ≡ Nothing)
+accepted-clean t names e =
+    let c = theorem-checking.accepted-clean t names e in
+    (c .least, c .most, c .whole, c .few, c .unsound, c .deep)
+
+-- "3 the first unsound record": none in an accepted table
+-- In words: every record of an accepted table is sound.
+pub accepted-sound : (t names : List ℕ) {vs : List ℕ}
+    → checkOf t names ≡ accepted vs
+    → (j : ℕ)
+    → j < length t / 24
+    → recordSound t names j ≡ true
+accepted-sound = theorem.accepted-sound
+
+-- "Limits: depth 64."
+-- In words: no node of an accepted table is deeper than the largest depth.
+pub accepted-flat : (t names : List ℕ) {vs : List ℕ}
+    → checkOf t names ≡ accepted vs
+    → (j : ℕ)
+    → getD (depths 0 (forest 0 t)) j 0 ≤ mostDepth
+accepted-flat = theorem.accepted-flat
+
+-- "3 the first unsound record in index order"
+-- In words: the node that 3 carries is a record of the table and is unsound, and every record before it is sound.
+pub unsound-first : (t names : List ℕ) (k : ℕ)
+    → checkOf t names ≡ refused unsoundRecord (k ∷ [])
+    → (0 ≤ k)
+    × (k < 0 + length t / 24)
+    × (recordSound t names k ≡ false)
+    × ((j : ℕ) → 0 ≤ j → j < k → recordSound t names j ≡ true)
+unsound-first t names k e =
+    let f = theorem.unsound-first t names k e in
+    (f .from, f .within, f .fails, f .before)
+
+-- "4 depth", "for 3 and 4, the first such node"
+-- In words: where the check refuses with 4, no record is unsound; the node that it carries is deeper than the largest
+-- depth, and none before it is.
+pub deep-is-first : (t names : List ℕ) (k : ℕ)
+    → checkOf t names ≡ refused tooDeep (k ∷ [])
+    → (firstUnsound t names ≡ Nothing)
+    × (k < length (depths 0 (forest 0 t)))
+    × (mostDepth < getD (depths 0 (forest 0 t)) k 0)
+    × ((j : ℕ) → j < k → getD (depths 0 (forest 0 t)) j 0 ≤ mostDepth)
+deep-is-first t names k e =
+    let x = theorem.deep-is-first t names k e in
+    (x .0, x .1 .within, x .1 .deeper, x .1 .before)
+
+-- W-206: "statements and expressions alone count"
+-- In words: the node that 4 carries is a statement or an expression.
+pub deep-is-counted : (t names : List ℕ) (k : ℕ)
+    → checkOf t names ≡ refused tooDeep (k ∷ [])
+    → (classOf (nodeOf k (drop (24 * k) t) .kind) ≡ statement)
+    ⊎ (classOf (nodeOf k (drop (24 * k) t) .kind) ≡ expression)
+deep-is-counted = theorem.deep-is-counted

@@ -1,0 +1,62 @@
+-- THE TABLE FILE
+--
+-- Theorems of crate `tablefile` over what `tablefile::read` promises: `Read`, two equations, stands as two arrows, and
+-- so does what the record `SoundContent` holds. Each is proved by citing the theorem. Assumes nothing.
+use mathlib.Core.Path.{_≡_}
+use mathlib.Core.List.{List, []}
+use Prim.Native.Nat.{ℕ, _<_}
+use lib.ListN.{length, getD, set}
+use Rattle.table.specs.Numbers.{blockCheck}
+use Rattle.table.specs.Answer.{accepted}
+use Rattle.table.specs.declared.Refusal.the-variants.{Bare}
+use Rattle.tablefile.specs.File.{Content, fileOf}
+use Rattle.tablefile.specs.Reading.{headerAt, contentAt, soundCheck, readCheck}
+use Rattle.tablefile.specs.Loading.{verdict, loadedOf, none, held}
+use Rattle.tablefile.specs.declared.Verdict.the-variants.{Accepted, Refused}
+use Rattle.tablefile.specs.declared.Loaded.{Loaded}
+use Rattle.tablefile.proofs.Theorems as theorem
+
+-- "The reader is lent the file and answers table, names and dialect by value"
+-- In words: a file of bytes that the reader accepts is the file of what it answers.
+pub accepted-is-file : (file : List ℕ) (r : Loaded)
+    → ((i : ℕ) → getD file i 0 < 256)
+    → verdict (r .verdict) ≡ readCheck file
+    → r ≡ loadedOf (r .verdict) (contentAt file) (headerAt file .taken)
+    → r .verdict ≡ Accepted
+    → file ≡ fileOf (held r)
+accepted-is-file file r small v l = theorem.accepted-is-file file r small (v, l)
+
+-- "Then 1 to 5"
+-- In words: what an accepted file holds passes 1 to 5.
+pub accepted-is-sound : (file : List ℕ) (r : Loaded)
+    → verdict (r .verdict) ≡ readCheck file
+    → r ≡ loadedOf (r .verdict) (contentAt file) (headerAt file .taken)
+    → r .verdict ≡ Accepted
+    → soundCheck (held r) ≡ accepted []
+accepted-is-sound file r v l = theorem.accepted-is-sound file r (v, l)
+
+-- the file of a table is read as that table
+-- In words: the file of table, names and dialect, bytes that pass 1 to 5, is accepted, and the answer is these.
+pub file-read-back : (c : Content) (r : Loaded)
+    → soundCheck c ≡ accepted []
+    → ((i : ℕ) → getD (c .table) i 0 < 256)
+    → ((i : ℕ) → getD (c .names) i 0 < 256)
+    → ((i : ℕ) → getD (c .dialect) i 0 < 256)
+    → verdict (r .verdict) ≡ readCheck (fileOf c)
+    → r ≡ loadedOf (r .verdict) (contentAt (fileOf c)) (headerAt (fileOf c) .taken)
+    → r ≡ loadedOf Accepted c (length (fileOf c))
+file-read-back c r sound t n d v l = theorem.file-read-back c r
+    record { sound = sound; table-bytes = t; names-bytes = n; dialect-bytes = d } (v, l)
+
+-- "Any one changed byte in a block of an accepted file is refused with 72."
+-- In words: where one byte of an accepted file has another value, the reader answers 72, with nothing but zeros.
+pub changed-byte : (file : List ℕ) (r : Loaded) (i v : ℕ) (s : Loaded)
+    → verdict (r .verdict) ≡ readCheck file
+    → r ≡ loadedOf (r .verdict) (contentAt file) (headerAt file .taken)
+    → r .verdict ≡ Accepted
+    → i < length file
+    → (v ≡ getD file i 0 → ⊥)
+    → verdict (s .verdict) ≡ readCheck (set file i v)
+    → s ≡ loadedOf (s .verdict) (contentAt (set file i v)) (headerAt (set file i v) .taken)
+    → s ≡ loadedOf (Refused (Bare blockCheck)) none 0
+changed-byte file r i v s a b good h other c d = theorem.changed-byte file r i v s (a, b) good h other (c, d)

@@ -1,0 +1,19 @@
+-- `writer::fits` meets its contract: each length in turn, then the room. Assumes nothing.
+use borrow.Author.Needs.{needs}
+use Rattle.writer.proofs.Jobs.{unfit-table, unfit-names, unfit-dialect, fit-one, fit-sum, fit-bytes, fit-room}
+use Rattle.writer.proofs.fits.Statement.{statement}
+use Rattle.writer.proofs.fits.Tie as tie
+
+pub fits-spec : {M : Type 1} → statement M
+fits-spec =
+    tie.close
+    (tie.spec
+    (λ c. search unfit-table)  -- returns
+    (λ c. search unfit-names)  -- returns-2
+    (λ c. search unfit-dialect)  -- returns-3
+    (λ c κs. search needs)
+    (λ c. search fit-one)  -- add-count
+    (λ c κs. search needs)
+    (λ c. search fit-sum)  -- add-count-2
+    (λ c. search fit-bytes)  -- mul
+    (λ c. search fit-room))  -- returns-4

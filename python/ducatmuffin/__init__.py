@@ -1,0 +1,9 @@
+"""Ducatmuffin: the proved checker for Starlark scripts, for Python and for the command `ducat`.
+
+library   every function of include/starlark.h, over ctypes
+table     records, names and the text form of a table
+script    a table of a Starlark script (this step is not proved)
+numbers   numbers, kinds, limits, dialects, modes and shapes
+build     how the library is proved and compiled
+"""
+__version__ = "0.2.0"

@@ -1,0 +1,381 @@
+"""ducat check: table files and scripts, each with every job (or, with --module, as the program of document 01), in one process or several."""
+import os
+
+from . import dialects, inputs, reasons
+from .library import Refusal
+from .numbers import KINDS, NODE_BYTES, WORDS
+from .output import Progress, Report, dumps, encoded, named, say, tell, visible
+from .places import Source
+
+ALL = "the whole checker accepts: the module pass, and every job on every node that it fits"
+MODULE = "none of 10 to 18 and 50 to 61; 20 to 45 (calls, targets, types) are not looked for with --module"
+STEP = "a script's table is made with Python's parser, and that step is not proved"
+MADE = "made from the script with Python's parser; that step is not proved"
+TEXT = frozenset(range(32, 127)) | frozenset(range(128, 256)) | frozenset(b"\t\n\r\f")
+VERDICTS = ("accepted", "errors", "refused", "unreadable", "no table")
+ACCEPTED, ERRORS, REFUSED, UNREADABLE, NO_TABLE = range(5)
+STATUS = (0, 1, 2, 2, 2)
+REPEATED = {11: "parameter", 22: "argument"}  # the errors that have an earlier place
+
+
+class Options:
+    """How a run checks and prints."""
+
+    def __init__(self, module=False, explain=False, quiet=False, bad_only=False, json=False, many=False, dialect=None, script=None):
+        self.module, self.explain, self.quiet, self.bad_only = module, explain, quiet, bad_only
+        self.json, self.many, self.dialect, self.script = json, many, dialect, script
+
+
+class Answer:
+    """What is said of one input: its verdict, the number of its errors, and the bytes for standard output and standard error."""
+
+    __slots__ = ("verdict", "errors", "out", "err")
+
+    def __init__(self, verdict, errors=0, out=b"", err=b""):
+        self.verdict, self.errors, self.out, self.err = verdict, errors, out, err
+
+
+class Found:
+    """What is found in one input."""
+
+    def __init__(self, one):
+        self.one, self.verdict, self.nodes, self.errors, self.total = one, ACCEPTED, None, (), 0
+        self.refusal = self.why = self.message = self.place = self.data = self.dialect = self.table = self.names = self.source = None
+
+
+class Checker:
+    """Checks one input after the other."""
+
+    def __init__(self, library, options):
+        self.library, self.options = library, options
+        self.source = options.script
+        self.plain = not (options.explain or options.json or options.script)
+
+    def answer(self, one):
+        if self.plain and self.options.module and not one.script:
+            return self.module_file(one)
+        return self.rendered(self.found(one))
+
+    def module_file(self, one):
+        """The shortest way: the program of document 01 on a table file."""
+        try:
+            data = inputs.read(one, inputs.TABLE_MOST)
+        except (OSError, ValueError) as error:
+            found = Found(one)
+            found.verdict, found.message = UNREADABLE, inputs.reason(error)
+            return self.rendered(found)
+        answer = self.library.check_file(data)
+        if type(answer) is Refusal:
+            found = Found(one)
+            found.data = data
+            self.refused(found, answer)
+            return self.rendered(found)
+        if self.options.quiet or self.options.bad_only and not answer.total:
+            return Answer(ERRORS if answer.total else ACCEPTED, answer.total)
+        lines = [f"nodes {answer.nodes}\n"] + [f"{number} {begin} {end}\n" for number, begin, end, _ in answer.errors]
+        text = "".join(lines) + f"errors {answer.total}\n"
+        return Answer(ERRORS if answer.total else ACCEPTED, answer.total, self.header(one) + text.encode())
+
+    # ---- finding
+
+    def found(self, one):
+        found = Found(one)
+        try:
+            found.data = inputs.read_script(one) if one.script else inputs.read(one, inputs.TABLE_MOST)
+        except (OSError, ValueError) as error:
+            found.verdict, found.message = UNREADABLE, inputs.reason(error)
+            return found
+        if one.script:
+            self.check_script(found)
+        else:
+            self.check_file(found)
+        return found
+
+    def check_script(self, found):
+        from . import script
+        found.dialect, found.source = self.options.dialect, Source(found.one.name, found.data)
+        try:
+            found.table, found.names = script.export(found.data, found.one.name, found.dialect)
+        except script.ScriptError as error:
+            found.verdict, found.message, found.place = NO_TABLE, error.message, (error.line, error.column)
+            return
+        self.judge(found)
+
+    def check_file(self, found):
+        answer = self.library.read(found.data)
+        if type(answer) is Refusal:
+            self.refused(found, answer)
+            return
+        found.table, found.names, found.dialect = answer.table, answer.names, answer.dialect
+        self.judge(found)
+
+    def judge(self, found):
+        job = self.library.module if self.options.module else self.library.audit
+        answer = job(found.table, found.names, found.dialect or b"")
+        if type(answer) is Refusal:
+            self.refused(found, answer)
+            return
+        found.nodes, found.total, found.errors = len(found.table) // NODE_BYTES, answer.total, answer.errors
+        if not self.options.module:
+            found.errors = sorted(found.errors, key=lambda error: (error.begin, error.end, error.number))
+        found.verdict = ERRORS if found.total else ACCEPTED
+
+    def refused(self, found, refusal):
+        found.verdict, found.refusal = REFUSED, refusal
+        if self.options.quiet:
+            return
+        if found.table is None:
+            found.why = reasons.why_file(self.library, found.data, refusal, len(found.data) < inputs.TABLE_MOST)
+        else:
+            found.why = reasons.why_table(found.table, found.names, found.dialect, refusal)
+
+    def earlier(self, found, error):
+        """The span of the first parameter or argument of the name that stands twice, and its node."""
+        if error.number not in REPEATED:
+            return None
+        for node in self.nodes_of(found, error):
+            parent = parent_of(found.table, node)
+            job = self.library.params if error.number == 11 else self.library.call
+            answer = job(found.table, found.names, parent)
+            if type(answer) is Refusal and (answer.number, answer.node) == (error.number, node) and answer.earlier is not None:
+                return (answer.earlier, *span_of(found.table, answer.earlier))
+        return None
+
+    def nodes_of(self, found, error):
+        """The node of an error; the module pass does not list it, so it is looked for by its span."""
+        if error.node is not None:
+            return [error.node]
+        rows = reasons.Records(found.table, found.names).rows
+        return [node for node, row in enumerate(rows) if row[0] in (50, 53, 54) and (row[4], row[5]) == (error.begin, error.end)]
+
+    # ---- printing
+
+    def rendered(self, found):
+        answer = Answer(found.verdict, found.total)
+        if found.verdict == ACCEPTED and self.options.bad_only or self.options.quiet:
+            answer.err = self.complaint(found) if found.verdict in (UNREADABLE, NO_TABLE) else b""
+            return answer
+        if self.options.json:
+            answer.out = dumps(self.entry(found))
+            return answer
+        answer.out, answer.err = self.header(found.one) + self.lines(found), self.complaint(found)
+        return answer
+
+    def header(self, one):
+        return encoded(visible(one.name)) + b":\n" if self.options.many else b""
+
+    def complaint(self, found):
+        """What goes to standard error: why there is no answer, or why the file is refused."""
+        name = found.one.name
+        if found.verdict == UNREADABLE:
+            said = f"ducat: {name}: {found.message}"
+        elif found.verdict == NO_TABLE:
+            said = f"ducat: {name}:{found.place[0]}:{found.place[1]}: {found.message}"
+        elif found.verdict == REFUSED and not self.options.explain:
+            said = f"ducat: {name}: {self.refusal(found)}"
+        else:
+            return b""
+        return encoded(visible(said)) + b"\n"
+
+    def refusal(self, found):
+        return f"refused {found.refusal.number}: {found.refusal.words}{found.why or ''}"
+
+    def lines(self, found):
+        explain = self.options.explain
+        if found.verdict in (UNREADABLE, NO_TABLE):
+            return b""
+        if found.verdict == REFUSED:
+            if not explain:
+                return f"refused {found.refusal.number}\n".encode()
+            hint = hint_of(found)
+            return encoded(self.refusal(found) + "\n" + (f"hint: {hint}\n" if hint else ""))
+        lines = [f"nodes {found.nodes}" + (f", dialect {dialects.told(found.dialect, found.one.script)}" if explain else "")]
+        source = self.source_of(found)
+        for error in found.errors:
+            lines += self.error(found, source, error)
+        covered = f": {MODULE if self.options.module else ALL}" if explain and not found.total else ""
+        lines.append(f"errors {found.total}{covered}")
+        return encoded("\n".join(lines) + "\n")
+
+    def source_of(self, found):
+        """The script that places are shown in: the input itself, the one that --script names, or X.star beside X.table."""
+        if found.source or self.source:
+            return found.source or self.source
+        if not (self.options.explain or self.options.json) or found.one.path is None or not found.one.path.endswith(".table"):
+            return None
+        beside = found.one.path[:-len(".table")] + ".star"
+        if not os.path.isfile(beside):
+            return None
+        try:
+            found.source = Source(beside, inputs.read_script(inputs.Input(beside)))
+        except OSError:
+            return None
+        return found.source
+
+    def error(self, found, source, error):
+        """The lines of an error."""
+        number, begin, end, node = error
+        if not source and not self.options.explain:
+            return [f"{number} {begin} {end}"]
+        kind = f", node {node}, kind {kind_words(found.table, node)}" if self.options.explain and node is not None else ""
+        words = WORDS[number] + kind
+        earlier = self.earlier(found, error)
+        if not source:
+            note = f"; the earlier {REPEATED[number]} is node {earlier[0]}, bytes {earlier[1]} to {earlier[2]}" if earlier else ""
+            return [f"{number} {begin} {end}: {words}{note}"]
+        lines = placed(source, begin, end, f"{number} {words}")
+        return lines + (placed(source, *earlier[1:], f"note: the earlier {REPEATED[number]}") if earlier else [])
+
+    # ---- JSON
+
+    def entry(self, found):
+        one = found.one
+        entry = {**named(one.name), "kind": "script" if one.script else "table", "verdict": VERDICTS[found.verdict]}
+        if found.data is not None:
+            entry.update(evidence(found.data, one.script))
+        if found.verdict in (UNREADABLE, NO_TABLE):
+            entry["failed"] = visible(found.message)
+            if found.place:
+                entry["line"], entry["column"] = found.place
+            return entry
+        if one.script:
+            entry["table"] = MADE
+        entry["dialect"] = dialects.in_json(found.dialect) if found.table is not None else None
+        if found.verdict == REFUSED:
+            hint = hint_of(found)
+            entry["refused"] = {"number": found.refusal.number, "words": found.refusal.words, **found.why.in_json(),
+                                **({"hint": hint} if hint else {})}
+            return entry
+        source = self.source_of(found)
+        if source and not one.script:
+            entry["script"] = named(source.path)
+        entry.update(nodes=found.nodes, errors=[self.in_json(found, source, error) for error in found.errors])
+        return entry
+
+    def in_json(self, found, source, error):
+        number, begin, end, node = error
+        told = {"number": number, "words": WORDS[number], **span_json(source, begin, end)}
+        if node is not None:
+            told.update(node_json(found.table, node))
+        earlier = self.earlier(found, error)
+        if earlier:
+            told["earlier"] = {"node": earlier[0], **span_json(source, *earlier[1:])}
+        return told
+
+
+# ---- what the table and the script say
+
+def parent_of(table, node):
+    """The node whose child a node is."""
+    parent = node - 1
+    while parent + size_of(table, parent) <= node:
+        parent -= 1
+    return parent
+
+
+def size_of(table, node):
+    return int.from_bytes(table[NODE_BYTES * node + 16:NODE_BYTES * node + 18], "little")
+
+
+def span_of(table, node):
+    """The span of a node; of a named argument its name's, as refusal 22 has it."""
+    kind, _, length, _, begin, end, _, _, position = reasons.RECORD.unpack_from(table, NODE_BYTES * node)
+    return (position, position + length) if kind == reasons.NAMED_ARGUMENT else (begin, end)
+
+
+def kind_words(table, node):
+    kind = table[NODE_BYTES * node]
+    return f"{kind} {KINDS[kind][0]}"
+
+
+def node_json(table, node):
+    kind = table[NODE_BYTES * node]
+    return {"node": node, "kind": {"number": kind, "name": KINDS[kind][0]}}
+
+
+def span_json(source, begin, end):
+    told = {"begin": begin, "end": end}
+    if source and not source.is_beyond(begin, end):
+        told["line"], told["column"] = source.line_column(begin)
+    return told
+
+
+def evidence(data, script):
+    """What ties an answer to the bytes that were read. Of a table file that is longer than any may be, only the first bytes are."""
+    from .output import digest
+    return {"sha256": digest(data), "bytes": len(data), "whole": script or len(data) < inputs.TABLE_MOST}
+
+
+def placed(source, begin, end, words):
+    """A place in a script, with its line and carets."""
+    path = visible(source.path)
+    if source.is_beyond(begin, end):
+        return [f"{path}: {words}", f"    (bytes {begin} to {end}, beyond the script's {len(source.bytes)})"]
+    line, column = source.line_column(begin)
+    return [f"{path}:{line}:{column}: {words}", *(f"    {text}".rstrip() for text in source.drawn(begin, end))]
+
+
+def hint_of(found):
+    """What a refused file seems to be, where it is not a table file at all."""
+    data = found.data
+    if found.refusal.number < 70 or found.one.script:
+        return None
+    if data and TEXT.issuperset(data):
+        return "this looks like a script; `ducat check` takes it under a name that ends in .star, or with --stdin-filename"
+    if len(data) % reasons.BLOCK and len(data) < inputs.TABLE_MOST:
+        return f"its {len(data)} bytes are not a multiple of 512, so this is not a whole table file"
+    return None
+
+
+# ---- a run
+
+class Totals:
+    """What a run has found."""
+
+    def __init__(self):
+        self.files = self.faulty = self.refused = self.unread = self.errors = self.status = 0
+
+    def add(self, answer):
+        self.files += 1
+        self.errors += answer.errors
+        self.faulty += answer.verdict == ERRORS
+        self.refused += answer.verdict == REFUSED
+        self.unread += answer.verdict in (UNREADABLE, NO_TABLE)
+        self.status = max(self.status, STATUS[answer.verdict])
+
+    def line(self):
+        return f"files {self.files}, with errors {self.faulty}, refused {self.refused}, not read {self.unread}, errors {self.errors}"
+
+    def in_json(self):
+        return {"files": self.files, "with_errors": self.faulty, "refused": self.refused, "not_read": self.unread, "errors": self.errors}
+
+
+def run(library, options, found, jobs, out, front):
+    """Checks all inputs and prints what is found of them. Returns the exit status. `front` is what JSON has first."""
+    from .workers import answers
+    checker, totals = Checker(library, options), Totals()
+    if any(one.script for one in found) and not options.json and not options.quiet:
+        say(STEP)
+    report = Report(out, front) if options.json and not options.quiet else None
+    progress = Progress(len(found), not options.quiet)
+    out.before = progress.clear
+    given = answers(checker, found, jobs)
+    try:
+        for answer in given:
+            totals.add(answer)
+            if answer.out:
+                report.add(answer.out) if report else out.write(answer.out)
+            if answer.err:
+                progress.clear()
+                out.flush()
+                tell(answer.err)
+            if progress.shown:
+                progress.step(totals.files, totals.faulty + totals.refused + totals.unread)
+    finally:
+        given.close()  # ends the processes of --jobs
+        progress.clear()
+    if report:
+        report.end(totals=totals.in_json(), status=totals.status)
+    elif options.many and not options.quiet:
+        out.lines([totals.line()])
+    return totals.status

@@ -1,0 +1,580 @@
+"""The command `ducat`: its words, and what they start. Each command has a module of its own, which is imported only when it is used."""
+import os
+import sys
+
+from . import __version__, files, signals
+from .output import Failed, Out, OutputFailed, flush_error, head, say, text_of
+
+COMMANDS = ("check", "bind", "rescue", "write", "table", "dump", "build")
+
+USAGE = """usage: ducat COMMAND [OPTION...] ...
+       ducat COMMAND --help
+
+Checks Starlark scripts and their node tables with a proved library.
+
+  ducat check PATH...                          check table files, scripts and folders
+  ducat bind FILE...                           which argument of a call reaches which parameter of a def
+  ducat rescue IN -o OUT                       keep what can be kept of a damaged table file
+  ducat write TABLE NAMES [--dialect D] -o OUT
+                                               a table file from raw bytes
+  ducat table INPUT -o OUT                     a table file from a script, or from the text form of a table
+  ducat dump FILE                              the text form of a table file
+  ducat build [--unproved]                     prove and compile the library
+
+  --version     print the version, and which library is used
+  -h, --help    print this
+
+The first command proves and compiles the library, which takes some minutes and needs the Rattle kit (rt).
+Exit status: 0 no errors; 1 errors; 2 an input is refused or cannot be read, wrong usage, no library, or output that cannot be written. Of
+several inputs the highest counts. INT, TERM and HUP end the command as they end others."""
+
+CHECK = """Checks each PATH: a table file, a script, or a folder, which is searched for *.table and scripts. `-` is
+standard input.
+
+A script is a file whose name ends in .star, .bzl, .bazel or .sky, or is BUILD, BUCK or WORKSPACE. Any other
+file is a table file. Of a folder, hidden folders and links to folders are skipped.
+
+Every job is run on every node that it fits, so `errors 0` means that the whole checker accepts: parameter
+lists (10 to 18), call arguments (20 to 24), targets and assignments (30 to 33), types (40 to 45), and the
+module pass (50 to 61). Not covered: whether a name is defined, what a value is, which def a call reaches (see
+`ducat bind`), the arguments of load, and what Starlark's own grammar refuses. Nothing can be switched off:
+there is no option and no comment that leaves out a rule.
+
+For a table file this prints
+  nodes N             the number of nodes
+  number begin end    for each error its number and its place in the script, in bytes from 0
+  errors N            the number of errors
+or, for a file that is damaged or whose table is not sound, the one line
+  refused K           and on standard error what is wrong
+Errors are sorted by begin, end and number. For a script an error is PATH:LINE:COLUMN: NUMBER and its words,
+with the line and carets. With several inputs the name of each comes first, and a line of totals last."""
+
+CHECK_MORE = """No more than 59,905 bytes of a table file are read, one more than the largest has, and no more than 16,777,216
+of a script. A script's table is made with Python's parser; that step is not proved.
+
+Exit status: 0 no errors; 1 errors; 2 an input is refused or cannot be read, a script has no table, nothing is
+found in a PATH, wrong usage, no library, or output that cannot be written. Of several inputs the highest
+counts."""
+
+BIND = """Says which argument of each call reaches which parameter. FILE is a table file or a script; `-` is standard
+input.
+
+For a script, or a table file with --script, each call of a name is paired with every def of that name in the
+script:
+  NAME, MODE: ARGUMENT (PLACE)                    the argument that a parameter takes
+  NAME, MODE: default                             it takes none, and has a default
+  *NAME, MODE: ARGUMENT (PLACE); ...              what a star parameter collects, or none
+  refused K, ARGUMENT (PLACE)                     the call does not fit the def, or one of them is wrong
+A table file alone gives its defs and calls with their nodes; --call and --def then name two of them. A call
+of a call, such as outer(1)(2), and a method call are listed as such and bound to no def.
+
+Which argument reaches which parameter is proved. Which call is paired with which def is not: a name that
+means another function at the call is not seen."""
+
+BIND_MORE = """Exit status: 0 every call is accepted; 1 a call or def is refused (10 to 84); 2 a file is refused or cannot be
+read, a node is not a Call or not a Def (6), the script is not the table's or has no table, wrong usage, no
+library, or output that cannot be written."""
+
+RESCUE = """Writes to OUT a sound table file with what can be kept of the damaged table file IN (`-` is standard input),
+and prints
+  statements S    the number of statements that are kept, the first ones of the outermost list (1 where the table is one other statement)
+  nodes N         the number of nodes that are kept
+  dropped D       the number of nodes that the header of IN counts and that are lost
+  bytes B         the number of bytes after the last block that the header counts
+or, where nothing can be kept, the one line
+  refused 90      the first block, or one with names, is bad
+  refused 91      no statement is whole in good blocks
+and then OUT is as it was. A sound file is written as it is, without the bytes after it. IN may be OUT."""
+
+RESCUE_MORE = """Exit status: 0 nothing is lost (dropped 0 and bytes 0); 1 something is lost; 2 it is refused, IN cannot be
+read or OUT not written, wrong usage, or no library."""
+
+ATOMIC = """OUT is at each moment the old file or the whole new one."""
+
+WRITE = """Writes to OUT the table file of a node table (24 bytes for each node) and of the bytes that its names are in,
+and prints
+  written N     the number of bytes of the file
+or, where they are not sound, the one line
+  refused K     1 to 5
+and then OUT is as it was. TABLE and NAMES are files of raw bytes; one of them may be `-`, standard input."""
+
+TABLE = """Writes to OUT the table file of INPUT: a script, or the text form of a table, as `ducat dump` prints it and
+docs/FORMAT.md describes it. `-` is standard input: a text, or with --stdin-filename a script. A script is
+read with Python's parser; that step is not proved."""
+
+DUMP = """Prints the text form of a table file, or of a script's table. `ducat table` of it gives the same bytes back.
+`-` is standard input."""
+
+BUILD = """Proves and compiles the library, if it is not current. Every command does this by itself when it must; an
+installed ducat never does."""
+
+
+def make_parser(command, description, epilog=None):
+    import argparse
+
+    class Parser(argparse.ArgumentParser):
+        def error(self, message):
+            raise Failed(f"{message} (`{self.prog} --help` says how)")
+
+        def _print_message(self, message, file=None):
+            if message:
+                out = Out()
+                out.write(message.encode("utf-8", "surrogateescape"))
+                out.flush()
+
+    return Parser(prog=f"ducat {command}", description=description, epilog=epilog, allow_abbrev=False,
+                  formatter_class=argparse.RawDescriptionHelpFormatter)
+
+
+def parse(parser, words):
+    """Options may come before, between and after the names; what comes after -- is a name, whatever it begins with."""
+    cut = words.index("--") if "--" in words else len(words)
+    names = words[cut + 1:]
+    options = parser.parse_intermixed_args(words[:cut] + [f"\0{at}" for at in range(len(names))])
+    for key, value in vars(options).items():
+        if isinstance(value, list):
+            setattr(options, key, [restored(one, names) for one in value])
+        else:
+            setattr(options, key, restored(value, names))
+    return options
+
+
+def restored(value, names):
+    """The name that argparse was not to see: no word of a command line has a NUL."""
+    return names[int(value[1:])] if isinstance(value, str) and value.startswith("\0") else value
+
+
+def add_format(parser):
+    parser.add_argument("--format", choices=("text", "json"), default="text", help="what is printed (docs/JSON.md describes the JSON)")
+    parser.add_argument("--json", dest="format", action="store_const", const="json", help="short for --format json")
+
+
+def add_output(parser, required=True):
+    parser.add_argument("-o", "--output", dest="out", metavar="OUT", required=required, help="the file that is written")
+
+
+def add_dialect(parser, whose):
+    parser.add_argument("--dialect", metavar="D", help=f"the dialect {whose}: standard, extended, all, none (then Extended is meant) or nine digits")
+
+
+def add_config(parser):
+    parser.add_argument("--config", metavar="FILE", help="the configuration, in place of ducat.ini in the current folder")
+
+
+def add_stdin_filename(parser):
+    parser.add_argument("--stdin-filename", metavar="NAME", help="the name of standard input; a script's name makes it a script")
+
+
+def add_list(parser):
+    parser.add_argument("--files-from", metavar="FILE", help="read names of inputs from FILE (`-` is standard input), one in a line")
+    parser.add_argument("-0", "--null", action="store_true", help="the names of --files-from end with NUL, not with a newline")
+
+
+def check_parser():
+    parser = make_parser("check", CHECK, CHECK_MORE)
+    parser.add_argument("paths", metavar="PATH", nargs="*")
+    parser.add_argument("--module", action="store_true",
+                        help="run the module pass alone (10 to 18 and 50 to 61), as the program of document 01; its own order is kept")
+    parser.add_argument("--explain", action="store_true", help="say what each number means, with nodes, kinds, dialect and places in X.star "
+                        "beside X.table")
+    parser.add_argument("--quiet", action="store_true", help="print nothing: the exit status is the answer; why an input is not read is still said")
+    parser.add_argument("--bad-only", action="store_true", help="print only inputs that have errors, are refused or cannot be read")
+    parser.add_argument("--script", metavar="SCRIPT", help="the script of the table files, for lines and columns")
+    add_dialect(parser, "of scripts; a table file has its own")
+    parser.add_argument("--exclude", metavar="GLOB", action="append", default=[],
+                        help="leave out what a search finds and whose name or path matches; may be repeated")
+    add_list(parser)
+    add_stdin_filename(parser)
+    parser.add_argument("--jobs", metavar="N", type=positive, default=1, help="use N processes; the output is the same")
+    add_config(parser)
+    add_format(parser)
+    return parser
+
+
+def positive(text):
+    import argparse
+    if not (text.isascii() and text.isdigit()) or not 1 <= int(text[:6]) <= 1024:
+        raise argparse.ArgumentTypeError("a number from 1 to 1024 is needed")
+    return int(text)
+
+
+def node(text):
+    import argparse
+    if not (text.isascii() and text.isdigit()):
+        raise argparse.ArgumentTypeError("a node is a number")
+    return int(text) if len(text) < 21 else 2 ** 64 - 1
+
+
+def bind_parser():
+    parser = make_parser("bind", BIND, BIND_MORE)
+    parser.add_argument("files", metavar="FILE", nargs="*")
+    parser.add_argument("--call", metavar="N", type=node, help="the node of a Call of one table file; with --def")
+    parser.add_argument("--def", dest="def_", metavar="N", type=node, help="the node of a Def of one table file; with --call")
+    parser.add_argument("--script", metavar="SCRIPT", help="the script of one table file: names of defs, texts, lines and columns")
+    parser.add_argument("--explain", action="store_true", help="say what each number means")
+    add_dialect(parser, "of scripts; a table file has its own")
+    add_list(parser)
+    add_stdin_filename(parser)
+    add_config(parser)
+    add_format(parser)
+    return parser
+
+
+def rescue_parser():
+    parser = make_parser("rescue", RESCUE, f"{ATOMIC}\n\n{RESCUE_MORE}")
+    parser.add_argument("input", metavar="IN")
+    add_output(parser)
+    parser.add_argument("--explain", action="store_true", help="say what each number means, and which statements are kept and lost")
+    parser.add_argument("--script", metavar="SCRIPT", help="the script of the table: names and lines of statements, with --explain and in JSON")
+    add_format(parser)
+    return parser
+
+
+def write_parser():
+    parser = make_parser("write", WRITE, ATOMIC)
+    parser.add_argument("table", metavar="TABLE")
+    parser.add_argument("names", metavar="NAMES")
+    add_dialect(parser, "that the file has; without it the file has none")
+    add_output(parser)
+    add_format(parser)
+    return parser
+
+
+def table_parser():
+    parser = make_parser("table", TABLE, ATOMIC)
+    parser.add_argument("input", metavar="INPUT")
+    add_output(parser)
+    parser.add_argument("--parts", action="store_true",
+                        help="OUT is a folder, new or empty: a table file of each top-level statement, 0001.table and so on")
+    add_dialect(parser, "of a script; a text has its own")
+    add_stdin_filename(parser)
+    add_config(parser)
+    add_format(parser)
+    return parser
+
+
+def dump_parser():
+    parser = make_parser("dump", DUMP)
+    parser.add_argument("input", metavar="FILE")
+    add_output(parser, required=False)
+    add_dialect(parser, "of a script; a table file has its own")
+    add_stdin_filename(parser)
+    add_config(parser)
+    add_format(parser)
+    return parser
+
+
+def build_parser():
+    parser = make_parser("build", BUILD)
+    parser.add_argument("--unproved", action="store_true",
+                        help="compile in seconds without a proof, into target/unproved; every command then says that its library is not proved")
+    add_format(parser)
+    return parser
+
+
+# ---- what the words mean
+
+def open_library():
+    """The library that the commands use, built where it must be."""
+    from . import build, library
+    try:
+        found = library.load(build.ensure(sys.stderr))
+    except (build.BuildError, library.LibraryError) as error:
+        raise Failed(str(error)) from None
+    if not found.proved:
+        say(f"this library is not proved: {found.path}; `ducat build` makes the proved one")
+    return found
+
+
+def dialect_word(word):
+    from . import dialects
+    try:
+        return dialects.of(word)
+    except ValueError as error:
+        raise Failed(f"--dialect: {error}") from None
+
+
+class Configured:
+    """The dialect of scripts by the command line or the configuration, and what is said of the configuration."""
+
+    def __init__(self, options):
+        from . import config
+        self.configuration = config.load(options.config)
+        word = options.dialect
+        self.given = word is not None
+        if word is None and self.configuration:
+            word = self.configuration.dialect
+        self.dialect = dialect_word(word) if word is not None else None
+        self.excluded = 0
+
+    @property
+    def name(self):
+        from . import dialects
+        return dialects.name_of(self.dialect) if self.dialect else dialects.MEANT
+
+    def say(self):
+        from . import config
+        if self.configuration:
+            say(config.told(self.configuration, self.name, self.excluded))
+
+    def in_json(self):
+        from . import config
+        return config.in_json(self.configuration, self.name, self.excluded)
+
+
+def source_named(path):
+    """The script that --script names."""
+    if path is None:
+        return None
+    from .rescue import source_of
+    return source_of(path)
+
+
+def once(*names):
+    """Standard input is there once."""
+    if sum(name == "-" for name in names) > 1:
+        raise Failed("standard input (`-`) is named twice")
+
+
+def input_of(name, stdin_filename=None):
+    from . import inputs
+    return inputs.standard_input(stdin_filename) if name == "-" else inputs.Input(name)
+
+
+def found_in(options, configured, paths, folders=True):
+    """The inputs that the command line names, those of folders and lists among them."""
+    from . import inputs
+    once(*paths, *([options.files_from] if options.files_from is not None else []))
+    if options.null and options.files_from is None:
+        raise Failed("-0 is for --files-from")
+    exclude = list(getattr(options, "exclude", []))
+    if configured.configuration:
+        exclude += configured.configuration.exclude
+    search = inputs.Search(exclude, options.stdin_filename)
+    for path in paths:
+        search.name(path) if folders else search.found.append(input_of(path, options.stdin_filename))
+    if options.files_from is not None:
+        for name in inputs.names_in(options.files_from, options.null):
+            search.listed(name) if folders else search.found.append(inputs.Input(name))
+    configured.excluded = search.excluded
+    return search
+
+
+def check(words, out):
+    options = parse(check_parser(), words)
+    if not options.paths and options.files_from is None:
+        raise Failed("no PATH is named (`ducat check --help` says how)")
+    configured = Configured(options)
+    search = found_in(options, configured, options.paths)
+    if configured.given and options.files_from is None and not any(could_be_script(path, options.stdin_filename) for path in options.paths):
+        raise Failed("--dialect is for scripts: a table file has its own dialect")
+    if options.script and any(one.script for one in search.found):
+        raise Failed("--script is for table files: a script that is checked is its own")
+    script = source_named(options.script) if not options.quiet else None
+    library = open_library()
+    configured.say()
+    for path, excluded in search.empty:
+        say(f"{path}: no table file and no script is found in this folder" + (f"; {excluded:,} excluded" if excluded else ""))
+    from . import check as job
+    json = options.format == "json"
+    many = len(search.found) > 1 or bool(search.empty) or any(one.path not in options.paths for one in search.found if one.path is not None)
+    how = job.Options(options.module, options.explain and not json, options.quiet, options.bad_only, json, many, configured.dialect, script)
+    front = head("check", library, configured.in_json(), module=options.module) if json else None
+    status = job.run(library, how, search.found, options.jobs, out, front)
+    return max(status, 2 if search.empty else 0)
+
+
+def could_be_script(path, stdin_filename):
+    from . import inputs
+    if path == "-":
+        return bool(stdin_filename) and inputs.is_script(stdin_filename)
+    return inputs.is_script(path) or os.path.isdir(path)
+
+
+def bind(words, out):
+    options = parse(bind_parser(), words)
+    if not options.files and options.files_from is None:
+        raise Failed("no FILE is named (`ducat bind --help` says how)")
+    if (options.call is None) != (options.def_ is None):
+        raise Failed("--call and --def go together")
+    configured = Configured(options)
+    found = found_in(options, configured, options.files, folders=False).found
+    single = "--call and --def" if options.call is not None else "--script" if options.script else None
+    if single and (len(found) != 1 or found[0].script):
+        raise Failed(f"{single} {'need' if options.call is not None else 'needs'} one table file")
+    if options.call is not None and options.script:
+        raise Failed("--script pairs calls and defs by itself: --call and --def are not for it")
+    if configured.given and found and not any(one.script for one in found):
+        raise Failed("--dialect is for scripts: a table file has its own dialect")
+    script = source_named(options.script)
+    library = open_library()
+    configured.say()
+    from . import bind as job
+    json = options.format == "json"
+    how = job.Options(found, options.explain, json, configured.dialect, script, options.call, options.def_)
+    return job.run(library, how, out, head("bind", library, configured.in_json()) if json else None)
+
+
+def finished(options, **more):
+    """The options of a command on one input."""
+    options.json = options.format == "json"
+    for key, value in more.items():
+        setattr(options, key, value)
+    return options
+
+
+def rescue(words, out):
+    options = parse(rescue_parser(), words)
+    named_out(options.out)
+    from . import rescue as job
+    finished(options, input=input_of(options.input), script=source_named(options.script))
+    library = open_library()
+    return job.run(library, options, out, head("rescue", library) if options.json else None)
+
+
+def write(words, out):
+    options = parse(write_parser(), words)
+    named_out(options.out)
+    once(options.table, options.names)
+    from . import write as job
+    finished(options, table=input_of(options.table), names=input_of(options.names),
+             dialect=dialect_word(options.dialect) if options.dialect is not None else None)
+    library = open_library()
+    return job.run(library, options, out, head("write", library) if options.json else None)
+
+
+def named_out(name):
+    if name in ("", "-"):
+        raise Failed("-o needs the name of a file")
+
+
+def one_input(options, words_for_table):
+    """A command on a script or on something that has its own dialect."""
+    one = input_of(options.input, options.stdin_filename)
+    configured = Configured(options)
+    if configured.given and not one.script:
+        raise Failed(f"--dialect is for scripts: {words_for_table} has its own dialect")
+    finished(options, input=one, dialect=configured.dialect if one.script else None)
+    return configured
+
+
+def table(words, out):
+    options = parse(table_parser(), words)
+    named_out(options.out)
+    configured = one_input(options, "a text")
+    from . import tabling as job
+    library = open_library()
+    configured.say()
+    return job.run(library, options, out, head("table", library, configured.in_json()) if options.json else None)
+
+
+def dump(words, out):
+    options = parse(dump_parser(), words)
+    if options.out is not None:
+        named_out(options.out)
+    configured = one_input(options, "a table file")
+    from . import dump as job
+    library = open_library()
+    configured.say()
+    return job.run(library, options, out, head("dump", library, configured.in_json()) if options.json else None)
+
+
+def build(words, out):
+    options = parse(build_parser(), words)
+    from . import build as job
+    from . import library
+    try:
+        made = library.load(job.make(sys.stderr, proved=not options.unproved))
+    except (job.BuildError, library.LibraryError) as error:
+        raise Failed(str(error)) from None
+    if options.format == "json":
+        from .output import Report, named
+        Report(out, {**head("build", made), "output": named(made.path)}).end(status=0)
+    else:
+        out.lines([about(made)])
+    return 0
+
+
+def about(library):
+    """A library in a line."""
+    from .output import visible
+    proved = "proved" if library.proved else "NOT proved"
+    return f"library {text_of(library.version)}, {proved}, SHA-256 {library.checksum}, {visible(library.path)}"
+
+
+def version(out):
+    """Nothing is built for this."""
+    from . import library
+    out.lines([f"ducat {__version__}"])
+    try:
+        out.lines([about(library.load())])
+    except library.LibraryError as error:
+        out.lines([f"no library: {error}"])
+    return 0
+
+
+# ---- the process
+
+def dispatch(words, out):
+    if not words:
+        raise Failed("no command is named (`ducat --help` says which there are)")
+    first = words[0]
+    if first in COMMANDS:
+        return globals()[first](words[1:], out)
+    if first in ("-h", "--help", "help"):
+        out.write(USAGE.encode() + b"\n")
+        return 0
+    if first == "--version":
+        return version(out)
+    what = "option" if first.startswith("-") else "command"
+    raise Failed(f"there is no {what} {first} (`ducat --help` says which there are)")
+
+
+def guard_descriptors():
+    """A closed descriptor would be given to the next file that is opened. Closed standard input stays one that cannot be read."""
+    for descriptor, mode in ((2, os.O_WRONLY), (0, os.O_WRONLY), (1, None)):
+        try:
+            os.fstat(descriptor)
+        except OSError:
+            if mode is None:
+                raise Failed("standard output is closed") from None
+            put = os.open(os.devnull, mode)
+            if put != descriptor:
+                os.dup2(put, descriptor)
+                os.close(put)
+
+
+def ended(words, out):
+    """Runs a command, and returns its exit status."""
+    try:
+        guard_descriptors()
+        status = dispatch(words, out)
+        out.flush()
+        return status
+    except Failed as error:
+        out.flush()
+        say(str(error))
+    except SystemExit as error:
+        out.flush()
+        return error.code or 0
+    return 2
+
+
+def main(words=None):
+    signals.install()
+    out = Out()
+    try:
+        return ended(sys.argv[1:] if words is None else words, out)
+    except OutputFailed as error:
+        if not error.quiet:
+            say(f"standard output cannot be written: {error}")
+    except signals.Stopped as stopped:
+        files.tidy()
+        signals.die(stopped.number)
+    except Exception:  # status 1 would say that errors were found
+        import traceback
+        say("a fault of ducat itself: " + traceback.format_exc().strip().replace("\n", " | "))
+    finally:
+        files.tidy()
+        flush_error()
+    return 2

@@ -1,0 +1,181 @@
+"""The inputs of a command: names, folders, lists of names, standard input; and how much of each is read.
+
+A folder is searched for table files (*.table) and scripts, sorted by name. Hidden folders and links to folders are skipped, and so is what
+--exclude names and what is neither a file nor a link. A name that is given is read whatever it is: a device, a FIFO, a link.
+"""
+import fnmatch
+import os
+import stat
+
+from .numbers import FILE_BYTES, NAME_BYTES, NODE_BYTES, NODES
+from .output import Failed
+
+TABLE_MOST = FILE_BYTES + 1  # one byte more than the largest table file has
+RECORDS_MOST = NODES * NODE_BYTES + 1
+NAMES_MOST = NAME_BYTES + 1
+SCRIPT_MOST = 2 ** 24  # bytes
+LIST_MOST = 2 ** 30  # bytes of a list of names
+CHUNK = 1 << 20
+ENDINGS = (".star", ".bzl", ".bazel", ".sky")
+NAMES = ("BUILD", "BUCK", "WORKSPACE")
+
+
+def is_script(name):
+    """Whether a name is a script's; any other is a table file's."""
+    last = os.path.basename(name)
+    return last.endswith(ENDINGS) or last in NAMES
+
+
+class Input:
+    """A file to be read: its path (None is standard input), and its name for the user."""
+
+    __slots__ = ("path", "name", "script", "error")
+
+    def __init__(self, path, name=None, error=None):
+        self.path, self.name, self.error = path, path if name is None else name, error
+        self.script = is_script(self.name)
+
+
+def standard_input(filename=None):
+    return Input(None, filename or "-")
+
+
+# ---- reading
+
+def read(one, most):
+    """The bytes of an input, no more than `most`. Raises OSError."""
+    if one.error is not None:
+        raise one.error
+    if one.path is None:
+        return read_from(0, most)
+    descriptor = os.open(one.path, os.O_RDONLY | os.O_CLOEXEC | os.O_NOCTTY)
+    try:
+        data = os.read(descriptor, most)
+        # a short read is the end of a regular file; the empty read that says so is spared for others alone
+        return data + read_from(descriptor, most - len(data)) if data else data
+    finally:
+        os.close(descriptor)
+
+
+def read_from(descriptor, most):
+    parts = []
+    while most > 0:
+        part = os.read(descriptor, min(most, CHUNK))
+        if not part:
+            break
+        parts.append(part)
+        most -= len(part)
+    return b"".join(parts)
+
+
+def read_and_count(one, most, each=None):
+    """As read, and how many bytes there are in all: the rest is read and counted. `each` is told all bytes."""
+    if one.error is not None:
+        raise one.error
+    descriptor = 0 if one.path is None else os.open(one.path, os.O_RDONLY | os.O_CLOEXEC | os.O_NOCTTY)
+    try:
+        kept = read_from(descriptor, most)
+        total = len(kept)
+        if each:
+            each(kept)
+        while True:
+            part = os.read(descriptor, CHUNK)
+            if not part:
+                return kept, total
+            total += len(part)
+            if each:
+                each(part)
+    finally:
+        if one.path is not None:
+            os.close(descriptor)
+
+
+def read_script(one):
+    """A script. Raises OSError also where it is too long."""
+    data = read(one, SCRIPT_MOST + 1)
+    if len(data) > SCRIPT_MOST:
+        raise OSError(0, f"a script has at most {SCRIPT_MOST:,} bytes, and this one has more")
+    return data
+
+
+def reason(error):
+    return error.strerror or str(error)
+
+
+# ---- finding
+
+class Search:
+    """Collects inputs, and counts what is excluded."""
+
+    def __init__(self, exclude=(), stdin_filename=None):
+        self.exclude, self.stdin_filename = tuple(exclude), stdin_filename
+        self.found, self.excluded, self.empty = [], 0, []
+
+    def name(self, path):
+        """A PATH of the command line."""
+        if path == "-":
+            self.found.append(standard_input(self.stdin_filename))
+        else:
+            self.listed(path)
+
+    def listed(self, path):
+        """A name of the command line or of a list: a file, or a folder that is searched."""
+        try:
+            folder = stat.S_ISDIR(os.stat(path).st_mode)
+        except (OSError, ValueError):
+            folder = False  # reading it says what is wrong
+        if not folder:
+            self.found.append(Input(path))
+            return
+        before, excluded = len(self.found), self.excluded
+        self.folder(path)
+        if len(self.found) == before:
+            self.empty.append((path, self.excluded - excluded))
+
+    def folder(self, path):
+        waiting = [path]
+        while waiting:
+            folder = waiting.pop()
+            try:
+                with os.scandir(folder) as scan:
+                    entries = sorted(scan, key=lambda entry: os.fsencode(entry.name))
+            except OSError as error:
+                self.found.append(Input(folder, error=error))
+                continue
+            below = []
+            for entry in entries:
+                self.entry(entry, below)
+            waiting += reversed(below)
+
+    def entry(self, entry, below):
+        """A folder goes to `below`, a file to what is found. So the files of a folder come before those of the folders in it."""
+        folder = entry.is_dir(follow_symlinks=False)
+        if folder and entry.name.startswith("."):
+            return
+        if not folder and not (entry.name.endswith(".table") or is_script(entry.name)):
+            return
+        if not folder and not entry.is_symlink() and not entry.is_file(follow_symlinks=False):
+            return
+        if entry.is_symlink() and entry.is_dir():
+            return
+        if self.is_excluded(entry):
+            self.excluded += 1
+        elif folder:
+            below.append(entry.path)
+        else:
+            self.found.append(Input(entry.path))
+
+    def is_excluded(self, entry):
+        path = os.path.normpath(entry.path)
+        return any(fnmatch.fnmatchcase(entry.name, glob) or fnmatch.fnmatchcase(path, glob) for glob in self.exclude)
+
+
+def names_in(path, nul):
+    """The names in a list: a file, or - for standard input."""
+    try:
+        data = read(standard_input() if path == "-" else Input(path), LIST_MOST + 1)
+    except OSError as error:
+        raise Failed(f"{path}: {reason(error)}") from None
+    if len(data) > LIST_MOST:
+        raise Failed(f"{path}: a list of names has at most {LIST_MOST:,} bytes")
+    return [os.fsdecode(name) for name in data.split(b"\0" if nul else b"\n") if name]

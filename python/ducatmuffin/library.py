@@ -1,0 +1,455 @@
+"""Every function of include/starlark.h as a typed Python function, over ctypes.
+
+    library = load()
+    answer = library.check_file(data)
+    if isinstance(answer, Refusal): ...
+
+Each function takes any bytes (bytes, bytearray, memoryview) of any length and returns a dataclass: what the job answers, or a Refusal. Several
+threads may call at the same time: each has buffers of its own, and ctypes releases the interpreter's lock while the library works.
+
+`room` is the length of the buffer that the job is lent: bytes for modes, shapes and files, words of four bytes for errors and bindings. Without
+it the buffer is never too short.
+"""
+import ctypes
+import operator
+import os
+import threading
+from dataclasses import dataclass
+from typing import ClassVar, NamedTuple, Optional, Tuple, Union
+
+from . import __version__, numbers
+
+NAME = "libstarlark_checks.so"
+SONAME = f"{NAME}.{'.'.join(__version__.split('.')[:2])}"
+NONE = numbers.NONE
+MOST = 2 ** 64 - 1  # of a size_t
+BARE = frozenset([1, 2, 5, 6, 7, *range(70, 76), 90, 91])  # the numbers that carry nothing
+Bytes = Union[bytes, bytearray, memoryview]
+
+POINTER, LENGTH, WORD = ctypes.c_char_p, ctypes.c_size_t, ctypes.c_uint32
+LENT = [ctypes.c_void_p, LENGTH]  # a buffer that is written
+READ = [POINTER, LENGTH]  # a buffer that is only read
+OUT = [ctypes.c_void_p]
+# the arguments of each function, in the header's order
+FUNCTIONS = {
+    "table": READ * 2 + OUT,
+    "params": READ * 2 + [LENGTH] + LENT + OUT,
+    "call": READ * 2 + [LENGTH] + OUT,
+    "bind": READ * 2 + [LENGTH] * 2 + LENT + OUT,
+    "target": READ * 2 + [LENGTH] + OUT,
+    "assignment": READ * 2 + [LENGTH] + OUT,
+    "type": READ * 3 + [LENGTH] + LENT + OUT,
+    "module": READ * 3 + LENT + OUT,
+    "audit": READ * 3 + LENT + OUT,
+    "write": READ * 3 + LENT + OUT,
+    "rescue": READ + LENT + OUT,
+    "read": READ + LENT * 2 + OUT,
+    "check_file": READ + LENT + OUT,
+    "version": [],
+}
+
+
+class LibraryError(Exception):
+    """The library cannot be used; the message says why and what to do."""
+
+
+class LibraryMissing(LibraryError):
+    """There is no library."""
+
+
+class LibraryMismatch(LibraryError):
+    """There is a file, and it is not a library of this version for this machine."""
+
+
+@dataclass(frozen=True)
+class Refusal:
+    """Why a job refuses: document 01's number, what it means, and what it carries. None where a number does not carry it."""
+    number: int
+    words: str
+    node: Optional[int] = None
+    begin: Optional[int] = None
+    end: Optional[int] = None
+    earlier: Optional[int] = None
+    accepted: ClassVar[bool] = False
+
+
+@dataclass(frozen=True)
+class Checked:
+    """The table is sound."""
+    accepted: ClassVar[bool] = True
+
+
+@dataclass(frozen=True)
+class Params:
+    """A parameter list without its marks: five ranges of indices, the number of parameters, and the mode of each (numbers.MODES)."""
+    pos_only: range
+    pos_or_named: range
+    args: range
+    named_only: range
+    kwargs: range
+    count: int
+    modes: bytes
+    accepted: ClassVar[bool] = True
+
+
+@dataclass(frozen=True)
+class Called:
+    """The number of positional and of named arguments, and the places of `*` and `**`, from 0."""
+    positional: int
+    named: int
+    star: Optional[int]
+    star_star: Optional[int]
+    accepted: ClassVar[bool] = True
+
+
+@dataclass(frozen=True)
+class Bound:
+    """For each parameter the node of the argument that it takes (0 for its default, and for `*args` and `**kwargs`); for each argument the
+    index of the parameter that it reached."""
+    parameters: Tuple[int, ...]
+    arguments: Tuple[int, ...]
+    accepted: ClassVar[bool] = True
+
+
+@dataclass(frozen=True)
+class Targeted:
+    """The number of leaves of a target: identifiers, dots and indices."""
+    leaves: int
+    accepted: ClassVar[bool] = True
+
+
+@dataclass(frozen=True)
+class Shaped:
+    """The shape of each node of a type (numbers.SHAPES), from the type's own node on; 0 for a node that is not read as a type."""
+    shapes: bytes
+    accepted: ClassVar[bool] = True
+
+
+class Error(NamedTuple):
+    """An error of a module; the node only where the audit lists it."""
+    number: int
+    begin: int
+    end: int
+    node: Optional[int] = None
+
+
+@dataclass(frozen=True)
+class Errors:
+    """The number of errors, those that are stored, and for a file the number of nodes."""
+    total: int
+    errors: Tuple[Error, ...]
+    nodes: Optional[int] = None
+    accepted: ClassVar[bool] = True
+
+
+@dataclass(frozen=True)
+class Written:
+    """A table file."""
+    data: bytes
+    accepted: ClassVar[bool] = True
+
+
+@dataclass(frozen=True)
+class Rescued:
+    """What is kept of a damaged file: a table file, its statements and nodes, the nodes dropped, the bytes after the last block."""
+    data: bytes
+    statements: int
+    nodes: int
+    dropped: int
+    bytes_after: int
+    accepted: ClassVar[bool] = True
+
+
+@dataclass(frozen=True)
+class Loaded:
+    """What a table file holds."""
+    table: bytes
+    names: bytes
+    dialect: Optional[bytes]
+    accepted: ClassVar[bool] = True
+
+
+class Buffers(threading.local):
+    """What a thread lends to the library: the words of the answer, and the largest buffers that a job needs."""
+
+    def __init__(self):
+        self.out = (WORD * numbers.OUT_WORDS)()
+        self.words = (WORD * (4 * numbers.AUDIT_ERRORS))()
+        self.file = ctypes.create_string_buffer(numbers.FILE_BYTES)
+        self.names = ctypes.create_string_buffer(numbers.NAME_BYTES)
+        # addresses, so that a call need not make a pointer each time
+        self.out_at = ctypes.addressof(self.out)
+        self.words_at = ctypes.addressof(self.words)
+        self.file_at = ctypes.addressof(self.file)
+        self.names_at = ctypes.addressof(self.names)
+
+
+def _bytes(data):
+    """Bytes that nobody changes while the library reads them."""
+    if type(data) is bytes:
+        return data
+    if not isinstance(data, (bytes, bytearray, memoryview)):
+        raise TypeError(f"bytes are needed, not {type(data).__name__}")
+    return bytes(data)
+
+
+def _node(node):
+    """A node's number as the library takes it; one that no size_t can hold is beyond every table."""
+    node = operator.index(node)
+    if node < 0:
+        raise ValueError(f"a node has no negative number: {node}")
+    return min(node, MOST)
+
+
+def _room(room, most, size):
+    """The length that is lent, and a buffer of its own where the thread's is shorter."""
+    if room is None:
+        return most, None
+    room = operator.index(room)
+    if room < 0:
+        raise ValueError(f"a buffer has no negative length: {room}")
+    return room, ctypes.create_string_buffer(room * size) if room > most else None
+
+
+def _place(word):
+    return None if word == NONE else word
+
+
+def _refusal(number, out):
+    words = numbers.WORDS.get(number, "unknown")
+    if number in (3, 4):
+        return Refusal(number, words, out[0])
+    if number in BARE:
+        return Refusal(number, words)
+    return Refusal(number, words, out[0], out[1], out[2], _place(out[3]))
+
+
+def _errors(out, words, room, width):
+    """The errors that are stored: as many as there are, or as fit."""
+    total = out[0]
+    if not total:
+        return 0, ()
+    stored = words[:width * min(total, room // width)]
+    columns = [stored[at::width] for at in range(width)]
+    if width == 4:
+        columns = [columns[0], columns[2], columns[3], columns[1]]
+    return total, tuple(map(Error, *columns)) if stored else ()
+
+
+def version_text(version):
+    return f"{version >> 16}.{version >> 8 & 255}.{version & 255}"
+
+
+def version_number(text):
+    """major * 65536 + minor * 256 + patch."""
+    major, minor, patch = (int(part) for part in text.split("."))
+    return major << 16 | minor << 8 | patch
+
+
+class Library:
+    """A loaded library. `path` is its file, `proved` whether it was proved, `version` its version as text, `checksum` the file's SHA-256."""
+
+    def __init__(self, path):
+        self.path = os.path.abspath(os.fspath(path))
+        try:
+            self._stat = _identity(self.path)
+            self._library = ctypes.CDLL(self.path)
+        except FileNotFoundError:
+            raise LibraryMissing(f"there is no {self.path}") from None
+        except OSError as error:
+            raise LibraryMismatch(f"{self.path} cannot be loaded: {error.strerror or error}") from None
+        for name, arguments in FUNCTIONS.items():
+            setattr(self, f"_{name}", self._function(name, arguments))
+        self._compare_version()
+        # a library that was compiled without a proof says so by this symbol
+        self.proved = not hasattr(self._library, "starlark_unproved")
+        self._buffers = Buffers()
+        self._checksum = None
+
+    def _function(self, name, arguments):
+        try:
+            function = getattr(self._library, f"starlark_{name}")
+        except AttributeError:
+            raise LibraryMismatch(f"{self.path} has no starlark_{name}: it is not version {__version__} of the library") from None
+        function.argtypes, function.restype = arguments, WORD
+        return function
+
+    def _compare_version(self):
+        found, wanted = self._version(), version_number(__version__)
+        self.version = version_text(found)
+        if found >> 8 != wanted >> 8 or found < wanted:
+            major_minor, patch = __version__.rsplit(".", 1)
+            raise LibraryMismatch(f"{self.path} is version {self.version}; {major_minor}, patch {patch} or later, is needed")
+
+    @property
+    def checksum(self):
+        if self._checksum is None:
+            import hashlib
+            with open(self.path, "rb") as file:
+                content = file.read()
+            if _identity(self.path) != self._stat:
+                raise LibraryError(f"{self.path} was replaced after it was loaded")
+            self._checksum = hashlib.sha256(content).hexdigest()
+        return self._checksum
+
+    def table(self, table: Bytes, names: Bytes) -> Union[Checked, Refusal]:
+        """The table check: 1 to 4."""
+        table, names, own = _bytes(table), _bytes(names), self._buffers
+        number = self._table(table, len(table), names, len(names), own.out_at)
+        return _refusal(number, own.out) if number else Checked()
+
+    def params(self, table: Bytes, names: Bytes, node: int, room: Optional[int] = None) -> Union[Params, Refusal]:
+        """The parameter list of the Def or Lambda at a node."""
+        table, names, own = _bytes(table), _bytes(names), self._buffers
+        room, buffer = _room(room, numbers.NODES, 1)
+        lent = own.file_at if buffer is None else ctypes.addressof(buffer)
+        number = self._params(table, len(table), names, len(names), _node(node), lent, room, own.out_at)
+        if number:
+            return _refusal(number, own.out)
+        out = own.out[:11]
+        return Params(*(range(out[at], out[at + 1]) for at in range(0, 10, 2)), out[10], ctypes.string_at(lent, out[10]))
+
+    def call(self, table: Bytes, names: Bytes, node: int) -> Union[Called, Refusal]:
+        """The arguments of the Call at a node."""
+        table, names, own = _bytes(table), _bytes(names), self._buffers
+        number = self._call(table, len(table), names, len(names), _node(node), own.out_at)
+        if number:
+            return _refusal(number, own.out)
+        out = own.out
+        return Called(out[0], out[1], _place(out[2]), _place(out[3]))
+
+    def bind(self, table: Bytes, names: Bytes, call: int, def_: int, room: Optional[int] = None) -> Union[Bound, Refusal]:
+        """Which argument of a Call reaches which parameter of a Def."""
+        table, names, own = _bytes(table), _bytes(names), self._buffers
+        room, buffer = _room(room, 4 * numbers.AUDIT_ERRORS, 4)
+        lent = own.words_at if buffer is None else ctypes.addressof(buffer)
+        number = self._bind(table, len(table), names, len(names), _node(call), _node(def_), lent, room, own.out_at)
+        if number:
+            return _refusal(number, own.out)
+        flat, many = own.out[:2]
+        words = (WORD * (flat + many)).from_address(lent)[:]
+        return Bound(tuple(words[:flat]), tuple(words[flat:]))
+
+    def target(self, table: Bytes, names: Bytes, node: int) -> Union[Targeted, Refusal]:
+        """Whether the expression at a node is a target."""
+        table, names, own = _bytes(table), _bytes(names), self._buffers
+        number = self._target(table, len(table), names, len(names), _node(node), own.out_at)
+        return _refusal(number, own.out) if number else Targeted(own.out[0])
+
+    def assignment(self, table: Bytes, names: Bytes, node: int) -> Union[Targeted, Refusal]:
+        """The assignment at a node."""
+        table, names, own = _bytes(table), _bytes(names), self._buffers
+        number = self._assignment(table, len(table), names, len(names), _node(node), own.out_at)
+        return _refusal(number, own.out) if number else Targeted(own.out[0])
+
+    def type(self, table: Bytes, names: Bytes, dialect: Optional[Bytes], node: int, room: Optional[int] = None) -> Union[Shaped, Refusal]:
+        """Whether the expression at a node is a type in a dialect (None is no dialect, by which Extended is meant)."""
+        table, names, dialect, own = _bytes(table), _bytes(names), _bytes(dialect or b""), self._buffers
+        room, buffer = _room(room, numbers.NODES, 1)
+        lent = own.file_at if buffer is None else ctypes.addressof(buffer)
+        node = _node(node)
+        size = int.from_bytes(table[24 * node + 16:24 * node + 18], "little")
+        ctypes.memset(lent, 0, min(room, size))
+        number = self._type(table, len(table), names, len(names), dialect, len(dialect), node, lent, room, own.out_at)
+        return _refusal(number, own.out) if number else Shaped(ctypes.string_at(lent, size))
+
+    def module(self, table: Bytes, names: Bytes, dialect: Optional[Bytes], room: Optional[int] = None) -> Union[Errors, Refusal]:
+        """The module pass under a dialect (None is no dialect, by which Extended is meant)."""
+        return self._listed(self._module, table, names, dialect, room, 3)
+
+    def audit(self, table: Bytes, names: Bytes, dialect: Optional[Bytes], room: Optional[int] = None) -> Union[Errors, Refusal]:
+        """Every job on every node that it fits, under a dialect (None is no dialect, by which Extended is meant)."""
+        return self._listed(self._audit, table, names, dialect, room, 4)
+
+    def _listed(self, job, table, names, dialect, room, width):
+        table, names, dialect, own = _bytes(table), _bytes(names), _bytes(dialect or b""), self._buffers
+        room, buffer = _room(room, 4 * numbers.AUDIT_ERRORS, 4)
+        lent = own.words_at if buffer is None else ctypes.addressof(buffer)
+        number = job(table, len(table), names, len(names), dialect, len(dialect), lent, room, own.out_at)
+        if number:
+            return _refusal(number, own.out)
+        words = own.words if buffer is None else (WORD * room).from_buffer(buffer)
+        return Errors(*_errors(own.out, words, room, width))
+
+    def write(self, table: Bytes, names: Bytes, dialect: Optional[Bytes], room: Optional[int] = None) -> Union[Written, Refusal]:
+        """The table file of a table, its names and a dialect; None is a file without a dialect."""
+        table, names, dialect, own = _bytes(table), _bytes(names), _bytes(dialect or b""), self._buffers
+        room, buffer = _room(room, numbers.FILE_BYTES, 1)
+        lent = own.file_at if buffer is None else ctypes.addressof(buffer)
+        number = self._write(table, len(table), names, len(names), dialect, len(dialect), lent, room, own.out_at)
+        return _refusal(number, own.out) if number else Written(ctypes.string_at(lent, own.out[0]))
+
+    def rescue(self, data: Bytes, room: Optional[int] = None) -> Union[Rescued, Refusal]:
+        """What can be kept of a damaged table file."""
+        data, own = _bytes(data), self._buffers
+        room, buffer = _room(room, numbers.FILE_BYTES, 1)
+        lent = own.file_at if buffer is None else ctypes.addressof(buffer)
+        number = self._rescue(data, len(data), lent, room, own.out_at)
+        if number:
+            return _refusal(number, own.out)
+        size, statements, nodes, dropped, low, high = own.out[:6]
+        return Rescued(ctypes.string_at(lent, size), statements, nodes, dropped, high << 32 | low)
+
+    def read(self, data: Bytes, room: Optional[int] = None, names_room: Optional[int] = None) -> Union[Loaded, Refusal]:
+        """What a table file holds."""
+        data, own = _bytes(data), self._buffers
+        room, buffer = _room(room, numbers.NODES * numbers.NODE_BYTES, 1)
+        names_room, names_buffer = _room(names_room, numbers.NAME_BYTES, 1)
+        lent = own.file_at if buffer is None else ctypes.addressof(buffer)
+        names_lent = own.names_at if names_buffer is None else ctypes.addressof(names_buffer)
+        number = self._read(data, len(data), lent, room, names_lent, names_room, own.out_at)
+        if number:
+            return _refusal(number, own.out)
+        nodes, names, has_dialect = own.out[:3]
+        dialect = bytes(own.out)[12:21] if has_dialect else None
+        return Loaded(ctypes.string_at(lent, numbers.NODE_BYTES * nodes), ctypes.string_at(names_lent, names), dialect)
+
+    def check_file(self, data: Bytes, room: Optional[int] = None) -> Union[Errors, Refusal]:
+        """The module pass over a table file, under the dialect that it holds."""
+        own = self._buffers
+        if room is None and type(data) is bytes:
+            number = self._check_file(data, len(data), own.words_at, 3 * numbers.ERRORS, own.out_at)
+            room, words = 3 * numbers.ERRORS, own.words
+        else:
+            data = _bytes(data)
+            room, buffer = _room(room, 3 * numbers.ERRORS, 4)
+            words = own.words if buffer is None else (WORD * room).from_buffer(buffer)
+            number = self._check_file(data, len(data), ctypes.addressof(words), room, own.out_at)
+        if number:
+            return _refusal(number, own.out)
+        total, errors = _errors(own.out, words, room, 3)
+        return Errors(total, errors, own.out[1])
+
+
+def _identity(path):
+    found = os.stat(path)
+    return found.st_dev, found.st_ino, found.st_size, found.st_mtime_ns
+
+
+def checkout():
+    """The folder of the checkout that this package is part of, or None where it is installed."""
+    root = os.path.dirname(os.path.dirname(os.path.dirname(os.path.abspath(__file__))))
+    return root if os.path.isfile(os.path.join(root, "crates.txt")) else None
+
+
+def candidates():
+    """Where a library may be, the best first."""
+    root = checkout()
+    if root:
+        return [os.path.join(root, "target", folder, NAME) for folder in ("native", "unproved")]
+    # tools/install puts the package into PREFIX/lib/ducat/ducatmuffin, and the library into PREFIX/lib
+    return [os.path.join(os.path.dirname(os.path.dirname(os.path.dirname(os.path.abspath(__file__)))), SONAME)]
+
+
+def load(path: Optional[str] = None) -> Library:
+    """The library at a path, or else the proved one of the checkout, the unproved one, or the installed one.
+    Raises LibraryMissing or LibraryMismatch."""
+    if path is not None:
+        return Library(path)
+    places = candidates()
+    for place in places:
+        if os.path.exists(place):
+            return Library(place)
+    if checkout():
+        raise LibraryMissing(f"the library is not built: there is no {places[0]}; `ducat build` makes it")
+    raise LibraryMissing(f"the installation is not whole: there is no {places[0]}; tools/install PREFIX puts it there")

@@ -1,0 +1,158 @@
+"""ducat rescue: writes a sound table file of what can be kept of a damaged one."""
+from . import files, inputs, reasons
+from .bind import HEAD, LONGEST
+from .library import Refusal
+from .numbers import KIND, KINDS
+from .output import Failed, Report, dumps, named, say, shown, visible
+from .places import Source
+from .table import children, decode
+
+WORDS = {
+    "statements": "statements of the outermost list that are kept, from the first on",
+    "nodes": "nodes that are kept",
+    "dropped": "nodes that the header counts and that are lost",
+    "bytes": "bytes after the last block that the header counts, which are left out"}
+LINES = (("statements", "statements"), ("nodes", "nodes"), ("dropped", "dropped"), ("bytes", "bytes_after"))
+
+
+class Statement:
+    """A statement of the outermost list, by its span."""
+
+    def __init__(self, node, record):
+        self.node, self.kind, self.begin, self.end = node, record.kind, record.begin, record.end
+
+    def text(self, source):
+        """Its name and line, where there is a script, else its kind and span."""
+        if not source or source.is_beyond(self.begin, self.end):
+            return f"{KINDS[self.kind][0]}, node {self.node}, bytes {self.begin} to {self.end}"
+        line, column = source.line_column(self.begin)
+        return f"{self.name(source)}, {visible(source.path)}:{line}:{column}"
+
+    def name(self, source):
+        head = HEAD.match(source.bytes, self.begin, self.end)
+        if head:
+            return f"def {shown(head[1])}"
+        first, more, _ = source.bytes[self.begin:self.end].partition(b"\n")
+        text = shown(first)
+        return text[:LONGEST - 1] + "…" if more or len(text) > LONGEST else text
+
+    def in_json(self, source):
+        told = {"kind": {"number": self.kind, "name": KINDS[self.kind][0]}, "begin": self.begin, "end": self.end}
+        if self.node is not None:
+            told["node"] = self.node
+        if source and not source.is_beyond(self.begin, self.end):
+            told["name"] = self.name(source)
+            told["line"], told["column"] = source.line_column(self.begin)
+        return told
+
+
+def statements(table):
+    """The statements of the outermost list; the one statement where the root is another."""
+    records = decode(table)
+    nodes = children(records, 0) if records[0].kind == KIND["Statements"] else [0]
+    return [Statement(node, records[node]) for node in nodes]
+
+
+def in_script(source, kept):
+    """All statements of the script, where it can be read and begins with those that are kept; None otherwise."""
+    from . import script
+    try:
+        table, _ = script.export(source.bytes, source.path, None)
+    except script.ScriptError:
+        return None
+    found = statements(table)
+    same = [(one.begin, one.end, one.kind) for one in found[:len(kept)]] == [(one.begin, one.end, one.kind) for one in kept]
+    return found if same else None
+
+
+class Told:
+    """Which statements are kept and which are lost."""
+
+    def __init__(self, library, rescued, source):
+        self.rescued, self.source = rescued, source
+        self.kept = statements(library.read(rescued.data).table)
+        self.all = in_script(source, self.kept) if source else None
+
+    @property
+    def lost(self):
+        """The lost statements by the script; None where it does not say."""
+        return None if self.all is None else self.all[len(self.kept):]
+
+    def lines(self):
+        of = f" of {len(self.all)}" if self.all is not None else ""
+        lines = [f"kept {at}{of}: {one.text(self.source)}" for at, one in enumerate(self.kept, 1)]
+        if self.lost is not None and self.rescued.dropped:
+            return lines + [f"lost {at}{of}: {one.text(self.source)}" for at, one in enumerate(self.lost, len(self.kept) + 1)]
+        if self.rescued.dropped:
+            after = f"after byte {self.kept[-1].end}" if self.kept else "all"
+            lines.append(f"lost: {self.rescued.dropped} nodes, {after}")
+        return lines
+
+    def in_json(self):
+        lost = self.lost if self.rescued.dropped else []
+        return {"kept": [one.in_json(self.source) for one in self.kept],
+                "lost": None if lost is None else [one.in_json(self.source) for one in lost]}
+
+
+def run(library, options, out, front):
+    """Rescues one file. Returns the exit status: 0 nothing is lost, 1 something is, 2 it is refused or cannot be read or written."""
+    import hashlib
+    one, total_hash = options.input, hashlib.sha256()
+    try:
+        data, total = inputs.read_and_count(one, inputs.TABLE_MOST, total_hash.update if options.json else None)
+    except (OSError, ValueError) as error:
+        raise Failed(f"{one.name}: {inputs.reason(error)}") from None
+    answer = library.rescue(data)
+    report = Report(out, front) if options.json else None
+    entry = {**named(one.name), "kind": "table", "sha256": total_hash.hexdigest(), "bytes": total, "whole": True}
+    if type(answer) is Refusal:
+        return refused(library, options, out, report, entry, data, answer)
+    after = answer.bytes_after + total - len(data)
+    told = Told(library, answer, options.script) if options.explain or report else None
+    try:
+        files.write(options.out, answer.data)
+    except OSError as error:
+        raise Failed(f"{options.out}: {inputs.reason(error)}") from None
+    status = 1 if answer.dropped or after else 0
+    numbers = {word: after if word == "bytes" else getattr(answer, field) for word, field in LINES}
+    if report:
+        out_json = {**named(options.out), "sha256": hashlib.sha256(answer.data).hexdigest(), "bytes": len(answer.data)}
+        report.add(dumps({**entry, "verdict": "lost" if status else "whole", "output": out_json,
+                          **{("bytes_after" if word == "bytes" else word): number for word, number in numbers.items()}, **told.in_json()}))
+        report.end(status=status)
+        return status
+    out.lines(f"{word} {number}" + (f": {WORDS[word]}" if options.explain else "") for word, number in numbers.items())
+    if options.explain:
+        out.lines(told.lines())
+        if options.script and told.all is None:
+            say(f"{options.script.path}: the statements of this script are not known, or are not the table's; lost ones are not named")
+    return status
+
+
+def refused(library, options, out, report, entry, data, refusal):
+    """A file of which nothing can be kept: what the reader says of it is the reason."""
+    reader, why = library.read(data), ""
+    told = {"number": refusal.number, "words": refusal.words}
+    if type(reader) is Refusal:
+        because = reasons.why_file(library, data, reader, len(data) < inputs.TABLE_MOST)
+        why = f"; the reader's answer is {reader.number}: {reader.words}{because}"
+        told["reader"] = {"number": reader.number, "words": reader.words, **because.in_json()}
+    said = f"refused {refusal.number}: {refusal.words}{why}"
+    if report:
+        report.add(dumps({**entry, "verdict": "refused", "refused": told}))
+        report.end(status=2)
+    elif options.explain:
+        out.lines([said])
+    else:
+        out.lines([f"refused {refusal.number}"])
+        out.flush()
+        say(f"{options.input.name}: {said}")
+    return 2
+
+
+def source_of(path):
+    """The script that --script names."""
+    try:
+        return Source(path, inputs.read_script(inputs.Input(path)))
+    except (OSError, ValueError) as error:
+        raise Failed(f"{path}: {inputs.reason(error)}") from None

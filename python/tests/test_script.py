@@ -1,0 +1,344 @@
+"""The module `script`: the samples' scripts, each kind of record, each refusal with its place, the limits, and that every table is sound."""
+import ast
+import glob
+import os
+import sysconfig
+import textwrap
+import unittest
+
+import support
+from ducatmuffin import numbers, script
+from ducatmuffin import table as tables
+
+# samples whose script Python's parser refuses, by the line and the rule that it has broken there
+REFUSED_SAMPLES = {
+    "example": (1, "13"), "example-none": (1, "13"), "cut": (1, "13"), "damaged": (1, "13"), "lambda": (1, "13"), "parameters": (1, "10"),
+    "whole": (2, "20")}
+# a sample whose text is no tree of its script, so that it can be refused with 3
+UNSOUND_SAMPLE = "unsound"
+
+# A script, and its tree in the text form. What quotes nothing is the whole script at the root, else its own name, or what
+# the expression below it quotes.
+TREES = [
+    ("pass", "(OtherSimple)"),
+    ("x", "(OtherSimple (Identifier x))"),
+    ("pass; break\ncontinue\n", "(Statements `pass…continue` (OtherSimple `pass`) (Break `break`) (Continue `continue`))"),
+    ("return", "(Return)"),
+    ("return (1)", "(Return (Int `1`))"),
+    ('load("f.star", "x", y="z")', "(Load)"),
+    ('if a:\n  load("f", "x")', '(If (Identifier a) (Load `load("f", "x")`))'),
+    ("if a: b\nelif c: d\nelse:\n  e", "(IfElse (Identifier a) (OtherSimple (Identifier b))"
+     " (IfElse `elif…  e` (Identifier c) (OtherSimple (Identifier d)) (OtherSimple span=26-27 (Identifier e))))"),
+    ("for a, b in c:\n  pass\n  break", "(For (Tuple `a, b` (Identifier a) (Identifier b)) (Identifier c)"
+     " (Statements `pass…break` (OtherSimple `pass`) (Break `break`)))"),
+    ("(a, [b]) = 1, 2", "(Assign (Tuple `(a, [b])` (Identifier a) (List `[b]` (Identifier b))) (Tuple `1, 2` (Int `1`) (Int `2`)))"),
+    ("a.b = c[0]", "(Assign (Dot b `a.b` (Identifier a)) (Index `c[0]` (Identifier c) (Int `0`)))"),
+    ("x: list[int] = (0)", "(Assign:1 (Identifier x) (Index `list[int]` (Identifier list) (Identifier int)) (Int `0`))"),
+    ("x |= 1", "(AssignModify (Identifier x) (Int `1`))"),
+    # parameters
+    ("def f(): pass", "(Def (OtherSimple `pass`))"),
+    ("def f(a: (x) = (1), /, b: y=2, *, c, d=3, **k: z) -> a | b: pass",
+     "(Def:1 (Normal:3 a `a: (x) = (1)` (Identifier x) (Int `1`)) (Slash `/`) (Normal:3 b `b: y=2` (Identifier y) (Int `2`)) (NoArgs `*`)"
+     " (Normal c) (Normal:2 d `d=3` (Int `3`)) (KwArgsParam:1 k `**k: z` (Identifier z)) (Op:1 `a | b` (Identifier a) (Identifier b))"
+     " (OtherSimple `pass`))"),
+    ("def f(*a: x, b, ** k): pass",
+     "(Def (ArgsParam:1 a `*a: x` (Identifier x)) (Normal b) (KwArgsParam k `** k`) (OtherSimple `pass`))"),
+    ("def f(a='/', # a / here, and ,\n  / , # * there\n  b=',*', * # *\n  , c): pass",
+     "(Def (Normal:2 a `a='/'` (String `'/'`)) (Slash span=33-34) (Normal:2 b `b=',*'` (String `',*'`)) (NoArgs span=57-58)"
+     " (Normal c span=67-68) (OtherSimple `pass`))"),
+    ("x = lambda: 0", "(Assign (Identifier x) (Lambda `lambda: 0` (Int `0`)))"),
+    ("x = lambda b, c=(1), /, *, d, **k: e", "(Assign (Identifier x) (Lambda `lambda…e` (Normal b span=11-12) (Normal:2 c `c=(1)` (Int `1`))"
+     " (Slash `/`) (NoArgs `*`) (Normal d) (KwArgsParam k `**k`) (Identifier e)))"),
+    ("x = lambda *y, z: y", "(Assign (Identifier x) (Lambda `lambda *y, z: y` (ArgsParam y `*y`) (Normal z) (Identifier y)))"),
+    # arguments
+    ("f(a, (b), c=(1), *(d), **e)", "(OtherSimple (Call `f(…**e)` (Identifier f) (Positional (Identifier a)) (Positional `(b)` (Identifier b))"
+     " (Named c `c=(1)` (Int `1`)) (ArgsArg `*(d)` (Identifier d)) (KwArgsArg `**e` (Identifier e))))"),
+    ("f(*a, b=1, *c)", "(OtherSimple (Call `f(…c)` (Identifier f) (ArgsArg `*a` (Identifier a)) (Named b `b=1` (Int `1`))"
+     " (ArgsArg `*c` (Identifier c))))"),
+    ("f((a))", "(OtherSimple (Call `f((a))` (Identifier f) (Positional `(a)` (Identifier a))))"),
+    ("(f)(((a)), (b, c))", "(OtherSimple (Call `(f)…c))` (Identifier f) (Positional `((a))` (Identifier a))"
+     " (Positional (Tuple `(b, c)` (Identifier b) (Identifier c)))))"),
+    ("f(lambda a, b: c, d)",
+     "(OtherSimple (Call `f(…)` (Identifier f) (Positional (Lambda span=2-16 (Normal a span=9-10) (Normal b) (Identifier c)))"
+     " (Positional (Identifier d))))"),
+    # indices
+    ("a[b, c]", "(OtherSimple (Index2 `a[b, c]` (Identifier a) (Identifier b) (Identifier c)))"),
+    ("a[(b), c]", "(OtherSimple (Index2 `a[(b), c]` (Identifier a) (Identifier b) (Identifier c)))"),
+    ("a[(b, c)]", "(OtherSimple (Index `a[(b, c)]` (Identifier a) (Tuple `(b, c)` (Identifier b) (Identifier c))))"),
+    ("a[:]", "(OtherSimple (Slice `a[:]` (Identifier a)))"),
+    ("a[1:]", "(OtherSimple (Slice `a[1:]` (Identifier a) (Int `1`)))"),
+    ("a[1:2:3]", "(OtherSimple (Slice `a[1:2:3]` (Identifier a) (Int `1`) (Int `2`) (Int `3`)))"),
+    ("a[::b] = 1", "(Assign (Slice `a[::b]` (Identifier a) (Identifier b)) (Int `1`))"),
+    # other expressions
+    ("(), [], {}", "(OtherSimple (Tuple `(), [], {}` (Tuple `()`) (List `[]`) (Dict `{}`)))"),
+    ("(1,)", "(OtherSimple (Tuple `(1,)` (Int `1`)))"),
+    ("{1: a, 'b': 2.5}", "(OtherSimple (Dict `{1…}` (Int `1`) (Identifier a) (String `'b'`) (Float `2.5`)))"),
+    ("[a for b, c in d if e if g for h in i]", "(OtherSimple (ListComprehension `[a…i]` (Identifier a span=1-2) (Tuple `b, c` (Identifier b)"
+     " (Identifier c)) (Identifier d) (Identifier e) (Identifier g) (Identifier h) (Identifier i span=36-37)))"),
+    ("{a: b for c in d}", "(OtherSimple (DictComprehension `{a…d}` (Identifier a) (Identifier b) (Identifier c) (Identifier d)))"),
+    ("not a, -1, +1, ~1", "(OtherSimple (Tuple `not…~1` (Not `not a` (Identifier a)) (Minus `-1` (Int `1`)) (Plus `+1` (Int `1`))"
+     " (BitNot `~1` (Int `1`))))"),
+    ("b and (c) and e", "(OtherSimple (Op `b and (c) and e` (Op `b and (c)` (Identifier b) (Identifier c)) (Identifier e)))"),
+    ("a or b", "(OtherSimple (Op `a or b` (Identifier a) (Identifier b)))"),
+    ("a not in b", "(OtherSimple (Op `a not in b` (Identifier a) (Identifier b)))"),
+    ("(a | b) | c", "(OtherSimple (Op:1 `(a | b) | c` (Op:1 `a | b` (Identifier a) (Identifier b)) (Identifier c)))"),
+    ("a ^ b", "(OtherSimple (Op `a ^ b` (Identifier a) (Identifier b)))"),
+    ("a if b else c", "(OtherSimple (IfExpr `a if b else c` (Identifier b) (Identifier a span=0-1) (Identifier c)))"),
+    ("None, True, False", "(OtherSimple (Tuple `None…False` (Identifier None) (Identifier True) (Identifier False)))"),
+    ("x(..., b'a', rb'b', br'b')", "(OtherSimple (Call `x…)` (Identifier x) (Positional (Ellipsis `...`)) (Positional (Bytes `b'a'`))"
+     " (Positional (Bytes `rb'b'`)) (Positional (Bytes `br'b'`))))"),
+    ("[r'c', 0x1F, 0b1, 0o7, 0, 1e5, .5, 5.]", "(OtherSimple (List `[r…]` (String `r'c'`) (Int `0x1F`) (Int `0b1`) (Int `0o7`) (Int span=23-24)"
+     " (Float `1e5`) (Float `.5`) (Float `5.`)))"),
+    ("match(type, case)",
+     "(OtherSimple (Call `match(type, case)` (Identifier match) (Positional (Identifier type)) (Positional (Identifier case))))"),
+    # f-strings
+    ("f'é{a} {{b}} {c.d!r}'", "(OtherSimple (FString `f'…r}'` (Identifier a) (Dot d `c.d` (Identifier c))))"),
+    ("fr'' + f'{a != b}{\"}\"!s}'", "(OtherSimple (Op `fr…s}'` (FString `fr''`) (FString `f'…s}'` (Op `a != b` (Identifier a) (Identifier b))"
+     " (String `\"}\"`))))"),
+    ('f"""\n{a[\n"}"]}{ {1: 2} }{f\'{b}\'}"""', '(OtherSimple (FString span=0-35 (Index `a[\n"}"]` (Identifier a) (String `"}"`))'
+     " (Dict `{1: 2}` (Int `1`) (Int `2`)) (FString `f'{b}'` (Identifier b))))"),
+    # bytes that are no ASCII, ends of lines, blanks
+    ("x = 'é', y", "(Assign (Identifier x) (Tuple `'é', y` (String `'é'`) (Identifier y)))"),
+    ("# é\r\nif a:\r\n  b\r\n  c",
+     "(If `if…  c` (Identifier a) (Statements `b\r\n  c` (OtherSimple (Identifier b)) (OtherSimple (Identifier c))))"),
+    ("\ufeff# -*- coding: latin-1 -*-\nx = 'é'", "(Assign `x = 'é'` (Identifier x) (String `'é'`))"),
+    ("", "(Statements span=0-0)"),
+    ("# nothing\n\n", "(Statements span=0-0)"),
+    ("x = \\\n  1\n\t\n'\t\f' # \t\f", "(Statements `x…'\t\f'` (Assign `x…1` (Identifier x) (Int `1`)) (OtherSimple (String `'\t\f'`)))"),
+]
+
+# a script, and where and why it is refused: line:column, and words that are said
+REFUSALS = [
+    ("while a: pass", "1:1", "no `while`"), ("class A: pass", "1:1", "no `class`"), ("import a", "1:1", "no `import`"),
+    ("from a import b", "1:1", "no `from`"), ("x\ntry: a\nexcept: b", "2:1", "no `try`"), ("with a: pass", "1:1", "no `with`"),
+    ("@a\ndef f(): pass", "1:2", "no decorator"), ("async def f(): pass", "1:1", "no `async`"),
+    ("async def f():\n  await x", "1:1", "no `async`"), ("del a", "1:1", "no `del`"), ("assert a", "1:1", "no `assert`"),
+    ("raise a", "1:1", "no `raise`"), ("def f():\n  global a", "2:3", "no `global`"), ("def f():\n  nonlocal a", "2:3", "no `nonlocal`"),
+    ("match a:\n  case 1: pass", "1:1", "no `match`"), ("for a in b: pass\nelse: c", "2:7", "no `else` of a `for`"),
+    ("def f():\n  yield 1", "2:3", "no `yield`"), ("def f():\n  x = yield from a", "2:7", "no `yield`"),
+    ("(a := 1)", "1:2", "no `:=`"), ("a < b < c", "1:1", "no chain of comparisons"), ("a is b", "1:1", "no `is`"),
+    ("a is not b", "1:1", "no `is not`"), ("a ** b", "1:1", "no `**` between expressions"), ("a @ b", "1:1", "no `@`"),
+    ("a **= b", "1:1", "no `**` between expressions"), ("x = {1, 2}", "1:5", "no set in braces"), ("{a for a in b}", "1:1", "no set in braces"),
+    ("f(a for a in b)", "1:2", "no generator"), ("(a for a in b)", "1:1", "no generator"), ("[*a]", "1:2", "no `*` before"),
+    ("a, *b = c", "1:4", "no `*` before"), ("{**a}", "1:1", "no `**` in a dict"), ("[a async for a in b]", "1:1", "no `async`"),
+    ("a = b = c", "1:5", "several targets"), ("x: int", "1:1", "no type without a value"), ("x = 1,", "1:5", "ends with a comma"),
+    ("for a, in b: pass", "1:5", "ends with a comma"), ("a[1,]", "1:3", "one index or two"), ("a[1, 2, 3]", "1:3", "one index or two"),
+    ("a[1, 2,]", "1:3", "one index or two"), ("a[1:2, 3]", "1:3", "no slice among several indices"), ("x = 'a' 'b'", "1:5", "side by side"),
+    ("x = ('a'\n  # b\n  'c')", "1:6", "side by side"), ("f'a' f'{b}'", "1:1", "side by side"), ("b'a' b'b'", "1:1", "side by side"),
+    ("R'a'", "1:1", "no such prefix of a string: R"), ("u'a'", "1:1", "no such prefix"), ("rf'a'", "1:1", "no such prefix"),
+    ("B'a'", "1:1", "no such prefix"), ("1_000", "1:1", "no number of this form: 1_000"), ("00", "1:1", "no number of this form"),
+    ("1j", "1:1", "no number of this form"), ("1_0.5", "1:1", "no number of this form"), ("x = é", "1:5", "letters of ASCII"),
+    ("def é(): pass", "1:1", "letters of ASCII"), ("a.é", "1:1", "letters of ASCII"), ("f(é=1)", "1:3", "letters of ASCII"),
+    ("x = load", "1:5", "`load` is a word"), ("x = load('a', 'b')", "1:5", "`load` is a word"), ("a.load", "1:1", "`load` is a word"),
+    ("(load)('a', 'b')", "1:2", "`load` is a word"), ("def load(): pass", "1:1", "`load` is a word"),
+    ("load()", "1:1", "a load statement names"), ("load('a')", "1:1", "a load statement names"), ("load('a', b)", "1:1", "a load statement names"),
+    ("load('a', *b)", "1:1", "a load statement names"), ("load('a', **b)", "1:1", "a load statement names"),
+    ("load(a='b', c='d')", "1:1", "a load statement names"), ("load('a', 'b' 'c')", "1:11", "side by side"), ("load('a', f'b')", "1:1", "a load"),
+    ("f'{a:>3}'", "1:1", "fields of an f-string"), ("f'{a!a}'", "1:1", "fields of an f-string"), ("f'{a=}'", "1:4", "fields of an f-string"),
+    ("f'{a, b}'", "1:4", "fields of an f-string"), ("f'{a:{b}}'", "1:1", "fields of an f-string"), ("f'{a ** b}'", "1:4", "no `**`"),
+    ("f'\\N{EM DASH}'", "1:1", "before a bracket"), ("f'\\{a}'", "1:1", "before a bracket"),
+    ("x\nif a:\n\tb", "3:1", "a tab"), ("a =\t1", "1:4", "a tab"), ("a\t", "1:2", "a tab"),
+    ("a\n\f\nb", "2:1", "a form feed"), ("a = 1 # b\rc", "1:10", "a carriage return"), ("x = 'é'; y = 1_0", "1:14", "no number"),
+    ("a\0", "1:2", "a byte 0"), (b"# \xc3\xa9\nb = '\xff'", "2:6", "not UTF-8"), (b"\xff\xfea", "1:1", "not UTF-8"),
+    ("\ufeffwhile a: pass", "1:1", "no `while`"), ("x = " + "n" * 256, "1:5", "a name of 256 bytes"),
+    # what Python's parser refuses itself
+    ("def f(a=1, b): pass", "1", "Python's parser says so"), ("f(a=1, 2)", "1", "Python's parser says so"),
+    ("x = = 1", "1", "Python's parser says so"),
+    ("if a:\nb", "2", "Python's parser says so"), ("a\n  b", "2", "Python's parser says so"), ("'a", "1", "Python's parser says so"),
+    ("x = " + "(" * 300 + ")" * 300, "1", "Python's parser says so"), ("x = " + "-" * 9000 + "1", "1", "Python's parser says so"),
+    ("f() = 1", "1", "Python's parser says so"), ("print 'a'", "1", "Python's parser says so"),
+]
+
+
+def lists(depth):
+    """A script of a statement and so many lists in each other."""
+    return "[" * depth + "]" * depth
+
+
+def calls(depth):
+    return "f(" * depth + "a" + ")" * depth
+
+
+# the most calls in each other: a statement, and a call and its argument for each, and the innermost expression
+MOST_CALLS = (numbers.DEPTH - 2) // (1 + tables.weight(numbers.KIND["Positional"]))
+LETTERS = [f"n{number:02}".ljust(126, "_") for number in range(64)]
+# the largest script within a limit, the smallest beyond it, where that is refused, and what is said
+LIMITS = [
+    ("pass\n" * 2099, "pass\n" * 2100, "2100:1", "at most 2100, and here are 2101 nodes"),
+    ("\n".join(LETTERS), "\n".join(LETTERS + ["a"]), "65:1", "at most 8064, and here are 8065 bytes of names"),
+    ("\n".join(LETTERS * 5), "\n".join(LETTERS * 5 + ["a"]), "321:1", "at most 8064, and here are 8065 bytes of names"),
+    (lists(63), lists(64), "1:64", "at most 64, and here are 65 levels"),
+    (calls(MOST_CALLS), calls(MOST_CALLS + 1), "1", "at most 64, and here are 6"),
+    ("x = " + "-" * 62 + "1", "x = " + "-" * 63 + "1", "1:68", "at most 64, and here are 65 levels"),
+    ("n" * 255, "n" * 256, "1:1", "a name of 256 bytes"),
+]
+
+
+def answered(source):
+    """What is made of a script: its table and names, or where and why it is refused."""
+    try:
+        return script.export(source.encode() if isinstance(source, str) else source, "s.star", None), None
+    except script.ScriptError as error:
+        return None, (f"{error.line}:{error.column}", error.message)
+
+
+def quote_all(node):
+    """Gives each node that quotes nothing its name as its quote, or its only child's quote."""
+    for child in node.children:
+        quote_all(child)
+    if node.quote is None and "span" not in node.fields:
+        node.quote = node.name or (node.children[0].quote if node.children else None)
+        if node.children and not node.quote:
+            node.fields["span"] = node.children[0].fields["span"]
+
+
+def tree_in_words(source, words):
+    """The table of a tree in words, and its names."""
+    source = source.encode()
+    root, = tables.trees(words)
+    if root.quote is None:
+        root.fields.setdefault("span", (0, len(source)))
+    quote_all(root)
+    tables.place(root, source)
+    return tables.table_of([root], shared=True)
+
+
+def tree(self, source, words):
+    self.assertEqual(answered(source), (tree_in_words(source, words), None))
+
+
+def refusal(self, source, place, words):
+    made, refused = answered(source)
+    self.assertIsNone(made)
+    self.assertIn(place, (refused[0], refused[0].partition(":")[0]))
+    self.assertIn(words, refused[1])
+
+
+def limit(self, within, beyond, place, words):
+    self.assertIsNone(answered(within)[1])
+    refusal(self, beyond, place, words)
+
+
+@support.each(tree, TREES, "tree")
+class Trees(unittest.TestCase):
+    """A script gives its tree."""
+
+
+@support.each(refusal, REFUSALS, "refusal")
+class Refusals(unittest.TestCase):
+    """A script that is not Starlark, or that Python cannot parse, is refused at its place."""
+
+
+@support.each(limit, LIMITS, "limit")
+class Limits(unittest.TestCase):
+    """The largest script within a limit has a table, the smallest beyond it has none."""
+
+
+class Samples(unittest.TestCase):
+    """Each sample's script gives the table of its text, byte by byte, where Python can parse it."""
+
+    def test_samples(self):
+        given = refused = 0
+        for name in support.samples(".txt"):
+            text = tables.decoded(support.sample(f"{name}.txt"))
+            named = next(line.partition(":")[2].strip() for line in text.split("\n") if line.startswith("script:"))
+            source = support.sample(named)
+            expected = tables.parse_text(f"names: shared\n{text}", support.sample)[:2]
+            line, rule = REFUSED_SAMPLES.get(name, (0, ""))
+            with self.subTest(name):
+                if rule:
+                    refusal(self, source, str(line), "Python's parser says so")
+                    refused += 1
+                elif name == UNSOUND_SAMPLE:
+                    self.assertNotEqual(answered(source), (expected, None))
+                else:
+                    self.assertEqual(answered(source), (expected, None))
+                    given += 1
+        self.assertGreaterEqual(given, 5)
+        self.assertEqual(refused, len(REFUSED_SAMPLES))
+
+
+class Parts(unittest.TestCase):
+    def test_a_table_of_each_statement(self):
+        source = b"x = 1\ndef f(a, b=x):\n    return a\nx\n"
+        parts = script.export_parts(source, "s.star", None)
+        self.assertEqual([tables.kind_name(tables.decode(table)[0].kind) for table, _ in parts], ["Assign", "Def", "OtherSimple"])
+
+    def test_a_large_script(self):
+        self.assertEqual(len(script.export_parts(b"pass\n" * 2100, "s.star", None)), 2100)
+
+    def test_a_part_beyond_a_limit(self):
+        with self.assertRaises(script.ScriptError) as caught:
+            script.export_parts(b"x\n" + lists(64).encode(), "s.star", None)
+        self.assertEqual((caught.exception.line, caught.exception.column), (2, 64))
+
+    def test_any_bytes(self):
+        self.assertEqual(script.export(bytearray(b"pass"), "s.star", None), script.export(b"pass", "s.star", None))
+
+
+# ---- soundness
+
+
+def library_functions(files):
+    """The functions of Python's own library that are Starlark too, as scripts."""
+    for path in files:
+        with open(path, "rb") as file:
+            source = file.read().decode(errors="replace")
+        lines = source.splitlines(keepends=True)
+        for node in ast.walk(ast.parse(source)):
+            if isinstance(node, ast.FunctionDef):
+                function = textwrap.dedent("".join(lines[node.lineno - 1:node.end_lineno]))
+                if answered(function)[0]:
+                    yield function if function.endswith("\n") else function + "\n"
+
+
+def packed(functions):
+    """Scripts one behind the other, as many as a table has room for."""
+    together, nodes, names = "", 1, 0
+    for function in functions:
+        table, of_names = answered(function)[0]
+        if nodes + len(table) // 24 > numbers.NODES or names + len(of_names) > numbers.NAME_BYTES:
+            yield together
+            together, nodes, names = "", 1, 0
+        together, nodes, names = together + function, nodes + len(table) // 24, names + len(of_names)
+    yield together
+
+
+def text_is_right(node, text):
+    """Whether the text of a record is right as far as its kind tells."""
+    expected = {
+        "Identifier": text == node.name, "Normal": text.startswith(node.name), "Named": text.startswith(node.name), "Dot": text.endswith(node.name),
+        "NoArgs": text == b"*", "Slash": text == b"/", "ArgsParam": text[:1] == b"*", "KwArgsParam": text[:2] == b"**",
+        "ArgsArg": text[:1] == b"*", "KwArgsArg": text[:2] == b"**", "Def": text[:4] == b"def ", "Break": text == b"break",
+        "Continue": text == b"continue", "Return": text[:6] == b"return", "List": text[:1] + text[-1:] == b"[]",
+        "Dict": text[:1] + text[-1:] == b"{}", "Call": text[-1:] == b")", "Index": text[-1:] == b"]", "Index2": text[-1:] == b"]",
+        "Slice": text[-1:] == b"]", "Lambda": text[:6] == b"lambda"}
+    return expected.get(tables.kind_name(node.kind), True)
+
+
+class Sound(unittest.TestCase):
+    """Every table that is made is sound, functions of Python's own library among them, and its spans are right."""
+
+    def sound(self, source):
+        source = source.encode()
+        self.assertTrue(support.library().table(*script.export(source, "s.star", None)).accepted, source[:80])
+        for node in tables.preorder([script.joined(script.statements_of(source))]):
+            begin, end = node.fields["span"]
+            self.assertTrue(text_is_right(node, source[begin:end]), (tables.kind_name(node.kind), source[begin:end]))
+            for child in node.children:
+                self.assertTrue(begin <= child.fields["span"][0] <= child.fields["span"][1] <= end, source[begin:end])
+
+    def test_trees_and_limits(self):
+        for source in [source for source, _ in TREES] + [source for source, *_ in LIMITS]:
+            self.sound(source)
+
+    def test_functions_of_python(self):
+        folder = sysconfig.get_paths()["stdlib"]
+        functions = list(library_functions(sorted(glob.glob(os.path.join(folder, "[a-f]*.py")))[:16]))
+        self.assertGreaterEqual(len(functions), 20)
+        for source in packed(functions):
+            self.sound(source)
+
+
+if __name__ == "__main__":
+    unittest.main()

@@ -1,0 +1,49 @@
+#!/usr/bin/env python3
+"""Compares what the documents show with what the command prints.
+
+A block of lines that are indented by four spaces, after the line '<!-- shown: COMMAND -->', is the standard output of COMMAND, run at the
+root. ROOM in a command is a temporary folder. README's first command is such a block without the mark (a reader sees no comment in it), and is
+listed here. Status 1, with a line for each difference, where one differs; so where a document shows nothing.
+"""
+import pathlib
+import re
+import shlex
+import subprocess
+import sys
+import tempfile
+
+ROOT = pathlib.Path(__file__).resolve().parent.parent
+DOCUMENTS = ("docs/COMMANDS.md",)
+MARKED = re.compile(r"^<!-- shown: (.+) -->\n((?:    .*\n|\n(?=    ))+)", re.M)
+FIRST = ("README.md", "./ducat check samples/example.table", "    nodes 6\n    13 14 15\n    55 20 25\n    errors 2\n")
+
+
+def printed(command, room):
+    words = shlex.split(command.replace("ROOM", room))
+    done = subprocess.run(words, cwd=ROOT, stdout=subprocess.PIPE, stderr=subprocess.DEVNULL)
+    return re.sub(r"^(?=.)", "    ", done.stdout.decode(), flags=re.M)
+
+
+def main():
+    faults = []
+    readme = (ROOT / FIRST[0]).read_text()
+    shown = [FIRST]
+    if f"    {FIRST[1]}\n" not in readme or FIRST[2] not in readme:
+        faults.append("README.md does not show the first command with what it prints")
+    if readme.count("\n") > 150:
+        faults.append(f"README.md has {readme.count(chr(10))} lines, and 150 are allowed")
+    for document in DOCUMENTS:
+        found = [(document, command, block.rstrip("\n") + "\n") for command, block in MARKED.findall((ROOT / document).read_text())]
+        shown += found
+        if not found:
+            faults.append(f"{document} shows nothing")
+    with tempfile.TemporaryDirectory() as room:
+        for document, command, block in shown:
+            if printed(command, room) != block:
+                faults.append(f"{document}: `{command}` prints something else than is shown:\n{printed(command, room)}")
+    print("\n".join(faults) or f"shown.py: {len(shown)} commands print what the documents show")
+    return 1 if faults else 0
+
+
+if __name__ == "__main__":
+    sys.exit(main())
