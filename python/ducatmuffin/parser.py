@@ -70,11 +70,12 @@ def joined(statements):
 
 
 class Parser:
-    """Reads tokens one after the other. `kind` and `begin` are those of the next token, `ended` is the end of the last one."""
+    """Reads tokens one after the other. `kind` and `begin` are those of the next token, `ended` is the end of the last one, `closed` the end of the
+    last line of statements: a compound statement ends there."""
 
     def __init__(self, found):
         self.tokens, self.script, self.kinds, self.begins, self.ends = found, found.script, found.kinds, found.begins, found.ends
-        self.at, self.kind, self.begin, self.ended, self.level = 0, found.kinds[0], found.begins[0], 0, 0
+        self.at, self.kind, self.begin, self.ended, self.closed, self.level = 0, found.kinds[0], found.begins[0], 0, 0, 0
 
     def advance(self):
         at = self.at
@@ -152,7 +153,7 @@ class Parser:
             children.append(self.expression())
             detail = 1
         children.append(self.block())
-        return Node(DEF, begin, children[-1].end, children, detail)
+        return Node(DEF, begin, self.closed, children, detail)
 
     def if_statement(self):
         """`elif` is an IfElse in an IfElse."""
@@ -170,7 +171,7 @@ class Parser:
         for begin, children in reversed(parts):
             if otherwise:
                 children.append(otherwise)
-            otherwise = Node(IF_ELSE if len(children) == 3 else IF, begin, children[-1].end, children)
+            otherwise = Node(IF_ELSE if len(children) == 3 else IF, begin, self.closed, children)
         return otherwise
 
     def for_statement(self):
@@ -179,7 +180,7 @@ class Parser:
         target = self.targets()
         self.expect("in")
         children = [target, self.expressions(), self.block()]
-        return Node(FOR, begin, children[-1].end, children)
+        return Node(FOR, begin, self.closed, children)
 
     def simple_line(self, into):
         into.append(self.simple())
@@ -190,6 +191,7 @@ class Parser:
             into.append(self.simple())
         if self.kind == "=":
             raise self.unexpected(WANTED[NEWLINE], "an assignment has one `=`")
+        self.closed = self.ended
         self.expect(NEWLINE)
 
     def simple(self):

@@ -108,6 +108,22 @@ TREES = [
     ("x = \\\n  1\n\t\n'\t\f' # \t\f", "(Statements `x…'\t\f'` (Assign `x…1` (Identifier x) (Int `1`)) (OtherSimple (String `'\t\f'`)))"),
 ]
 
+# trees of scripts that the exporter before this one did not have, and of a `;` at the end of a block, which belongs to the statement around it
+MORE_TREES = [
+    ("if a:\n  if b: c;\n  # d", "(If span=0-16 (Identifier a) (If span=8-16 (Identifier b) (OtherSimple (Identifier c))))"),
+    ("if a: b;\nelif c: d;", "(IfElse (Identifier a) (OtherSimple (Identifier b)) (If `elif c: d;` (Identifier c) (OtherSimple (Identifier d))))"),
+    ("for a in b: c; d;", "(For (Identifier a) (Identifier b) (Statements `c; d` (OtherSimple (Identifier c)) (OtherSimple (Identifier d))))"),
+    ("a: t += b", "(AssignModify:1 (Identifier a) (Identifier t) (Identifier b))"),
+    ("f(a=1, b)", "(OtherSimple (Call `f(a=1, b)` (Identifier f) (Named a `a=1` (Int `1`)) (Positional (Identifier b))))"),
+    ("lambda *, /, **k, n=1: e", "(OtherSimple (Lambda `lambda…: e` (NoArgs `*`) (Slash `/`) (KwArgsParam k `**k`) (Normal:2 n `n=1` (Int `1`))"
+     " (Identifier e)))"),
+    ("not not a", "(OtherSimple (Not `not not a` (Not `not a` (Identifier a))))"),
+    ("- ~ a", "(OtherSimple (Minus `- ~ a` (BitNot `~ a` (Identifier a))))"),
+    ("f'{f'{a}'!r}'", "(OtherSimple (FString `f'{f'{a}'!r}'` (FString `f'{a}'` (Identifier a))))"),
+    ("b'é'", "(OtherSimple (Bytes `b'é'`))"),
+    ("def f(*, a: (t), b=(1)): pass", "(Def (NoArgs `*`) (Normal:1 a `a: (t)` (Identifier t)) (Normal:2 b `b=(1)` (Int `1`)) (OtherSimple `pass`))"),
+]
+
 # a script, and where and why it is not Starlark: line:column and the message
 REFUSALS = [
     ("while a: pass", "1:1", "`while` is a reserved word"), ("class A: pass", "1:1", "`class` is a reserved word"),
@@ -271,7 +287,7 @@ def limit(self, within, beyond, place, words):
     self.assertIn(words, error.message)
 
 
-@support.each(tree, TREES, "tree")
+@support.each(tree, TREES + MORE_TREES, "tree")
 class Trees(unittest.TestCase):
     """A script gives its tree."""
 
@@ -395,7 +411,7 @@ class Sound(unittest.TestCase):
                     at = child.end
 
     def test_trees_and_limits(self):
-        for source in [source for source, _ in TREES] + [source for source, *_ in LIMITS]:
+        for source in [source for source, _ in TREES + MORE_TREES] + [source for source, *_ in LIMITS]:
             self.sound(source)
 
     def test_functions_of_python(self):
