@@ -61,7 +61,7 @@ def faults(log):
     """Each planted fault with the first line of its edit, the jobs that were run and the family in which it showed."""
     words = {edit.name: edit.words for crate in repository.crates() for edit in repository.edits(crate)}
     words |= {f"plant/{path.stem}": repository.Edit(path).words for path in (repository.ROOT / "oracle" / "plant").glob("*.edit")}
-    rows = re.findall(r"^(\w+/\w+) +(\w+(?:,\w+)*) +(.+)$", log, re.M)
+    rows = re.findall(r"^(\w+/\w+) +(call \w+|\w+(?:,\w+)*) +(.+)$", log, re.M)
     last = log.strip().splitlines()[-1]
     return f"**{last}**\n\n" + table(["fault", "what it does", "jobs run", "showed in"], [(n, words.get(n, [""])[0], jobs, at) for n, jobs, at in rows])
 

@@ -15,6 +15,8 @@ A refusal counts only for the right reason. An edit is bad, and the run fails, w
 - the function's code stays the same but for the order of operands that may be exchanged, or does other steps than before: other calls, sums,
   casts, parts, branches. Then its proof would not fit, whatever the answer is. Both are seen in the kit's intermediate code (MIR);
 - the prover does not say which fact it cannot prove (FACTS), but that the proof does not fit, or nothing.
+A public function of a crate whose edits are all tried must have one that is refused at the function's own promise; else the run fails. That an
+edit is wrong, so that some run differs, is shown by oracle/faults-port, whose list has every edit.
 The edits of must-fail are judged in the same way, and not counted, since rt counts them.
 
 A crate without code (demand3, reached, audited, examples) has edits of its definitions: each makes one definition of specs/ wrong, and the
@@ -35,6 +37,7 @@ import time
 from concurrent.futures import ThreadPoolExecutor
 
 import mir
+import promises
 import repository
 from repository import CRATES, HEAD, ROOT, BadEdit, Edit, definition_at, function_at
 
@@ -408,6 +411,8 @@ def of_crate(name, edits, build):
             verdicts |= {edit: (False, said) for edit in settled}
         left = [e for e in left if e not in settled]
         alone = not settled
+    for edit, (_, words) in verdicts.items():
+        edit.told = words
     told = [(edit, right, f"wrong {name}/{edit.label}: {words}") for edit, (right, words) in verdicts.items()]
     return [*told, (None, None, f"wrong {name}: {len(edits)} edits in {checks} checks, {round(time.time() - began)} s")]
 
@@ -461,6 +466,13 @@ def try_the_tool(folder):
     return 0 if verdicts and not believed else 1
 
 
+def without_own(name, edits):
+    """The public functions of a crate at whose own promise no edit is refused."""
+    refused = {function for edit in edits for function in re.findall(r"(?:at|;) (\S+): its promise,", edit.told)}
+    public = [f"{name}::{function.path}" for function in promises.Crate(name).public]
+    return [function for function in public if function not in refused]
+
+
 def main(wanted):
     if wanted[:1] == ["--try"]:
         return try_the_tool(pathlib.Path(wanted[1]))
@@ -471,8 +483,10 @@ def main(wanted):
     verdicts = try_all(by_crate)
     refused = sum(right and edit.counted for edit, right in verdicts)
     failed = sum(not right for _, right in verdicts)
+    bare = [path for name in by_crate if not wanted or name in wanted for path in without_own(name, by_crate[name])]
+    print("".join(f"wrong: {path} has no edit that is refused at its own promise\n" for path in bare), end="")
     print(f"{refused} wrong answers refused, {failed} not")
-    return 0 if verdicts and not failed else 1
+    return 0 if verdicts and not failed and not bare else 1
 
 
 if __name__ == "__main__":

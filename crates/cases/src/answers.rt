@@ -299,6 +299,20 @@ fn say_bound(b: Bound) {
     }
 }
 
+// The audit, and its list of words afterwards, in the same way: an error has four words.
+fn say_audit(table: &[u8], names: &[u8], dialect: &[u8], room: usize) {
+    let mut space = [9u32; 64];
+    let lent: &mut [u32] = &mut space;
+    if lent.len() < room {
+        return;
+    }
+    let list = &mut lent[0..room];
+    let l = audit::audit(table, names, dialect, list);
+    say_listed(l);
+    say(b", words");
+    say_words(list);
+}
+
 // The binding job, and its list of words afterwards: it holds 9 in every word, and is as long as the request says.
 fn say_bind(table: &[u8], names: &[u8], call: usize, def: usize, room: usize) {
     let mut space = [9u32; 64];
@@ -314,7 +328,7 @@ fn say_bind(table: &[u8], names: &[u8], call: usize, def: usize, room: usize) {
 }
 
 // 0 is a heading, 1 the table check, 2 a job's node, 3 the bytes of a dialect, 4 a call's arguments, 5 parameters, 6 a
-// target, 7 an assignment, 8 a type, 9 a module, 10 a binding.
+// target, 7 an assignment, 8 a type, 9 a module, 10 a binding, 11 an audit.
 pub(crate) fn answer(a: Asked, table: &[u8], names: &[u8], dialect: &[u8]) {
     let job = a.job;
     match job {
@@ -327,6 +341,7 @@ pub(crate) fn answer(a: Asked, table: &[u8], names: &[u8], dialect: &[u8]) {
         7 => say_targeted(targets::assignment(table, names, a.node)),
         9 => say_module(table, names, dialect, a.room),
         10 => say_bind(table, names, a.node, a.def, a.room),
+        11 => say_audit(table, names, dialect, a.room),
         _ => say(b""),
     }
 }

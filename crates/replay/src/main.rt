@@ -25,7 +25,7 @@ fn at(counts: &[u64], place: usize) -> u64 {
 }
 
 // How many answers by a judge agree, and the number of the first request whose answer does not, from 1.
-fn say_judged(place: usize, agree: &[u64; 18], differ: &[u64; 18], first: &[u64; 18]) {
+fn say_judged(place: usize, agree: &[u64; 26], differ: &[u64; 26], first: &[u64; 26]) {
     say_number(at(agree, place));
     say(b" agree, ");
     say_number(at(differ, place));
@@ -41,9 +41,9 @@ fn say_counts(
     name: &[u8],
     model: usize,
     of_crate: usize,
-    agree: &[u64; 18],
-    differ: &[u64; 18],
-    first: &[u64; 18],
+    agree: &[u64; 26],
+    differ: &[u64; 26],
+    first: &[u64; 26],
 ) {
     say(name);
     say(b": by the crate ");
@@ -110,9 +110,9 @@ fn main() {
         os::fail(b"requests.bin");
         return;
     }
-    let mut agree = [0u64; 18];
-    let mut differ = [0u64; 18];
-    let mut first = [0u64; 18];
+    let mut agree = [0u64; 26];
+    let mut differ = [0u64; 26];
+    let mut first = [0u64; 26];
     all(fd, &mut agree, &mut differ, &mut first);
     libc::close(fd);
     say_counts(b"table", 0, 1, &agree, &differ, &first);
@@ -122,5 +122,10 @@ fn main() {
     say_counts(b"assignment", 8, 9, &agree, &differ, &first);
     say_counts(b"type", 10, 11, &agree, &differ, &first);
     say_counts(b"module", 12, 13, &agree, &differ, &first);
+    say_counts(b"write", 14, 15, &agree, &differ, &first);
     say_counts(b"bind", 16, 17, &agree, &differ, &first);
+    say_counts(b"rescue", 18, 19, &agree, &differ, &first);
+    say_counts(b"audit", 20, 21, &agree, &differ, &first);
+    say_counts(b"read", 22, 23, &agree, &differ, &first);
+    say_counts(b"check_file", 24, 25, &agree, &differ, &first);
 }

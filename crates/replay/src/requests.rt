@@ -10,8 +10,9 @@ pub(crate) enum Replayed {
     Different(usize),
 }
 
-// The head of a request: the job, how long its parts are, the job's node, and the Def's beside the Call's, the number
-// that it answers, how many words, and whether the crate (1) or the model alone (0) has given the answer.
+// The head of a request: the job, how long its parts are, the job's node, the number that it answers, how many words,
+// and whether the crate (1) or the model alone (0) has given the answer. `second` is the Def's node of a binding, and
+// how long the second buffer of the reader is.
 struct Asked {
     job: usize,
     dialect: usize,
@@ -19,7 +20,7 @@ struct Asked {
     names: usize,
     room: usize,
     node: usize,
-    def: usize,
+    second: usize,
     number: u32,
     words: usize,
     judge: usize,
@@ -29,6 +30,13 @@ struct Asked {
 const MODULE: usize = 6;
 
 const BIND: usize = 8;
+
+const AUDIT: usize = 10;
+
+const CHECK_FILE: usize = 12;
+
+// The reader, whose two buffers are of bytes.
+const READ: usize = 11;
 
 // What each byte of the lent memory is before a job.
 const FILL: u8 = 0xEE;
@@ -46,7 +54,7 @@ fn head_of(head: &[u8]) -> Asked {
         number: fields::word(head, 12),
         words: fields::byte(head, 16) as usize,
         judge: fields::byte(head, 17) as usize,
-        def: fields::half(head, 18) as usize,
+        second: fields::half(head, 18) as usize,
     }
 }
 
@@ -55,12 +63,20 @@ fn bytes_of(words: usize) -> usize {
     4 * (words % 65536)
 }
 
-// How many bytes the recorded buffer has.
-fn buffer_len(job: usize, room: usize) -> usize
+// Whether a job's buffer is of words.
+fn is_listed(job: usize) -> bool {
+    ((job == MODULE) | (job == BIND)) | ((job == AUDIT) | (job == CHECK_FILE))
+}
+
+// How many bytes the recorded buffers have.
+fn buffer_len(job: usize, room: usize, second: usize) -> usize
     ensures { λ r. ⌜ r < 262144 ⌝ }
 {
-    if (job == MODULE) | (job == BIND) {
+    if is_listed(job) {
         return 4 * (room % 65536);
+    }
+    if job == READ {
+        return room % 65536 + second % 65536;
     }
     room % 65536
 }
@@ -68,7 +84,7 @@ fn buffer_len(job: usize, room: usize) -> usize
 // How many bytes stand behind the head.
 fn size_of(a: Asked) -> usize {
     let parts = a.table % 65536 + a.names % 65536 + a.dialect % 65536;
-    parts + 4 * (a.words % 65536) + buffer_len(a.job, a.room)
+    parts + 4 * (a.words % 65536) + buffer_len(a.job, a.room, a.second)
 }
 
 // The next bytes of the file, put at the front of a buffer: whether they were all there.
@@ -94,7 +110,8 @@ fn behind(s: &[u8], len: usize) -> &[u8] {
     &s[0..0]
 }
 
-// A request's job, but for those with a buffer of words: the number that it answers.
+// A request's job, but for the reader and those with a buffer of words: the number that it answers. A file stands where
+// a table does.
 fn run(
     a: Asked,
     table: &[u8],
@@ -110,6 +127,8 @@ fn run(
         2 => starlark_checks::starlark_call(table, names, a.node, out),
         3 => starlark_checks::starlark_target(table, names, a.node, out),
         4 => starlark_checks::starlark_assignment(table, names, a.node, out),
+        7 => starlark_checks::starlark_write(table, names, dialect, buffer, out),
+        9 => starlark_checks::starlark_rescue(table, buffer, out),
         _ => starlark_checks::starlark_type(table, names, dialect, a.node, buffer, out),
     }
 }
@@ -141,7 +160,7 @@ fn is_told(a: Asked, number: u32, answer: &[u8], out: &[u32; 12]) -> bool {
 
 // Whether a request's job leaves number, words and buffer as recorded.
 fn agrees(a: Asked, table: &[u8], names: &[u8], dialect: &[u8], answer: &[u8]) -> bool {
-    let mut space = [FILL; 256];
+    let mut space = [FILL; 2560];
     let mut out = [FILL_WORD; 12];
     let buffer: &mut [u8] = &mut space;
     let room = a.room;
@@ -156,7 +175,38 @@ fn agrees(a: Asked, table: &[u8], names: &[u8], dialect: &[u8], answer: &[u8]) -
     names::same_bytes(front(whole, room), behind(answer, bytes_of(a.words)))
 }
 
-// The module pass or a binding: the number that it answers.
+// Whether the reader leaves number, words and both buffers as recorded.
+fn read_agrees(a: Asked, file: &[u8], answer: &[u8]) -> bool {
+    let mut space = [FILL; 2560];
+    let mut more = [FILL; 2560];
+    let mut out = [FILL_WORD; 12];
+    let table: &mut [u8] = &mut space;
+    let held: &mut [u8] = &mut more;
+    let room = a.room;
+    let second = a.second;
+    if table.len() < room {
+        return false;
+    }
+    if held.len() < second {
+        return false;
+    }
+    let number = starlark_checks::starlark_read(
+        file,
+        &mut table[0..room],
+        &mut held[0..second],
+        &mut out,
+    );
+    if !is_told(a, number, answer, &out) {
+        return false;
+    }
+    let read = behind(answer, bytes_of(a.words));
+    let whole_table = &table[..];
+    let whole_names = &held[..];
+    names::same_bytes(front(whole_table, room), front(read, room))
+        & names::same_bytes(front(whole_names, second), behind(read, room))
+}
+
+// The module pass, a binding, the audit or the check of a file: the number that it answers.
 fn run_listed(
     a: Asked,
     table: &[u8],
@@ -165,10 +215,13 @@ fn run_listed(
     list: &mut [u32],
     out: &mut [u32; 12],
 ) -> u32 {
-    if a.job == MODULE {
-        return starlark_checks::starlark_module(table, names, dialect, list, out);
+    let job = a.job;
+    match job {
+        MODULE => starlark_checks::starlark_module(table, names, dialect, list, out),
+        BIND => starlark_checks::starlark_bind(table, names, a.node, a.second, list, out),
+        AUDIT => starlark_checks::starlark_audit(table, names, dialect, list, out),
+        _ => starlark_checks::starlark_check_file(table, list, out),
     }
-    starlark_checks::starlark_bind(table, names, a.node, a.def, list, out)
 }
 
 // The same for those, whose buffers are of words.
@@ -196,8 +249,11 @@ fn is_same(a: Asked, body: &[u8]) -> bool {
     let left = behind(left, a.names);
     let dialect = front(left, a.dialect);
     let answer = behind(left, a.dialect);
-    if (a.job == MODULE) | (a.job == BIND) {
+    if is_listed(a.job) {
         return list_agrees(a, table, names, dialect, answer);
+    }
+    if a.job == READ {
+        return read_agrees(a, table, answer);
     }
     agrees(a, table, names, dialect, answer)
 }

@@ -48,7 +48,7 @@ pub largest-number : (bs buffer : List ℕ) (r : Rescued) (after : List ℕ)
     → ⊥)))
 largest-number bs buffer r after a b k e f =
     let l = theorem.largest-number bs buffer r after (a, b) k e f in
-    (l .some, (l .passed, (l .cut, λ j h x y z. l .none j h (x, (y, z)))))
+    (l .some, (l .passed, (l .cut, λ j h x y z. l .none j h (x, y, z))))
 
 -- "90 a bad header (74 and 5 included) or name block"
 -- In words: the rescue refuses with 90 exactly where the header or a name block is bad.
@@ -84,8 +84,8 @@ pub nothing-can-be-kept : (bs buffer : List ℕ) (r : Rescued) (after : List ℕ
     → ⊥)))
 nothing-can-be-kept bs buffer r after a b =
     let t = theorem.nothing-can-be-kept bs buffer r after (a, b) in (
-      λ h p n. t .0 record { head = h; blocks = p; none = λ j o x. n j o (x .0) (x .1 .0) (x .1 .1) },
-      λ e. (t .1 e .head, (t .1 e .blocks, λ j o x y z. t .1 e .none j o (x, (y, z)))),
+      λ h p n. t .0 record { head = h; blocks = p; none = λ j o x. n j o (x .0) (x .1) (x .2) },
+      λ e. (t .1 e .head, (t .1 e .blocks, λ j o x y z. t .1 e .none j o (x, y, z))),
     )
 
 -- "Names and dialect are kept whole": the output is accepted by the reader

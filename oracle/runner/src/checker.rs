@@ -14,6 +14,8 @@ use model::jobs;
 use model::module;
 use model::module::Listed;
 use model::numbers::number;
+use model::planted::planted;
+use model::planted::Fault;
 use model::table::Class;
 use model::table::Record;
 use model::table::Table;
@@ -227,6 +229,8 @@ impl Checker {
     }
 
     fn compare(&mut self, request: &Request, model: &Answer, judged: Built<Answer>) {
+        let is_unjudged = planted(Fault::LargeTreesUnjudged) && request.table.len() > 12 * RECORD_BYTES;
+        let judged = if is_unjudged { Err(NotATree) } else { judged };
         self.count_job(request.job.index());
         self.count_numbers(request.job.index(), model);
         self.tally.refused += u64::from(is_ours(model.number));

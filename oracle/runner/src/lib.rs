@@ -95,11 +95,9 @@ fn tallies(done: Vec<Done>) -> Vec<Tally> {
 }
 
 fn write_sample(path: &str, done: &[Done]) {
-    let recorders = || done.iter().filter_map(|part| part.checker.recorder.as_ref());
-    let bytes: Vec<u8> = recorders().flat_map(|recorder| recorder.bytes.iter().copied()).collect();
+    let (bytes, by) = record::sample(done.iter().filter_map(|part| part.checker.recorder.as_ref()));
     std::fs::write(path, &bytes).unwrap_or_else(|error| panic!("{path}: {error}"));
-    let by = |judge: usize| -> u64 { recorders().map(|recorder| recorder.requests[judge]).sum() };
-    let (crate_s, model_s) = (by(record::CRATE), by(record::MODEL));
+    let (crate_s, model_s) = (by[record::CRATE], by[record::MODEL]);
     println!("{crate_s} answers of the crate and {model_s} of the model, {} bytes, are in {path}", bytes.len());
 }
 

@@ -86,6 +86,12 @@ impl Options {
         self.is_whole() && !self.chosen
     }
 
+    /// Whether a family is run with all its jobs and inputs, so that its counts tell something.
+    pub fn runs_to_its_end(&self, family: &Family) -> bool {
+        let has_program = self.program.is_some() || family.jobs != 1 << FILE;
+        !self.stop && !self.chosen && has_program && self.asks(family)
+    }
+
     /// Whether a family is to be run: its name is asked for, and one of its jobs is.
     pub fn asks(&self, family: &Family) -> bool {
         let named = self.only.as_ref().is_none_or(|only| family.name.contains(only.as_str()));

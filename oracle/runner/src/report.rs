@@ -38,13 +38,13 @@ pub fn print(options: &Options, tallies: &[Tally]) -> ExitCode {
         println!("never given, so the run says nothing of them: {}", never.join(", "));
     }
     let mut few = too_few(options, &all);
-    few.extend(empty(options, tallies));
+    few.extend(too_few_of_families(options, tallies));
     let python_is_run = options.is_all() && options.python.is_some();
     if python_is_run && all.by_python < LEAST_PYTHON {
         few.push(format!("calls put to Python {} of {LEAST_PYTHON}", all.by_python));
     }
     if !few.is_empty() {
-        println!("too few jobs for the whole comparison: {}", few.join(", "));
+        println!("too few: {}", few.join(", "));
     }
     if all.by_python > 0 {
         println!("compare: {} calls were made by Python too", all.by_python);
@@ -58,10 +58,15 @@ pub fn print(options: &Options, tallies: &[Tally]) -> ExitCode {
     ExitCode::from(u8::from(all.differences > 0 || is_lacking))
 }
 
-/// The families of which the whole comparison has run nothing.
-fn empty(options: &Options, tallies: &[Tally]) -> Vec<String> {
-    let asked = families::ALL.iter().zip(tallies).filter(|(family, _)| options.is_all() && options.asks(family));
-    asked.filter(|(_, tally)| tally.jobs == 0).map(|(family, _)| format!("{} 0", family.name)).collect()
+/// What the families that were run to their end have too little of.
+fn too_few_of_families(options: &Options, tallies: &[Tally]) -> Vec<String> {
+    let run = families::ALL.iter().zip(tallies).filter(|(family, _)| options.runs_to_its_end(family));
+    run.flat_map(|(family, tally)| {
+        let counted = [("jobs", tally.jobs), ("judged by the crate", tally.by_crate), ("others", tally.others)];
+        let few = counted.into_iter().zip(family.least).filter(|((_, count), least)| count < least);
+        few.map(|((what, count), least)| format!("{}: {what} {count} of {least}", family.name)).collect::<Vec<_>>()
+    })
+    .collect()
 }
 
 fn each_job(all: &Tally) -> String {

@@ -107,7 +107,7 @@ impl List {
 
 /// Two names in lists of both kinds, the first of them in front and the second at the end; and in a binding, the first a parameter's and the
 /// second an argument's.
-fn check_pair(checker: &mut Checker, entries: usize, first: &[u8], second: &[u8]) {
+pub fn check_pair(checker: &mut Checker, entries: usize, first: &[u8], second: &[u8]) {
     let mut names = vec![first.to_vec()];
     names.extend((2..entries).map(filler));
     names.push(second.to_vec());
