@@ -65,13 +65,17 @@ module _ {d e : Dialect} (all : Permits d e) (names : List ℕ) where
   unfolding opened
   opens-def r ks = opens-with (d .«enable_def») (e .«enable_def») defNotPermitted r ks (all .def) refl
 
+  load-number : opened d e loadNotPermitted ≡ newly (d .«enable_load») (e .«enable_load»)
+  unfolding opened
+  load-number = refl
+
   opens-load : (s : Standing) (r : Node)
       → Opens d e (unless (s .«top_level») loadNotAtTop r ++ unless (d .«enable_load») loadNotPermitted r)
       (unless (s .«top_level») loadNotAtTop r ++ unless (e .«enable_load») loadNotPermitted r)
   unfolding opened
   opens-load s r =
       opens-both (placed (s .«top_level»))
-      (opens-unless (d .«enable_load») (e .«enable_load») loadNotPermitted r (all .load) refl)
+      (opens-unless (d .«enable_load») (e .«enable_load») loadNotPermitted r (all .load) load-number)
     where
       placed : (b : Bool) → Opens d e (unless b loadNotAtTop r) (unless b loadNotAtTop r)
       placed true = opens-none
