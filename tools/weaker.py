@@ -453,7 +453,8 @@ class Module:
             text = "\n".join(lines)
             uses = "".join(f"use {self.place(crate, r, new)}.{{{new}}}\n" for r, new, _ in records if (r.foreign or r.path != file) and new in text)
             planted = set(re.findall(r"[^\s(){}.,;]+", " ".join(t for texts in places.values() for t in texts)))
-            for n in sorted(crate.needs & set(crate.known) & planted):
+            wanted = crate.needs & planted
+            for n in sorted((wanted | {f"_{n}_" for n in wanted}) & set(crate.known)):  # an operator is imported as _≡_
                 if not re.search(rf"^use .*[{{ ]{re.escape(n)}[,}}]", text, re.M) and crate.known[n] != crate.module(file):
                     uses += f"use {crate.known[n]}.{{{n}}}\n"
             first = re.search(r"^use ", text, re.M).start()

@@ -468,6 +468,8 @@ def try_the_tool(folder):
 
 def without_own(name, edits):
     """The public functions of a crate at whose own promise no edit is refused."""
+    if not repository.has_code(name):
+        return []
     refused = {function for edit in edits for function in re.findall(r"(?:at|;) (\S+): its promise,", edit.told)}
     public = [f"{name}::{function.path}" for function in promises.Crate(name).public]
     return [function for function in public if function not in refused]

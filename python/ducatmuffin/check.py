@@ -12,9 +12,9 @@ MODULE = "none of 10 to 18 and 50 to 61; 20 to 45 (calls, targets, types) are no
 STEP = "a script's table is made by ducat's own parser, and that step is not proved"
 MADE = "made from the script by ducat's own parser; that step is not proved"
 TEXT = frozenset(range(32, 127)) | frozenset(range(128, 256)) | frozenset(b"\t\n\r\f")
-VERDICTS = ("accepted", "errors", "refused", "unreadable", "no table", "syntax")
-ACCEPTED, ERRORS, REFUSED, UNREADABLE, NO_TABLE, SYNTAX = range(6)
-STATUS = (0, 1, 2, 2, 2, 1)
+VERDICTS = ("accepted", "errors", "refused", "unreadable", "no table", "syntax", "no opening")
+ACCEPTED, ERRORS, REFUSED, UNREADABLE, NO_TABLE, SYNTAX, NO_OPENING = range(7)  # the last is against.py's
+STATUS = (0, 1, 2, 2, 2, 1, 2)
 REPEATED = {11: "parameter", 22: "argument"}  # the errors that have an earlier place
 
 
@@ -368,10 +368,11 @@ class Totals:
         return {"files": self.files, "with_errors": self.faulty, "refused": self.refused, "not_read": self.unread, "errors": self.errors}
 
 
-def run(library, options, found, jobs, out, front):
-    """Checks all inputs and prints what is found of them. Returns the exit status. `front` is what JSON has first."""
+def run(library, options, found, jobs, out, front, checker=None, totals=None):
+    """Checks all inputs and prints what is found of them. Returns the exit status. `front` is what JSON has first. `checker` and `totals` stand in for
+    those of a plain check."""
     from .workers import answers
-    checker, totals = Checker(library, options), Totals()
+    checker, totals = checker or Checker(library, options), totals or Totals()
     if any(one.script for one in found) and not options.json and not options.quiet:
         say(STEP)
     report = Report(out, front) if options.json and not options.quiet else None

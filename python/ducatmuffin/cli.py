@@ -51,6 +51,17 @@ Errors are sorted by begin, end and number. For a script an error is PATH:LINE:C
 with the line and carets. A script that is not Starlark has the one error PATH:LINE:COLUMN: syntax: and what
 is wrong. With several inputs the name of each comes first, and a line of totals last."""
 
+AGAINST = """With --against DIALECT each input is checked in its own dialect and in DIALECT, and this prints what the move from
+one to the other does to the errors of the module pass (10 to 18 and 50 to 61):
+  opens SWITCH...             the switches that DIALECT permits and the input's own dialect does not, or nothing
+  an error in a line          each error that the move takes out, in the usual form
+  taken out N, left M         how many these are, and how many errors the module pass has in DIALECT
+and then the errors of the other jobs in DIALECT, with `other errors N`. Where top-level statements open and there were
+errors, no theorem ties the two lists, and in place of the errors both totals are printed. Where DIALECT does not
+permit all that the input's own dialect does, the one line is
+  no opening, closes SWITCH...
+The exit status is that of DIALECT: 0 no job has an error in it; 1 one has; 2 also where it is no opening."""
+
 CHECK_MORE = """No more than 59,905 bytes of a table file are read, one more than the largest has, and no more than 16,777,216
 of a script. A script's table is made by ducat's own parser; that step is not proved.
 
@@ -181,7 +192,7 @@ def add_list(parser):
 
 
 def check_parser():
-    parser = make_parser("check", CHECK, CHECK_MORE)
+    parser = make_parser("check", CHECK, f"{AGAINST}\n\n{CHECK_MORE}")
     parser.add_argument("paths", metavar="PATH", nargs="*")
     parser.add_argument("--module", action="store_true",
                         help="run the module pass alone (10 to 18 and 50 to 61), as the program of document 01; its own order is kept")
@@ -191,6 +202,8 @@ def check_parser():
     parser.add_argument("--bad-only", action="store_true", help="print only inputs that have errors, are refused or cannot be read")
     parser.add_argument("--script", metavar="SCRIPT", help="the script of the table files, for lines and columns")
     add_dialect(parser, "of scripts; a table file has its own")
+    parser.add_argument("--against", metavar="DIALECT", help="say what the move to DIALECT, which must permit all that the input's own does, does to its "
+                        "errors; a name or nine digits as for --dialect")
     parser.add_argument("--exclude", metavar="GLOB", action="append", default=[],
                         help="leave out what a search finds and whose name or path matches; may be repeated")
     add_as_script(parser)
@@ -300,12 +313,12 @@ def open_library():
     return found
 
 
-def dialect_word(word):
+def dialect_word(word, option="--dialect"):
     from . import dialects
     try:
         return dialects.of(word)
     except ValueError as error:
-        raise Failed(f"--dialect: {error}") from None
+        raise Failed(f"{option}: {error}") from None
 
 
 class Configured:
@@ -379,6 +392,10 @@ def check(words, out):
     options = parse(check_parser(), words)
     if not options.paths and options.files_from is None:
         raise Failed("no PATH is named (`ducat check --help` says how)")
+    if options.against is not None:
+        if options.module:
+            raise Failed("--against runs the module pass and the other jobs: --module is not for it")
+        options.against = dialect_word(options.against, "--against") or b""
     configured = Configured(options)
     search = found_in(options, configured, options.paths)
     if configured.given and options.files_from is None and not any(could_be_script(path, options.stdin_filename, configured.as_script) for path in options.paths):
@@ -394,8 +411,13 @@ def check(words, out):
     json = options.format == "json"
     many = len(search.found) > 1 or bool(search.empty) or any(one.path not in options.paths for one in search.found if one.path is not None)
     how = job.Options(options.module, options.explain and not json, options.quiet, options.bad_only, json, many, configured.dialect, script)
-    front = head("check", library, configured.in_json(), module=options.module) if json else None
-    status = job.run(library, how, search.found, options.jobs, out, front)
+    if options.against is not None:
+        from . import against
+        status = against.run(library, how, options.against, search.found, options.jobs, out,
+                             against.front(library, configured.in_json(), options.against) if json else None)
+    else:
+        front = head("check", library, configured.in_json(), module=options.module) if json else None
+        status = job.run(library, how, search.found, options.jobs, out, front)
     return max(status, 2 if search.empty else 0)
 
 

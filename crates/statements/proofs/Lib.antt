@@ -9,8 +9,10 @@ pub mod Binding
 pub mod BindingRoom
 pub mod Shapes
 pub mod Module
+pub mod Opening
 pub mod AuditList
 pub mod Audit
+pub mod OpeningAudit
 pub mod TableFile
 pub mod Writer
 pub mod Rescue

@@ -29,14 +29,14 @@ pub enum Listed {
 }
 
 // Where a statement stands.
-pub(crate) struct Standing {
+pub struct Standing {
     pub top_level: bool,
     pub inside_for: bool,
     pub inside_def: bool,
 }
 
 // What is to be done at a statement.
-pub(crate) enum Arm {
+pub enum Arm {
     Def, // a def: what it is told itself, then its body
     Load, // a load: what it is told, and nothing below
     Told(u32), // one error, and nothing below
@@ -44,7 +44,7 @@ pub(crate) enum Arm {
 }
 
 // A mark in a parameter list that a dialect may not permit.
-pub(crate) enum Mark {
+pub enum Mark {
     Star, // the bare `*`
     Slash,
 }

@@ -183,6 +183,12 @@ impl Effect {
         &mut self.words[GUARD..end]
     }
 
+    /// The words of the errors that a list holds after its job, where they all fit.
+    pub fn listed(&self, width: usize) -> &[u32] {
+        assert_eq!(self.number, 0, "the job accepts");
+        &self.words[GUARD..GUARD + width * self.out[GUARD] as usize]
+    }
+
     /// The dialect without its guards; a job that takes none has none here.
     fn lent_dialect(&self) -> &[u8] {
         self.dialect.get(GUARD..self.dialect.len().saturating_sub(GUARD)).unwrap_or(&[])

@@ -10,6 +10,7 @@ pub mod largest;
 pub mod lists;
 pub mod modules;
 pub mod names;
+pub mod openings;
 pub mod python;
 pub mod reads;
 pub mod rescues;
@@ -122,6 +123,8 @@ pub const ALL: &[Family] = &[
     family("modules, all dialects", 2, MODULE, modules::all_dialects, [454_060, 454_060, 27_860]),
     family("modules, random", 2, MODULE | PARAMS | CALL | BIND, modules::random, [355_230, 342_710, 20_970]),
     family("modules, large", 2, MODULE | PARAMS | CALL | BIND, modules::large, [6_510, 5_050, 260]),
+    family("openings, all pairs", 2, MODULE, openings::all_pairs, [0, 0, 0]),
+    family("openings, single steps", 2, MODULE | AUDIT, openings::single_steps, [0, 0, 0]),
     family("no tree of the crate", 2, ARCHIVE, modules::no_trees, [1_302_200, 417_720, 65_300]),
     family("tables, rules of children", 2, TABLE, tables::children, [364_860, 0, 0]),
     family("tables, every byte", 2, ARCHIVE, tables::every_byte, [831_480, 7_380, 2_940]),

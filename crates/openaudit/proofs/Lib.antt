@@ -1,0 +1,4 @@
+pub mod Numbers
+pub mod Stays
+pub mod Theorems
+pub mod Example

@@ -1,0 +1,103 @@
+-- What an opening does to the two parts of the audit's list. The first part is the module pass's without 10 to 18:
+-- taking out the opened numbers and leaving out those of lists can be done in either order (`own-swaps`). The second
+-- part is what the other jobs refuse: all its numbers lie below 50, so nothing is taken out (`refusals-stay`), and it
+-- reads of the dialect only whether it has types (`refusals-same`). The induction is on the list of errors, or of
+-- trees. Assumes nothing.
+use mathlib.Core.Path.{_≡_, refl, ap, _∙_}
+use mathlib.Core.Bool.{Bool, true, false}
+use mathlib.Core.List.{List, [], _∷_, _++_}
+use Prim.Native.Nat.{ℕ}
+use borrow.Author.Tests.{ltb-true}
+use Rattle.fields.specs.Choice.{if'}
+use Rattle.dialect.specs.declared.Dialect.{Dialect}
+use Rattle.dialect.specs.Rows.{permitsTypes}
+use Rattle.forest.specs.Forest.{Tree, node}
+use Rattle.table.specs.Answer.{Answer, accepted, refused}
+use Rattle.table.specs.Check.{wants}
+use Rattle.table.specs.declared.Wanted.the-variants.{Parameters, Call, Assignment}
+use Rattle.deflist.specs.Written.{writtenIn}
+use Rattle.arguments.specs.Job.{callAnswer}
+use Rattle.targets.specs.Targets.{counted, «check_assignment»}
+use Rattle.types.specs.Types.{«dialect_check_type»}
+use Rattle.errors.specs.declared.Err.{Err}
+use Rattle.errors.specs.declared.Listing.the-variants.{Own}
+use Rattle.errors.specs.Errors.{isListError, withoutLists, kept}
+use Rattle.opening.specs.Opening.{opened, without}
+use Rattle.opening.proofs.Filters.{without-append, without-one, small-stays, unpack-stays}
+use Rattle.audit.specs.declared.Role.{Role}
+use Rattle.audit.specs.declared.Role.the-variants.{AsTarget, AsType, Plain}
+use Rattle.audit.specs.Roles.{Placed, kindIn}
+use Rattle.audit.specs.Refusals.{refusedErr, answerErrors, kindErrors, roleErrors, refusedThere, refusals}
+use Rattle.openaudit.proofs.Numbers.{small, call-small, target-small, assignment-small, type-small}
+
+-- LAW: two filters, in either order
+pub own-swaps : (out : ℕ → Bool) (es : List Err) → kept Own (without out es) ≡ without out (kept Own es)
+unfolding without withoutLists
+own-swaps out [] = refl
+own-swaps out (e ∷ es) = go (out (e .number)) (isListError (e .number)) refl refl (own-swaps out es)
+  where
+    go : (a b : Bool) → out (e .number) ≡ a → isListError (e .number) ≡ b
+        → withoutLists (without out es) ≡ without out (withoutLists es)
+        → withoutLists (if' a (λ _. without out es) (λ _. e ∷ without out es))
+        ≡ without out (if' b (λ _. withoutLists es) (λ _. e ∷ withoutLists es))
+    go true true p q rest = rest
+    go true false p q rest = rw p rest
+    go false true p q rest = rw q rest
+    go false false p q rest = rw (p, q) (ap (λ (xs : List Err). e ∷ xs) rest)
+
+module _ (d e : Dialect) where
+  -- nothing of a list is taken out
+  abbrev Stay : List Err → Type 0
+  Stay es = without (opened d e) es ≡ es
+
+  stay-none : Stay []
+  unfolding without
+  stay-none = refl
+
+  stay-both : (es fs : List Err) → Stay es → Stay fs → Stay (es ++ fs)
+  stay-both es fs p q = without-append (opened d e) es fs ∙ rw (p, q) refl
+
+  stay-if : (b : Bool) (x y : Unit {0} → List Err) → Stay (x tt) → Stay (y tt) → Stay (if' b x y)
+  stay-if true x y p q = p
+  stay-if false x y p q = q
+
+  stay-answer : (a : Answer) → small a ≡ true → Stay (answerErrors a)
+  stay-answer (accepted vs) h = stay-none
+  stay-answer (refused n vs) h =
+      without-one (opened d e) (refusedErr n vs) (small-stays d e n (ltb-true n 50 h))
+
+  -- at one tree, by its kind and by its role; and at trees in turn
+  stay-kind : (names : List ℕ) (t : Tree) → Stay (kindErrors names t)
+  unfolding kindErrors
+  stay-kind names t =
+      stay-if (wants Parameters (kindIn t)) _ _ (unpack-stays d e (writtenIn names t))
+      (stay-if (wants Call (kindIn t)) _ _ (stay-answer (callAnswer names t) (call-small names t))
+      (stay-if (wants Assignment (kindIn t)) _ _ (stay-answer («check_assignment» t) (assignment-small t)) stay-none))
+
+  stay-role : (x : Dialect) (names : List ℕ) (role : Role) (t : Tree) → Stay (roleErrors x names role t)
+  unfolding roleErrors
+  stay-role x names AsTarget t = stay-answer (counted 0 t) (target-small 0 t)
+  stay-role x names AsType t = stay-answer («dialect_check_type» names (x .«enable_types») t) (type-small names _ t)
+  stay-role x names Plain t = stay-none
+
+  -- LAW: nothing of what the jobs refuse is taken out
+  pub refusals-stay : (x : Dialect) (names : List ℕ) (ps : List Placed) → Stay (refusals x names ps)
+  unfolding refusals refusedThere
+  refusals-stay x names [] = stay-none
+  refusals-stay x names (p ∷ ps) =
+      stay-both (kindErrors names (p .tree) ++ roleErrors x names (p .role) (p .tree)) (refusals x names ps)
+      (stay-both (kindErrors names (p .tree)) (roleErrors x names (p .role) (p .tree)) (stay-kind names (p .tree))
+      (stay-role x names (p .role) (p .tree))) (refusals-stay x names ps)
+
+  -- LAW: and it is the same in both dialects, where both have types or neither has
+  module _ (agree : permitsTypes (d .«enable_types») ≡ permitsTypes (e .«enable_types»)) (names : List ℕ) where
+    same-role : (role : Role) (t : Tree) → roleErrors e names role t ≡ roleErrors d names role t
+    unfolding roleErrors «dialect_check_type»
+    same-role AsTarget t = refl
+    same-role AsType (node r ks) = rw agree refl
+    same-role Plain t = refl
+
+    pub refusals-same : (ps : List Placed) → refusals e names ps ≡ refusals d names ps
+    unfolding refusals refusedThere
+    refusals-same [] = refl
+    refusals-same (p ∷ ps) = rw (same-role (p .role) (p .tree), refusals-same ps) refl

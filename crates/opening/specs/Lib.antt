@@ -1,0 +1,3 @@
+pub mod Opening
+pub mod Clauses
+pub mod Example

@@ -1,0 +1,176 @@
+"""ducat check --against DIALECT: what the move of an input from its own dialect to one that permits more does to its errors.
+
+Both lists are answers of the proved library. Where DIALECT permits all that the input's own dialect does, and both agree on top-level
+statements, the second list of the module pass is the first without the numbers of the switches that open (crates/opening): so what the move takes
+out is what the second answer lacks. An answer that is no part of the other one is a fault, and ends the command.
+"""
+from . import check, dialects
+from .library import Refusal
+from .numbers import DIALECTS, NODE_BYTES
+from .output import encoded, head
+
+SWITCHES = ("enable_def", "enable_lambda", "enable_load", "enable_keyword_only_arguments", "enable_positional_only_arguments", "enable_types",
+            "enable_load_reexport", "enable_top_level_stmt", "enable_f_strings")  # in the order of the nine bytes
+TOP_LEVEL = SWITCHES.index("enable_top_level_stmt")
+PASS = "module pass (10 to 18 and 50 to 61):"
+OTHERS = "other jobs, in the new dialect:"
+NOT_TIED = "enable_top_level_stmt opens and there were errors, so no theorem ties the two lists"
+
+
+def row(dialect):
+    """The nine bytes of a dialect; of none Extended's are meant."""
+    return dialect or DIALECTS[dialects.MEANT]
+
+
+def raised(first, second):
+    """The switches that the second of two rows has higher."""
+    return [name for name, a, b in zip(SWITCHES, first, second) if a < b]
+
+
+def place(error):
+    return error.number, error.begin, error.end
+
+
+def lacking(first, second):
+    """The errors of a list that another lacks, which is the list with some taken out."""
+    out, at = [], 0
+    for error in first:
+        if at < len(second) and place(second[at]) == place(error):
+            at += 1
+        else:
+            out.append(error)
+    if at < len(second):
+        raise AssertionError("the errors in the new dialect are no part of those in the old one, which crates/opening proves that they are")
+    return out
+
+
+def besides(errors, known):
+    """The errors of the audit that the module pass does not list."""
+    left = {}
+    for error in known:
+        left[place(error)] = left.get(place(error), 0) + 1
+    out = []
+    for error in errors:
+        if left.get(place(error)):
+            left[place(error)] -= 1
+        else:
+            out.append(error)
+    return out
+
+
+class Move:
+    """What the move does: the switches that open and close, the module pass's totals before and after, and the errors that are taken out (None where the
+    lists are not tied); the errors of the other jobs after it."""
+
+    def __init__(self, first, second):
+        self.opens, self.closes = raised(first, second), raised(second, first)
+        self.tied, self.before, self.after, self.out, self.others = True, 0, 0, None, ()
+
+    def compare(self, before, after, audit):
+        self.before, self.after = before.total, after.total
+        self.tied = SWITCHES[TOP_LEVEL] not in self.opens or not before.total
+        if self.tied:
+            self.out = lacking(before.errors, after.errors)
+        self.others = besides(audit, after.errors)
+
+
+class Comparer(check.Checker):
+    """Checks each input in its own dialect and in another one."""
+
+    def __init__(self, library, options, against):
+        super().__init__(library, options)
+        self.against = against
+
+    def judge(self, found):
+        table, names, own = found.table, found.names, found.dialect
+        found.move, found.from_ = None, own
+        before = self.library.module(table, names, own or b"")
+        if type(before) is Refusal:
+            self.refused(found, before)
+            return
+        found.dialect = self.against
+        after, audit = self.library.module(table, names, self.against), self.library.audit(table, names, self.against)
+        if type(after) is Refusal:
+            self.refused(found, after)
+            return
+        found.nodes, found.move = len(table) // NODE_BYTES, Move(row(own), row(self.against))
+        if found.move.closes:
+            found.verdict = check.NO_OPENING
+            return
+        found.total = audit.total
+        found.errors = sorted(audit.errors, key=lambda error: (error.begin, error.end, error.number))
+        found.move.compare(before, after, found.errors)
+        found.verdict = check.ERRORS if found.total or after.total else check.ACCEPTED
+
+    # ---- printing
+
+    def lines(self, found):
+        if found.verdict in (check.UNREADABLE, check.NO_TABLE, check.SYNTAX, check.REFUSED):
+            return super().lines(found)
+        move, script = found.move, found.one.script
+        said = f", from {dialects.told(found.from_, script)} to {dialects.name_of(row(self.against))}" if self.options.explain else ""
+        lines = [f"nodes {found.nodes}{said}"]
+        if found.verdict == check.NO_OPENING:
+            return joined([*lines, f"no opening, closes {', '.join(move.closes)}"])
+        lines += [f"opens {', '.join(move.opens) or 'nothing'}", PASS]
+        source = self.source_of(found)
+        if move.tied:
+            for error in move.out:
+                lines += self.error(found, source, error)
+            lines.append(f"taken out {len(move.out)}, left {move.after}")
+        else:
+            lines.append(f"{NOT_TIED}: before {move.before}, after {move.after}")
+        lines.append(OTHERS)
+        for error in move.others:
+            lines += self.error(found, source, error)
+        covered = f": {check.ALL}" if self.options.explain and found.verdict == check.ACCEPTED else ""
+        return joined([*lines, f"other errors {len(move.others)}{covered}"])
+
+    # ---- JSON
+
+    def entry(self, found):
+        entry = super().entry(found)
+        if found.table is not None:
+            entry["dialect"] = dialects.in_json(found.from_)
+        move = getattr(found, "move", None)
+        if move is None:
+            return entry
+        entry.update(opens=move.opens, closes=move.closes)
+        if found.verdict == check.NO_OPENING:
+            del entry["errors"]
+            return entry
+        source = self.source_of(found)
+        taken = [self.in_json(found, source, error) for error in move.out] if move.tied else None
+        entry.update(tied=move.tied, before=move.before, taken_out=taken, left=move.after)
+        return entry
+
+
+def joined(lines):
+    return encoded("\n".join(lines) + "\n")
+
+
+class Totals(check.Totals):
+    """What a run has found, with the inputs for which the new dialect is no opening."""
+
+    def __init__(self):
+        super().__init__()
+        self.closing = 0
+
+    def add(self, answer):
+        super().add(answer)
+        self.closing += answer.verdict == check.NO_OPENING
+
+    def line(self):
+        return f"{super().line()}, no opening {self.closing}"
+
+    def in_json(self):
+        return {**super().in_json(), "no_opening": self.closing}
+
+
+def front(library, configuration, against):
+    """What JSON has first."""
+    return head("check", library, configuration, module=False, against=dialects.in_json(against))
+
+
+def run(library, options, against, found, jobs, out, first):
+    return check.run(library, options, found, jobs, out, first, Comparer(library, options, against), Totals())
