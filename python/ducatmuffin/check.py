@@ -2,7 +2,7 @@
 import os
 
 from . import dialects, inputs, reasons
-from .library import Refusal
+from .library import Error, Refusal
 from .numbers import KINDS, NODE_BYTES, WORDS
 from .output import Progress, Report, dumps, encoded, named, say, tell, visible
 from .places import Source
@@ -39,7 +39,7 @@ class Found:
     """What is found in one input."""
 
     def __init__(self, one):
-        self.one, self.verdict, self.nodes, self.errors, self.total = one, ACCEPTED, None, (), 0
+        self.one, self.verdict, self.nodes, self.errors, self.total, self.targets = one, ACCEPTED, None, (), 0, ()
         self.refusal = self.why = self.message = self.place = self.data = self.dialect = self.table = self.names = self.source = self.syntax = None
 
 
@@ -95,7 +95,7 @@ class Checker:
         from . import export
         found.dialect, found.source = self.options.dialect, Source(found.one.name, found.data)
         try:
-            found.table, found.names = export.export(found.data, found.one.name, found.dialect)
+            found.table, found.names, found.targets = export.exported(found.data)
         except export.ScriptSyntaxError as error:
             found.verdict, found.syntax, found.total = SYNTAX, error, 1
             return
@@ -120,8 +120,15 @@ class Checker:
             return
         found.nodes, found.total, found.errors = len(found.table) // NODE_BYTES, answer.total, answer.errors
         if not self.options.module:
-            found.errors = sorted(found.errors, key=lambda error: (error.begin, error.end, error.number))
+            more = self.in_comprehensions(found)
+            found.total += len(more)
+            found.errors = sorted([*found.errors, *more], key=lambda error: (error.begin, error.end, error.number))
         found.verdict = ERRORS if found.total else ACCEPTED
+
+    def in_comprehensions(self, found):
+        """The errors of the targets of a script's comprehensions, which a table does not mark: the target job on each."""
+        answers = [self.library.target(found.table, found.names, node) for node in found.targets]
+        return [Error(answer.number, answer.begin, answer.end, answer.node) for answer in answers if type(answer) is Refusal]
 
     def refused(self, found, refusal):
         found.verdict, found.refusal = REFUSED, refusal

@@ -38,8 +38,9 @@ folders are skipped.
 Every job is run on every node that it fits, so `errors 0` means that the whole checker accepts: parameter
 lists (10 to 18), call arguments (20 to 24), targets and assignments (30 to 33), types (40 to 45), and the
 module pass (50 to 61). Not covered: whether a name is defined, what a value is, which def a call reaches (see
-`ducat bind`), and what load names. Nothing can be switched off: there is no option and no comment that leaves
-out a rule.
+`ducat bind`), what load names, and whether the dialect has f-strings; in a table file also the targets of
+comprehensions, which a table does not mark. Nothing can be switched off: there is no option and no comment
+that leaves out a rule.
 
 For a table file this prints
   nodes N             the number of nodes

@@ -5,16 +5,23 @@ table alone.
 
 Equal names share their bytes. A script of one statement is that statement, one of several a Statements at the root.
 """
-from typing import List, Optional, Tuple
+from typing import List, NamedTuple, Optional, Tuple
 
 from . import numbers
 from .lexer import NotStarlark
-from .parser import NAMED, Node, TooDeep, joined, parse
+from .parser import DICT_COMP, LIST_COMP, NAMED, Node, TooDeep, joined, parse
 from .places import Source
 from .table import RECORD, weight
 
 LONGEST_NAME = 255  # bytes, of a name in a table
 WEIGHTS = [weight(kind) for kind in range(256)]
+
+
+class Exported(NamedTuple):
+    """A table, its names, and what it does not mark: the nodes that are targets of comprehensions."""
+    table: bytes
+    names: bytes
+    targets: List[int]
 
 
 class ScriptError(ValueError):
@@ -73,8 +80,8 @@ def preorder(root: Node) -> Tuple[List[Node], List[int]]:
     return nodes, depths
 
 
-def table_of(root: Node) -> Tuple[bytes, bytes]:
-    """The records of a tree, and its name bytes."""
+def table_of(root: Node) -> Exported:
+    """The records of a tree, its name bytes and the targets of its comprehensions."""
     nodes, depths = preorder(root)
     names, known, reached = [], {b"": 0}, 0
     beyond = nodes[numbers.NODES] if len(nodes) > numbers.NODES else None
@@ -97,7 +104,7 @@ def table_of(root: Node) -> Tuple[bytes, bytes]:
     if deepest > numbers.DEPTH:
         first = next(node for node, depth in zip(nodes, depths) if depth > numbers.DEPTH)
         raise _Beyond(first, f"a table has at most {numbers.DEPTH}, and here are {deepest} levels below each other")
-    return _records(nodes, known), b"".join(names)
+    return Exported(_records(nodes, known), b"".join(names), _targets(nodes))
 
 
 def _records(nodes, known):
@@ -115,6 +122,12 @@ def _records(nodes, known):
     return b"".join(records)
 
 
+def _targets(nodes):
+    """The numbers of the nodes that are targets of comprehensions."""
+    marked = {id(target) for node in nodes if node.kind == LIST_COMP or node.kind == DICT_COMP for target in node.targets}
+    return [number for number, node in enumerate(nodes) if id(node) in marked] if marked else []
+
+
 def _tables(source, roots):
     """The table of each tree that `roots` makes of the statements of a script."""
     try:
@@ -123,11 +136,16 @@ def _tables(source, roots):
         raise ScriptTooLarge(source, beyond.node.begin, beyond.node.end, beyond.message) from None
 
 
+def exported(source: bytes) -> Exported:
+    """The table of a script, its names, and the targets of its comprehensions. Raises ScriptError."""
+    return _tables(bytes(source), lambda statements: [joined(statements)])[0]
+
+
 def export(source: bytes, name: str = "", dialect: Optional[bytes] = None) -> Tuple[bytes, bytes]:
     """The table of a script, and its names. Neither its file's name nor its dialect changes the table."""
-    return _tables(bytes(source), lambda statements: [joined(statements)])[0]
+    return tuple(exported(source)[:2])
 
 
 def export_parts(source: bytes, name: str = "", dialect: Optional[bytes] = None) -> List[Tuple[bytes, bytes]]:
     """The table of each top-level statement, and its names: for a script that is larger than a table may be."""
-    return _tables(bytes(source), lambda statements: statements)
+    return [tuple(made[:2]) for made in _tables(bytes(source), lambda statements: statements)]

@@ -66,7 +66,7 @@ class Tokens:
 
 
 class Field:
-    """An f-string: its quote, whether it is raw, and the number of brackets that are open where a field of it begins."""
+    """An f-string: its quote, whether it is raw, where it begins, and the number of brackets that are open where its field begins."""
 
     __slots__ = ("quote", "raw", "begin", "depth")
 
@@ -86,11 +86,14 @@ def tokens(script):
 
 
 class Lexer:
+    """Reads a script once. `levels` are the indentations of the blocks around, `opened` the open brackets, `fields` the f-strings around."""
+
     def __init__(self, script):
         self.script, self.found = script, Tokens(script)
         self.levels, self.opened, self.fields = [0], self.found.opened, []
 
     def run(self, at):
+        """Adds all tokens from a place on."""
         script, add, match, words = self.script, self.found.add, TOKEN.match, WORDS
         at = self.indentation(at)
         while True:
@@ -122,6 +125,7 @@ class Lexer:
             at = end
 
     def ended(self, at):
+        """The tokens at the end of the script."""
         if self.fields:
             raise NotStarlark("a field of an f-string is not closed", self.fields[-1].begin, at)
         self.found.add(NEWLINE, at, at)
@@ -130,7 +134,7 @@ class Lexer:
         self.found.add(END, at, at)
 
     def indentation(self, at):
-        """Skips blank lines and those of comments, and compares the indentation of the next line with that of its block. Returns its end."""
+        """Skips blank lines and comments, and compares the indentation of the next line with that of its block. Returns its end."""
         script = self.script
         while True:
             end = BLANKS.match(script, at).end()

@@ -47,9 +47,9 @@ class TooDeep(Exception):
 
 
 class Node:
-    """A statement, expression, parameter or argument."""
+    """A statement, expression, parameter or argument. A comprehension also has `targets`, those of its children that follow a `for`."""
 
-    __slots__ = ("kind", "begin", "end", "children", "detail", "name")
+    __slots__ = ("kind", "begin", "end", "children", "detail", "name", "targets")
 
     def __init__(self, kind, begin, end, children=(), detail=0, name=b""):
         self.kind, self.begin, self.end, self.children, self.detail, self.name = kind, begin, end, children, detail, name
@@ -486,15 +486,19 @@ class Parser:
 
     def comprehension(self, kind, close, begin, children):
         """The clauses: target and operand of each `for`, the condition of each `if`."""
+        targets = []
         while self.kind in ("for", "if"):
             clause = self.kind
             self.advance()
             if clause == "for":
-                children.append(self.targets())
+                targets.append(self.targets())
+                children.append(targets[-1])
                 self.expect("in")
             children.append(self.operation(OR))
         self.expect(close)
-        return Node(kind, begin, self.ended, children)
+        found = Node(kind, begin, self.ended, children)
+        found.targets = targets
+        return found
 
     def index(self, of, begin):
         """`x[i]`, `x[i, j]`, or a slice, of which the parts that are written are children."""

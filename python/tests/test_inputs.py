@@ -80,6 +80,15 @@ errors 2
             self.assertTrue(of_table["errors"])
             self.assertEqual(of_script["errors"], of_table["errors"], name)
 
+    def test_targets_of_comprehensions(self):
+        """A table does not mark them, so they are looked for in scripts alone."""
+        path = self.put("comprehension.star", "[x for 1 in y]\n{x: y for x, [f()] in y if x for z[0] in w if 7 for (8) in x}\n")
+        ran = self.says(1, None, STEP, "check", path)
+        self.assertEqual([line for line in ran.out.splitlines() if not line.startswith(" ")],
+                         ["nodes 24", *(f"{path}:{place}: 30 {numbers.WORDS[30]}" for place in ("1:8", "2:15", "2:54")), "errors 3"])
+        self.says(0, "nodes 24\nerrors 0\n", STEP, "check", "--module", path)
+        self.says(0, "nodes 8\nerrors 0\n", STEP, "check", self.put("right.star", "[x for x, y.z in w]\n"))
+
     def test_what_is_not_starlark(self):
         path = self.put("wrong.star", "x = 1\nwhile x:\n    pass\n")
         said = f"{path}:2:1: syntax: `while` is a reserved word\n"
