@@ -140,7 +140,7 @@ fn steps(rng: &mut Rng) -> (Vec<u8>, Vec<Vec<u8>>) {
 
 /// Single steps from a random dialect, on many modules: the module pass and the audit.
 pub fn single_steps(checker: &mut Checker, plan: &Plan) {
-    each_random(checker, plan, 41, 12_000, |rng, _| grow::module(rng, false), |checker, rng, random| {
+    each_random(checker, plan, 41, 40_000, |rng, _| grow::module(rng, false), |checker, rng, random| {
         let (row, next) = steps(rng);
         let (bytes, names) = (&random.encoded.table, &random.encoded.names);
         let asked = || std::iter::once(&row).chain(&next).map(|row| (row.as_slice(), room(random)));
