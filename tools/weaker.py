@@ -452,7 +452,9 @@ class Module:
                 lines[at:at] = ["", *"\n".join(places[at]).rstrip("\n").split("\n")]
             text = "\n".join(lines)
             uses = "".join(f"use {self.place(crate, r, new)}.{{{new}}}\n" for r, new, _ in records if (r.foreign or r.path != file) and new in text)
-            planted = set(re.findall(r"[^\s(){}.,;]+", " ".join(t for texts in places.values() for t in texts)))
+            put = " ".join(t for texts in places.values() for t in texts)
+            bound = {name for names in re.findall(r"[({]([^(){}:]+) : ", put) for name in names.split()}  # (later : List ℕ) is no import
+            planted = set(re.findall(r"[^\s(){}.,;]+", put)) - bound
             wanted = crate.needs & planted
             for n in sorted((wanted | {f"_{n}_" for n in wanted}) & set(crate.known)):  # an operator is imported as _≡_
                 if not re.search(rf"^use .*[{{ ]{re.escape(n)}[,}}]", text, re.M) and crate.known[n] != crate.module(file):

@@ -195,6 +195,7 @@ class Signals(CommandTest):
                 try:
                     # a FIFO can be opened for writing at once only where somebody reads
                     self.addCleanup(os.close, os.open(self.at("fifo"), os.O_WRONLY | os.O_NONBLOCK))
+                    time.sleep(0.2)  # it has opened the FIFO, and goes on to read
                     return below
                 except OSError:
                     pass

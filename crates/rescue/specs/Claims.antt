@@ -81,9 +81,9 @@ GivenBack = Answered (λ bs k after. Bytes bs → blocksPass bs ≡ true → Who
 
 -- 6: a rescued file is rescued to itself, and nothing is dropped
 abbrev pub Again : Type 0
-Again = Answered (λ bs k after. Bytes bs → (buffer : List ℕ) (r : Rescued) (later : List ℕ)
-    → Rescue (take (k .bytes) after) buffer r later → k .bytes ≤ length buffer
-    → (r ≡ Accepted record {
+Again = Answered (λ bs k after. Bytes bs → (next : List ℕ) (q : Rescued) (later : List ℕ)
+    → Rescue (take (k .bytes) after) next q later → k .bytes ≤ length next
+    → (q ≡ Accepted record {
       bytes = k .bytes;
       statements = k .statements;
       nodes = k .nodes;
