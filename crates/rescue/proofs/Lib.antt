@@ -9,3 +9,4 @@ pub mod Leaves
 pub mod Cutting
 pub mod Jobs
 pub mod Enough
+pub mod Example

@@ -1,0 +1,63 @@
+-- What the claims about a damaged file suppose can be met: a file with good blocks whose third record is unsound, a
+-- Break with a detail. Its blocks do not pass, and the rescue keeps the first of its two statements. Both are computed.
+-- Assumes nothing.
+use mathlib.Core.Path.{_≡_, refl}
+use mathlib.Core.Bool.{false}
+use mathlib.Core.List.{List, [], _∷_, _++_}
+use Prim.Native.Nat.{ℕ}
+use lib.ListN.{replicate}
+use Rattle.soundness.specs.KindNumbers.{kindStatements, kindBreak}
+use Rattle.table.specs.Answer.{accepted}
+use Rattle.fields.specs.Field.{field, bytesOf}
+use Rattle.blocks.specs.Block.{weighed, sumOf, beforeSum, blockOf, zeros, examine}
+use Rattle.blocks.specs.Block.{judge}
+use Rattle.blocks.specs.Run.{blocksFor, blocksOf, runOf, judgeBlocks, judgeRun, goodBlocks}
+use Rattle.blocks.specs.Run.{contents, contentIn, contentOf}
+use Rattle.tablefile.specs.File.{Content, headerOf, fileOf}
+use Rattle.tablefile.specs.Reading.{dialectIn, headerAt, contentAt, countsFit, blocksCheck, readCheck}
+use Rattle.forest.specs.Forest.{sizeOf, kidsOf, restOf, forestIn, forest, roots}
+use Rattle.forest.specs.Forest.{firsts, count, countTree}
+use Rattle.forest.specs.Names.{same}
+use Rattle.soundness.specs.Kinds.{kindIn, kindOf}
+use Rattle.soundness.specs.Sound.{nameSound, spanSound, sourceSound, fieldsSound, wholeTrees, classes}
+use Rattle.soundness.specs.Sound.{permitted, wanted, permits, kidsSound, soundNode, soundAt}
+use Rattle.soundness.specs.Sound.{rootSound, contextOf, recordSound, firstFalse, firstUnsound}
+use Rattle.table.specs.Check.{lengthSound, checkOf, givenOf}
+use Rattle.table.specs.Depth.{classWeight, weight, firstDeep, deepIn}
+use Rattle.rescue.specs.Good.{headGood, blocksPass, goodTable}
+use Rattle.rescue.specs.Cut.{resized, cutTo, largest, childrenKept, largestCut}
+use Rattle.rescue.specs.Job.{tableKept, statementsOf, rescueOf}
+use Rattle.dialect.specs.Bytes.{within, validBytes, fromBytes}
+
+-- the 24 bytes of a record without a name: kind, detail, size
+abbrev recordOf : ℕ → ℕ → ℕ → List ℕ
+recordOf kind detail size = kind ∷ detail ∷ (replicate 14 0 ++ (size ∷ replicate 7 0))
+
+abbrev pub content : Content
+content = record {
+  table = recordOf kindStatements 0 3 ++ (recordOf kindBreak 0 1 ++ recordOf kindBreak 1 1);
+  names = [];
+  dialect = [];
+}
+
+-- the reader refuses its blocks with 3
+pub does-not-pass : blocksPass (fileOf content) ≡ false
+unfolding field bytesOf weighed sumOf beforeSum blockOf zeros examine judge blocksFor blocksOf runOf judgeBlocks
+    judgeRun goodBlocks contents contentIn contentOf headerOf fileOf dialectIn headerAt contentAt countsFit blocksCheck
+    readCheck sizeOf kidsOf restOf forestIn forest roots firsts count countTree same kindIn kindOf nameSound spanSound
+    sourceSound fieldsSound wholeTrees classes permitted wanted permits kidsSound soundNode soundAt rootSound contextOf
+    recordSound firstFalse firstUnsound lengthSound checkOf givenOf classWeight weight firstDeep deepIn headGood
+    blocksPass goodTable resized cutTo largest childrenKept largestCut tableKept statementsOf rescueOf within validBytes
+    fromBytes
+does-not-pass = refl
+
+-- what is printed: 1,024 bytes, one statement and two nodes kept, one node dropped, no byte behind
+pub is-rescued : rescueOf (fileOf content) 1024 ≡ accepted (1024 ∷ 1 ∷ 2 ∷ 1 ∷ 0 ∷ [])
+unfolding field bytesOf weighed sumOf beforeSum blockOf zeros examine judge blocksFor blocksOf runOf judgeBlocks
+    judgeRun goodBlocks contents contentIn contentOf headerOf fileOf dialectIn headerAt contentAt countsFit blocksCheck
+    readCheck sizeOf kidsOf restOf forestIn forest roots firsts count countTree same kindIn kindOf nameSound spanSound
+    sourceSound fieldsSound wholeTrees classes permitted wanted permits kidsSound soundNode soundAt rootSound contextOf
+    recordSound firstFalse firstUnsound lengthSound checkOf givenOf classWeight weight firstDeep deepIn headGood
+    blocksPass goodTable resized cutTo largest childrenKept largestCut tableKept statementsOf rescueOf within validBytes
+    fromBytes
+is-rescued = refl
