@@ -97,8 +97,9 @@ class Comparer(check.Checker):
         if found.move.closes:
             found.verdict = check.NO_OPENING
             return
-        found.total = audit.total
-        found.errors = sorted(audit.errors, key=lambda error: (error.begin, error.end, error.number))
+        more = self.in_comprehensions(found)
+        found.total = audit.total + len(more)
+        found.errors = sorted([*audit.errors, *more], key=lambda error: (error.begin, error.end, error.number))
         found.move.compare(before, after, found.errors)
         found.verdict = check.ERRORS if found.total or after.total else check.ACCEPTED
 

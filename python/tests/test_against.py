@@ -125,6 +125,13 @@ class Others(CommandTest):
 
 
 class Forms(CommandTest):
+    def test_the_targets_of_comprehensions(self):
+        """A table does not mark them, so a script is checked for them here as without --against."""
+        self.put("target.star", b"x = [a for 1 in b]\n")
+        ran = self.run_ducat("check", "--against", "all", self.at("target.star"))
+        self.assertEqual((ran.status, ran.out.splitlines()[-1]), (1, "other errors 1"))
+        self.assertIn(":1:12: 30 ", ran.out)
+
     def test_a_script(self):
         path = self.put("a.star", "def f(a, *, b):\n    return lambda: a\n")
         self.says(0, f"nodes {self.nodes(path)}\nopens enable_keyword_only_arguments\n{PASS}"

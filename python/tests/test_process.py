@@ -259,7 +259,7 @@ class Text(unittest.TestCase):
         for name in os.listdir(os.path.dirname(cli.__file__)):
             if name.endswith(".py"):
                 with open(os.path.join(os.path.dirname(cli.__file__), name), encoding="utf-8") as file:
-                    self.assertIsNone(re.search(r"/work/|/home/", file.read()), name)
+                    self.assertIsNone(re.search(r"/(?:work|home|root)/", file.read()), name)
 
 
 if __name__ == "__main__":

@@ -99,7 +99,7 @@ pub held-blocks : (g total : ℕ) → g ≤ blocksFor total → blocksFor (held 
 unfolding blocksFor
 held-blocks g total h = omega arith
 
--- LAW: what the first g blocks hold is the content of a run of so many bytes
+-- LAW: the first g blocks hold the front of the run's content
 module _ (g total : ℕ) (bs : List ℕ) (few : g ≤ blocksFor total) (there : 512 * g ≤ length bs) where
   pub held-content : take (504 * g) (contentOf total bs) ≡ contentOf (held g total) bs
   unfolding contentOf

@@ -159,7 +159,7 @@ unpack-again (p ∷ ps) {i} {r} h = go (isSlash (kindIn p)) refl
     go false e = run-repeated [] (start (positionalOnly (firstSlash (p ∷ ps)))) (p ∷ ps)
         (clear-start (positionalOnly (firstSlash (p ∷ ps)))) (rw e at h)
 
--- THEOREM: 11 is told of a parameter whose name one earlier one has, with the node of that, which is smaller
+-- THEOREM: 11 is reported at a parameter whose name an earlier one has; it carries the node of that one
 pub written-twice : (ns : List ℕ) (node : ℕ) (t : List ℕ) {i : ℕ} {r : Node} → unpack (written ns node t) ≡ repeated i r
     → NamedTwice (written ns node t) i r
 unfolding written

@@ -19,6 +19,6 @@ unfolding nameOf same hasName firstSame repeats advance step finish run slashFro
     typeUnpack
 examples = refl
 
--- THEOREM: and so many rows there are
+-- THEOREM: the number of rows
 pub how-many : length table ≡ 14
 how-many = refl

@@ -63,7 +63,7 @@ pub fn check_read(
     check_file(front(buffer, len), errors)
 }
 
-// The answer to a file of so many nodes, of which a job answered this.
+// The answer for a file: its number of nodes, and what the module job answered.
 fn told(nodes: u32, found: Listed) -> Passed
     ensures { λ r. ⌜ passed r ≡ behind nodes (listed found) ⌝ }
 {

@@ -19,6 +19,6 @@ unfolding same hasName firstSame repeats advance step finish run slashFrom start
     emptyCheck binding listsBound
 corner-cases = refl
 
--- THEOREM: and so many rows there are
+-- THEOREM: the number of rows
 pub how-many : length rows ≡ 18
 how-many = refl
