@@ -1,6 +1,6 @@
 -- Laws of the rule of a record with its children, in the terms of code. Assumes nothing.
 use mathlib.Core.Path.{_≡_, refl, sym, ap, _∙_}
-use mathlib.Core.Bool.{Bool, true, false, _&&_}
+use mathlib.Core.Bool.{Bool, true, false, _&&_, and-false}
 use mathlib.Core.List.{List, [], _∷_}
 use Prim.Native.Nat.{ℕ, _+_, _-_, _*_, _/_, _<_, _≤_}
 use native.Mathlib.Numerals.{add-one}
@@ -94,10 +94,6 @@ module _ {t left : List ℕ} {n : ℕ} (s : Counting t left n) where
       omega (arith, s .all)
 
 -- both of two tests
-pub and-false : (a : Bool) → (a && false) ≡ false
-and-false true = refl
-and-false false = refl
-
 -- what children a rule permits, as the two tests of code
 permits-tests : (c : Children) (cs : List ℕ)
     → permits c cs ≡ (numberSound c (length cs) && same cs (wanted c (length cs)))
