@@ -21,7 +21,7 @@ use Rattle.table.specs.declared.Wanted.{Wanted}
 -- a step that comes before m: its numbers are smaller, and carry no earlier node
 abbrev pub Before : ℕ → Answer → Type 0
 Before m (accepted vs) = Unit {0}
-Before m (refused n vs) = (n < m) × (length vs ≤ 3)
+Before m (refused n vs) = (n < m) × (length vs ≤ 4)
 
 module _ (m : ℕ) where
   pub before-then : (x : Answer) (next : Unit {0} → Answer) → Before m x → Before m (next tt)
