@@ -53,5 +53,5 @@ pub record LeftEmpty (fs : List FlatParam) (qs : List Argument) (vs : List ℕ) 
 -- of all refusals 11 and 22 alone carry an earlier node, as a fourth number
 abbrev pub OnlyTwoCarry : Answer → Type 0
 OnlyTwoCarry (accepted vs) = Unit {0}
-OnlyTwoCarry (refused n vs) = ((n ≡ duplicatedParameter) ⊎ (n ≡ repeatedNamed) → length vs ≡ 4)
-    × ((n ≡ duplicatedParameter → ⊥) → (n ≡ repeatedNamed → ⊥) → length vs ≤ 3)
+OnlyTwoCarry (refused n vs) = ((n ≡ duplicatedParameter) ⊎ (n ≡ repeatedNamed) → length vs ≡ 5)
+    × ((n ≡ duplicatedParameter → ⊥) → (n ≡ repeatedNamed → ⊥) → length vs ≤ 4)

@@ -83,7 +83,7 @@ call-carries = theorem-twice.call-carries
 pub call-twice : (t names : List ℕ) (i : ℕ) {vs : List ℕ}
     → callOf t names i ≡ refused repeatedNamed vs
     → (j : ℕ) × (r : Node)
-    × (vs ≡ r .at ∷ nameSpan r .begin ∷ nameSpan r .end ∷ j ∷ [])
+    × (vs ≡ r .at ∷ nameSpan r .begin ∷ nameSpan r .end ∷ r .file ∷ j ∷ [])
     × (read : List Argument) × (again : Argument) × (rest : List Argument) × (name : Name)
     × (before : List Argument) × (there : Argument) × (after : List Argument)
     × (argumentsOf names (treeOf i (stretchOf t i)) ≡ read ++ again ∷ rest)

@@ -65,7 +65,7 @@ params-carries = theorem-twice.params-carries
 pub params-twice : (t names : List ℕ) (node room : ℕ) {vs : List ℕ}
     → paramsOf t names node room ≡ refused duplicatedParameter vs
     → (i : ℕ) × (r : Node)
-    × (vs ≡ r .at ∷ r .begin ∷ r .stop ∷ i ∷ [])
+    × (vs ≡ r .at ∷ r .begin ∷ r .stop ∷ r .file ∷ i ∷ [])
     × (read : List Param) × (again : Param) × (rest : List Param) × (name : Name)
     × (before : List Param) × (there : Param) × (after : List Param)
     × (listOf t names node ≡ read ++ again ∷ rest)
