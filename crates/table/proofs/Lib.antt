@@ -8,6 +8,7 @@ pub mod Theorems
 pub mod Handed
 pub mod Entering
 pub mod Carried
+pub mod Filed
 pub mod Naming
 pub mod Heads
 pub mod Promises
