@@ -108,7 +108,7 @@ without n vs a b h = (go, λ c d. h)
     go (inr e) = absurd (b e)
 
 -- the entry: 1 to 4, 6, 7
-entry-first : (t ns : List ℕ) (call def room : ℕ) → Before 8 (entryOf t ns call def room)
+pub entry-first : (t ns : List ℕ) (call def room : ℕ) → Before 8 (entryOf t ns call def room)
 unfolding entryOf
 entry-first t ns call def room =
     before-then 8 (entryCheck Call t ns call) _ (entry-before 8 Call t ns call (omega arith))
