@@ -214,7 +214,7 @@ module _ (t names : List ℕ) (call def : ℕ) (c : Clean t names) where
 -- for 10 to 18 and 84, the Call's for 20 to 24 and 80 to 83"
 pub bind-files : (t names : List ℕ) (call def room : ℕ) {n : ℕ} {vs : List ℕ}
     → bindOf t names call def room ≡ refused n vs → 10 ≤ n → FileOf t (sideOf call def n) vs
-unfolding bindOf wordsOf
+unfolding bindOf wordsOf entryOf
 bind-files t names call def room {n} {vs} e late =
     let sided : Sided t call def (bindOf t names call def room) = answer (wordsOf t names call def room)
     (entry (entryOf t names call def room) refl (entry-first t names call def room)) in
@@ -222,7 +222,6 @@ bind-files t names call def room {n} {vs} e late =
   where
     entry : (a : Answer) → entryOf t names call def room ≡ a → Before 8 a
         → Sided t call def (andThen a (λ _. listsBound (listOf t names def) (argumentsAt t names call)))
-    unfolding entryOf
     entry (accepted us) k b =
         let in-call = passed-both (entryCheck Call t names call) _ k in
         let in-def = passed-both (defCheck t def) _ (in-call .2) in
