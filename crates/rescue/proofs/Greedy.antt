@@ -1,8 +1,8 @@
--- Which cuts pass. A child is `keepable` by itself, in the context of its table: a statement whose nodes are sound, have
--- the number of one source file, and are not too deep. The cut to k children passes exactly where the root's fields are
--- sound, its file number is 0, and each of its first k children is keepable (`cut-accepted`, `cut-keepable`): the check
--- of the cut is one of its forest (any-clean and clean-any of soundness), and that is the root and these children.
--- Inductions are on the forest. Assumes nothing.
+-- Which cuts pass. A child is `keepable` by itself, in the context of its table: a statement whose nodes are sound,
+-- have the number of one source file, and are not too deep. The cut to k children passes exactly where the root's
+-- fields are sound, its file number is 0, and each of its first k children is keepable (`cut-accepted`,
+-- `cut-keepable`): the check of the cut is one of its forest (any-clean and clean-any of soundness), and that is the
+-- root and these children. Inductions are on the forest. Assumes nothing.
 use mathlib.Core.Path.{_≡_, refl, sym, ap, _∙_}
 use mathlib.Core.Bool.{Bool, true, false, _&&_}
 use mathlib.Core.List.{List, [], append-nil}
@@ -50,13 +50,13 @@ pub record Keepable (m : ℕ) (f : Forest) : Type 0 where
   pub flat : firstDeep 1 f ≡ Nothing
 
 -- the parts of one of them
-record Child (m : ℕ) (r : Node) (ks : Forest) : Type 0 where
+pub record Child (m : ℕ) (r : Node) (ks : Forest) : Type 0 where
   pub class : eqb (classOf (r .kind)) statement ≡ true
   pub sound : treeSound (λ i. context m anyFile) (node r ks) ≡ true
   pub files : (fileSound fileNumbers (r .file) && filesIn (r .file) ks) ≡ true
   pub flat : clear (deepIn 1 (node r ks)) ≡ true
 
-keepable-is : (m : ℕ) (r : Node) (ks : Forest) → keepable m (node r ks) ≡ true → Child m r ks
+pub keepable-is : (m : ℕ) (r : Node) (ks : Forest) → keepable m (node r ks) ≡ true → Child m r ks
 unfolding keepable filesTop
 keepable-is m r ks e =
     let class : Bool = eqb (classOf (r .kind)) statement in

@@ -18,7 +18,7 @@ use borrow.Author.Tests.{eq-eqb, eqb-true, eqb-false, le-leb, lt-leb, leb-true}
 use native.Mathlib.Nat.{zero-add, add-zero, suc-add}
 use Rattle.fields.specs.Choice.{if'}
 use Rattle.fields.proofs.Basics.{clash, and-both, and-left, and-right, le-or-lt}
-use Rattle.forest.specs.Forest.{Node, sizeOf, nodeOf, spanOf, kidsOf, restOf, Tree, node, Forest, none, _then_}
+use Rattle.forest.specs.Forest.{Node, sizeOf, spanOf, kidsOf, restOf, Tree, node, Forest, none, _then_}
 use Rattle.forest.specs.Forest.{forest, nodes, nodesOf}
 use Rattle.forest.specs.declared.Found.the-variants.{Nothing}
 use Rattle.forest.proofs.Stretch.{records, nodes-records, forest-none, forest-tree, length-kids, length-rest}
@@ -358,7 +358,7 @@ module _ (t names : List ℕ) (e : firstUnsound t names ≡ Nothing) where
         records-take s i (24 * s) (drop (24 * i) t) (omega arith) in
         in-records (recordAt t i .file) i bs ∙ rw (all, same) (have-from t (recordAt t i .file) s i subtree-file)
 
-  -- THEOREM: a table whose file numbers are all zero is one record, a root Statements
+  -- LAW: where the file numbers are all zero, the root is a Statements, and there is no other record
   module _ (some : 24 ≤ length t) (zeros : (j : ℕ) → j < length t / 24 → recordAt t j .file ≡ 0) where
     zero-number : (j : ℕ) → j < length t / 24 → filesOf t j ≡ fileNumbers → ⊥
     unfolding fileSound
@@ -367,16 +367,16 @@ module _ (t names : List ℕ) (e : firstUnsound t names ≡ Nothing) where
         let least = leb-true 1 (recordAt t j .file) (and-left _ _ (rw f at fits)) in
         omega (arith, zeros j h)
 
-    pub zeros-row : rootStatements t ≡ true
-    zeros-row = go (rootStatements t) refl
+    pub zero-root : rootStatements t ≡ true
+    zero-root = go (rootStatements t) refl
       where
         go : (b : Bool) → rootStatements t ≡ b → rootStatements t ≡ true
         go true r = r
         go false r = absurd (zero-number 0 (omega arith) (files-other t r))
 
-    pub zeros-alone : length t ≡ 24
-    zeros-alone = ⊎-elim
+    pub zero-length : length t ≡ 24
+    zero-length = ⊎-elim
         (λ (l : length t ≤ 24). omega arith)
         (λ (l : 24 < length t). absurd (zero-number 1 (omega (arith, root-covers t names e some))
-        (files-top t 1 (omega arith) (top-first t zeros-row))))
+        (files-top t 1 (omega arith) (top-first t zero-root))))
         (le-or-lt (length t) 24)

@@ -1,27 +1,27 @@
 -- Soundness by parts, as the rescue needs it, which judges each top-level statement by itself. Sound with the numbers
 -- that a record may have is the same as sound with any number and having one of these (`node-parts`). So a table has no
 -- unsound record exactly where its root covers it, its nodes are sound with any number, and the numbers are sound down
--- the tree (`any-clean`, `clean-any`). And a statement's stretch has no unsound record exactly where its nodes are sound
--- with any number and the numbers are those of a top-level statement (`statement-parts`; the induction is on the records
--- under it). The last two do not depend on the index of the first record (sound-anywhere, `files-anywhere`). Assumes
--- nothing.
+-- the tree (`any-clean`, `clean-any`). And a statement's stretch has no unsound record exactly where its nodes are
+-- sound with any number and the numbers are those of a top-level statement (`statement-parts`; the induction is on the
+-- records under it). The last two do not depend on the index of the first record (sound-anywhere, `files-anywhere`).
+-- Assumes nothing.
 use mathlib.Core.Path.{_≡_, refl, sym, ap, _∙_}
 use mathlib.Core.Bool.{Bool, true, false, _&&_, and-false}
 use mathlib.Core.List.{List}
 use Prim.Native.Nat.{ℕ, _+_, _*_, _/_, _<_, _≤_}
 use native.Mathlib.Omega.{arith}
 use lib.ListN.{length, drop}
-use lib.Dec.{eqb, leb}
+use lib.Dec.{eqb}
 use borrow.Author.Tests.{le-leb, ne-eqb}
 use Rattle.fields.specs.Choice.{if'}
 use Rattle.fields.proofs.Basics.{and-both, and-left, and-right, both-ways}
-use Rattle.forest.specs.Forest.{Node, sizeOf, nodeOf, spanOf, kidsOf, restOf, Forest, none, _then_, forest}
+use Rattle.forest.specs.Forest.{Node, nodeOf, spanOf, kidsOf, restOf, Forest, none, forest}
 use Rattle.forest.specs.declared.Found.the-variants.{Nothing}
 use Rattle.forest.proofs.Stretch.{forest-none, forest-tree, forest-induction, length-rest}
 use Rattle.soundness.specs.Files.{Range, range, fileNumbers, anyFile, fileSound, recordAt, filesIn, filesTop}
 use Rattle.soundness.specs.Files.{filesSound}
 use Rattle.soundness.specs.Sound.{context, contextOf, contextIn, soundNode, soundAt, rootSound, recordSound}
-use Rattle.soundness.specs.Sound.{firstFalse, firstUnsound, soundIn, unsoundIn, clear}
+use Rattle.soundness.specs.Sound.{firstUnsound, soundIn, unsoundIn, clear}
 use Rattle.soundness.proofs.Search.{none-found, all-found, clear-is}
 use Rattle.soundness.proofs.Records.{sound-covers}
 use Rattle.soundness.proofs.SoundTables.{allSound, Sound, record-clean, root-covers, clear-sound}
@@ -67,7 +67,8 @@ module _ (t names : List ℕ) where
   unfolding soundIn
   any-clean root s files =
       let covers = sound-covers t root in
-      let none = clear-is _ (clear-sound (λ i. context (length names) anyFile) t (omega arith) (s .records) ∙ s .nodes) in
+      let none = clear-is _
+      (clear-sound (λ i. context (length names) anyFile) t (omega arith) (s .records) ∙ s .nodes) in
       files-clean t names root (none-found (soundIn (λ i. context (length names) anyFile) t) (length t / 24) none) files
 
 -- LAW: the index of the first record does not matter to file numbers

@@ -23,7 +23,6 @@ use Rattle.soundness.specs.Kinds.{statement, Children, kindOf, classOf}
 use Rattle.soundness.specs.Sound.{Context, fieldsSound, wholeTrees, classes, permitted, fixed, between}
 use Rattle.soundness.specs.Sound.{wanted, permits, kidsSound, soundNode, soundAt, context, contextOf}
 use Rattle.soundness.specs.Sound.{contextIn, rootSound, recordSound, firstFalse, firstUnsound, soundIn}
-use Rattle.soundness.specs.Sound.{unsoundIn}
 use Rattle.soundness.specs.Packed.{ruleOf, numberSound, LastFrom, childSound, childOf, rootEnd, Turned}
 use Rattle.soundness.proofs.Packing.{length-wanted}
 use Rattle.soundness.proofs.Search.{Looking, look-start, look-here, look-on, look-end}
@@ -412,11 +411,11 @@ module _ (t names : List ℕ) {b : Bool} (b-is : b ≡ rootSound t) (b-yes : b �
 -- record i of a top-level statement, as code tests it: the numbers that it may have are those that the loop keeps
 pub record Judging (names : ℕ) (bs : List ℕ) (n i least most : ℕ) : Type 0 where
   pub looking : Looking (soundIn (contextIn names bs) bs) n i
-  pub told : contextIn names bs i ≡ context names (range least most)
+  pub numbers : contextIn names bs i ≡ context names (range least most)
 
 pub judge-start : (names : ℕ) (bs : List ℕ) (n : ℕ) → Judging names bs n 0 1 999
 unfolding contextIn
-judge-start names bs n = record { looking = look-start (soundIn (contextIn names bs) bs) n; told = refl }
+judge-start names bs n = record { looking = look-start (soundIn (contextIn names bs) bs) n; numbers = refl }
 
 module _ {names : ℕ} {bs : List ℕ} {n i least most : ℕ} (s : Judging names bs n i least most) where
   pub judge-end : n ≤ i → Nothing ≡ firstFalse (soundIn (contextIn names bs) bs) 0 n
@@ -425,7 +424,7 @@ module _ {names : ℕ} {bs : List ℕ} {n i least most : ℕ} (s : Judging names
   module _ (h : i < n) {r : Bool} (r-is : r ≡ soundAt (context names (range least most)) 0 (lent bs i)) where
     judge-test : soundIn (contextIn names bs) bs i ≡ r
     unfolding soundIn
-    judge-test = rw (s .told) (sound-index (context names (range least most)) (drop (24 * i) bs) i
+    judge-test = rw (s .numbers) (sound-index (context names (range least most)) (drop (24 * i) bs) i
         ∙ ap (soundAt (context names (range least most)) 0) (sym (tail-part (24 * i) bs)) ∙ sym r-is)
 
     pub judge-here : r ≡ false → At i ≡ firstFalse (soundIn (contextIn names bs) bs) 0 n
@@ -435,5 +434,5 @@ module _ {names : ℕ} {bs : List ℕ} {n i least most : ℕ} (s : Judging names
     unfolding contextIn
     judge-on e file-is = record {
       looking = look-on (s .looking) h (judge-test ∙ e);
-      told = rw (ne-eqb (i + 1) 0 (λ z. omega arith), file-is) refl;
+      numbers = rw (ne-eqb (i + 1) 0 (λ z. omega arith), file-is) refl;
     }

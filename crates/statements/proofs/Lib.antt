@@ -1,5 +1,6 @@
 pub mod Names
 pub mod Records
+pub mod Files
 pub mod Table
 pub mod DefList
 pub mod Parameters

@@ -5,6 +5,7 @@ pub mod Anywhere
 pub mod Nodes
 pub mod Checking
 pub mod Theorems
+pub mod Numbered
 pub mod Handed
 pub mod Entering
 pub mod Carried
