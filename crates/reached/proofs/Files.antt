@@ -53,6 +53,15 @@ use Rattle.reached.specs.Refused.{sideOf}
 use Rattle.reached.proofs.Early.{EarlyOutcome, early-list, CallNumber, call-numbers}
 use Rattle.reached.proofs.Kept.{entry-first}
 
+-- LAWS: which node a number belongs to
+module _ (call def n : ℕ) where
+  pub side-def : (n < 20) ⊎ (n ≡ 84) → sideOf call def n ≡ def
+  side-def (inl h) = rw (lt-ltb n 20 h) refl
+  side-def (inr h) = rw h refl
+
+  pub side-call : 20 ≤ n → (n ≡ 84 → ⊥) → sideOf call def n ≡ call
+  side-call late other = rw (le-ltb n 20 late, ne-eqb n 84 other) refl
+
 module _ (t : List ℕ) (call def : ℕ) where
   -- what is claimed of an answer
   abbrev Sided : Answer → Type 0
@@ -61,13 +70,13 @@ module _ (t : List ℕ) (call def : ℕ) where
 
   -- a refusal at a node of the def's tree, by a number of the def's; and at one of the call's
   of-def : (n : ℕ) (vs : List ℕ) → Told (Filed t def) (refused n vs)
-      → (ltb n positionalAfterNonPositional || eqb n emptyParameter) ≡ true → Sided (refused n vs)
-  of-def n vs told side = λ late. rw side (files-told t def (refused n vs) told late)
+      → (n < 20) ⊎ (n ≡ 84) → Sided (refused n vs)
+  of-def n vs told side = λ late. rw (side-def call def n side) (files-told t def (refused n vs) told late)
 
   of-call : (n : ℕ) (vs : List ℕ) → Told (Filed t call) (refused n vs) → 20 ≤ n → (n ≡ 84 → ⊥)
       → Sided (refused n vs)
   of-call n vs told late other = λ from.
-      rw (le-ltb n 20 late, ne-eqb n 84 other) (files-told t call (refused n vs) told from)
+      rw (side-call call def n late other) (files-told t call (refused n vs) told from)
 
   at-call : (n : ℕ) (r : Node) → Filed t call r → 20 ≤ n → n < 84 → Sided (refusedAt n r)
   at-call n r f late before = of-call n _ (told-at (Filed t call) n r f) late (λ e. omega arith)
@@ -128,7 +137,7 @@ module _ (t : List ℕ) (call def : ℕ) where
     where
       go : (b : Bool) → Sided (emptyCheck (k + 1) fs us)
           → Sided (if' b (λ _. refusedAt emptyParameter (p .node)) (λ _. emptyCheck (k + 1) fs us))
-      go true rest = of-def emptyParameter _ (told-at (Filed t def) emptyParameter (p .node) (h .0)) refl
+      go true rest = of-def emptyParameter _ (told-at (Filed t def) emptyParameter (p .node) (h .0)) (inr refl)
       go false rest = rest
 
   flats-more : (p : Param) (ms : List ℕ) (fs : List FlatParam) → Filed t def (paramNode p) → Flats fs
@@ -188,9 +197,9 @@ module _ (t : List ℕ) (call def : ℕ) where
           (call-side (outcomeAnswer (calling.unpack qs)) (told-call (Filed t call) qs h) (call-numbers qs))
           (binding-side (countedOf c) (flats ps) (noWords (countedOf c) qs) qs (flats-all ps p) h)
       go (outcome.refused n r) at early =
-          of-def n _ (told-outcome (Filed t def) (outcome.refused n r) at) (rw (lt-ltb n 20 early) refl)
+          of-def n _ (told-outcome (Filed t def) (outcome.refused n r) at) (inl early)
       go (outcome.repeated i r) at early =
-          of-def 11 _ (told-outcome (Filed t def) (outcome.repeated i r) at) refl
+          of-def 11 _ (told-outcome (Filed t def) (outcome.repeated i r) at) (inl (omega arith))
       go (outcome.internal x r) at early = λ late. absurd (omega arith)
 
 -- where a binding is let in, the def's list and the call's arguments are nodes of their trees

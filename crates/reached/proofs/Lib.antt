@@ -15,3 +15,4 @@ pub mod Kept
 pub mod Files
 pub mod Examples
 pub mod Example
+pub mod TwoFiles

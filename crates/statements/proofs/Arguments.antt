@@ -72,7 +72,7 @@ ordered-one l a c kinds star kw apart kinds′ star′ kw′ = theorem.ordered-o
     record { kinds = kinds′; star-at = star′; kwargs-at = kw′; distinct = apart }
 
 -- W-203: "Refusals 11 and 22 carry that node besides what they carried; all other refusals carry none."
--- In words: 22 carries four numbers, and any other refusal of the call job at most three.
+-- In words: 22 carries five numbers, and any other refusal of the call job at most four.
 pub call-carries : (t names : List ℕ) (i : ℕ) → OnlyCarries repeatedNamed (callOf t names i)
 call-carries = theorem-twice.call-carries
 

@@ -448,8 +448,8 @@ empty-is-first t names call def room e =
     (x .index, x .param, x .there, x .carries, x .without, x .noPlace, x .noName, x .first)
 
 -- W-203: "Refusals 11 and 22 carry that node besides what they carried; all other refusals carry none."
--- In words: of the refusals of this job 11 and 22 carry four numbers, the last an earlier node, and each other at most
--- three.
+-- In words: of the refusals of this job 11 and 22 carry five numbers, the last an earlier node, and each other at most
+-- four.
 pub bind-carries : (t names : List ℕ) (call def room : ℕ) {n : ℕ} {vs : List ℕ}
     → bindOf t names call def room ≡ refused n vs
     → ((n ≡ duplicatedParameter) ⊎ (n ≡ repeatedNamed) → length vs ≡ 5)

@@ -54,7 +54,7 @@ pub accepted-small : (t names : List ℕ) (node room : ℕ) {vs : List ℕ}
 accepted-small = theorem.accepted-small
 
 -- W-203: "Refusals 11 and 22 carry that node besides what they carried; all other refusals carry none."
--- In words: 11 carries four numbers, and any other refusal of the parameter job at most three.
+-- In words: 11 carries five numbers, and any other refusal of the parameter job at most four.
 pub params-carries : (t names : List ℕ) (node room : ℕ)
     → OnlyCarries duplicatedParameter (paramsOf t names node room)
 params-carries = theorem-twice.params-carries
