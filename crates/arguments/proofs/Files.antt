@@ -96,6 +96,7 @@ module _ (P : Node → Type 0) where
 
 -- THEOREM: every refusal from 10 on of the call job carries the number of the node that it names
 pub call-files : (t names : List ℕ) (i : ℕ) → CarriesFile t i (callOf t names i)
+unfolding callAnswer
 call-files t names i = node-files Call (callAnswer names) t names i (λ tree h. told tree h)
   where
     told : (tree : Tree) → All (Filed t i) (nodesOf tree) → Told (Filed t i) (callAnswer names tree)
