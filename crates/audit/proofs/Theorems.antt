@@ -1,5 +1,5 @@
 -- What users of the audit rely on: a refusal changes no word, the total is at most four times the node count, and a
--- list with room for that many errors holds all: 33,600 words are enough for every table. Crate `audited` says when the
+-- list with room for that many errors holds all: 42,000 words are enough for every table. Crate `audited` says when the
 -- list is empty. Assumes nothing.
 use mathlib.Core.Path.{_≡_, refl}
 use mathlib.Core.List.{List, [], _∷_, _++_}
