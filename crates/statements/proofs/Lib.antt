@@ -8,6 +8,7 @@ pub mod Demand3
 pub mod Arguments
 pub mod Binding
 pub mod BindingRoom
+pub mod RefusalFiles
 pub mod Shapes
 pub mod Module
 pub mod Opening
