@@ -56,9 +56,9 @@ def largest():
 def check(room):
     """tablecheck on files of both sides of its limits, by name and from standard input."""
     whole = largest()
-    loads = "".join(f"{number} {i} {i + 1}\n" for i in range(3, 2100) for number in (58, 59))
+    loads = "".join(f"{number} 1 {i} {i + 1}\n" for i in range(3, 2100) for number in (58, 59))
     trials = [
-        ("the largest file", whole, "nodes 2100\n55 2099 2100\nerrors 1\n"),
+        ("the largest file", whole, "nodes 2100\n55 1 2099 2100\nerrors 1\n"),
         ("a byte more", whole + b"\0", "refused 75\n"),
         ("a byte less", whole[:-1], "refused 70\n"),
         ("more than is read", whole + bytes(100000), "refused 75\n"),
