@@ -16,7 +16,6 @@ from .places import Source
 from .table import RECORD, weight
 
 LONGEST_NAME = 255  # bytes, of a name in a table
-LAST_FILE = 999  # the largest source file number
 WEIGHTS = [weight(kind) for kind in range(256)]
 
 
