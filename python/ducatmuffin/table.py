@@ -34,6 +34,7 @@ RECORD = struct.Struct("<BBHIIIHHI")
 BLOCK, CONTENT = 512, 504
 KIND = numbers.KIND
 LAST_POSITION = 2 ** 31 - 1
+LAST_FILE = 999  # the largest source file number
 NAMED = frozenset(KIND[word] for word in ("Dot", "Identifier", "Normal", "ArgsParam", "KwArgsParam", "Named"))
 MOST_DETAIL = {KIND["Normal"]: 3, **{KIND[word]: 1 for word in ("Def", "Assign", "AssignModify", "Op", "ArgsParam", "KwArgsParam")}}
 DIALECTS = {"none": b"", **numbers.DIALECTS, "alloptionsinternal": numbers.DIALECTS["all"]}
