@@ -7,6 +7,8 @@ use judge::run;
 use judge::trees::Spans;
 use judge::trees::Trees;
 use model::answer::Answer;
+use model::answer::AUDIT_WORDS;
+use model::answer::ERROR_WORDS;
 use model::audit;
 use model::audit::Job;
 use model::audit::Place;
@@ -191,7 +193,7 @@ pub fn module(input: &'static Input, dialect: &'static [u8]) -> Routes {
     let listed = run::Module::of(table).expect("a tree").validate(&record);
     let answer = jobs::listed_answer(table, &listed);
     must_agree(&port, number, &answer);
-    assert_eq!(port.errors[..3 * answer.errors.len()], answer.errors.concat()[..]);
+    assert_eq!(port.errors[..ERROR_WORDS * answer.errors.len()], answer.errors.concat()[..]);
     let ready = trees(table).statement(0).expect("a tree");
     let again = dialects::from_bytes(dialect);
     vec![
@@ -213,7 +215,7 @@ pub fn audit(input: &'static Input, dialect: &'static [u8]) -> Routes {
     let number = port.audit(table, names, dialect);
     let answer = jobs::audit(table, names, dialect);
     must_agree(&port, number, &answer);
-    assert_eq!(port.errors[..4 * answer.audited.len()], answer.audited.concat()[..]);
+    assert_eq!(port.errors[..AUDIT_WORDS * answer.audited.len()], answer.audited.concat()[..]);
     let judged = run::Audit::of(checked(input)).answer(&dialects::from_bytes(dialect));
     assert!(judged == Ok(answer), "the crate agrees on what is measured");
     let places = audit::places(checked(input));
