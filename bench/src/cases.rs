@@ -190,8 +190,7 @@ pub fn module(input: &'static Input, dialect: &'static [u8]) -> Routes {
     let mut port = Port::new();
     let number = port.module(&input.table, &input.names, dialect);
     let record = dialects::from_bytes(dialect);
-    let listed = run::Module::of(table).expect("a tree").validate(&record);
-    let answer = jobs::listed_answer(table, &listed);
+    let answer = run::Module::of(table).expect("a tree").judged(&record).whole.expect("one source file");
     must_agree(&port, number, &answer);
     assert_eq!(port.errors[..ERROR_WORDS * answer.errors.len()], answer.errors.concat()[..]);
     let ready = trees(table).statement(0).expect("a tree");
@@ -216,8 +215,8 @@ pub fn audit(input: &'static Input, dialect: &'static [u8]) -> Routes {
     let answer = jobs::audit(table, names, dialect);
     must_agree(&port, number, &answer);
     assert_eq!(port.errors[..AUDIT_WORDS * answer.audited.len()], answer.audited.concat()[..]);
-    let judged = run::Audit::of(checked(input)).answer(&dialects::from_bytes(dialect));
-    assert!(judged == Ok(answer), "the crate agrees on what is measured");
+    let judged = run::Audit::of(checked(input)).judged(&dialects::from_bytes(dialect)).expect("a tree");
+    assert!(judged.whole == Some(answer), "the crate agrees on what is measured");
     let places = audit::places(checked(input));
     let (mut each, mut module) = (Port::new(), Port::new());
     vec![
