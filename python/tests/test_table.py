@@ -142,7 +142,7 @@ class Records(unittest.TestCase):
 
     def test_fields(self):
         held = table.parts_of(support.sample("example.table"))[0]
-        self.assertEqual(table.decode(held)[2], table.Record(50, 2, 1, 1, 9, 12, 2, 0, 0))
+        self.assertEqual(table.decode(held)[2], table.Record(50, 2, 1, 1, 9, 12, 2, 1, 0))
 
     def test_names_and_children(self):
         held, names, dialect = table.parts_of(support.sample("example.table"))
@@ -174,7 +174,7 @@ class Files(unittest.TestCase):
 
     def test_every_length_of_names(self):
         for count in (0, 1, 503, 504, 505, 8064):
-            held, names = table.encode([table.Record(6, 0, 0, 0, 0, 1, 1)]), b"n" * count
+            held, names = table.encode([table.Record(6, 0, 0, 0, 0, 1, 1, 1)]), b"n" * count
             data = support.library().write(held, names, None).data
             self.assertEqual(table.file_of(held, names, None), data)
             self.assertEqual(table.parts_of(data), (held, names, None))
@@ -221,7 +221,7 @@ names: shared
     def test_names_of_any_bytes(self):
         whole = bytes(range(256))
         for start, length in ((0, 1), (10, 1), (32, 1), (34, 1), (40, 2), (92, 1), (96, 1), (61, 1), (200, 56), (1, 255)):
-            held = table.encode([table.Record(10, 0, 0, 0, 0, 1, 2), table.Record(26, 0, length, start, 0, 1, 1)])
+            held = table.encode([table.Record(10, 0, 0, 0, 0, 1, 2, 1), table.Record(26, 0, length, start, 0, 1, 1, 1)])
             self.assertTrue(support.library().write(held, whole, None).accepted)
             self.same(held, whole, None)
 
@@ -229,7 +229,7 @@ names: shared
         for places in (((0, 2), (0, 2)), ((0, 2), (1, 2)), ((2, 1), (0, 2)), ((0, 1), (0, 1))):
             records = [table.Record(1, 0, 0, 0, 0, 9, 5)]
             for start, length in places:
-                records += [table.Record(10, 0, 0, 0, 0, 1, 2), table.Record(26, 0, length, start, 0, 1, 1)]
+                records += [table.Record(10, 0, 0, 0, 0, 1, 2, 1), table.Record(26, 0, length, start, 0, 1, 1, 1)]
             held = table.encode(records)
             self.assertTrue(support.library().write(held, b"aaab", None).accepted)
             self.same(held, b"aaab", None)
