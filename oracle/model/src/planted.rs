@@ -62,7 +62,26 @@ faults! {
     ParseOnlyRefusesEllipsis
     LongNameAllowed
     NameEndWraps
-    ReservedBytesUnchecked
+    FilesUnchecked
+    FileThousandAllowed
+    FileZeroAllowed
+    RootFileUnseen
+    FileOfTheStatementBefore
+    StatementEndsOneLate
+    FirstFileForAll
+    NestedStatementsFileUnseen
+    FileOfNodeZero
+    RepeatedFileZero
+    FileBeforeEarlier
+    BeginBeforeFile
+    FileBeginBeforeFile
+    AuditBeginBeforeFile
+    AuditFileAfterNode
+    RoomInThrees
+    FileRoomInThrees
+    AuditRoomInFours
+    OpenedLambdaStays
+    AuditOpenedDefStays
     EvenDictUnchecked
     ChildBeforeParentUnsound
     DepthOneMore

@@ -15,14 +15,17 @@ pub mod python;
 pub mod reads;
 pub mod rescues;
 pub mod shapes;
+pub mod sources;
 pub mod tables;
 pub mod written;
 
 use model::planted::planted;
 use model::planted::Fault;
+use model::table::MOST_FILE;
 
 use crate::cells::Cells;
 use crate::cells::Encoded;
+use crate::cells::Files;
 use crate::cells::Spans;
 use crate::cells::Style;
 use crate::cells::TEXT;
@@ -130,6 +133,9 @@ pub const ALL: &[Family] = &[
     family("tables, every byte", 2, ARCHIVE, tables::every_byte, [831_480, 7_380, 2_940]),
     family("tables, damaged", 2, ARCHIVE, tables::damaged, [1_183_610, 116_930, 9_150]),
     family("tables, depth", 2, ARCHIVE, tables::depth, [196_210, 42_630, 2_500]),
+    family("source files, corner cases", 1, ARCHIVE | READERS | RESCUE, sources::corners, [0, 0, 0]),
+    family("source files, each record", 2, ARCHIVE | READERS | RESCUE, sources::records, [0, 0, 0]),
+    family("source files, random", 2, ARCHIVE | READERS | RESCUE, sources::random, [0, 0, 0]),
     family("dialect rows and bytes", 1, MODULE | TYPE | AUDIT, dialects::rows_and_bytes, [14_200, 58, 11]),
     family("audits, corner cases", 1, AUDIT, audits::corners, [470, 317, 580]),
     family("audits, every small tree", 2, AUDIT, audits::small, [92_490, 47_030, 29_700]),
@@ -163,6 +169,16 @@ pub fn style(number: u64) -> Style {
         spelling: TEXT[(number % 7) as usize],
         shared: number / 7 % 2 == 0,
         spans: if number % 5 == 4 { Spans::Extreme } else { Spans::Apart },
+        files: files(number),
+    }
+}
+
+/// Every fourth table is of one source file, the others of several.
+fn files(number: u64) -> Files {
+    match number % 4 {
+        0 => Files::One(1 + (number / 4 % u64::from(MOST_FILE)) as u16),
+        1 => Files::Turns(2),
+        _ => Files::Each(number),
     }
 }
 
@@ -170,7 +186,7 @@ pub fn style(number: u64) -> Style {
 pub fn write_fitting(encoded: &mut Encoded, cells: &Cells, style: &Style) {
     encoded.write(cells, style);
     if encoded.names.len() > model::table::MOST_NAME_BYTES {
-        encoded.write(cells, &Style { spans: style.spans, ..crate::cells::PLAIN });
+        encoded.write(cells, &Style { spans: style.spans, files: style.files, ..crate::cells::PLAIN });
     }
 }
 
