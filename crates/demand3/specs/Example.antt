@@ -46,7 +46,7 @@ recordAt at kind detail len start begin stop size = record {
   begin = begin;
   stop = stop;
   size = size;
-  pad = 0;
+  file = 0;
   source = 0;
 }
 

@@ -33,7 +33,7 @@ topLevelOpen = 1 ∷ 1 ∷ 1 ∷ 0 ∷ 0 ∷ 0 ∷ 1 ∷ 1 ∷ 0 ∷ []
 
 -- before: a top-level if, 54, and nothing below it is looked at; after: a break outside of a for, 55
 abbrev pub span : ℕ → ℕ → Span
-span b e = record { begin = b; end = e }
+span b e = record { begin = b; end = e; file = 1 }
 
 abbrev pub before : List Err
 before = err topLevelIf 0 (span 0 11) ∷ []

@@ -7,7 +7,7 @@ use Prim.Native.Nat.{ℕ, _<_, _≤_}
 use lib.ListN.{length}
 use Rattle.forest.specs.Forest.{Node}
 use Rattle.table.specs.Numbers.{duplicatedParameter, repeatedNamed}
-use Rattle.table.specs.Answer.{Answer, accepted, refused}
+use Rattle.table.specs.Answer.{Answer, accepted, refused, spanValues, spanAt}
 use Rattle.deflist.specs.Unpack.{modeArgs}
 use Rattle.arguments.specs.Written.{Argument, positional, named, args, kwargs}
 use Rattle.bind.specs.FlatList.{FlatParam}
@@ -16,7 +16,7 @@ use Rattle.reached.specs.Rules.{Placed}
 
 -- what a refusal at a record carries
 abbrev pub spanned : Node → List ℕ
-spanned r = r .at ∷ r .begin ∷ r .stop ∷ []
+spanned r = r .at ∷ spanValues (spanAt r)
 
 -- 80: the first star or `**` of the call
 pub record FirstStar (qs : List Argument) (vs : List ℕ) : Type 0 where
