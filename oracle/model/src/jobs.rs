@@ -313,7 +313,8 @@ pub fn check_file(file: &[u8]) -> Answer {
 pub fn listed_answer(table: &Table, listed: &module::Listed) -> Answer {
     let words = |error: &module::Error| {
         let Span { file, begin, end } = table.span(error.node);
-        [error.number, file, begin, end]
+        let of_first = table.records.get(1).filter(|_| planted(Fault::ErrorFileOfTheFirst));
+        [error.number, of_first.map_or(file, |first| u32::from(first.file)), begin, end]
     };
     let errors: Vec<[u32; ERROR_WORDS]> = listed.in_order().map(words).collect();
     let total = errors.len() as u32;

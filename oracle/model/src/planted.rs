@@ -80,8 +80,7 @@ faults! {
     RoomInThrees
     FileRoomInThrees
     AuditRoomInFours
-    OpenedLambdaStays
-    AuditOpenedDefStays
+    ErrorFileOfTheFirst
     EvenDictUnchecked
     ChildBeforeParentUnsound
     DepthOneMore
@@ -168,6 +167,8 @@ faults! {
     FileDialectUnread
     FileNodesFirst
     FileHalfErrorStored
+    OpenedLambdaStays
+    AuditOpenedDefStays
     LargeTreesUnjudged
     HalfOfTheRandomJobs
 }

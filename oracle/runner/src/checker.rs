@@ -247,16 +247,18 @@ impl Checker {
         // Never more errors than twice the records, in the audit three times.
         differs |= model.errors.len() > request.table.len() / 12 || model.audited.len() > request.table.len() / 8;
         if let Ok(judged) = &judged {
-            self.tally.by_crate += 1;
             differs |= !judged.all().all(|answer| model.is_told_by_the_crate(answer));
+        }
+        if differs {
+            self.difference(request, &effect, &expected, judged.as_ref().map(|judged| shown(request, model, judged)));
+        } else if let Some(recorder) = &mut self.recorder {
+            recorder.offer(request, model, judged.is_ok());
+        }
+        if judged.is_ok() {
+            self.tally.by_crate += 1;
             if self.tally.by_crate % OWN_SPANS_ONCE_IN == 0 {
                 self.check_own_spans(request, model);
             }
-        }
-        if differs {
-            self.difference(request, &effect, &expected, judged.ok().map(|judged| shown(model, judged)));
-        } else if let Some(recorder) = &mut self.recorder {
-            recorder.offer(request, model, judged.is_ok());
         }
     }
 
@@ -272,15 +274,12 @@ impl Checker {
         table == front(request.table) && names == request.names
     }
 
-    fn difference(&mut self, request: &Request, effect: &Effect, expected: &Effect, judged: Option<Answer>) {
+    fn difference(&mut self, request: &Request, effect: &Effect, expected: &Effect, judged: Result<String, &NotATree>) {
         self.tally.differences += 1;
         if self.tally.first.is_some() {
             return;
         }
-        let judged = match judged {
-            Some(answer) => Effect::before(&request.job).after(&answer).to_string(),
-            None => "not asked".to_owned(),
-        };
+        let judged = judged.unwrap_or("not asked".to_owned());
         let mut text = String::new();
         let mut line = |what: &str, value: &dyn std::fmt::Display| {
             writeln!(text, "    {what}: {value}").expect("a String can be written");
@@ -418,10 +417,17 @@ fn judged(request: &Request, model: &Answer) -> Built<Judged> {
     }
 }
 
-/// Of the crate's answers the one that is not the model's, or any.
-fn shown(model: &Answer, judged: Judged) -> Answer {
-    let differs = judged.all().find(|answer| !model.is_told_by_the_crate(answer)).cloned();
-    differs.unwrap_or(judged.by_statement)
+/// What the crate's answer makes of the memory: of two the one that is not the model's. With its list, where that does not show in the memory.
+fn shown(request: &Request, model: &Answer, judged: &Judged) -> String {
+    let differing = judged.all().find(|answer| !model.is_told_by_the_crate(answer));
+    let answer = differing.unwrap_or(&judged.by_statement);
+    let effect = Effect::before(&request.job).after(answer);
+    let lists = [&answer.errors == &model.errors, &answer.audited == &model.audited];
+    match lists {
+        [true, true] => effect.to_string(),
+        [false, _] => format!("{effect}, whole list {:?}, the model's {:?}", answer.errors, model.errors),
+        [_, false] => format!("{effect}, whole list {:?}, the model's {:?}", answer.audited, model.audited),
+    }
 }
 
 /// The crate's module pass over what a file holds.
