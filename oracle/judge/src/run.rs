@@ -417,8 +417,8 @@ fn parents(table: &Table) -> Vec<usize> {
     parents
 }
 
-/// What the crate refuses on a tree that has the table's own spans: number, file, begin, end of each error. The file is that of the top-level
-/// statement.
+/// What the crate refuses on a tree that has the table's own spans: number, file, begin, end of each error. The file is that of the
+/// top-level statement.
 pub mod own_spans {
     use super::*;
 

@@ -417,16 +417,15 @@ fn judged(request: &Request, model: &Answer) -> Built<Judged> {
     }
 }
 
-/// What the crate's answer makes of the memory: of two the one that is not the model's. With its list, where that does not show in the memory.
+/// What the crate's answer makes of the memory: of two answers the one that is not the model's. With the lists, where they differ.
 fn shown(request: &Request, model: &Answer, judged: &Judged) -> String {
     let differing = judged.all().find(|answer| !model.is_told_by_the_crate(answer));
     let answer = differing.unwrap_or(&judged.by_statement);
     let effect = Effect::before(&request.job).after(answer);
-    let lists = [&answer.errors == &model.errors, &answer.audited == &model.audited];
-    match lists {
-        [true, true] => effect.to_string(),
-        [false, _] => format!("{effect}, whole list {:?}, the model's {:?}", answer.errors, model.errors),
-        [_, false] => format!("{effect}, whole list {:?}, the model's {:?}", answer.audited, model.audited),
+    match (answer.errors == model.errors, answer.audited == model.audited) {
+        (true, true) => effect.to_string(),
+        (false, _) => format!("{effect}, whole list {:?}, the model's {:?}", answer.errors, model.errors),
+        _ => format!("{effect}, whole list {:?}, the model's {:?}", answer.audited, model.audited),
     }
 }
 

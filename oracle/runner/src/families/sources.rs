@@ -272,8 +272,9 @@ fn lists_of_two_files(checker: &mut Checker) {
     let without_node = |error: [u32; AUDIT_WORDS]| -> [u32; ERROR_WORDS] { [error[0], error[1], error[2], error[3]] };
     let module = [(52, 7, 1), (51, 7, 5), (11, 7, 3), (55, 7, 6), (57, 7, 15), (60, 7, 4), (61, 5, 13)];
     let module: Vec<[u32; ERROR_WORDS]> = module.iter().map(spanned).map(without_node).collect();
-    let audit = [(52, 7, 1), (51, 7, 5), (55, 7, 6), (57, 7, 15), (60, 7, 4), (61, 5, 13), (11, 7, 3), (22, 5, 12), (33, 999, 20), (45, 999, 20)];
-    let mut audit: Vec<[u32; AUDIT_WORDS]> = audit.iter().map(spanned).collect();
+    let own = [(52, 7, 1), (51, 7, 5), (55, 7, 6), (57, 7, 15), (60, 7, 4), (61, 5, 13)];
+    let refused = [(11, 7, 3), (22, 5, 12), (33, 999, 20), (45, 999, 20)];
+    let mut audit: Vec<[u32; AUDIT_WORDS]> = own.iter().chain(&refused).map(spanned).collect();
     // 22 has the name's span.
     audit[7][2..4].copy_from_slice(&[1_003_600, 1_003_601]);
     let listed = jobs::module(table, names, &LITTLE).errors;
