@@ -15,7 +15,7 @@ import tempfile
 ROOT = pathlib.Path(__file__).resolve().parent.parent
 DOCUMENTS = ("docs/COMMANDS.md",)
 MARKED = re.compile(r"^<!-- shown: (.+) -->\n((?:    .*\n|\n(?=    ))+)", re.M)
-FIRST = ("README.md", "./ducat check samples/example.table", "    nodes 6\n    13 14 15\n    55 20 25\n    errors 2\n")
+FIRST = ("README.md", "./ducat check samples/example.table", "    nodes 6\n    13 1 14 15\n    55 1 20 25\n    errors 2\n")
 
 
 def printed(command, room):
