@@ -232,40 +232,42 @@ uint32_t starlark_version(void);
 /* The table check: 1 to 4. Accepted: nothing. */
 uint32_t starlark_table(const uint8_t *table, size_t table_len, const uint8_t *names, size_t names_len, uint32_t *out);
 
-/* The parameter list of the Def or Lambda at `node`: 1 to 4, 6, 7, 10 to 18 (with the parameter's file in out[4]).
+/* The parameter list of the Def or Lambda at `node`: 1 to 4, 6, 7, 10 to 18.
  * Accepted: out[0..10) begin and end of pos_only, pos_or_named, args, named_only and kwargs, as indices in the list without its marks
  * (no args: the empty range at the end of pos_or_named; no kwargs: the empty range at the count); out[10] the count.
  * modes[i] is then the mode of parameter i (enum starlark_mode). The buffer needs a byte for each
- * written parameter, marks counted (else 7); bytes past the count stay. */
+ * written parameter, marks counted (else 7); bytes past the count stay. 10 to 18 have the parameter's source file number in out[4]. */
 uint32_t starlark_params(const uint8_t *table, size_t table_len, const uint8_t *names, size_t names_len, size_t node,
                          uint8_t *modes, size_t modes_len, uint32_t *out);
 
-/* The arguments of the Call at `node`: 1 to 4, 6, 20 to 24 (with the argument's file in out[4]).
- * Accepted: out[0] positional, out[1] named, out[2] the place of `*`, out[3] the place of `**`, from 0, or STARLARK_NONE. */
+/* The arguments of the Call at `node`: 1 to 4, 6, 20 to 24.
+ * Accepted: out[0] positional, out[1] named, out[2] the place of `*`, out[3] the place of `**`, from 0, or STARLARK_NONE.
+ * 20 to 24 have the argument's source file number in out[4]. */
 uint32_t starlark_call(const uint8_t *table, size_t table_len, const uint8_t *names, size_t names_len, size_t node,
                        uint32_t *out);
 
 /* Which argument of the Call at `call` reaches which parameter of the Def at `def` (no Lambda): 1 to 4, 6, 7, 10 to 18, 20 to 24, 80 to 84.
- * The two may be of different source files: out[4] is the Def's for 10 to 18 and 84, the Call's for 20 to 24 and 80 to 83.
  * Accepted: out[0] the number of parameters, marks omitted, out[1] the number of arguments. The list then begins with a word for each
  * parameter, the node of the argument that it takes, or 0 for its default and for `*args` and `**kwargs`; and then a word for each argument,
  * the index of the parameter that it reached. It needs a word for each written parameter, marks counted, and for each argument (else 7);
- * words past the answer stay. `list_len` counts words. */
+ * words past the answer stay. `list_len` counts words. The two nodes may be of different source files: 10 to 18 and 84 have the Def's number in out[4],
+ * 20 to 24 and 80 to 83 the Call's. */
 uint32_t starlark_bind(const uint8_t *table, size_t table_len, const uint8_t *names, size_t names_len, size_t call, size_t def,
                        uint32_t *list, size_t list_len, uint32_t *out);
 
-/* Whether the expression at `node` is a target: 1 to 4, 6, 30 (with the file in out[4]). Accepted: out[0] its Identifier, Dot and Index leaves. */
+/* Whether the expression at `node` is a target: 1 to 4, 6, 30. Accepted: out[0] its Identifier, Dot and Index leaves.
+ * 30 has the source file number in out[4]. */
 uint32_t starlark_target(const uint8_t *table, size_t table_len, const uint8_t *names, size_t names_len, size_t node,
                          uint32_t *out);
 
-/* The assignment at `node`: 1 to 4, 6, 31, 30, 32, 33 (with the file in out[4]). Accepted: out[0] its target's leaves. */
+/* The assignment at `node`: 1 to 4, 6, 31, 30, 32, 33. Accepted: out[0] its target's leaves. 30 to 33 have the source file
+ * number in out[4]. */
 uint32_t starlark_assignment(const uint8_t *table, size_t table_len, const uint8_t *names, size_t names_len, size_t node,
                              uint32_t *out);
 
-/* Whether the expression at `node` is a type in a dialect (nine bytes, or none for Extended): 1 to 7, 45, 40 to 44 (with the file in out[4]).
- * Accepted: nothing.
+/* Whether the expression at `node` is a type in a dialect (nine bytes, or none for Extended): 1 to 7, 45, 40 to 44. Accepted: nothing.
  * shapes[i] is then the shape of the node i places behind `node`, where it is read as a type or argument (enum starlark_shape);
- * the other bytes stay. The buffer needs a byte for each node of the type (else 7). */
+ * the other bytes stay. The buffer needs a byte for each node of the type (else 7). 40 to 45 have the source file number in out[4]. */
 uint32_t starlark_type(const uint8_t *table, size_t table_len, const uint8_t *names, size_t names_len, const uint8_t *dialect,
                        size_t dialect_len, size_t node, uint8_t *shapes, size_t shapes_len, uint32_t *out);
 
@@ -276,11 +278,11 @@ uint32_t starlark_module(const uint8_t *table, size_t table_len, const uint8_t *
                          size_t dialect_len, uint32_t *errors, size_t errors_len, uint32_t *out);
 
 /* The audit under a dialect (nine bytes, or none for Extended), every job on every node that it fits: 1 to 5. Accepted: out[0] how many errors there
- * are, at most STARLARK_AUDIT_ERRORS; 0 says that the module pass and every job accept. STARLARK_AUDIT_WORDS words of `errors` for each: number
- * (10 to 18, 20 to 24, 30 to 33, 40 to 45, 50 to 61), source file number, begin and end of the span, node. First the module pass's without 10 to 18;
- * then, node by node, what is refused there: the parameter list of a Def or Lambda, the arguments of a Call, an Assign or AssignModify, the target of
- * a For, a type (of a return, a parameter or an assignment). The first errors that fit whole are stored, the other words stay; a list that is too
- * short is no refusal. */
+ * are, at most STARLARK_AUDIT_ERRORS; 0 says that the module pass and every job accept. STARLARK_AUDIT_WORDS words of `errors` for each:
+ * number (10 to 18, 20 to 24, 30 to 33, 40 to 45, 50 to 61), source file number, begin and end of the span, node. First the module pass's without
+ * 10 to 18; then, node by node, what is refused there: the parameter list of a Def or Lambda, the arguments of a Call, an Assign or AssignModify, the
+ * target of a For, a type (of a return, a parameter or an assignment). The first errors that fit whole are stored, the other words stay; a list that
+ * is too short is no refusal. */
 uint32_t starlark_audit(const uint8_t *table, size_t table_len, const uint8_t *names, size_t names_len, const uint8_t *dialect,
                         size_t dialect_len, uint32_t *errors, size_t errors_len, uint32_t *out);
 

@@ -82,8 +82,8 @@ pub struct Refused {
     pub at: At,
 }
 
-/// Where a refusal stands: nowhere, at a node, or at a span of one. `file` is the node's source file number: the span is one in that script. `earlier`
-/// is for 11 and 22, and None for every other: the node of the first parameter or argument of the list that has the same name.
+/// Where a refusal stands: nowhere, at a node, or at a span of one. `file` is the node's source file number: the span is one in that script.
+/// `earlier` is for 11 and 22, and None for every other: the node of the first parameter or argument of the list that has the same name.
 #[derive(Clone, Copy, Debug, PartialEq, Eq)]
 pub enum At {
     Nowhere,

@@ -10,6 +10,7 @@ use Rattle.fields.specs.Field.{field}
 use Rattle.forest.specs.Forest.{sizeOf, kidsOf, restOf, forestIn, forest, count, countTree}
 use Rattle.forest.specs.Names.{nameOf, same}
 use Rattle.soundness.specs.Kinds.{kindIn, kindOf}
+use Rattle.soundness.specs.Files.{fileSound, endsBy, topOf, filesOf}
 use Rattle.soundness.specs.Sound.{nameSound, spanSound, sourceSound, fieldsSound, wholeTrees, classes, permitted}
 use Rattle.soundness.specs.Sound.{wanted, permits, kidsSound, soundNode, soundAt, rootSound, contextOf, recordSound}
 use Rattle.soundness.specs.Sound.{firstFalse, firstUnsound}
@@ -30,7 +31,7 @@ use Rattle.demand3.proofs.Demand3.{ranges-are-the-cuts}
 pub sound : checkOf table names ≡ accepted []
 unfolding checkOf lengthSound field sizeOf kidsOf restOf forestIn forest count countTree same kindIn kindOf nameSound
     spanSound sourceSound fieldsSound wholeTrees classes permitted wanted permits kidsSound soundNode soundAt rootSound
-    contextOf recordSound firstFalse firstUnsound classWeight weight firstDeep deepIn
+    fileSound endsBy topOf filesOf contextOf recordSound firstFalse firstUnsound classWeight weight firstDeep deepIn
 sound = refl
 
 -- what is given: with a byte more in the buffer than there are written parameters

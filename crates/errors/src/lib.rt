@@ -58,12 +58,12 @@ fn push_short(e: Err, errors: &mut [u32]) -> usize
 fn push_long(e: Err, errors: &mut [u32]) -> usize
     ensures { λ r. ⌜ Stores Audit (only e) (now (errors .entry)) r (now (errors .exit)) ⌝ }
 {
-    let span = e.span;
+    let place = e.span;
     if WIDTH_WITH_NODE <= errors.len() {
         errors[0] = e.number;
-        errors[1] = span.file;
-        errors[2] = span.begin;
-        errors[3] = span.end;
+        errors[1] = place.file;
+        errors[2] = place.begin;
+        errors[3] = place.end;
         errors[4] = e.node;
     }
     1

@@ -4,3 +4,4 @@ pub mod Accepted
 pub mod Promises
 pub mod Buffer
 pub mod Twice
+pub mod Files

@@ -21,8 +21,8 @@ use Rattle.rescue.specs.Good.{headGood, blocksPass, goodTable}
 use Rattle.rescue.specs.Cut.{largestCut}
 use Rattle.rescue.specs.Job.{tableKept}
 
--- a child that can be kept, in a table that has so many name bytes: a statement, its nodes are sound and have the number
--- of one source file, and none is too deep under a root Statements
+-- a child that can be kept, in a table that has so many name bytes: a statement, its nodes are sound and have the
+-- number of one source file, and none is too deep under a root Statements
 unfoldable pub keepable : ℕ → Tree → Bool
 keepable names (node r ks) =
     eqb (classOf (r .kind)) statement

@@ -211,8 +211,8 @@ fn leading(row: &[u8], names: usize) -> usize
     done
 }
 
-// Whether a child can be kept: a statement that has the number of a source file, its nodes are sound in a table that has
-// `names` name bytes, and none is too deep under the root.
+// Whether a child can be kept: a statement that has the number of a source file, its nodes are sound in a table that
+// has `names` name bytes, and none is too deep under the root.
 fn can_keep(child: &[u8], names: usize) -> bool
     ensures { λ r. ⌜ r ≡ keepableAt names (now (child .entry)) ⌝ }
 {

@@ -6,30 +6,30 @@
 -- to the end, so sizes need not be sound. Cite `clean-files`, `clean-exactly`, and for a node of a clean table
 -- `subtree-file`. Assumes nothing.
 use mathlib.Core.Path.{_≡_, refl, sym, ap, _∙_}
-use mathlib.Core.Bool.{Bool, true, false, _&&_}
+use mathlib.Core.Bool.{Bool, true, false, _&&_, and-true, and-false}
 use mathlib.Core.List.{List, [], _∷_, _++_}
 use mathlib.Core.Logic.{⊎-elim}
 use Prim.Native.Nat.{ℕ, zero, suc, _+_, _-_, _*_, _/_, _<_, _≤_, max}
 use native.Mathlib.Omega.{arith}
-use lib.ListN.{length, take, drop, length-drop}
-use lib.Seq.{take-all, drop-drop, length-take-le}
+use lib.ListN.{length, drop, length-drop}
+use lib.Seq.{take-all, drop-drop}
 use lib.Dec.{eqb, leb}
-use borrow.Author.Tests.{eq-eqb, eqb-true, eqb-false, le-leb, lt-leb, leb-true}
+use borrow.Author.Tests.{eqb-true, eqb-false, le-leb, lt-leb, leb-true}
 use native.Mathlib.Nat.{zero-add, add-zero, suc-add}
 use Rattle.fields.specs.Choice.{if'}
 use Rattle.fields.proofs.Basics.{clash, and-both, and-left, and-right, le-or-lt}
-use Rattle.forest.specs.Forest.{Node, sizeOf, nodeOf, spanOf, kidsOf, restOf, Tree, node, Forest, none, _then_}
+use Rattle.forest.specs.Forest.{Node, sizeOf, spanOf, kidsOf, restOf, Tree, node, Forest, none, _then_}
 use Rattle.forest.specs.Forest.{forest, nodes, nodesOf}
 use Rattle.forest.specs.declared.Found.the-variants.{Nothing}
 use Rattle.forest.proofs.Stretch.{records, nodes-records, forest-none, forest-tree, length-kids, length-rest}
-use Rattle.forest.proofs.Stretch.{record-or-none, records-take, kids-records}
+use Rattle.forest.proofs.Stretch.{record-or-none, kids-records}
 use Rattle.soundness.specs.Kinds.{kindOf, classOf}
 use Rattle.soundness.specs.Files.{Range, range, fileNumbers, anyFile, fileSound, recordAt, rootStatements, topOf}
 use Rattle.soundness.specs.Files.{filesOf, filesIn, treeIn, filesTop, filesSound}
 use Rattle.soundness.specs.Sound.{Context, context, contextOf, fieldsSound, soundNode, soundAt, rootSound}
 use Rattle.soundness.specs.Sound.{nameSound, spanSound, sourceSound, recordSound, firstFalse, firstUnsound}
 use Rattle.soundness.proofs.Search.{all-found}
-use Rattle.soundness.proofs.Records.{and-false, sound-covers}
+use Rattle.soundness.proofs.Records.{sound-covers}
 use Rattle.soundness.proofs.SoundTables.{node-fields, record-clean, root-covers, here-size, nested}
 use Rattle.soundness.proofs.Tops.{top-within, top-behind, top-first, top-root, files-root, files-other}
 use Rattle.soundness.proofs.Tops.{files-top, files-under, top-upto, top-self, top-reach, top-past}
@@ -62,15 +62,6 @@ mutual
 pub in-records : (n i : ℕ) (bs : List ℕ) → filesIn n (forest i bs) ≡ allHave n (records (length bs / 24) i bs)
 in-records n i bs = in-nodes n (forest i bs) ∙ ap (allHave n) (nodes-records i bs)
 
-have-from : (t : List ℕ) (n m a : ℕ) → ((j : ℕ) → a ≤ j → j < a + m → recordAt t j .file ≡ n)
-    → allHave n (records m a (drop (24 * a) t)) ≡ true
-have-from t n zero a f = refl
-have-from t n (suc m) a f =
-    let next : 24 * a + 24 ≡ 24 * (a + 1) = omega arith in
-    rw (drop-drop 24 (24 * a) t, next)
-    (and-both _ _ (eq-eqb (recordAt t a .file) n (f a (omega arith) (omega arith)))
-    (have-from t n m (a + 1) (λ j h g. f j (omega arith) (omega arith))))
-
 -- record j of a table has a number that it may have; m records from record k on have
 abbrev pub fits : List ℕ → ℕ → Bool
 fits t j = fileSound (filesOf t j) (recordAt t j .file)
@@ -98,7 +89,7 @@ each-fit t k (suc m) f = and-both _ _ (f k (omega arith) (omega arith))
     (each-fit t (k + 1) m (λ j h g. f j (omega arith) (omega arith)))
 
 -- one number may only be itself
-only-one : (n a : ℕ) → fileSound (range a a) n ≡ eqb n a
+pub only-one : (n a : ℕ) → fileSound (range a a) n ≡ eqb n a
 unfolding fileSound
 only-one n a = go (eqb n a) refl
   where
@@ -217,10 +208,6 @@ module _ (t : List ℕ) (covers : 24 * sizeOf t ≡ length t) (some : 24 ≤ len
       let alone = forest-none (0 + spanOf t / 24) (restOf t) (omega (arith, length-rest t)) in
       let this = statement-is t 0 some (files-other t e) (λ j h g. top-root t e j) in
       rw (forest-tree 0 t some, e, alone) (and-true _ ∙ this ∙ ap (allFit t 0) all)
-    where
-      and-true : (a : Bool) → (a && true) ≡ a
-      and-true true = refl
-      and-true false = refl
 
   pub sound-fits : filesSound (forest 0 t) ≡ allFit t 0 (length t / 24)
   sound-fits = go (rootStatements t) refl
@@ -241,17 +228,19 @@ fields-file x r e =
     (nameSound (kindOf (r .kind) .named) (x .names) (r .nameLen) (r .nameStart)) (spanSound (r .begin) (r .stop))
     (fileSound (x .files) (r .file)) (sourceSound (r .kind) (r .source) (r .nameLen)) e
 
-sound-file : (m : ℕ) (f : Range) (i : ℕ) (bs : List ℕ) → soundAt (context m f) i bs ≡ true
-    → fileSound f (nodeOf i bs .file) ≡ true
-unfolding soundAt
-sound-file m f i bs e = fields-file (context m f) (nodeOf i bs)
-    (node-fields (context m f) (nodeOf i bs) (forest (i + 1) (kidsOf bs)) e)
+pub node-file : (x : Context) (r : Node) (ks : Forest) → soundNode x r ks ≡ true
+    → fileSound (x .files) (r .file) ≡ true
+node-file x r ks e = fields-file x r (node-fields x r ks e)
 
--- where all else is sound, it decides
-file-sound : (m : ℕ) (f : Range) (i : ℕ) (bs : List ℕ) → soundAt (context m anyFile) i bs ≡ true
-    → fileSound f (nodeOf i bs .file) ≡ true → soundAt (context m f) i bs ≡ true
-unfolding soundAt soundNode fieldsSound
-file-sound m f i bs e s = rw s (rw (sound-file m anyFile i bs e) at e)
+-- a node that is sound with other numbers is sound where it has one of these
+pub node-numbers : (m : ℕ) (f g : Range) (r : Node) (ks : Forest) → soundNode (context m f) r ks ≡ true
+    → fileSound g (r .file) ≡ true → soundNode (context m g) r ks ≡ true
+unfolding soundNode fieldsSound
+node-numbers m f g r ks e s = rw s (rw (node-file (context m f) r ks e) at e)
+
+pub most-number : (f : Range) (n : ℕ) → fileSound f n ≡ true → n ≤ f .most
+unfolding fileSound
+most-number f n e = leb-true n (f .most) (and-right (leb (f .least) n) _ e)
 
 -- a table of no record
 module _ (t names : List ℕ) (short : length t < 24) where
@@ -266,8 +255,8 @@ module _ (t names : List ℕ) (short : length t < 24) where
 -- THEOREM: the file numbers of a table with no unsound record are sound down the tree
 module _ (t names : List ℕ) (e : firstUnsound t names ≡ Nothing) where
   pub clean-fits : (j : ℕ) → j < length t / 24 → fits t j ≡ true
-  unfolding recordSound contextOf
-  clean-fits j h = sound-file (length names) (filesOf t j) j (drop (24 * j) t)
+  unfolding recordSound contextOf soundAt
+  clean-fits j h = node-file (contextOf t names j) (recordAt t j) (forest (j + 1) (kidsOf (drop (24 * j) t)))
       (and-right (if' (eqb j 0) (λ _. rootSound t) (λ _. true)) _ (record-clean t names e j h))
 
   pub clean-files : filesSound (forest 0 t) ≡ true
@@ -280,10 +269,10 @@ module _ (t names : List ℕ) (e : firstUnsound t names ≡ Nothing) where
 module _ (t names : List ℕ) (root : rootSound t ≡ true) (else : (i : ℕ) → i < length t / 24
     → soundAt (context (length names) anyFile) i (drop (24 * i) t) ≡ true) where
   fits-clean : allFit t 0 (length t / 24) ≡ true → firstUnsound t names ≡ Nothing
-  unfolding firstUnsound recordSound contextOf
+  unfolding firstUnsound recordSound contextOf soundAt
   fits-clean f = all-found (recordSound t names) (length t / 24) (λ j h. and-both _ _ (go (eqb j 0))
-      (file-sound (length names) (filesOf t j) j (drop (24 * j) t) (else j h)
-      (fit-each t 0 (length t / 24) f j (omega arith) (omega arith))))
+      (node-numbers (length names) anyFile (filesOf t j) (recordAt t j) (forest (j + 1) (kidsOf (drop (24 * j) t)))
+      (else j h) (fit-each t 0 (length t / 24) f j (omega arith) (omega arith))))
     where
       go : (b : Bool) → if' b (λ _. rootSound t) (λ _. true) ≡ true
       go true = root
@@ -306,6 +295,19 @@ module _ (t names : List ℕ) (e : firstUnsound t names ≡ Nothing) where
       (λ (l : topOf t j < j). eqb-true (recordAt t j .file) (recordAt t (topOf t j) .file)
       (sym (under-is t (topOf t j) j l refl) ∙ clean-fits t names e j h))
       (le-or-lt j (topOf t j))
+
+  -- which is 999 at most
+  top-number : (k : ℕ) → topOf t k ≡ k → k < length t / 24 → recordAt t k .file ≤ 999
+  top-number zero top h = go (rootStatements t) refl
+    where
+      go : (b : Bool) → rootStatements t ≡ b → recordAt t 0 .file ≤ 999
+      go true r = omega (arith, most-number _ _ (rw (files-root t r) at (clean-fits t names e 0 h)))
+      go false r = omega (arith, most-number _ _ (rw (files-other t r) at (clean-fits t names e 0 h)))
+  top-number (suc k) top h =
+      omega (arith, most-number _ _ (rw (files-top t (suc k) (omega arith) top) at (clean-fits t names e (suc k) h)))
+
+  pub clean-number : (j : ℕ) → j < length t / 24 → recordAt t j .file ≤ 999
+  clean-number j h = rw (top-file j h) (top-number (topOf t j) (top-self t j) (omega (arith, top-upto t j)))
 
   module _ (i : ℕ) (h : i < length t / 24) (no-row : i ≡ 0 → rootStatements t ≡ false) where
     top-shared : (j : ℕ) → i ≤ j → j < i + sizeOf (drop (24 * i) t) → topOf t j ≡ topOf t i
@@ -334,20 +336,7 @@ module _ (t names : List ℕ) (e : firstUnsound t names ≡ Nothing) where
         let size = here-size t names e i h in
         top-file j (omega arith) ∙ rw (top-shared j from before) (sym (top-file i h))
 
-    -- the same down its tree
-    pub subtree-files : filesIn (recordAt t i .file)
-        (forest i (take (24 * sizeOf (drop (24 * i) t)) (drop (24 * i) t))) ≡ true
-    subtree-files =
-        let s : ℕ = sizeOf (drop (24 * i) t) in
-        let bs : List ℕ = take (24 * s) (drop (24 * i) t) in
-        let size = here-size t names e i h in
-        let long : length bs ≡ 24 * s = length-take-le (24 * s) (drop (24 * i) t) (simp length-drop (omega arith)) in
-        let all : length bs / 24 ≡ s = omega arith in
-        let same : records s i bs ≡ records s i (drop (24 * i) t) =
-        records-take s i (24 * s) (drop (24 * i) t) (omega arith) in
-        in-records (recordAt t i .file) i bs ∙ rw (all, same) (have-from t (recordAt t i .file) s i subtree-file)
-
-  -- THEOREM: a table whose file numbers are all zero is one record, a root Statements
+  -- LAW: where the file numbers are all zero, the root is a Statements, and there is no other record
   module _ (some : 24 ≤ length t) (zeros : (j : ℕ) → j < length t / 24 → recordAt t j .file ≡ 0) where
     zero-number : (j : ℕ) → j < length t / 24 → filesOf t j ≡ fileNumbers → ⊥
     unfolding fileSound
@@ -356,16 +345,16 @@ module _ (t names : List ℕ) (e : firstUnsound t names ≡ Nothing) where
         let least = leb-true 1 (recordAt t j .file) (and-left _ _ (rw f at fits)) in
         omega (arith, zeros j h)
 
-    pub zeros-row : rootStatements t ≡ true
-    zeros-row = go (rootStatements t) refl
+    pub zero-root : rootStatements t ≡ true
+    zero-root = go (rootStatements t) refl
       where
         go : (b : Bool) → rootStatements t ≡ b → rootStatements t ≡ true
         go true r = r
         go false r = absurd (zero-number 0 (omega arith) (files-other t r))
 
-    pub zeros-alone : length t ≡ 24
-    zeros-alone = ⊎-elim
+    pub zero-length : length t ≡ 24
+    zero-length = ⊎-elim
         (λ (l : length t ≤ 24). omega arith)
         (λ (l : 24 < length t). absurd (zero-number 1 (omega (arith, root-covers t names e some))
-        (files-top t 1 (omega arith) (top-first t zeros-row))))
+        (files-top t 1 (omega arith) (top-first t zero-root))))
         (le-or-lt (length t) 24)

@@ -4,5 +4,6 @@ pub mod Tops
 pub mod Records
 pub mod SoundTables
 pub mod Files
+pub mod OneStatement
 pub mod FileCases
 pub mod Promises

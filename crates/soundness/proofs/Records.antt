@@ -1,6 +1,10 @@
--- Laws of the rule of a record with its children, in the terms of code. Assumes nothing.
+-- Laws of the rule of a record with its children, in the terms of code. Children are counted and judged one by one, and
+-- those that are left decide (`Counting`, `Fitting`). A record is judged by its fields, its size and its children
+-- (`record-fields`, `record-size`, `record-kids`), wherever it stands (`sound-index`). The loop over a table keeps the
+-- top-level statement of the record before (`Going`, with Tops), the loop over a statement the numbers that the next
+-- record may have (`Judging`); in both the records that are left decide. Assumes nothing.
 use mathlib.Core.Path.{_≡_, refl, sym, ap, _∙_}
-use mathlib.Core.Bool.{Bool, true, false, _&&_}
+use mathlib.Core.Bool.{Bool, true, false, _&&_, and-false}
 use mathlib.Core.List.{List, [], _∷_}
 use Prim.Native.Nat.{ℕ, _+_, _-_, _*_, _/_, _<_, _≤_}
 use native.Mathlib.Numerals.{add-one}
@@ -23,7 +27,6 @@ use Rattle.soundness.specs.Kinds.{statement, Children, kindOf, classOf}
 use Rattle.soundness.specs.Sound.{Context, fieldsSound, wholeTrees, classes, permitted, fixed, between}
 use Rattle.soundness.specs.Sound.{wanted, permits, kidsSound, soundNode, soundAt, context, contextOf}
 use Rattle.soundness.specs.Sound.{contextIn, rootSound, recordSound, firstFalse, firstUnsound, soundIn}
-use Rattle.soundness.specs.Sound.{unsoundIn}
 use Rattle.soundness.specs.Packed.{ruleOf, numberSound, LastFrom, childSound, childOf, rootEnd, Turned}
 use Rattle.soundness.proofs.Packing.{length-wanted}
 use Rattle.soundness.proofs.Search.{Looking, look-start, look-here, look-on, look-end}
@@ -94,10 +97,6 @@ module _ {t left : List ℕ} {n : ℕ} (s : Counting t left n) where
       omega (arith, s .all)
 
 -- both of two tests
-pub and-false : (a : Bool) → (a && false) ≡ false
-and-false true = refl
-and-false false = refl
-
 -- what children a rule permits, as the two tests of code
 permits-tests : (c : Children) (cs : List ℕ)
     → permits c cs ≡ (numberSound c (length cs) && same cs (wanted c (length cs)))
@@ -416,11 +415,11 @@ module _ (t names : List ℕ) {b : Bool} (b-is : b ≡ rootSound t) (b-yes : b �
 -- record i of a top-level statement, as code tests it: the numbers that it may have are those that the loop keeps
 pub record Judging (names : ℕ) (bs : List ℕ) (n i least most : ℕ) : Type 0 where
   pub looking : Looking (soundIn (contextIn names bs) bs) n i
-  pub told : contextIn names bs i ≡ context names (range least most)
+  pub numbers : contextIn names bs i ≡ context names (range least most)
 
 pub judge-start : (names : ℕ) (bs : List ℕ) (n : ℕ) → Judging names bs n 0 1 999
 unfolding contextIn
-judge-start names bs n = record { looking = look-start (soundIn (contextIn names bs) bs) n; told = refl }
+judge-start names bs n = record { looking = look-start (soundIn (contextIn names bs) bs) n; numbers = refl }
 
 module _ {names : ℕ} {bs : List ℕ} {n i least most : ℕ} (s : Judging names bs n i least most) where
   pub judge-end : n ≤ i → Nothing ≡ firstFalse (soundIn (contextIn names bs) bs) 0 n
@@ -429,7 +428,7 @@ module _ {names : ℕ} {bs : List ℕ} {n i least most : ℕ} (s : Judging names
   module _ (h : i < n) {r : Bool} (r-is : r ≡ soundAt (context names (range least most)) 0 (lent bs i)) where
     judge-test : soundIn (contextIn names bs) bs i ≡ r
     unfolding soundIn
-    judge-test = rw (s .told) (sound-index (context names (range least most)) (drop (24 * i) bs) i
+    judge-test = rw (s .numbers) (sound-index (context names (range least most)) (drop (24 * i) bs) i
         ∙ ap (soundAt (context names (range least most)) 0) (sym (tail-part (24 * i) bs)) ∙ sym r-is)
 
     pub judge-here : r ≡ false → At i ≡ firstFalse (soundIn (contextIn names bs) bs) 0 n
@@ -439,5 +438,5 @@ module _ {names : ℕ} {bs : List ℕ} {n i least most : ℕ} (s : Judging names
     unfolding contextIn
     judge-on e file-is = record {
       looking = look-on (s .looking) h (judge-test ∙ e);
-      told = rw (ne-eqb (i + 1) 0 (λ z. omega arith), file-is) refl;
+      numbers = rw (ne-eqb (i + 1) 0 (λ z. omega arith), file-is) refl;
     }

@@ -1,9 +1,10 @@
 -- Which top-level statement a record is in, in steps. `topOf` goes along the index: record i + 1 is in the statement of
--- record i until that ends. The loop of code keeps the end and the number of that statement (`After`), and each turn is
--- one case of the definition: within it the record has its number, at its end the record is the next one (`turn-files`,
--- `turn-after`). The end of a root that is no Statements is the table's, which is why the root has to cover it.
--- `top-same` and `files-same` are what the rescue asks: only the records before i count, and not the root's size.
--- Assumes nothing.
+-- record i until that ends. So a statement has the records that its size says, and the next one follows (`top-within`,
+-- `top-behind`). The loop of code keeps the end and the number of that statement (`After`), and each turn is one case
+-- of the definition: within it the record has its number, at its end the record begins the next one (`turn-files`). The
+-- end of a root that is no Statements is the table's, which is why the root has to cover it. `top-same` and
+-- `files-same` say what `topOf` looks at: the records before i, and of the root not the size, so that a record has the
+-- same context in every cut that has it. Assumes nothing.
 use mathlib.Core.Path.{_≡_, refl, sym, ap, _∙_}
 use mathlib.Core.Bool.{Bool, true, false, _&&_}
 use mathlib.Core.List.{List}
@@ -46,7 +47,7 @@ top-upto t (suc i) = go (endsBy t (topOf t i) (suc i)) refl (top-upto t i)
     go false e h = omega (arith, top-on t i e)
 
 -- where what is at record k ends, past the root
-ends-at : (t : List ℕ) (k j : ℕ) → 1 ≤ k → endsBy t k j ≡ leb (k + max 1 (recordAt t k .size)) j
+ends-at : (t : List ℕ) (k j : ℕ) → 1 ≤ k → endsBy t k j ≡ leb (k + recordAt t k .size) j
 unfolding endsBy
 ends-at t zero j h = absurd (omega arith)
 ends-at t (suc k) j h = refl
@@ -59,7 +60,7 @@ module _ (t : List ℕ) (k : ℕ) (past : 1 ≤ k) (top : topOf t k ≡ k) where
       (λ (l : k ≤ j).
       let before : topOf t j ≡ k = top-within j l (omega arith) in
       let stays : endsBy t (topOf t j) (suc j) ≡ false = rw before (ends-at t k (suc j) past
-      ∙ lt-leb (k + max 1 (recordAt t k .size)) (suc j) g) in
+      ∙ lt-leb (k + recordAt t k .size) (suc j) (omega arith)) in
       top-on t j stays ∙ before)
       (λ (l : j < k). let at : suc j ≡ k = omega arith in rw at top)
       (le-or-lt k j)
@@ -72,7 +73,7 @@ module _ (t : List ℕ) (k : ℕ) (past : 1 ≤ k) (top : topOf t k ≡ k) where
       go j e =
           let before : topOf t j ≡ k = top-within j (omega arith) (omega arith) in
           let ends : endsBy t (topOf t j) (suc j) ≡ true = rw before (ends-at t k (suc j) past
-          ∙ le-leb (k + max 1 (recordAt t k .size)) (suc j) (omega arith)) in
+          ∙ le-leb (k + recordAt t k .size) (suc j) (omega arith)) in
           rw e at (top-next t j ends)
 
 -- LAW: what a record is in begins with itself and has not ended; past a root Statements it is not the root
@@ -96,8 +97,9 @@ module _ (t : List ℕ) where
       go true e = omega (arith, top-next t i e)
       go false e =
           let at = top-on t i e in
-          rw at (leb-false (topOf t i + max 1 (recordAt t (topOf t i) .size)) (suc i)
-          (sym (ends-at t (topOf t i) (suc i) (omega arith)) ∙ e))
+          let within = leb-false (topOf t i + recordAt t (topOf t i) .size) (suc i)
+          (sym (ends-at t (topOf t i) (suc i) (omega arith)) ∙ e) in
+          rw at (omega arith)
 
   pub top-past : rootStatements t ≡ true → (i : ℕ) → 1 ≤ i → 1 ≤ topOf t i
   top-past r zero h = absurd (omega arith)
@@ -162,11 +164,11 @@ place-start t n e = (e, refl)
 
 -- a top-level statement begins, its record read from 24 bytes
 pub turn-opens : (bs : List ℕ) {i end file own size : ℕ} → end ≤ i → own ≡ nodeOf 0 (take 24 bs) .file
-    → (size ≡ max 1 (sizeOf (take 24 bs))) × (size ≤ 65535) → Turned bs i end file (i + size) own 1 lastFile
+    → size ≡ nodeOf 0 (take 24 bs) .size → Turned bs i end file (i + size) own 1 lastFile
 turn-opens bs h own-is size-is = record {
   inside = λ g. absurd (omega arith);
   opens = λ g. (
-    omega (arith, size-is .0, size-take 24 bs (omega arith)),
+    omega (arith, size-is, size-take 24 bs (omega arith)),
     (own-is ∙ field-take 2 bs 24 18 (omega arith), (refl, refl)),
   );
 }

@@ -3,7 +3,7 @@
 -- are definitions.
 use mathlib.Core.Bool.{Bool, true, _&&_}
 use mathlib.Core.List.{List}
-use Prim.Native.Nat.{ℕ, zero, suc, _+_, _*_, max}
+use Prim.Native.Nat.{ℕ, zero, suc, _+_, _*_}
 use lib.ListN.{drop}
 use lib.Dec.{leb, eqb}
 use Rattle.fields.specs.Choice.{if'}
@@ -40,11 +40,11 @@ recordAt t i = nodeOf i (drop (recordBytes * i) t)
 abbrev pub rootStatements : List ℕ → Bool
 rootStatements t = eqb (nodeOf 0 t .kind) kindStatements
 
--- whether what is at record k has ended before record j. A top-level statement ends where its size says, a record at
--- least. The root: a Statements is left at once, any other never
+-- whether what is at record k has ended before record j. A top-level statement ends where its size says. The root: a
+-- Statements is left at once, any other never
 unfoldable pub endsBy : List ℕ → ℕ → ℕ → Bool
 endsBy t zero j = rootStatements t
-endsBy t (suc k) j = leb (suc k + max 1 (recordAt t (suc k) .size)) j
+endsBy t (suc k) j = leb (suc k + recordAt t (suc k) .size) j
 
 -- the top-level statement that record i is in: the one that the record before it is in, unless that has ended
 unfoldable pub topOf : List ℕ → ℕ → ℕ

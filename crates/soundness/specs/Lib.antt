@@ -3,3 +3,4 @@ pub mod Kinds
 pub mod Files
 pub mod Sound
 pub mod Packed
+pub mod FileCases

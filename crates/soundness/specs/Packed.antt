@@ -3,7 +3,7 @@
 use mathlib.Core.Bool.{Bool, _&&_}
 use mathlib.Core.List.{List, [], _∷_}
 use mathlib.Core.Path.{_≡_}
-use Prim.Native.Nat.{ℕ, _+_, _-_, _/_, _%_, _<_, _≤_, min, max}
+use Prim.Native.Nat.{ℕ, _+_, _-_, _/_, _%_, _<_, _≤_, min}
 use lib.ListN.{getD, take}
 use lib.Dec.{eqb, ltb, leb}
 use Rattle.fields.specs.Choice.{if'}
@@ -107,4 +107,4 @@ rootEnd t = if' (rootStatements t) (λ _. 1) (λ _. 0)
 pub record Turned (bs : List ℕ) (i end file later own least most : ℕ) : Type 0 where
   pub inside : i < end → (later ≡ end) × ((own ≡ file) × ((least ≡ file) × (most ≡ file)))
   pub opens : end ≤ i
-      → (later ≡ i + max 1 (sizeOf bs)) × ((own ≡ nodeOf 0 bs .file) × ((least ≡ 1) × (most ≡ lastFile)))
+      → (later ≡ i + sizeOf bs) × ((own ≡ nodeOf 0 bs .file) × ((least ≡ 1) × (most ≡ lastFile)))

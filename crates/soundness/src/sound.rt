@@ -6,10 +6,10 @@ use forest::Found;
 use forest::RECORD;
 ghost use mathlib.Core.Path.{_≡_};
 ghost use mathlib.Core.Bool.{_&&_};
-ghost use Prim.Native.Nat.{_*_, _≤_, max};
+ghost use Prim.Native.Nat.{_*_, _≤_};
 ghost use lib.Dec.{leb};
 ghost use lib.ListN.{length};
-ghost use Rattle.forest.specs.Forest.{recordBytes, nodeOf, sizeOf, forest};
+ghost use Rattle.forest.specs.Forest.{recordBytes, nodeOf, forest};
 ghost use Rattle.soundness.specs.Files.{range, fileSound};
 ghost use Rattle.soundness.specs.Sound.{context, nameSound, spanSound, sourceSound, fieldsSound, classes};
 ghost use Rattle.soundness.specs.Sound.{kidsSound, soundAt, rootSound, firstUnsound, unsoundIn};
@@ -219,17 +219,6 @@ fn root_end(table: &[u8]) -> usize
     0
 }
 
-// The size that the first record of a stretch has, at least 1.
-fn taken(t: &[u8]) -> usize
-    ensures { λ r. ⌜ (r ≡ max 1 (sizeOf (now (t .entry)))) × (r ≤ 65535) ⌝ }
-{
-    let size = forest::size(t);
-    if size == 0 {
-        return 1;
-    }
-    size as usize
-}
-
 // The top-level statement that a record is in: where it ends and its number; then the least and the greatest number
 // that the record may have.
 struct Within {
@@ -256,8 +245,9 @@ fn turn(t: &[u8], i: usize, end: usize, file: u16) -> Within
     }
     let head = &t[0..RECORD];
     let own = forest::file(head);
+    let size = forest::size(head);
     Within {
-        end: i + taken(head),
+        end: i + (size as usize),
         file: own,
         least: 1,
         most: LAST_FILE,
@@ -301,15 +291,15 @@ pub(crate) fn first_unsound_in(statement: &[u8], names: usize) -> Found
     let file = forest::file(statement);
     let mut least = 1;
     let mut most = LAST_FILE;
-    let mut i = 0;
-    while i < n {
-        let a = RECORD * i;
+    let mut k = 0;
+    while k < n {
+        let a = RECORD * k;
         if !record_sound(&statement[a..], names, least, most) {
-            return Found::At(i);
+            return Found::At(k);
         }
         least = file;
         most = file;
-        i += 1;
+        k += 1;
     }
     Found::Nothing
 }

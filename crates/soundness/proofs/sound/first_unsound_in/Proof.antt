@@ -9,10 +9,10 @@ use Rattle.soundness.proofs.sound.first_unsound_in.Statement.{statement
 use Rattle.soundness.proofs.sound.first_unsound_in.Tie as tie
 
 abbrev Inv-loop : tie.InvT-loop
-Inv-loop statement names n file least₀ most₀ i₀ least most i = Judging names statement n i least most
+Inv-loop statement names n file least₀ most₀ k₀ least most k = Judging names statement n k least most
 
 abbrev μ-loop : tie.MeasureT-loop
-μ-loop statement names n file least₀ most₀ i₀ least most i = n - i
+μ-loop statement names n file least₀ most₀ k₀ least most k = n - k
 
 pub first-unsound-in-spec : {M : Type 1} → statement M
 unfolding unsoundIn

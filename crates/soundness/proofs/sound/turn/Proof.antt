@@ -15,4 +15,5 @@ turn-spec =
     (λ c κs. search needs)
     (λ c κs. search needs)
     (λ c. search needs)
+    (λ c. search needs)
     (λ c. search turn-opens))  -- returns-2
