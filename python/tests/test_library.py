@@ -198,7 +198,7 @@ class Files(unittest.TestCase):
         calls = [node for node, record in enumerate(table.decode(held[0])) if record.kind == numbers.KIND["Call"]]
         self.assertEqual(job("bind", *held, calls[0], 1), Bound((8,), (0,)))
         self.assertEqual(job("bind", *held, calls[1], 1), refusal(84, 2, 2, 3, file=3))
-        self.assertEqual(job("bind", *held, calls[2], 1), refusal(82, 15, 15, 16, file=8))
+        self.assertEqual(job("bind", *held, calls[2], 1), refusal(82, 16, 16, 17, file=8))
 
     def test_lists_in_their_order(self):
         held = made("(Statements\nfile: 2\n(Break)\nfile: 1\n(Break)\nfile: 999\n(Break))")

@@ -51,6 +51,8 @@ class Words(CommandTest):
                           ["check", "--script", "/nowhere", "x.table"], ["check", "--files-from", "/nowhere"], ["check", "--config", "/nowhere", "x"],
                           ["bind", "--call", "1", "x"], ["bind", "--script", "/nowhere", "x"], ["rescue", "x"], ["rescue", "x", "-o", "-"],
                           ["write", "-", "-", "-o", "x"], ["write", "a", "b", "--dialect", "basic", "-o", "x"], ["table", "--dialect", "all", "x.txt", "-o", "y"],
+                          ["table", "--number", "1000", "x.star", "-o", "y"], ["check", "--join", "x.table"], ["bind", "--join", "x.star", "x.table"],
+                          ["check", "--script", "1=x", "--script", "y", "x.table"], ["check", "--quiet", "--script", "0=x", "x.table"],
                           ["dump"], ["nothing"]):
                 with self.assertRaises(Failed, msg=words):
                     cli.dispatch(words, out)
