@@ -417,7 +417,7 @@ class Rescue(JoinTest):
     def test_some_scripts(self):
         ran = self.run_ducat("rescue", "--explain", "--script", f"2={ZONE}", self.cut(), "-o", self.at("out"))
         self.assertEqual(ran.err, f"ducat: {ZONE}: the statements of these scripts are not known, or are not the table's; lost ones are not named\n")
-        self.assertIn(f"kept 1: Def, node 1, file 1, bytes 38 to 108\nkept 2: Def, node 12, file 1, bytes 110 to 152\nkept 3: order", ran.out)
+        self.assertIn("kept 1: Def, node 1, file 1, bytes 38 to 108\nkept 2: Def, node 12, file 1, bytes 110 to 152\nkept 3: order", ran.out)
 
     def test_numbers_that_do_not_follow(self):
         star, other = self.put("a.star", "pass\nbreak\n"), self.put("b.star", "pass\n")

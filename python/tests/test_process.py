@@ -77,7 +77,7 @@ class Real(CommandTest):
     """./ducat itself, under python3 -I -S."""
 
     def test_the_first_command(self):
-        self.assertEqual(real("check", "samples/example.table"), (1, "nodes 6\n13 14 15\n55 20 25\nerrors 2\n", ""))
+        self.assertEqual(real("check", "samples/example.table"), (1, "nodes 6\n13 1 14 15\n55 1 20 25\nerrors 2\n", ""))
 
     def test_as_a_module(self):
         ran = subprocess.run([sys.executable, "-S", "-m", "ducatmuffin", "check", "samples/clean.table"], cwd=support.ROOT,

@@ -303,6 +303,10 @@ class Numbers(unittest.TestCase):
         self.assertEqual(numbers.WORDS, {int(number): words for number, _, words, _ in self.rows("numbers.tsv")})
         self.assertEqual(numbers.NUMBERS, {int(number): name for number, name, _, _ in self.rows("numbers.tsv")})
 
+    def test_the_largest_source_file_number(self):
+        with open(os.path.join(support.ROOT, "include", "starlark.h"), encoding="utf-8") as file:
+            self.assertIn(f"#define STARLARK_LAST_FILE {table.LAST_FILE}\n", file.read())
+
     def test_kinds(self):
         self.assertEqual(numbers.KINDS, {int(number): (name, own) for number, name, own in self.rows("kinds.tsv")})
 
