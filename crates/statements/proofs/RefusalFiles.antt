@@ -1,7 +1,7 @@
--- W-208: THE SOURCE FILE OF A REFUSAL
+-- W-208: THE SOURCE FILE OF A REFUSAL AND OF AN ERROR
 --
--- Theorems of the crates of the jobs: which source file number a refusal from 10 on carries. It is the fourth number of
--- what the refusal carries, behind the node and its span; bytes 18 and 19 of record k are
+-- Theorems of the crates of the jobs: which source file number a refusal from 10 on carries, and an error in a list. It
+-- is the fourth number of what the refusal carries, behind the node and its span; bytes 18 and 19 of record k are
 -- `field 2 (drop (24 * k) t) 18`. What the record `FileOf` holds stands field by field. Each is proved by citing the
 -- theorem. Assumes nothing.
 use mathlib.Core.Path.{_≡_, ap, _∙_}
@@ -22,9 +22,14 @@ use Rattle.parameters.proofs.Files as theorem-parameters
 use Rattle.arguments.proofs.Files as theorem-arguments
 use Rattle.targets.proofs.Files as theorem-targets
 use Rattle.types.proofs.Files as theorem-types
+use Rattle.errors.specs.declared.Err.{Err}
+use Rattle.validate.specs.Job.{errorsOf}
+use Rattle.audit.specs.Job.{allErrors}
+use Rattle.audited.specs.Checked.{Each}
 use Rattle.reached.specs.TwoFiles.{table, names}
 use Rattle.reached.proofs.Files as theorem-reached
 use Rattle.reached.proofs.TwoFiles as theorem-two
+use Rattle.audited.proofs.Files as theorem-audited
 
 -- the fields of `FileOf`, of a job's refusal
 fields : (t : List ℕ) (i : ℕ) {a : Answer} {n : ℕ} {vs : List ℕ} → a ≡ refused n vs → CarriesFile t i a
@@ -103,6 +108,20 @@ bind-file t names call def room {n} e late =
       λ h. f .same ∙ ap (fileAt t) (theorem-reached.side-def call def n h),
       λ h other. f .same ∙ ap (fileAt t) (theorem-reached.side-call call def n h other),
     )
+
+-- W-208: "Errors become four words: number, file, begin, end": the module pass's list
+-- In words: every error from 10 on of the list has the source file number of the record that it names.
+pub module-file : (t names bytes : List ℕ)
+    → Each (λ (e : Err). slashFirst ≤ e .number → e .span .file ≡ field 2 (drop (24 * e .node) t) 18)
+    (errorsOf t names bytes)
+module-file = theorem-audited.module-filed
+
+-- W-208: "all answers with a span carry the file number": the audit's list
+-- In words: the same of the audit's list.
+pub audit-file : (t names bytes : List ℕ)
+    → Each (λ (e : Err). slashFirst ≤ e .number → e .span .file ≡ field 2 (drop (24 * e .node) t) 18)
+    (allErrors t names bytes)
+audit-file = theorem-audited.audit-filed
 
 -- W-208: "A zone's table now joins its own script and the line's common one."
 -- In words: in a table of a def of file 1 and two calls of file 2, a call without its argument is refused with 84 at
