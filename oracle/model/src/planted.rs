@@ -149,6 +149,23 @@ faults! {
     FileDialectUnread
     FileNodesFirst
     FileHalfErrorStored
+    SecondWordUnseen
+    OddWordAllowed
+    LengthsIn32Bits
+    BraceOnce
+    StrIsRepr
+    EmptyTextKept
+    ReprReadAsNone
+    StrayOneBehind
+    TextsNotJoined
+    FormatShortFirst
+    NoticeOfTypes
+    NoticeRefuses
+    ShortBeforeStray
+    OddWordIsRoom
+    RefusedFormatWrites
+    BytePastFormatWritten
+    WordPastPartsWritten
     LargeTreesUnjudged
     HalfOfTheRandomJobs
 }

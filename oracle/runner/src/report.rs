@@ -12,7 +12,7 @@ use crate::port::NAMES;
 
 /// What the whole comparison must run of each job at the least, in the order of `NAMES`: about 99 of 100 of what the quick run has at
 /// any seed.
-const LEAST: [u64; JOBS] = [1_345_000, 2_733_000, 659_000, 2_730_000, 752_000, 3_330_000, 1_282_000, 383_000, 1_393_000, 170_000, 566_000, 114_500, 90_000, 3_400];
+const LEAST: [u64; JOBS] = [1_345_000, 2_733_000, 659_000, 2_730_000, 752_000, 3_330_000, 1_282_000, 383_000, 1_393_000, 170_000, 566_000, 114_500, 90_000, 505_000, 890_000, 3_400];
 
 /// What the whole comparison must put to Python at the least, where there is one.
 const LEAST_PYTHON: u64 = 54_500;
@@ -115,6 +115,8 @@ fn numbers_of_jobs() -> [Vec<usize>; JOBS] {
         with(&[5..=5, 10..=18, 20..=24, 30..=33, 40..=45, 50..=61]),
         of_file(&[7..=7]),
         of_file(&[10..=18, 50..=61]),
+        vec![0, 5, 7, 62, 64],
+        vec![0, 7, 63],
         of_file(&[]),
     ]
 }
