@@ -1,8 +1,8 @@
 -- Laws of bytes laid over a buffer. Laid bytes split the buffer in three: what stands before them, themselves, and what
 -- stands behind (`over`). A place past the end has nothing behind it, so what is laid up to the end of the bytes
--- (`over-upto`) and what is left behind (`over-from`) need no premise: both cases of `le-or-lt` agree. Two stretches one
--- after the other are therefore one (`over-next`), and a part that is lent from a place on, with bytes laid over its
--- front, is the whole with them laid over that place (`over-part`). Bytes stored one by one are laid (`over-sets`).
+-- (`over-upto`) and what is left behind (`over-from`) need no premise: both cases of `le-or-lt` agree. Two stretches
+-- one after the other are therefore one (`over-next`), and a part that is lent from a place on, with bytes laid over
+-- its front, is the whole with them laid over that place (`over-part`). Bytes stored one by one are laid (`over-sets`).
 -- Only the length needs room (`length-over`). Assumes nothing.
 use mathlib.Core.Path.{_≡_, refl, sym, ap, _∙_}
 use mathlib.Core.List.{List, [], _++_, append-assoc, append-nil}
