@@ -17,9 +17,10 @@ use table::Span;
 ghost use mathlib.Core.Path.{_≡_};
 ghost use Prim.Native.Nat.{_+_, _/_};
 ghost use lib.ListN.{length};
-ghost use Rattle.forest.specs.Forest.{recordBytes, kidsOf};
+ghost use Rattle.forest.specs.Forest.{recordBytes, nodeOf, kidsOf};
 ghost use Rattle.deflist.specs.Written.{written};
 ghost use Rattle.deflist.specs.Unpack.{unpack};
+ghost use Rattle.deflist.specs.Limited.{limited};
 ghost use Rattle.deflist.specs.Told.{told};
 ghost use Rattle.deflist.specs.Reading.{Inside, Says};
 
@@ -114,7 +115,8 @@ pub fn children(t: &[u8]) -> &[u8]
 
 // DefParams::unpack of the written list of a node, whose stretch is lent: what is counted, or the first refusal.
 pub fn judge(names: &[u8], t: &[u8], node: u32) -> Judged
-    ensures { λ r. ⌜ r ≡ told (unpack (written (now (names .entry)) node (now (t .entry)))) ⌝ }
+    ensures { λ r. ⌜ r ≡
+        told (limited (nodeOf node (now (t .entry))) (written (now (names .entry)) node (now (t .entry)))) ⌝ }
     ensures { λ r. ⌜ Inside (node + 1 + length (now (t .entry)) / recordBytes) r ⌝ }
 {
     let n = forest::span(t);
