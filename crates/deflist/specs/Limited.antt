@@ -1,9 +1,22 @@
--- The outcome of the written list of a def or lambda. These are definitions.
+-- The limit of a written list, which the crate does not have: no more than 48 entries, marks counted. These are
+-- definitions.
 use mathlib.Core.List.{List}
+use Prim.Native.Nat.{ℕ}
+use lib.ListN.{length}
+use lib.Dec.{ltb}
+use Rattle.fields.specs.Choice.{if'}
 use Rattle.forest.specs.Forest.{Node}
 use Rattle.deflist.specs.Written.{Param}
-use Rattle.deflist.specs.Unpack.{Outcome, unpack}
+use Rattle.deflist.specs.Unpack.{Outcome, refused, unpack}
 
--- the outcome of the list of the def or lambda whose record this is: unpack's
+-- a list has at most so many entries
+abbrev pub mostParameters : ℕ
+mostParameters = 48
+
+-- more entries than a list may have
+abbrev pub tooManyParameters : ℕ
+tooManyParameters = 19
+
+-- the outcome of the list of the def or lambda whose record this is: 19 at that record, or unpack's
 unfoldable pub limited : Node → List Param → Outcome
-limited owner l = unpack l
+limited owner l = if' (ltb mostParameters (length l)) (λ _. refused tooManyParameters owner) (λ _. unpack l)
