@@ -6,4 +6,4 @@ script    a table of a Starlark script (this step is not proved)
 numbers   numbers, kinds, limits, dialects, modes and shapes
 build     how the library is proved and compiled
 """
-__version__ = "0.2.0"
+__version__ = "0.3.0"

@@ -6,3 +6,4 @@ pub mod Walking
 pub mod Promises
 pub mod AcceptedCalls
 pub mod Twice
+pub mod Files

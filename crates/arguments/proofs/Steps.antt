@@ -1,7 +1,7 @@
 -- Laws of single functions, one for each return, in the terms of code. Assumes nothing.
 use mathlib.Core.Path.{_≡_, refl, sym, ap, _∙_}
 use mathlib.Core.Bool.{Bool, true, false}
-use mathlib.Core.List.{List, [], _∷_}
+use mathlib.Core.List.{List, [], _∷_, _++_}
 use Prim.Native.Nat.{ℕ, _+_, _-_, _/_, _<_}
 use native.Mathlib.Omega.{arith}
 use lib.ListN.{length, take, drop, length-take, length-drop}
@@ -15,7 +15,7 @@ use Rattle.soundness.specs.KindNumbers.{kindPositional, kindNamed, kindArgsArg}
 use Rattle.forest.specs.declared.Found.{Found}
 use Rattle.forest.specs.declared.Found.the-variants.{At, Nothing}
 use Rattle.table.specs.Numbers.{namedAfterStar, repeatedNamed}
-use Rattle.table.specs.Answer.{Answer, accepted, refused}
+use Rattle.table.specs.Answer.{Answer, accepted, refused, spanValues}
 use Rattle.table.specs.Check.{isHeaded, headedOf}
 use Rattle.table.proofs.Heads.{headed-leaf, headed-is}
 use Rattle.table.specs.declared.Span.{Span}
@@ -89,7 +89,7 @@ pub carried-small : (c : Check) {i : ℕ} → SmallCheck c → c ≡ Repeated i 
 carried-small c small h = rw h at small
 
 pub refused-again : (c : Check) (r : Node) {i n : ℕ} {s : Span} {x : Answer} → c ≡ Repeated i
-    → x ≡ refused repeatedNamed (r .at ∷ s .begin ∷ s .end ∷ n ∷ []) → s ≡ nameSpan r → n ≡ i → x ≡ checkAnswer c r
+    → x ≡ refused repeatedNamed (r .at ∷ spanValues s ++ n ∷ []) → s ≡ nameSpan r → n ≡ i → x ≡ checkAnswer c r
 refused-again c r h x-is s-is n-is = x-is ∙ rw (h, s-is, n-is) refl
 
 -- the stage chooses 21, and the kind the rule

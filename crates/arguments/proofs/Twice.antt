@@ -17,7 +17,7 @@ use Rattle.forest.proofs.Named.{same-bytes-refl, same-bytes-equal}
 use Rattle.forest.proofs.Stretch.{forest-induction, forest-none, forest-tree, rest-part, record-or-none}
 use Rattle.forest.proofs.Firsts.{found-first, Fresh, only-one, Rising, rising-first, rising-lower, rising-before}
 use Rattle.table.specs.Numbers.{namedAfterStar, repeatedNamed}
-use Rattle.table.specs.Answer.{refused, OnlyCarries}
+use Rattle.table.specs.Answer.{refused, OnlyCarries, spanValues}
 use Rattle.table.specs.Check.{stretchOf, entryCheck, onNode}
 use Rattle.table.specs.declared.Wanted.the-variants.{Call}
 use Rattle.table.proofs.Carried.{carries-then, from-next, entry-before}
@@ -237,7 +237,7 @@ call-carries t ns i =
 -- THEOREM: and the argument that it refuses has the name of one earlier one of the call, whose node it carries; that is
 -- the only one, and has a smaller node
 pub call-twice : (t ns : List ℕ) (i : ℕ) {vs : List ℕ} → callOf t ns i ≡ refused repeatedNamed vs
-    → (j : ℕ) × ((r : Node) × ((vs ≡ r .at ∷ nameSpan r .begin ∷ nameSpan r .end ∷ j ∷ [])
+    → (j : ℕ) × ((r : Node) × ((vs ≡ r .at ∷ spanValues (nameSpan r) ++ j ∷ [])
     × NamedTwice (argumentsOf ns (treeOf i (stretchOf t i))) j r))
 unfolding onNode callAnswer
 call-twice t ns i {vs} e =
@@ -248,7 +248,7 @@ call-twice t ns i {vs} e =
     l = argumentsOf ns (treeOf i (stretchOf t i))
 
     go : (o : Outcome) → Told [] l o → outcomeAnswer o ≡ refused repeatedNamed vs
-        → (j : ℕ) × ((r : Node) × ((vs ≡ r .at ∷ nameSpan r .begin ∷ nameSpan r .end ∷ j ∷ []) × NamedTwice l j r))
+        → (j : ℕ) × ((r : Node) × ((vs ≡ r .at ∷ spanValues (nameSpan r) ++ j ∷ []) × NamedTwice l j r))
     go (unpacked a) d e = never (cc)
     go (refusedWith n r) d e = let same : n ≡ repeatedNamed = cc in absurd (d same)
     go (repeatedName j r) d e =

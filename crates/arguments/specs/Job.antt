@@ -3,7 +3,7 @@ use mathlib.Core.List.{List, [], _∷_, _++_}
 use Prim.Native.Nat.{ℕ, _+_, min}
 use Rattle.forest.specs.Forest.{Node, Tree}
 use Rattle.table.specs.Numbers.{repeatedNamed}
-use Rattle.table.specs.Answer.{Answer, accepted, refused, refusedAt, refusal}
+use Rattle.table.specs.Answer.{Answer, accepted, refused, spanValues, refusedAt, refusal}
 use Rattle.table.specs.Check.{onNode}
 use Rattle.table.specs.declared.Place.{Place}
 use Rattle.table.specs.declared.Place.the-variants.{At, Nothing}
@@ -31,11 +31,11 @@ abbrev pub nameStop : Node → ℕ
 nameStop r = min (r .source + r .nameLen) 4294967295
 
 abbrev pub nameSpan : Node → Span
-nameSpan r = record { begin = r .source; end = nameStop r }
+nameSpan r = record { begin = r .source; end = nameStop r; file = r .file }
 
 -- 22 has the span of the name, and the node of the earlier argument
 abbrev pub refusedAtName : ℕ → Node → ℕ → Answer
-refusedAtName n r i = refused n (r .at ∷ nameSpan r .begin ∷ nameSpan r .end ∷ i ∷ [])
+refusedAtName n r i = refused n (r .at ∷ spanValues (nameSpan r) ++ i ∷ [])
 
 -- what the check of an argument answers
 abbrev pub checkAnswer : Check → Node → Answer

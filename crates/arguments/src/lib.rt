@@ -216,13 +216,14 @@ fn name_stop(t: &[u8]) -> u32
     begin + len
 }
 
-// The span of the name of the argument that a stretch begins with.
+// The span of the name of the argument that a stretch begins with; the source file is the argument's.
 fn name_span(t: &[u8]) -> Span
     ensures { λ r. ⌜ r ≡ nameSpan (nodeOf 0 (now (t .entry))) ⌝ }
 {
     Span {
         begin: forest::source(t),
         end: name_stop(t),
+        file: forest::file(t) as u32,
     }
 }
 

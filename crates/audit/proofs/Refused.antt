@@ -46,8 +46,9 @@ use Rattle.audit.specs.Roles.{placedAs}
 use Rattle.audit.specs.Refusals.{refusedErr, answerErrors, kindErrors, roleErrors, refusedThere}
 use Rattle.audit.proofs.Bounds.{there-few}
 
-abbrev span : ℕ → ℕ → Span
-span begin end = record { begin = begin; end = end }
+-- the span of a refusal that has none
+abbrev noSpan : Span
+noSpan = record { begin = 0; end = 0; file = 0 }
 
 -- a refusal is stored, if there is one
 module _ {c : Checked} (xs : List ℕ) where
@@ -60,10 +61,10 @@ module _ {c : Checked} (xs : List ℕ) where
 
 -- a refusal as an error
 module _ {why : Refusal} where
-  pub error-bare : {n : ℕ} → why ≡ Bare n → err n 0 (span 0 0) ≡ refusedErr (numberOf why) (carried why)
+  pub error-bare : {n : ℕ} → why ≡ Bare n → err n 0 noSpan ≡ refusedErr (numberOf why) (carried why)
   error-bare h = rw h refl
 
-  pub error-placed : {n k : ℕ} → why ≡ Placed n k → err n k (span 0 0) ≡ refusedErr (numberOf why) (carried why)
+  pub error-placed : {n k : ℕ} → why ≡ Placed n k → err n k noSpan ≡ refusedErr (numberOf why) (carried why)
   error-placed h = rw h refl
 
   pub error-spanned : {n k : ℕ} {s : Span} {e : Place} → why ≡ Spanned n k s e

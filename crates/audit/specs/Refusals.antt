@@ -21,9 +21,9 @@ use Rattle.audit.specs.declared.Role.{Role}
 use Rattle.audit.specs.declared.Role.the-variants.{AsTarget, AsType, Plain}
 use Rattle.audit.specs.Roles.{Placed, kindIn}
 
--- a refusal as an error: its number, and of what it carries the node, the begin and the end of the span
+-- a refusal as an error: its number, and of what it carries the node, and the begin, the end and the file of the span
 abbrev pub refusedErr : ℕ → List ℕ → Err
-refusedErr n vs = err n (getD vs 0 0) (record { begin = getD vs 1 0; end = getD vs 2 0 })
+refusedErr n vs = err n (getD vs 0 0) (record { begin = getD vs 1 0; end = getD vs 2 0; file = getD vs 3 0 })
 
 abbrev pub answerErrors : Answer → List Err
 answerErrors (accepted vs) = []

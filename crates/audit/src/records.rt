@@ -39,12 +39,20 @@ fn error_of(why: Refusal) -> Err
         Refusal::Bare(number) => Err {
             number: number,
             node: 0,
-            span: Span { begin: 0, end: 0 },
+            span: Span {
+                begin: 0,
+                end: 0,
+                file: 0,
+            },
         },
         Refusal::Placed { number, node } => Err {
             number: number,
             node: node,
-            span: Span { begin: 0, end: 0 },
+            span: Span {
+                begin: 0,
+                end: 0,
+                file: 0,
+            },
         },
         Refusal::Spanned {
             number,

@@ -48,7 +48,7 @@ fn say_number(n: u64) {
     io::print_decimal(STDOUT_FILENO, n);
 }
 
-// A refusal as its number, the node that it carries, its span, and where its name stood first.
+// A refusal as its number, the node that it carries, its span with the source file, and where its name stood first.
 fn say_refusal(r: Refusal) {
     say_number(table::number(r) as u64);
     let node = table::node_of(r);
@@ -57,11 +57,13 @@ fn say_refusal(r: Refusal) {
         say_number(i as u64);
     }
     let extent = table::extent_of(r);
-    if let Extent::Of { begin, end } = extent {
+    if let Extent::Of(span) = extent {
         say(b" ");
-        say_number(begin as u64);
+        say_number(span.begin as u64);
         say(b"-");
-        say_number(end as u64);
+        say_number(span.end as u64);
+        say(b" in file ");
+        say_number(span.file as u64);
     }
     let earlier = table::earlier_of(r);
     if let Place::At(i) = earlier {
@@ -299,7 +301,7 @@ fn say_bound(b: Bound) {
     }
 }
 
-// The audit, and its list of words afterwards, in the same way: an error has four words.
+// The audit, and its list of words afterwards, in the same way.
 fn say_audit(table: &[u8], names: &[u8], dialect: &[u8], room: usize) {
     let mut space = [9u32; 64];
     let lent: &mut [u32] = &mut space;

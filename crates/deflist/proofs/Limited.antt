@@ -5,7 +5,7 @@
 -- list is long (`limited-nineteen`). Assumes nothing.
 use mathlib.Core.Path.{_≡_, refl, sym, _∙_}
 use mathlib.Core.Bool.{Bool, true, false}
-use mathlib.Core.List.{List, [], _∷_}
+use mathlib.Core.List.{List}
 use Prim.Native.Nat.{ℕ, _+_, _/_, _<_, _≤_}
 use native.Mathlib.Omega.{arith}
 use lib.ListN.{length}
@@ -14,10 +14,10 @@ use borrow.Author.Tests.{ltb-true, ltb-false, lt-ltb, le-ltb}
 use Rattle.fields.proofs.Basics.{never}
 use Rattle.forest.specs.Forest.{Node, nodeOf, kidsOf}
 use Rattle.forest.specs.declared.Found.the-variants.{Nothing}
-use Rattle.table.specs.Numbers.{duplicatedParameter}
+use Rattle.table.specs.Numbers.{duplicatedParameter, tooManyParameters}
 use Rattle.deflist.specs.Written.{Param, written}
 use Rattle.deflist.specs.Unpack.{Internal, accepted, refused, repeated, internal, unpack}
-use Rattle.deflist.specs.Limited.{mostParameters, tooManyParameters, limited}
+use Rattle.deflist.specs.Limited.{mostParameters, limited}
 use Rattle.deflist.specs.Told.{fault, told}
 use Rattle.deflist.specs.Reading.{Inside, Says, Exceeds}
 use Rattle.deflist.specs.declared.Counts.{Counts}

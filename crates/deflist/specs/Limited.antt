@@ -6,16 +6,13 @@ use lib.ListN.{length}
 use lib.Dec.{ltb}
 use Rattle.fields.specs.Choice.{if'}
 use Rattle.forest.specs.Forest.{Node}
+use Rattle.table.specs.Numbers.{tooManyParameters}
 use Rattle.deflist.specs.Written.{Param}
 use Rattle.deflist.specs.Unpack.{Outcome, refused, unpack}
 
 -- a list has at most so many entries
 abbrev pub mostParameters : ℕ
 mostParameters = 48
-
--- more entries than a list may have
-abbrev pub tooManyParameters : ℕ
-tooManyParameters = 19
 
 -- the outcome of the list of the def or lambda whose record this is: 19 at that record, or unpack's
 unfoldable pub limited : Node → List Param → Outcome

@@ -14,6 +14,7 @@ use forest::Found;
 use forest::RECORD;
 use forest::marks;
 use table::Span;
+use table::numbers;
 ghost use mathlib.Core.Path.{_≡_};
 ghost use Prim.Native.Nat.{_+_, _/_};
 ghost use lib.ListN.{length};
@@ -26,8 +27,6 @@ ghost use Rattle.deflist.specs.Reading.{Inside, Says};
 
 // A list has at most so many entries, marks counted.
 pub const MOST_PARAMETERS: usize = 48;
-
-pub const TOO_MANY_PARAMETERS: u32 = 19;
 
 // Where unpack stands in the list, in this order.
 pub enum State {
@@ -127,7 +126,7 @@ pub fn judge(names: &[u8], t: &[u8], node: u32) -> Judged
 {
     if list::is_long(children(t)) {
         return Judged::Refused(walk::fault(
-            TOO_MANY_PARAMETERS,
+            numbers::TOO_MANY_PARAMETERS,
             node as usize,
             t,
             Found::Nothing,

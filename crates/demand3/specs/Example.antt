@@ -8,24 +8,25 @@ use Rattle.soundness.specs.KindNumbers.{kindDef, kindInt, kindOtherSimple, kind
 use Rattle.soundness.specs.KindNumbers.{kindKwArgsParam}
 use Rattle.demand3.specs.Cut.{Cut, upToSlash, starred, withKwargs}
 
--- the 24 bytes of a record whose numbers are below 256: kind, detail, length and start of the name, span, size
-abbrev pub bytesOf : ℕ → ℕ → ℕ → ℕ → ℕ → ℕ → ℕ → List ℕ
-bytesOf kind detail len start begin stop size =
-    kind ∷ detail ∷ len ∷ 0 ∷ start ∷ 0 ∷ 0 ∷ 0 ∷ begin ∷ 0 ∷ 0 ∷ 0 ∷ stop ∷ 0 ∷ 0 ∷ 0 ∷ size ∷ 0 ∷ 0 ∷ 0
+-- the 24 bytes of a record whose numbers are below 256: kind, detail, length and start of the name, span, size, source
+-- file
+abbrev pub bytesOf : ℕ → ℕ → ℕ → ℕ → ℕ → ℕ → ℕ → ℕ → List ℕ
+bytesOf kind detail len start begin stop size file =
+    kind ∷ detail ∷ len ∷ 0 ∷ start ∷ 0 ∷ 0 ∷ 0 ∷ begin ∷ 0 ∷ 0 ∷ 0 ∷ stop ∷ 0 ∷ 0 ∷ 0 ∷ size ∷ 0 ∷ file ∷ 0
     ∷ replicate 4 0
 
 -- the table: a def with six parameters, one of which has a default, and its body
 abbrev pub table : List ℕ
 table =
-    bytesOf kindDef 0 0 0 0 37 9
-    ++ (bytesOf kindNormal 0 1 0 6 7 1
-    ++ (bytesOf kindSlash 0 0 0 9 10 1
-    ++ (bytesOf kindNormal 2 1 1 12 15 2
-    ++ (bytesOf kindInt 0 0 0 14 15 1
-    ++ (bytesOf kindArgsParam 0 4 2 17 22 1
-    ++ (bytesOf kindNormal 0 1 6 24 25 1
-    ++ (bytesOf kindKwArgsParam 0 1 7 27 30 1
-    ++ bytesOf kindOtherSimple 0 0 0 33 37 1)))))))
+    bytesOf kindDef 0 0 0 0 37 9 1
+    ++ (bytesOf kindNormal 0 1 0 6 7 1 1
+    ++ (bytesOf kindSlash 0 0 0 9 10 1 1
+    ++ (bytesOf kindNormal 2 1 1 12 15 2 1
+    ++ (bytesOf kindInt 0 0 0 14 15 1 1
+    ++ (bytesOf kindArgsParam 0 4 2 17 22 1 1
+    ++ (bytesOf kindNormal 0 1 6 24 25 1 1
+    ++ (bytesOf kindKwArgsParam 0 1 7 27 30 1 1
+    ++ bytesOf kindOtherSimple 0 0 0 33 37 1 1)))))))
 
 -- a b args c k
 abbrev pub names : List ℕ
@@ -36,8 +37,8 @@ abbrev pub buffer : List ℕ
 buffer = replicate 8 255
 
 -- a record of the table, and an ordinary parameter
-abbrev pub recordAt : ℕ → ℕ → ℕ → ℕ → ℕ → ℕ → ℕ → ℕ → Node
-recordAt at kind detail len start begin stop size = record {
+abbrev pub recordAt : ℕ → ℕ → ℕ → ℕ → ℕ → ℕ → ℕ → ℕ → ℕ → Node
+recordAt at kind detail len start begin stop size file = record {
   at = at;
   kind = kind;
   detail = detail;
@@ -46,7 +47,7 @@ recordAt at kind detail len start begin stop size = record {
   begin = begin;
   stop = stop;
   size = size;
-  pad = 0;
+  file = file;
   source = 0;
 }
 
@@ -54,10 +55,10 @@ recordAt at kind detail len start begin stop size = record {
 abbrev pub cut : Cut
 cut = record {
   before = upToSlash
-      (record { node = recordAt 1 kindNormal 0 1 0 6 7 1; name = 97 ∷ []; default = false } ∷ [])
-      (recordAt 2 kindSlash 0 0 0 9 10 1);
-  middle = record { node = recordAt 3 kindNormal 2 1 1 12 15 2; name = 98 ∷ []; default = true } ∷ [];
-  star = starred (recordAt 5 kindArgsParam 0 4 2 17 22 1) (97 ∷ 114 ∷ 103 ∷ 115 ∷ [])
-      (record { node = recordAt 6 kindNormal 0 1 6 24 25 1; name = 99 ∷ []; default = false } ∷ []);
-  last = withKwargs (recordAt 7 kindKwArgsParam 0 1 7 27 30 1) (107 ∷ []);
+      (record { node = recordAt 1 kindNormal 0 1 0 6 7 1 1; name = 97 ∷ []; default = false } ∷ [])
+      (recordAt 2 kindSlash 0 0 0 9 10 1 1);
+  middle = record { node = recordAt 3 kindNormal 2 1 1 12 15 2 1; name = 98 ∷ []; default = true } ∷ [];
+  star = starred (recordAt 5 kindArgsParam 0 4 2 17 22 1 1) (97 ∷ 114 ∷ 103 ∷ 115 ∷ [])
+      (record { node = recordAt 6 kindNormal 0 1 6 24 25 1 1; name = 99 ∷ []; default = false } ∷ []);
+  last = withKwargs (recordAt 7 kindKwArgsParam 0 1 7 27 30 1 1) (107 ∷ []);
 }

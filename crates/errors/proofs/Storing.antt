@@ -205,16 +205,16 @@ module _ {l : Listing} (xs : List ℕ) (e : Err) (whole : kept l (only e) ≡ on
   push-full h = record { count = rw whole refl; words = rw whole (sym (stored-full l e [] xs h)) }
 
 module _ (xs : List ℕ) (e : Err) where
-  pub short-fits : 3 ≤ length xs → Stores Module (only e) xs 1 (sets xs 0 (wordsOf Module e))
+  pub short-fits : width Module ≤ length xs → Stores Module (only e) xs 1 (sets xs 0 (wordsOf Module e))
   short-fits = push-fits xs e refl
 
-  pub short-full : length xs < 3 → Stores Module (only e) xs 1 xs
+  pub short-full : length xs < width Module → Stores Module (only e) xs 1 xs
   short-full = push-full xs e refl
 
-  pub long-fits : 4 ≤ length xs → Stores Audit (only e) xs 1 (sets xs 0 (wordsOf Audit e))
+  pub long-fits : width Audit ≤ length xs → Stores Audit (only e) xs 1 (sets xs 0 (wordsOf Audit e))
   long-fits = push-fits xs e refl
 
-  pub long-full : length xs < 4 → Stores Audit (only e) xs 1 xs
+  pub long-full : length xs < width Audit → Stores Audit (only e) xs 1 xs
   long-full = push-full xs e refl
 
 -- LAW: an error of a parameter list leaves every word of the module pass's own; any other is stored as the audit stores

@@ -50,16 +50,29 @@ kept Module es = es
 kept Own es = withoutLists es
 kept Audit es = es
 
--- the words of an error, and how many they are
+-- how many words an error has, and how many with its node
+abbrev pub errorWords : ℕ
+errorWords = 4
+
+abbrev pub auditWords : ℕ
+auditWords = 5
+
 abbrev pub width : Listing → ℕ
-width Module = 3
-width Own = 4
-width Audit = 4
+width Module = errorWords
+width Own = auditWords
+width Audit = auditWords
+
+-- its words: number, source file, begin and end; and with the node one more
+abbrev pub placeWords : Err → List ℕ
+placeWords e = e .number ∷ e .span .file ∷ e .span .begin ∷ e .span .end ∷ []
+
+abbrev pub nodeWords : Err → List ℕ
+nodeWords e = placeWords e ++ e .node ∷ []
 
 abbrev pub wordsOf : Listing → Err → List ℕ
-wordsOf Module e = e .number ∷ e .span .begin ∷ e .span .end ∷ []
-wordsOf Own e = e .number ∷ e .node ∷ e .span .begin ∷ e .span .end ∷ []
-wordsOf Audit e = e .number ∷ e .node ∷ e .span .begin ∷ e .span .end ∷ []
+wordsOf Module e = placeWords e
+wordsOf Own e = nodeWords e
+wordsOf Audit e = nodeWords e
 
 -- a list of words after errors were stored in it: the first that fit whole, and every other word as it was
 unfoldable pub stored : Listing → List Err → List ℕ → List ℕ

@@ -9,11 +9,11 @@ ghost use Rattle.forest.specs.Forest.{nodeOf};
 ghost use Rattle.errors.specs.Errors.{errAt, only, unless, isListError, width, Stores};
 ghost use Rattle.errors.specs.declared.Listing.the-variants.{Module, Own, Audit};
 
-// How many words an error of the module pass has: its number, begin and end.
-pub const WIDTH: usize = 3;
+// How many words an error of the module pass has: its number, source file, begin and end.
+pub const WIDTH: usize = 4;
 
-// How many it has with its node, which stands after the number.
-pub const WIDTH_WITH_NODE: usize = 4;
+// How many it has with its node, which stands last.
+pub const WIDTH_WITH_NODE: usize = WIDTH + 1;
 
 // An error: its number, the index of the record that it speaks of, and where it stands in the script.
 pub struct Err {
@@ -24,9 +24,9 @@ pub struct Err {
 
 // The form of a list of errors.
 pub enum Listing {
-    Module, // the module pass's: three words an error
-    Own, // the module pass's in the audit: four words, and the errors of parameter lists, 10 to 18, are left out
-    Audit, // the audit's: four words
+    Module, // the module pass's: WIDTH words an error
+    Own, // the module pass's in the audit: with the node, and the errors of parameter lists, 10 to 18, are left out
+    Audit, // the audit's: with the node
 }
 
 // One error: stored where there is room for it, and counted in any case, if the form keeps it.
@@ -40,29 +40,31 @@ pub fn push(listing: Listing, e: Err, errors: &mut [u32]) -> usize
     }
 }
 
-// An error in three words.
+// An error without its node.
 fn push_short(e: Err, errors: &mut [u32]) -> usize
     ensures { λ r. ⌜ Stores Module (only e) (now (errors .entry)) r (now (errors .exit)) ⌝ }
 {
     let span = e.span;
     if WIDTH <= errors.len() {
         errors[0] = e.number;
-        errors[1] = span.begin;
-        errors[2] = span.end;
+        errors[1] = span.file;
+        errors[2] = span.begin;
+        errors[3] = span.end;
     }
     1
 }
 
-// An error in four words.
+// An error with its node.
 fn push_long(e: Err, errors: &mut [u32]) -> usize
     ensures { λ r. ⌜ Stores Audit (only e) (now (errors .entry)) r (now (errors .exit)) ⌝ }
 {
-    let span = e.span;
+    let place = e.span;
     if WIDTH_WITH_NODE <= errors.len() {
         errors[0] = e.number;
-        errors[1] = e.node;
-        errors[2] = span.begin;
-        errors[3] = span.end;
+        errors[1] = place.file;
+        errors[2] = place.begin;
+        errors[3] = place.end;
+        errors[4] = e.node;
     }
     1
 }
@@ -132,7 +134,7 @@ pub fn free(listing: Listing, len: usize, count: usize) -> usize
     }
 }
 
-// The same behind errors of three words, and of four.
+// The same behind errors without their node, and with it.
 fn free_short(len: usize, count: usize) -> usize
     ensures { λ r. ⌜ r ≡ min (width Module * count) len ⌝ }
 {

@@ -36,7 +36,7 @@ named kind start len = record {
   begin = 0;
   stop = 0;
   size = 0;
-  pad = 0;
+  file = 0;
   source = 0;
 }
 

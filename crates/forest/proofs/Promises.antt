@@ -36,9 +36,9 @@ stop-one t = coincide
 pub size-one : (t : List ℕ) {r s : ℕ} → r ≡ nodeOf 0 t .size → s ≡ nodeOf 0 t .size → r ≡ s
 size-one t = coincide
 
--- of `pad`
-pub pad-one : (t : List ℕ) {r s : ℕ} → r ≡ nodeOf 0 t .pad → s ≡ nodeOf 0 t .pad → r ≡ s
-pad-one t = coincide
+-- of `file`
+pub file-one : (t : List ℕ) {r s : ℕ} → r ≡ nodeOf 0 t .file → s ≡ nodeOf 0 t .file → r ≡ s
+file-one t = coincide
 
 -- of `source`
 pub source-one : (t : List ℕ) {r s : ℕ} → r ≡ nodeOf 0 t .source → s ≡ nodeOf 0 t .source → r ≡ s

@@ -167,7 +167,7 @@ pub size-take : (n : ℕ) (bs : List ℕ) → 24 ≤ n → sizeOf (take n bs) �
 unfolding sizeOf
 size-take n bs h = field-take 2 bs n 16 (omega arith)
 
-records-take : (n i k : ℕ) (bs : List ℕ) → 24 * n ≤ k → records n i (take k bs) ≡ records n i bs
+pub records-take : (n i k : ℕ) (bs : List ℕ) → 24 * n ≤ k → records n i (take k bs) ≡ records n i bs
 records-take zero i k bs h = refl
 records-take (suc n) i k bs h = rw (
   node-take i k bs (omega arith),
@@ -175,7 +175,7 @@ records-take (suc n) i k bs h = rw (
   records-take n (i + 1) (k - 24) (drop 24 bs) (omega arith),
 )
 
-kids-records : (k i : ℕ) (bs : List ℕ) → 24 * k ≤ length (kidsOf bs)
+pub kids-records : (k i : ℕ) (bs : List ℕ) → 24 * k ≤ length (kidsOf bs)
     → records k i (kidsOf bs) ≡ records k i (drop 24 bs)
 unfolding kidsOf
 kids-records k i bs h = records-take k i (spanOf bs - 24) (drop 24 bs) (omega (arith, length-kids bs))

@@ -20,7 +20,7 @@ pub record Node : Type 0 where
   pub begin : ℕ
   pub stop : ℕ
   pub size : ℕ
-  pub pad : ℕ
+  pub file : ℕ
   pub source : ℕ
 
 -- the subtree size, itself included, of the record that a stretch begins with
@@ -38,7 +38,7 @@ nodeOf i bs = record {
   begin = field 4 bs 8;
   stop = field 4 bs 12;
   size = sizeOf bs;
-  pad = field 2 bs 18;
+  file = field 2 bs 18;
   source = field 4 bs 20;
 }
 

@@ -66,9 +66,9 @@ pub fn size(t: &[u8]) -> u16
     fields::half(t, 16)
 }
 
-// Bytes 18 and 19, which are zero in a sound record.
-pub fn pad(t: &[u8]) -> u16
-    ensures { λ r. ⌜ r ≡ nodeOf 0 (now (t .entry)) .pad ⌝ }
+// Bytes 18 and 19: the number of the source file; zero in a root Statements.
+pub fn file(t: &[u8]) -> u16
+    ensures { λ r. ⌜ r ≡ nodeOf 0 (now (t .entry)) .file ⌝ }
 {
     fields::half(t, 18)
 }

@@ -12,6 +12,7 @@ use Rattle.dialect.specs.Bytes.{within, validBytes, fromBytes}
 use Rattle.forest.specs.Forest.{sizeOf, kidsOf, restOf, forestIn, forest, count}
 use Rattle.forest.specs.Names.{same}
 use Rattle.soundness.specs.Kinds.{kindIn, kindOf}
+use Rattle.soundness.specs.Files.{fileSound, endsBy, topOf, filesOf}
 use Rattle.soundness.specs.Sound.{nameSound, spanSound, sourceSound, fieldsSound, wholeTrees, classes, permitted}
 use Rattle.soundness.specs.Sound.{wanted, permits, kidsSound, soundNode, soundAt, rootSound, contextOf, recordSound}
 use Rattle.soundness.specs.Sound.{firstFalse, firstUnsound}
@@ -34,9 +35,9 @@ use Rattle.openaudit.specs.Example.{badType, badNames, typesOpen, before
 
 -- the table passes 1 to 4
 sound : checkOf badType badNames ≡ accepted []
-unfolding checkOf lengthSound firstUnsound firstFalse recordSound rootSound soundAt soundNode contextOf fieldsSound
-    nameSound spanSound sourceSound wholeTrees classes permitted wanted permits kidsSound kindIn kindOf forestIn forest
-    kidsOf restOf sizeOf field count same firstDeep classWeight weight
+unfolding checkOf lengthSound firstUnsound firstFalse recordSound rootSound soundAt soundNode contextOf filesOf topOf
+    endsBy fileSound fieldsSound nameSound spanSound sourceSound wholeTrees classes permitted wanted permits kidsSound
+    kindIn kindOf forestIn forest kidsOf restOf sizeOf field count same firstDeep classWeight weight
 sound = refl
 
 -- EXAMPLE: the two lists

@@ -10,12 +10,12 @@ use Rattle.table.specs.Numbers.{topLevelIf, breakMisplaced}
 use Rattle.errors.specs.declared.Err.{Err}
 use Rattle.errors.specs.Errors.{err}
 
--- a record of 24 bytes: its kind and detail, the length of its name, which is the first of the names, where it begins
--- and ends, how many nodes it covers; and one that has no detail and no name
+-- a record of 24 bytes in source file 1: its kind and detail, the length of its name, which is the first of the names,
+-- where it begins and ends, how many nodes it covers; and one that has no detail and no name
 abbrev pub fullRecord : ℕ → ℕ → ℕ → ℕ → ℕ → ℕ → List ℕ
 fullRecord kind detail name begin stop size =
     (kind ∷ detail ∷ name ∷ 0 ∷ 0 ∷ 0 ∷ 0 ∷ 0 ∷ [])
-    ++ ((begin ∷ 0 ∷ 0 ∷ 0 ∷ stop ∷ 0 ∷ 0 ∷ 0 ∷ []) ++ (size ∷ 0 ∷ 0 ∷ 0 ∷ 0 ∷ 0 ∷ 0 ∷ 0 ∷ []))
+    ++ ((begin ∷ 0 ∷ 0 ∷ 0 ∷ stop ∷ 0 ∷ 0 ∷ 0 ∷ []) ++ (size ∷ 0 ∷ 1 ∷ 0 ∷ 0 ∷ 0 ∷ 0 ∷ 0 ∷ []))
 
 abbrev pub plainRecord : ℕ → ℕ → ℕ → ℕ → List ℕ
 plainRecord kind begin stop size = fullRecord kind 0 0 begin stop size
@@ -33,7 +33,7 @@ topLevelOpen = 1 ∷ 1 ∷ 1 ∷ 0 ∷ 0 ∷ 0 ∷ 1 ∷ 1 ∷ 0 ∷ []
 
 -- before: a top-level if, 54, and nothing below it is looked at; after: a break outside of a for, 55
 abbrev pub span : ℕ → ℕ → Span
-span b e = record { begin = b; end = e }
+span b e = record { begin = b; end = e; file = 1 }
 
 abbrev pub before : List Err
 before = err topLevelIf 0 (span 0 11) ∷ []

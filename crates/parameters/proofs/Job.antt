@@ -11,7 +11,7 @@ use borrow.Author.Tests.{le-leb, lt-leb}
 use Rattle.fields.proofs.Basics.{clash}
 use Rattle.forest.specs.Forest.{nodeOf, kidsOf, forest}
 use Rattle.table.specs.Numbers.{shortBuffer}
-use Rattle.table.specs.Answer.{Answer, accepted, refused, refusal, checked, earlierValues}
+use Rattle.table.specs.Answer.{Answer, accepted, refused, refusal, checked, earlierValues, spanValues}
 use Rattle.table.specs.Check.{Headed, stretchOf, entryCheck}
 use Rattle.forest.specs.declared.Found.{Found}
 use Rattle.forest.specs.declared.Found.the-variants.{At, Nothing}
@@ -70,7 +70,7 @@ module _ (found : Found) where
   earlier-small small h = omega (arith, rw h at small)
 
 pub fault-answer : (f : Fault) {p : Place} {u : Answer} → p ≡ earlierPlace (f .earlier)
-    → u ≡ refused (f .number) (f .node ∷ f .span .begin ∷ f .span .end ∷ earlierValues p) → u ≡ faultAnswer f
+    → u ≡ refused (f .number) (f .node ∷ spanValues (f .span) ++ earlierValues p) → u ≡ faultAnswer f
 fault-answer f p-is u-is = u-is ∙ rw p-is refl
 
 -- the job's answer for what unpack says

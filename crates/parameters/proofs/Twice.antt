@@ -1,7 +1,7 @@
 -- What 11 tells over the whole job: the first earlier parameter of an equal name; and 11 alone carries an earlier node.
 -- Assumes nothing.
 use mathlib.Core.Path.{_≡_, refl}
-use mathlib.Core.List.{List, [], _∷_}
+use mathlib.Core.List.{List, [], _∷_, _++_}
 use Prim.Native.Nat.{ℕ}
 use native.Mathlib.Omega.{arith}
 use lib.ListN.{length}
@@ -9,7 +9,7 @@ use lib.Dec.{leb}
 use Rattle.fields.proofs.Basics.{never}
 use Rattle.forest.specs.Forest.{Node, nodeOf}
 use Rattle.table.specs.Numbers.{shortBuffer, duplicatedParameter}
-use Rattle.table.specs.Answer.{accepted, refused, OnlyCarries}
+use Rattle.table.specs.Answer.{accepted, refused, OnlyCarries, spanValues, spanAt}
 use Rattle.table.specs.Check.{stretchOf, entryCheck, onNode}
 use Rattle.table.specs.declared.Wanted.the-variants.{Parameters}
 use Rattle.table.proofs.Carried.{Before, before-test, carries-then, from-next, entry-before}
@@ -51,7 +51,7 @@ params-carries t ns node room =
 -- is the only one, and has a smaller node
 pub params-twice : (t ns : List ℕ) (node room : ℕ) {vs : List ℕ}
     → paramsOf t ns node room ≡ refused duplicatedParameter vs
-    → (i : ℕ) × ((r : Node) × ((vs ≡ r .at ∷ r .begin ∷ r .stop ∷ i ∷ []) × NamedTwice (listOf t ns node) i r))
+    → (i : ℕ) × ((r : Node) × ((vs ≡ r .at ∷ spanValues (spanAt r) ++ i ∷ []) × NamedTwice (listOf t ns node) i r))
 unfolding paramsOf onNode listAnswer listOf written
 params-twice t ns node room {vs} e =
     go (limited owner l) refl
@@ -65,7 +65,7 @@ params-twice t ns node room {vs} e =
     owner = nodeOf node (stretchOf t node)
 
     go : (o : def.Outcome) → limited owner l ≡ o → answerOf o ≡ refused duplicatedParameter vs
-        → (i : ℕ) × ((r : Node) × ((vs ≡ r .at ∷ r .begin ∷ r .stop ∷ i ∷ []) × NamedTwice l i r))
+        → (i : ℕ) × ((r : Node) × ((vs ≡ r .at ∷ spanValues (spanAt r) ++ i ∷ []) × NamedTwice l i r))
     go (def.accepted c) h e = never (cc)
     go (def.refused n r) h e = let same : n ≡ duplicatedParameter = cc in absurd (limited-other owner l h same)
     go (def.repeated i r) h e = (i, (r, (cc, written-twice ns node _ (limited-repeated owner l h))))

@@ -2,7 +2,7 @@
 -- functions use.
 use mathlib.Core.Path.{_≡_}
 use mathlib.Core.Bool.{Bool, true, false}
-use mathlib.Core.List.{List, [], _∷_}
+use mathlib.Core.List.{List, [], _∷_, _++_}
 use Prim.Native.Nat.{ℕ, zero, suc, _≤_, _<_, _^_}
 use lib.ListN.{length}
 use lib.Seq.{sets}
@@ -18,7 +18,7 @@ use Rattle.deflist.specs.declared.Judged.{Judged}
 use Rattle.deflist.specs.declared.Judged.the-variants.{Accepted, Refused}
 use Rattle.forest.specs.declared.Found.{Found}
 use Rattle.forest.specs.declared.Found.the-variants.{At, Nothing}
-use Rattle.table.specs.Answer.{Answer, accepted, refused, earlierValues}
+use Rattle.table.specs.Answer.{Answer, accepted, refused, spanValues, earlierValues}
 use Rattle.table.specs.declared.Place.{Place}
 use Rattle.table.specs.declared.Place.the-variants.{At as AtPlace, Nothing as NoPlace}
 use Rattle.parameters.specs.Indices.{valuesOf, countedOf}
@@ -40,8 +40,7 @@ earlierPlace Nothing = NoPlace
 
 -- what the job answers for such a refusal, and that its numbers fit 32 bits
 abbrev pub faultAnswer : Fault → Answer
-faultAnswer f =
-    refused (f .number) (f .node ∷ f .span .begin ∷ f .span .end ∷ earlierValues (earlierPlace (f .earlier)))
+faultAnswer f = refused (f .number) (f .node ∷ spanValues (f .span) ++ earlierValues (earlierPlace (f .earlier)))
 
 abbrev pub SmallFault : Fault → Type 0
 SmallFault f = (f .node < 2 ^ 32) × NotPast 4294967295 (f .earlier)

@@ -15,6 +15,7 @@ use Rattle.forest.specs.Forest.{Node, sizeOf, kidsOf, restOf, forestIn, forest,
 use Rattle.forest.specs.Names.{nameOf, same}
 use Rattle.soundness.specs.KindNumbers.{kindNamed}
 use Rattle.soundness.specs.Kinds.{kindIn, kindOf}
+use Rattle.soundness.specs.Files.{fileSound, endsBy, topOf, filesOf}
 use Rattle.soundness.specs.Sound.{nameSound, spanSound, sourceSound, fieldsSound, wholeTrees, classes, permitted}
 use Rattle.soundness.specs.Sound.{wanted, permits, kidsSound, soundNode, soundAt, rootSound, contextOf, recordSound}
 use Rattle.soundness.specs.Sound.{firstFalse, firstUnsound}
@@ -46,7 +47,7 @@ use Rattle.reached.proofs.Reached.{accepted-by-rules}
 pub sound : checkOf table names ≡ accepted []
 unfolding checkOf lengthSound field sizeOf kidsOf restOf forestIn forest count countTree same kindIn kindOf nameSound
     spanSound sourceSound fieldsSound wholeTrees classes permitted wanted permits kidsSound soundNode soundAt rootSound
-    contextOf recordSound firstFalse firstUnsound classWeight weight firstDeep deepIn
+    fileSound endsBy topOf filesOf contextOf recordSound firstFalse firstUnsound classWeight weight firstDeep deepIn
 sound = refl
 
 -- the lists are these
@@ -142,7 +143,7 @@ needed (suc zero) p e d = never (cc)
 needed (suc (suc zero)) p e d = never (cc)
 needed (suc (suc (suc zero))) p e d =
     let name : p .name ≡ 99 ∷ [] = sym (ap (λ (q : FlatParam). q .name) e) in
-    let own = recordAt 19 kindNamed 0 1 6 49 52 2 in
+    let own = recordAt 19 kindNamed 0 1 6 49 52 2 2 in
     inr (3, (own, (ap (named own) (sym name), inr (sym (mode-of e)))))
 needed (suc (suc (suc (suc zero)))) p e d = never (cc)
 needed (suc (suc (suc (suc (suc i))))) p e d = absurd e

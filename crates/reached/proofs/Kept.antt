@@ -99,16 +99,16 @@ module _ (t names : List ℕ) (call def : ℕ) (list : List ℕ) {vs : List ℕ}
       ))
 
 -- a refusal with another number carries none
-without : (n : ℕ) (vs : List ℕ) → (n ≡ duplicatedParameter → ⊥) → (n ≡ repeatedNamed → ⊥) → length vs ≤ 3
+without : (n : ℕ) (vs : List ℕ) → (n ≡ duplicatedParameter → ⊥) → (n ≡ repeatedNamed → ⊥) → length vs ≤ 4
     → OnlyTwoCarry (refused n vs)
 without n vs a b h = (go, λ c d. h)
   where
-    go : (n ≡ duplicatedParameter) ⊎ (n ≡ repeatedNamed) → length vs ≡ 4
+    go : (n ≡ duplicatedParameter) ⊎ (n ≡ repeatedNamed) → length vs ≡ 5
     go (inl e) = absurd (a e)
     go (inr e) = absurd (b e)
 
 -- the entry: 1 to 4, 6, 7
-entry-first : (t ns : List ℕ) (call def room : ℕ) → Before 8 (entryOf t ns call def room)
+pub entry-first : (t ns : List ℕ) (call def room : ℕ) → Before 8 (entryOf t ns call def room)
 unfolding entryOf
 entry-first t ns call def room =
     before-then 8 (entryCheck Call t ns call) _ (entry-before 8 Call t ns call (omega arith))
@@ -119,7 +119,7 @@ entry-first t ns call def room =
 -- the binding: 80 to 84, each at one record
 abbrev Bound : Answer → Type 0
 Bound (accepted vs) = Unit {0}
-Bound (refused n vs) = (79 < n) × (length vs ≤ 3)
+Bound (refused n vs) = (79 < n) × (length vs ≤ 4)
 
 unreached-late : (k : Kind) → 79 < unreached k
 unfolding unreached
@@ -198,7 +198,7 @@ call-first : (a : Answer) (next : Unit {0} → Answer) → OnlyCarries repeatedN
 call-first (accepted vs) next c m rest = rest
 call-first (refused n vs) next c m rest = (go m, λ a b. c .1 b)
   where
-    go : (n ≡ 0) ⊎ ((19 < n) × (n < 25)) → (n ≡ duplicatedParameter) ⊎ (n ≡ repeatedNamed) → length vs ≡ 4
+    go : (n ≡ 0) ⊎ ((19 < n) × (n < 25)) → (n ≡ duplicatedParameter) ⊎ (n ≡ repeatedNamed) → length vs ≡ 5
     go m (inr e) = c .0 e
     go (inl z) (inl e) = absurd (omega arith)
     go (inr h) (inl e) = absurd (omega (arith, h .0))
@@ -222,8 +222,8 @@ lists-carry ps qs = go (unpack ps) refl (early-list ps)
 -- "Refusals 11 and 22 carry that node besides what they carried; all other refusals carry none."
 pub bind-carries : (t names : List ℕ) (call def room : ℕ) {n : ℕ} {vs : List ℕ}
     → bindOf t names call def room ≡ refused n vs
-    → ((n ≡ duplicatedParameter) ⊎ (n ≡ repeatedNamed) → length vs ≡ 4)
-    × ((n ≡ duplicatedParameter → ⊥) → (n ≡ repeatedNamed → ⊥) → length vs ≤ 3)
+    → ((n ≡ duplicatedParameter) ⊎ (n ≡ repeatedNamed) → length vs ≡ 5)
+    × ((n ≡ duplicatedParameter → ⊥) → (n ≡ repeatedNamed → ⊥) → length vs ≤ 4)
 unfolding bindOf wordsOf
 bind-carries t names call def room {n} {vs} e =
     let told : OnlyTwoCarry (bindOf t names call def room) = answer (wordsOf t names call def room)

@@ -12,5 +12,7 @@ pub mod Reached
 pub mod Ruled
 pub mod Reported
 pub mod Kept
+pub mod Files
 pub mod Examples
 pub mod Example
+pub mod TwoFiles

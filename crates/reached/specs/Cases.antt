@@ -20,7 +20,7 @@ nodeAt i = record {
   begin = 100 + i;
   stop = 200 + i;
   size = 0;
-  pad = 0;
+  file = 0;
   source = 0;
 }
 

@@ -3,3 +3,4 @@ pub mod Cases
 pub mod Rules
 pub mod Refused
 pub mod Example
+pub mod TwoFiles

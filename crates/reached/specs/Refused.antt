@@ -2,12 +2,14 @@
 use mathlib.Core.Path.{_≡_}
 use mathlib.Core.Logic.{_⊎_}
 use mathlib.Core.List.{List, [], _∷_}
-use mathlib.Core.Bool.{false}
+use mathlib.Core.Bool.{false, _||_}
 use Prim.Native.Nat.{ℕ, _<_, _≤_}
 use lib.ListN.{length}
+use lib.Dec.{eqb, ltb}
+use Rattle.fields.specs.Choice.{if'}
 use Rattle.forest.specs.Forest.{Node}
-use Rattle.table.specs.Numbers.{duplicatedParameter, repeatedNamed}
-use Rattle.table.specs.Answer.{Answer, accepted, refused}
+use Rattle.table.specs.Numbers.{duplicatedParameter, repeatedNamed, positionalAfterNonPositional, emptyParameter}
+use Rattle.table.specs.Answer.{Answer, accepted, refused, spanValues, spanAt}
 use Rattle.deflist.specs.Unpack.{modeArgs}
 use Rattle.arguments.specs.Written.{Argument, positional, named, args, kwargs}
 use Rattle.bind.specs.FlatList.{FlatParam}
@@ -16,7 +18,7 @@ use Rattle.reached.specs.Rules.{Placed}
 
 -- what a refusal at a record carries
 abbrev pub spanned : Node → List ℕ
-spanned r = r .at ∷ r .begin ∷ r .stop ∷ []
+spanned r = r .at ∷ spanValues (spanAt r)
 
 -- 80: the first star or `**` of the call
 pub record FirstStar (qs : List Argument) (vs : List ℕ) : Type 0 where
@@ -50,8 +52,12 @@ pub record LeftEmpty (fs : List FlatParam) (qs : List Argument) (vs : List ℕ) 
       → ((r : Node) × (IsAt qs i (positional r) × ByPlace p))
       ⊎ ((k : ℕ) × ((r : Node) × (IsAt qs k (named r (p .name)) × CanBeNamed p)))
 
--- of all refusals 11 and 22 alone carry an earlier node, as a fourth number
+-- of all refusals 11 and 22 alone carry an earlier node, as a fifth number
 abbrev pub OnlyTwoCarry : Answer → Type 0
 OnlyTwoCarry (accepted vs) = Unit {0}
-OnlyTwoCarry (refused n vs) = ((n ≡ duplicatedParameter) ⊎ (n ≡ repeatedNamed) → length vs ≡ 4)
-    × ((n ≡ duplicatedParameter → ⊥) → (n ≡ repeatedNamed → ⊥) → length vs ≤ 3)
+OnlyTwoCarry (refused n vs) = ((n ≡ duplicatedParameter) ⊎ (n ≡ repeatedNamed) → length vs ≡ 5)
+    × ((n ≡ duplicatedParameter → ⊥) → (n ≡ repeatedNamed → ⊥) → length vs ≤ 4)
+
+-- whose source file a refusal from 10 on carries: the def's for 10 to 18 and 84, the call's for 20 to 24 and 80 to 83
+abbrev pub sideOf : ℕ → ℕ → ℕ → ℕ
+sideOf call def n = if' (ltb n positionalAfterNonPositional || eqb n emptyParameter) (λ _. def) (λ _. call)

@@ -5,6 +5,7 @@ use mathlib.Core.List.{List, [], _∷_}
 use Prim.Native.Nat.{ℕ, zero, suc, _+_}
 use lib.ListN.{length, getD}
 use Rattle.forest.specs.Forest.{Node}
+use Rattle.table.specs.Answer.{spanValues, spanAt}
 use Rattle.deflist.specs.Written.{Name}
 use Rattle.deflist.specs.Unpack.{modePosOnly, modePosOrName, modeNameOnly, modeArgs, modeKwargs}
 use Rattle.parameters.specs.Params.{listOf}
@@ -48,7 +49,7 @@ pub record Against (fs : List FlatParam) (qs : List Argument) (vs : List ℕ) : 
   pub node : Node
   pub name : Name
   pub there : IsAt qs number (named node name)
-  pub carries : vs ≡ node .at ∷ node .begin ∷ node .stop ∷ []
+  pub carries : vs ≡ node .at ∷ spanValues (spanAt node)
   pub index : ℕ
   pub param : FlatParam
   pub sits : IsAt fs index param

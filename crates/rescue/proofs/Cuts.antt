@@ -84,6 +84,9 @@ module _ (k : ℕ) (t : List ℕ) (some : 24 ≤ length t) (whole : 24 * (length
   pub cut-kind : nodeOf 0 (cutTo k t) .kind ≡ nodeOf 0 t .kind
   cut-kind = cut-byte 0 (omega arith) (λ e. omega arith) (λ e. omega arith)
 
+  pub cut-file : nodeOf 0 (cutTo k t) .file ≡ nodeOf 0 t .file
+  cut-file = cut-field 2 18 (inr (omega arith)) (omega arith)
+
   pub cut-fields : (x : Context) → fieldsSound x (nodeOf 0 (cutTo k t)) ≡ fieldsSound x (nodeOf 0 t)
   unfolding fieldsSound
   cut-fields x = rw (
@@ -93,7 +96,7 @@ module _ (k : ℕ) (t : List ℕ) (some : 24 ≤ length t) (whole : 24 * (length
     cut-field 4 4 (inl (omega arith)) (omega arith),
     cut-field 4 8 (inl (omega arith)) (omega arith),
     cut-field 4 12 (inl (omega arith)) (omega arith),
-    cut-field 2 18 (inr (omega arith)) (omega arith),
+    cut-file,
     cut-field 4 20 (inr (omega arith)) (omega arith),
   ) refl
 

@@ -12,7 +12,6 @@ use borrow.Author.Tests.{le-leb, ne-eqb}
 use Rattle.forest.specs.Forest.{nodeOf, spanOf, Tree, forest, firsts, count}
 use Rattle.forest.proofs.Stretch.{kids-part, length-kids, record-or-none}
 use Rattle.forest.proofs.Prefix.{firsts-some, some-child}
-use Rattle.soundness.specs.Sound.{context}
 use Rattle.table.specs.Answer.{passes}
 use Rattle.table.specs.Check.{checkOf}
 use Rattle.rescue.specs.Cut.{children, resized, cutTo, childrenKept, largestCut}
@@ -51,7 +50,7 @@ module _ (t names : List ℕ) {k : ℕ} (k-is : k ≡ nodeOf 0 t .kind) where
       cut-from = omega (arith, cut-big)
 
       abbrev test : Tree → Bool
-      test = keepable (context (length names))
+      test = keepable (length names)
 
       module _ {done : ℕ} (done-is : done ≡ leadingBytes test (forest 1 (take (e - 24) (drop 24 t)))) where
         abbrev n : ℕ

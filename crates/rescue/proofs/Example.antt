@@ -1,13 +1,15 @@
 -- What the claims about a damaged file suppose can be met: a file with good blocks whose third record is unsound, a
--- Break with a detail. Its blocks do not pass, and the rescue keeps the first of its two statements. Both are computed.
--- Assumes nothing.
+-- Break with a detail. Its blocks do not pass, and the rescue keeps the first of its two statements. The same with
+-- wrong file numbers (W-208): a child's is where the rescue cuts, and nothing is kept under a root that has one. All is
+-- computed. Assumes nothing.
 use mathlib.Core.Path.{_≡_, refl}
 use mathlib.Core.Bool.{false}
-use mathlib.Core.List.{List, [], _∷_, _++_}
+use mathlib.Core.List.{List, [], _∷_, _++_, map}
 use Prim.Native.Nat.{ℕ}
 use lib.ListN.{replicate}
 use Rattle.soundness.specs.KindNumbers.{kindStatements, kindBreak}
-use Rattle.table.specs.Answer.{accepted}
+use Rattle.table.specs.Numbers.{nothingKept}
+use Rattle.table.specs.Answer.{accepted, refused}
 use Rattle.fields.specs.Field.{field, bytesOf}
 use Rattle.blocks.specs.Block.{weighed, sumOf, beforeSum, blockOf, zeros, examine}
 use Rattle.blocks.specs.Block.{judge}
@@ -19,6 +21,7 @@ use Rattle.forest.specs.Forest.{sizeOf, kidsOf, restOf, forestIn, forest, roots
 use Rattle.forest.specs.Forest.{firsts, count, countTree}
 use Rattle.forest.specs.Names.{same}
 use Rattle.soundness.specs.Kinds.{kindIn, kindOf}
+use Rattle.soundness.specs.Files.{fileSound, endsBy, topOf, filesOf}
 use Rattle.soundness.specs.Sound.{nameSound, spanSound, sourceSound, fieldsSound, wholeTrees, classes}
 use Rattle.soundness.specs.Sound.{permitted, wanted, permits, kidsSound, soundNode, soundAt}
 use Rattle.soundness.specs.Sound.{rootSound, contextOf, recordSound, firstFalse, firstUnsound}
@@ -29,26 +32,36 @@ use Rattle.rescue.specs.Cut.{resized, cutTo, largest, childrenKept, larg
 use Rattle.rescue.specs.Job.{tableKept, statementsOf, rescueOf}
 use Rattle.dialect.specs.Bytes.{within, validBytes, fromBytes}
 
--- the 24 bytes of a record without a name: kind, detail, size
-abbrev recordOf : ℕ → ℕ → ℕ → List ℕ
-recordOf kind detail size = kind ∷ detail ∷ (replicate 14 0 ++ (size ∷ replicate 7 0))
+-- the 24 bytes of a record without a name: kind, detail, size, source file
+abbrev recordOf : ℕ → ℕ → ℕ → ℕ → List ℕ
+recordOf kind detail size file = kind ∷ detail ∷ (replicate 14 0 ++ (size ∷ 0 ∷ file ∷ replicate 5 0))
+
+-- a file of one block of records, with no name and no dialect
+abbrev pub holding : List ℕ → Content
+holding t = record { table = t; names = []; dialect = [] }
 
 abbrev pub content : Content
-content = record {
-  table = recordOf kindStatements 0 3 ++ (recordOf kindBreak 0 1 ++ recordOf kindBreak 1 1);
-  names = [];
-  dialect = [];
-}
+content = holding (recordOf kindStatements 0 3 0 ++ (recordOf kindBreak 0 1 1 ++ recordOf kindBreak 1 1 1))
+
+-- file numbers that are wrong: the second child's, the root's, and those of a file that is older than the numbers
+abbrev pub wrongChild : Content
+wrongChild = holding (recordOf kindStatements 0 3 0 ++ (recordOf kindBreak 0 1 1 ++ recordOf kindBreak 0 1 0))
+
+abbrev pub wrongRoot : Content
+wrongRoot = holding (recordOf kindStatements 0 2 1 ++ recordOf kindBreak 0 1 1)
+
+abbrev pub oldFile : Content
+oldFile = holding (recordOf kindStatements 0 2 0 ++ recordOf kindBreak 0 1 0)
 
 -- the reader refuses its blocks with 3
 pub does-not-pass : blocksPass (fileOf content) ≡ false
 unfolding field bytesOf weighed sumOf beforeSum blockOf zeros examine judge blocksFor blocksOf runOf judgeBlocks
     judgeRun goodBlocks contents contentIn contentOf headerOf fileOf dialectIn headerAt contentAt countsFit blocksCheck
     readCheck sizeOf kidsOf restOf forestIn forest roots firsts count countTree same kindIn kindOf nameSound spanSound
-    sourceSound fieldsSound wholeTrees classes permitted wanted permits kidsSound soundNode soundAt rootSound contextOf
-    recordSound firstFalse firstUnsound lengthSound checkOf givenOf classWeight weight firstDeep deepIn headGood
-    blocksPass goodTable resized cutTo largest childrenKept largestCut tableKept statementsOf rescueOf within validBytes
-    fromBytes
+    sourceSound fieldsSound wholeTrees classes permitted wanted permits kidsSound soundNode soundAt rootSound fileSound
+    endsBy topOf filesOf contextOf recordSound firstFalse firstUnsound lengthSound checkOf givenOf classWeight weight
+    firstDeep deepIn headGood blocksPass goodTable resized cutTo largest childrenKept largestCut tableKept statementsOf
+    rescueOf within validBytes fromBytes
 does-not-pass = refl
 
 -- what is printed: 1,024 bytes, one statement and two nodes kept, one node dropped, no byte behind
@@ -56,8 +69,20 @@ pub is-rescued : rescueOf (fileOf content) 1024 ≡ accepted (1024 ∷ 1 ∷ 2 �
 unfolding field bytesOf weighed sumOf beforeSum blockOf zeros examine judge blocksFor blocksOf runOf judgeBlocks
     judgeRun goodBlocks contents contentIn contentOf headerOf fileOf dialectIn headerAt contentAt countsFit blocksCheck
     readCheck sizeOf kidsOf restOf forestIn forest roots firsts count countTree same kindIn kindOf nameSound spanSound
-    sourceSound fieldsSound wholeTrees classes permitted wanted permits kidsSound soundNode soundAt rootSound contextOf
-    recordSound firstFalse firstUnsound lengthSound checkOf givenOf classWeight weight firstDeep deepIn headGood
-    blocksPass goodTable resized cutTo largest childrenKept largestCut tableKept statementsOf rescueOf within validBytes
-    fromBytes
+    sourceSound fieldsSound wholeTrees classes permitted wanted permits kidsSound soundNode soundAt rootSound fileSound
+    endsBy topOf filesOf contextOf recordSound firstFalse firstUnsound lengthSound checkOf givenOf classWeight weight
+    firstDeep deepIn headGood blocksPass goodTable resized cutTo largest childrenKept largestCut tableKept statementsOf
+    rescueOf within validBytes fromBytes
 is-rescued = refl
+
+-- the child with a wrong number is dropped; nothing is kept of the other two, 91
+pub numbers-rescued : map (λ (c : Content). rescueOf (fileOf c) 1024) (wrongChild ∷ wrongRoot ∷ oldFile ∷ [])
+    ≡ accepted (1024 ∷ 1 ∷ 2 ∷ 1 ∷ 0 ∷ []) ∷ refused nothingKept [] ∷ refused nothingKept [] ∷ []
+unfolding field bytesOf weighed sumOf beforeSum blockOf zeros examine judge blocksFor blocksOf runOf judgeBlocks
+    judgeRun goodBlocks contents contentIn contentOf headerOf fileOf dialectIn headerAt contentAt countsFit blocksCheck
+    readCheck sizeOf kidsOf restOf forestIn forest roots firsts count countTree same kindIn kindOf nameSound spanSound
+    sourceSound fieldsSound wholeTrees classes permitted wanted permits kidsSound soundNode soundAt rootSound fileSound
+    endsBy topOf filesOf contextOf recordSound firstFalse firstUnsound lengthSound checkOf givenOf classWeight weight
+    firstDeep deepIn headGood blocksPass goodTable resized cutTo largest childrenKept largestCut tableKept statementsOf
+    rescueOf within validBytes fromBytes
+numbers-rescued = refl

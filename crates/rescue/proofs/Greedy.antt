@@ -1,7 +1,8 @@
--- Which cuts pass. A child is `keepable` by itself, in the context of its table: a statement whose nodes are sound and
--- not too deep. The cut to k children passes exactly where the root's fields are sound and each of its first k children
--- is keepable (`cut-accepted`, `cut-keepable`): the check of the cut is one of its forest, and that is the root and
--- these children. Inductions are on the forest. Assumes nothing.
+-- Which cuts pass. A child is `keepable` by itself, in the context of its table: a statement whose nodes are sound,
+-- have the number of one source file, and are not too deep. The cut to k children passes exactly where the root's
+-- fields are sound, its file number is 0, and each of its first k children is keepable (`cut-accepted`,
+-- `cut-keepable`): the check of the cut is one of its forest (any-clean and clean-any of soundness), and that is the
+-- root and these children. Inductions are on the forest. Assumes nothing.
 use mathlib.Core.Path.{_≡_, refl, sym, ap, _∙_}
 use mathlib.Core.Bool.{Bool, true, false, _&&_}
 use mathlib.Core.List.{List, [], append-nil}
@@ -13,16 +14,19 @@ use lib.Dec.{eqb}
 use borrow.Author.Tests.{eq-eqb}
 use Rattle.fields.specs.Choice.{if'}
 use Rattle.fields.proofs.Basics.{never, and-left, and-right, and-both}
-use Rattle.forest.specs.Forest.{sizeOf, nodeOf, Tree, node, Forest, none, _then_, forest, firsts, count, roots}
+use Rattle.forest.specs.Forest.{Node, sizeOf, nodeOf, Tree, node, Forest, none, _then_, forest, firsts, count, roots}
 use Rattle.forest.specs.Names.{same}
 use Rattle.forest.specs.declared.Found.{Found}
 use Rattle.forest.specs.declared.Found.the-variants.{At, Nothing}
 use Rattle.soundness.specs.KindNumbers.{kindStatements}
 use Rattle.soundness.specs.Kinds.{statement, any, kindOf, kindIn, classOf}
-use Rattle.soundness.specs.Sound.{Context, context, contextOf, fieldsSound, wholeTrees, classes, permitted}
+use Rattle.soundness.specs.Files.{fileNumbers, anyFile, fileSound, filesIn, filesTop, filesSound}
+use Rattle.soundness.specs.Sound.{Context, context, fieldsSound, wholeTrees, classes, permitted}
 use Rattle.soundness.specs.Sound.{wanted, permits, kidsSound, soundNode, rootSound, clear}
 use Rattle.soundness.proofs.Search.{clear-is}
-use Rattle.soundness.proofs.SoundTables.{allSound, treeSound, Sound, node-size, sound-table, sound-clean}
+use Rattle.soundness.proofs.SoundTables.{allSound, treeSound, Sound, node-size}
+use Rattle.soundness.proofs.Files.{clean-files}
+use Rattle.soundness.proofs.OneStatement.{clean-any, any-clean}
 use Rattle.table.specs.Answer.{accepted}
 use Rattle.table.specs.Check.{checkOf}
 use Rattle.table.specs.Depth.{weight, classWeight, orElse, firstDeep, deepIn}
@@ -30,7 +34,7 @@ use Rattle.table.proofs.Checking.{accepted-clean}
 use Rattle.table.proofs.Theorems.{clean-accepted}
 use Rattle.rescue.specs.Cut.{children, cutTo}
 use Rattle.rescue.specs.Steps.{keepable, leading}
-use Rattle.rescue.proofs.Cuts.{cut-length, cut-short, cut-size, cut-kind, cut-fields, cut-forest}
+use Rattle.rescue.proofs.Cuts.{cut-length, cut-short, cut-size, cut-kind, cut-file, cut-fields, cut-forest}
 
 -- a test of each tree
 unfoldable pub each : (Tree → Bool) → Forest → Bool
@@ -38,45 +42,76 @@ each p none = true
 each p (t then ts) = p t && each p ts
 
 -- LAW: trees that can be kept are what the check of a table asks of a root's children
-pub record Keepable (x : Context) (f : Forest) : Type 0 where
-  pub sound : allSound (λ i. x) f ≡ true
+pub record Keepable (m : ℕ) (f : Forest) : Type 0 where
+  pub sound : allSound (λ i. context m anyFile) f ≡ true
+  pub files : filesTop f ≡ true
   pub whole : wholeTrees f ≡ true
   pub statements : same (classes f) (replicate (length (classes f)) statement) ≡ true
   pub flat : firstDeep 1 f ≡ Nothing
 
-each-says : (x : Context) (f : Forest) → each (keepable x) f ≡ true → Keepable x f
-unfolding each keepable allSound wholeTrees classes same firstDeep
-each-says x none e = record { sound = refl; whole = refl; statements = refl; flat = refl }
-each-says x (node r ks then ts) e =
-    let here = and-left (keepable x (node r ks)) _ e in
-    let rest = each-says x ts (and-right (keepable x (node r ks)) _ e) in
+-- the parts of one of them
+pub record Child (m : ℕ) (r : Node) (ks : Forest) : Type 0 where
+  pub class : eqb (classOf (r .kind)) statement ≡ true
+  pub sound : treeSound (λ i. context m anyFile) (node r ks) ≡ true
+  pub files : (fileSound fileNumbers (r .file) && filesIn (r .file) ks) ≡ true
+  pub flat : clear (deepIn 1 (node r ks)) ≡ true
+
+pub keepable-is : (m : ℕ) (r : Node) (ks : Forest) → keepable m (node r ks) ≡ true → Child m r ks
+unfolding keepable filesTop
+keepable-is m r ks e =
     let class : Bool = eqb (classOf (r .kind)) statement in
-    let both = and-right class _ here in
-    let tree : treeSound (λ i. x) (node r ks) ≡ true = and-left _ _ both in
-    let flat = and-right (treeSound (λ i. x) (node r ks)) _ both in
-    let size = node-size x r ks (and-left _ _ tree) in
+    let sound : Bool = treeSound (λ i. context m anyFile) (node r ks) in
+    let both = and-right class _ e in
+    let judged = and-left (sound && filesTop (node r ks then none)) _ both in
     record {
-      sound = and-both _ _ tree (rest .sound);
+      class = and-left class _ e;
+      sound = and-left sound _ judged;
+      files = and-left _ true (and-right sound _ judged);
+      flat = and-right (sound && filesTop (node r ks then none)) _ both;
+    }
+
+is-keepable : (m : ℕ) (r : Node) (ks : Forest) → Child m r ks → keepable m (node r ks) ≡ true
+unfolding keepable filesTop
+is-keepable m r ks c = and-both _ _ (c .class)
+    (and-both _ _ (and-both _ _ (c .sound) (and-both _ true (c .files) refl)) (c .flat))
+
+each-says : (m : ℕ) (f : Forest) → each (keepable m) f ≡ true → Keepable m f
+unfolding each allSound filesTop wholeTrees classes same firstDeep
+each-says m none e = record { sound = refl; files = refl; whole = refl; statements = refl; flat = refl }
+each-says m (node r ks then ts) e =
+    let here = keepable-is m r ks (and-left (keepable m (node r ks)) _ e) in
+    let rest = each-says m ts (and-right (keepable m (node r ks)) _ e) in
+    let size = node-size (context m anyFile) r ks (and-left _ _ (here .sound)) in
+    record {
+      sound = and-both _ _ (here .sound) (rest .sound);
+      files = and-both _ _ (here .files) (rest .files);
       whole = and-both _ _ (eq-eqb (r .size) (1 + count ks) size) (rest .whole);
-      statements = and-both _ _ (and-left class _ here) (rest .statements);
-      flat = rw (clear-is (deepIn 1 (node r ks)) flat) (rest .flat);
+      statements = and-both _ _ (here .class) (rest .statements);
+      flat = rw (clear-is (deepIn 1 (node r ks)) (here .flat)) (rest .flat);
     }
 
 or-else : (x y : Found) → orElse x (λ _. y) ≡ Nothing → (clear x ≡ true) × (y ≡ Nothing)
 or-else (At i) y e = never (cc)
 or-else Nothing y e = (refl, e)
 
-says-each : (x : Context) (f : Forest) → allSound (λ i. x) f ≡ true
+says-each : (m : ℕ) (f : Forest) → allSound (λ i. context m anyFile) f ≡ true → filesTop f ≡ true
     → same (classes f) (replicate (length (classes f)) statement) ≡ true → firstDeep 1 f ≡ Nothing
-    → each (keepable x) f ≡ true
-unfolding each keepable allSound classes same firstDeep
-says-each x none s c d = refl
-says-each x (node r ks then ts) s c d =
+    → each (keepable m) f ≡ true
+unfolding each allSound filesTop classes same firstDeep
+says-each m none s n c d = refl
+says-each m (node r ks then ts) s n c d =
     let deep = or-else (deepIn 1 (node r ks)) (firstDeep 1 ts) d in
     let class : Bool = eqb (classOf (r .kind)) statement in
-    let rest = says-each x ts (and-right (treeSound (λ i. x) (node r ks)) _ s) (and-right class _ c) (deep .1) in
-    let tree : treeSound (λ i. x) (node r ks) ≡ true = and-left _ _ s in
-    and-both _ _ (and-both class _ (and-left class _ c) (and-both _ _ tree (deep .0))) rest
+    let sound : Bool = treeSound (λ i. context m anyFile) (node r ks) in
+    let files : Bool = fileSound fileNumbers (r .file) && filesIn (r .file) ks in
+    and-both _ _
+    (is-keepable m r ks record {
+      class = and-left class _ c;
+      sound = and-left sound _ s;
+      files = and-left files _ n;
+      flat = deep .0;
+    })
+    (says-each m ts (and-right sound _ s) (and-right files _ n) (and-right class _ c) (deep .1))
 
 -- fewer trees, and the leading ones
 pub each-fewer : (p : Tree → Bool) (j k : ℕ) (f : Forest) → j ≤ k → each p (firsts k f) ≡ true
@@ -139,7 +174,7 @@ kids-are d f = rw (rule-statements d, sub-zero, append-nil) refl
 module _ (t names : List ℕ) (some : 24 ≤ length t) (whole : 24 * (length t / 24) ≡ length t)
     (kind : nodeOf 0 t .kind ≡ kindStatements) (k : ℕ) where
   abbrev x : Context
-  x = context (length names)
+  x = context (length names) anyFile
 
   abbrev kids : Forest
   kids = firsts k (children t)
@@ -178,45 +213,50 @@ module _ (t names : List ℕ) (some : 24 ≤ length t) (whole : 24 * (length t /
       (eq-eqb (24 * sizeOf (cutTo k t)) (length (cutTo k t))
       (omega (arith, cut-size k t some whole, cut-length k t some whole)))
 
-  -- LAW: the cut passes where the root's fields are sound and each of the children can be kept
-  pub cut-accepted : length t ≤ 50400 → length names ≤ 8064
-      → fieldsSound x (nodeOf 0 t) ≡ true → each (keepable x) kids ≡ true
-      → checkOf (cutTo k t) names ≡ accepted []
-  unfolding contextOf
-  cut-accepted few named fields good =
-      let says : Keepable x kids = each-says x kids good in
+  files-is : filesSound (forest 0 (cutTo k t)) ≡ (eqb (nodeOf 0 t .file) 0 && filesTop kids)
+  unfolding filesSound
+  files-is = ap filesSound (cut-forest k t some whole) ∙ rw (kind-cut, cut-file k t some whole) refl
+
+  -- LAW: the cut passes where the root's fields are sound, it has no file number, and each of the children can be kept
+  pub record Passed : Type 0 where
+    pub named : length names ≤ 8064
+    pub fields : fieldsSound x (nodeOf 0 t) ≡ true
+    pub file : eqb (nodeOf 0 t .file) 0 ≡ true
+    pub good : each (keepable (length names)) kids ≡ true
+
+  pub cut-accepted : length t ≤ 50400 → Passed → checkOf (cutTo k t) names ≡ accepted []
+  cut-accepted few p =
+      let says : Keepable (length names) kids = each-says (length names) kids (p .good) in
       let long = cut-length k t some whole in
       let sound : Sound (λ i. x) 0 (cutTo k t) = record {
         records = omega arith;
-        nodes = all-is ∙ rw (root-is, fields, says .whole, says .statements, says .sound) refl;
+        nodes = all-is ∙ rw (root-is, p .fields, says .whole, says .statements, says .sound) refl;
       } in
+      let files : filesSound (forest 0 (cutTo k t)) ≡ true = files-is ∙ and-both _ _ (p .file) (says .files) in
       clean-accepted (cutTo k t) names record {
         least = omega arith;
         most = omega (arith, cut-short k t some whole);
         whole = omega arith;
-        few = named;
-        unsound = sound-clean (cutTo k t) names root-covers sound;
+        few = p .named;
+        unsound = any-clean (cutTo k t) names root-covers sound files;
         deep = deep-is ∙ says .flat;
       }
 
   -- LAW: and only there
-  pub record Passed : Type 0 where
-    pub named : length names ≤ 8064
-    pub fields : fieldsSound x (nodeOf 0 t) ≡ true
-    pub good : each (keepable x) kids ≡ true
-
   pub cut-keepable : {vs : List ℕ} → checkOf (cutTo k t) names ≡ accepted vs → Passed
-  unfolding contextOf
   cut-keepable e =
       let clean = accepted-clean (cutTo k t) names e in
-      let all = sym all-is ∙ sound-table (cutTo k t) names (clean .unsound) (clean .least) .nodes in
+      let all = sym all-is ∙ clean-any (cutTo k t) names (clean .unsound) (clean .least) .nodes in
       let root = soundNode x (nodeOf 0 (cutTo k t)) kids in
       let both = and-left (root && allSound (λ i. x) kids) true all in
       let parts = sym root-is ∙ and-left root (allSound (λ i. x) kids) both in
       let fields = fieldsSound x (nodeOf 0 t) in
+      let files = sym files-is ∙ clean-files (cutTo k t) names (clean .unsound) in
       record {
         named = clean .few;
         fields = and-left fields _ parts;
-        good = says-each x kids (and-right root (allSound (λ i. x) kids) both)
+        file = and-left _ _ files;
+        good = says-each (length names) kids (and-right root (allSound (λ i. x) kids) both)
+            (and-right (eqb (nodeOf 0 t .file) 0) _ files)
             (and-right (wholeTrees kids) _ (and-right fields _ parts)) (sym deep-is ∙ clean .deep);
       }

@@ -12,16 +12,15 @@ use lib.Dec.{eqb}
 use borrow.Author.Tests.{eq-eqb, eqb-true}
 use Rattle.fields.specs.Choice.{if'}
 use Rattle.fields.proofs.Basics.{clash, le-or-lt}
-use Rattle.forest.specs.Forest.{nodeOf, roots}
+use Rattle.forest.specs.Forest.{nodeOf, firsts, roots}
 use Rattle.soundness.specs.KindNumbers.{kindStatements}
-use Rattle.soundness.specs.Sound.{context}
 use Rattle.table.specs.Answer.{accepted, passes}
 use Rattle.table.proofs.Answers.{passes-is}
 use Rattle.table.specs.Check.{checkOf}
 use Rattle.table.proofs.Checking.{check-values}
 use Rattle.rescue.specs.Cut.{children, cutTo, largest, childrenKept}
 use Rattle.rescue.specs.Steps.{keepable, leading}
-use Rattle.rescue.proofs.Greedy.{each-fewer, leading-each, each-leading, leading-few}
+use Rattle.rescue.proofs.Greedy.{each, each-fewer, leading-each, each-leading, leading-few}
 use Rattle.rescue.proofs.Greedy.{Passed, cut-accepted, cut-keepable}
 
 -- the largest number that passes: it does, no larger does, and a number with both is the largest
@@ -71,15 +70,20 @@ module _ (t names : List ℕ) (some : 24 ≤ length t) (whole : 24 * (length t /
   passed : (k : ℕ) → test k ≡ true → Passed t names some whole kind k
   passed k e = cut-keepable t names some whole kind k (passes-is (checkOf (cutTo k t) names) e .1)
 
+  -- the root of each cut is the same but for its size
+  same-root : (j k : ℕ) → Passed t names some whole kind j
+      → each (keepable (length names)) (firsts k (children t)) ≡ true → Passed t names some whole kind k
+  same-root j k p good = record { named = p .named; fields = p .fields; file = p .file; good = good }
+
   -- THEOREM: fewer children are kept where more are
   pub fewer-pass : (j k : ℕ) → j ≤ k → test k ≡ true → test j ≡ true
   fewer-pass j k less e =
       let p = passed k e in
       let good = each-fewer _ j k (children t) less (p .good) in
-      rw (cut-accepted t names some whole kind j few (p .named) (p .fields) good) refl
+      rw (cut-accepted t names some whole kind j few (same-root k j p good)) refl
 
   abbrev pub most : ℕ
-  most = leading (keepable (context (length names))) (children t)
+  most = leading (keepable (length names)) (children t)
 
   kept-largest : childrenKept t names ≡ largest test (length (roots (children t)))
   unfolding childrenKept
@@ -95,9 +99,8 @@ module _ (t names : List ℕ) (some : 24 ≤ length t) (whole : 24 * (length t /
   kept-none e = kept-largest
       ∙ largest-is test (length (roots (children t))) 0 (omega arith) (λ h. absurd (omega arith))
       (λ j l p u.
-      let q = passed j p in
-      clash (ap passes (cut-accepted t names some whole kind most few (q .named) (q .fields)
-      (leading-each _ (children t)))) e)
+      let q = same-root j most (passed j p) (leading-each _ (children t)) in
+      clash (ap passes (cut-accepted t names some whole kind most few q)) e)
 
 -- what is kept of a table, if anything is: the root is a Statements, there are so many children, and their cut passes;
 -- and no larger number of them does

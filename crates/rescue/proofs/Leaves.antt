@@ -18,7 +18,7 @@ use Rattle.forest.specs.declared.Found.{Found}
 use Rattle.forest.specs.declared.Found.the-variants.{At, Nothing}
 use Rattle.forest.proofs.Stretch.{kids-part}
 use Rattle.soundness.specs.Kinds.{classOf}
-use Rattle.soundness.specs.Sound.{Context, classes, unsoundIn}
+use Rattle.soundness.specs.Sound.{classes, unsoundIn}
 use Rattle.soundness.proofs.Records.{Counting, count-end, classes-index}
 use Rattle.table.specs.Answer.{passes, checked}
 use Rattle.table.specs.Check.{checkOf}
@@ -83,22 +83,22 @@ module _ (t names : List ℕ) (n : ℕ) where
   all-there h q-is = q-is ∙ rw (le-leb (24 * n) (length t) h) refl
 
 -- whether a child can be kept
-module _ (x : Context) (c : List ℕ) {k : ℕ} (k-is : k ≡ classOf (nodeOf 0 c .kind)) where
-  pub keep-other : (k ≡ 1 → ⊥) → false ≡ keepableAt x c
+module _ (m : ℕ) (c : List ℕ) {k : ℕ} (k-is : k ≡ classOf (nodeOf 0 c .kind)) where
+  pub keep-other : (k ≡ 1 → ⊥) → false ≡ keepableAt m c
   unfolding keepableAt
   keep-other e = rw (← k-is, ne-eqb k 1 e) refl
 
-  module _ (class : k ≡ 1) {u : Found} (u-is : u ≡ unsoundIn x c) where
-    pub keep-unsound : {i : ℕ} → u ≡ At i → false ≡ keepableAt x c
+  module _ (class : k ≡ 1) {u : Found} (u-is : u ≡ unsoundIn m c) where
+    pub keep-unsound : {i : ℕ} → u ≡ At i → false ≡ keepableAt m c
     unfolding keepableAt
     keep-unsound e = rw (← k-is, eq-eqb k 1 class, ← u-is, e) refl
 
     module _ (clean : u ≡ Nothing) {d : Found} (d-is : d ≡ firstDeep 1 (forest 0 c)) where
-      pub keep-deep : {i : ℕ} → d ≡ At i → false ≡ keepableAt x c
+      pub keep-deep : {i : ℕ} → d ≡ At i → false ≡ keepableAt m c
       unfolding keepableAt
       keep-deep e = rw (← k-is, eq-eqb k 1 class, ← u-is, clean, ← d-is, e) refl
 
-      pub keep-flat : d ≡ Nothing → true ≡ keepableAt x c
+      pub keep-flat : d ≡ Nothing → true ≡ keepableAt m c
       unfolding keepableAt
       keep-flat e = rw (← k-is, eq-eqb k 1 class, ← u-is, clean, ← d-is, e) refl
 

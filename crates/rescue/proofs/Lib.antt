@@ -4,6 +4,7 @@ pub mod Greedy
 pub mod Largest
 pub mod Keeping
 pub mod Theorems
+pub mod Numbered
 pub mod Walking
 pub mod Leaves
 pub mod Cutting

@@ -1,9 +1,10 @@
 -- The walk along the root's children, in the terms of code. A child's stretch taken by itself decodes to the child
--- alone (`child-forest`), so what code finds in that stretch says whether the child can be kept (`child-test`); where
--- it stands does not matter (sound-anywhere of soundness, flat-anywhere of table). The walk keeps: the bytes done and
--- the leading ones of what is left are the leading ones of all. Assumes nothing.
+-- alone (`child-forest`), so what code finds in that stretch says whether the child can be kept (`child-test`, by
+-- statement-parts of soundness); where it stands does not matter (sound-anywhere and files-anywhere of soundness,
+-- flat-anywhere of table). The walk keeps: the bytes done and the leading ones of what is left are the leading ones of
+-- all. Assumes nothing.
 use mathlib.Core.Path.{_≡_, refl, sym, ap, _∙_}
-use mathlib.Core.Bool.{Bool, true, false, and-true}
+use mathlib.Core.Bool.{Bool, true, false, _&&_, and-true}
 use mathlib.Core.List.{List, []}
 use Prim.Native.Nat.{ℕ, _+_, _-_, _*_, _/_, _<_, _≤_}
 use native.Mathlib.Omega.{arith}
@@ -15,14 +16,16 @@ use Rattle.forest.specs.declared.Found.the-variants.{Nothing}
 use Rattle.forest.proofs.Stretch.{tree, forest-none, forest-tree, count-forest, length-kids, length-rest, rest-part}
 use Rattle.forest.proofs.Prefix.{span-part, forest-part, firsts-count}
 use Rattle.soundness.specs.Kinds.{classOf}
-use Rattle.soundness.specs.Sound.{Context, unsoundIn, clear}
-use Rattle.soundness.proofs.SoundTables.{allSound, treeSound, clear-sound, sound-anywhere}
+use Rattle.soundness.specs.Files.{anyFile, filesTop}
+use Rattle.soundness.specs.Sound.{Context, context, unsoundIn, clear}
+use Rattle.soundness.proofs.SoundTables.{allSound, treeSound, sound-anywhere}
+use Rattle.soundness.proofs.OneStatement.{files-anywhere, statement-parts}
 use Rattle.table.specs.Depth.{firstDeep, deepIn}
 use Rattle.table.proofs.Anywhere.{clear-or, flat-anywhere}
 use Rattle.rescue.specs.Steps.{keepable, keepableAt, leading, leadingBytes}
 
 -- the child that a stretch begins with, and its own stretch
-module _ (x : Context) (left : List ℕ) (big : 24 ≤ length left) (whole : 24 * (length left / 24) ≡ length left) (i : ℕ)
+module _ (m : ℕ) (left : List ℕ) (big : 24 ≤ length left) (whole : 24 * (length left / 24) ≡ length left) (i : ℕ)
   where
     abbrev c : List ℕ
     c = take (spanOf left) left
@@ -42,10 +45,20 @@ module _ (x : Context) (left : List ℕ) (big : 24 ≤ length left) (whole : 24 
         forest-part (spanOf left) left big (omega arith) (omega arith) j
         ∙ rw (end, forest-none (j + spanOf left / 24) [] (omega arith)) refl
 
-    sound-is : treeSound (λ k. x) child ≡ clear (unsoundIn x c)
+    abbrev x : Context
+    x = context m anyFile
+
+    any-is : treeSound (λ k. x) child ≡ allSound (λ k. x) (forest 0 c)
     unfolding allSound
-    sound-is = sym (and-true (treeSound (λ k. x) child)) ∙ sym (ap (allSound (λ k. x)) (child-forest i))
-        ∙ sound-anywhere x i c 0 ∙ sym (clear-sound x c covers (omega (arith, long)))
+    any-is = sym (and-true (treeSound (λ k. x) child)) ∙ sym (ap (allSound (λ k. x)) (child-forest i))
+        ∙ sound-anywhere x i c 0
+
+    files-is : filesTop (child then none) ≡ filesTop (forest 0 c)
+    unfolding filesTop
+    files-is = rw (child-forest 0, files-anywhere (nodeOf 0 left .file) (i + 1) (kidsOf left) 1) refl
+
+    sound-is : (treeSound (λ k. x) child && filesTop (child then none)) ≡ clear (unsoundIn m c)
+    sound-is = rw (any-is, files-is) (sym (statement-parts m c covers (omega (arith, long)) (omega (arith, long))))
 
     flat-is : clear (deepIn 1 child) ≡ clear (firstDeep 1 (forest 0 c))
     unfolding firstDeep
@@ -56,7 +69,7 @@ module _ (x : Context) (left : List ℕ) (big : 24 ≤ length left) (whole : 24 
     class-is = sym (ap classOf (getD-take (spanOf left) left 0 0 (omega arith)))
 
     -- LAW: the test of code is that of the child
-    pub child-test : keepable x child ≡ keepableAt x c
+    pub child-test : keepable m child ≡ keepableAt m c
     unfolding keepable keepableAt
     child-test = rw (class-is, sound-is, flat-is) refl
 
@@ -79,40 +92,40 @@ unfolding leadingBytes
 leading-fits p i bs = omega (arith, firsts-count (leading p (forest i bs)) (forest i bs), count-forest i bs)
 
 -- the walk: done bytes are behind it, and left are before it
-pub record Walking (x : Context) (row left : List ℕ) (done : ℕ) : Type 0 where
+pub record Walking (m : ℕ) (row left : List ℕ) (done : ℕ) : Type 0 where
   pub sum : done + length left ≡ length row
   pub whole : 24 * (length left / 24) ≡ length left
   pub at : 24 * (done / 24) ≡ done
-  pub same : leadingBytes (keepable x) (forest 1 row)
-      ≡ done + leadingBytes (keepable x) (forest (1 + done / 24) left)
+  pub same : leadingBytes (keepable m) (forest 1 row)
+      ≡ done + leadingBytes (keepable m) (forest (1 + done / 24) left)
 
-pub walk-start : (x : Context) (row : List ℕ) → 24 * (length row / 24) ≡ length row → Walking x row row 0
-walk-start x row whole = record { sum = omega arith; whole = whole; at = omega arith; same = omega arith }
+pub walk-start : (m : ℕ) (row : List ℕ) → 24 * (length row / 24) ≡ length row → Walking m row row 0
+walk-start m row whole = record { sum = omega arith; whole = whole; at = omega arith; same = omega arith }
 
-module _ {x : Context} {row left : List ℕ} {done : ℕ} (w : Walking x row left done) where
+module _ {m : ℕ} {row left : List ℕ} {done : ℕ} (w : Walking m row left done) where
   pub walk-few : done ≤ length row
   walk-few = omega (arith, w .sum)
 
-  pub walk-end : length left < 24 → done ≡ leadingBytes (keepable x) (forest 1 row)
+  pub walk-end : length left < 24 → done ≡ leadingBytes (keepable m) (forest 1 row)
   walk-end short =
-      let none = leading-none (keepable x) (1 + done / 24) left short in
+      let none = leading-none (keepable m) (1 + done / 24) left short in
       omega (arith, w .same)
 
   module _ (big : 24 ≤ length left) {e : ℕ} (e-is : e ≡ spanOf left) {k : Bool}
-      (k-is : k ≡ keepableAt x (take (e - 0) left)) where
-    k-test : keepable x (treeOf (1 + done / 24) left) ≡ k
+      (k-is : k ≡ keepableAt m (take (e - 0) left)) where
+    k-test : keepable m (treeOf (1 + done / 24) left) ≡ k
     k-test =
         let all : e - 0 ≡ spanOf left = omega arith in
-        child-test x left big (w .whole) (1 + done / 24) ∙ sym (rw all at k-is)
+        child-test m left big (w .whole) (1 + done / 24) ∙ sym (rw all at k-is)
 
-    pub walk-stop : k ≡ false → done ≡ leadingBytes (keepable x) (forest 1 row)
+    pub walk-stop : k ≡ false → done ≡ leadingBytes (keepable m) (forest 1 row)
     walk-stop bad =
-        let none : leadingBytes (keepable x) (forest (1 + done / 24) left) ≡ 0 =
-        ap (leadingBytes (keepable x)) (forest-tree (1 + done / 24) left big)
-        ∙ leading-stop (keepable x) (treeOf (1 + done / 24) left) _ (k-test ∙ bad) in
+        let none : leadingBytes (keepable m) (forest (1 + done / 24) left) ≡ 0 =
+        ap (leadingBytes (keepable m)) (forest-tree (1 + done / 24) left big)
+        ∙ leading-stop (keepable m) (treeOf (1 + done / 24) left) _ (k-test ∙ bad) in
         omega (arith, w .same)
 
-    pub walk-on : k ≡ true → Walking x row (take (length left - e) (drop e left)) (done + e)
+    pub walk-on : k ≡ true → Walking m row (take (length left - e) (drop e left)) (done + e)
     unfolding count
     walk-on good =
         let next : ℕ = 1 + done / 24 + spanOf left / 24 in
@@ -120,11 +133,11 @@ module _ {x : Context} {row left : List ℕ} {done : ℕ} (w : Walking x row lef
         let at : 1 + (done + e) / 24 ≡ next = omega (arith, w .at, w .whole) in
         let one : 24 * (1 + count (forest (1 + done / 24 + 1) (kidsOf left))) ≡ e = omega
         (arith, count-forest (1 + done / 24 + 1) (kidsOf left), length-kids left, w .whole) in
-        let here : leadingBytes (keepable x) (forest (1 + done / 24) left)
+        let here : leadingBytes (keepable m) (forest (1 + done / 24) left)
         ≡ 24 * (1 + count (forest (1 + done / 24 + 1) (kidsOf left)))
-        + leadingBytes (keepable x) (forest next (restOf left)) =
-        ap (leadingBytes (keepable x)) (forest-tree (1 + done / 24) left big)
-        ∙ leading-on (keepable x) (treeOf (1 + done / 24) left) _ (k-test ∙ good) in
+        + leadingBytes (keepable m) (forest next (restOf left)) =
+        ap (leadingBytes (keepable m)) (forest-tree (1 + done / 24) left big)
+        ∙ leading-on (keepable m) (treeOf (1 + done / 24) left) _ (k-test ∙ good) in
         record {
           sum = rw rest (omega (arith, w .sum, length-rest left));
           whole = rw rest (omega (arith, w .whole, length-rest left));

@@ -8,7 +8,8 @@ use lib.Dec.{eqb}
 use Rattle.fields.specs.Choice.{if'}
 use Rattle.forest.specs.Forest.{recordBytes, nodeOf, Tree, node, Forest, none, _then_, forest, firsts, count}
 use Rattle.soundness.specs.Kinds.{statement, classOf}
-use Rattle.soundness.specs.Sound.{Context, unsoundIn, clear}
+use Rattle.soundness.specs.Files.{anyFile, filesTop}
+use Rattle.soundness.specs.Sound.{context, unsoundIn, clear}
 use Rattle.soundness.proofs.SoundTables.{treeSound}
 use Rattle.table.specs.Check.{mostBytes}
 use Rattle.table.specs.Depth.{firstDeep, deepIn}
@@ -20,16 +21,18 @@ use Rattle.rescue.specs.Good.{headGood, blocksPass, goodTable}
 use Rattle.rescue.specs.Cut.{largestCut}
 use Rattle.rescue.specs.Job.{tableKept}
 
--- a child that can be kept: a statement, its nodes are sound in the context of the table, and none is too deep under a
--- root Statements
-unfoldable pub keepable : Context → Tree → Bool
-keepable x (node r ks) =
-    eqb (classOf (r .kind)) statement && (treeSound (λ i. x) (node r ks) && clear (deepIn 1 (node r ks)))
+-- a child that can be kept, in a table that has so many name bytes: a statement, its nodes are sound and have the
+-- number of one source file, and none is too deep under a root Statements
+unfoldable pub keepable : ℕ → Tree → Bool
+keepable names (node r ks) =
+    eqb (classOf (r .kind)) statement
+    && ((treeSound (λ i. context names anyFile) (node r ks) && filesTop (node r ks then none))
+    && clear (deepIn 1 (node r ks)))
 
 -- the same of the child's stretch, as code tests it
-unfoldable pub keepableAt : Context → List ℕ → Bool
-keepableAt x c =
-    eqb (classOf (nodeOf 0 c .kind)) statement && (clear (unsoundIn x c) && clear (firstDeep 1 (forest 0 c)))
+unfoldable pub keepableAt : ℕ → List ℕ → Bool
+keepableAt names c =
+    eqb (classOf (nodeOf 0 c .kind)) statement && (clear (unsoundIn names c) && clear (firstDeep 1 (forest 0 c)))
 
 -- how many leading trees pass a test
 unfoldable pub leading : (Tree → Bool) → Forest → ℕ

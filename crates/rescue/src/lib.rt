@@ -20,7 +20,6 @@ ghost use Prim.Native.Nat.{_*_, _-_, _/_, _≤_, _<_};
 ghost use lib.Dec.{leb};
 ghost use lib.ListN.{length, take, drop};
 ghost use Rattle.forest.specs.Forest.{recordBytes, forest, roots};
-ghost use Rattle.soundness.specs.Sound.{context};
 ghost use Rattle.table.specs.Answer.{passes};
 ghost use Rattle.table.specs.Check.{mostBytes, mostNodes, checkOf};
 ghost use Rattle.tablefile.specs.File.{fileOf};
@@ -196,7 +195,7 @@ fn cut(table: &mut [u8], names: &[u8]) -> usize
 // The length of the leading children that can be kept, in a table that has `names` name bytes.
 fn leading(row: &[u8], names: usize) -> usize
     requires { ⌜ recordBytes * (length (now row) / recordBytes) ≡ length (now row) ⌝ }
-    ensures { λ r. ⌜ (r ≡ leadingBytes (keepable (context names)) (forest 1 (now (row .entry))))
+    ensures { λ r. ⌜ (r ≡ leadingBytes (keepable names) (forest 1 (now (row .entry))))
         × (r ≤ length (now (row .entry))) ⌝ }
 {
     let mut left = row;
@@ -212,10 +211,10 @@ fn leading(row: &[u8], names: usize) -> usize
     done
 }
 
-// Whether a child can be kept: a statement whose nodes are sound in a table that has `names` name bytes, and none is
-// too deep under the root.
+// Whether a child can be kept: a statement that has the number of a source file, its nodes are sound in a table that
+// has `names` name bytes, and none is too deep under the root.
 fn can_keep(child: &[u8], names: usize) -> bool
-    ensures { λ r. ⌜ r ≡ keepableAt (context names) (now (child .entry)) ⌝ }
+    ensures { λ r. ⌜ r ≡ keepableAt names (now (child .entry)) ⌝ }
 {
     if table::class(child) != classes::STATEMENT {
         return false;

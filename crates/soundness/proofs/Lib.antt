@@ -1,5 +1,9 @@
 pub mod Packing
 pub mod Search
+pub mod Tops
 pub mod Records
 pub mod SoundTables
+pub mod Files
+pub mod OneStatement
+pub mod FileCases
 pub mod Promises

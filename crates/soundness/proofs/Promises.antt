@@ -5,7 +5,7 @@ use Prim.Native.Nat.{ℕ}
 use Rattle.fields.proofs.Coincide.{coincide}
 use Rattle.forest.specs.declared.Found.{Found}
 use Rattle.soundness.specs.Kinds.{classOf}
-use Rattle.soundness.specs.Sound.{context, firstUnsound, unsoundIn}
+use Rattle.soundness.specs.Sound.{firstUnsound, unsoundIn}
 
 -- of `class`
 pub class-one : (kind : ℕ) {r s : ℕ} → r ≡ classOf kind → s ≡ classOf kind → r ≡ s
@@ -17,6 +17,6 @@ pub first-unsound-one : (table names : List ℕ) {r s : Found} → r ≡ firstUn
 first-unsound-one table names = coincide
 
 -- of `first_unsound_in`
-pub first-unsound-in-one : (subtree : List ℕ) (names : ℕ) {r s : Found} → r ≡ unsoundIn (context names) subtree
-    → s ≡ unsoundIn (context names) subtree → r ≡ s
-first-unsound-in-one subtree names = coincide
+pub first-unsound-in-one : (statement : List ℕ) (names : ℕ) {r s : Found} → r ≡ unsoundIn names statement
+    → s ≡ unsoundIn names statement → r ≡ s
+first-unsound-in-one statement names = coincide

@@ -1,6 +1,6 @@
 -- Laws of the rule of a record with its children, in the terms of code. Assumes nothing.
 use mathlib.Core.Path.{_≡_, refl, sym, ap, _∙_}
-use mathlib.Core.Bool.{Bool, true, false, _&&_}
+use mathlib.Core.Bool.{Bool, true, false, _&&_, and-false}
 use mathlib.Core.List.{List, [], _∷_}
 use Prim.Native.Nat.{ℕ, _+_, _-_, _*_, _/_, _<_, _≤_}
 use native.Mathlib.Numerals.{add-one}
@@ -8,24 +8,25 @@ use native.Mathlib.Omega.{arith}
 use lib.ListN.{length, getD, take, drop, length-take, length-drop, drop-of-length-le}
 use lib.Seq.{drop-cons}
 use lib.Dec.{eqb, leb}
-use borrow.Author.Tests.{eq-eqb, ne-eqb, leb-true, leb-false}
+use borrow.Author.Tests.{eq-eqb, ne-eqb, eqb-true, leb-true, leb-false}
 use Rattle.fields.proofs.Basics.{and-left, and-right, never}
 use Rattle.fields.specs.Choice.{if'}
 use Rattle.forest.specs.Forest.{Node, sizeOf, nodeOf, spanOf, kidsOf, restOf, forest, count}
 use Rattle.forest.specs.Names.{same}
-use Rattle.forest.specs.declared.Found.{Found}
 use Rattle.forest.specs.declared.Found.the-variants.{At, Nothing}
 use Rattle.fields.proofs.Fields.{tail-part}
 use Rattle.forest.proofs.Stretch.{forest-none, forest-tree, forest-induction, count-forest, length-kids}
 use Rattle.forest.proofs.Stretch.{length-rest, kids-part, rest-part, node-take, size-take}
 use Rattle.forest.proofs.Named.{same-length}
-use Rattle.soundness.specs.Kinds.{Children, kindOf, classOf}
+use Rattle.soundness.specs.Files.{range}
+use Rattle.soundness.specs.Kinds.{statement, Children, kindOf, classOf}
 use Rattle.soundness.specs.Sound.{Context, fieldsSound, wholeTrees, classes, permitted, fixed, between}
 use Rattle.soundness.specs.Sound.{wanted, permits, kidsSound, soundNode, soundAt, context, contextOf}
-use Rattle.soundness.specs.Sound.{rootSound, recordSound, firstFalse, firstUnsound, soundIn, unsoundIn}
-use Rattle.soundness.specs.Packed.{ruleOf, numberSound, LastFrom, childSound, childOf}
+use Rattle.soundness.specs.Sound.{contextIn, rootSound, recordSound, firstFalse, firstUnsound, soundIn}
+use Rattle.soundness.specs.Packed.{ruleOf, numberSound, LastFrom, childSound, childOf, rootEnd, Turned}
 use Rattle.soundness.proofs.Packing.{length-wanted}
-use Rattle.soundness.proofs.Search.{Looking, look-start, look-here, look-on, look-end, first-same}
+use Rattle.soundness.proofs.Search.{Looking, look-start, look-here, look-on, look-end}
+use Rattle.soundness.proofs.Tops.{Placed, place-start, Turns, turn-files}
 
 -- whether children are whole, and their classes, do not depend on their indices
 pub classes-index : (i : ℕ) (bs : List ℕ) (j : ℕ) → classes (forest i bs) ≡ classes (forest j bs)
@@ -92,10 +93,6 @@ module _ {t left : List ℕ} {n : ℕ} (s : Counting t left n) where
       omega (arith, s .all)
 
 -- both of two tests
-and-false : (a : Bool) → (a && false) ≡ false
-and-false true = refl
-and-false false = refl
-
 -- what children a rule permits, as the two tests of code
 permits-tests : (c : Children) (cs : List ℕ)
     → permits c cs ≡ (numberSound c (length cs) && same cs (wanted c (length cs)))
@@ -353,41 +350,89 @@ module _ (x : Context) (t : List ℕ) where
             detail-is ∙ ap (λ (r : Node). r .detail) head-is,
           ) refl)
 
--- record i of a stretch, as code tests it
-module _ (x : Context) (t : List ℕ) {n i : ℕ} (s : Looking (soundIn x t) n i) (h : i < n) {r : Bool}
-    (r-is : r ≡ soundAt x 0 (take (length t - 24 * i) (drop (24 * i) t))) where
-  record-test : soundIn x t i ≡ r
-  unfolding soundIn
-  record-test = sound-index x (drop (24 * i) t) i ∙ ap (soundAt x 0) (sym (tail-part (24 * i) t)) ∙ sym r-is
+-- a root that is sound covers its table
+pub sound-covers : (t : List ℕ) → rootSound t ≡ true → 24 * sizeOf t ≡ length t
+unfolding rootSound
+sound-covers t e = eqb-true (24 * sizeOf t) (length t) (and-right (eqb (classOf (nodeOf 0 t .kind)) statement) _ e)
 
-  pub record-here : r ≡ false → At i ≡ firstFalse (soundIn x t) 0 n
-  record-here e = look-here s h (record-test ∙ e)
+-- where the root is not sound
+pub root-first : (t names : List ℕ) {b : Bool} → b ≡ rootSound t → b ≡ false → 24 ≤ length t
+    → At 0 ≡ firstUnsound t names
+unfolding firstUnsound recordSound
+root-first t names b-is b-no big =
+    let bad : rootSound t ≡ false = cc in
+    look-here (look-start (recordSound t names) (length t / 24)) (omega arith) (rw bad refl)
 
-  pub record-on : r ≡ true → Looking (soundIn x t) n (i + 1)
-  record-on e = look-on s h (record-test ∙ e)
+-- the loop has passed the records below i; `end` and `file` are those of the top-level statement of the one before it
+pub record Going (t names : List ℕ) (n i end file : ℕ) : Type 0 where
+  pub looking : Looking (recordSound t names) n i
+  pub placed : Placed t n i end file
 
--- a table: no record, a root that is not sound, or what is asked of each record
-in-table : (t names : List ℕ) → rootSound t ≡ true → (i : ℕ)
-    → soundIn (context (length names)) t i ≡ recordSound t names i
-unfolding soundIn recordSound contextOf
-in-table t names root i = go (eqb i 0)
-  where
-    go : (z : Bool) {r : Bool} → r ≡ (if' z (λ _. rootSound t) (λ _. true) && r)
-    go true = rw root refl
-    go false = refl
+pub going-start : (t names : List ℕ) (n : ℕ) {end : ℕ} → end ≡ rootEnd t → Going t names n 0 end 0
+going-start t names n e = record { looking = look-start (recordSound t names) n; placed = place-start t n e }
 
-pub first-none : (t names : List ℕ) → length t < 24 → Nothing ≡ firstUnsound t names
-unfolding firstUnsound
-first-none t names short = look-end (look-start (recordSound t names) (length t / 24)) (omega arith)
+pub going-end : {t names : List ℕ} {n i end file : ℕ} → Going t names n i end file → n ≤ i
+    → Nothing ≡ firstFalse (recordSound t names) 0 n
+going-end s h = look-end (s .looking) h
 
-module _ (t names : List ℕ) {b : Bool} (b-is : b ≡ rootSound t) where
-  pub root-first : b ≡ false → 24 ≤ length t → At 0 ≡ firstUnsound t names
-  unfolding firstUnsound recordSound
-  root-first b-no big =
-      let bad : rootSound t ≡ false = cc in
-      look-here (look-start (recordSound t names) (length t / 24)) (omega arith) (rw bad refl)
+-- a table from record i on, as code lends it
+abbrev lent : List ℕ → ℕ → List ℕ
+lent t i = take (length t - 24 * i) (drop (24 * i) t)
 
-  pub root-then : b ≡ true → {r : Found} → r ≡ unsoundIn (context (length names)) t → r ≡ firstUnsound t names
-  unfolding firstUnsound unsoundIn
-  root-then b-yes r-is = r-is
-      ∙ first-same _ _ (length t / 24) 0 (in-table t names (sym b-is ∙ b-yes))
+-- record i, as code tests it
+module _ (t names : List ℕ) {b : Bool} (b-is : b ≡ rootSound t) (b-yes : b ≡ true) {i end file : ℕ}
+    (s : Going t names (length t / 24) i end file) (h : i < length t / 24) {later own least most : ℕ}
+    (turned : Turned (lent t i) i end file later own least most) {r : Bool}
+    (r-is : r ≡ soundAt (context (length names) (range least most)) 0 (lent t i)) where
+  root-yes : rootSound t ≡ true
+  root-yes = sym b-is ∙ b-yes
+
+  turns : Turns t (length t / 24) i later own least most
+  turns = turn-files i (omega (arith, sound-covers t root-yes)) (s .placed) h (rw (tail-part (24 * i) t) at turned)
+
+  tested : recordSound t names i ≡ r
+  unfolding recordSound contextOf
+  tested =
+      let x : Context = context (length names) (range least most) in
+      let here = sound-index x (drop (24 * i) t) i ∙ ap (soundAt x 0) (sym (tail-part (24 * i) t)) in
+      rw (turns .files, here, ← r-is) (go (eqb i 0))
+    where
+      go : (z : Bool) {r : Bool} → (if' z (λ _. rootSound t) (λ _. true) && r) ≡ r
+      go true = rw root-yes refl
+      go false = refl
+
+  pub record-here : r ≡ false → At i ≡ firstFalse (recordSound t names) 0 (length t / 24)
+  record-here e = look-here (s .looking) h (tested ∙ e)
+
+  pub record-on : r ≡ true → Going t names (length t / 24) (i + 1) later own
+  unfolding Placed
+  record-on e = record { looking = look-on (s .looking) h (tested ∙ e); placed = rw add-one (turns .after) }
+
+-- record i of a top-level statement, as code tests it: the numbers that it may have are those that the loop keeps
+pub record Judging (names : ℕ) (bs : List ℕ) (n i least most : ℕ) : Type 0 where
+  pub looking : Looking (soundIn (contextIn names bs) bs) n i
+  pub numbers : contextIn names bs i ≡ context names (range least most)
+
+pub judge-start : (names : ℕ) (bs : List ℕ) (n : ℕ) → Judging names bs n 0 1 999
+unfolding contextIn
+judge-start names bs n = record { looking = look-start (soundIn (contextIn names bs) bs) n; numbers = refl }
+
+module _ {names : ℕ} {bs : List ℕ} {n i least most : ℕ} (s : Judging names bs n i least most) where
+  pub judge-end : n ≤ i → Nothing ≡ firstFalse (soundIn (contextIn names bs) bs) 0 n
+  judge-end h = look-end (s .looking) h
+
+  module _ (h : i < n) {r : Bool} (r-is : r ≡ soundAt (context names (range least most)) 0 (lent bs i)) where
+    judge-test : soundIn (contextIn names bs) bs i ≡ r
+    unfolding soundIn
+    judge-test = rw (s .numbers) (sound-index (context names (range least most)) (drop (24 * i) bs) i
+        ∙ ap (soundAt (context names (range least most)) 0) (sym (tail-part (24 * i) bs)) ∙ sym r-is)
+
+    pub judge-here : r ≡ false → At i ≡ firstFalse (soundIn (contextIn names bs) bs) 0 n
+    judge-here e = look-here (s .looking) h (judge-test ∙ e)
+
+    pub judge-on : r ≡ true → {file : ℕ} → file ≡ nodeOf 0 bs .file → Judging names bs n (i + 1) file file
+    unfolding contextIn
+    judge-on e file-is = record {
+      looking = look-on (s .looking) h (judge-test ∙ e);
+      numbers = rw (ne-eqb (i + 1) 0 (λ z. omega arith), file-is) refl;
+    }

@@ -6,8 +6,8 @@
 -- Assumes nothing.
 use mathlib.Core.Path.{_≡_, refl, sym, ap, _∙_}
 use mathlib.Core.Bool.{Bool, true, false, _&&_}
-use mathlib.Core.Logic.{⊎-elim}
 use mathlib.Core.List.{List}
+use mathlib.Core.Logic.{⊎-elim}
 use Prim.Native.Nat.{ℕ, zero, suc, _+_, _-_, _*_, _/_, _<_, _≤_}
 use native.Mathlib.Omega.{arith}
 use lib.ListN.{length, take, drop, length-drop}
@@ -19,16 +19,17 @@ use Rattle.fields.specs.Choice.{if'}
 use Rattle.forest.specs.Forest.{Node, sizeOf, spanOf, nodeOf, kidsOf, restOf, Tree, node, Forest, none, _then_}
 use Rattle.forest.specs.Forest.{forest, count}
 use Rattle.forest.specs.Names.{same}
+use Rattle.forest.specs.declared.Found.{Found}
 use Rattle.forest.specs.declared.Found.the-variants.{Nothing}
 use Rattle.forest.proofs.Stretch.{node-take, size-take, length-kids, length-rest, forest-none}
 use Rattle.forest.proofs.Stretch.{forest-tree, forest-induction, count-forest, record-or-none}
 use Rattle.forest.proofs.Named.{same-bytes-equal}
-use Rattle.soundness.specs.Kinds.{statement, Children, kindOf, classOf}
+use Rattle.soundness.specs.Kinds.{Children, kindOf}
 use Rattle.soundness.specs.Sound.{Context, fieldsSound, wholeTree, wholeTrees, classes, permitted, between}
 use Rattle.soundness.specs.Sound.{wanted, permits, kidsSound, soundNode, soundAt, rootSound, contextOf}
-use Rattle.soundness.specs.Sound.{recordSound, firstUnsound, soundIn, unsoundIn, clear}
+use Rattle.soundness.specs.Sound.{recordSound, firstFalse, firstUnsound, soundIn, clear}
 use Rattle.soundness.proofs.Search.{none-found, all-found, clear-is}
-use Rattle.soundness.proofs.Records.{whole-size, sound-index}
+use Rattle.soundness.proofs.Records.{whole-size, sound-index, sound-covers}
 
 -- THEOREM: a record is whole exactly where its size is at least 1 and its subtree does not pass the end of what is
 -- there
@@ -183,33 +184,61 @@ all-tree : (x : ℕ → Context) (i : ℕ) (bs : List ℕ) → 24 ≤ length bs
 unfolding allSound
 all-tree x i bs big a b c = rw (forest-tree i bs big, a, b, c) refl
 
--- where each record of a table is sound, so is every stretch of it whose nodes are whole
+-- where each record of a table is sound: stretches of it whose nodes are whole
 module _ (x : ℕ → Context) (t : List ℕ) (clean : (j : ℕ) → j < length t / 24
     → soundAt (x j) j (drop (24 * j) t) ≡ true) where
+  -- LAW: to show something of each, show it of none and of a first node from its children and what follows
+  stretch-induction : (P : ℕ → ℕ → Type 0) → ((i : ℕ) → P i 0)
+      → ((i m : ℕ) → 24 * (i + m) ≤ length t → 1 ≤ m → spanOf (stretch t i m) ≡ 24 * sizeOf (stretch t i m)
+      → 1 ≤ sizeOf (stretch t i m) → P (i + 1) (sizeOf (stretch t i m) - 1)
+      → P (i + sizeOf (stretch t i m)) (m - sizeOf (stretch t i m)) → P i m)
+      → (k i m : ℕ) → m ≤ k → 24 * (i + m) ≤ length t → wholeTrees (forest i (stretch t i m)) ≡ true → P i m
+  stretch-induction P nothing more zero i m hk room whole = let z : m ≡ 0 = omega arith in rw z (nothing i)
+  stretch-induction P nothing more (suc k) i zero hk room whole = nothing i
+  stretch-induction P nothing more (suc k) i (suc l) hk room whole =
+      let bs : List ℕ = stretch t i (suc l) in
+      let long = length-stretch t i (suc l) room in
+      let fits = first-size i bs (omega arith) whole in
+      let span : spanOf bs ≡ 24 * sizeOf bs = omega arith in
+      let least : 1 ≤ sizeOf bs = omega arith in
+      let upto = most t i (suc l) room (omega arith) span least in
+      let here = here-sound t i (suc l) room (omega arith) span least (x i) (clean i (omega arith)) in
+      let after : i + spanOf bs / 24 ≡ i + sizeOf bs = omega arith in
+      more i (suc l) room (omega arith) span least
+      (stretch-induction P nothing more k (i + 1) (sizeOf bs - 1) (omega arith) (omega arith)
+      (rw (kids-are t i (suc l) room (omega arith) span least)
+      at (node-whole (x i) (nodeOf i bs) (forest (i + 1) (kidsOf bs)) here)))
+      (stretch-induction P nothing more k (i + sizeOf bs) (suc l - sizeOf bs) (omega arith) (omega arith)
+      (rw (rest-is t i (suc l) room (omega arith) span least, after) at (rest-whole i bs (omega arith) whole)))
+
+  -- their nodes are sound
   all-in : (k i m : ℕ) → m ≤ k → 24 * (i + m) ≤ length t → wholeTrees (forest i (stretch t i m)) ≡ true
       → allSound x (forest i (stretch t i m)) ≡ true
-  all-in zero i m hk room whole = all-none x i (stretch t i m) (omega (arith, length-stretch t i m room))
-  all-in (suc k) i m hk room whole =
-      record-or-none (stretch t i m) (all-none x i (stretch t i m)) λ big.
-      let s : ℕ = sizeOf (stretch t i m) in
+  all-in =
+      stretch-induction (λ i m. allSound x (forest i (stretch t i m)) ≡ true)
+      (λ i. all-none x i (stretch t i 0) (omega arith))
+      (λ i m room some span least kids rest.
       let long = length-stretch t i m room in
-      let some : 1 ≤ m = omega arith in
-      let fits = first-size i (stretch t i m) big whole in
-      let span : spanOf (stretch t i m) ≡ 24 * s = omega arith in
-      let least : 1 ≤ s = omega arith in
+      let after : i + spanOf (stretch t i m) / 24 ≡ i + sizeOf (stretch t i m) = omega arith in
+      all-tree x i (stretch t i m) (omega arith) (here-sound t i m room some span least (x i) (clean i (omega arith)))
+      (rw (kids-are t i m room some span least) kids) (rw (rest-is t i m room some span least, after) rest))
+
+  -- the subtree of a node in one ends in it
+  ends-in : (k i m : ℕ) → m ≤ k → 24 * (i + m) ≤ length t → wholeTrees (forest i (stretch t i m)) ≡ true
+      → (j : ℕ) → i ≤ j → j < i + m → j + sizeOf (drop (24 * j) t) ≤ i + m
+  ends-in =
+      stretch-induction (λ i m. (j : ℕ) → i ≤ j → j < i + m → j + sizeOf (drop (24 * j) t) ≤ i + m)
+      (λ i j h g. absurd (omega arith))
+      (λ i m room some span least kids rest j h g.
       let upto = most t i m room some span least in
-      let here = here-sound t i m room some span least (x i) (clean i (omega arith)) in
-      let kids-at = kids-are t i m room some span least in
-      let rest-at = rest-is t i m room some span least in
-      let after : i + spanOf (stretch t i m) / 24 ≡ i + s = omega arith in
-      let kids : allSound x (forest (i + 1) (stretch t (i + 1) (s - 1))) ≡ true =
-      all-in k (i + 1) (s - 1) (omega arith) (omega arith)
-      (rw kids-at at (node-whole (x i) (nodeOf i (stretch t i m)) (forest (i + 1) (kidsOf (stretch t i m)))
-      here)) in
-      let rest : allSound x (forest (i + s) (stretch t (i + s) (m - s))) ≡ true =
-      all-in k (i + s) (m - s) (omega arith) (omega arith)
-      (rw (rest-at, after) at (rest-whole i (stretch t i m) big whole)) in
-      all-tree x i (stretch t i m) big here (rw kids-at kids) (rw (rest-at, after) rest)
+      ⊎-elim
+      (λ (l : i + sizeOf (stretch t i m) ≤ j). omega (arith, rest j l (omega arith)))
+      (λ (l : j < i + sizeOf (stretch t i m)). ⊎-elim
+      (λ (a : i + 1 ≤ j). omega (arith, kids j a (omega arith)))
+      (λ (a : j < i + 1). let at : j ≡ i = omega arith in
+      rw at (omega (arith, same-size t i m room some span least)))
+      (le-or-lt (i + 1) j))
+      (le-or-lt (i + sizeOf (stretch t i m)) j))
 
 -- LAWS: a table with no unsound record
 module _ (t names : List ℕ) (e : firstUnsound t names ≡ Nothing) where
@@ -229,9 +258,7 @@ module _ (t names : List ℕ) (e : firstUnsound t names ≡ Nothing) where
     root = and-left (rootSound t) _ (record-clean 0 (omega arith))
 
     pub root-covers : 24 * sizeOf t ≡ length t
-    unfolding rootSound
-    root-covers = eqb-true (24 * sizeOf t) (length t)
-        (and-right (eqb (classOf (nodeOf 0 t .kind)) statement) _ root)
+    root-covers = sound-covers t root
 
   -- its nodes have a size, and their subtrees stand within it
   module _ (i : ℕ) (h : i < length t / 24) where
@@ -242,18 +269,30 @@ module _ (t names : List ℕ) (e : firstUnsound t names ≡ Nothing) where
         let s = node-size (contextOf t names i) (nodeOf i x) (forest (i + 1) (kidsOf x)) (clean i h) in
         omega (arith, whole-size (i + 1) (spanOf x) x (simp length-drop (omega arith)) refl, length-drop (24 * i) t)
 
-    -- the stretch of a node is sound
-    pub sound-subtree : Sound (contextOf t names) i (take (24 * sizeOf (drop (24 * i) t)) (drop (24 * i) t))
-    sound-subtree =
+    -- the stretch of a node is one whole subtree
+    subtree-whole : wholeTrees (forest i (stretch t i (sizeOf (drop (24 * i) t)))) ≡ true
+    subtree-whole =
         let s : ℕ = sizeOf (drop (24 * i) t) in
         let z = here-size in
         let long = length-stretch t i s (omega arith) in
         let same : sizeOf (stretch t i s) ≡ s = size-take (24 * s) (drop (24 * i) t) (omega arith) in
+        one-whole i (stretch t i s) (omega arith) (omega arith)
+
+    -- and is sound
+    pub sound-subtree : Sound (contextOf t names) i (take (24 * sizeOf (drop (24 * i) t)) (drop (24 * i) t))
+    sound-subtree =
+        let s : ℕ = sizeOf (drop (24 * i) t) in
+        let z = here-size in
         record {
-          records = omega arith;
-          nodes = all-in (contextOf t names) t clean s i s (omega arith) (omega arith)
-              (one-whole i (stretch t i s) (omega arith) (omega arith));
+          records = omega (arith, length-stretch t i s (omega arith));
+          nodes = all-in (contextOf t names) t clean s i s (omega arith) (omega arith) subtree-whole;
         }
+
+    -- the subtree of a node within it ends within it
+    pub nested : (j : ℕ) → i ≤ j → j < i + sizeOf (drop (24 * i) t)
+        → j + sizeOf (drop (24 * j) t) ≤ i + sizeOf (drop (24 * i) t)
+    nested = let s : ℕ = sizeOf (drop (24 * i) t) in let z = here-size in
+        ends-in (contextOf t names) t clean s i s (omega arith) (omega arith) subtree-whole
 
   pub sound-table : 24 ≤ length t → Sound (contextOf t names) 0 t
   sound-table some =
@@ -344,30 +383,34 @@ sound-clean t names root s =
     nodes j (omega arith) (omega arith)))
 
 -- LAW: a subtree that fills its stretch has no unsound record exactly where all its nodes are sound
-module _ (x : Context) (bs : List ℕ) (one : spanOf bs ≡ length bs) (records : 24 * (length bs / 24) ≡ length bs) where
+module _ (x : ℕ → Context) (bs : List ℕ) (one : spanOf bs ≡ length bs)
+    (records : 24 * (length bs / 24) ≡ length bs) where
   abbrev n : ℕ
   n = length bs / 24
+
+  abbrev found : Found
+  found = firstFalse (soundIn x bs) 0 n
 
   all-bytes : stretch bs 0 n ≡ bs
   all-bytes = take-all (24 * n) bs (omega arith)
 
-  nothing-sound : unsoundIn x bs ≡ Nothing → allSound (λ i. x) (forest 0 bs) ≡ true
-  unfolding unsoundIn soundIn soundAt
+  nothing-sound : found ≡ Nothing → allSound x (forest 0 bs) ≡ true
+  unfolding soundIn soundAt
   nothing-sound clean =
-      record-or-none bs (all-none (λ i. x) 0 bs) λ big.
-      let each : (j : ℕ) → j < n → soundAt x j (drop (24 * j) bs) ≡ true = none-found (soundIn x bs) n clean in
-      let size = node-size x (nodeOf 0 bs) (forest 1 (kidsOf bs)) (each 0 (omega arith)) in
+      record-or-none bs (all-none x 0 bs) λ big.
+      let each : (j : ℕ) → j < n → soundAt (x j) j (drop (24 * j) bs) ≡ true = none-found (soundIn x bs) n clean in
+      let size = node-size (x 0) (nodeOf 0 bs) (forest 1 (kidsOf bs)) (each 0 (omega arith)) in
       let long : length bs ≡ 24 * sizeOf bs = omega (arith, count-forest 1 (kidsOf bs), length-kids bs) in
-      rw all-bytes at (all-in (λ i. x) bs each n 0 n (omega arith) (omega arith)
+      rw all-bytes at (all-in x bs each n 0 n (omega arith) (omega arith)
       (rw all-bytes (one-whole 0 bs (omega arith) long)))
 
-  sound-nothing : allSound (λ i. x) (forest 0 bs) ≡ true → unsoundIn x bs ≡ Nothing
-  unfolding unsoundIn soundIn
-  sound-nothing sound = all-found (soundIn x bs) n (λ j h. each-in (λ i. x) bs n 0 n (omega arith) (omega arith)
+  sound-nothing : allSound x (forest 0 bs) ≡ true → found ≡ Nothing
+  unfolding soundIn
+  sound-nothing sound = all-found (soundIn x bs) n (λ j h. each-in x bs n 0 n (omega arith) (omega arith)
       (rw all-bytes sound) j (omega arith) (omega arith))
 
-  pub clear-sound : clear (unsoundIn x bs) ≡ allSound (λ i. x) (forest 0 bs)
-  clear-sound = both-ways _ _ (λ e. nothing-sound (clear-is (unsoundIn x bs) e)) (λ e. rw (sound-nothing e) refl)
+  pub clear-sound : clear found ≡ allSound x (forest 0 bs)
+  clear-sound = both-ways _ _ (λ e. nothing-sound (clear-is found e)) (λ e. rw (sound-nothing e) refl)
 
 -- LAW: where all records have the same context, the index of the first does not matter
 here-anywhere : (x : Context) (bs : List ℕ) (i j : ℕ) → soundNode x (nodeOf i bs) (forest (i + 1) (kidsOf bs))

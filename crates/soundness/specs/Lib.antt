@@ -1,4 +1,6 @@
 pub mod KindNumbers
 pub mod Kinds
+pub mod Files
 pub mod Sound
 pub mod Packed
+pub mod FileCases

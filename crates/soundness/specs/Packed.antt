@@ -3,7 +3,7 @@
 use mathlib.Core.Bool.{Bool, _&&_}
 use mathlib.Core.List.{List, [], _∷_}
 use mathlib.Core.Path.{_≡_}
-use Prim.Native.Nat.{ℕ, _-_, _/_, _%_, min}
+use Prim.Native.Nat.{ℕ, _+_, _-_, _/_, _%_, _<_, _≤_, min}
 use lib.ListN.{getD, take}
 use lib.Dec.{eqb, ltb, leb}
 use Rattle.fields.specs.Choice.{if'}
@@ -11,6 +11,7 @@ use Rattle.soundness.specs.Kinds.{statement, expression, parameter, argu
 use Rattle.soundness.specs.Kinds.{evenNumber, atMost, Children, children, exactly, any, evenly, upTo, thenAny}
 use Rattle.soundness.specs.Kinds.{thenUpTo, anyThen, kindOf, classOf}
 use Rattle.forest.specs.Forest.{recordBytes, sizeOf, nodeOf, spanOf}
+use Rattle.soundness.specs.Files.{lastFile, rootStatements}
 use Rattle.soundness.specs.Sound.{permitted, fixed, between}
 
 -- the parts of a packed rule: how many come first and the classes of up to three, how many then come and their class,
@@ -96,3 +97,14 @@ childSound want bs = eqb (sizeOf bs) (spanOf bs / recordBytes) && eqb (classOf (
 -- how many bytes it then takes, else zero
 unfoldable pub childOf : ℕ → List ℕ → ℕ
 childOf want bs = if' (childSound want bs) (λ _. spanOf bs) (λ _. 0)
+
+-- where the root ends, as the loop begins: a Statements after its own record; any other is the first to begin
+unfoldable pub rootEnd : List ℕ → ℕ
+rootEnd t = if' (rootStatements t) (λ _. 1) (λ _. 0)
+
+-- what code keeps of the source files when it comes to record i, with which the stretch begins: `end` and `file` were
+-- where the top-level statement ends and its number. Within it these stay, and the record has that number
+pub record Turned (bs : List ℕ) (i end file later own least most : ℕ) : Type 0 where
+  pub inside : i < end → (later ≡ end) × ((own ≡ file) × ((least ≡ file) × (most ≡ file)))
+  pub opens : end ≤ i
+      → (later ≡ i + sizeOf bs) × ((own ≡ nodeOf 0 bs .file) × ((least ≡ 1) × (most ≡ lastFile)))

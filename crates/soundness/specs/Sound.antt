@@ -10,15 +10,17 @@ use Rattle.forest.specs.Names.{same}
 use Rattle.forest.specs.declared.Found.{Found}
 use Rattle.forest.specs.declared.Found.the-variants.{At, Nothing}
 use Rattle.soundness.specs.KindNumbers.{kindNamed}
+use Rattle.soundness.specs.Files.{Range, range, fileNumbers, fileSound, filesOf}
 use Rattle.soundness.specs.Kinds.{statement, Times, anyNumber, evenNumber, atMost, Children, kindOf, classOf}
 
--- what a record's rule is told besides the record: the number of lent name bytes (a request to come adds the file of
--- its statement)
+-- what a record's rule is told besides the record: the number of lent name bytes, and the numbers of source files that
+-- it may have
 pub record Context : Type 0 where
   pub names : ℕ
+  pub files : Range
 
-abbrev pub context : ℕ → Context
-context n = record { names = n }
+abbrev pub context : ℕ → Range → Context
+context n f = record { names = n; files = f }
 
 -- the largest position
 abbrev pub lastPosition : ℕ
@@ -37,12 +39,13 @@ spanSound begin stop = leb begin stop && leb stop lastPosition
 unfoldable pub sourceSound : ℕ → ℕ → ℕ → Bool
 sourceSound kind source len = if' (eqb kind kindNamed) (λ _. leb (source + len) lastPosition) (λ _. eqb source 0)
 
--- the fields of a record: kind, detail, name, span, zero bytes, source position
+-- the fields of a record: kind, detail, name, span, source file, source position
 unfoldable pub fieldsSound : Context → Node → Bool
 fieldsSound x r =
     leb 1 (classOf (r .kind)) && (leb (r .detail) (kindOf (r .kind) .details)
     && (nameSound (kindOf (r .kind) .named) (x .names) (r .nameLen) (r .nameStart)
-    && (spanSound (r .begin) (r .stop) && (eqb (r .pad) 0 && sourceSound (r .kind) (r .source) (r .nameLen)))))
+    && (spanSound (r .begin) (r .stop)
+    && (fileSound (x .files) (r .file) && sourceSound (r .kind) (r .source) (r .nameLen)))))
 
 -- the subtree is as long as its record says
 abbrev pub wholeTree : Node → Forest → Bool
@@ -98,7 +101,7 @@ rootSound t = eqb (classOf (nodeOf 0 t .kind)) statement && eqb (recordBytes * n
 
 -- what the rule of record i of a table is told
 unfoldable pub contextOf : List ℕ → List ℕ → ℕ → Context
-contextOf t names i = context (length names)
+contextOf t names i = context (length names) (filesOf t i)
 
 -- record i of a table
 unfoldable pub recordSound : List ℕ → List ℕ → ℕ → Bool
@@ -114,13 +117,19 @@ firstFalse p i (suc n) = if' (p i) (λ _. firstFalse p (i + 1) n) (λ _. At i)
 unfoldable pub firstUnsound : List ℕ → List ℕ → Found
 firstUnsound t names = firstFalse (recordSound t names) 0 (length t / recordBytes)
 
--- record i of a stretch, all of whose records have the same context
-unfoldable pub soundIn : Context → List ℕ → ℕ → Bool
-soundIn x bs i = soundAt x i (drop (recordBytes * i) bs)
+-- what the rule of record i of a top-level statement is told: the first has the number of a source file, and the
+-- others have the same
+unfoldable pub contextIn : ℕ → List ℕ → ℕ → Context
+contextIn names bs i =
+    context names (if' (eqb i 0) (λ _. fileNumbers) (λ _. range (nodeOf 0 bs .file) (nodeOf 0 bs .file)))
 
--- the first unsound record of such a stretch: a subtree, judged in the context of its table
-unfoldable pub unsoundIn : Context → List ℕ → Found
-unsoundIn x bs = firstFalse (soundIn x bs) 0 (length bs / recordBytes)
+-- record i of a stretch, in its context
+unfoldable pub soundIn : (ℕ → Context) → List ℕ → ℕ → Bool
+soundIn x bs i = soundAt (x i) i (drop (recordBytes * i) bs)
+
+-- the first unsound record of a top-level statement, judged in a table that has so many name bytes
+unfoldable pub unsoundIn : ℕ → List ℕ → Found
+unsoundIn names bs = firstFalse (soundIn (contextIn names bs) bs) 0 (length bs / recordBytes)
 
 -- whether a search found nothing
 abbrev pub clear : Found → Bool

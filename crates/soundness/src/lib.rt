@@ -8,7 +8,7 @@ mod sound;
 use forest::Found;
 ghost use mathlib.Core.Path.{_≡_};
 ghost use Rattle.soundness.specs.Kinds.{classOf};
-ghost use Rattle.soundness.specs.Sound.{context, firstUnsound, unsoundIn};
+ghost use Rattle.soundness.specs.Sound.{firstUnsound, unsoundIn};
 
 // The class of a kind, by the numbers of `classes`; 0 for no kind.
 pub fn class(kind: u8) -> u8
@@ -24,10 +24,10 @@ pub fn first_unsound(table: &[u8], names: &[u8]) -> Found
     sound::first_unsound(table, names)
 }
 
-// The first unsound record of a subtree, in a table that has `names` name bytes. Unlike `first_unsound` it does not ask
-// that the first record is a statement and covers the bytes.
-pub fn first_unsound_in(subtree: &[u8], names: usize) -> Found
-    ensures { λ r. ⌜ r ≡ unsoundIn (context names) (now (subtree .entry)) ⌝ }
+// The first unsound record of a top-level statement, in a table that has `names` name bytes. Unlike `first_unsound` it
+// does not ask that the first record is a statement and covers the bytes.
+pub fn first_unsound_in(statement: &[u8], names: usize) -> Found
+    ensures { λ r. ⌜ r ≡ unsoundIn names (now (statement .entry)) ⌝ }
 {
-    sound::first_unsound_in(subtree, names)
+    sound::first_unsound_in(statement, names)
 }

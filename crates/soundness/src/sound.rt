@@ -10,9 +10,14 @@ ghost use Prim.Native.Nat.{_*_, _≤_};
 ghost use lib.Dec.{leb};
 ghost use lib.ListN.{length};
 ghost use Rattle.forest.specs.Forest.{recordBytes, nodeOf, forest};
+ghost use Rattle.soundness.specs.Files.{range, fileSound};
 ghost use Rattle.soundness.specs.Sound.{context, nameSound, spanSound, sourceSound, fieldsSound, classes};
 ghost use Rattle.soundness.specs.Sound.{kidsSound, soundAt, rootSound, firstUnsound, unsoundIn};
 ghost use Rattle.soundness.specs.Packed.{backsIn, childrenOf, ruleOf, numberSound, LastFrom, classAt, childOf};
+ghost use Rattle.soundness.specs.Packed.{rootEnd, Turned};
+
+// The largest number of a source file.
+const LAST_FILE: u16 = 999;
 
 // A name within the lent names where the kind has one; elsewhere length and start are zero.
 fn name_sound(named: bool, names: usize, len: u16, start: u32) -> bool
@@ -42,9 +47,16 @@ fn source_sound(kind: u8, source: u32, len: u16) -> bool
     source == 0
 }
 
-// The fields of the record that a stretch begins with.
-fn fields_sound(t: &[u8], names: usize) -> bool
-    ensures { λ r. ⌜ r ≡ fieldsSound (context names) (nodeOf 0 (now (t .entry))) ⌝ }
+// The number of the source file, from `least` to `most`.
+fn file_sound(file: u16, least: u16, most: u16) -> bool
+    ensures { λ r. ⌜ r ≡ fileSound (range least most) file ⌝ }
+{
+    (least <= file) & (file <= most)
+}
+
+// The fields of the record that a stretch begins with, whose file number is to be from `least` to `most`.
+fn fields_sound(t: &[u8], names: usize, least: u16, most: u16) -> bool
+    ensures { λ r. ⌜ r ≡ fieldsSound (context names (range least most)) (nodeOf 0 (now (t .entry))) ⌝ }
 {
     let kind = forest::kind(t);
     let len = forest::name_len(t);
@@ -52,9 +64,9 @@ fn fields_sound(t: &[u8], names: usize) -> bool
     let detailed = forest::detail(t) <= rows::details(kind);
     let named = name_sound(rows::named(kind), names, len, forest::name_start(t));
     let spanned = span_sound(forest::begin(t), forest::stop(t));
-    let padded = forest::pad(t) == 0;
+    let filed = file_sound(forest::file(t), least, most);
     let sourced = source_sound(kind, forest::source(t), len);
-    classed & (detailed & (named & (spanned & (padded & sourced))))
+    classed & (detailed & (named & (spanned & (filed & sourced))))
 }
 
 // Whether a subtree of so many records stands whole within so many bytes.
@@ -172,12 +184,12 @@ fn kids_sound(t: &[u8], kind: u8, detail: u8) -> bool
 
 // Whether the record that the rest of a table begins with is sound. Its fields are read from 24 bytes, where compiled
 // code needs no test of lengths.
-fn record_sound(t: &[u8], names: usize) -> bool
+fn record_sound(t: &[u8], names: usize, least: u16, most: u16) -> bool
     requires { ⌜ recordBytes ≤ length (now t) ⌝ }
-    ensures { λ r. ⌜ r ≡ soundAt (context names) 0 (now (t .entry)) ⌝ }
+    ensures { λ r. ⌜ r ≡ soundAt (context names (range least most)) 0 (now (t .entry)) ⌝ }
 {
     let head = &t[0..RECORD];
-    if !fields_sound(head, names) {
+    if !fields_sound(head, names, least, most) {
         return false;
     }
     let size = forest::size(head);
@@ -196,31 +208,98 @@ fn root_sound(table: &[u8]) -> bool
         & (RECORD * (forest::size(table) as usize) == table.len())
 }
 
-// The first unsound record in index order.
+// Where the loop's first statement ends: a root Statements after its own record; at record 0 where the root is another,
+// so that it begins a statement itself.
+fn root_end(table: &[u8]) -> usize
+    ensures { λ r. ⌜ r ≡ rootEnd (now (table .entry)) ⌝ }
+{
+    if forest::kind(table) == kinds::STATEMENTS {
+        return 1;
+    }
+    0
+}
+
+// The top-level statement that a record is in: where it ends and its number; then the least and the greatest number
+// that the record may have.
+struct Within {
+    end: usize,
+    file: u16,
+    least: u16,
+    most: u16,
+}
+
+// The statement of record i, with which the stretch begins. The record before it is in one that ends at `end` and has
+// the number `file`. The fields are read from 24 bytes, as in `record_sound`.
+fn turn(t: &[u8], i: usize, end: usize, file: u16) -> Within
+    requires { ⌜ recordBytes ≤ length (now t) ⌝ }
+    requires { ⌜ recordBytes * i ≤ 18446744073709551615 ⌝ }
+    ensures { λ r. ⌜ Turned (now (t .entry)) i end file (r .end) (r .file) (r .least) (r .most) ⌝ }
+{
+    if i < end {
+        return Within {
+            end: end,
+            file: file,
+            least: file,
+            most: file,
+        };
+    }
+    let head = &t[0..RECORD];
+    let own = forest::file(head);
+    let size = forest::size(head);
+    Within {
+        end: i + (size as usize),
+        file: own,
+        least: 1,
+        most: LAST_FILE,
+    }
+}
+
+// The first unsound record in index order. The loop keeps where the top-level statement ends that it is in, and the
+// number of that one.
 pub(crate) fn first_unsound(table: &[u8], names: &[u8]) -> Found
     ensures { λ r. ⌜ r ≡ firstUnsound (now (table .entry)) (now (names .entry)) ⌝ }
 {
-    if table.len() < RECORD {
+    let n = table.len() / RECORD;
+    let m = names.len();
+    if n == 0 {
         return Found::Nothing;
     }
     if !root_sound(table) {
         return Found::At(0);
     }
-    first_unsound_in(table, names.len())
-}
-
-// The first unsound record of a subtree, in a table that has `names` name bytes.
-pub(crate) fn first_unsound_in(subtree: &[u8], names: usize) -> Found
-    ensures { λ r. ⌜ r ≡ unsoundIn (context names) (now (subtree .entry)) ⌝ }
-{
-    let n = subtree.len() / RECORD;
+    let mut end = root_end(table);
+    let mut file = 0;
     let mut i = 0;
     while i < n {
         let a = RECORD * i;
-        if !record_sound(&subtree[a..], names) {
+        let within = turn(&table[a..], i, end, file);
+        end = within.end;
+        file = within.file;
+        if !record_sound(&table[a..], m, within.least, within.most) {
             return Found::At(i);
         }
         i += 1;
+    }
+    Found::Nothing
+}
+
+// The first unsound record of a top-level statement, in a table that has `names` name bytes.
+pub(crate) fn first_unsound_in(statement: &[u8], names: usize) -> Found
+    ensures { λ r. ⌜ r ≡ unsoundIn names (now (statement .entry)) ⌝ }
+{
+    let n = statement.len() / RECORD;
+    let file = forest::file(statement);
+    let mut least = 1;
+    let mut most = LAST_FILE;
+    let mut k = 0;
+    while k < n {
+        let a = RECORD * k;
+        if !record_sound(&statement[a..], names, least, most) {
+            return Found::At(k);
+        }
+        least = file;
+        most = file;
+        k += 1;
     }
     Found::Nothing
 }

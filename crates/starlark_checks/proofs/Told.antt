@@ -95,16 +95,17 @@ pub held-laid : (file : List ℕ) {h : Heading} (xs : List ℕ) {d : List ℕ} {
     ≡ laid (words (accepted (heldValues file))) 0 xs)
 held-laid file xs h-is d-is x-is y-is z-is = (refl, rw (x-is, y-is, z-is, d-is, h-is) refl)
 
--- LAW: a refusal with a span has four words
+-- LAW: a refusal with a span has five words
 module _ (r : Refusal) {n k : ℕ} {s : Span} {p : Place} (h : r ≡ Spanned n k s p) where
   pub spanned-number : n ≡ number (refusal r)
   spanned-number = rw h refl
 
   pub spanned-laid : (xs : List ℕ) {w : ℕ} → w ≡ placeIn (placeValues p)
-      → set (set (set (set xs 0 k) 1 (s .begin)) 2 (s .end)) 3 w ≡ laid (words (refusal r)) 0 xs
+      → set (set (set (set (set xs 0 k) 1 (s .begin)) 2 (s .end)) 3 w) 4 (s .file) ≡ laid (words (refusal r)) 0 xs
   spanned-laid xs w-is = rw (h, w-is) (go p)
     where
-      go : (p : Place) → set (set (set (set xs 0 k) 1 (s .begin)) 2 (s .end)) 3 (placeIn (placeValues p))
+      go : (p : Place)
+          → set (set (set (set (set xs 0 k) 1 (s .begin)) 2 (s .end)) 3 (placeIn (placeValues p))) 4 (s .file)
           ≡ laid (words (refusal (Spanned n k s p))) 0 xs
       go (At i) = refl
       go Nothing = refl

@@ -19,13 +19,15 @@ number (refused n vs) = n
 abbrev pub noPlace : ℕ
 noPlace = 4294967295
 
--- the words of what a refusal carries: nothing, the node, or the node, its span and the earlier node, if there is one
+-- the words of what a refusal carries: nothing, the node, or the node, begin and end of its span, the earlier node or
+-- the word for none, and the span's file
 abbrev pub carriedWords : List ℕ → List ℕ
 carriedWords [] = []
 carriedWords (k ∷ []) = k ∷ []
 carriedWords (k ∷ b ∷ []) = k ∷ b ∷ []
-carriedWords (k ∷ b ∷ e ∷ []) = k ∷ b ∷ e ∷ noPlace ∷ []
-carriedWords (k ∷ b ∷ e ∷ i ∷ vs) = k ∷ b ∷ e ∷ i ∷ vs
+carriedWords (k ∷ b ∷ e ∷ []) = k ∷ b ∷ e ∷ []
+carriedWords (k ∷ b ∷ e ∷ f ∷ []) = k ∷ b ∷ e ∷ noPlace ∷ f ∷ []
+carriedWords (k ∷ b ∷ e ∷ f ∷ i ∷ vs) = k ∷ b ∷ e ∷ i ∷ f ∷ vs
 
 -- the words of an answer: the job's values, or what a refusal carries
 abbrev pub words : Answer → List ℕ

@@ -43,7 +43,7 @@ ghost use Rattle.starlark_checks.specs.Version.{version};
 // The version of the library.
 const MAJOR: u32 = 0;
 
-const MINOR: u32 = 2;
+const MINOR: u32 = 3;
 
 const PATCH: u32 = 0;
 
@@ -68,6 +68,7 @@ fn put_refused(r: Refusal, out: &mut [u32; 12]) -> u32
             out[1] = span.begin;
             out[2] = span.end;
             out[3] = place_word(earlier);
+            out[4] = span.file;
             number
         }
     }

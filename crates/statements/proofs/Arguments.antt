@@ -72,7 +72,7 @@ ordered-one l a c kinds star kw apart kinds′ star′ kw′ = theorem.ordered-o
     record { kinds = kinds′; star-at = star′; kwargs-at = kw′; distinct = apart }
 
 -- W-203: "Refusals 11 and 22 carry that node besides what they carried; all other refusals carry none."
--- In words: 22 carries four numbers, and any other refusal of the call job at most three.
+-- In words: 22 carries five numbers, and any other refusal of the call job at most four.
 pub call-carries : (t names : List ℕ) (i : ℕ) → OnlyCarries repeatedNamed (callOf t names i)
 call-carries = theorem-twice.call-carries
 
@@ -83,7 +83,7 @@ call-carries = theorem-twice.call-carries
 pub call-twice : (t names : List ℕ) (i : ℕ) {vs : List ℕ}
     → callOf t names i ≡ refused repeatedNamed vs
     → (j : ℕ) × (r : Node)
-    × (vs ≡ r .at ∷ nameSpan r .begin ∷ nameSpan r .end ∷ j ∷ [])
+    × (vs ≡ r .at ∷ nameSpan r .begin ∷ nameSpan r .end ∷ r .file ∷ j ∷ [])
     × (read : List Argument) × (again : Argument) × (rest : List Argument) × (name : Name)
     × (before : List Argument) × (there : Argument) × (after : List Argument)
     × (argumentsOf names (treeOf i (stretchOf t i)) ≡ read ++ again ∷ rest)

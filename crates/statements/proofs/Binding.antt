@@ -194,7 +194,7 @@ pub filled-against-positional : (t names : List ℕ) (call def room : ℕ) {vs :
     → bindOf t names call def room ≡ refused alreadyFilled vs
     → (k : ℕ) × (r : Node) × (x : Name)
     × IsAt (argumentsAt t names call) k (named r x)
-    × (vs ≡ r .at ∷ r .begin ∷ r .stop ∷ [])
+    × (vs ≡ r .at ∷ r .begin ∷ r .stop ∷ r .file ∷ [])
     × (i : ℕ) × (p : FlatParam)
     × IsAt (flatsAt t names def) i p
     × (p .name ≡ x)
@@ -400,7 +400,7 @@ pub star-is-first : (t names : List ℕ) (call def room : ℕ) {vs : List ℕ}
     → bindOf t names call def room ≡ refused starArgument vs
     → (k : ℕ) × (r : Node)
     × (IsAt (argumentsAt t names call) k (args r) ⊎ IsAt (argumentsAt t names call) k (kwargs r))
-    × (vs ≡ r .at ∷ r .begin ∷ r .stop ∷ [])
+    × (vs ≡ r .at ∷ r .begin ∷ r .stop ∷ r .file ∷ [])
     × ((j : ℕ) (s : Node) → j < k → IsAt (argumentsAt t names call) j (args s) → ⊥)
     × ((j : ℕ) (s : Node) → j < k → IsAt (argumentsAt t names call) j (kwargs s) → ⊥)
 star-is-first t names call def room e =
@@ -414,7 +414,7 @@ pub too-many-is-first : (t names : List ℕ) (call def room : ℕ) {vs : List �
     → bindOf t names call def room ≡ refused tooManyPositional vs
     → (k : ℕ) × (r : Node)
     × IsAt (argumentsAt t names call) k (positional r)
-    × (vs ≡ r .at ∷ r .begin ∷ r .stop ∷ [])
+    × (vs ≡ r .at ∷ r .begin ∷ r .stop ∷ r .file ∷ [])
     × ((i : ℕ) (p : FlatParam) → IsAt (flatsAt t names def) i p → p .mode ≡ modeArgs → ⊥)
     × ((p : FlatParam) → IsAt (flatsAt t names def) k p → ByPlace p → ⊥)
     × ((j : ℕ) → j < k → (p : FlatParam) × IsAt (flatsAt t names def) j p × ByPlace p)
@@ -436,7 +436,7 @@ pub empty-is-first : (t names : List ℕ) (call def room : ℕ) {vs : List ℕ}
     → bindOf t names call def room ≡ refused emptyParameter vs
     → (i : ℕ) × (p : FlatParam)
     × IsAt (flatsAt t names def) i p
-    × (vs ≡ p .node .at ∷ p .node .begin ∷ p .node .stop ∷ [])
+    × (vs ≡ p .node .at ∷ p .node .begin ∷ p .node .stop ∷ p .node .file ∷ [])
     × (p .default ≡ false)
     × ((r : Node) → IsAt (argumentsAt t names call) i (positional r) → ByPlace p → ⊥)
     × ((k : ℕ) (r : Node) → IsAt (argumentsAt t names call) k (named r (p .name)) → CanBeNamed p → ⊥)
@@ -448,12 +448,12 @@ empty-is-first t names call def room e =
     (x .index, x .param, x .there, x .carries, x .without, x .noPlace, x .noName, x .first)
 
 -- W-203: "Refusals 11 and 22 carry that node besides what they carried; all other refusals carry none."
--- In words: of the refusals of this job 11 and 22 carry four numbers, the last an earlier node, and each other at most
--- three.
+-- In words: of the refusals of this job 11 and 22 carry five numbers, the last an earlier node, and each other at most
+-- four.
 pub bind-carries : (t names : List ℕ) (call def room : ℕ) {n : ℕ} {vs : List ℕ}
     → bindOf t names call def room ≡ refused n vs
-    → ((n ≡ duplicatedParameter) ⊎ (n ≡ repeatedNamed) → length vs ≡ 4)
-    × ((n ≡ duplicatedParameter → ⊥) → (n ≡ repeatedNamed → ⊥) → length vs ≤ 3)
+    → ((n ≡ duplicatedParameter) ⊎ (n ≡ repeatedNamed) → length vs ≡ 5)
+    × ((n ≡ duplicatedParameter → ⊥) → (n ≡ repeatedNamed → ⊥) → length vs ≤ 4)
 bind-carries = theorem-kept.bind-carries
 
 -- the corner cases of W-204

@@ -1,5 +1,6 @@
 pub mod Names
 pub mod Records
+pub mod Files
 pub mod Table
 pub mod DefList
 pub mod Parameters
@@ -7,6 +8,7 @@ pub mod Demand3
 pub mod Arguments
 pub mod Binding
 pub mod BindingRoom
+pub mod RefusalFiles
 pub mod Shapes
 pub mod Module
 pub mod Opening

@@ -54,7 +54,7 @@ pub accepted-small : (t names : List ℕ) (node room : ℕ) {vs : List ℕ}
 accepted-small = theorem.accepted-small
 
 -- W-203: "Refusals 11 and 22 carry that node besides what they carried; all other refusals carry none."
--- In words: 11 carries four numbers, and any other refusal of the parameter job at most three.
+-- In words: 11 carries five numbers, and any other refusal of the parameter job at most four.
 pub params-carries : (t names : List ℕ) (node room : ℕ)
     → OnlyCarries duplicatedParameter (paramsOf t names node room)
 params-carries = theorem-twice.params-carries
@@ -65,7 +65,7 @@ params-carries = theorem-twice.params-carries
 pub params-twice : (t names : List ℕ) (node room : ℕ) {vs : List ℕ}
     → paramsOf t names node room ≡ refused duplicatedParameter vs
     → (i : ℕ) × (r : Node)
-    × (vs ≡ r .at ∷ r .begin ∷ r .stop ∷ i ∷ [])
+    × (vs ≡ r .at ∷ r .begin ∷ r .stop ∷ r .file ∷ i ∷ [])
     × (read : List Param) × (again : Param) × (rest : List Param) × (name : Name)
     × (before : List Param) × (there : Param) × (after : List Param)
     × (listOf t names node ≡ read ++ again ∷ rest)

@@ -7,8 +7,9 @@ use mathlib.Core.Bool.{true, false}
 use mathlib.Core.List.{List, []}
 use Prim.Native.Nat.{ℕ, _-_, _/_, _<_, _≤_}
 use lib.ListN.{length, getD, take, drop}
-use Rattle.forest.specs.Forest.{nodeOf, roots}
+use Rattle.forest.specs.Forest.{nodeOf, forest, roots}
 use Rattle.soundness.specs.KindNumbers.{kindStatements}
+use Rattle.soundness.specs.Files.{recordAt, filesSound}
 use Rattle.table.specs.Numbers.{badHeader, nothingKept}
 use Rattle.table.specs.Answer.{accepted}
 use Rattle.table.specs.Check.{checkOf}
@@ -25,6 +26,7 @@ use Rattle.rescue.specs.Good.{headGood, blocksPass, goodTable}
 use Rattle.rescue.specs.Cut.{children, cutTo}
 use Rattle.rescue.specs.Job.{tableKept, kept, statementsOf, rescueOf, fileAfter, rescued}
 use Rattle.rescue.proofs.Theorems as theorem
+use Rattle.rescue.proofs.Numbered as theorem-numbered
 
 -- "the largest number of leading children of a root Statements, within its written size, whose records all stand in
 -- good node blocks before the first bad or missing one, such that the cut table passes 1 to 4"
@@ -174,3 +176,35 @@ pub past-stays : (bs buffer : List ℕ) (r : Rescued) (after : List ℕ)
     → ((k : Kept) → r ≡ Accepted k → drop (k .bytes) after ≡ drop (k .bytes) buffer)
     × ((why : Refusal) → r ≡ Refused why → after ≡ buffer)
 past-stays bs buffer r after a b = theorem.past-stays bs buffer r after (a, b)
+
+-- W-208: "Reader, writer, rescue and all answers with a span carry the file number." In words: the file numbers of what
+-- an accepted rescue keeps are sound down the tree, so a child with a wrong number is not kept.
+pub kept-files : (bs buffer : List ℕ) (r : Rescued) (after : List ℕ)
+    → rescued r ≡ rescueOf bs (length buffer)
+    → after ≡ fileAfter bs buffer
+    → (k : Kept)
+    → r ≡ Accepted k
+    → filesSound (forest 0 (tableKept bs)) ≡ true
+kept-files bs buffer r after a b = theorem-numbered.kept-files bs buffer r after (a, b)
+
+-- W-208: "A root Statements has 0 itself"
+-- In words: where the header is good and the blocks do not pass, a root with a file number is 91.
+pub numbered-root : (bs buffer : List ℕ) (r : Rescued) (after : List ℕ)
+    → rescued r ≡ rescueOf bs (length buffer)
+    → after ≡ fileAfter bs buffer
+    → headGood bs ≡ true
+    → blocksPass bs ≡ false
+    → (nodeOf 0 (goodTable bs) .file ≡ 0 → ⊥)
+    → r ≡ Refused (Bare nothingKept)
+numbered-root bs buffer r after a b = theorem-numbered.numbered-root bs buffer r after (a, b)
+
+-- W-208: "Files with the old zeros are refused"
+-- In words: where the header is good and the blocks do not pass, a first child with the file number 0 is 91.
+pub old-zeros : (bs buffer : List ℕ) (r : Rescued) (after : List ℕ)
+    → rescued r ≡ rescueOf bs (length buffer)
+    → after ≡ fileAfter bs buffer
+    → headGood bs ≡ true
+    → blocksPass bs ≡ false
+    → recordAt (goodTable bs) 1 .file ≡ 0
+    → r ≡ Refused (Bare nothingKept)
+old-zeros bs buffer r after a b = theorem-numbered.old-zeros bs buffer r after (a, b)

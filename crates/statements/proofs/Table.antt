@@ -8,9 +8,12 @@ use mathlib.Core.Logic.{_⊎_}
 use mathlib.Core.List.{List, [], _∷_}
 use Prim.Native.Nat.{ℕ, _+_, _*_, _/_, _<_, _≤_}
 use lib.ListN.{length, getD, drop}
-use Rattle.forest.specs.Forest.{nodeOf, forest}
+use Rattle.fields.specs.Field.{field}
+use Rattle.forest.specs.Forest.{sizeOf, nodeOf, forest}
 use Rattle.forest.specs.declared.Found.the-variants.{Nothing}
+use Rattle.soundness.specs.KindNumbers.{kindStatements}
 use Rattle.soundness.specs.Kinds.{statement, expression, classOf}
+use Rattle.soundness.specs.Files.{recordAt, rootStatements, filesSound}
 use Rattle.soundness.specs.Sound.{recordSound, firstUnsound}
 use Rattle.table.specs.Numbers.{unsoundRecord, tooDeep}
 use Rattle.table.specs.Answer.{accepted, refused}
@@ -18,6 +21,7 @@ use Rattle.table.specs.Check.{checkOf}
 use Rattle.table.specs.Depth.{mostDepth, firstDeep, depths}
 use Rattle.table.proofs.Theorems as theorem
 use Rattle.table.proofs.Checking as theorem-checking
+use Rattle.table.proofs.Numbered as theorem-numbered
 
 -- "Within all this a table is sound."
 -- In words: a table of 1 to 2,100 whole records, with at most 8,064 name bytes, no unsound record and no node that is
@@ -97,3 +101,32 @@ pub deep-is-counted : (t names : List ℕ) (k : ℕ)
     → (classOf (nodeOf k (drop (24 * k) t) .kind) ≡ statement)
     ⊎ (classOf (nodeOf k (drop (24 * k) t) .kind) ≡ expression)
 deep-is-counted = theorem.deep-is-counted
+
+-- "every record under a top-level statement carries that statement's number" (W-208)
+-- In words: in an accepted table the file numbers are sound down the tree.
+pub accepted-files : (t names : List ℕ) {vs : List ℕ}
+    → checkOf t names ≡ accepted vs
+    → filesSound (forest 0 t) ≡ true
+accepted-files t names e = theorem-numbered.accepted-files t names e
+
+-- "every record under a top-level statement carries that statement's number" (W-208): and so under any node
+-- In words: in an accepted table all records of a node's subtree have the number of that node; only a root Statements
+-- is another matter.
+pub accepted-subtree : (t names : List ℕ) {vs : List ℕ}
+    → checkOf t names ≡ accepted vs
+    → (i : ℕ)
+    → i < length t / 24
+    → (i ≡ 0 → rootStatements t ≡ false)
+    → (j : ℕ)
+    → i ≤ j
+    → j < i + sizeOf (drop (24 * i) t)
+    → recordAt t j .file ≡ recordAt t i .file
+accepted-subtree t names e = theorem-numbered.accepted-subtree t names e
+
+-- "Files with the old zeros are refused, but for a root Statements alone." (W-208)
+-- In words: a table that the check accepts and whose bytes 18 and 19 are all zero is one record, a root Statements.
+pub zeros-alone : (t names : List ℕ) {vs : List ℕ}
+    → checkOf t names ≡ accepted vs
+    → ((j : ℕ) → j < length t / 24 → field 2 (drop (24 * j) t) 18 ≡ 0)
+    → (length t ≡ 24) × (nodeOf 0 t .kind ≡ kindStatements)
+zeros-alone t names e = theorem-numbered.zeros-alone t names e

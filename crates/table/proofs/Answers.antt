@@ -2,12 +2,12 @@
 -- Assumes nothing.
 use mathlib.Core.Path.{_≡_, refl, sym, ap, _∙_}
 use mathlib.Core.Bool.{Bool, true, false}
-use mathlib.Core.List.{List, [], _∷_}
+use mathlib.Core.List.{List, [], _∷_, _++_}
 use Prim.Native.Nat.{ℕ}
 use Rattle.fields.proofs.Basics.{never, clash}
 use Rattle.fields.specs.Choice.{if'}
 use Rattle.table.specs.Answer.{Answer, accepted, refused, passes, andThen, numberOf, carried, refusal}
-use Rattle.table.specs.Answer.{checked, nodeIn, extentIn, earlierIn, earlierValues}
+use Rattle.table.specs.Answer.{checked, nodeIn, extentIn, earlierIn, earlierValues, spanValues}
 use Rattle.table.specs.Check.{given}
 use Rattle.table.specs.declared.Span.{Span}
 use Rattle.table.specs.declared.Place.{Place}
@@ -20,8 +20,8 @@ use Rattle.table.specs.declared.Refusal.the-variants.{Bare, Placed, Span
 use Rattle.table.specs.declared.Checked.{Checked}
 use Rattle.table.specs.declared.Checked.the-variants.{Sound, Refused}
 
-pub span-injective : (s u : Span) → s .begin ≡ u .begin → s .end ≡ u .end → s ≡ u
-span-injective s u b e = λ i. record { begin = b i; end = e i }
+pub span-injective : (s u : Span) → s .begin ≡ u .begin → s .end ≡ u .end → s .file ≡ u .file → s ≡ u
+span-injective s u b e f = λ i. record { begin = b i; end = e i; file = f i }
 
 -- what a refusal carries, by its variant
 module _ (why : Refusal) {n k : ℕ} where
@@ -34,7 +34,7 @@ module _ (why : Refusal) {n k : ℕ} where
   pub node-spanned : {s : Span} {e : Place} → why ≡ Spanned n k s e → At k ≡ nodeIn why
   node-spanned h = rw h refl
 
-  pub extent-spanned : {s : Span} {e : Place} → why ≡ Spanned n k s e → Of (s .begin) (s .end) ≡ extentIn why
+  pub extent-spanned : {s : Span} {e : Place} → why ≡ Spanned n k s e → Of s ≡ extentIn why
   extent-spanned h = rw h refl
 
   pub earlier-spanned : {s : Span} {e : Place} → why ≡ Spanned n k s e → e ≡ earlierIn why
@@ -59,7 +59,8 @@ refusal-injective (Spanned n k s f) (Placed m l) e = never (cc)
 refusal-injective (Spanned n k s f) (Spanned m l u g) e =
     let begins : s .begin ≡ u .begin = cc in
     let ends : s .end ≡ u .end = cc in
-    let spans : s ≡ u = span-injective s u begins ends in
+    let files : s .file ≡ u .file = cc in
+    let spans : s ≡ u = span-injective s u begins ends files in
     let numbers : n ≡ m = cc in
     let nodes : k ≡ l = cc in
     let before : earlierValues f ≡ earlierValues g = cc in
@@ -67,9 +68,9 @@ refusal-injective (Spanned n k s f) (Spanned m l u g) e =
     λ i. Spanned (numbers i) (nodes i) (spans i) (places i)
 
 -- a refusal with a span that is known
-pub refused-there : (n k : ℕ) (vs : List ℕ) {s u : Span} {x : Answer} → x ≡ refused n (k ∷ s .begin ∷ s .end ∷ vs)
-    → s ≡ u → x ≡ refused n (k ∷ u .begin ∷ u .end ∷ vs)
-refused-there n k vs x-is s-is = x-is ∙ ap (λ (u : Span). refused n (k ∷ u .begin ∷ u .end ∷ vs)) s-is
+pub refused-there : (n k : ℕ) (vs : List ℕ) {s u : Span} {x : Answer} → x ≡ refused n (k ∷ spanValues s ++ vs)
+    → s ≡ u → x ≡ refused n (k ∷ spanValues u ++ vs)
+refused-there n k vs x-is s-is = x-is ∙ ap (λ (u : Span). refused n (k ∷ spanValues u ++ vs)) s-is
 
 -- an answer that passes
 pub passes-is : (a : Answer) → passes a ≡ true → (vs : List ℕ) × (a ≡ accepted vs)

@@ -5,9 +5,11 @@ pub mod Anywhere
 pub mod Nodes
 pub mod Checking
 pub mod Theorems
+pub mod Numbered
 pub mod Handed
 pub mod Entering
 pub mod Carried
+pub mod Filed
 pub mod Naming
 pub mod Heads
 pub mod Promises

@@ -1,7 +1,7 @@
 -- Two answers that meet the promise of a public function coincide. Assumes nothing.
 use mathlib.Core.Path.{_≡_}
 use mathlib.Core.Bool.{Bool}
-use mathlib.Core.List.{List, _∷_}
+use mathlib.Core.List.{List, _∷_, _++_}
 use Prim.Native.Nat.{ℕ}
 use Rattle.fields.proofs.Coincide.{coincide, coincide-by}
 use lib.ListN.{take}
@@ -9,7 +9,7 @@ use Rattle.forest.specs.Forest.{nodeOf, forest, roots}
 use Rattle.forest.specs.declared.Found.{Found}
 use Rattle.soundness.specs.Kinds.{classOf}
 use Rattle.table.specs.Answer.{refused, refusedAt, numberOf, refusal, checked, spanAt, nodeIn, extentIn}
-use Rattle.table.specs.Answer.{earlierIn, earlierValues}
+use Rattle.table.specs.Answer.{spanValues, earlierIn, earlierValues}
 use Rattle.table.specs.Naming.{bearsName, firstNamed}
 use Rattle.table.specs.Depth.{firstDeep}
 use Rattle.table.specs.declared.Entries.{Entries}
@@ -94,8 +94,8 @@ span-of-one t = coincide
 
 -- of `refused_in`
 pub refused-in-one : (number node : ℕ) (span : Span) (earlier : Place) {r s : Refusal}
-    → refusal r ≡ refused number (node ∷ span .begin ∷ span .end ∷ earlierValues earlier)
-    → refusal s ≡ refused number (node ∷ span .begin ∷ span .end ∷ earlierValues earlier) → r ≡ s
+    → refusal r ≡ refused number (node ∷ spanValues span ++ earlierValues earlier)
+    → refusal s ≡ refused number (node ∷ spanValues span ++ earlierValues earlier) → r ≡ s
 refused-in-one number node span earlier = coincide-by refusal refusal-injective
 
 -- of `enter`

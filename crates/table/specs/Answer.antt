@@ -1,7 +1,7 @@
 -- What an answer means: document 01's number and values. These are definitions.
 use mathlib.Core.Path.{_≡_}
 use mathlib.Core.Bool.{Bool, true, false}
-use mathlib.Core.List.{List, [], _∷_}
+use mathlib.Core.List.{List, [], _∷_, _++_}
 use Prim.Native.Nat.{ℕ, _≤_}
 use lib.ListN.{length}
 use Rattle.forest.specs.Forest.{Node}
@@ -16,7 +16,7 @@ use Rattle.table.specs.declared.Checked.{Checked}
 use Rattle.table.specs.declared.Checked.the-variants.{Sound, Refused}
 
 -- accepted, with the values of the job; or refused, with document 01's number and what it carries: nothing, the node,
--- the node and its span, or these and an earlier node
+-- the node and its span with the source file number, or these and an earlier node
 pub data Answer : Type 0 where
   accepted : List ℕ → Answer
   refused : ℕ → List ℕ → Answer
@@ -36,13 +36,21 @@ abbrev pub isRefused : Answer → Bool
 isRefused (accepted vs) = false
 isRefused (refused n vs) = true
 
+-- a span in numbers: begin, end, and the source file number
+abbrev pub spanValues : Span → List ℕ
+spanValues s = s .begin ∷ s .end ∷ s .file ∷ []
+
+-- a node's span
+abbrev pub spanAt : Node → Span
+spanAt r = record { begin = r .begin; end = r .stop; file = r .file }
+
 -- a refusal at a node, with its span
 abbrev pub refusedAt : ℕ → Node → Answer
-refusedAt n r = refused n (r .at ∷ r .begin ∷ r .stop ∷ [])
+refusedAt n r = refused n (r .at ∷ spanValues (spanAt r))
 
 -- one that says besides which node was there before
 abbrev pub refusedAfter : ℕ → Node → ℕ → Answer
-refusedAfter n r i = refused n (r .at ∷ r .begin ∷ r .stop ∷ i ∷ [])
+refusedAfter n r i = refused n (r .at ∷ spanValues (spanAt r) ++ i ∷ [])
 
 -- a refusal of code: its number
 abbrev pub numberOf : Refusal → ℕ
@@ -59,7 +67,7 @@ nodeIn (Spanned n k s e) = AtPlace k
 abbrev pub extentIn : Refusal → Extent
 extentIn (Bare n) = NoSpan
 extentIn (Placed n k) = NoSpan
-extentIn (Spanned n k s e) = Of (s .begin) (s .end)
+extentIn (Spanned n k s e) = Of s
 
 -- the earlier node that it speaks of
 abbrev pub earlierIn : Refusal → Place
@@ -75,12 +83,12 @@ earlierValues NoPlace = []
 abbrev pub carried : Refusal → List ℕ
 carried (Bare n) = []
 carried (Placed n k) = k ∷ []
-carried (Spanned n k s e) = k ∷ s .begin ∷ s .end ∷ earlierValues e
+carried (Spanned n k s e) = k ∷ spanValues s ++ earlierValues e
 
--- of all refusals those with the number m alone carry an earlier node, as a fourth number
+-- of all refusals those with the number m alone carry an earlier node, as a fifth number
 abbrev pub OnlyCarries : ℕ → Answer → Type 0
 OnlyCarries m (accepted vs) = Unit {0}
-OnlyCarries m (refused n vs) = (n ≡ m → length vs ≡ 4) × ((n ≡ m → ⊥) → length vs ≤ 3)
+OnlyCarries m (refused n vs) = (n ≡ m → length vs ≡ 5) × ((n ≡ m → ⊥) → length vs ≤ 4)
 
 -- what the answers of code mean
 abbrev pub refusal : Refusal → Answer
@@ -89,7 +97,3 @@ refusal r = refused (numberOf r) (carried r)
 abbrev pub checked : Checked → Answer
 checked Sound = accepted []
 checked (Refused r) = refusal r
-
--- a node's span
-abbrev pub spanAt : Node → Span
-spanAt r = record { begin = r .begin; end = r .stop }

@@ -2,4 +2,5 @@ pub mod Numbers
 pub mod Answer
 pub mod Depth
 pub mod Check
+pub mod Carrying
 pub mod Naming

@@ -14,17 +14,18 @@ ghost use mathlib.Core.Path.{_≡_};
 ghost use Rattle.forest.specs.Forest.{nodeOf, forest};
 ghost use Rattle.table.specs.Depth.{firstDeep};
 ghost use Rattle.soundness.specs.Kinds.{classOf};
-ghost use mathlib.Core.List.{_∷_};
+ghost use mathlib.Core.List.{_∷_, _++_};
 ghost use lib.ListN.{take};
 ghost use Rattle.table.specs.Answer.{refused, refusedAt, numberOf, nodeIn, extentIn, refusal, checked, spanAt};
-ghost use Rattle.table.specs.Answer.{earlierIn, earlierValues};
+ghost use Rattle.table.specs.Answer.{spanValues, earlierIn, earlierValues};
 ghost use Rattle.table.specs.Check.{lengthSound, checkOf, given, givenOf, wants, nodeFits, stretchOf, entryCheck};
 ghost use Rattle.table.specs.Check.{mostBytes, isHeaded};
 
-// Where something stands in the script: from begin up to, but not with, end.
+// Where something stands: from begin up to, but not with, end, in the source file of this number.
 pub struct Span {
     pub begin: u32,
     pub end: u32,
+    pub file: u32,
 }
 
 // The most nodes of a table, its most bytes, 24 a node, and the most name bytes.
@@ -40,9 +41,9 @@ pub enum Place {
     Nothing,
 }
 
-// A span in numbers, or none.
+// A span, or none.
 pub enum Extent {
-    Of { begin: u32, end: u32 },
+    Of(Span),
     Nothing,
 }
 
@@ -180,10 +181,7 @@ pub fn extent_of(why: Refusal) -> Extent
             node,
             span,
             earlier,
-        } => Extent::Of {
-            begin: span.begin,
-            end: span.end,
-        },
+        } => Extent::Of(span),
     }
 }
 
@@ -210,12 +208,13 @@ pub fn span_of(t: &[u8]) -> Span
     Span {
         begin: forest::begin(t),
         end: forest::stop(t),
+        file: forest::file(t) as u32,
     }
 }
 
 // A refusal at a node, with a span, and with an earlier node if there is one.
 pub fn refused_in(number: u32, node: u32, span: Span, earlier: Place) -> Refusal
-    ensures { λ r. ⌜ refusal r ≡ refused number (node ∷ span .begin ∷ span .end ∷ earlierValues earlier) ⌝ }
+    ensures { λ r. ⌜ refusal r ≡ refused number (node ∷ spanValues span ++ earlierValues earlier) ⌝ }
 {
     Refusal::Spanned {
         number: number,

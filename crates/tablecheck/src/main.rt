@@ -1,6 +1,7 @@
-// Checks the table file that its argument names, or else standard input. It prints `nodes N`, a line `number begin end`
-// for each error and `errors N`; or, for a file that is refused, the one line `refused K`.
+// Checks the table file that its argument names, or else standard input. It prints `nodes N`, a line
+// `number file begin end` for each error and `errors N`; or, for a file that is refused, the one line `refused K`.
 // It only reads, calls and prints: what is answered to a file is the library's, filepass.
+use errors::WIDTH;
 use filepass::ENOUGH_BYTES;
 use filepass::ENOUGH_WORDS;
 use filepass::Passed;
@@ -75,33 +76,43 @@ fn report(file: &[u8; ENOUGH_BYTES], len: usize) {
     }
 }
 
-// A line for each error: its three words.
+// A line for each error: its words.
 fn say_errors(errors: &[u32; ENOUGH_WORDS], total: u32) {
     let mut left: &[u32] = errors;
     let mut more = total;
     while 0 < more {
-        if left.len() < 3 {
+        if left.len() < WIDTH {
             return;
         }
-        say_number(left[0]);
-        say(b" ");
-        say_number(left[1]);
-        say(b" ");
-        say_number(left[2]);
-        say(b"\n");
-        left = &left[3..];
+        say_words(&left[0..WIDTH]);
+        left = &left[WIDTH..];
         more -= 1;
     }
+}
+
+// Words on a line of their own, with a space between them.
+fn say_words(words: &[u32]) {
+    let n = words.len();
+    let mut i = 0;
+    while i < n {
+        say_word(words[i], i);
+        i += 1;
+    }
+    say(b"\n");
+}
+
+// A word; all but the first have a space before them.
+fn say_word(word: u32, place: usize) {
+    if 0 < place {
+        say(b" ");
+    }
+    io::print_decimal(STDOUT_FILENO, word as u64);
 }
 
 fn say_line(text: &[u8], n: u64) {
     say(text);
     io::print_decimal(STDOUT_FILENO, n);
     say(b"\n");
-}
-
-fn say_number(n: u32) {
-    io::print_decimal(STDOUT_FILENO, n as u64);
 }
 
 fn say(text: &[u8]) {

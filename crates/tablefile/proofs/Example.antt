@@ -17,6 +17,7 @@ use Rattle.forest.specs.Forest.{sizeOf, kidsOf, restOf, forestIn, forest, count
 use Rattle.forest.specs.Names.{same}
 use Rattle.soundness.specs.KindNumbers.{kindStatements, kindAssign, kindIdentifier, kindInt}
 use Rattle.soundness.specs.Kinds.{kindIn, kindOf}
+use Rattle.soundness.specs.Files.{fileSound, endsBy, topOf, filesOf}
 use Rattle.soundness.specs.Sound.{nameSound, spanSound, sourceSound, fieldsSound, wholeTrees, classes, permitted}
 use Rattle.soundness.specs.Sound.{wanted, permits, kidsSound, soundNode, soundAt, rootSound, contextOf, recordSound}
 use Rattle.soundness.specs.Sound.{firstFalse, firstUnsound}
@@ -31,15 +32,15 @@ use Rattle.tablefile.specs.declared.Loaded.{Loaded}
 use Rattle.tablefile.proofs.Accepted.{SoundContent, back-holds, back-taken, back-accepted}
 use Rattle.tablefile.proofs.Theorems.{Read, file-read-back}
 
--- the 24 bytes of a record whose numbers are below 256: kind, length of the name, span, size
-abbrev bytesOf : ℕ → ℕ → ℕ → ℕ → ℕ → List ℕ
-bytesOf kind len begin stop size =
-    kind ∷ 0 ∷ len ∷ 0 ∷ 0 ∷ 0 ∷ 0 ∷ 0 ∷ begin ∷ 0 ∷ 0 ∷ 0 ∷ stop ∷ 0 ∷ 0 ∷ 0 ∷ size ∷ 0 ∷ 0 ∷ 0 ∷ replicate 4 0
+-- the 24 bytes of a record whose numbers are below 256: kind, length of the name, span, size, source file
+abbrev bytesOf : ℕ → ℕ → ℕ → ℕ → ℕ → ℕ → List ℕ
+bytesOf kind len begin stop size file =
+    kind ∷ 0 ∷ len ∷ 0 ∷ 0 ∷ 0 ∷ 0 ∷ 0 ∷ begin ∷ 0 ∷ 0 ∷ 0 ∷ stop ∷ 0 ∷ 0 ∷ 0 ∷ size ∷ 0 ∷ file ∷ 0 ∷ replicate 4 0
 
 abbrev pub content : Content
 content = record {
-  table = bytesOf kindStatements 0 0 5 4
-      ++ (bytesOf kindAssign 0 0 5 3 ++ (bytesOf kindIdentifier 1 0 1 1 ++ bytesOf kindInt 0 4 5 1));
+  table = bytesOf kindStatements 0 0 5 4 0
+      ++ (bytesOf kindAssign 0 0 5 3 1 ++ (bytesOf kindIdentifier 1 0 1 1 1 ++ bytesOf kindInt 0 4 5 1 1));
   names = 120 ∷ [];
   dialect = 1 ∷ 1 ∷ 1 ∷ 0 ∷ 0 ∷ 0 ∷ 1 ∷ 0 ∷ 0 ∷ [];
 }
@@ -58,8 +59,8 @@ small-bytes (x ∷ l) e (suc i) = small-bytes l (and-right (ltb x 256) (small l)
 pub sound : soundCheck content ≡ accepted []
 unfolding givenOf fromBytes validBytes within checkOf lengthSound field sizeOf kidsOf restOf forestIn forest count
     countTree same kindIn kindOf nameSound spanSound sourceSound fieldsSound wholeTrees classes permitted wanted permits
-    kidsSound soundNode soundAt rootSound contextOf recordSound firstFalse firstUnsound classWeight weight firstDeep
-    deepIn
+    kidsSound soundNode soundAt rootSound fileSound endsBy topOf filesOf contextOf recordSound firstFalse firstUnsound
+    classWeight weight firstDeep deepIn
 sound = refl
 
 pub meets : SoundContent content

@@ -1,3 +1,4 @@
 pub mod Counts
 pub mod Assignments
+pub mod Files
 pub mod Promises

@@ -3,4 +3,5 @@ pub mod Dots
 pub mod Bases
 pub mod Reading
 pub mod Jobs
+pub mod Files
 pub mod Promises

@@ -1,7 +1,7 @@
 -- `deflist::judge` meets its contract: 19 for a list that is too long, otherwise unpack's outcome, whatever the marks.
 -- Assumes nothing.
 use borrow.Author.Needs.{needs}
-use borrow.Author.Tests.{not-true, not-false}
+use borrow.Author.Tests.{not-false}
 use Rattle.deflist.proofs.Limited.{judge-long, judge-short, fault-inside, node-inside}
 use Rattle.deflist.proofs.judge.Statement.{statement}
 use Rattle.deflist.proofs.judge.Tie as tie

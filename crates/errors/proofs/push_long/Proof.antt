@@ -1,4 +1,4 @@
--- `errors::push_long` meets its contract: four words where they fit. Assumes nothing.
+-- `errors::push_long` meets its contract: its words where they fit. Assumes nothing.
 use lib.ListN.{length-set}
 use native.Mathlib.Omega.{arith}
 use Rattle.errors.proofs.Storing.{long-fits, long-full}
@@ -14,6 +14,7 @@ push-long-spec =
     (λ c. simp length-set (omega arith))  -- slice-write-errors-2
     (λ c. simp length-set (omega arith))  -- slice-write-errors-3
     (λ c. simp length-set (omega arith))  -- slice-write-errors-4
+    (λ c. simp length-set (omega arith))  -- slice-write-errors-5
     (λ c. search needs)
     (λ c. long-fits _ _ (omega arith))  -- returns
     (λ c. long-full _ _ (omega arith)))  -- returns-2

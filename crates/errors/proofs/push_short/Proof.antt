@@ -1,4 +1,4 @@
--- `errors::push_short` meets its contract: three words where they fit. Assumes nothing.
+-- `errors::push_short` meets its contract: its words where they fit. Assumes nothing.
 use lib.ListN.{length-set}
 use native.Mathlib.Omega.{arith}
 use Rattle.errors.proofs.Storing.{short-fits, short-full}
@@ -13,6 +13,7 @@ push-short-spec =
     (λ c. search needs)
     (λ c. simp length-set (omega arith))  -- slice-write-errors-2
     (λ c. simp length-set (omega arith))  -- slice-write-errors-3
+    (λ c. simp length-set (omega arith))  -- slice-write-errors-4
     (λ c. search needs)
     (λ c. short-fits _ _ (omega arith))  -- returns
     (λ c. short-full _ _ (omega arith)))  -- returns-2

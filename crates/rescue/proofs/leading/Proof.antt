@@ -2,13 +2,12 @@
 use borrow.Author.Needs.{needs}
 use lib.ListN.{length}
 use borrow.Author.Tests.{not-true, not-false}
-use Rattle.soundness.specs.Sound.{context}
 use Rattle.rescue.proofs.Walking.{Walking, walk-start, walk-few, walk-end, walk-stop, walk-on}
 use Rattle.rescue.proofs.leading.Statement.{statement}
 use Rattle.rescue.proofs.leading.Tie as tie
 
 abbrev Inv-loop : tie.InvT-loop
-Inv-loop row names left₀ done₀ left done = Walking (context names) row left done
+Inv-loop row names left₀ done₀ left done = Walking names row left done
 
 abbrev μ-loop : tie.MeasureT-loop
 μ-loop row names left₀ done₀ left done = length left

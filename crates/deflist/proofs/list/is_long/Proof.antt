@@ -1,6 +1,5 @@
 -- `deflist::list::is_long` meets its contract: the entry after so many is one too many. Assumes nothing.
 use borrow.Author.Needs.{needs}
-use native.Mathlib.Omega.{arith}
 use lib.ListN.{length}
 use Rattle.deflist.proofs.Reading.{Limiting, limit-start, limit-over, limit-on, limit-end, rest-less}
 use Rattle.deflist.proofs.list.is_long.Statement.{statement}
