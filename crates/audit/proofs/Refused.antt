@@ -17,7 +17,7 @@ use Rattle.table.specs.declared.Checked.{Checked}
 use Rattle.table.specs.declared.Checked.the-variants.{Sound, Refused as Unsound}
 use Rattle.table.proofs.Heads.{headed-all}
 use Rattle.deflist.specs.Written.{written}
-use Rattle.deflist.specs.Unpack.{unpack}
+use Rattle.deflist.specs.Limited.{limited}
 use Rattle.deflist.specs.Told.{told}
 use Rattle.deflist.specs.declared.Counts.{Counts}
 use Rattle.deflist.specs.declared.Fault.{Fault}
@@ -82,7 +82,7 @@ module _ {why : Refusal} where
   pub type-refused : {a : Shaped} → a ≡ NoType why → answerErrors (refusal why) ≡ answerErrors (shaped a)
   type-refused h = rw h refl
 
--- what unpack says of a list
+-- what is said of a list
 module _ {j k : Judged} (j-is : j ≡ k) where
   pub list-none : {c : Counts} → j ≡ Accepted c → answerErrors (accepted []) ≡ unpackError k
   list-none h = rw (← j-is, h) refl
@@ -104,7 +104,7 @@ module _ (names : List ℕ) (i : ℕ) (t : List ℕ) {k : ℕ} (k-is : k ≡ nod
     ne-eqb k kindAssignModify no-modify,
   ) refl
 
-  module _ {es : List Err} (list : es ≡ unpackError (told (unpack (written names i t)))) where
+  module _ {es : List Err} (list : es ≡ unpackError (told (limited (nodeOf i t) (written names i t)))) where
     pub kind-def : k ≡ kindDef → es ≡ kindErrors names (treeOf i t)
     unfolding kindErrors wants written
     kind-def h = list ∙ rw (← k-is, h) refl

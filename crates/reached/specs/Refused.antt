@@ -58,6 +58,6 @@ OnlyTwoCarry (accepted vs) = Unit {0}
 OnlyTwoCarry (refused n vs) = ((n ≡ duplicatedParameter) ⊎ (n ≡ repeatedNamed) → length vs ≡ 5)
     × ((n ≡ duplicatedParameter → ⊥) → (n ≡ repeatedNamed → ⊥) → length vs ≤ 4)
 
--- whose source file a refusal from 10 on carries: the def's for 10 to 18 and 84, the call's for 20 to 24 and 80 to 83
+-- whose source file a refusal from 10 on carries: the def's for 10 to 19 and 84, the call's for 20 to 24 and 80 to 83
 abbrev pub sideOf : ℕ → ℕ → ℕ → ℕ
 sideOf call def n = if' (ltb n positionalAfterNonPositional || eqb n emptyParameter) (λ _. def) (λ _. call)

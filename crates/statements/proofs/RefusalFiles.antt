@@ -87,7 +87,7 @@ pub type-file : (t names bytes : List ℕ) (i room : ℕ) {n : ℕ} {vs : List �
 type-file t names bytes i room e late = fields t i e (theorem-types.type-files t names bytes i room) late
 
 -- W-208: "all answers with a span carry the file number": the binding job, which reads a call and a def
--- In words: the number is that of the record that the refusal names. For 10 to 18 and 84 it is the def's, for 20 to 24
+-- In words: the number is that of the record that the refusal names. For 10 to 19 and 84 it is the def's, for 20 to 24
 -- and 80 to 83 the call's.
 pub bind-file : (t names : List ℕ) (call def room : ℕ) {n : ℕ} {vs : List ℕ}
     → bindOf t names call def room ≡ refused n vs
