@@ -10,7 +10,6 @@ use lib.ListN.{length}
 use lib.Dec.{eqb}
 use Rattle.fields.specs.Choice.{if'}
 use Rattle.forest.specs.Forest.{Node, Tree, node, Forest, none, _then_, nodes, nodesOf}
-use Rattle.table.specs.Numbers.{repeatedNamed}
 use Rattle.table.specs.Carrying.{CarriesFile}
 use Rattle.table.specs.declared.Wanted.the-variants.{Call}
 use Rattle.table.proofs.Filed.{All, Told, Filed, all-tree, all-row, told-at, node-files}
@@ -18,7 +17,7 @@ use Rattle.arguments.specs.Written.{Name, Argument, nodeIn, kindIn, kind
 use Rattle.arguments.specs.Written.{argumentsOf}
 use Rattle.arguments.specs.Call.{Outcome, unpacked, refusedWith, repeatedName, internalError, unlessBroken, total}
 use Rattle.arguments.specs.Call.{taken, check, advance, start, run, unpack}
-use Rattle.arguments.specs.Job.{refusedAtName, outcomeAnswer, callAnswer, callOf}
+use Rattle.arguments.specs.Job.{outcomeAnswer, callAnswer, callOf}
 use Rattle.arguments.specs.declared.Check.{Check}
 use Rattle.arguments.specs.declared.Check.the-variants.{Fine, Broken, Repeated}
 use Rattle.arguments.specs.declared.Kind.{Kind}

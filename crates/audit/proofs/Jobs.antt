@@ -15,7 +15,7 @@ use Rattle.table.specs.declared.Given.the-variants.{In, Refused as Away}
 use Rattle.table.proofs.Entering.{away-is, in-is}
 use Rattle.errors.specs.declared.Err.{Err}
 use Rattle.errors.specs.declared.Listing.the-variants.{Own, Audit}
-use Rattle.errors.specs.Errors.{kept, stored, Stores}
+use Rattle.errors.specs.Errors.{kept, width, stored, Stores}
 use Rattle.errors.proofs.Storing.{kept-few, freeAt, after, back, stored-none, stores-both}
 use Rattle.validate.specs.Job.{passErrors}
 use Rattle.validate.proofs.Bounds.{module-few}
@@ -28,7 +28,7 @@ use Rattle.audit.specs.Job.{auditErrors, allErrors, auditOf, auditAfter}
 own-words : (es : List Err) (xs : List ℕ) → stored Own es xs ≡ stored Audit es xs
 unfolding stored
 own-words [] xs = refl
-own-words (e ∷ es) xs = rw (own-words es (drop 4 xs)) refl
+own-words (e ∷ es) xs = rw (own-words es (drop (width Audit) xs)) refl
 
 -- the module pass's part: it is stored as the audit stores, and it is little
 module _ (d : Dialect) (names t : List ℕ) {m : ℕ} (m-is : m ≡ length (kept Own (passErrors d names t))) where

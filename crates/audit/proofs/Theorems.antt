@@ -1,5 +1,5 @@
 -- What users of the audit rely on: a refusal changes no word, the total is at most four times the node count, and a
--- list with room for that many errors holds all: 33,600 words are enough for every table. Crate `audited` says when the
+-- list with room for that many errors holds all: 42,000 words are enough for every table. Crate `audited` says when the
 -- list is empty. Assumes nothing.
 use mathlib.Core.Path.{_≡_, refl}
 use mathlib.Core.List.{List, [], _∷_, _++_}
@@ -69,8 +69,8 @@ module _ (t names bytes : List ℕ) where
       go (inDialect d) h = let total : n ≡ length (allErrors t names bytes) = cc in omega (arith, errors-few)
       go (turnedAway m vs) h = never (cc)
 
-  -- THEOREM: a list of words with room for four times the node count, four words each, holds all errors, one after the
-  -- other, and its other words stay
+  -- THEOREM: a list of words with room for four errors for each node holds all errors, one after the other, and its
+  -- other words stay
   pub list-holds-all : (xs : List ℕ) → width Audit * (4 * (length t / 24)) ≤ length xs
       → auditAfter t names bytes xs ≡ allWords Audit (allErrors t names bytes)
       ++ drop (width Audit * length (allErrors t names bytes)) xs

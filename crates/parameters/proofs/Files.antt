@@ -15,8 +15,10 @@ use Rattle.table.specs.Numbers.{shortBuffer, slashFirst, duplicatedParameter, t
 use Rattle.table.specs.Carrying.{CarriesFile}
 use Rattle.table.specs.declared.Wanted.the-variants.{Parameters}
 use Rattle.table.proofs.Carried.{before-test}
-use Rattle.table.proofs.Filed.{All, Told, Filed, all-tree, all-row, told-at, told-after, told-then, told-before, node-files}
-use Rattle.deflist.specs.Written.{Name, Param, normal, noArgs, slash, args, kwargs, nodeIn, kindIn, kindAt, param, paramOf}
+use Rattle.table.proofs.Filed.{All, Told, Filed, all-tree, all-row, told-at, told-after, told-then, told-before}
+use Rattle.table.proofs.Filed.{node-files}
+use Rattle.deflist.specs.Written.{Name, Param, normal, noArgs, slash, args, kwargs, nodeIn, kindIn, kindAt, param}
+use Rattle.deflist.specs.Written.{paramOf}
 use Rattle.deflist.specs.Written.{paramsIn, rootIn, writtenIn}
 use Rattle.deflist.specs.Unpack as def
 use Rattle.deflist.specs.Unpack.{Step, on, stop, again, broken, isSlash, finish, run, unpack}

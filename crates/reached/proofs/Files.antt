@@ -4,22 +4,22 @@
 -- numbers are all one (table's `tree-filed`), and so are the flat parameters and the arguments that the binding names.
 -- Cite `bind-files`. Assumes nothing.
 use mathlib.Core.Path.{_≡_, refl}
-use mathlib.Core.Bool.{Bool, true, false, not, _&&_, _||_}
+use mathlib.Core.Bool.{Bool, true, false, not, _&&_}
 use mathlib.Core.Logic.{_⊎_, inl, inr}
 use mathlib.Core.List.{List, [], _∷_, _++_, map}
 use Prim.Native.Nat.{ℕ, _+_, _*_, _/_, _<_, _≤_}
 use native.Mathlib.Omega.{arith}
 use lib.ListN.{length, getD, drop, set}
-use lib.Dec.{eqb, ltb, leb}
+use lib.Dec.{eqb, ltb}
 use borrow.Author.Tests.{eqb-true, ltb-true, lt-ltb, le-ltb, ne-eqb}
 use Rattle.fields.specs.Choice.{if'}
-use Rattle.fields.proofs.Basics.{clash, and-left, and-right}
+use Rattle.fields.proofs.Basics.{and-left, and-right}
 use Rattle.forest.specs.Forest.{Node, nodeOf, treeOf}
 use Rattle.soundness.specs.KindNumbers.{kindDef, kindStatements}
-use Rattle.table.specs.Numbers.{wrongNode, positionalAfterNonPositional, alreadyFilled, starArgument, emptyParameter}
+use Rattle.table.specs.Numbers.{alreadyFilled, starArgument, emptyParameter}
 use Rattle.table.specs.Answer.{Answer, accepted, refused, andThen, refusedAt}
-use Rattle.table.specs.Check.{nodeFits, stretchOf, checkOf, entryCheck}
-use Rattle.table.specs.Carrying.{FileOf, CarriesFile}
+use Rattle.table.specs.Check.{nodeFits, stretchOf, entryCheck}
+use Rattle.table.specs.Carrying.{FileOf}
 use Rattle.table.specs.declared.Wanted.the-variants.{Call}
 use Rattle.table.proofs.Answers.{passed-both, test-passed}
 use Rattle.table.proofs.Carried.{Before}
@@ -32,7 +32,7 @@ use Rattle.deflist.specs.Limited.{limited}
 use Rattle.deflist.specs.Unpack.{nextState, modeOf, firstSlash, positionalOnly, firstState}
 use Rattle.deflist.specs.declared.State.{State}
 use Rattle.parameters.specs.Indices.{countedOf}
-use Rattle.parameters.specs.Params.{listOf, answerOf}
+use Rattle.parameters.specs.Params.{listOf}
 use Rattle.parameters.specs.declared.Counted.{Counted}
 use Rattle.parameters.specs.declared.DefParamIndices.{DefParamIndices}
 use Rattle.parameters.proofs.Files as params
@@ -46,7 +46,7 @@ use Rattle.arguments.proofs.Files as arguments
 use Rattle.arguments.proofs.Files.{told-call}
 use Rattle.bind.specs.FlatList.{FlatParam, flatParam, flatsFrom, flats}
 use Rattle.bind.specs.Binding.{reaches, unreached, turn, andWith, along, isStar, starCheck, emptyCheck, binding}
-use Rattle.bind.specs.Job.{isDef, defCheck, roomCheck, counting, noWords, listsBound, argumentsAt, entryOf, wordsOf}
+use Rattle.bind.specs.Job.{isDef, defCheck, counting, noWords, listsBound, argumentsAt, entryOf, wordsOf}
 use Rattle.bind.specs.Job.{answeredAt, bindOf}
 use Rattle.bind.specs.declared.Reach.{Reach}
 use Rattle.bind.specs.declared.Reach.the-variants.{Fills, Joins, Nowhere}
@@ -83,8 +83,8 @@ module _ (t : List ℕ) (call def : ℕ) where
   at-call n r f late before = of-call n _ (told-at (Filed t call) n r f) late (λ e. omega arith)
 
   -- 80 to 83, each at an argument
-  abbrev Args : List Argument → Type 0
-  Args qs = arguments.AllOf (Filed t call) qs
+  abbrev InCall : List Argument → Type 0
+  InCall qs = arguments.AllOf (Filed t call) qs
 
   unreached-side : (k : Kind) (r : Node) → Filed t call r → Sided (refusedAt (unreached k) r)
   unfolding unreached
@@ -105,7 +105,7 @@ module _ (t : List ℕ) (call def : ℕ) where
   turn-side place Nowhere k r ws f = unreached-side k r f
 
   along-side : (flat : ℕ) (d : DefParamIndices) (fs : List FlatParam) (k : ℕ) (ws : List ℕ) (qs : List Argument)
-      → Args qs → Sided (along flat d fs k ws qs)
+      → InCall qs → Sided (along flat d fs k ws qs)
   unfolding along
   along-side flat d fs k ws [] h = tt
   along-side flat d fs k ws (a ∷ qs) h = go (turn (flat + k) (reaches d fs k a) (kindIn a) (nodeIn a) ws)
@@ -117,12 +117,13 @@ module _ (t : List ℕ) (call def : ℕ) where
       go (accepted vs) s rest = rest vs
       go (refused n vs) s rest = s
 
-  star-side : (qs : List Argument) → Args qs → Sided (starCheck qs)
+  star-side : (qs : List Argument) → InCall qs → Sided (starCheck qs)
   unfolding starCheck
   star-side [] h = tt
   star-side (a ∷ qs) h = go (isStar (kindIn a)) (star-side qs (h .1))
     where
-      go : (b : Bool) → Sided (starCheck qs) → Sided (if' b (λ _. refusedAt starArgument (nodeIn a)) (λ _. starCheck qs))
+      go : (b : Bool) → Sided (starCheck qs)
+          → Sided (if' b (λ _. refusedAt starArgument (nodeIn a)) (λ _. starCheck qs))
       go true rest = at-call starArgument (nodeIn a) (h .0) (omega arith) (omega arith)
       go false rest = rest
 
@@ -162,7 +163,7 @@ module _ (t : List ℕ) (call def : ℕ) where
   side-then (accepted vs) next a b = b
   side-then (refused n vs) next a b = a
 
-  binding-side : (c : Counted) (fs : List FlatParam) (ws : List ℕ) (qs : List Argument) → Flats fs → Args qs
+  binding-side : (c : Counted) (fs : List FlatParam) (ws : List ℕ) (qs : List Argument) → Flats fs → InCall qs
       → Sided (binding c fs ws qs)
   unfolding binding
   binding-side c fs ws qs f h =
@@ -185,7 +186,7 @@ module _ (t : List ℕ) (call def : ℕ) where
       go (inr h) = of-call n vs told (omega (arith, h .0)) (λ e. omega (arith, h .1, e))
 
   lists-side : (owner : Node) (ps : List Param) (qs : List Argument) → Filed t def owner
-      → params.AllOf (Filed t def) ps → Args qs → Sided (listsBound owner ps qs)
+      → params.AllOf (Filed t def) ps → InCall qs → Sided (listsBound owner ps qs)
   unfolding listsBound
   lists-side owner ps qs o p h =
       go (limited owner ps) (limited-at (Filed t def) owner ps o p) (early-limited owner ps)

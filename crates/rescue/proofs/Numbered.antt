@@ -71,8 +71,8 @@ module _ (bs buffer : List ℕ) (r : Rescued) (after : List ℕ) (p : Rescue bs 
   module _ (head : headGood bs ≡ true) (bad : blocksPass bs ≡ false) where
     -- THEOREM: a root with a number is 91
     pub numbered-root : (nodeOf 0 (goodTable bs) .file ≡ 0 → ⊥) → r ≡ Refused (Bare nothingKept)
-    numbered-root no = nothing-can-be-kept bs buffer r after p .0
-        record { head = head; blocks = bad; none = λ j some q. no (root-zero bs j q) }
+    numbered-root other = nothing-can-be-kept bs buffer r after p .0
+        record { head = head; blocks = bad; none = λ j some q. other (root-zero bs j q) }
 
     -- THEOREM: a first child without a number is 91
     pub old-zeros : recordAt (goodTable bs) 1 .file ≡ 0 → r ≡ Refused (Bare nothingKept)

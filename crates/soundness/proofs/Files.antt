@@ -11,10 +11,10 @@ use mathlib.Core.List.{List, [], _∷_, _++_}
 use mathlib.Core.Logic.{⊎-elim}
 use Prim.Native.Nat.{ℕ, zero, suc, _+_, _-_, _*_, _/_, _<_, _≤_, max}
 use native.Mathlib.Omega.{arith}
-use lib.ListN.{length, take, drop, length-drop}
-use lib.Seq.{take-all, drop-drop, length-take-le}
+use lib.ListN.{length, drop, length-drop}
+use lib.Seq.{take-all, drop-drop}
 use lib.Dec.{eqb, leb}
-use borrow.Author.Tests.{eq-eqb, eqb-true, eqb-false, le-leb, lt-leb, leb-true}
+use borrow.Author.Tests.{eqb-true, eqb-false, le-leb, lt-leb, leb-true}
 use native.Mathlib.Nat.{zero-add, add-zero, suc-add}
 use Rattle.fields.specs.Choice.{if'}
 use Rattle.fields.proofs.Basics.{clash, and-both, and-left, and-right, le-or-lt}
@@ -22,7 +22,7 @@ use Rattle.forest.specs.Forest.{Node, sizeOf, spanOf, kidsOf, restOf, Tree, nod
 use Rattle.forest.specs.Forest.{forest, nodes, nodesOf}
 use Rattle.forest.specs.declared.Found.the-variants.{Nothing}
 use Rattle.forest.proofs.Stretch.{records, nodes-records, forest-none, forest-tree, length-kids, length-rest}
-use Rattle.forest.proofs.Stretch.{record-or-none, records-take, kids-records}
+use Rattle.forest.proofs.Stretch.{record-or-none, kids-records}
 use Rattle.soundness.specs.Kinds.{kindOf, classOf}
 use Rattle.soundness.specs.Files.{Range, range, fileNumbers, anyFile, fileSound, recordAt, rootStatements, topOf}
 use Rattle.soundness.specs.Files.{filesOf, filesIn, treeIn, filesTop, filesSound}
@@ -61,15 +61,6 @@ mutual
 -- LAW: and those of a stretch are its records
 pub in-records : (n i : ℕ) (bs : List ℕ) → filesIn n (forest i bs) ≡ allHave n (records (length bs / 24) i bs)
 in-records n i bs = in-nodes n (forest i bs) ∙ ap (allHave n) (nodes-records i bs)
-
-have-from : (t : List ℕ) (n m a : ℕ) → ((j : ℕ) → a ≤ j → j < a + m → recordAt t j .file ≡ n)
-    → allHave n (records m a (drop (24 * a) t)) ≡ true
-have-from t n zero a f = refl
-have-from t n (suc m) a f =
-    let next : 24 * a + 24 ≡ 24 * (a + 1) = omega arith in
-    rw (drop-drop 24 (24 * a) t, next)
-    (and-both _ _ (eq-eqb (recordAt t a .file) n (f a (omega arith) (omega arith)))
-    (have-from t n m (a + 1) (λ j h g. f j (omega arith) (omega arith))))
 
 -- record j of a table has a number that it may have; m records from record k on have
 abbrev pub fits : List ℕ → ℕ → Bool
@@ -344,19 +335,6 @@ module _ (t names : List ℕ) (e : firstUnsound t names ≡ Nothing) where
     subtree-file j from before =
         let size = here-size t names e i h in
         top-file j (omega arith) ∙ rw (top-shared j from before) (sym (top-file i h))
-
-    -- the same down its tree
-    pub subtree-files : filesIn (recordAt t i .file)
-        (forest i (take (24 * sizeOf (drop (24 * i) t)) (drop (24 * i) t))) ≡ true
-    subtree-files =
-        let s : ℕ = sizeOf (drop (24 * i) t) in
-        let bs : List ℕ = take (24 * s) (drop (24 * i) t) in
-        let size = here-size t names e i h in
-        let long : length bs ≡ 24 * s = length-take-le (24 * s) (drop (24 * i) t) (simp length-drop (omega arith)) in
-        let all : length bs / 24 ≡ s = omega arith in
-        let same : records s i bs ≡ records s i (drop (24 * i) t) =
-        records-take s i (24 * s) (drop (24 * i) t) (omega arith) in
-        in-records (recordAt t i .file) i bs ∙ rw (all, same) (have-from t (recordAt t i .file) s i subtree-file)
 
   -- LAW: where the file numbers are all zero, the root is a Statements, and there is no other record
   module _ (some : 24 ≤ length t) (zeros : (j : ℕ) → j < length t / 24 → recordAt t j .file ≡ 0) where

@@ -40,12 +40,6 @@ module _ {p : ℕ → Bool} {n i : ℕ} (s : Looking p n i) where
   unfolding firstFalse
   look-end h = let m : n - i ≡ 0 = omega arith in rw m at (s .rest)
 
--- two tests that agree everywhere
-pub first-same : (p q : ℕ → Bool) (n i : ℕ) → ((j : ℕ) → p j ≡ q j) → firstFalse p i n ≡ firstFalse q i n
-unfolding firstFalse
-first-same p q zero i same = refl
-first-same p q (suc n) i same = rw (same i, first-same p q n (i + 1) same) refl
-
 pub clear-is : (x : Found) → clear x ≡ true → x ≡ Nothing
 clear-is (At i) e = clash e refl
 clear-is Nothing e = refl

@@ -2,7 +2,8 @@
 -- (`sound-table`, `sound-subtree`): a record's children are found by stepping over their sizes, and what is sound is as
 -- long as it says, so that the records are the forest's nodes. The induction is on the records of a stretch.
 -- The other way round, where the root covers the table and all nodes are sound, no record is unsound (`sound-clean`);
--- so too for a subtree whose records have one context (`clear-sound`), wherever it stands (`sound-anywhere`).
+-- so too for a subtree by itself (`clear-sound`), and where its records have one context it does not matter where it
+-- stands (`sound-anywhere`). Subtrees are nested: one that begins within another ends within it (`nested`).
 -- Assumes nothing.
 use mathlib.Core.Path.{_≡_, refl, sym, ap, _∙_}
 use mathlib.Core.Bool.{Bool, true, false, _&&_}

@@ -43,7 +43,7 @@ pub list-holds-all : (t names bytes xs : List ℕ)
     ≡ allWords Audit (allErrors t names bytes) ++ drop (width Audit * length (allErrors t names bytes)) xs
 list-holds-all = theorem.list-holds-all
 
--- 33,600 words are enough for every table
+-- 42,000 words are enough for every table
 -- In words: a list of `enoughWords` words holds all errors of any table in order, and its other words are as they were.
 pub list-has-room : (t names bytes xs : List ℕ)
     → length xs ≡ enoughWords

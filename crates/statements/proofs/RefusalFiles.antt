@@ -106,7 +106,8 @@ bind-file t names call def room {n} e late =
 
 -- W-208: "A zone's table now joins its own script and the line's common one."
 -- In words: in a table of a def of file 1 and two calls of file 2, a call without its argument is refused with 84 at
--- the parameter, in file 1, and one that repeats a name with 22 at the argument, in file 2, with the earlier one's node.
+-- the parameter, in file 1, and one that repeats a name with 22 at the argument, in file 2, and with the earlier
+-- argument's node.
 pub two-files : (bindOf table names 5 1 4 ≡ refused emptyParameter (2 ∷ 6 ∷ 7 ∷ 1 ∷ []))
     × (bindOf table names 8 1 4 ≡ refused repeatedNamed (12 ∷ 11 ∷ 12 ∷ 2 ∷ 10 ∷ []))
 two-files = theorem-two.two-files

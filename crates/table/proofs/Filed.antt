@@ -24,7 +24,7 @@ use Rattle.soundness.specs.Files.{recordAt, rootStatements}
 use Rattle.soundness.proofs.Files.{subtree-file}
 use Rattle.table.specs.Answer.{Answer, accepted, refused, andThen, refusedAt, refusedAfter}
 use Rattle.table.specs.Check.{wants, nodeFits, stretchOf, entryCheck, onNode}
-use Rattle.table.specs.Carrying.{fileAt, FileOf, CarriesFile}
+use Rattle.table.specs.Carrying.{fileAt, CarriesFile}
 use Rattle.table.specs.declared.Wanted.{Wanted}
 use Rattle.table.specs.declared.Wanted.the-variants.{Parameters, Call, Assignment, Expression}
 use Rattle.table.proofs.Carried.{Before, entry-before}

@@ -13,7 +13,7 @@ use Rattle.table.specs.Carrying.{CarriesFile}
 use Rattle.table.specs.declared.Wanted.the-variants.{Assignment, Expression}
 use Rattle.table.proofs.Filed.{All, Told, Filed, all-tree, all-row, told-at, told-then, told-if, node-files}
 use Rattle.targets.specs.Targets.{isLeaf, isGroup, «check_assign», checkEach, leaves, counted, modifyCheck}
-use Rattle.targets.specs.Targets.{ofFirst, typeCheck, «check_assignment»}
+use Rattle.targets.specs.Targets.{typeCheck, «check_assignment»}
 use Rattle.targets.specs.Jobs.{targetOf, assignmentOf}
 
 module _ (P : Node → Type 0) where

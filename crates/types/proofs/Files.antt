@@ -17,13 +17,14 @@ use Rattle.dialect.specs.Rows.{permitsTypes}
 use Rattle.table.specs.Numbers.{dotInType, expectingPath, dotTypeBan, invalidType, emptyListInType, typesDisabled}
 use Rattle.table.specs.Numbers.{shortBuffer, wrongNode}
 use Rattle.table.specs.Answer.{Answer, accepted, refused, andThen, refusedAt}
-use Rattle.table.specs.Check.{Handing, inDialect, turnedAway, givenOf, inGiven, nodeFits, nodeCheck, stretchOf}
+use Rattle.table.specs.Check.{Handing, inDialect, turnedAway, givenOf, inGiven, nodeFits, stretchOf}
 use Rattle.table.specs.Carrying.{CarriesFile}
 use Rattle.table.specs.declared.Wanted.the-variants.{Expression}
 use Rattle.table.proofs.Carried.{Before, before-test, given-before}
 use Rattle.table.proofs.Checking.{Clean}
 use Rattle.table.proofs.Entering.{given-known}
-use Rattle.table.proofs.Filed.{All, Told, Filed, all-tree, all-row, told-at, told-then, told-if, told-before, fits-filed}
+use Rattle.table.proofs.Filed.{All, Told, Filed, all-tree, all-row, told-at, told-then, told-if, told-before}
+use Rattle.table.proofs.Filed.{fits-filed}
 use Rattle.table.proofs.Filed.{files-told}
 use Rattle.types.specs.Forms.{formOf, readsAs, readsOf, argumentsOnly, ofChild}
 use Rattle.types.specs.Paths.{banned, objectPath, basePath, «unpack_path»}

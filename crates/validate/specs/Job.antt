@@ -34,6 +34,6 @@ errorsOf t names bytes = errorsIn (givenOf t names bytes) names t
 abbrev pub moduleOf : List ℕ → List ℕ → List ℕ → Answer
 moduleOf t names bytes = inGiven (givenOf t names bytes) (λ _. accepted (length (errorsOf t names bytes) ∷ []))
 
--- the list of words at exit, three an error
+-- the list of words at exit, four an error
 abbrev pub errorsAfter : List ℕ → List ℕ → List ℕ → List ℕ → List ℕ
 errorsAfter t names bytes words = stored Module (errorsOf t names bytes) words

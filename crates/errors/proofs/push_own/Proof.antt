@@ -1,4 +1,4 @@
--- `errors::push_own` meets its contract: the error in four words, or nothing. Assumes nothing.
+-- `errors::push_own` meets its contract: the error with its node, or nothing. Assumes nothing.
 use borrow.Author.Tests.{not-true, not-false}
 use Rattle.errors.proofs.Storing.{push-left, push-own}
 use borrow.Author.Needs.{needs}

@@ -18,5 +18,6 @@ put-refused-spec =
     (λ c κs. search needs)
     (λ c. search needs)
     (λ c. search needs)
+    (λ c. search needs)
     (λ c. search (needs, c .before .r2 .given .1))  -- returns-2
     (λ c. search (spanned-number, spanned-laid)))  -- returns-3

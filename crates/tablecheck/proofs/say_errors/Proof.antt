@@ -4,10 +4,10 @@ use Rattle.tablecheck.proofs.say_errors.Statement.{statement}
 use Rattle.tablecheck.proofs.say_errors.Tie as tie
 
 abbrev Inv-loop : tie.InvT-loop
-Inv-loop errors total left₀ more₀ t5 t6 t7 left more = Unit {0}
+Inv-loop errors total left₀ more₀ left more = Unit {0}
 
 abbrev μ-loop : tie.MeasureT-loop
-μ-loop errors total left₀ more₀ t5 t6 t7 left more = more
+μ-loop errors total left₀ more₀ left more = more
 
 pub say-errors-spec : {M : Type 1} → statement M
 say-errors-spec =
@@ -18,15 +18,7 @@ say-errors-spec =
     (λ c. search needs)
     (λ c. search needs)
     (λ c. search needs)
-    (λ c κs. search needs)
     (λ c. search needs)
-    (λ c κs. search needs)
-    (λ c. search needs)
-    (λ c κs. search needs)
-    (λ c. search needs)
-    (λ c κs. search needs)
-    (λ c. search needs)
-    (λ c κs. search needs)
     (λ c. search needs)
     (λ c κs. search needs)
     (λ c. search needs)
