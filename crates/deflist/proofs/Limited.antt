@@ -1,8 +1,8 @@
 -- The limit beside unpack: one test in `limited` decides. A list of at most 48 entries has unpack's outcome
--- (`limited-short`), a longer one is refused with 19 at the record that owns it (`limited-long`). So an accepted outcome
--- is unpack's and its list is short (`limited-accepted`), 11 is unpack's (`limited-repeated`, `limited-other`), and no
--- internal error arises (`limited-internal`). Since unpack's own numbers are at most 18 (`unpack-low`), 19 says that a
--- list is long (`limited-nineteen`). Assumes nothing.
+-- (`limited-short`), a longer one is refused with 19 at the record that owns it (`limited-long`). So an accepted
+-- outcome is unpack's and its list is short (`limited-accepted`), 11 is unpack's (`limited-repeated`, `limited-other`),
+-- and no internal error arises (`limited-internal`). Since unpack's own numbers are at most 18 (Twice: `refused-low`),
+-- 19 says that a list is long (`limited-nineteen`). Assumes nothing.
 use mathlib.Core.Path.{_≡_, refl, sym, _∙_}
 use mathlib.Core.Bool.{Bool, true, false}
 use mathlib.Core.List.{List}

@@ -1,8 +1,8 @@
 // The written list, read from the children of a def or lambda: each next parameter is found by stepping over the one
 // before it.
+use crate::MOST_PARAMETERS;
 use crate::Written;
 use crate::WrittenPlace;
-use crate::MOST_PARAMETERS;
 use crate::entry;
 ghost use mathlib.Core.Path.{_≡_};
 ghost use Prim.Native.Nat.{_+_, _<_, _^_};

@@ -1,8 +1,8 @@
 -- What taking errors out does to the lists that the module pass is made of: to two lists joined, to a list of one
 -- number, to the one error of a list. A list of one number goes whole or stays whole (`without-one`, `without-every`).
--- The error of a list always stays: validate's `list-left` says that it is one of a parameter list, and those numbers lie
--- below 50 (`list-stays`), while the opened ones are 50 and more. Induction on the list of errors, or of parameters.
--- Assumes nothing.
+-- The error of a list always stays: validate's `list-left` says that its number is one of parameter lists, and those
+-- lie below 50 (`list-stays`), while the opened ones are 50 and more. Induction on the list of errors, or of
+-- parameters. Assumes nothing.
 use mathlib.Core.Path.{_≡_, refl, ap, _∙_}
 use mathlib.Core.Bool.{Bool, true, false, not}
 use mathlib.Core.List.{List, [], _∷_, _++_}

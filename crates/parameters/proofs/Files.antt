@@ -1,7 +1,7 @@
 -- The parameter job refuses at the def or lambda itself (19), or at parameters of its written list (`unpack-at`). All
--- are nodes of the tree that it reads (`written-all`), so that its refusals carry the number of the node that they name (table's `node-files`). The
--- induction is on the written list: each parameter in its turn refuses at itself, and after the last one 17 and 18 are
--- at one that is already read. Assumes nothing.
+-- are nodes of the tree that it reads (`written-all`), so that its refusals carry the number of the node that they name
+-- (table's `node-files`). The induction is on the written list: each parameter in its turn refuses at itself, and after
+-- the last one 17 and 18 are at one that is already read. Assumes nothing.
 use mathlib.Core.Bool.{Bool, true, false}
 use mathlib.Core.List.{List, [], _∷_, _++_}
 use Prim.Native.Nat.{ℕ, zero, suc}

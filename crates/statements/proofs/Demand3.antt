@@ -86,9 +86,10 @@ pub accepted-iff-cut : (t names : List ℕ) (node : ℕ) (ms : List ℕ)
     × Defaulted (firsts (c .before) ++ c .middle)))
 accepted-iff-cut t names node ms s w k r =
     let e = theorem.accepted-iff-cut t names node ms (given s w k r) in (
-      λ x. let l = e .0 x in let y = l .1 in
-          (l .0,
-          (y .0, y .1 .joins, y .1 .good .slash, y .1 .good .star, y .1 .good .distinct, y .1 .good .defaulted)),
+      λ x. let l = e .0 x in let y = l .1 in (
+        l .0,
+        (y .0, y .1 .joins, y .1 .good .slash, y .1 .good .star, y .1 .good .distinct, y .1 .good .defaulted),
+      ),
       λ x. let y = x .1 in e .1 (x .0, (y .0, cutOf (y .1) (y .2) (y .3) (y .4) (y .5))),
     )
 
