@@ -1,8 +1,6 @@
 -- The limit over the whole job. 1 to 4, 6 and 7 come first, and then the one test of `limited`: a list of more than 48
 -- entries gives 19 at the def or lambda (`long-refused`). 19 is given for nothing else, because unpack's own numbers
 -- are at most 18 (`nineteen-long`). Assumes nothing.
-use unpack's own numbers are
--- at most 18 (`nineteen-long`). Assumes nothing.
 use mathlib.Core.Path.{_≡_, refl}
 use mathlib.Core.Bool.{true}
 use mathlib.Core.List.{List, []}
