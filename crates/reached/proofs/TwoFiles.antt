@@ -32,8 +32,8 @@ pub two-files : (bindOf table names 5 1 4 ≡ refused emptyParameter (2 ∷ 6 �
 unfolding bindOf wordsOf entryOf listsBound argumentsAt isDef binding along starCheck emptyCheck flats flatsFrom
     countedOf listOf written paramsIn paramOf kindAt slashFrom hasName firstSame repeats advance step finish run start
     unpack limited argumentKind argumentOf argumentsIn argumentHas firstArgument repeatsName checkArgument advanceCall
-    runCall unpackCall entryCheck wants nodeFits stretchOf checkOf lengthSound field sizeOf kidsOf restOf forestIn forest
-    count countTree nameOf same kindIn kindOf nameSound spanSound sourceSound fileSound endsBy topOf filesOf
+    runCall unpackCall entryCheck wants nodeFits stretchOf checkOf lengthSound field sizeOf kidsOf restOf forestIn
+    forest count countTree nameOf same kindIn kindOf nameSound spanSound sourceSound fileSound endsBy topOf filesOf
     fieldsSound wholeTrees classes permitted wanted permits kidsSound soundNode soundAt rootSound contextOf
     recordSound firstFalse firstUnsound classWeight weight firstDeep deepIn
 two-files = (refl, refl)
