@@ -7,7 +7,7 @@
 #define MOST_BYTES 59905 /* one more than a table file has */
 
 static unsigned char file[MOST_BYTES];
-static uint32_t errors[3 * 2 * 2100];
+static uint32_t errors[STARLARK_ERROR_WORDS * STARLARK_ERRORS];
 
 int main(int argc, char **argv) {
     uint32_t out[12];

@@ -11,7 +11,8 @@
  *
  * docs/FORMAT.md has the format of tables and table files, docs/numbers.tsv all numbers, starlark_names.h both in words.
  *
- * A table is `table_len` bytes, 24 for each node, in preorder; `names` are the bytes that its names lie in. Any bytes may
+ * A table is `table_len` bytes, 24 for each node, in preorder; `names` are the bytes that its names lie in. It may join several scripts: bytes 18 and
+ * 19 of a node are its source file number, 1 to STARLARK_LAST_FILE, the same in all of a top-level statement, and 0 in a root Statements. Any bytes may
  * come in: a table that is not sound is refused, and no input makes a function read or write outside what it is lent.
  *
  * What every function does
@@ -23,7 +24,8 @@
  *   3, 4          out[0] the node
  *   1, 2, 5, 6, 7 nothing; so for 70 to 75, 90 and 91
  *   all others    out[0] the node, out[1] and out[2] begin and end of its span (22: the name's span), out[3] STARLARK_NONE; but for 11 and 22,
- *                 a name that stands twice, out[3] is the node of the first parameter (11) or argument (22) of the list that has it
+ *                 a name that stands twice, out[3] is the node of the first parameter (11) or argument (22) of the list that has it;
+ *                 out[4] the source file number that the node has: its span is one in that script
  *   Every word that is not named keeps its value. So do all bytes and words of a lent buffer when a job refuses.
  *
  * What the caller must see to: nothing checks it
@@ -47,9 +49,9 @@ extern "C" {
 
 /* The version of this interface. */
 #define STARLARK_VERSION_MAJOR 0
-#define STARLARK_VERSION_MINOR 2
+#define STARLARK_VERSION_MINOR 3
 #define STARLARK_VERSION_PATCH 0
-#define STARLARK_VERSION "0.2.0"
+#define STARLARK_VERSION "0.3.0"
 
 /* What a function returns that accepts. */
 #define STARLARK_ACCEPTED 0
@@ -202,14 +204,23 @@ enum starlark_shape {
 #define STARLARK_NAME_BYTES 8064
 #define STARLARK_DEPTH 64
 
+/* The largest source file number. */
+#define STARLARK_LAST_FILE 999
+
 /* The bytes of a table file: a multiple of 512, and a buffer of so many is never too short for one. */
 #define STARLARK_FILE_BYTES 59904
 
 /* No module has more errors: two for each node. */
 #define STARLARK_ERRORS 4200
 
+/* How many words of a list an error of a module has: number, source file number, begin, end. */
+#define STARLARK_ERROR_WORDS 4
+
 /* No audit has more: four for each node. */
 #define STARLARK_AUDIT_ERRORS 8400
+
+/* How many words of a list an error of an audit has: those of a module's, then the node. */
+#define STARLARK_AUDIT_WORDS 5
 
 /* Stack enough for every job, twice over. */
 #define STARLARK_STACK_BYTES (1 << 18)
@@ -225,12 +236,13 @@ uint32_t starlark_table(const uint8_t *table, size_t table_len, const uint8_t *n
  * Accepted: out[0..10) begin and end of pos_only, pos_or_named, args, named_only and kwargs, as indices in the list without its marks
  * (no args: the empty range at the end of pos_or_named; no kwargs: the empty range at the count); out[10] the count.
  * modes[i] is then the mode of parameter i (enum starlark_mode). The buffer needs a byte for each
- * written parameter, marks counted (else 7); bytes past the count stay. */
+ * written parameter, marks counted (else 7); bytes past the count stay. 10 to 18 have the parameter's source file number in out[4]. */
 uint32_t starlark_params(const uint8_t *table, size_t table_len, const uint8_t *names, size_t names_len, size_t node,
                          uint8_t *modes, size_t modes_len, uint32_t *out);
 
 /* The arguments of the Call at `node`: 1 to 4, 6, 20 to 24.
- * Accepted: out[0] positional, out[1] named, out[2] the place of `*`, out[3] the place of `**`, from 0, or STARLARK_NONE. */
+ * Accepted: out[0] positional, out[1] named, out[2] the place of `*`, out[3] the place of `**`, from 0, or STARLARK_NONE.
+ * 20 to 24 have the argument's source file number in out[4]. */
 uint32_t starlark_call(const uint8_t *table, size_t table_len, const uint8_t *names, size_t names_len, size_t node,
                        uint32_t *out);
 
@@ -238,35 +250,39 @@ uint32_t starlark_call(const uint8_t *table, size_t table_len, const uint8_t *na
  * Accepted: out[0] the number of parameters, marks omitted, out[1] the number of arguments. The list then begins with a word for each
  * parameter, the node of the argument that it takes, or 0 for its default and for `*args` and `**kwargs`; and then a word for each argument,
  * the index of the parameter that it reached. It needs a word for each written parameter, marks counted, and for each argument (else 7);
- * words past the answer stay. `list_len` counts words. */
+ * words past the answer stay. `list_len` counts words. The two nodes may be of different source files: 10 to 18 and 84 have the Def's number in out[4],
+ * 20 to 24 and 80 to 83 the Call's. */
 uint32_t starlark_bind(const uint8_t *table, size_t table_len, const uint8_t *names, size_t names_len, size_t call, size_t def,
                        uint32_t *list, size_t list_len, uint32_t *out);
 
-/* Whether the expression at `node` is a target: 1 to 4, 6, 30. Accepted: out[0] its Identifier, Dot and Index leaves. */
+/* Whether the expression at `node` is a target: 1 to 4, 6, 30. Accepted: out[0] its Identifier, Dot and Index leaves.
+ * 30 has the source file number in out[4]. */
 uint32_t starlark_target(const uint8_t *table, size_t table_len, const uint8_t *names, size_t names_len, size_t node,
                          uint32_t *out);
 
-/* The assignment at `node`: 1 to 4, 6, 31, 30, 32, 33. Accepted: out[0] its target's leaves. */
+/* The assignment at `node`: 1 to 4, 6, 31, 30, 32, 33. Accepted: out[0] its target's leaves. 30 to 33 have the source file
+ * number in out[4]. */
 uint32_t starlark_assignment(const uint8_t *table, size_t table_len, const uint8_t *names, size_t names_len, size_t node,
                              uint32_t *out);
 
 /* Whether the expression at `node` is a type in a dialect (nine bytes, or none for Extended): 1 to 7, 45, 40 to 44. Accepted: nothing.
  * shapes[i] is then the shape of the node i places behind `node`, where it is read as a type or argument (enum starlark_shape);
- * the other bytes stay. The buffer needs a byte for each node of the type (else 7). */
+ * the other bytes stay. The buffer needs a byte for each node of the type (else 7). 40 to 45 have the source file number in out[4]. */
 uint32_t starlark_type(const uint8_t *table, size_t table_len, const uint8_t *names, size_t names_len, const uint8_t *dialect,
                        size_t dialect_len, size_t node, uint8_t *shapes, size_t shapes_len, uint32_t *out);
 
 /* The module pass under a dialect (nine bytes, or none for Extended): 1 to 5. Accepted: out[0] how many errors the module has, at most
- * STARLARK_ERRORS. Three words of `errors` for each: number (10 to 18, 50 to 61), begin and end of the span. The first errors that fit whole
- * are stored, the other words stay; `errors_len` counts words, and a list that is too short is no refusal. */
+ * STARLARK_ERRORS. STARLARK_ERROR_WORDS words of `errors` for each: number (10 to 18, 50 to 61), source file number, begin and end of the span.
+ * The first errors that fit whole are stored, the other words stay; `errors_len` counts words, and a list that is too short is no refusal. */
 uint32_t starlark_module(const uint8_t *table, size_t table_len, const uint8_t *names, size_t names_len, const uint8_t *dialect,
                          size_t dialect_len, uint32_t *errors, size_t errors_len, uint32_t *out);
 
 /* The audit under a dialect (nine bytes, or none for Extended), every job on every node that it fits: 1 to 5. Accepted: out[0] how many errors there
- * are, at most STARLARK_AUDIT_ERRORS; 0 says that the module pass and every job accept. Four words of `errors` for each:
- * number (10 to 18, 20 to 24, 30 to 33, 40 to 45, 50 to 61), node, begin and end of the span. First the module pass's without 10 to 18; then, node
- * by node, what is refused there: the parameter list of a Def or Lambda, the arguments of a Call, an Assign or AssignModify, the target of a For, a type
- * (of a return, a parameter or an assignment). The first errors that fit whole are stored, the other words stay; a list that is too short is no refusal. */
+ * are, at most STARLARK_AUDIT_ERRORS; 0 says that the module pass and every job accept. STARLARK_AUDIT_WORDS words of `errors` for each:
+ * number (10 to 18, 20 to 24, 30 to 33, 40 to 45, 50 to 61), source file number, begin and end of the span, node. First the module pass's without
+ * 10 to 18; then, node by node, what is refused there: the parameter list of a Def or Lambda, the arguments of a Call, an Assign or AssignModify, the
+ * target of a For, a type (of a return, a parameter or an assignment). The first errors that fit whole are stored, the other words stay; a list that
+ * is too short is no refusal. */
 uint32_t starlark_audit(const uint8_t *table, size_t table_len, const uint8_t *names, size_t names_len, const uint8_t *dialect,
                         size_t dialect_len, uint32_t *errors, size_t errors_len, uint32_t *out);
 
@@ -293,7 +309,8 @@ uint32_t starlark_read(const uint8_t *file, size_t file_len, uint8_t *table, siz
                        uint32_t *out);
 
 /* The module pass over a table file of `file_len` bytes, under the dialect that it holds: 70 to 75, 3 to 5. Accepted: out[0] how many errors the
- * module has, out[1] the nodes. Three words of `errors` for each, as starlark_module has them: number (10 to 18, 50 to 61), begin and end. */
+ * module has, out[1] the nodes. STARLARK_ERROR_WORDS words of `errors` for each, as starlark_module has them: number (10 to 18, 50 to 61), source
+ * file number, begin and end. */
 uint32_t starlark_check_file(const uint8_t *file, size_t file_len, uint32_t *errors, size_t errors_len, uint32_t *out);
 
 #ifdef __cplusplus

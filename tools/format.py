@@ -107,7 +107,8 @@ def of_limits(text):
     header = (ROOT / "include" / "starlark.h").read_text()
     said = {name: int(number) for name, number in re.findall(r"^#define STARLARK_(\w+) (\d+)$", header, re.M)}
     wanted = {"nodes": said["NODES"], "bytes of the table": said["NODES"] * said["NODE_BYTES"], "name bytes": said["NAME_BYTES"],
-              "size": said["NODES"], "depth": said["DEPTH"], "bytes of a table file": said["FILE_BYTES"]}
+              "size": said["NODES"], "source file number of a top-level statement": said["LAST_FILE"], "depth": said["DEPTH"],
+              "bytes of a table file": said["FILE_BYTES"]}
     found = {row[0].partition(",")[0]: int(row[2].replace(",", "")) for row in rows(text, "Limit | Least")}
     return [f"the limit of {what} is {most:,}" for what, most in wanted.items() if found.get(what) != most]
 
@@ -126,12 +127,13 @@ def hexed(part):
 
 def fields_of(record, names, at):
     """A record in words: its fields that are not 0."""
-    kind, detail, length, start, begin, end, size, _, position = struct.unpack("<BBHIIIHHI", record)
+    kind, detail, length, start, begin, end, size, file, position = struct.unpack("<BBHIIIHHI", record)
     told = [f"{WORD[kind]}" + (f", detail {detail}" if detail else "")]
     if length:
         told.append(f"name `{names[start:start + length].decode()}`: {length} byte{'s' * (length > 1)} from {start} on")
     told.append(f"bytes {begin} to {end}")
     told.append(f"{size} record{'s' * (size > 1)}" + (f": nodes {at} to {at + size - 1}" if size > 1 else ""))
+    told.append(f"source file {file}")
     return "; ".join(told + [f"its name at {position}"] * (WORD[kind] == "Named"))
 
 
@@ -163,7 +165,7 @@ def example():
         terms = [f"{p + 1} · {byte}" for p, byte in enumerate(one[:508]) if byte]
         told = f", that is {' + '.join(terms)}" if len(terms) < 9 else ""
         lines.append(f"| {at + 508} to {at + 511} | `{hexed(one[508:])}` | the sum: {total:,}{told} |")
-    lines += ["", "The records, field by field: kind, detail, name length, name start, begin, end, size, zero, name position.", "",
+    lines += ["", "The records, field by field: kind, detail, name length, name start, begin, end, size, file, name position.", "",
               "| Node | Hexadecimal | What it is | In the script |", "|---|---|---|---|"]
     for at in range(nodes):
         record = table[24 * at:24 * at + 24]

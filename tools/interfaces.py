@@ -18,9 +18,11 @@ HEADER, NAMES = ROOT / "include" / "starlark.h", ROOT / "include" / "starlark_na
 RUST, RAW = ROOT / "bindings" / "rust", ROOT / "bindings" / "raw"
 PYTHON = ROOT / "python" / "ducatmuffin"
 # the header's constants that the wrapper has too, and where the code has them
-SHARED = ["WORDS", "NODES", "NODE_BYTES", "NAME_BYTES", "DEPTH", "FILE_BYTES", "ERRORS", "AUDIT_ERRORS", "STACK_BYTES", "DIALECT_BYTES"]
+SHARED = ["WORDS", "NODES", "NODE_BYTES", "NAME_BYTES", "DEPTH", "FILE_BYTES", "ERRORS", "ERROR_WORDS", "AUDIT_ERRORS", "AUDIT_WORDS", "STACK_BYTES",
+          "DIALECT_BYTES"]
 IN_CODE = {"NODES": "table/src/lib.rt: MOST_NODES", "NAME_BYTES": "table/src/lib.rt: MOST_NAMES", "DEPTH": "table/src/depth.rt: MOST_DEPTH",
-           "NODE_BYTES": "forest/src/lib.rt: RECORD"}
+           "NODE_BYTES": "forest/src/lib.rt: RECORD", "LAST_FILE": "soundness/src/sound.rt: LAST_FILE", "ERROR_WORDS": "errors/src/lib.rt: WIDTH",
+           "AUDIT_WORDS": "errors/src/lib.rt: WIDTH_WITH_NODE"}
 # the bytes that starlark_params and starlark_type store, as crates/deflist/specs and crates/types/specs define them
 MODES = ["PosOnly", "PosOrName", "NameOnly", "Args", "Kwargs"]
 SHAPES = ["Ellipsis", "Path", "Index", "Index2", "List", "Union", "Tuple"]
@@ -222,10 +224,20 @@ def constants():
         if not found or value(found[1]) is None or value(found[1]) != value(said.get(name, "")):
             faults.append(f"bindings/rust/src/lib.rs: {name} is not the header's STARLARK_{name}")
     for name, (path, of) in {name: place.split(": ") for name, place in IN_CODE.items()}.items():
-        found = re.search(rf"^(?:pub )?const {of}: \w+ = (.*);", (CRATES / path).read_text(), re.M)
-        if not found or value(found[1]) != value(said.get(name, "")):
+        found = code_value((CRATES / path).read_text(), of)
+        if found is None or found != value(said.get(name, "")):
             faults.append(f"include/starlark.h: STARLARK_{name} is not {of} of crates/{path}")
     return faults
+
+
+def code_value(code, name):
+    """The number of a constant of the code: 4, or another constant plus a number; None where it is neither."""
+    found = re.search(rf"^(?:pub )?const {name}: \w+ = (.*);", code, re.M)
+    added = re.fullmatch(r"([A-Z_]+) \+ (\d+)", found[1]) if found else None
+    if added:
+        base = code_value(code, added[1])
+        return None if base is None else base + int(added[2])
+    return value(found[1]) if found else None
 
 
 def stored():

@@ -2,13 +2,14 @@
 """Cases for each kind of record, made of document 01's own sentences, with the answers that these demand.
 
 kinds.py            write crates/cases/kinds.txt (cases in words) and, below its heading, the end of crates/cases/stdout (their answers)
-kinds.py --check    only say whether they are what the sentences give, and, where document 01 is at hand, whether it has the sentences
+kinds.py --check    only say whether they are what the sentences give, and, where documents 01 and 02 are at hand, whether they have the sentences
 
 The sentences stand in crates/cases/document01.txt. They are read here by themselves: nothing is taken from the definitions or the code,
 so a mistake that stands in both of them shows. Of each kind and detail: children as they must be, and with one dropped, changed or added,
 or two; the largest detail and one more; a name where none may be, and none where one must be; the kind in the place of each class.
 And each kind and detail with all that stands under it at the largest depth and one deeper, counted as document 02 has it (W-206): under
-statements or expressions alone, and with parameters and arguments of every kind on the way.
+statements or expressions alone, and with parameters and arguments of every kind on the way. And each kind with source file numbers on both
+sides of each limit (W-208): as the root, as its child and further below, where the number of its top-level statement is the right one.
 """
 import itertools
 import re
@@ -18,9 +19,10 @@ from repository import CRATES, ROOT
 from tables import tables, trees
 
 FOLDER = CRATES / "cases"
-DOCUMENT = ROOT.parent / "shared" / "docs" / "01-scope.md"
+DOCUMENTS = [ROOT.parent / "shared" / "docs" / name for name in ("01-scope.md", "02-change-requests.md")]
 HEADING = "# 3: each kind, by document 01's sentences (made by tools/kinds.py)"
 DEEP = "# 4: each kind at the largest depth and one deeper, by document 02's sentence (made by tools/kinds.py)"
+FILES = "# 3: each kind with source file numbers on both sides of each limit, by document 02's sentences (made by tools/kinds.py)"
 NUMBER = tables.KIND
 WORD = {number: word for word, number in NUMBER.items()}
 
@@ -251,9 +253,52 @@ def deep_of_kind(kind, kinds, cases):
                     cases.add(f"{name}, depth {deepest}, {way}", tree, over[0] if over else None, number=4)
 
 
+def first_wrong_file(tree, limits):
+    """The first record whose source file number is wrong, or None. Down the tree, as document 02 says it: a root Statements has 0 and its
+    children are the top-level statements; another root is one itself; each has a number within the limits, and all under it has the same."""
+    root, = trees(tree)
+    nodes = list(tables.preorder([root]))
+    tops = root.children if root.kind == NUMBER["Statements"] else [root]
+    right = {id(node): {top.fields["file"]} for top in tops for node in tables.preorder([top])}
+    right.update({id(top): range(limits[0], limits[1] + 1) for top in tops})
+    right.setdefault(id(root), {0})
+    return next((at for at, node in enumerate(nodes) if node.fields["file"] not in right[id(node)]), None)
+
+
+def numbered(tree, file):
+    """A tree in words, each record with this source file number."""
+    return re.sub(r"\((\w+(?::\d+)?)", rf"(\1 file={file}", tree)
+
+
+def files_of_kind(kind, limits, cases):
+    name = f"{kind.number} {WORD[kind.number]}"
+    record = kind.text(0, min(kind.met(0), key=len))
+    around = PLACE[kind.own][0]
+    both_sides = sorted({beside for limit in limits for beside in (limit - 1, limit)} | {limits[1] + 1})
+
+    def add(label, tree):
+        cases.add(f"{name}, {label}", tree, first_wrong_file(tree, limits))
+
+    for file in both_sides:
+        if kind.own == "statement":
+            add(f"file {file} as the root", numbered(record, file))
+            add(f"file {file} under a root Statements", f"(Statements file=0 {numbered(record, file)})")
+            add(f"file {file} under a root Statements that has 1", f"(Statements file=1 {numbered(record, file)})")
+    for top in limits:
+        for file in (top - 1, top, top + 1):
+            one = numbered(record, top).replace(f"file={top}", f"file={file}", 1)
+            below = numbered(around.format("{}"), top).format(one)
+            if kind.own == "statement":
+                below = f"(Statements file={top} {one})"
+            add(f"file {file} in a statement of {top}", f"(Statements file=0 {below})")
+            if kind.own != "statement":
+                add(f"file {file} in a root of {top}", below)
+
+
 def made(text):
     """The cases and their answers."""
     kinds, cases = read(text), Cases()
+    limits = [int(n) for n in re.search(r"a source file number from (\d+) to (\d+);", text).groups()]
     for number in sorted(kinds):
         of_kind(kinds[number], cases)
     for number in [n for n in range(max(kinds) + 2) if n not in kinds] + [255]:
@@ -261,6 +306,9 @@ def made(text):
     cases.head(DEEP)
     for number in sorted(kinds):
         deep_of_kind(kinds[number], kinds, cases)
+    cases.head(FILES)
+    for number in sorted(kinds):
+        files_of_kind(kinds[number], limits, cases)
     return "\n".join(cases.cases) + "\n", "\n".join(cases.answers) + "\n", len(cases.trees)
 
 
@@ -273,14 +321,15 @@ def main():
     if "--check" not in sys.argv:
         for path, wanted in files.items():
             path.write_text(wanted)
-    faults = [f"{path.relative_to(ROOT)} is NOT what document 01's sentences give" for path, wanted in files.items()
+    faults = [f"{path.relative_to(ROOT)} is NOT what the documents' sentences give" for path, wanted in files.items()
               if not path.exists() or path.read_text() != wanted]
-    if DOCUMENT.exists():
-        document = DOCUMENT.read_text()
+    at_hand = all(document.exists() for document in DOCUMENTS)
+    if at_hand:
+        documents = "".join(document.read_text() for document in DOCUMENTS)
         quoted = [line for line in text.splitlines() if not line.startswith("#")]
-        faults += [f"document 01 has no such words: {line}" for line in quoted if line not in document]
-    where = "which stand in it" if DOCUMENT.exists() else "which could not be held to it here"
-    print("\n".join(faults) or f"crates/cases: {count} cases and answers are what document 01's sentences give, {where}")
+        faults += [f"documents 01 and 02 have no such words: {line}" for line in quoted if line not in documents]
+    where = "which stand in them" if at_hand else "which could not be held to them here"
+    print("\n".join(faults) or f"crates/cases: {count} cases and answers are what the sentences of documents 01 and 02 give, {where}")
     return 1 if faults else 0
 
 

@@ -3,7 +3,8 @@
 
 A block of lines that are indented by four spaces, after the line '<!-- shown: COMMAND -->', is the standard output of COMMAND, run at the
 root. ROOM in a command is a temporary folder. README's first command is such a block without the mark (a reader sees no comment in it), and is
-listed here. Status 1, with a line for each difference, where one differs; so where a document shows nothing.
+listed here. So are files of samples/ that hold what a command prints. Status 1, with a line for each difference, where one differs; so where a
+document shows nothing.
 """
 import pathlib
 import re
@@ -15,13 +16,21 @@ import tempfile
 ROOT = pathlib.Path(__file__).resolve().parent.parent
 DOCUMENTS = ("docs/COMMANDS.md",)
 MARKED = re.compile(r"^<!-- shown: (.+) -->\n((?:    .*\n|\n(?=    ))+)", re.M)
-FIRST = ("README.md", "./ducat check samples/example.table", "    nodes 6\n    13 14 15\n    55 20 25\n    errors 2\n")
+FIRST = ("README.md", "./ducat check samples/example.table", "    nodes 6\n    13 1 14 15\n    55 1 20 25\n    errors 2\n")
+
+# what the bindings of two joined scripts are, from their table and from the scripts themselves
+RECORDED = [("samples/joined.bound", "./ducat bind --script 1=samples/joined.1.star --script 2=samples/joined.2.star samples/joined.table"),
+            ("samples/joined.bound", "./ducat bind --join samples/joined.1.star samples/joined.2.star")]
 
 
 def printed(command, room):
     words = shlex.split(command.replace("ROOM", room))
     done = subprocess.run(words, cwd=ROOT, stdout=subprocess.PIPE, stderr=subprocess.DEVNULL)
-    return re.sub(r"^(?=.)", "    ", done.stdout.decode(), flags=re.M)
+    return indented(done.stdout.decode())
+
+
+def indented(text):
+    return re.sub(r"^(?=.)", "    ", text, flags=re.M)
 
 
 def main():
@@ -37,6 +46,7 @@ def main():
         shown += found
         if not found:
             faults.append(f"{document} shows nothing")
+    shown += [(path, command, indented((ROOT / path).read_text())) for path, command in RECORDED]
     with tempfile.TemporaryDirectory() as room:
         for document, command, block in shown:
             if printed(command, room) != block:

@@ -8,7 +8,8 @@ tables.py files TEXT...             the same for several: from X.txt to X.table
 Each with --check behind it: only say whether the file is what its text gives (exit status 1 if not). What is wrong with a text is reported
 with its line and kind, and nothing is written.
 
-A line of cases is 'label | what is asked | tree'. In cases names, details and positions may be anything: they want tables that are not sound.
+A line of cases is 'label | what is asked | tree'. In cases names, details, positions and source file numbers may be anything: they want tables
+that are not sound. A record has the source file number 1, a root Statements 0; file=N gives one record another.
 Cases of files have, between label and tree: bits= the dialect's numbers, names= so many name bytes, byte=P:V byte P becomes V and its
 block's sum is made anew, damage=P:V the same without a new sum, more= so many zeros after the file, cut= so many bytes of it.
 """

@@ -20,6 +20,14 @@ SAMPLES = ROOT / "samples"
 ROUNDS = 100  # how often the rescue is ended by KILL
 HUGE = 3 * 2 ** 30 + 5  # bytes of a sparse file
 MEMORY = 1000 * 2 ** 20  # bytes that the program may have for it
+# tables with wrong source file numbers: what the rescue prints, and what is kept
+NUMBERED = [
+    ("a child with a wrong source file number", "(Statements (Break) (Break file=9) (Break file=1000) (Break))",
+     "statements 2\nnodes 3\ndropped 2\nbytes 0\n", "(Statements (Break) (Break file=9))"),
+    ("a record below it with another number", "(Statements (Break) (If (Int) (Break file=2)) (Break))",
+     "statements 1\nnodes 2\ndropped 4\nbytes 0\n", "(Statements (Break))"),
+    ("the zeros of files before source file numbers", "(Statements (Break file=0) (Break file=0))", "refused 91\n", None),
+    ("a root with a source file number", "(Statements file=1 (Break))", "refused 91\n", None)]
 FAULTS = []
 TRIED = []
 
@@ -56,9 +64,9 @@ def largest():
 def check(room):
     """tablecheck on files of both sides of its limits, by name and from standard input."""
     whole = largest()
-    loads = "".join(f"{number} {i} {i + 1}\n" for i in range(3, 2100) for number in (58, 59))
+    loads = "".join(f"{number} 1 {i} {i + 1}\n" for i in range(3, 2100) for number in (58, 59))
     trials = [
-        ("the largest file", whole, "nodes 2100\n55 2099 2100\nerrors 1\n"),
+        ("the largest file", whole, "nodes 2100\n55 1 2099 2100\nerrors 1\n"),
         ("a byte more", whole + b"\0", "refused 75\n"),
         ("a byte less", whole[:-1], "refused 70\n"),
         ("more than is read", whole + bytes(100000), "refused 75\n"),
@@ -95,6 +103,10 @@ def rescue(room):
     rescued(room, "a whole file", SAMPLES / "take.table", "statements 3\nnodes 62\ndropped 0\nbytes 0\n", take)
     rescued(room, "a damaged header", SAMPLES / "damaged.table", "refused 90\n", b"old")
     rescued(room, "nothing to be kept", SAMPLES / "cut.table", "refused 91\n", b"old")
+    numbered = room / "numbered"
+    for words, tree, lines, kept in NUMBERED:
+        numbered.write_bytes(file_of(tree))
+        rescued(room, words, numbered, lines, file_of(kept) if kept else b"old")
     longer = room / "longer"
     longer.write_bytes(largest() + bytes(513))
     rescued(room, "the largest and 513 bytes", longer, "statements 2035\nnodes 2100\ndropped 0\nbytes 513\n", largest())

@@ -7,6 +7,8 @@ use judge::run;
 use judge::trees::Spans;
 use judge::trees::Trees;
 use model::answer::Answer;
+use model::answer::AUDIT_WORDS;
+use model::answer::ERROR_WORDS;
 use model::audit;
 use model::audit::Job;
 use model::audit::Place;
@@ -188,10 +190,9 @@ pub fn module(input: &'static Input, dialect: &'static [u8]) -> Routes {
     let mut port = Port::new();
     let number = port.module(&input.table, &input.names, dialect);
     let record = dialects::from_bytes(dialect);
-    let listed = run::Module::of(table).expect("a tree").validate(&record);
-    let answer = jobs::listed_answer(table, &listed);
+    let answer = run::Module::of(table).expect("a tree").judged(&record).whole.expect("one source file");
     must_agree(&port, number, &answer);
-    assert_eq!(port.errors[..3 * answer.errors.len()], answer.errors.concat()[..]);
+    assert_eq!(port.errors[..ERROR_WORDS * answer.errors.len()], answer.errors.concat()[..]);
     let ready = trees(table).statement(0).expect("a tree");
     let again = dialects::from_bytes(dialect);
     vec![
@@ -213,9 +214,9 @@ pub fn audit(input: &'static Input, dialect: &'static [u8]) -> Routes {
     let number = port.audit(table, names, dialect);
     let answer = jobs::audit(table, names, dialect);
     must_agree(&port, number, &answer);
-    assert_eq!(port.errors[..4 * answer.audited.len()], answer.audited.concat()[..]);
-    let judged = run::Audit::of(checked(input)).answer(&dialects::from_bytes(dialect));
-    assert!(judged == Ok(answer), "the crate agrees on what is measured");
+    assert_eq!(port.errors[..AUDIT_WORDS * answer.audited.len()], answer.audited.concat()[..]);
+    let judged = run::Audit::of(checked(input)).judged(&dialects::from_bytes(dialect)).expect("a tree");
+    assert!(judged.whole == Some(answer), "the crate agrees on what is measured");
     let places = audit::places(checked(input));
     let (mut each, mut module) = (Port::new(), Port::new());
     vec![

@@ -2,6 +2,7 @@
 
 use std::hint::black_box;
 
+use model::answer::ERROR_WORDS;
 use starlark_checks_raw::starlark_assignment;
 use starlark_checks_raw::starlark_audit;
 use starlark_checks_raw::starlark_bind;
@@ -31,7 +32,7 @@ pub struct Port {
 // In each call every pointer is to memory of the length beside it, and no two of them overlap.
 impl Port {
     pub fn new() -> Port {
-        Port { out: [0; 12], bytes: vec![0; 2_100], errors: vec![0; 3 * 4_200], file: vec![0; 59_904] }
+        Port { out: [0; 12], bytes: vec![0; 2_100], errors: vec![0; ERROR_WORDS * 4_200], file: vec![0; 59_904] }
     }
 
     pub fn table(&mut self, table: &[u8], names: &[u8]) -> u32 {

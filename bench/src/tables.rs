@@ -1,4 +1,4 @@
-//! Tables as a converter of scripts would write them: each name stands once in the name bytes.
+//! Tables as a converter of scripts would write them: each name stands once in the name bytes, and all is of source file 1.
 
 use std::collections::BTreeMap;
 
@@ -44,8 +44,8 @@ impl Tables {
         let (name_start, name_len) = if name.is_empty() { (0, 0) } else { self.name(name) };
         let begin = 9 * at as u32;
         let source = if kind == kind::NAMED { begin } else { 0 };
-        let record =
-            Record { kind, detail, name_len, name_start, begin, end: begin + 7, size: 1, reserved: 0, source };
+        let file = u16::from(at > 0 || kind != kind::STATEMENTS);
+        let record = Record { kind, detail, name_len, name_start, begin, end: begin + 7, size: 1, file, source };
         self.records.push(record);
         children(self);
         self.records[at].size = (self.records.len() - at) as u16;

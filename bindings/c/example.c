@@ -1,7 +1,10 @@
-/* Every job from C, accepted and refused, on one script. A word behind its name is where the table file of the script is put.
- *
+/* Every job from C, accepted and refused, on one table. A word behind its name is where the table file is put. The table joins two scripts. Source
+ * file 1 is
  *
  *     def f(a, /, b, *, c, **k): break
+ *
+ * and source file 2
+ *
  *     def g(a, b=1, c): break
  *     f(1, a=2, *x)
  *     f(*x, a=2)
@@ -27,6 +30,7 @@ enum { POSITIONAL = STARLARK_KIND_POSITIONAL, NAMED = STARLARK_KIND_NAMED, ARGS 
 
 static uint8_t table[64 * STARLARK_NODE_BYTES];
 static size_t nodes;
+static int source_file;
 static const char names[] = "abckfxinttype";
 #define standard STARLARK_DIALECT_STANDARD
 #define extended STARLARK_DIALECT_EXTENDED
@@ -39,7 +43,8 @@ static void put16(uint8_t *at, size_t value) {
     at[1] = value >> 8 & 255;
 }
 
-/* One node, its subtree `size` nodes long; node i has the span 10 i to 10 i + 7. `name` is a part of `names`, or "". Answers the node. */
+/* One node of the source file at hand, its subtree `size` nodes long; node i has the span 10 i to 10 i + 7. `name` is a part of `names`, or "". Answers
+ * the node. */
 static size_t node(int kind, int detail, size_t size, const char *name) {
     uint8_t *at = table + STARLARK_NODE_BYTES * nodes;
     at[0] = kind;
@@ -49,6 +54,7 @@ static size_t node(int kind, int detail, size_t size, const char *name) {
     put16(at + 8, 10 * nodes);
     put16(at + 12, 10 * nodes + 7);
     put16(at + 16, size);
+    put16(at + 18, source_file);
     if (kind == NAMED) put16(at + 20, 10 * nodes + 2);
     return nodes++;
 }
@@ -60,7 +66,7 @@ static int accepted(const char *job, uint32_t number, const uint32_t *out) {
     if (number == STARLARK_NUMBER_UNSOUND_RECORD || number == STARLARK_NUMBER_TOO_DEEP) {
         printf(" at node %u", out[0]);
     } else if ((number >= 10 && number < 70) || (number >= 80 && number < 90)) {
-        printf(" at node %u, bytes %u to %u", out[0], out[1], out[2]);
+        printf(" at node %u, file %u, bytes %u to %u", out[0], out[4], out[1], out[2]);
         if (out[3] != STARLARK_NONE) printf(", its name first at node %u", out[3]);
     }
     return number == STARLARK_ACCEPTED;
@@ -143,7 +149,7 @@ static void type(const char *words, const uint8_t *dialect, size_t dialect_lengt
 /* Errors in a list of `length` words, which hold 9. */
 static void module(const char *words, const uint8_t *dialect, size_t dialect_length, size_t length) {
     uint32_t out[STARLARK_WORDS];
-    uint32_t errors[16];
+    uint32_t errors[6 * STARLARK_ERROR_WORDS];
     for (size_t i = 0; i < length; i++) errors[i] = 9;
     if (accepted(words, starlark_module(TABLE, dialect, dialect_length, errors, length, out), out)) printf("%u errors", out[0]);
     printf(", list");
@@ -154,17 +160,18 @@ static void module(const char *words, const uint8_t *dialect, size_t dialect_len
 /* The first errors of the module, in words. */
 static void in_words(const uint8_t *dialect, size_t dialect_length) {
     uint32_t out[STARLARK_WORDS];
-    uint32_t errors[6];
-    starlark_module(TABLE, dialect, dialect_length, errors, 6, out);
-    for (size_t i = 0; i < 6; i += 3) {
-        printf("in words: %s at bytes %u to %u: %s\n", starlark_number_name(errors[i]), errors[i + 1], errors[i + 2], starlark_number_words(errors[i]));
+    uint32_t errors[3 * STARLARK_ERROR_WORDS];
+    starlark_module(TABLE, dialect, dialect_length, errors, 3 * STARLARK_ERROR_WORDS, out);
+    for (size_t i = 0; i < 3 * STARLARK_ERROR_WORDS; i += STARLARK_ERROR_WORDS) {
+        printf("in words: %s in file %u at bytes %u to %u: %s\n", starlark_number_name(errors[i]), errors[i + 1], errors[i + 2], errors[i + 3],
+               starlark_number_words(errors[i]));
     }
 }
 
 /* The audit in a list of `length` words, which hold 9. */
 static void audit(const char *words, const uint8_t *dialect, size_t dialect_length, size_t length) {
     uint32_t out[STARLARK_WORDS];
-    uint32_t errors[48];
+    uint32_t errors[10 * STARLARK_AUDIT_WORDS];
     for (size_t i = 0; i < length; i++) errors[i] = 9;
     if (accepted(words, starlark_audit(TABLE, dialect, dialect_length, errors, length, out), out)) printf("%u errors", out[0]);
     printf(", list");
@@ -235,7 +242,7 @@ static void read_file(const char *words, const uint8_t *dialect, size_t dialect_
 /* The errors of the script's file in a list of `length` words, which hold 9. */
 static void check_file(const char *words, const uint8_t *dialect, size_t dialect_length, size_t damaged, size_t length) {
     uint32_t out[STARLARK_WORDS];
-    uint32_t errors[20];
+    uint32_t errors[8 * STARLARK_ERROR_WORDS];
     static uint8_t file[STARLARK_FILE_BYTES];
     size_t bytes_there = script_file(file, dialect, dialect_length, damaged);
     for (size_t i = 0; i < length; i++) errors[i] = 9;
@@ -247,6 +254,7 @@ static void check_file(const char *words, const uint8_t *dialect, size_t dialect
 
 int main(int count, char **words) {
     node(STATEMENTS, 0, 63, "");
+    source_file = 1;
     size_t f = node(DEF, 0, 8, "");
     node(NORMAL, 0, 1, "a");
     node(SLASH, 0, 1, "");
@@ -255,6 +263,7 @@ int main(int count, char **words) {
     node(NORMAL, 0, 1, "c");
     node(KW_ARGS_PARAM, 0, 1, "k");
     node(BREAK, 0, 1, "");
+    source_file = 2;
     size_t g = node(DEF, 0, 6, "");
     node(NORMAL, 0, 1, "a");
     node(NORMAL, 2, 2, "b");
@@ -343,14 +352,14 @@ int main(int count, char **words) {
     type("two bytes for three nodes", extended, 9, good_type, 2);
     type("x.type", extended, 9, bad_type, 4);
     type("eight bytes of dialect", extended, 8, good_type, 4);
-    module("the module in the Standard dialect", standard, 9, 16);
-    module("a list of four words", standard, 9, 4);
-    module("in the Extended dialect", extended, 9, 16);
-    module("with no dialect, so in Extended", extended, 0, 16);
+    module("the module in the Standard dialect", standard, 9, 21);
+    module("a list of seven words", standard, 9, 7);
+    module("in the Extended dialect", extended, 9, 21);
+    module("with no dialect, so in Extended", extended, 0, 21);
     module("eight bytes of dialect", extended, 8, 4);
     in_words(extended, 9);
     audit("the audit in the Extended dialect", extended, 9, 48);
-    audit("a list of seven words", extended, 9, 7);
+    audit("a list of nine words", extended, 9, 9);
     audit("eight bytes of dialect", extended, 8, 4);
     write_file("the file in the Extended dialect", extended, 9, STARLARK_FILE_BYTES, count > 1 ? words[1] : NULL);
     write_file("with no dialect", extended, 0, STARLARK_FILE_BYTES, NULL);
@@ -371,8 +380,8 @@ int main(int count, char **words) {
     read_file("1,511 bytes", extended, 0, none, 1511, 13);
     read_file("12 bytes for 13 of names", extended, 0, none, 1512, 12);
     read_file("with a changed byte", extended, 9, 1600, 1512, 13);
-    check_file("the file in the Extended dialect, checked", extended, 9, none, 20);
-    check_file("with no dialect, a list of four words", extended, 0, none, 4);
+    check_file("the file in the Extended dialect, checked", extended, 9, none, 26);
+    check_file("with no dialect, a list of seven words", extended, 0, none, 7);
     check_file("with a changed byte", extended, 9, 600, 4);
     return 0;
 }

@@ -16,7 +16,8 @@ struct part {
     size_t length;
 };
 
-/* def f(a): break, then f(a): a table of nine nodes, each with its kind, size and name length; all names are byte 0 */
+/* def f(a): break, then f(a): a table of nine nodes, each with its kind, size and name length; all names are byte 0, and
+ * all nodes but the root are of source file 1 */
 static const uint8_t shape[9][3] = {{STARLARK_KIND_STATEMENTS, 9, 0}, {STARLARK_KIND_DEF, 3, 0},       {STARLARK_KIND_NORMAL, 1, 1},
                                     {STARLARK_KIND_BREAK, 1, 0},      {STARLARK_KIND_ASSIGN, 5, 0},    {STARLARK_KIND_IDENTIFIER, 1, 1},
                                     {STARLARK_KIND_CALL, 3, 0},       {STARLARK_KIND_IDENTIFIER, 1, 1}, {STARLARK_KIND_POSITIONAL, 1, 0}};
@@ -31,6 +32,7 @@ static void make_table(void) {
         at[0] = i < 9 ? shape[i][0] : STARLARK_KIND_IDENTIFIER;
         at[16] = i < 9 ? shape[i][1] + (i == 0 || i == ASSIGN || i == CALL || i == 8) : 1;
         at[2] = i < 9 ? shape[i][2] : 1;
+        at[18] = i > 0;
     }
 }
 

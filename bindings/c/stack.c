@@ -26,7 +26,7 @@ static uint8_t table[STARLARK_NODES * STARLARK_NODE_BYTES];
 static size_t nodes;
 static uint8_t names[STARLARK_NAME_BYTES];
 static uint8_t buffer[STARLARK_NODES];
-static uint32_t errors[4 * STARLARK_AUDIT_ERRORS];
+static uint32_t errors[STARLARK_AUDIT_WORDS * STARLARK_AUDIT_ERRORS];
 static uint32_t list[2 * STARLARK_NODES];
 static uint8_t file[STARLARK_FILE_BYTES];
 static uint32_t out[STARLARK_WORDS];
@@ -34,12 +34,13 @@ static uint32_t out[STARLARK_WORDS];
 static const uint8_t all_on[9] = {1, 1, 1, 1, 1, 2, 1, 1, 1};
 static const uint8_t all_off[9] = {0};
 
-/* Nodes are opened and closed; a node's size is filled in when it is closed. */
+/* Nodes are opened and closed; a node's size is filled in when it is closed. All are of source file 1; a root Statements has 0. */
 static size_t open_node(int kind, int detail) {
     uint8_t *at = table + STARLARK_NODE_BYTES * nodes;
     memset(at, 0, STARLARK_NODE_BYTES);
     at[0] = kind;
     at[1] = detail;
+    at[18] = nodes > 0 || kind != STATEMENTS;
     if (kind == IDENTIFIER || kind == NORMAL || kind == ARGS || kind == NAMED) {
         /* three bytes of a name of its own */
         at[2] = 3;
@@ -82,10 +83,10 @@ static void run_type(void) {
     number = starlark_type(table, STARLARK_NODE_BYTES * nodes, names, sizeof names, all_on, 9, job_node, buffer, sizeof buffer, out);
 }
 static void run_module(void) {
-    number = starlark_module(table, STARLARK_NODE_BYTES * nodes, names, sizeof names, all_on, 9, errors, 3 * STARLARK_ERRORS, out);
+    number = starlark_module(table, STARLARK_NODE_BYTES * nodes, names, sizeof names, all_on, 9, errors, STARLARK_ERROR_WORDS * STARLARK_ERRORS, out);
 }
 static void run_refusing(void) {
-    number = starlark_module(table, STARLARK_NODE_BYTES * nodes, names, sizeof names, all_off, 9, errors, 3 * STARLARK_ERRORS, out);
+    number = starlark_module(table, STARLARK_NODE_BYTES * nodes, names, sizeof names, all_off, 9, errors, STARLARK_ERROR_WORDS * STARLARK_ERRORS, out);
 }
 
 static void run_write(void) {
@@ -109,15 +110,15 @@ static void damage(void) {
 static void run_rescue(void) { number = starlark_rescue(damaged, damaged_bytes, file, sizeof file, out); }
 static void run_rescue_whole(void) { number = starlark_rescue(damaged, damaged_bytes + 1, file, sizeof file, out); }
 static void run_audit(void) {
-    number = starlark_audit(table, STARLARK_NODE_BYTES * nodes, names, sizeof names, all_on, 9, errors, 4 * STARLARK_AUDIT_ERRORS, out);
+    number = starlark_audit(table, STARLARK_NODE_BYTES * nodes, names, sizeof names, all_on, 9, errors, STARLARK_AUDIT_WORDS * STARLARK_AUDIT_ERRORS, out);
 }
 static void run_audit_off(void) {
-    number = starlark_audit(table, STARLARK_NODE_BYTES * nodes, names, sizeof names, all_off, 9, errors, 4 * STARLARK_AUDIT_ERRORS, out);
+    number = starlark_audit(table, STARLARK_NODE_BYTES * nodes, names, sizeof names, all_off, 9, errors, STARLARK_AUDIT_WORDS * STARLARK_AUDIT_ERRORS, out);
 }
 /* The whole file, into buffers of their own. */
 static uint8_t read_table[STARLARK_NODES * STARLARK_NODE_BYTES], read_names[STARLARK_NAME_BYTES];
 static void run_read(void) { number = starlark_read(damaged, damaged_bytes + 1, read_table, sizeof read_table, read_names, sizeof read_names, out); }
-static void run_check_file(void) { number = starlark_check_file(damaged, damaged_bytes + 1, errors, 3 * STARLARK_ERRORS, out); }
+static void run_check_file(void) { number = starlark_check_file(damaged, damaged_bytes + 1, errors, STARLARK_ERROR_WORDS * STARLARK_ERRORS, out); }
 
 struct job {
     const char *name;

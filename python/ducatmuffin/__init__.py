@@ -2,7 +2,7 @@
 
 library   every function of include/starlark.h, over ctypes
 table     records, names and the text form of a table
-script    a table of a Starlark script (this step is not proved)
+export    a table of a Starlark script, or of several (this step is not proved)
 numbers   numbers, kinds, limits, dialects, modes and shapes
 build     how the library is proved and compiled
 """

@@ -28,7 +28,7 @@ def raised(first, second):
 
 
 def place(error):
-    return error.number, error.begin, error.end
+    return error.number, error.file, error.begin, error.end
 
 
 def lacking(first, second):
@@ -99,7 +99,7 @@ class Comparer(check.Checker):
             return
         more = self.in_comprehensions(found)
         found.total = audit.total + len(more)
-        found.errors = sorted([*audit.errors, *more], key=lambda error: (error.begin, error.end, error.number))
+        found.errors = sorted([*audit.errors, *more], key=check.order)
         found.move.compare(before, after, found.errors)
         found.verdict = check.ERRORS if found.total or after.total else check.ACCEPTED
 
@@ -114,16 +114,15 @@ class Comparer(check.Checker):
         if found.verdict == check.NO_OPENING:
             return joined([*lines, f"no opening, closes {', '.join(move.closes)}"])
         lines += [f"opens {', '.join(move.opens) or 'nothing'}", PASS]
-        source = self.source_of(found)
         if move.tied:
             for error in move.out:
-                lines += self.error(found, source, error)
+                lines += self.error(found, error)
             lines.append(f"taken out {len(move.out)}, left {move.after}")
         else:
             lines.append(f"{NOT_TIED}: before {move.before}, after {move.after}")
         lines.append(OTHERS)
         for error in move.others:
-            lines += self.error(found, source, error)
+            lines += self.error(found, error)
         covered = f": {check.ALL}" if self.options.explain and found.verdict == check.ACCEPTED else ""
         return joined([*lines, f"other errors {len(move.others)}{covered}"])
 
@@ -140,8 +139,7 @@ class Comparer(check.Checker):
         if found.verdict == check.NO_OPENING:
             del entry["errors"]
             return entry
-        source = self.source_of(found)
-        taken = [self.in_json(found, source, error) for error in move.out] if move.tied else None
+        taken = [self.in_json(found, error) for error in move.out] if move.tied else None
         entry.update(tied=move.tied, before=move.before, taken_out=taken, left=move.after)
         return entry
 

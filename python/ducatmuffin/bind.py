@@ -1,16 +1,17 @@
 """ducat bind: which argument of a call reaches which parameter of a def.
 
-The answers are the library's. Which call is paired with which def is said here, by the names of defs in the script: a table has none.
+The answers are the library's. Which call is paired with which def is said here, by the names of defs in the scripts: a table has none.
 """
 import os
 import re
 
 from . import dialects, inputs, reasons
-from .check import MADE, STEP, evidence, hint_of, Found, node_json, span_json, syntax_json, syntax_lines
+from .check import (MADE, NO_TABLE, STEP, SYNTAX, Found, complaints, evidence_of, failed_json, hint_of, is_joined, made, node_json, read_parts,
+                    span_json, start, syntax_errors, syntax_lines)
 from .library import Refusal
 from .numbers import KIND, KINDS
 from .output import Failed, Report, dumps, encoded, named, say, shown, visible
-from .places import Source
+from .scripts import NONE, files_of
 from .table import children, decode, name_of
 
 DEF, CALL, IDENTIFIER, NAMED, DOT = (KIND[word] for word in ("Def", "Call", "Identifier", "Named", "Dot"))
@@ -39,6 +40,9 @@ class Tree:
 
     def span(self, node):
         return self.records[node].begin, self.records[node].end
+
+    def file(self, node):
+        return self.records[node].file
 
     def flat(self, node):
         """A def's parameters, without the marks."""
@@ -69,41 +73,67 @@ class Bytes:
         return f"{shown(tree.name(argument))}={said}" if tree.records[argument].kind == NAMED else said
 
     def place(self, node):
-        return "node {}, bytes {} to {}".format(node, *self.tree.span(node))
+        return "node {}, file {}, bytes {} to {}".format(node, self.tree.file(node), *self.tree.span(node))
 
     def refused(self, refusal):
-        return f"refused {refusal.number}" + (f" {refusal.begin} {refusal.end}" if refusal.begin is not None else "")
+        return f"refused {refusal.number}" + (f" {refusal.file} {refusal.begin} {refusal.end}" if refusal.begin is not None else "")
 
 
-class Script:
-    """Places by line and column of a script, and its texts."""
+class Places:
+    """Places by line and column of scripts, and their texts. With several scripts a place has its script's name. What has no script is placed in
+    bytes."""
 
-    def __init__(self, tree, source):
-        self.tree, self.source, self.defs, self.known = tree, source, {}, {}
+    def __init__(self, tree, scripts):
+        self.tree, self.scripts, self.defs, self.known, self.bytes = tree, scripts, {}, {}, Bytes(tree)
+        self.named = len(scripts.by_file) > 1 or not scripts.every and len(files_of(tree.table)) > 1
+        self.unnamed = {}  # by source file number, the defs that no script names
         for node in tree.of_kind(DEF):
+            source = self.source(node)
+            if not source:
+                self.unnamed.setdefault(tree.file(node), []).append(node)
+                continue
             head = HEAD.match(source.bytes, *tree.span(node))
             self.demand(head, node, "a def")
             self.defs.setdefault(head[1], []).append(node)
         for node in tree.of_kind(CALL):
-            name = tree.callee(node)
-            if name is not None:
+            name, source = tree.callee(node), self.source(node)
+            if name is not None and source:
                 begin, end = tree.span(node + 1)
                 self.demand(source.bytes[begin:end] == name, node + 1, shown(name))
+
+    def source(self, node):
+        return self.scripts.of(self.tree.file(node))
 
     def demand(self, met, node, what):
         if not met:
             begin, end = self.tree.span(node)
-            raise Failed(f"{self.source.path} is not the table's script: at bytes {begin} to {end} is not {what}")
+            number = "" if self.scripts.every else f" of source file {self.tree.file(node)}"
+            raise Failed(f"{self.source(node).path} is not the table's script{number}: at bytes {begin} to {end} is not {what}")
 
     def text(self, node):
+        source = self.source(node)
+        if not source:
+            return self.of_table(node)
         begin, end = self.tree.span(node)
-        first, more, _ = self.source.bytes[begin:end].partition(b"\n")
+        first, more, _ = source.bytes[begin:end].partition(b"\n")
         text = shown(first)
         return text[:LONGEST - 1] + "…" if more or len(text) > LONGEST else text
 
+    def of_table(self, node):
+        """The text of an argument or a call, as far as its table tells it."""
+        if self.tree.records[node].kind != CALL:
+            return self.bytes.text(node)
+        name = self.tree.callee(node)
+        return f"{shown(name)}(…)" if name is not None else "(Call)"
+
     def place(self, node):
         if node not in self.known:
-            self.known[node] = "{}:{}".format(*self.source.line_column(self.tree.records[node].begin))
+            source = self.source(node)
+            if source:
+                where = "{}:{}".format(*source.line_column(self.tree.records[node].begin))
+                self.known[node] = f"{visible(source.path)}:{where}" if self.named else where
+            else:
+                self.known[node] = self.bytes.place(node)
         return self.known[node]
 
     def refused(self, refusal):
@@ -162,21 +192,37 @@ class Binder:
             lines.append(f"{STARS.get(record.kind, '')}{shown(self.tree.name(parameter))}, {MODES[mode]}: {said}")
         return lines or ["no parameters"]
 
-    def in_json(self, answer, call, def_, source):
-        told = {"call": self.node(call, source), "def": self.node(def_, source)}
+    def in_json(self, answer, call, def_, scripts):
+        told = {"call": self.node(call, scripts), "def": self.node(def_, scripts)}
         if type(answer) is Refusal:
-            carried = {} if answer.node is None else {**node_json(self.tree.table, answer.node), **span_json(source, answer.begin, answer.end)}
+            carried = {} if answer.node is None else {**node_json(self.tree.table, answer.node),
+                                                      **span_json(scripts.of(answer.file), answer.file, answer.begin, answer.end)}
             if answer.earlier is not None:
-                carried["earlier"] = self.node(answer.earlier, source)
+                carried["earlier"] = self.node(answer.earlier, scripts)
             return {**told, "refused": {"number": answer.number, "words": answer.words, **carried}}
         told["parameters"] = [
             {"name": shown(self.tree.name(parameter)), "mode": MODES[mode], "default": taken is None,
-             "arguments": [self.node(one, source) for one in taken or ()]}
+             "arguments": [self.node(one, scripts) for one in taken or ()]}
             for parameter, mode, taken in self.taken(answer, call, def_)]
         return told
 
-    def node(self, node, source):
-        return {"node": node, **span_json(source, *self.tree.span(node))}
+    def node(self, node, scripts):
+        return {"node": node, **place_json(self.tree, node, scripts)}
+
+
+def place_json(tree, node, scripts):
+    return span_json(scripts.of(tree.file(node)), tree.file(node), *tree.span(node))
+
+
+def script_json(found):
+    """The scripts of an input; those that are joined are listed with their evidence."""
+    if is_joined(found.one):
+        return {}
+    return {"script": named(found.one.name)} if found.one.script else found.scripts.in_json()
+
+
+def joined_evidence(found):
+    return evidence_of(found) if is_joined(found.one) else {}
 
 
 def counted(n, what):
@@ -202,68 +248,70 @@ class Run:
     def file(self, one):
         """One input."""
         found = Found(one)
+        if not (self.made(found) if one.script else self.read(found)):
+            return
+        tree = Tree(found.table, found.names)
         try:
-            found.data = inputs.read_script(one) if one.script else inputs.read(one, inputs.TABLE_MOST)
-            table, names, dialect = self.content(one, found)
-        except (OSError, ValueError) as error:
-            return self.failed(one, inputs.reason(error))
-        if table is None:
-            return None
-        try:
-            return self.table(one, found, Tree(table, names), dialect)
+            self.table(found, tree)
         except Failed as error:
-            return self.failed(one, str(error), named_already=True)
+            self.failed(found, str(error))
 
-    def content(self, one, found):
-        """Table, names and dialect; no table where the input is refused, which is told."""
-        if not one.script:
-            answer = self.library.read(found.data)
-            if type(answer) is not Refusal:
-                return answer.table, answer.names, answer.dialect
-            self.refused(one, found, answer)
-            return None, None, None
-        from . import export
+    def read(self, found):
+        """Reads a table file, and says whether it is accepted."""
         try:
-            made = export.export(found.data, one.name, self.options.dialect)
-        except export.ScriptSyntaxError as error:
-            self.not_starlark(one, found, error)
-            return None, None, None
-        except export.ScriptError as error:
-            self.failed(one, error.message, (error.line, error.column))
-            return None, None, None
-        answer = self.library.table(*made)
+            found.data = inputs.read(found.one, inputs.TABLE_MOST)
+        except (OSError, ValueError) as error:
+            found.message = inputs.reason(error)
+            self.failed(found)
+            return False
+        answer = self.library.read(found.data)
         if type(answer) is Refusal:
-            self.refused(one, found, answer)
-            return None, None, None
-        return (*made, self.options.dialect)
+            self.refused(found, answer)
+            return False
+        found.table, found.names, found.dialect, found.scripts = answer.table, answer.names, answer.dialect, self.options.scripts
+        return True
+
+    def made(self, found):
+        """Makes the table of a script, or of several, and says whether it is accepted."""
+        found.dialect = self.options.dialect
+        if not (read_parts(found) and made(found)):
+            self.not_starlark(found) if found.verdict == SYNTAX else self.failed(found)
+            return False
+        answer = self.library.table(found.table, found.names)
+        if type(answer) is Refusal:
+            self.refused(found, answer)
+            return False
+        return True
 
     # ---- what cannot be bound
 
-    def failed(self, one, message, place=None, named_already=False):
+    def failed(self, found, message=None):
+        """An input that is not read, or has no table, or, with a message, whose script is another's."""
         self.worse(2)
         if self.report:
-            where = {"line": place[0], "column": place[1]} if place else {}
-            self.report.add(dumps({**self.start(one), "verdict": "no table" if place else "unreadable", "failed": visible(message), **where}))
-        elif named_already:
-            say(message)
-        else:
-            say(f"{one.name}:{place[0]}:{place[1]}: {message}" if place else f"{one.name}: {message}")
+            told = failed_json(found) if message is None else {"failed": visible(message)}
+            verdict = "no table" if found.verdict == NO_TABLE else "unreadable"
+            self.report.add(dumps({**start(found), **joined_evidence(found), "verdict": verdict, **told}))
+            return
+        for line in complaints(found) if message is None else [message]:
+            say(line)
 
-    def not_starlark(self, one, found, error):
+    def not_starlark(self, found):
         self.worse(1)
         if self.report:
-            self.report.add(dumps({**self.start(one), **evidence(found.data, True), "verdict": "syntax", "errors": [syntax_json(error)]}))
+            self.report.add(dumps({**start(found), **evidence_of(found), "verdict": "syntax", "errors": syntax_errors(found)}))
             return
-        self.header(one)
-        self.out.lines(syntax_lines(Source(one.name, found.data), error))
+        self.header(found.one)
+        for part in found.syntax:
+            self.out.lines(syntax_lines(part.source, part.syntax))
 
-    def refused(self, one, found, refusal):
+    def refused(self, found, refusal):
         self.worse(2)
-        found.refusal = refusal
+        one, found.refusal = found.one, refusal
         why = reasons.why_file(self.library, found.data, refusal, len(found.data) < inputs.TABLE_MOST) if not one.script else reasons.Why()
         if self.report:
             told = {"number": refusal.number, "words": refusal.words, **why.in_json()}
-            self.report.add(dumps({**self.start(one), **evidence(found.data, one.script), "verdict": "refused", "refused": told}))
+            self.report.add(dumps({**start(found), **evidence_of(found), "verdict": "refused", "refused": told}))
             return
         said = f"refused {refusal.number}: {refusal.words}{why}"
         self.header(one)
@@ -277,27 +325,23 @@ class Run:
 
     # ---- what can
 
-    def start(self, one):
-        return {**named(one.name), "kind": "script" if one.script else "table"}
-
     def header(self, one):
         if self.many:
             self.out.write(encoded(visible(one.name)) + b":\n")
 
-    def table(self, one, found, tree, dialect):
-        script = Source(one.name, found.data) if one.script else self.options.script
+    def table(self, found, tree):
         if self.options.call is not None:
-            self.pair(one, found, tree, dialect)
-        elif script:
-            self.script(one, found, tree, dialect, Script(tree, script))
+            self.pair(found, tree)
+        elif found.scripts:
+            self.script(found, tree, Places(tree, found.scripts))
         else:
-            self.listed(one, found, tree, dialect)
+            self.listed(found, tree)
 
-    def told(self, one, found, dialect, **more):
-        made = {"table": MADE} if one.script else {}
-        self.report.add(dumps({**self.start(one), **evidence(found.data, one.script), **made, "dialect": dialects.in_json(dialect), **more}))
+    def told(self, found, **more):
+        table = {"table": MADE} if found.one.script else {}
+        self.report.add(dumps({**start(found), **evidence_of(found), **table, "dialect": dialects.in_json(found.dialect), **more}))
 
-    def pair(self, one, found, tree, dialect):
+    def pair(self, found, tree):
         """A call and a def by their nodes."""
         call, def_ = self.options.call, self.options.def_
         binder = Binder(self.library, tree)
@@ -310,20 +354,20 @@ class Run:
         if status_of(answer) == 2:
             told = {"call": {"node": call}, "def": {"node": def_}, "refused": {"number": answer.number, "words": answer.words}}
         else:
-            told = binder.in_json(answer, call, def_, None)
-        self.told(one, found, dialect, verdict=verdict, pairs=[told])
+            told = binder.in_json(answer, call, def_, NONE)
+        self.told(found, verdict=verdict, pairs=[told])
 
-    def listed(self, one, found, tree, dialect):
+    def listed(self, found, tree):
         """The defs and calls of a table, in its order."""
         defs, calls = tree.of_kind(DEF), tree.of_kind(CALL)
         if self.report:
-            self.told(one, found, dialect, verdict="listed", defs=[self.def_json(tree, node) for node in defs],
+            self.told(found, verdict="listed", defs=[self.def_json(tree, node) for node in defs],
                       calls=[self.call_json(tree, node) for node in calls])
             return
-        self.header(one)
+        self.header(found.one)
         lines = []
         for node in sorted(defs + calls):
-            where = "{}, bytes {} to {}".format(node, *tree.span(node))
+            where = "{}, file {}, bytes {} to {}".format(node, tree.file(node), *tree.span(node))
             if tree.records[node].kind == DEF:
                 lines.append(f"def {where}: {counted(len(tree.flat(node)), 'parameter')}")
             else:
@@ -332,21 +376,20 @@ class Run:
                 lines.append(f"call {where}: {called}, {counted(len(tree.arguments(node)), 'argument')}")
         self.out.lines([*lines, f"defs {len(defs)}, calls {len(calls)}"])
 
-    def def_json(self, tree, node):
-        begin, end = tree.span(node)
-        return {"node": node, "begin": begin, "end": end, "parameters": len(tree.flat(node))}
+    def def_json(self, tree, node, scripts=NONE):
+        return {"node": node, **place_json(tree, node, scripts), "parameters": len(tree.flat(node))}
 
-    def call_json(self, tree, node, source=None):
+    def call_json(self, tree, node, scripts=NONE):
         name = tree.callee(node)
-        return {"node": node, **span_json(source, *tree.span(node)), "callee": None if name is None else shown(name),
+        return {"node": node, **place_json(tree, node, scripts), "callee": None if name is None else shown(name),
                 "form": "name" if name is not None else {CALL: "call", DOT: "method"}.get(tree.records[node + 1].kind, "expression"),
                 "arguments": len(tree.arguments(node))}
 
-    def script(self, one, found, tree, dialect, places):
+    def script(self, found, tree, places):
         """All calls of a name with the defs of that name, and the calls that have none."""
         binder, accepted, refused, alone, pairs = Binder(self.library, tree), 0, 0, [], []
         if not self.report:
-            self.header(one)
+            self.header(found.one)
         calls = [(call, places.defs.get(tree.callee(call), [])) for call in tree.of_kind(CALL)]
         for (call, defs), answers in zip(calls, binder.answers(calls)):
             head = f"{places.place(call)} {places.text(call)}"
@@ -354,7 +397,7 @@ class Run:
                 self.worse(status_of(answer))
                 accepted, refused = accepted + (type(answer) is not Refusal), refused + (type(answer) is Refusal)
                 if self.report:
-                    pairs.append(binder.in_json(answer, call, def_, places.source))
+                    pairs.append(binder.in_json(answer, call, def_, places.scripts))
                 else:
                     lines = binder.lines(answer, call, def_, places, self.options.explain)
                     self.out.lines([f"{head}, def {places.place(def_)}", *("    " + line for line in lines)])
@@ -362,18 +405,23 @@ class Run:
                 alone.append(call)
                 if not self.report:
                     self.out.lines([f"{head}, {tree.unnamed(call) if tree.callee(call) is None else NO_DEF}"])
+        notes = [f"{places.scripts.note(file)}; {counted(len(defs), 'def')} of it {'is' if len(defs) == 1 else 'are'} paired with no call"
+                 for file, defs in sorted(places.unnamed.items())]
         if self.report:
-            self.told(one, found, dialect, verdict="refused" if refused else "bound", script=named(places.source.path), pairs=pairs,
-                      without_def=[self.call_json(tree, call, places.source) for call in alone],
+            self.told(found, verdict="refused" if refused else "bound", **script_json(found), pairs=pairs,
+                      without_def=[self.call_json(tree, call, places.scripts) for call in alone], **({"notes": notes} if notes else {}),
                       totals={"bound": accepted, "refused": refused, "without_def": len(alone)})
         else:
             self.out.lines([f"bound {accepted}, refused {refused}, without a def {len(alone)}"])
+            self.out.flush()
+            for note in notes:
+                say(f"{found.one.name}: {note}")
 
 
 class Options:
-    def __init__(self, files, explain=False, json=False, dialect=None, script=None, call=None, def_=None):
+    def __init__(self, files, explain=False, json=False, dialect=None, scripts=None, call=None, def_=None):
         self.files, self.explain, self.json, self.dialect = files, explain, json, dialect
-        self.script, self.call, self.def_ = script, call, def_
+        self.scripts, self.call, self.def_ = scripts, call, def_
 
 
 def run(library, options, out, front):

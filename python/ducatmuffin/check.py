@@ -1,7 +1,5 @@
 """ducat check: table files and scripts, each with every job (or, with --module, as the program of document 01), in one process or several."""
-import os
-
-from . import dialects, inputs, reasons
+from . import dialects, inputs, reasons, scripts
 from .library import Error, Refusal
 from .numbers import KINDS, NODE_BYTES, WORDS
 from .output import Progress, Report, dumps, encoded, named, say, tell, visible
@@ -21,9 +19,9 @@ REPEATED = {11: "parameter", 22: "argument"}  # the errors that have an earlier 
 class Options:
     """How a run checks and prints."""
 
-    def __init__(self, module=False, explain=False, quiet=False, bad_only=False, json=False, many=False, dialect=None, script=None):
+    def __init__(self, module=False, explain=False, quiet=False, bad_only=False, json=False, many=False, dialect=None, scripts=None):
         self.module, self.explain, self.quiet, self.bad_only = module, explain, quiet, bad_only
-        self.json, self.many, self.dialect, self.script = json, many, dialect, script
+        self.json, self.many, self.dialect, self.scripts = json, many, dialect, scripts
 
 
 class Answer:
@@ -35,12 +33,68 @@ class Answer:
         self.verdict, self.errors, self.out, self.err = verdict, errors, out, err
 
 
+class Part:
+    """A script of an input, with its source file number; why it is not read or has no table, and where; its syntax error."""
+
+    def __init__(self, file, one):
+        self.file, self.one = file, one
+        self.data = self.source = self.failed = self.place = self.syntax = None
+
+
 class Found:
-    """What is found in one input."""
+    """What is found in one input. `parts` are its scripts, where it is one or several."""
 
     def __init__(self, one):
         self.one, self.verdict, self.nodes, self.errors, self.total, self.targets = one, ACCEPTED, None, (), 0, ()
-        self.refusal = self.why = self.message = self.place = self.data = self.dialect = self.table = self.names = self.source = self.syntax = None
+        self.parts = [Part(file, script) for file, script in inputs.scripts_of(one)] if one.script else []
+        self.refusal = self.why = self.message = self.data = self.dialect = self.table = self.names = self.scripts = None
+
+    @property
+    def failed(self):
+        """The scripts without a table of their own."""
+        return [part for part in self.parts if part.failed]
+
+    @property
+    def syntax(self):
+        """The scripts that are not Starlark."""
+        return [part for part in self.parts if part.syntax]
+
+
+def read_parts(found):
+    """Reads the scripts of an input, and says whether all are read."""
+    for part in found.parts:
+        try:
+            part.data = inputs.read_script(part.one)
+            part.source = Source(part.one.name, part.data)
+        except (OSError, ValueError) as error:
+            part.failed = inputs.reason(error)
+    if found.failed:
+        found.verdict = UNREADABLE
+        return False
+    found.scripts = scripts.Scripts({part.file: part.source for part in found.parts})
+    return True
+
+
+def made(found):
+    """Makes the table of the scripts that were read, and says whether there is one."""
+    from . import export
+    statements = []
+    for part in found.parts:
+        try:
+            statements.append(export.statements_of(part.data))
+        except export.ScriptSyntaxError as error:
+            part.syntax = error
+        except export.ScriptError as error:
+            part.failed, part.place = error.message, (error.line, error.column)
+    if not found.failed and not found.syntax:
+        try:
+            found.table, found.names, found.targets = export.join([part.data for part in found.parts], statements, found.parts[0].file)
+            return True
+        except export.ScriptError as error:
+            part = found.parts[error.at]
+            part.failed, part.place = error.message, (error.line, error.column)
+    found.verdict, found.total = (NO_TABLE, 0) if found.failed else (SYNTAX, len(found.syntax))
+    return False
 
 
 class Checker:
@@ -48,8 +102,7 @@ class Checker:
 
     def __init__(self, library, options):
         self.library, self.options = library, options
-        self.source = options.script
-        self.plain = not (options.explain or options.json or options.script)
+        self.plain = not (options.explain or options.json or options.scripts)
 
     def answer(self, one):
         if self.plain and self.options.module and not one.script:
@@ -72,7 +125,7 @@ class Checker:
             return self.rendered(found)
         if self.options.quiet or self.options.bad_only and not answer.total:
             return Answer(ERRORS if answer.total else ACCEPTED, answer.total)
-        lines = [f"nodes {answer.nodes}\n"] + [f"{number} {begin} {end}\n" for number, begin, end, _ in answer.errors]
+        lines = [f"nodes {answer.nodes}\n"] + [f"{number} {file} {begin} {end}\n" for number, file, begin, end, _ in answer.errors]
         text = "".join(lines) + f"errors {answer.total}\n"
         return Answer(ERRORS if answer.total else ACCEPTED, answer.total, self.header(one) + text.encode())
 
@@ -80,31 +133,23 @@ class Checker:
 
     def found(self, one):
         found = Found(one)
-        try:
-            found.data = inputs.read_script(one) if one.script else inputs.read(one, inputs.TABLE_MOST)
-        except (OSError, ValueError) as error:
-            found.verdict, found.message = UNREADABLE, inputs.reason(error)
-            return found
         if one.script:
-            self.check_script(found)
+            self.check_scripts(found)
         else:
             self.check_file(found)
         return found
 
-    def check_script(self, found):
-        from . import export
-        found.dialect, found.source = self.options.dialect, Source(found.one.name, found.data)
-        try:
-            found.table, found.names, found.targets = export.exported(found.data)
-        except export.ScriptSyntaxError as error:
-            found.verdict, found.syntax, found.total = SYNTAX, error, 1
-            return
-        except export.ScriptError as error:
-            found.verdict, found.message, found.place = NO_TABLE, error.message, (error.line, error.column)
-            return
-        self.judge(found)
+    def check_scripts(self, found):
+        found.dialect = self.options.dialect
+        if read_parts(found) and made(found):
+            self.judge(found)
 
     def check_file(self, found):
+        try:
+            found.data = inputs.read(found.one, inputs.TABLE_MOST)
+        except (OSError, ValueError) as error:
+            found.verdict, found.message = UNREADABLE, inputs.reason(error)
+            return
         answer = self.library.read(found.data)
         if type(answer) is Refusal:
             self.refused(found, answer)
@@ -122,13 +167,13 @@ class Checker:
         if not self.options.module:
             more = self.in_comprehensions(found)
             found.total += len(more)
-            found.errors = sorted([*found.errors, *more], key=lambda error: (error.begin, error.end, error.number))
+            found.errors = sorted([*found.errors, *more], key=order)
         found.verdict = ERRORS if found.total else ACCEPTED
 
     def in_comprehensions(self, found):
         """The errors of the targets of a script's comprehensions, which a table does not mark: the target job on each."""
         answers = [self.library.target(found.table, found.names, node) for node in found.targets]
-        return [Error(answer.number, answer.begin, answer.end, answer.node) for answer in answers if type(answer) is Refusal]
+        return [Error(answer.number, answer.file, answer.begin, answer.end, answer.node) for answer in answers if type(answer) is Refusal]
 
     def refused(self, found, refusal):
         found.verdict, found.refusal = REFUSED, refusal
@@ -156,7 +201,7 @@ class Checker:
         if error.node is not None:
             return [error.node]
         rows = reasons.Records(found.table, found.names).rows
-        return [node for node, row in enumerate(rows) if row[0] in (50, 53, 54) and (row[4], row[5]) == (error.begin, error.end)]
+        return [node for node, row in enumerate(rows) if row[0] in (50, 53, 54) and (row[7], row[4], row[5]) == (error.file, error.begin, error.end)]
 
     # ---- printing
 
@@ -176,16 +221,12 @@ class Checker:
 
     def complaint(self, found):
         """What goes to standard error: why there is no answer, or why the file is refused."""
-        name = found.one.name
-        if found.verdict == UNREADABLE:
-            said = f"ducat: {name}: {found.message}"
-        elif found.verdict == NO_TABLE:
-            said = f"ducat: {name}:{found.place[0]}:{found.place[1]}: {found.message}"
+        said = []
+        if found.verdict in (UNREADABLE, NO_TABLE):
+            said = complaints(found)
         elif found.verdict == REFUSED and not self.options.explain:
-            said = f"ducat: {name}: {self.refusal(found)}"
-        else:
-            return b""
-        return encoded(visible(said)) + b"\n"
+            said = [f"{found.one.name}: {self.refusal(found)}"]
+        return b"".join(encoded(visible(f"ducat: {line}")) + b"\n" for line in said)
 
     def refusal(self, found):
         return f"refused {found.refusal.number}: {found.refusal.words}{found.why or ''}"
@@ -195,63 +236,53 @@ class Checker:
         if found.verdict in (UNREADABLE, NO_TABLE):
             return b""
         if found.verdict == SYNTAX:
-            return encoded("\n".join([*syntax_lines(found.source, found.syntax), f"errors {found.total}"]) + "\n")
+            lines = [line for part in found.syntax for line in syntax_lines(part.source, part.syntax)]
+            return encoded("\n".join([*lines, f"errors {found.total}"]) + "\n")
         if found.verdict == REFUSED:
             if not explain:
                 return f"refused {found.refusal.number}\n".encode()
             hint = hint_of(found)
             return encoded(self.refusal(found) + "\n" + (f"hint: {hint}\n" if hint else ""))
         lines = [f"nodes {found.nodes}" + (f", dialect {dialects.told(found.dialect, found.one.script)}" if explain else "")]
-        source = self.source_of(found)
         for error in found.errors:
-            lines += self.error(found, source, error)
+            lines += self.error(found, error)
         covered = f": {MODULE if self.options.module else ALL}" if explain and not found.total else ""
         lines.append(f"errors {found.total}{covered}")
         return encoded("\n".join(lines) + "\n")
 
-    def source_of(self, found):
-        """The script that places are shown in: the input itself, the one that --script names, or X.star beside X.table."""
-        if found.source or self.source:
-            return found.source or self.source
-        if not (self.options.explain or self.options.json) or found.one.path is None or not found.one.path.endswith(".table"):
-            return None
-        beside = found.one.path[:-len(".table")] + ".star"
-        if not os.path.isfile(beside):
-            return None
-        try:
-            found.source = Source(beside, inputs.read_script(inputs.Input(beside)))
-        except OSError:
-            return None
-        return found.source
+    def scripts_of(self, found):
+        """The scripts that places are shown in: the input itself, those that --script names, or those beside a table file."""
+        if found.scripts is None:
+            found.scripts = self.options.scripts or scripts.NONE
+            if not found.scripts and (self.options.explain or self.options.json):
+                found.scripts = scripts.beside(found.one.path, found.table)
+        return found.scripts
 
-    def error(self, found, source, error):
+    def error(self, found, error):
         """The lines of an error."""
-        number, begin, end, node = error
-        if not source and not self.options.explain:
-            return [f"{number} {begin} {end}"]
+        number, file, begin, end, node = error
+        held = self.scripts_of(found)
+        source, note = held.of(file), held.note(file)
+        if not source and not note and not self.options.explain:
+            return [f"{number} {file} {begin} {end}"]
         kind = f", node {node}, kind {kind_words(found.table, node)}" if self.options.explain and node is not None else ""
         words = WORDS[number] + kind
         earlier = self.earlier(found, error)
-        if not source:
-            note = f"; the earlier {REPEATED[number]} is node {earlier[0]}, bytes {earlier[1]} to {earlier[2]}" if earlier else ""
-            return [f"{number} {begin} {end}: {words}{note}"]
-        lines = placed(source, begin, end, f"{number} {words}")
-        return lines + (placed(source, *earlier[1:], f"note: the earlier {REPEATED[number]}") if earlier else [])
+        if source:
+            lines = placed(source, begin, end, f"{number} {words}")
+            return lines + (placed(source, *earlier[1:], f"note: the earlier {REPEATED[number]}") if earlier else [])
+        before = f"; the earlier {REPEATED[number]} is node {earlier[0]}, bytes {earlier[1]} to {earlier[2]}" if earlier else ""
+        return [f"{number} {file} {begin} {end}: {words}{before}"] + ([f"    note: {visible(note)}"] if note else [])
 
     # ---- JSON
 
     def entry(self, found):
         one = found.one
-        entry = {**named(one.name), "kind": "script" if one.script else "table", "verdict": VERDICTS[found.verdict]}
-        if found.data is not None:
-            entry.update(evidence(found.data, one.script))
+        entry = {**start(found), "verdict": VERDICTS[found.verdict], **evidence_of(found)}
         if found.verdict in (UNREADABLE, NO_TABLE):
-            entry["failed"] = visible(found.message)
-            if found.place:
-                entry["line"], entry["column"] = found.place
-            return entry
+            return {**entry, **failed_json(found)}
         if found.verdict == SYNTAX:
-            return {**entry, "errors": [syntax_json(found.syntax)]}
+            return {**entry, "errors": syntax_errors(found)}
         if one.script:
             entry["table"] = MADE
         entry["dialect"] = dialects.in_json(found.dialect) if found.table is not None else None
@@ -260,21 +291,68 @@ class Checker:
             entry["refused"] = {"number": found.refusal.number, "words": found.refusal.words, **found.why.in_json(),
                                 **({"hint": hint} if hint else {})}
             return entry
-        source = self.source_of(found)
-        if source and not one.script:
-            entry["script"] = named(source.path)
-        entry.update(nodes=found.nodes, errors=[self.in_json(found, source, error) for error in found.errors])
+        held = self.scripts_of(found)
+        if not one.script:
+            entry.update(held.in_json())
+        entry.update(nodes=found.nodes, errors=[self.in_json(found, error) for error in found.errors])
         return entry
 
-    def in_json(self, found, source, error):
-        number, begin, end, node = error
-        told = {"number": number, "words": WORDS[number], **span_json(source, begin, end)}
+    def in_json(self, found, error):
+        number, file, begin, end, node = error
+        held = self.scripts_of(found)
+        source, note = held.of(file), held.note(file)
+        told = {"number": number, "words": WORDS[number], **span_json(source, file, begin, end)}
+        if source:
+            told["script"] = named(source.path)
+        if note:
+            told["note"] = visible(note)
         if node is not None:
             told.update(node_json(found.table, node))
         earlier = self.earlier(found, error)
         if earlier:
-            told["earlier"] = {"node": earlier[0], **span_json(source, *earlier[1:])}
+            told["earlier"] = {"node": earlier[0], **span_json(source, file, *earlier[1:])}
         return told
+
+
+# ---- what is said of an input without a table
+
+def is_joined(one):
+    return isinstance(one, inputs.Joined)
+
+
+def start(found):
+    """The name and the kind of an input in JSON."""
+    one = found.one
+    return {**named(one.name), "kind": "joined" if is_joined(one) else "script" if one.script else "table"}
+
+
+def complaints(found):
+    """Why there is no answer, a line for each file. Of several scripts also what is not Starlark."""
+    if not found.parts:
+        return [f"{found.one.name}: {found.message}"]
+    lines = []
+    for part in found.failed + found.syntax:
+        where = part.place or part.syntax and (part.syntax.line, part.syntax.column)
+        lines.append(part.one.name + (f":{where[0]}:{where[1]}" if where else "") + f": {part.failed or part.syntax.message}")
+    return lines
+
+
+def failed_json(found):
+    if is_joined(found.one):
+        return {"failed": visible("; ".join(complaints(found)))}
+    return part_failed(found.parts[0]) if found.parts else {"failed": visible(found.message)}
+
+
+def part_failed(part):
+    """Why a script is not read or has no table, in JSON."""
+    if not part.failed:
+        return {}
+    return {"failed": visible(part.failed), **({"line": part.place[0], "column": part.place[1]} if part.place else {})}
+
+
+def syntax_errors(found):
+    """The errors of scripts that are not Starlark, in JSON."""
+    return [{**syntax_json(part.syntax, part.file), "script": named(part.one.name)} for part in found.syntax]
 
 
 # ---- what the table and the script say
@@ -307,8 +385,13 @@ def node_json(table, node):
     return {"node": node, "kind": {"number": kind, "name": KINDS[kind][0]}}
 
 
-def span_json(source, begin, end):
-    told = {"begin": begin, "end": end}
+def order(error):
+    """Errors are sorted by this, except with --module."""
+    return error.file, error.begin, error.end, error.number
+
+
+def span_json(source, file, begin, end):
+    told = {"file": file, "begin": begin, "end": end}
     if source and not source.is_beyond(begin, end):
         told["line"], told["column"] = source.line_column(begin)
     return told
@@ -318,6 +401,15 @@ def evidence(data, script):
     """What ties an answer to the bytes that were read. Of a table file that is longer than any may be, only the first bytes are."""
     from .output import digest
     return {"sha256": digest(data), "bytes": len(data), "whole": script or len(data) < inputs.TABLE_MOST}
+
+
+def evidence_of(found):
+    """The evidence of an input: of scripts that are joined that of each, with its source file number."""
+    if is_joined(found.one):
+        return {"scripts": [{"file": part.file, **named(part.one.name), **(evidence(part.data, True) if part.data is not None else {}),
+                             **part_failed(part)} for part in found.parts]}
+    data = found.parts[0].data if found.parts else found.data
+    return evidence(data, found.one.script) if data is not None else {}
 
 
 def placed(source, begin, end, words):
@@ -336,8 +428,8 @@ def syntax_lines(source, error):
     return [f"{visible(source.path)}:{error.line}:{error.column}: {error.message}"]
 
 
-def syntax_json(error):
-    return {"number": None, "words": error.message, "begin": error.begin, "end": error.end, "line": error.line, "column": error.column}
+def syntax_json(error, file):
+    return {"number": None, "words": error.message, "file": file, "begin": error.begin, "end": error.end, "line": error.line, "column": error.column}
 
 
 def hint_of(found):

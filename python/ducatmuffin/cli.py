@@ -17,7 +17,7 @@ Checks Starlark scripts and their node tables with a proved library.
   ducat rescue IN -o OUT                       keep what can be kept of a damaged table file
   ducat write TABLE NAMES [--dialect D] -o OUT
                                                a table file from raw bytes
-  ducat table INPUT -o OUT                     a table file from a script, or from the text form of a table
+  ducat table INPUT... -o OUT                  a table file from scripts, or from the text form of a table
   ducat dump FILE                              the text form of a table file
   ducat build [--unproved]                     prove and compile the library
 
@@ -43,14 +43,18 @@ comprehensions, which a table does not mark. Nothing can be switched off: there 
 that leaves out a rule.
 
 For a table file this prints
-  nodes N             the number of nodes
-  number begin end    for each error its number and its place in the script, in bytes from 0
-  errors N            the number of errors
+  nodes N                  the number of nodes
+  number file begin end    for each error its number, its source file number, and its place in that script, in
+                           bytes from 0
+  errors N                 the number of errors
 or, for a file that is damaged or whose table is not sound, the one line
-  refused K           and on standard error what is wrong
-Errors are sorted by begin, end and number. For a script an error is PATH:LINE:COLUMN: NUMBER and its words,
-with the line and carets. A script that is not Starlark has the one error PATH:LINE:COLUMN: syntax: and what
-is wrong. With several inputs the name of each comes first, and a line of totals last."""
+  refused K                and on standard error what is wrong
+Errors are sorted by file, begin, end and number. For a script an error is PATH:LINE:COLUMN: NUMBER and its
+words, with the line and carets. A script that is not Starlark has the one error PATH:LINE:COLUMN: syntax: and
+what is wrong. With several inputs the name of each comes first, and a line of totals last.
+
+With --join all scripts are one table: the statements of the first, then those of the second, and so on. Their
+source file numbers count from 1 in the order given."""
 
 AGAINST = """With --against DIALECT each input is checked in its own dialect and in DIALECT, and this prints what the move from
 one to the other does to the errors of the module pass (10 to 18 and 50 to 61):
@@ -73,8 +77,8 @@ inputs the highest counts."""
 BIND = """Says which argument of each call reaches which parameter. FILE is a table file or a script; `-` is standard
 input.
 
-For a script, or a table file with --script, each call of a name is paired with every def of that name in the
-script:
+For a script, for scripts that are joined with --join, or for a table file with --script, each call of a name is
+paired with every def of that name in the scripts:
   NAME, MODE: ARGUMENT (PLACE)                    the argument that a parameter takes
   NAME, MODE: default                             it takes none, and has a default
   *NAME, MODE: ARGUMENT (PLACE); ...              what a star parameter collects, or none
@@ -116,8 +120,12 @@ TABLE = """Writes to OUT the table file of INPUT: a script, or the text form of 
 docs/FORMAT.md describes it. `-` is standard input: a text, or with --stdin-filename a script. A script is
 read by ducat's own parser; that step is not proved.
 
-Exit status: 0 OUT is written; 1 the script is not Starlark; 2 INPUT is refused or cannot be read, or OUT
-cannot be written."""
+Several scripts are joined: the statements of the first, then those of the second, and so on, become one table.
+Each statement has the source file number of its script, which counts from 1, or from --number, in the order
+given, and positions in that script.
+
+Exit status: 0 OUT is written; 1 a script is not Starlark; 2 an INPUT is refused or cannot be read, OUT cannot
+be written, or wrong usage."""
 
 DUMP = """Prints the text form of a table file, or of a script's table. `ducat table` of it gives the same bytes back.
 `-` is standard input."""
@@ -187,6 +195,15 @@ def add_as_script(parser):
                         help="take a file whose name or path matches as a script; may be repeated")
 
 
+def add_script(parser, words):
+    parser.add_argument("--script", metavar="[N=]SCRIPT", action="append", default=[],
+                        help=f"{words}; with N= that of source file number N, once for each number")
+
+
+def add_join(parser):
+    parser.add_argument("--join", action="store_true", help="take the scripts as one table, numbered from 1 in the order given")
+
+
 def add_list(parser):
     parser.add_argument("--files-from", metavar="FILE", help="read names of inputs from FILE (`-` is standard input), one in a line")
     parser.add_argument("-0", "--null", action="store_true", help="the names of --files-from end with NUL, not with a newline")
@@ -198,10 +215,11 @@ def check_parser():
     parser.add_argument("--module", action="store_true",
                         help="run the module pass alone (10 to 18 and 50 to 61), as the program of document 01; its own order is kept")
     parser.add_argument("--explain", action="store_true", help="say what each number means, with nodes, kinds, dialect and places in X.star "
-                        "beside X.table")
+                        "beside X.table; of a table with several source file numbers in X.N.star for each number N")
     parser.add_argument("--quiet", action="store_true", help="print nothing: the exit status is the answer; why an input is not read is still said")
     parser.add_argument("--bad-only", action="store_true", help="print only inputs that have errors, are refused or cannot be read")
-    parser.add_argument("--script", metavar="SCRIPT", help="the script of the table files, for lines and columns")
+    add_join(parser)
+    add_script(parser, "the script of the table files, for lines and columns")
     add_dialect(parser, "of scripts; a table file has its own")
     parser.add_argument("--against", metavar="DIALECT", help="say what the move to DIALECT, which must permit all that the input's own does, does to its "
                         "errors; a name or nine digits as for --dialect")
@@ -223,6 +241,14 @@ def positive(text):
     return int(text)
 
 
+def file_number(text):
+    import argparse
+    from .table import LAST_FILE
+    if not (text.isascii() and text.isdigit()) or not 1 <= int(text[:6]) <= LAST_FILE:
+        raise argparse.ArgumentTypeError(f"a source file number is 1 to {LAST_FILE}")
+    return int(text)
+
+
 def node(text):
     import argparse
     if not (text.isascii() and text.isdigit()):
@@ -235,7 +261,8 @@ def bind_parser():
     parser.add_argument("files", metavar="FILE", nargs="*")
     parser.add_argument("--call", metavar="N", type=node, help="the node of a Call of one table file; with --def")
     parser.add_argument("--def", dest="def_", metavar="N", type=node, help="the node of a Def of one table file; with --call")
-    parser.add_argument("--script", metavar="SCRIPT", help="the script of one table file: names of defs, texts, lines and columns")
+    add_join(parser)
+    add_script(parser, "the script of one table file: names of defs, texts, lines and columns")
     parser.add_argument("--explain", action="store_true", help="say what each number means")
     add_dialect(parser, "of scripts; a table file has its own")
     add_as_script(parser)
@@ -251,7 +278,7 @@ def rescue_parser():
     parser.add_argument("input", metavar="IN")
     add_output(parser)
     parser.add_argument("--explain", action="store_true", help="say what each number means, and which statements are kept and lost")
-    parser.add_argument("--script", metavar="SCRIPT", help="the script of the table: names and lines of statements, with --explain and in JSON")
+    add_script(parser, "the script of the table: names and lines of statements, with --explain and in JSON")
     add_format(parser)
     return parser
 
@@ -268,8 +295,9 @@ def write_parser():
 
 def table_parser():
     parser = make_parser("table", TABLE, ATOMIC)
-    parser.add_argument("input", metavar="INPUT")
+    parser.add_argument("inputs", metavar="INPUT", nargs="+")
     add_output(parser)
+    parser.add_argument("--number", metavar="N", type=file_number, help="the source file number of the first script; the others follow (default: 1)")
     parser.add_argument("--parts", action="store_true",
                         help="OUT is a folder, new or empty: a table file of each top-level statement, 0001.table and so on")
     add_dialect(parser, "of a script; a text has its own")
@@ -351,12 +379,32 @@ class Configured:
         return config.in_json(self.configuration, self.name, self.excluded)
 
 
-def source_named(path):
-    """The script that --script names."""
-    if path is None:
+def scripts_named(words, wanted=True):
+    """The scripts that --script names; read only where they are wanted."""
+    if not words:
         return None
-    from .rescue import source_of
-    return source_of(path)
+    from . import scripts
+    found = scripts.parsed(words)
+    return scripts.read(found) if wanted else None
+
+
+def numbered(many, first=1):
+    """The source file numbers of scripts end at 999."""
+    from .table import LAST_FILE
+    if first + many - 1 > LAST_FILE:
+        raise Failed(f"source file numbers end at {LAST_FILE}, and the last of {many} scripts from {first} on would be {first + many - 1}")
+
+
+def joined(options, found):
+    """The inputs of a run with --join as one."""
+    from . import inputs
+    if options.script:
+        raise Failed("--script is for table files: a script that is joined is its own")
+    for one in found:
+        if not one.script:
+            raise Failed(f"--join is for scripts, and {one.name} is {'a folder' if os.path.isdir(one.path or '') else 'taken as a table file'}")
+    numbered(len(found))
+    return [inputs.Joined(found)]
 
 
 def once(*names):
@@ -398,12 +446,14 @@ def check(words, out):
             raise Failed("--against runs the module pass and the other jobs: --module is not for it")
         options.against = dialect_word(options.against, "--against") or b""
     configured = Configured(options)
-    search = found_in(options, configured, options.paths)
+    search = found_in(options, configured, options.paths, folders=not options.join)
+    if options.join and search.found:
+        search.found = joined(options, search.found)
     if configured.given and options.files_from is None and not any(could_be_script(path, options.stdin_filename, configured.as_script) for path in options.paths):
         raise Failed("--dialect is for scripts: a table file has its own dialect")
     if options.script and any(one.script for one in search.found):
         raise Failed("--script is for table files: a script that is checked is its own")
-    script = source_named(options.script) if not options.quiet else None
+    scripts = scripts_named(options.script, not options.quiet)
     library = open_library()
     configured.say()
     for path, excluded in search.empty:
@@ -411,7 +461,7 @@ def check(words, out):
     from . import check as job
     json = options.format == "json"
     many = len(search.found) > 1 or bool(search.empty) or any(one.path not in options.paths for one in search.found if one.path is not None)
-    how = job.Options(options.module, options.explain and not json, options.quiet, options.bad_only, json, many, configured.dialect, script)
+    how = job.Options(options.module, options.explain and not json, options.quiet, options.bad_only, json, many, configured.dialect, scripts)
     if options.against is not None:
         from . import against
         status = against.run(library, how, options.against, search.found, options.jobs, out,
@@ -437,6 +487,8 @@ def bind(words, out):
         raise Failed("--call and --def go together")
     configured = Configured(options)
     found = found_in(options, configured, options.files, folders=False).found
+    if options.join and found:
+        found = joined(options, found)
     single = "--call and --def" if options.call is not None else "--script" if options.script else None
     if single and (len(found) != 1 or found[0].script):
         raise Failed(f"{single} {'need' if options.call is not None else 'needs'} one table file")
@@ -444,12 +496,12 @@ def bind(words, out):
         raise Failed("--script pairs calls and defs by itself: --call and --def are not for it")
     if configured.given and found and not any(one.script for one in found):
         raise Failed("--dialect is for scripts: a table file has its own dialect")
-    script = source_named(options.script)
+    scripts = scripts_named(options.script)
     library = open_library()
     configured.say()
     from . import bind as job
     json = options.format == "json"
-    how = job.Options(found, options.explain, json, configured.dialect, script, options.call, options.def_)
+    how = job.Options(found, options.explain, json, configured.dialect, scripts, options.call, options.def_)
     return job.run(library, how, out, head("bind", library, configured.in_json()) if json else None)
 
 
@@ -465,7 +517,7 @@ def rescue(words, out):
     options = parse(rescue_parser(), words)
     named_out(options.out)
     from . import rescue as job
-    finished(options, input=input_of(options.input), script=source_named(options.script))
+    finished(options, input=input_of(options.input), scripts=scripts_named(options.script))
     library = open_library()
     return job.run(library, options, out, head("rescue", library) if options.json else None)
 
@@ -499,7 +551,17 @@ def one_input(options, words_for_table):
 def table(words, out):
     options = parse(table_parser(), words)
     named_out(options.out)
-    configured = one_input(options, "a text")
+    once(*options.inputs)
+    configured = Configured(options)
+    found = [input_of(name, options.stdin_filename, configured.as_script) for name in options.inputs]
+    texts = [one for one in found if not one.script]
+    if texts and (configured.given or options.number is not None):
+        raise Failed("--dialect is for scripts: a text has its own dialect" if configured.given else
+                     "--number is for scripts: a text has its own source file numbers")
+    if texts and len(found) > 1:
+        raise Failed(f"several INPUTs must be scripts, and {texts[0].name} is taken as the text form of a table")
+    numbered(len(found), options.number or 1)
+    finished(options, inputs=found, number=options.number or 1, dialect=None if texts else configured.dialect)
     from . import tabling as job
     library = open_library()
     configured.say()

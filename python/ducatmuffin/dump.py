@@ -82,8 +82,8 @@ def printed(options, out, front, data, records, names, dialect):
 
 def record_json(node, record, names):
     name = KINDS[record.kind][0] if record.kind in KINDS else None
-    told = {"node": node, "kind": {"number": record.kind, "name": name}, "detail": record.detail, "begin": record.begin, "end": record.end,
-            "size": record.size}
+    told = {"node": node, "kind": {"number": record.kind, "name": name}, "detail": record.detail, "file": record.file, "begin": record.begin,
+            "end": record.end, "size": record.size}
     if record.name_length:
         told.update(name=shown(table.name_of(record, names)), name_start=record.name_start, name_length=record.name_length)
     if record.source:

@@ -1,15 +1,17 @@
-"""A table of a Starlark script: the tree of the module `parser` as records. No part of this is proved: what the checker reports is proved of the
-table alone.
+"""A table of a Starlark script, or of several: the tree of the module `parser` as records. No part of this is proved: what the checker reports is
+proved of the table alone.
 
     table, names = export(source, "a.star", dialect)     raises ScriptError with line, column and message
+    table, names, targets = joined_export([zone, line])  raises ScriptError, whose `at` says which script it is of
 
-Equal names share their bytes. A script of one statement is that statement, one of several a Statements at the root.
+Equal names share their bytes. A script of one statement is that statement, one of several a Statements at the root. Several scripts are a Statements
+whose children are the statements of all of them in turn, from 0 to the largest end. Each record has the number of its script, and positions in it.
 """
-from typing import List, NamedTuple, Optional, Tuple
+from typing import List, NamedTuple, Optional, Sequence, Tuple
 
 from . import numbers
 from .lexer import NotStarlark
-from .parser import DICT_COMP, LIST_COMP, NAMED, Node, TooDeep, joined, parse
+from .parser import DICT_COMP, LIST_COMP, NAMED, STATEMENTS, Node, TooDeep, joined, parse
 from .places import Source
 from .table import RECORD, weight
 
@@ -25,10 +27,11 @@ class Exported(NamedTuple):
 
 
 class ScriptError(ValueError):
-    """Why there is no table of a script, and where: line and column count from 1, columns in characters; begin and end are bytes."""
+    """Why there is no table of a script, and where: line and column count from 1, columns in characters; begin and end are bytes. `at` says which of
+    several scripts it is, from 0."""
 
-    def __init__(self, source: bytes, begin: int, end: int, message: str):
-        self.begin, self.end, self.message = begin, end, message
+    def __init__(self, source: bytes, begin: int, end: int, message: str, at: int = 0):
+        self.begin, self.end, self.message, self.at = begin, end, message, at
         self.line, self.column = Source("", source).line_column(begin)
         super().__init__(f"{self.line}:{self.column}: {message}")
 
@@ -45,11 +48,11 @@ class ScriptTooLarge(ScriptError):
 
 
 class _Beyond(Exception):
-    """The first node beyond a limit, and a message."""
+    """The first node beyond a limit, by its number and itself, and a message."""
 
-    def __init__(self, node, message):
+    def __init__(self, number, node, message):
         super().__init__(message)
-        self.node, self.message = node, message
+        self.number, self.node, self.message = number, node, message
 
 
 def statements_of(source: bytes) -> List[Node]:
@@ -80,45 +83,61 @@ def preorder(root: Node) -> Tuple[List[Node], List[int]]:
     return nodes, depths
 
 
-def table_of(root: Node) -> Exported:
-    """The records of a tree, its name bytes and the targets of its comprehensions."""
+def table_of(root: Node, files: Sequence[int]) -> Exported:
+    """The records of a tree, its name bytes and the targets of its comprehensions. `files` has the source file number of each top-level statement:
+    of the children of a root Statements, or of the root."""
     nodes, depths = preorder(root)
-    names, known, reached = [], {b"": 0}, 0
-    beyond = nodes[numbers.NODES] if len(nodes) > numbers.NODES else None
-    over = None
-    for node in nodes:
+    names, known, reached, over = [], {b"": 0}, 0, None
+    for number, node in enumerate(nodes):
         name = node.name
         if name not in known:
             if len(name) > LONGEST_NAME:
-                raise _Beyond(node, f"a name of {len(name)} bytes, and a table has names of {LONGEST_NAME} at most")
+                raise _Beyond(number, node, f"a name of {len(name)} bytes, and a table has names of {LONGEST_NAME} at most")
             known[name] = reached
             names.append(name)
             reached += len(name)
             if over is None and reached > numbers.NAME_BYTES:
-                over = node
+                over = number
+    if len(nodes) > numbers.NODES:
+        raise _Beyond(numbers.NODES, nodes[numbers.NODES], f"a table has at most {numbers.NODES}, and here are {len(nodes)} nodes")
+    if over is not None:
+        raise _Beyond(over, nodes[over], f"a table has at most {numbers.NAME_BYTES}, and here are {reached} bytes of names")
     deepest = max(depths)
-    if beyond:
-        raise _Beyond(beyond, f"a table has at most {numbers.NODES}, and here are {len(nodes)} nodes")
-    if over:
-        raise _Beyond(over, f"a table has at most {numbers.NAME_BYTES}, and here are {reached} bytes of names")
     if deepest > numbers.DEPTH:
-        first = next(node for node, depth in zip(nodes, depths) if depth > numbers.DEPTH)
-        raise _Beyond(first, f"a table has at most {numbers.DEPTH}, and here are {deepest} levels below each other")
-    return Exported(_records(nodes, known), b"".join(names), _targets(nodes))
+        first = next(number for number, depth in enumerate(depths) if depth > numbers.DEPTH)
+        raise _Beyond(first, nodes[first], f"a table has at most {numbers.DEPTH}, and here are {deepest} levels below each other")
+    sizes = _sizes(nodes)
+    return Exported(_records(nodes, sizes, _files(root, sizes, files), known), b"".join(names), _targets(nodes))
 
 
-def _records(nodes, known):
-    """The records of nodes in order; `known` has the place of each name."""
-    sizes, records = {}, []
+def _sizes(nodes):
+    """The number of nodes of each node's subtree."""
+    sizes = {}
     for node in reversed(nodes):
         size = 1
         for child in node.children:
             size += sizes[id(child)]
         sizes[id(node)] = size
+    return sizes
+
+
+def _files(root, sizes, files):
+    """The source file number of each node: 0 of a root Statements, else that of its top-level statement."""
+    if root.kind != STATEMENTS:
+        return [files[0]] * sizes[id(root)]
+    of_all = [0]
+    for child, file in zip(root.children, files):
+        of_all += [file] * sizes[id(child)]
+    return of_all
+
+
+def _records(nodes, sizes, files, known):
+    """The records of nodes in order; `known` has the place of each name."""
+    records = []
+    for node, file in zip(nodes, files):
         name = node.name
-        records.append(RECORD.pack(node.kind, node.detail, len(name), known[name], node.begin, node.end, size, 0,
+        records.append(RECORD.pack(node.kind, node.detail, len(name), known[name], node.begin, node.end, sizes[id(node)], file,
                                    node.begin if node.kind == NAMED else 0))
-    records.reverse()
     return b"".join(records)
 
 
@@ -128,17 +147,50 @@ def _targets(nodes):
     return [number for number, node in enumerate(nodes) if id(node) in marked] if marked else []
 
 
-def _tables(source, roots):
-    """The table of each tree that `roots` makes of the statements of a script."""
+def _root(scripts):
+    """The statements of scripts as one: of a single script as in the crate, of several a Statements from 0 to the largest end."""
+    if len(scripts) == 1:
+        return joined(scripts[0])
+    statements = [statement for script in scripts for statement in script]
+    return Node(STATEMENTS, 0, max((statement.end for statement in statements), default=0), statements)
+
+
+def _script_at(root, scripts, number):
+    """Which script the node with a number is of."""
+    sizes = _sizes(preorder(root)[0])
+    left = number - (root.kind == STATEMENTS)
+    for at, script in enumerate(scripts):
+        left -= sum(sizes[id(statement)] for statement in script)
+        if left < 0:
+            return at
+    return 0
+
+
+def join(sources: Sequence[bytes], scripts: Sequence[List[Node]], first: int = 1) -> Exported:
+    """One table of the statements of scripts, numbered from `first` on. Raises ScriptTooLarge."""
+    root = _root(scripts)
     try:
-        return [table_of(root) for root in roots(statements_of(source))]
+        return table_of(root, [file for file, script in enumerate(scripts, first) for _ in script])
     except _Beyond as beyond:
-        raise ScriptTooLarge(source, beyond.node.begin, beyond.node.end, beyond.message) from None
+        at = _script_at(root, scripts, beyond.number)
+        raise ScriptTooLarge(sources[at], beyond.node.begin, beyond.node.end, beyond.message, at) from None
+
+
+def joined_export(sources: Sequence[bytes], first: int = 1) -> Exported:
+    """One table of scripts, numbered from `first` on, its names, and the targets of their comprehensions. Raises ScriptError."""
+    scripts = []
+    for at, source in enumerate(sources):
+        try:
+            scripts.append(statements_of(bytes(source)))
+        except ScriptError as error:
+            error.at = at
+            raise
+    return join(sources, scripts, first)
 
 
 def exported(source: bytes) -> Exported:
     """The table of a script, its names, and the targets of its comprehensions. Raises ScriptError."""
-    return _tables(bytes(source), lambda statements: [joined(statements)])[0]
+    return joined_export([source])
 
 
 def export(source: bytes, name: str = "", dialect: Optional[bytes] = None) -> Tuple[bytes, bytes]:
@@ -146,6 +198,12 @@ def export(source: bytes, name: str = "", dialect: Optional[bytes] = None) -> Tu
     return tuple(exported(source)[:2])
 
 
-def export_parts(source: bytes, name: str = "", dialect: Optional[bytes] = None) -> List[Tuple[bytes, bytes]]:
-    """The table of each top-level statement, and its names: for a script that is larger than a table may be."""
-    return [tuple(made[:2]) for made in _tables(bytes(source), lambda statements: statements)]
+def export_parts(source: bytes, name: str = "", dialect: Optional[bytes] = None, file: int = 1) -> List[Tuple[bytes, bytes]]:
+    """The table of each top-level statement, and its names: for a script that is larger than a table may be. `file` is the script's number."""
+    parts = []
+    for statement in statements_of(bytes(source)):
+        try:
+            parts.append(tuple(table_of(statement, [file])[:2]))
+        except _Beyond as beyond:
+            raise ScriptTooLarge(source, beyond.node.begin, beyond.node.end, beyond.message) from None
+    return parts

@@ -44,6 +44,22 @@ class Input:
         self.script = is_script(self.name, as_script)
 
 
+class Joined:
+    """Scripts that are taken as one table. Their source file numbers count from `first` on."""
+
+    __slots__ = ("scripts", "name", "first")
+    path = error = None
+    script = True
+
+    def __init__(self, scripts, first=1):
+        self.scripts, self.name, self.first = scripts, " + ".join(one.name for one in scripts), first
+
+
+def scripts_of(one):
+    """The scripts of an input, each with its source file number."""
+    return list(enumerate(one.scripts, one.first)) if isinstance(one, Joined) else [(1, one)]
+
+
 def standard_input(filename=None, as_script=()):
     return Input(None, filename or "-", None, as_script)
 

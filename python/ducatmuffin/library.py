@@ -23,6 +23,8 @@ NAME = "libstarlark_checks.so"
 SONAME = f"{NAME}.{'.'.join(__version__.split('.')[:2])}"
 NONE = numbers.NONE
 MOST = 2 ** 64 - 1  # of a size_t
+LIST_WORDS = numbers.AUDIT_WORDS * numbers.AUDIT_ERRORS  # the longest list of errors
+FILE_WORDS = numbers.ERROR_WORDS * numbers.ERRORS  # the longest one of the module pass
 BARE = frozenset([1, 2, 5, 6, 7, *range(70, 76), 90, 91])  # the numbers that carry nothing
 Bytes = Union[bytes, bytearray, memoryview]
 
@@ -63,13 +65,15 @@ class LibraryMismatch(LibraryError):
 
 @dataclass(frozen=True)
 class Refusal:
-    """Why a job refuses: document 01's number, what it means, and what it carries. None where a number does not carry it."""
+    """Why a job refuses: document 01's number, what it means, and what it carries. None where a number does not carry it. `file` is the source file
+    number of the node, which every refusal with a span has."""
     number: int
     words: str
     node: Optional[int] = None
     begin: Optional[int] = None
     end: Optional[int] = None
     earlier: Optional[int] = None
+    file: Optional[int] = None
     accepted: ClassVar[bool] = False
 
 
@@ -126,8 +130,9 @@ class Shaped:
 
 
 class Error(NamedTuple):
-    """An error of a module; the node only where the audit lists it."""
+    """An error of a module, with the source file number that its span is in; the node only where the audit lists it."""
     number: int
+    file: int
     begin: int
     end: int
     node: Optional[int] = None
@@ -174,7 +179,7 @@ class Buffers(threading.local):
 
     def __init__(self):
         self.out = (WORD * numbers.OUT_WORDS)()
-        self.words = (WORD * (4 * numbers.AUDIT_ERRORS))()
+        self.words = (WORD * LIST_WORDS)()
         self.file = ctypes.create_string_buffer(numbers.FILE_BYTES)
         self.names = ctypes.create_string_buffer(numbers.NAME_BYTES)
         # addresses, so that a call need not make a pointer each time
@@ -221,7 +226,7 @@ def _refusal(number, out):
         return Refusal(number, words, out[0])
     if number in BARE:
         return Refusal(number, words)
-    return Refusal(number, words, out[0], out[1], out[2], _place(out[3]))
+    return Refusal(number, words, out[0], out[1], out[2], _place(out[3]), out[4])
 
 
 def _errors(out, words, room, width):
@@ -230,9 +235,7 @@ def _errors(out, words, room, width):
     if not total:
         return 0, ()
     stored = words[:width * min(total, room // width)]
-    columns = [stored[at::width] for at in range(width)]
-    if width == 4:
-        columns = [columns[0], columns[2], columns[3], columns[1]]
+    columns = (stored[at::width] for at in range(width))
     return total, tuple(map(Error, *columns)) if stored else ()
 
 
@@ -321,7 +324,7 @@ class Library:
     def bind(self, table: Bytes, names: Bytes, call: int, def_: int, room: Optional[int] = None) -> Union[Bound, Refusal]:
         """Which argument of a Call reaches which parameter of a Def."""
         table, names, own = _bytes(table), _bytes(names), self._buffers
-        room, buffer = _room(room, 4 * numbers.AUDIT_ERRORS, 4)
+        room, buffer = _room(room, LIST_WORDS, 4)
         lent = own.words_at if buffer is None else ctypes.addressof(buffer)
         number = self._bind(table, len(table), names, len(names), _node(call), _node(def_), lent, room, own.out_at)
         if number:
@@ -355,15 +358,15 @@ class Library:
 
     def module(self, table: Bytes, names: Bytes, dialect: Optional[Bytes], room: Optional[int] = None) -> Union[Errors, Refusal]:
         """The module pass under a dialect (None is no dialect, by which Extended is meant)."""
-        return self._listed(self._module, table, names, dialect, room, 3)
+        return self._listed(self._module, table, names, dialect, room, numbers.ERROR_WORDS)
 
     def audit(self, table: Bytes, names: Bytes, dialect: Optional[Bytes], room: Optional[int] = None) -> Union[Errors, Refusal]:
         """Every job on every node that it fits, under a dialect (None is no dialect, by which Extended is meant)."""
-        return self._listed(self._audit, table, names, dialect, room, 4)
+        return self._listed(self._audit, table, names, dialect, room, numbers.AUDIT_WORDS)
 
     def _listed(self, job, table, names, dialect, room, width):
         table, names, dialect, own = _bytes(table), _bytes(names), _bytes(dialect or b""), self._buffers
-        room, buffer = _room(room, 4 * numbers.AUDIT_ERRORS, 4)
+        room, buffer = _room(room, LIST_WORDS, 4)
         lent = own.words_at if buffer is None else ctypes.addressof(buffer)
         number = job(table, len(table), names, len(names), dialect, len(dialect), lent, room, own.out_at)
         if number:
@@ -408,16 +411,16 @@ class Library:
         """The module pass over a table file, under the dialect that it holds."""
         own = self._buffers
         if room is None and type(data) is bytes:
-            number = self._check_file(data, len(data), own.words_at, 3 * numbers.ERRORS, own.out_at)
-            room, words = 3 * numbers.ERRORS, own.words
+            room, words = FILE_WORDS, own.words
+            number = self._check_file(data, len(data), own.words_at, room, own.out_at)
         else:
             data = _bytes(data)
-            room, buffer = _room(room, 3 * numbers.ERRORS, 4)
+            room, buffer = _room(room, FILE_WORDS, 4)
             words = own.words if buffer is None else (WORD * room).from_buffer(buffer)
             number = self._check_file(data, len(data), ctypes.addressof(words), room, own.out_at)
         if number:
             return _refusal(number, own.out)
-        total, errors = _errors(own.out, words, room, 3)
+        total, errors = _errors(own.out, words, room, numbers.ERROR_WORDS)
         return Errors(total, errors, own.out[1])
 
 

@@ -6,11 +6,13 @@ library is asked about the first blocks: it answers 70 until the bad one is amon
 import struct
 
 from .numbers import KINDS, NAME_BYTES, NODE_BYTES, NODES
-from .table import BLOCK, CONTENT, LAST_POSITION, MOST_DETAIL, NAMED, RECORD, parts_of
+from .table import BLOCK, CONTENT, LAST_FILE, LAST_POSITION, MOST_DETAIL, NAMED, RECORD, parts_of
 
 COUNTS = 4  # where block 0 has its two counts
 MOST_NAME = 255
 NAMED_ARGUMENT = 61
+STATEMENTS = 1
+OLD = "bytes 18 and 19 are 0 in every record: the file is older than source file numbers and must be exported again"
 ARTICLE = {"statement": "a statement", "expression": "an expression", "parameter": "a parameter", "argument": "an argument"}
 
 S, E, P, A = "statement", "expression", "parameter", "argument"
@@ -72,16 +74,39 @@ def unsound(table, names, node):
     """Which rule the record at a node breaks; None where it breaks none."""
     records = Records(table, names)
     row = records.rows[node]
-    return fields(row, len(names)) or subtree(records, node, row) or children(records, node, row)
+    return fields(row, len(names)) or subtree(records, node, row) or children(records, node, row) or source_file(records, node)
+
+
+def top_of(records, node):
+    """The top-level statement that a node is in: the root, or its child, found by steps over sizes."""
+    if node == 0 or records.rows[0][0] != STATEMENTS:
+        return 0
+    top = 1
+    while top + max(1, records.size(top)) <= node:
+        top += max(1, records.size(top))
+    return top
+
+
+def source_file(records, node):
+    """What is wrong with a record's source file number."""
+    file, top = records.rows[node][7], top_of(records, node)
+    if not any(row[7] for row in records.rows):
+        return OLD if node or records.rows[0][0] != STATEMENTS else None
+    if node == 0 and records.rows[0][0] == STATEMENTS:
+        return f"the source file number is {file}, and a root Statements has 0" if file else None
+    if node == top:
+        return None if 1 <= file <= LAST_FILE else f"the source file number is {file}, and must be 1 to {LAST_FILE}"
+    wanted = records.rows[top][7]
+    return None if file == wanted else f"the source file number is {file}, and that of its top-level statement, node {top}, is {wanted}"
 
 
 def fields(row, name_bytes):
-    kind, detail, length, start, begin, end, _, zero, position = row
+    kind, detail, length, start, begin, end, _, _, position = row
     if kind not in KINDS:
         return f"{kind} is not a kind"
     if detail > MOST_DETAIL.get(kind, 0):
         return f"the detail is {detail}, and {name_of(kind)} has at most {MOST_DETAIL.get(kind, 0)}"
-    return name_fields(kind, length, start, name_bytes) or positions(kind, length, begin, end, zero, position)
+    return name_fields(kind, length, start, name_bytes) or positions(kind, length, begin, end, position)
 
 
 def name_fields(kind, length, start, name_bytes):
@@ -96,13 +121,11 @@ def name_fields(kind, length, start, name_bytes):
     return None
 
 
-def positions(kind, length, begin, end, zero, position):
+def positions(kind, length, begin, end, position):
     if begin > end:
         return f"the span begins at {begin} and ends before that, at {end}"
     if end > LAST_POSITION:
         return f"the span ends at {end}, and the last position is {LAST_POSITION}"
-    if zero:
-        return f"bytes 18 and 19 are {zero}, and must be 0"
     if kind != NAMED_ARGUMENT and position:
         return f"the name position is {position}, and only {name_of(NAMED_ARGUMENT)} has one"
     if kind == NAMED_ARGUMENT and position + length > LAST_POSITION:

@@ -4,7 +4,7 @@ from .bind import HEAD, LONGEST
 from .library import Refusal
 from .numbers import KIND, KINDS
 from .output import Failed, Report, dumps, named, say, shown, visible
-from .places import Source
+from .scripts import NONE
 from .table import children, decode
 
 WORDS = {
@@ -16,15 +16,19 @@ LINES = (("statements", "statements"), ("nodes", "nodes"), ("dropped", "dropped"
 
 
 class Statement:
-    """A statement of the outermost list, by its span."""
+    """A statement of the outermost list, by its source file number and its span."""
 
     def __init__(self, node, record):
-        self.node, self.kind, self.begin, self.end = node, record.kind, record.begin, record.end
+        self.node, self.kind, self.file, self.begin, self.end = node, record.kind, record.file, record.begin, record.end
 
-    def text(self, source):
+    def place(self):
+        return self.file, self.begin, self.end, self.kind
+
+    def text(self, scripts):
         """Its name and line, where there is a script, else its kind and span."""
+        source = scripts.of(self.file)
         if not source or source.is_beyond(self.begin, self.end):
-            return f"{KINDS[self.kind][0]}, node {self.node}, bytes {self.begin} to {self.end}"
+            return f"{KINDS[self.kind][0]}, node {self.node}, file {self.file}, bytes {self.begin} to {self.end}"
         line, column = source.line_column(self.begin)
         return f"{self.name(source)}, {visible(source.path)}:{line}:{column}"
 
@@ -36,10 +40,9 @@ class Statement:
         text = shown(first)
         return text[:LONGEST - 1] + "…" if more or len(text) > LONGEST else text
 
-    def in_json(self, source):
-        told = {"kind": {"number": self.kind, "name": KINDS[self.kind][0]}, "begin": self.begin, "end": self.end}
-        if self.node is not None:
-            told["node"] = self.node
+    def in_json(self, scripts):
+        told = {"kind": {"number": self.kind, "name": KINDS[self.kind][0]}, "file": self.file, "begin": self.begin, "end": self.end, "node": self.node}
+        source = scripts.of(self.file)
         if source and not source.is_beyond(self.begin, self.end):
             told["name"] = self.name(source)
             told["line"], told["column"] = source.line_column(self.begin)
@@ -53,45 +56,48 @@ def statements(table):
     return [Statement(node, records[node]) for node in nodes]
 
 
-def in_script(source, kept):
-    """All statements of the script, where it can be read and begins with those that are kept; None otherwise."""
+def in_scripts(scripts, kept):
+    """All statements of the scripts in the order of their numbers, where they can be read and begin with those that are kept; None otherwise. One script
+    of all numbers has the number of the first statement."""
     from . import export
+    held = [(kept[0].file if kept else 1, scripts.every)] if scripts.every else sorted(scripts.by_file.items())
     try:
-        table, _ = export.export(source.bytes, source.path, None)
+        table = export.joined_export([source.bytes for _, source in held]).table
     except export.ScriptError:
         return None
     found = statements(table)
-    same = [(one.begin, one.end, one.kind) for one in found[:len(kept)]] == [(one.begin, one.end, one.kind) for one in kept]
-    return found if same else None
+    for one in found:
+        one.file = held[one.file - 1][0]
+    return found if [one.place() for one in found[:len(kept)]] == [one.place() for one in kept] else None
 
 
 class Told:
     """Which statements are kept and which are lost."""
 
-    def __init__(self, library, rescued, source):
-        self.rescued, self.source = rescued, source
+    def __init__(self, library, rescued, scripts):
+        self.rescued, self.scripts = rescued, scripts or NONE
         self.kept = statements(library.read(rescued.data).table)
-        self.all = in_script(source, self.kept) if source else None
+        self.all = in_scripts(scripts, self.kept) if scripts else None
 
     @property
     def lost(self):
-        """The lost statements by the script; None where it does not say."""
+        """The lost statements by the scripts; None where they do not say."""
         return None if self.all is None else self.all[len(self.kept):]
 
     def lines(self):
         of = f" of {len(self.all)}" if self.all is not None else ""
-        lines = [f"kept {at}{of}: {one.text(self.source)}" for at, one in enumerate(self.kept, 1)]
+        lines = [f"kept {at}{of}: {one.text(self.scripts)}" for at, one in enumerate(self.kept, 1)]
         if self.lost is not None and self.rescued.dropped:
-            return lines + [f"lost {at}{of}: {one.text(self.source)}" for at, one in enumerate(self.lost, len(self.kept) + 1)]
+            return lines + [f"lost {at}{of}: {one.text(self.scripts)}" for at, one in enumerate(self.lost, len(self.kept) + 1)]
         if self.rescued.dropped:
-            after = f"after byte {self.kept[-1].end}" if self.kept else "all"
+            after = f"after byte {self.kept[-1].end} of file {self.kept[-1].file}" if self.kept else "all"
             lines.append(f"lost: {self.rescued.dropped} nodes, {after}")
         return lines
 
     def in_json(self):
         lost = self.lost if self.rescued.dropped else []
-        return {"kept": [one.in_json(self.source) for one in self.kept],
-                "lost": None if lost is None else [one.in_json(self.source) for one in lost]}
+        return {"kept": [one.in_json(self.scripts) for one in self.kept],
+                "lost": None if lost is None else [one.in_json(self.scripts) for one in lost]}
 
 
 def run(library, options, out, front):
@@ -108,7 +114,7 @@ def run(library, options, out, front):
     if type(answer) is Refusal:
         return refused(library, options, out, report, entry, data, answer)
     after = answer.bytes_after + total - len(data)
-    told = Told(library, answer, options.script) if options.explain or report else None
+    told = Told(library, answer, options.scripts) if options.explain or report else None
     try:
         files.write(options.out, answer.data)
     except OSError as error:
@@ -124,8 +130,9 @@ def run(library, options, out, front):
     out.lines(f"{word} {number}" + (f": {WORDS[word]}" if options.explain else "") for word, number in numbers.items())
     if options.explain:
         out.lines(told.lines())
-        if options.script and told.all is None:
-            say(f"{options.script.path}: the statements of this script are not known, or are not the table's; lost ones are not named")
+        if options.scripts and told.all is None:
+            say(f"{options.scripts.paths}: the statements of {'this script' if options.scripts.every else 'these scripts'} are not known, or are not the "
+                "table's; lost ones are not named")
     return status
 
 
@@ -149,10 +156,3 @@ def refused(library, options, out, report, entry, data, refusal):
         say(f"{options.input.name}: {said}")
     return 2
 
-
-def source_of(path):
-    """The script that --script names."""
-    try:
-        return Source(path, inputs.read_script(inputs.Input(path)))
-    except (OSError, ValueError) as error:
-        raise Failed(f"{path}: {inputs.reason(error)}") from None

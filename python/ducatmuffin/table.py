@@ -3,7 +3,7 @@
 The text form. A tree is written (Kind children): (Statements (Break) (Return (Identifier x))). After the kind may come
   :1              the detail
   x               the name, where the kind has one
-  size=3 span=4-9 pad=1 pos=7 name=0+256 kind=13     a field that is not as usual (name: start and length)
+  size=3 span=4-9 file=2 pos=7 name=0+256 kind=13     a field that is not as usual (name: start and length)
 ^3<text> is the text three times: ^3<(Break)>, and ^3<(Not >(Int)^3<)> for (Not (Not (Not (Int)))); a # in it is the number of the turn,
 from 0, in base 36. Sizes follow from the tree, names are put one after the other, and node i has the span i to i + 1.
 
@@ -16,12 +16,17 @@ Above the tree there may be such lines:
   rules: off            names, details and positions may be anything: the text form of a table that is not sound
   change: 600 7         byte 600 of the file is changed to 7
   cut: 700              only 700 bytes of the file are kept
+Above the tree and between its top-level statements there may also be lines
+  file: 2               the source file number of the statements in the lines that follow; before the first such line it is 1
+A root Statements has the source file number 0. file=2 is that of one record alone, not of those below it.
+
 A quote is the first such text within the parent's, after the child before it and after the name of a Normal or a Named, with which their quotes
 begin. `def f…break` goes from the first words to the first such last words after them. span=4-9 can be given in place of a quote.
 """
+import bisect
 import re
 import struct
-from typing import Callable, Iterator, List, NamedTuple, Optional, Tuple
+from typing import Callable, Iterator, List, NamedTuple, Optional, Sequence, Tuple
 
 from . import numbers
 
@@ -29,13 +34,14 @@ RECORD = struct.Struct("<BBHIIIHHI")
 BLOCK, CONTENT = 512, 504
 KIND = numbers.KIND
 LAST_POSITION = 2 ** 31 - 1
+LAST_FILE = 999  # the largest source file number
 NAMED = frozenset(KIND[word] for word in ("Dot", "Identifier", "Normal", "ArgsParam", "KwArgsParam", "Named"))
 MOST_DETAIL = {KIND["Normal"]: 3, **{KIND[word]: 1 for word in ("Def", "Assign", "AssignModify", "Op", "ArgsParam", "KwArgsParam")}}
 DIALECTS = {"none": b"", **numbers.DIALECTS, "alloptionsinternal": numbers.DIALECTS["all"]}
 DIALECT_NAMES = {numbers.DIALECTS["standard"]: "Standard", numbers.DIALECTS["extended"]: "Extended",
                  numbers.DIALECTS["all"]: "AllOptionsInternal"}
 # the fields that may be given as words, each with the mark between its numbers and the most that they may be
-FIELDS = {"size": (None, [65535]), "span": ("-", [2 ** 32 - 1] * 2), "pad": (None, [65535]), "pos": (None, [2 ** 32 - 1]),
+FIELDS = {"size": (None, [65535]), "span": ("-", [2 ** 32 - 1] * 2), "file": (None, [65535]), "pos": (None, [2 ** 32 - 1]),
           "name": ("+", [2 ** 32 - 1, 65535]), "kind": (None, [255])}
 LINES = ("script", "dialect", "change", "cut", "names", "rules")
 TOKEN = re.compile(r"\n|[()]|`[^`]*`|[^\s()]+")
@@ -44,7 +50,7 @@ WORD = re.compile(rb"[A-Za-z_][A-Za-z0-9_]*")
 
 
 class Record(NamedTuple):
-    """A record of a table. `source` is where the name begins in the script (kind Named), `pad` the two bytes that must be 0."""
+    """A record of a table. `source` is where the name begins in the script (kind Named), `file` the source file number."""
     kind: int
     detail: int
     name_length: int
@@ -52,7 +58,7 @@ class Record(NamedTuple):
     begin: int
     end: int
     size: int
-    pad: int = 0
+    file: int = 0
     source: int = 0
 
 
@@ -282,10 +288,32 @@ def _as_documented(node):
     demand(node.fields.get("pos", 0) + len(node.name) <= LAST_POSITION, f"a name that ends beyond {LAST_POSITION}", node)
 
 
-def table_of(roots: List[Node], shared: bool = False, given: Optional[bytes] = None) -> Tuple[bytes, bytes]:
-    """The records of trees side by side, and their name bytes: one after the other, shared by equal names, or as they are given."""
+def _kind(node):
+    """The kind that a node's record has."""
+    return node.fields.get("kind", node.kind)
+
+
+def _files(roots, lines):
+    """The source file number of each node's record. `lines` has the lines file:, each with its number and what it says."""
+    numbers = {}
+    if roots and _kind(roots[0]) == KIND["Statements"]:
+        numbers[id(roots[0])] = 0
+        roots = roots[0].children + roots[1:]
+    first = [line for line, _ in lines]
+    for top in roots:
+        said = bisect.bisect(first, top.line)
+        for node in preorder([top]):
+            if said < len(first) and first[said] <= node.line:
+                raise TextError(first[said], "a line file: within a statement")
+            numbers[id(node)] = lines[said - 1][1] if said else 1
+    return numbers
+
+
+def table_of(roots: List[Node], shared: bool = False, given: Optional[bytes] = None, lines: Sequence[Tuple[int, int]] = ()) -> Tuple[bytes, bytes]:
+    """The records of trees side by side, and their name bytes: one after the other, shared by equal names, or as they are given. `lines` has the lines
+    file: of the text, each with its number and what it says."""
     nodes = list(preorder(roots))
-    sizes = _sizes(nodes)
+    sizes, numbered = _sizes(nodes), _files(roots, lines)
     records, names, known = [], bytearray(given or b""), {}
     for at, node in enumerate(nodes):
         f = node.fields
@@ -300,7 +328,7 @@ def table_of(roots: List[Node], shared: bool = False, given: Optional[bytes] = N
                 names.extend(node.name)
             start = f.get("name", (place,))[0]
         begin, end = f.get("span", (at, at + 1))
-        record = (f.get("kind", node.kind), node.detail, length, start, begin, end, f.get("size", sizes[id(node)]), f.get("pad", 0),
+        record = (_kind(node), node.detail, length, start, begin, end, f.get("size", sizes[id(node)]), f.get("file", numbered[id(node)]),
                   f.get("pos", 0))
         demand(record[6] <= 65535, f"a subtree of {record[6]} nodes, and 65535 is the most that a record can say", node)
         demand(length <= 65535, f"a name of {length} bytes, and 65535 is the most that a record can say", node)
@@ -364,16 +392,18 @@ def _behind(node):
 
 
 def _lines_said(text):
-    """What the lines of a text say beside its tree, each with its number, and the tree, with an empty line for each of them."""
-    said, tree = {}, []
+    """What the lines of a text say beside its tree, each with its number, the lines file:, and the tree, with an empty line for each of them."""
+    said, files, tree = {}, [], []
     for number, line in enumerate(text.replace("\r\n", "\n").split("\n"), 1):
         key, mark, value = line.partition(":")
-        if mark and key in LINES:
+        if mark and key == "file":
+            files.append((number, _at_line(lambda text: _numbers(text, None, [65535])[0], value.strip(), number)))
+        elif mark and key in LINES:
             if key in said:
                 raise TextError(number, f"a second line {key}:")
             said[key] = value.strip(), number
-        tree.append("" if line.startswith("#") or mark and key in said else line)
-    return said, "\n".join(tree)
+        tree.append("" if line.startswith("#") or mark and (key == "file" or key in said) else line)
+    return said, files, "\n".join(tree)
 
 
 def decoded(data: bytes) -> str:
@@ -447,7 +477,7 @@ def _changed(made, text):
 
 def read_text(text: str, script: Optional[Callable[[str], bytes]] = None) -> Text:
     """What a text says. `script` reads the script that a text names."""
-    said, tree = _lines_said(text)
+    said, files, tree = _lines_said(text)
     off = "rules" in said and _at_line(_is_off, *said["rules"])
     roots = trees(tree)
     demand(roots or off and "script" not in said, "there is no tree")
@@ -460,7 +490,7 @@ def read_text(text: str, script: Optional[Callable[[str], bytes]] = None) -> Tex
         if not off:
             _as_documented(node)
     names = _at_line(_given_names, *said["names"]) if "names" in said else None
-    table, names = table_of(roots, "names" in said, names)
+    table, names = table_of(roots, "names" in said, names, files)
     dialect = _at_line(_any_dialect if off else dialect_of, *said.get("dialect", ("none", 0)))
     return Text(table, names, dialect, said.get("change"), said.get("cut"))
 
@@ -486,8 +516,8 @@ def _nested(records):
         yield at, record, level, end - at, closed
 
 
-def _node_text(at, record, size, names, placed):
-    """A record in words, without brackets."""
+def _node_text(record, size, names, placed, file):
+    """A record in words, without brackets. `file` is the source file number that it has without a word."""
     kind = record.kind if record.kind in numbers.KINDS else KIND["Break"]
     words = [kind_name(kind) + (f":{record.detail}" if record.detail else "")]
     name = name_of(record, names)
@@ -496,14 +526,19 @@ def _node_text(at, record, size, names, placed):
     if placed and (record.name_length or record.name_start):
         words.append(f"name={record.name_start}+{record.name_length}")
     words.append(f"span={record.begin}-{record.end}")
-    others = (("pos", record.source, 0), ("size", record.size, size), ("pad", record.pad, 0), ("kind", record.kind, kind))
+    others = (("pos", record.source, 0), ("size", record.size, size), ("file", record.file, file), ("kind", record.kind, kind))
     return " ".join(words + [f"{key}={value}" for key, value, usual in others if value != usual])
 
 
 def _printed(records, names, dialect, lines, placed):
-    parts = [f"dialect: {dialect_name(dialect)}", *lines]
+    parts, file = [f"dialect: {dialect_name(dialect)}", *lines], 1
+    several = bool(records) and records[0].kind == KIND["Statements"]
     for at, record, level, size, closed in _nested(records):
-        parts.append("  " * min(level, numbers.DEPTH) + "(" + _node_text(at, record, size, names, placed) + ")" * closed)
+        if level == several and record.file != file:
+            file = record.file
+            parts.append(f"file: {file}")
+        usual = 0 if several and at == 0 else file
+        parts.append("  " * min(level, numbers.DEPTH) + "(" + _node_text(record, size, names, placed, usual) + ")" * closed)
     return "\n".join(parts) + "\n"
 
 

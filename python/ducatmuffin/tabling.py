@@ -1,4 +1,4 @@
-"""ducat table: the table file of a script, or of the text form of a table."""
+"""ducat table: the table file of scripts, or of the text form of a table."""
 import os
 
 from . import dialects, files, inputs, reasons, table, write
@@ -8,23 +8,26 @@ from .output import Failed, digest, named, say
 
 
 def run(library, options, out, front):
-    """Writes the table file. Returns the exit status: 0 it is written, 1 the script is not Starlark, 2 there is none for another reason."""
-    one = options.input
-    try:
-        data = inputs.read_script(one)
-    except (OSError, ValueError) as error:
-        raise Failed(f"{one.name}: {inputs.reason(error)}") from None
+    """Writes the table file. Returns the exit status: 0 it is written, 1 a script is not Starlark, 2 there is none for another reason."""
+    found, datas = options.inputs, []
+    for one in found:
+        try:
+            datas.append(inputs.read_script(one))
+        except (OSError, ValueError) as error:
+            raise Failed(f"{one.name}: {inputs.reason(error)}") from None
     if options.parts:
-        return run_parts(library, options, out, front, data)
-    made, dialect = (of_script if one.script else of_text)(library, options, data)
+        return run_parts(library, options, out, front, datas)
+    made, dialect = of_scripts(library, options, datas) if found[0].script else of_text(library, options, datas[0])
     if isinstance(made, tuple):
-        return write.refused(options, out, front, entries(one, data, options), *made)
-    return write.written(options, out, front, entries(one, data, options), made, {"dialect": dialects.in_json(dialect)})
+        return write.refused(options, out, front, entries(options, datas), *made)
+    return write.written(options, out, front, entries(options, datas), made, {"dialect": dialects.in_json(dialect)})
 
 
-def entries(one, data, options):
-    kind = {"kind": "script", "table": MADE} if one.script else {"kind": "text"}
-    return [{**named(one.name), **kind, **evidence(data, True)}] if options.json else []
+def entries(options, datas):
+    if not options.json:
+        return []
+    return [{**named(one.name), **({"kind": "script", "file": file, "table": MADE} if one.script else {"kind": "text"}), **evidence(data, True)}
+            for file, (one, data) in enumerate(zip(options.inputs, datas), options.number)]
 
 
 def no_table(one, error):
@@ -33,42 +36,43 @@ def no_table(one, error):
     return Failed(f"{one.name}:{error.line}:{error.column}: {error.message}", 1 if isinstance(error, export.ScriptSyntaxError) else 2)
 
 
-def of_script(library, options, data):
+def of_scripts(library, options, datas):
     from . import export
     if not options.json:
         say(STEP)
     try:
-        made = export.export(data, options.input.name, options.dialect)
+        made = export.joined_export(datas, options.number)[:2]
     except export.ScriptError as error:
-        raise no_table(options.input, error) from None
+        raise no_table(options.inputs[error.at], error) from None
     answer = library.write(*made, options.dialect or b"")
     if type(answer) is Refusal:
         return (answer, reasons.why_table(*made, options.dialect, answer)), options.dialect
     return answer.data, options.dialect
 
 
-def run_parts(library, options, out, front, data):
+def run_parts(library, options, out, front, datas):
     """A table file of each top-level statement, in a folder that is new or empty."""
     from . import export
-    one = options.input
-    if not one.script:
+    if not options.inputs[0].script:
         raise Failed("--parts is for scripts")
     if not options.json:
         say(STEP)
-    try:
-        tables = export.export_parts(data, one.name, options.dialect)
-    except export.ScriptError as error:
-        raise no_table(one, error) from None
+    tables = []
+    for file, (one, data) in enumerate(zip(options.inputs, datas), options.number):
+        try:
+            tables += export.export_parts(data, one.name, options.dialect, file)
+        except export.ScriptError as error:
+            raise no_table(one, error) from None
     contents = []
     for made in tables:
         answer = library.write(*made, options.dialect or b"")
         if type(answer) is Refusal:
-            return write.refused(options, out, front, entries(one, data, options), answer, reasons.why_table(*made, options.dialect, answer))
+            return write.refused(options, out, front, entries(options, datas), answer, reasons.why_table(*made, options.dialect, answer))
         contents.append(answer.data)
     names = written_parts(options.out, contents)
     if options.json:
         outputs = [{**named(name), "sha256": digest(content), "bytes": len(content)} for name, content in zip(names, contents)]
-        write.finish(out, front, entries(one, data, options), verdict="written", dialect=dialects.in_json(options.dialect), outputs=outputs, status=0)
+        write.finish(out, front, entries(options, datas), verdict="written", dialect=dialects.in_json(options.dialect), outputs=outputs, status=0)
     else:
         out.lines([f"files {len(names)}"])
     return 0
@@ -89,8 +93,8 @@ def written_parts(folder, contents):
 
 def of_text(library, options, data):
     """A text may stand for a table that is not sound, or for a file that is damaged: such a file is made as the text says."""
-    name = options.input.name
-    folder = os.path.dirname(options.input.path or "")
+    name = options.inputs[0].name
+    folder = os.path.dirname(options.inputs[0].path or "")
 
     def beside(path):
         return inputs.read_script(inputs.Input(os.path.join(folder, path)))

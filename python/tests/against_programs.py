@@ -82,7 +82,7 @@ def lines_of(answer):
     """What the program of document 01 prints of an answer of the library."""
     if isinstance(answer, Refusal):
         return f"refused {answer.number}\n".encode()
-    errors = "".join(f"{error.number} {error.begin} {error.end}\n" for error in answer.errors)
+    errors = "".join(f"{error.number} {error.file} {error.begin} {error.end}\n" for error in answer.errors)
     return f"nodes {answer.nodes}\n{errors}errors {answer.total}\n".encode()
 
 

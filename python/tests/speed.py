@@ -29,7 +29,7 @@ LOOP = r"""
 
 int main(int count, char **names) {
     static uint8_t file[STARLARK_FILE_BYTES + 1];
-    static uint32_t errors[3 * STARLARK_ERRORS];
+    static uint32_t errors[STARLARK_ERROR_WORDS * STARLARK_ERRORS];
     uint32_t out[STARLARK_WORDS];
     for (int i = 1; i < count; i++) {
         int descriptor = open(names[i], O_RDONLY);
@@ -37,13 +37,16 @@ int main(int count, char **names) {
         ssize_t part;
         while (length < sizeof file && (part = read(descriptor, file + length, sizeof file - length)) > 0) length += part;
         close(descriptor);
-        uint32_t number = starlark_check_file(file, length, errors, 3 * STARLARK_ERRORS, out);
+        uint32_t number = starlark_check_file(file, length, errors, STARLARK_ERROR_WORDS * STARLARK_ERRORS, out);
         if (number) {
             printf("refused %u\n", number);
             continue;
         }
         printf("nodes %u\n", out[1]);
-        for (uint32_t k = 0; k < out[0]; k++) printf("%u %u %u\n", errors[3 * k], errors[3 * k + 1], errors[3 * k + 2]);
+        for (uint32_t k = 0; k < out[0]; k++) {
+            uint32_t *error = errors + STARLARK_ERROR_WORDS * k;
+            printf("%u %u %u %u\n", error[0], error[1], error[2], error[3]);
+        }
         printf("errors %u\n", out[0]);
     }
     return 0;

@@ -106,7 +106,7 @@ class Others(CommandTest):
     def test_types_that_open_bring_40(self):
         path = self.made("type.table", "dialect: Standard\n(Assign:1 (Identifier x) (Int) (Int))")
         self.assertIn("\n45 ", self.run_ducat("check", path).out)
-        self.says(1, f"nodes 4\n{body('enable_types', [], 0, 0, ['40 2 3'])}", "", "check", "--against", "111002100", path)
+        self.says(1, f"nodes 4\n{body('enable_types', [], 0, 0, ['40 1 2 3'])}", "", "check", "--against", "111002100", path)
 
     def test_status_1_for_another_job_alone(self):
         path = self.made("call.table", "dialect: 000000010\n(Statements (OtherSimple (Lambda (Int))) (OtherSimple (Call (Identifier f) "
@@ -114,7 +114,7 @@ class Others(CommandTest):
         ran = self.run_ducat("check", "--against", "010000010", path)
         self.assertEqual(ran.status, 1)
         self.assertIn("taken out 1, left 0\n", ran.out)
-        self.assertRegex(ran.out, r"in the new dialect:\n20 \d+ \d+\nother errors 1\n$")
+        self.assertRegex(ran.out, r"in the new dialect:\n20 1 \d+ \d+\nother errors 1\n$")
 
     def test_a_list_of_parameters_that_the_module_pass_does_not_reach(self):
         """Below a top-level `if` that the dialect does not permit the module pass looks at no def; the parameter job does."""
@@ -158,7 +158,7 @@ class Forms(CommandTest):
         names = [f"samples/{name}.table" for name in support.samples(".table")]
         one = self.run_ducat("check", "--against", "extended", *names, "samples/missing.table")
         self.assertEqual(one.status, 2)
-        self.assertRegex(one.out, r"\nfiles 16, with errors \d+, refused 4, not read 1, errors \d+, no opening [1-9]\d*\n$")
+        self.assertRegex(one.out, r"\nfiles 17, with errors \d+, refused 4, not read 1, errors \d+, no opening [1-9]\d*\n$")
         self.assertEqual(one, self.run_ducat("check", "--jobs", "3", "--against", "extended", *names, "samples/missing.table"))
 
     def test_bad_only(self):

@@ -87,63 +87,63 @@ class Sample(BindTest):
         self.says(1, bound, STEP, "bind", "-", "--stdin-filename", "x.star", input=support.sample("take.star"))
 
     def test_defs_and_calls(self):
-        self.says(0, """def 1, bytes 0 to 56: 2 parameters
-def 9, bytes 58 to 112: 2 parameters
-def 16, bytes 114 to 334: 2 parameters
-call 21, bytes 144 to 164: take, 2 arguments
-call 28, bytes 169 to 203: take, 2 arguments
-call 35, bytes 208 to 228: take, 2 arguments
-call 42, bytes 233 to 268: take2, 2 arguments
-call 49, bytes 273 to 308: take2, 2 arguments
-call 56, bytes 313 to 334: take2, 2 arguments
+        self.says(0, """def 1, file 1, bytes 0 to 56: 2 parameters
+def 9, file 1, bytes 58 to 112: 2 parameters
+def 16, file 1, bytes 114 to 334: 2 parameters
+call 21, file 1, bytes 144 to 164: take, 2 arguments
+call 28, file 1, bytes 169 to 203: take, 2 arguments
+call 35, file 1, bytes 208 to 228: take, 2 arguments
+call 42, file 1, bytes 233 to 268: take2, 2 arguments
+call 49, file 1, bytes 273 to 308: take2, 2 arguments
+call 56, file 1, bytes 313 to 334: take2, 2 arguments
 defs 3, calls 6
 """, "", "bind", TAKE)
 
     def test_single_calls(self):
-        self.pair(0, "trains, by place only: trains (node 23, bytes 149 to 155)\ntracks, by place only: tracks (node 25, bytes 157 to 163)\n",
+        self.pair(0, "trains, by place only: trains (node 23, file 1, bytes 149 to 155)\ntracks, by place only: tracks (node 25, file 1, bytes 157 to 163)\n",
                   TAKE, 21, 1)
-        self.pair(1, "refused 82 174 187\n", TAKE, 28, 1)
-        self.pair(1, "refused 82 174 187: no parameter takes a named argument, and there is no `**kwargs`\n", TAKE, 28, 1, "--explain")
-        self.pair(0, "trains, by place or name: trains=tracks (node 32, bytes 189 to 202)\n"
-                  "tracks, by place or name: tracks=trains (node 30, bytes 174 to 187)\n", TAKE, 28, 9, "--explain")
-        self.says(0, "trains, by place only: tracks (node 37, bytes 213 to 219)\ntracks, by place only: trains (node 39, bytes 221 to 227)\n", "",
+        self.pair(1, "refused 82 1 174 187\n", TAKE, 28, 1)
+        self.pair(1, "refused 82 1 174 187: no parameter takes a named argument, and there is no `**kwargs`\n", TAKE, 28, 1, "--explain")
+        self.pair(0, "trains, by place or name: trains=tracks (node 32, file 1, bytes 189 to 202)\n"
+                  "tracks, by place or name: tracks=trains (node 30, file 1, bytes 174 to 187)\n", TAKE, 28, 9, "--explain")
+        self.says(0, "trains, by place only: tracks (node 37, file 1, bytes 213 to 219)\ntracks, by place only: trains (node 39, file 1, bytes 221 to 227)\n", "",
                   "bind", "-", "--call", "35", "--def", "1", input=support.sample("take.table"))
 
 
 class Modes(BindTest):
     def test_list(self):
-        self.says(0, """def 1, bytes 1 to 2: 7 parameters
-call 14, bytes 14 to 15: f, 3 arguments
-call 22, bytes 22 to 23: f, 8 arguments
-call 40, bytes 40 to 41: a method call, 3 arguments
-call 49, bytes 49 to 50: g, 0 arguments
-def 51, bytes 51 to 52: 0 parameters
+        self.says(0, """def 1, file 1, bytes 1 to 2: 7 parameters
+call 14, file 1, bytes 14 to 15: f, 3 arguments
+call 22, file 1, bytes 22 to 23: f, 8 arguments
+call 40, file 1, bytes 40 to 41: a method call, 3 arguments
+call 49, file 1, bytes 49 to 50: g, 0 arguments
+def 51, file 1, bytes 51 to 52: 0 parameters
 defs 2, calls 4
 """, "", "bind", self.made("modes", MODES))
 
     def test_every_mode(self):
         path = self.made("modes", MODES)
-        self.pair(0, """a, by place only: x (node 16, bytes 16 to 17)
-b, by place or name: (Int) (node 18, bytes 18 to 19)
+        self.pair(0, """a, by place only: x (node 16, file 1, bytes 16 to 17)
+b, by place or name: (Int) (node 18, file 1, bytes 18 to 19)
 c, by place or name: default
 *rest, collects by place: none
-d, by name only: d=y (node 20, bytes 20 to 21)
+d, by name only: d=y (node 20, file 1, bytes 20 to 21)
 e, by name only: default
 **more, collects by name: none
 """, path, 14, 1)
-        self.pair(0, """a, by place only: (Int) (node 24, bytes 24 to 25)
-b, by place or name: (Int) (node 26, bytes 26 to 27)
-c, by place or name: (Int) (node 28, bytes 28 to 29)
-*rest, collects by place: x (node 30, bytes 30 to 31); (Int) (node 32, bytes 32 to 33)
-d, by name only: d=(Int) (node 36, bytes 36 to 37)
+        self.pair(0, """a, by place only: (Int) (node 24, file 1, bytes 24 to 25)
+b, by place or name: (Int) (node 26, file 1, bytes 26 to 27)
+c, by place or name: (Int) (node 28, file 1, bytes 28 to 29)
+*rest, collects by place: x (node 30, file 1, bytes 30 to 31); (Int) (node 32, file 1, bytes 32 to 33)
+d, by name only: d=(Int) (node 36, file 1, bytes 36 to 37)
 e, by name only: default
-**more, collects by name: z=(List) (node 34, bytes 34 to 35); a=y (node 38, bytes 38 to 39)
+**more, collects by name: z=(List) (node 34, file 1, bytes 34 to 35); a=y (node 38, file 1, bytes 38 to 39)
 """, path, 22, 1)
-        self.pair(0, """a, by place only: (Int) (node 43, bytes 43 to 44)
-b, by place or name: b=(Tuple) (node 47, bytes 47 to 48)
+        self.pair(0, """a, by place only: (Int) (node 43, file 1, bytes 43 to 44)
+b, by place or name: b=(Tuple) (node 47, file 1, bytes 47 to 48)
 c, by place or name: default
 *rest, collects by place: none
-d, by name only: d=(Int) (node 45, bytes 45 to 46)
+d, by name only: d=(Int) (node 45, file 1, bytes 45 to 46)
 e, by name only: default
 **more, collects by name: none
 """, path, 40, 1)
@@ -151,8 +151,8 @@ e, by name only: default
 
     def test_each_refusal(self):
         path = self.made("refusals", REFUSALS)
-        for call, def_, line in ((12, 1, "80 14 15"), (16, 1, "81 22 23"), (24, 1, "83 28 29"), (30, 1, "84 2 3"), (34, 1, "20 38 39"),
-                                 (12, 6, "13 9 10")):
+        for call, def_, line in ((12, 1, "80 1 14 15"), (16, 1, "81 1 22 23"), (24, 1, "83 1 28 29"), (30, 1, "84 1 2 3"), (34, 1, "20 1 38 39"),
+                                 (12, 6, "13 1 9 10")):
             self.pair(1, f"refused {line}\n", path, call, def_)
 
     def test_nodes_that_are_wrong(self):
@@ -260,7 +260,7 @@ bound 1, refused 0, without a def 3
     def test_a_name_makes_no_line_of_its_own(self):
         path = self.made("control", "(Statements (Def (Normal a\x01\x1bb) (Break)) (OtherSimple (Call (Identifier f\x02) "
                          "(Positional (Identifier g\x03)))))")
-        self.pair(0, "a??b, by place or name: g? (node 7, bytes 7 to 8)\n", path, 5, 1)
+        self.pair(0, "a??b, by place or name: g? (node 7, file 1, bytes 7 to 8)\n", path, 5, 1)
 
     def test_many_pairs(self):
         """330 calls and 330 defs of one name: every pair is bound, in no more than 15 s of processor time."""
@@ -287,10 +287,10 @@ class Json(BindTest):
         self.assertEqual((told["command"], entry["verdict"], entry["totals"]), ("bind", "refused", {"bound": 5, "refused": 1, "without_def": 0}))
         first, second = entry["pairs"][:2]
         self.assertEqual(first["parameters"][0], {"name": "trains", "mode": "by place only", "default": False, "arguments": [
-            {"node": 23, "begin": 149, "end": 155, "line": 8, "column": 10}]})
+            {"node": 23, "file": 1, "begin": 149, "end": 155, "line": 8, "column": 10}]})
         self.assertEqual(second["refused"], {
             "number": 82, "words": "no parameter takes a named argument, and there is no `**kwargs`", "node": 30,
-            "kind": {"number": 61, "name": "Named"}, "begin": 174, "end": 187, "line": 9, "column": 10})
+            "kind": {"number": 61, "name": "Named"}, "file": 1, "begin": 174, "end": 187, "line": 9, "column": 10})
 
     def test_list_and_pair(self):
         entry, = self.told(0, TAKE)["inputs"]
@@ -309,8 +309,8 @@ class Json(BindTest):
         large, wrong = self.put("large.star", "pass\n" * 2100), self.put("wrong.star", "x = \n")
         told = self.told(2, "samples/damaged.table", "samples/missing.table", large, wrong)
         self.assertEqual([entry["verdict"] for entry in told["inputs"]], ["refused", "unreadable", "no table", "syntax"])
-        self.assertEqual(told["inputs"][3]["errors"], [{"number": None, "words": "syntax: unexpected end of line", "begin": 4, "end": 5, "line": 1,
-                                                        "column": 5}])
+        self.assertEqual(told["inputs"][3]["errors"], [{"number": None, "words": "syntax: unexpected end of line", "file": 1, "begin": 4, "end": 5,
+                                                        "line": 1, "column": 5, "script": {"name": wrong}}])
 
 
 if __name__ == "__main__":

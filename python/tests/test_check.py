@@ -8,7 +8,7 @@ import support
 from command import CommandTest
 from ducatmuffin import numbers, table
 
-STATUS = {"clean": 0, "cut": 2, "damaged": 2, "example": 1, "example-none": 1, "lambda": 1, "lost": 2, "parameters": 1, "placement": 1,
+STATUS = {"clean": 0, "cut": 2, "damaged": 2, "example": 1, "example-none": 1, "joined": 1, "lambda": 1, "lost": 2, "parameters": 1, "placement": 1,
           "statements": 1, "take": 0, "toplevel": 0, "toplevel-standard": 1, "unsound": 2, "whole": 1}
 ALL = "the whole checker accepts: the module pass, and every job on every node that it fits"
 MODULE = "none of 10 to 18 and 50 to 61; 20 to 45 (calls, targets, types) are not looked for with --module"
@@ -19,11 +19,11 @@ LARGEST = "dialect: Standard\n(Statements ^64<(OtherSimple (Identifier " + "0" *
 
 
 def sorted_lines(text):
-    """An answer with its errors sorted by begin, end and number."""
+    """An answer with its errors sorted by file, begin, end and number."""
     lines = text.splitlines()
     if len(lines) < 2:
         return text.partition(":")[0] + ("\n" if ":" in text else "")
-    errors = sorted(([int(word) for word in line.split()] for line in lines[1:-1]), key=lambda error: (error[1], error[2], error[0]))
+    errors = sorted(([int(word) for word in line.split()] for line in lines[1:-1]), key=lambda error: (*error[1:], error[0]))
     return "\n".join([lines[0], *(" ".join(map(str, error)) for error in errors), lines[-1]]) + "\n"
 
 
@@ -43,7 +43,7 @@ class Samples(CommandTest):
                 self.says(status, sorted_lines(support.sample(audited).decode()), None, "check", f"samples/{name}.table")
 
     def test_the_example_of_document_01(self):
-        self.says(1, "nodes 6\n13 14 15\n55 20 25\nerrors 2\n", "", "check", "samples/example.table")
+        self.says(1, "nodes 6\n13 1 14 15\n55 1 20 25\nerrors 2\n", "", "check", "samples/example.table")
 
     def test_the_module_pass_keeps_its_order(self):
         out = self.run_ducat("check", "--module", "samples/lambda.table").out
@@ -84,7 +84,7 @@ class Inputs(CommandTest):
         largest = table.read_text(LARGEST).file()
         self.assertEqual(len(largest), numbers.FILE_BYTES)
         for module in ([], ["--module"]):
-            self.says(1, "nodes 2100\n55 2099 2100\nerrors 1\n", "", "check", *module, self.put("largest", largest))
+            self.says(1, "nodes 2100\n55 1 2099 2100\nerrors 1\n", "", "check", *module, self.put("largest", largest))
             self.says(2, "refused 75\n", None, "check", *module, self.put("larger", largest + b"\0"))
             self.says(2, "refused 70\n", None, "check", *module, self.put("shorter", largest[:-1]))
 
@@ -96,7 +96,7 @@ class Inputs(CommandTest):
     def test_all_errors_are_printed(self):
         """2,097 loads in a permitted `if`, in a dialect without load: two errors each."""
         path = self.made("loads.table", "dialect: 110000010\n(If (Int) (Statements ^2097<(Load)>))")
-        lines = [f"{number} {at} {at + 1}" for at in range(3, 2100) for number in (58, 59)]
+        lines = [f"{number} 1 {at} {at + 1}" for at in range(3, 2100) for number in (58, 59)]
         for module in ([], ["--module"]):
             self.says(1, "\n".join(["nodes 2100", *lines, "errors 4194"]) + "\n", "", "check", *module, path)
 
@@ -104,7 +104,7 @@ class Inputs(CommandTest):
         path = self.made("u.table", "dialect: Standard\n(Statements (OtherSimple (Call (Identifier f) (Named a (Int)) (Positional (Int)))) "
                          "(Assign (Int) (Int)))")
         self.says(0, "nodes 11\nerrors 0\n", "", "check", "--module", path)
-        self.says(1, "nodes 11\n20 6 7\n30 9 10\nerrors 2\n", "", "check", path)
+        self.says(1, "nodes 11\n20 1 6 7\n30 1 9 10\nerrors 2\n", "", "check", path)
 
     def test_a_name_makes_no_line_of_its_own(self):
         forged = self.put("x\nerrors 0", support.sample("example.table"))
@@ -159,8 +159,8 @@ nodes 34, dialect standard
 errors 0: {ALL}
 samples/example-none.table:
 nodes 6, dialect extended (the file has none)
-13 14 15: {DEFAULT}, node 4, kind 50 Normal
-55 20 25: {BREAK}, node 5, kind 6 Break
+13 1 14 15: {DEFAULT}, node 4, kind 50 Normal
+55 1 20 25: {BREAK}, node 5, kind 6 Break
 errors 2
 samples/damaged.table:
 refused 72: the sum of a block is wrong, so a byte is damaged, block 1
@@ -178,7 +178,7 @@ files 4, with errors 2, refused 1, not read 0, errors 4
 
     def test_module(self):
         self.says(0, f"nodes 34, dialect standard\nerrors 0: {MODULE}\n", "", "check", "--explain", "--module", "samples/clean.table")
-        self.says(1, f"nodes 6, dialect extended (the file has none)\n13 14 15: {DEFAULT}\n55 20 25: {BREAK}\nerrors 2\n", "",
+        self.says(1, f"nodes 6, dialect extended (the file has none)\n13 1 14 15: {DEFAULT}\n55 1 20 25: {BREAK}\nerrors 2\n", "",
                   "check", "--explain", "--module", "samples/example-none.table")
 
     def test_totals_of_many(self):
@@ -214,21 +214,21 @@ files 4, with errors 2, refused 1, not read 0, errors 4
     def test_the_earlier_place(self):
         """11 and 22 name the first use: with --explain, and never among document 01's lines."""
         self.assertEqual(support.sample("whole.out").decode(), self.run_ducat("check", "--module", "samples/whole.table").out)
-        self.assertIn("22 87 90\n", self.run_ducat("check", "samples/whole.table").out)
+        self.assertIn("22 1 87 90\n", self.run_ducat("check", "samples/whole.table").out)
         path = self.put("whole", support.sample("whole.table"))
         out = self.run_ducat("check", "--explain", path).out
-        self.assertIn("22 87 90: a named argument has the name of an earlier one, node 20, kind 61 Named; the earlier argument is node 18, "
+        self.assertIn("22 1 87 90: a named argument has the name of an earlier one, node 20, kind 61 Named; the earlier argument is node 18, "
                       "bytes 79 to 82\n", out)
-        self.assertIn("11 258 263: a parameter has the name of an earlier one, node 52, kind 50 Normal; the earlier parameter is node 51, "
+        self.assertIn("11 1 258 263: a parameter has the name of an earlier one, node 52, kind 50 Normal; the earlier parameter is node 51, "
                       "bytes 251 to 256\n", out)
         out = self.run_ducat("check", "--explain", "--module", path).out
-        self.assertIn("11 258 263: a parameter has the name of an earlier one; the earlier parameter is node 51, bytes 251 to 256\n", out)
+        self.assertIn("11 1 258 263: a parameter has the name of an earlier one; the earlier parameter is node 51, bytes 251 to 256\n", out)
         self.assertIn("samples/whole.star:3:10: note: the earlier argument\n        plan(gap=90, gap=120)\n             ^^^\n",
                       self.run_ducat("check", "--explain", "samples/whole.table").out)
 
     def test_the_first_of_three_equal_names(self):
         path = self.made("three", "(Def (Normal a) (Normal b) (Normal a) (Normal a) (Break))")
-        self.assertIn("11 3 4: a parameter has the name of an earlier one, node 3, kind 50 Normal; the earlier parameter is node 1, bytes 1 to 2",
+        self.assertIn("11 1 3 4: a parameter has the name of an earlier one, node 3, kind 50 Normal; the earlier parameter is node 1, bytes 1 to 2",
                       self.run_ducat("check", "--explain", path).out)
 
 
@@ -260,11 +260,12 @@ class Json(CommandTest):
     def test_errors(self):
         entry, = self.told(1, "samples/example-none.table")["inputs"]
         self.assertEqual(entry["errors"], [
-            {"number": 13, "words": DEFAULT, "begin": 14, "end": 15, "node": 4, "kind": {"number": 50, "name": "Normal"}},
-            {"number": 55, "words": BREAK, "begin": 20, "end": 25, "node": 5, "kind": {"number": 6, "name": "Break"}}])
+            {"number": 13, "words": DEFAULT, "file": 1, "begin": 14, "end": 15, "node": 4, "kind": {"number": 50, "name": "Normal"}},
+            {"number": 55, "words": BREAK, "file": 1, "begin": 20, "end": 25, "node": 5, "kind": {"number": 6, "name": "Break"}}])
         self.assertEqual(entry["dialect"]["given"], False)
         entry, = self.told(1, "--module", "samples/example.table")["inputs"]
-        self.assertEqual(entry["errors"][0], {"number": 13, "words": DEFAULT, "begin": 14, "end": 15, "line": 1, "column": 15})
+        self.assertEqual(entry["errors"][0], {"number": 13, "words": DEFAULT, "file": 1, "begin": 14, "end": 15, "line": 1, "column": 15,
+                                              "script": {"name": "samples/example.star"}})
 
     def test_refusals(self):
         told = self.told(2, "samples/damaged.table", "samples/cut.table", "samples/missing.table", "samples/unsound.table")
@@ -281,8 +282,8 @@ class Json(CommandTest):
     def test_earlier(self):
         entry, = self.told(1, "samples/whole.table")["inputs"]
         earlier = {error["number"]: error["earlier"] for error in entry["errors"] if "earlier" in error}
-        self.assertEqual(earlier, {22: {"node": 18, "begin": 79, "end": 82, "line": 3, "column": 10},
-                                   11: {"node": 51, "begin": 251, "end": 256, "line": 10, "column": 19}})
+        self.assertEqual(earlier, {22: {"node": 18, "file": 1, "begin": 79, "end": 82, "line": 3, "column": 10},
+                                   11: {"node": 51, "file": 1, "begin": 251, "end": 256, "line": 10, "column": 19}})
 
     def test_a_file_that_is_longer_than_what_is_read(self):
         entry, = self.told(2, "-", input=support.sample("clean.table") + bytes(100000))["inputs"]

@@ -325,8 +325,11 @@ class Samples(unittest.TestCase):
         given = 0
         for name in support.samples(".txt"):
             text = tables.decoded(support.sample(f"{name}.txt"))
-            named = next(line.partition(":")[2].strip() for line in text.split("\n") if line.startswith("script:"))
-            source = support.sample(named)
+            named = [line.partition(":")[2].strip() for line in text.split("\n") if line.startswith("script:")]
+            if not named:
+                self.joined(name, text)
+                continue
+            source = support.sample(named[0])
             expected = tables.parse_text(f"names: shared\n{text}", support.sample)[:2]
             with self.subTest(name):
                 if name == UNSOUND_SAMPLE:
@@ -336,12 +339,72 @@ class Samples(unittest.TestCase):
                     given += 1
         self.assertGreaterEqual(given, 14)
 
+    def joined(self, name, text):
+        """A sample of two scripts, X.1.star and X.2.star."""
+        sources = [support.sample(f"{name}.{file}.star") for file in (1, 2)]
+        self.assertEqual(export.joined_export(sources)[:2], tables.parse_text(text)[:2])
+
+
+class Joined(unittest.TestCase):
+    """Scripts as one table."""
+
+    def told(self, sources, first=1):
+        """The source file number, the kind and the span of each record, and the targets."""
+        made = export.joined_export([source.encode() for source in sources], first)
+        self.assertTrue(support.library().table(*made[:2]).accepted)
+        return [(record.file, tables.kind_name(record.kind), record.begin, record.end) for record in tables.decode(made.table)], made.targets
+
+    def test_the_statements_in_turn(self):
+        """Positions are each in its own script; the root goes from 0 to the largest end; no Statements is below it."""
+        self.assertEqual(self.told(["pass; break\n", "\n  # nothing\n", "  \nreturn\n"]), ([
+            (0, "Statements", 0, 11), (1, "OtherSimple", 0, 4), (1, "Break", 6, 11), (3, "Return", 3, 9)], []))
+        self.assertEqual(self.told(["pass", "if x: pass; break\n"])[0][0], (0, "Statements", 0, 17))
+
+    def test_empty_scripts(self):
+        self.assertEqual(self.told(["", ""]), ([(0, "Statements", 0, 0)], []))
+        self.assertEqual(self.told([""], 7), ([(0, "Statements", 0, 0)], []))
+        self.assertEqual(self.told(["", "pass"]), ([(0, "Statements", 0, 4), (2, "OtherSimple", 0, 4)], []))
+
+    def test_one_script_gives_the_table_that_it_gave(self):
+        for source in ("pass", "\npass\nbreak", "", "def f(a): return [b for b in a]\nx.y = 1"):
+            plain = export.export(source.encode())
+            for first in (1, 2, 999):
+                made = export.joined_export([source.encode()], first)
+                numbered = [record._replace(file=first if record.file else 0) for record in tables.decode(plain[0])]
+                self.assertEqual((tables.decode(made.table), made.names), (numbered, plain[1]))
+
+    def test_numbers(self):
+        files = [file for file, *_ in self.told(["pass"] * 3, 997)[0]]
+        self.assertEqual(files, [0, 997, 998, 999])
+
+    def test_names_are_shared(self):
+        self.assertEqual(export.joined_export([b"ab", b"ab; c"]).names, b"abc")
+
+    def test_targets_of_comprehensions(self):
+        self.assertEqual(self.told(["[a for a in b]", "{c: 1 for c in [d for d in e]}"])[1], [4, 10, 13])
+
+    def test_what_has_no_table(self):
+        for sources, at, place, kind in (
+                (["pass", "x = ("], 1, (1, 6), export.ScriptSyntaxError), (["(", ")"], 0, (1, 2), export.ScriptSyntaxError),
+                (["pass", b"\xff", ""], 1, (1, 1), export.ScriptSyntaxError), (["pass\n" * 2098, "", "pass\n", "pass"], 3, (1, 1), export.ScriptTooLarge),
+                (["pass\n" * 2098, "pass\npass"], 1, (2, 1), export.ScriptTooLarge), (["\n".join(LETTERS), "pass", "pass\na"], 2, (2, 1), export.ScriptTooLarge),
+                ([lists(62), lists(63)], 1, (1, 63), export.ScriptTooLarge), (["a", "n" * 256], 1, (1, 1), export.ScriptTooLarge)):
+            with self.assertRaises(kind) as caught:
+                export.joined_export([source.encode() if isinstance(source, str) else source for source in sources])
+            error = caught.exception
+            self.assertEqual((error.at, (error.line, error.column)), (at, place), sources[at][-20:])
+
+    def test_the_largest(self):
+        self.assertEqual(len(export.joined_export([b"pass\n" * 2000, b"pass\n" * 99]).table), 2100 * 24)
+
 
 class Parts(unittest.TestCase):
     def test_a_table_of_each_statement(self):
         source = b"x = 1\ndef f(a, b=x):\n    return a\nx\n"
         parts = export.export_parts(source, "s.star", None)
         self.assertEqual([tables.kind_name(tables.decode(table)[0].kind) for table, _ in parts], ["Assign", "Def", "OtherSimple"])
+        for table, _ in export.export_parts(source, "s.star", None, 999):
+            self.assertEqual({record.file for record in tables.decode(table)}, {999})
 
     def test_a_large_script(self):
         self.assertEqual(len(export.export_parts(b"pass\n" * 2100, "s.star", None)), 2100)

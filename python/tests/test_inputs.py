@@ -102,7 +102,8 @@ errors 2
         told = json.loads(ran.out)
         entry, = told["inputs"]
         self.assertEqual((ran.status, entry["verdict"], told["totals"]["errors"], told["totals"]["with_errors"]), (1, "syntax", 1, 1))
-        self.assertEqual(entry["errors"], [{"number": None, "words": said.partition(":2:1: ")[2][:-1], "begin": 6, "end": 11, "line": 2, "column": 1}])
+        self.assertEqual(entry["errors"], [{"number": None, "words": said.partition(":2:1: ")[2][:-1], "file": 1, "begin": 6, "end": 11, "line": 2,
+                                            "column": 1, "script": {"name": path}}])
         self.assertNotIn("nodes", entry)
 
     def test_the_end_of_a_script(self):
@@ -142,8 +143,8 @@ errors 2
         entry, = json.loads(ran.out)["inputs"]
         self.assertEqual((ran.status, ran.err, entry["kind"], entry["dialect"]["name"]), (1, "", "script", "standard"))
         self.assertEqual(entry["table"], "made from the script by ducat's own parser; that step is not proved")
-        self.assertEqual(entry["errors"], [{"number": 53, "words": "the dialect has no `for` at top level", "begin": 37, "end": 72, "line": 4,
-                                            "column": 1, "node": 5, "kind": {"number": 3, "name": "For"}}])
+        self.assertEqual(entry["errors"], [{"number": 53, "words": "the dialect has no `for` at top level", "file": 1, "begin": 37, "end": 72,
+                                            "line": 4, "column": 1, "script": {"name": path}, "node": 5, "kind": {"number": 3, "name": "For"}}])
 
     def test_the_longest_script(self):
         path = self.put("long.star", b"#" * (inputs.SCRIPT_MOST + 1))

@@ -32,8 +32,9 @@ BOTH = made("(Statements (Def (Normal a) (Normal:2 b (Int)) (KwArgsParam k) (Bre
 TYPE = made("(Def:1 (Op:1 (Identifier a) (Index (Identifier list) (Identifier b))) (Break))")
 
 
-def refusal(number, *carried):
-    return Refusal(number, numbers.WORDS[number], *carried)
+def refusal(number, *carried, file=None):
+    """A refusal; what has a span has a source file number, 1 where nothing else is said."""
+    return Refusal(number, numbers.WORDS[number], *carried, file=1 if file is None and len(carried) > 1 else file)
 
 
 class Jobs(unittest.TestCase):
@@ -71,7 +72,7 @@ class Jobs(unittest.TestCase):
         self.assertEqual(job("bind", *BOTH, 8, 1), Bound((12, 0, 0), (2, 0)))
         self.assertEqual(job("bind", *BOTH, 1, 8), refusal(6))
         self.assertEqual(job("bind", *BOTH, 8, 1, room=4), refusal(7))
-        for room in (5, 6, 4 * 8400 + 1):
+        for room in (5, 6, 5 * 8400 + 1):
             self.assertEqual(job("bind", *BOTH, 8, 1, room=room), Bound((12, 0, 0), (2, 0)))
         less = made("(Statements (Def (Normal a) (Break)) (OtherSimple (Call (Identifier f))))")
         self.assertEqual(job("bind", *less, 5, 1).number, 84)
@@ -102,10 +103,10 @@ class Jobs(unittest.TestCase):
 
     def test_module(self):
         held = job("read", support.sample("example.table"))
-        expected = Errors(2, (Error(13, 14, 15), Error(55, 20, 25)))
+        expected = Errors(2, (Error(13, 1, 14, 15), Error(55, 1, 20, 25)))
         self.assertEqual(job("module", held.table, held.names, held.dialect), expected)
         self.assertEqual(job("module", held.table, held.names, bytes([9] * 9)), refusal(5))
-        for room, stored in ((0, 0), (2, 0), (3, 1), (5, 1), (6, 2), (7, 2), (40000, 2)):
+        for room, stored in ((0, 0), (3, 0), (4, 1), (7, 1), (8, 2), (9, 2), (50000, 2)):
             self.assertEqual(job("module", held.table, held.names, held.dialect, room=room), Errors(2, expected.errors[:stored]))
 
     def test_audit(self):
@@ -113,16 +114,16 @@ class Jobs(unittest.TestCase):
         answer = job("audit", held.table, held.names, held.dialect)
         lines = support.sample("whole.all").decode().split("\n")
         self.assertEqual(answer.total, len(answer.errors))
-        self.assertEqual(sorted(f"{error.number} {error.begin} {error.end}" for error in answer.errors), sorted(lines[1:-2]))
+        self.assertEqual(sorted(f"{error.number} {error.file} {error.begin} {error.end}" for error in answer.errors), sorted(lines[1:-2]))
         self.assertTrue(all(error.node is not None for error in answer.errors))
-        for room, stored in ((0, 0), (3, 0), (4, 1), (9, 2)):
+        for room, stored in ((0, 0), (4, 0), (5, 1), (9, 1), (10, 2)):
             self.assertEqual(job("audit", held.table, held.names, held.dialect, room=room).errors, answer.errors[:stored])
 
     def test_the_most_errors(self):
         held = made("(Statements ^2099<(Break)>)")
         answer = job("module", *held, None)
-        self.assertEqual((answer.total, len(answer.errors), answer.errors[-1]), (2099, 2099, Error(55, 2099, 2100)))
-        self.assertEqual(job("audit", *held, None).errors[-1], Error(55, 2099, 2100, 2099))
+        self.assertEqual((answer.total, len(answer.errors), answer.errors[-1]), (2099, 2099, Error(55, 1, 2099, 2100)))
+        self.assertEqual(job("audit", *held, None).errors[-1], Error(55, 1, 2099, 2100, 2099))
 
     def test_write_and_read(self):
         for name in support.samples(".table"):
@@ -160,14 +161,59 @@ class Jobs(unittest.TestCase):
         for name in support.samples(".table"):
             answer = job("check_file", support.sample(f"{name}.table"))
             if answer.accepted:
-                lines = [f"nodes {answer.nodes}", *(f"{e.number} {e.begin} {e.end}" for e in answer.errors), f"errors {answer.total}"]
+                lines = [f"nodes {answer.nodes}", *(f"{e.number} {e.file} {e.begin} {e.end}" for e in answer.errors), f"errors {answer.total}"]
             else:
                 lines = [f"refused {answer.number}"]
             with self.subTest(name):
                 self.assertEqual("\n".join(lines) + "\n", support.sample(f"{name}.out").decode())
         data = support.sample("example.table")
-        for room, stored in ((0, 0), (3, 1), (6, 2), (13000, 2)):
+        for room, stored in ((0, 0), (3, 0), (4, 1), (7, 1), (8, 2), (17000, 2)):
             self.assertEqual(len(job("check_file", data, room=room).errors), stored)
+
+
+class Files(unittest.TestCase):
+    """The source file number that an answer carries."""
+
+    def test_each_job(self):
+        """Statement by statement of another file: the refusal and the error have the number of the node that they name."""
+        for number, text, name, node in (
+                (10, "(Def (Slash) (Break))", "params", 2), (11, "(Def (Normal a) (Normal a) (Break))", "params", 2),
+                (20, "(OtherSimple (Call (Int) (Named a (Int)) (Positional (Int))))", "call", 3),
+                (22, "(OtherSimple (Call (Int) (Named a (Int)) (Named a pos=70 (Int))))", "call", 3),
+                (30, "(Assign (Int) (Int))", "assignment", 2), (31, "(AssignModify (List) (Int))", "assignment", 2)):
+            for file in (1, 2, 999):
+                held = made(f"(Statements\nfile: 5\n(OtherSimple)\nfile: {file}\n{text})")
+                answer = job(name, *held, node)
+                self.assertEqual((answer.number, answer.file), (number, file))
+                error, = [error for error in job("audit", *held, None).errors if error.number == number]
+                self.assertEqual((error.file, error.begin, error.end, error.node), (file, answer.begin, answer.end, answer.node))
+        held = made("(Statements\nfile: 7\n(Assign:1 (Identifier a) (Int) (Int)))")
+        self.assertEqual(job("type", *held, None, 3), refusal(40, 3, 3, 4, file=7))
+
+    def test_a_binding_across_files(self):
+        """The Def's number for what is wrong in it or left empty, the Call's for its arguments."""
+        held = made("(Statements\nfile: 3\n(Def (Normal a) (Slash) (Break))\nfile: 8\n"
+                    "(OtherSimple (Call (Identifier f) (Positional (Int))))\n(OtherSimple (Call (Identifier f)))\n"
+                    "(OtherSimple (Call (Identifier f) (Named a (Int)))))")
+        calls = [node for node, record in enumerate(table.decode(held[0])) if record.kind == numbers.KIND["Call"]]
+        self.assertEqual(job("bind", *held, calls[0], 1), Bound((8,), (0,)))
+        self.assertEqual(job("bind", *held, calls[1], 1), refusal(84, 2, 2, 3, file=3))
+        self.assertEqual(job("bind", *held, calls[2], 1), refusal(82, 16, 16, 17, file=8))
+
+    def test_lists_in_their_order(self):
+        held = made("(Statements\nfile: 2\n(Break)\nfile: 1\n(Break)\nfile: 999\n(Break))")
+        self.assertEqual(job("module", *held, None).errors, (Error(55, 2, 1, 2), Error(55, 1, 2, 3), Error(55, 999, 3, 4)))
+        self.assertEqual(job("audit", *held, None).errors, (Error(55, 2, 1, 2, 1), Error(55, 1, 2, 3, 2), Error(55, 999, 3, 4, 3)))
+        data = job("write", *held, None).data
+        self.assertEqual(job("check_file", data).errors, job("module", *held, None).errors)
+        self.assertEqual((job("read", data).table, job("rescue", data).data), (held[0], data))
+
+    def test_numbers_that_are_wrong(self):
+        for text, node in (("(Statements (Break file=0))", 1), ("(Statements (Break file=1000))", 1), ("(Statements file=1 (Break))", 0),
+                           ("(If (Int file=2) (Break))", 1), ("(Break file=0)", 0), ("(Break file=1000)", 0)):
+            self.assertEqual(job("table", *made(text)), refusal(3, node))
+        for text in ("(Statements)", "(Break)", "(Break file=999)", "(Statements (Break file=999) (Break))"):
+            self.assertEqual(job("table", *made(text)), Checked())
 
 
 class Inputs(unittest.TestCase):
@@ -282,7 +328,7 @@ class Loading(unittest.TestCase):
                 loaded.checksum
 
     def test_version_numbers(self):
-        self.assertEqual(library.version_number("0.2.0"), 512)
+        self.assertEqual(library.version_number("0.3.0"), 768)
         self.assertEqual(library.version_text(library.version_number("1.20.3")), "1.20.3")
 
 

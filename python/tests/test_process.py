@@ -51,6 +51,8 @@ class Words(CommandTest):
                           ["check", "--script", "/nowhere", "x.table"], ["check", "--files-from", "/nowhere"], ["check", "--config", "/nowhere", "x"],
                           ["bind", "--call", "1", "x"], ["bind", "--script", "/nowhere", "x"], ["rescue", "x"], ["rescue", "x", "-o", "-"],
                           ["write", "-", "-", "-o", "x"], ["write", "a", "b", "--dialect", "basic", "-o", "x"], ["table", "--dialect", "all", "x.txt", "-o", "y"],
+                          ["table", "--number", "1000", "x.star", "-o", "y"], ["check", "--join", "x.table"], ["bind", "--join", "x.star", "x.table"],
+                          ["check", "--script", "1=x", "--script", "y", "x.table"], ["check", "--quiet", "--script", "0=x", "x.table"],
                           ["dump"], ["nothing"]):
                 with self.assertRaises(Failed, msg=words):
                     cli.dispatch(words, out)
@@ -75,7 +77,7 @@ class Real(CommandTest):
     """./ducat itself, under python3 -I -S."""
 
     def test_the_first_command(self):
-        self.assertEqual(real("check", "samples/example.table"), (1, "nodes 6\n13 14 15\n55 20 25\nerrors 2\n", ""))
+        self.assertEqual(real("check", "samples/example.table"), (1, "nodes 6\n13 1 14 15\n55 1 20 25\nerrors 2\n", ""))
 
     def test_as_a_module(self):
         ran = subprocess.run([sys.executable, "-S", "-m", "ducatmuffin", "check", "samples/clean.table"], cwd=support.ROOT,

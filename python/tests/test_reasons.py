@@ -9,6 +9,7 @@ from ducatmuffin import reasons, table
 from ducatmuffin.library import Refusal
 
 POSITION = 2 ** 31 - 1
+OLD = "bytes 18 and 19 are 0 in every record: the file is older than source file numbers and must be exported again"
 # a tree in words, the node that is refused, and the reason
 REASONS = [
     # fields
@@ -24,7 +25,6 @@ REASONS = [
     ("(OtherSimple (Identifier x name=4294967295+1))", 1, "the name ends at byte 4294967296 of the names, and there are 1"),
     ("(Break span=9-4)", 0, "the span begins at 9 and ends before that, at 4"),
     (f"(Break span=0-{POSITION + 1})", 0, f"the span ends at {POSITION + 1}, and the last position is {POSITION}"),
-    ("(Break pad=1)", 0, "bytes 18 and 19 are 1, and must be 0"),
     ("(Break pos=7)", 0, "the name position is 7, and only Named has one"),
     (f"(OtherSimple (Call (Int) (Named ab pos={POSITION - 1} (Int))))", 3, f"the name ends at {POSITION + 1}, and the last position is {POSITION}"),
     # the subtree
@@ -52,6 +52,24 @@ REASONS = [
     ("(Def (Int) (Break))", 0, "child 1 of 2, node 1, is not a parameter"),
     ("(OtherSimple (Call (Int) (Int)))", 1, "child 2 of 2, node 3, is not an argument"),
     ("(Statements (Return kind=99 (Int)))", 0, "child 1 of 1, node 1, is not a statement"),
+    # the source file number
+    ("(Statements file=1 (Break))", 0, "the source file number is 1, and a root Statements has 0"),
+    ("(Statements file=1)", 0, "the source file number is 1, and a root Statements has 0"),
+    ("(Break file=1000)", 0, "the source file number is 1000, and must be 1 to 999"),
+    ("(If file=0 (Int) (Break))", 0, "the source file number is 0, and must be 1 to 999"),
+    ("(Statements (Break) (Break file=0))", 2, "the source file number is 0, and must be 1 to 999"),
+    ("(Statements (Break) (Break file=1000))", 2, "the source file number is 1000, and must be 1 to 999"),
+    ("(Statements (Statements file=0 (Break)))", 1, "the source file number is 0, and must be 1 to 999"),
+    ("(Statements (Break) (If file=7 (Int file=7) (Break)))", 4, "the source file number is 1, and that of its top-level statement, node 2, is 7"),
+    ("(If (Int) (Break file=2))", 2, "the source file number is 2, and that of its top-level statement, node 0, is 1"),
+    ("(Statements (Break) (Break file=0) (Break (Int)))", 2, "the source file number is 0, and must be 1 to 999"),
+    # all of them 0: older than source file numbers, where the record breaks no other rule
+    ("(Break file=0)", 0, OLD),
+    ("(If file=0 (Int file=0) (Break file=0))", 0, OLD),
+    ("(Statements (Break file=0) (Break file=0))", 1, OLD),
+    ("(Statements (Statements file=0 (Break file=0)))", 1, OLD),
+    ("(Statements (Break:1 file=0) (Break file=0))", 1, "the detail is 1, and Break has at most 0"),
+    ("(Statements (Break file=0) (Break:1 file=0))", 1, OLD),
 ]
 
 
@@ -81,8 +99,8 @@ class Reasons(unittest.TestCase):
             sys.settrace(None)
         with open(reasons.__file__, encoding="utf-8") as file:
             lines = file.read().splitlines()
-        part = range(lines.index("def fields(row, name_bytes):"), lines.index("# ---- table files"))
-        giving = [at + 1 for at in part if lines[at].lstrip().startswith(("return f\"", "return \""))]
+        part = range(lines.index("def source_file(records, node):"), lines.index("# ---- table files"))
+        giving = [at + 1 for at in part if lines[at].lstrip().startswith(("return f\"", "return \"", "return OLD", "return None if"))]
         self.assertGreater(len(giving), 15)
         self.assertEqual([lines[at - 1] for at in giving if at not in reached], [])
 
@@ -123,7 +141,7 @@ class Agreement(unittest.TestCase):
     def change(self, draw, changed, at):
         form, offset = draw.choice((("B", 0), ("B", 1), ("<H", 2), ("<I", 4), ("<I", 8), ("<I", 12), ("<H", 16), ("<H", 18), ("<I", 20)))
         size = struct.calcsize(form)
-        least = [0, 1, 2, 3, 255, 256, changed[at + offset] ^ 1]
+        least = [0, 1, 2, 3, 255, 256, 999, 1000, changed[at + offset] ^ 1]
         values = least + list(reasons.KINDS) if offset == 0 else least + [2 ** (8 * size) - 1, 2 ** (8 * size - 1)]
         value = draw.choice(values) % 2 ** (8 * size)
         struct.pack_into(form, changed, at + offset, value)
@@ -131,14 +149,14 @@ class Agreement(unittest.TestCase):
     def test_random_tables(self):
         draw, refused = random.Random(3), 0
         kinds = list(reasons.KINDS)
-        for _ in range(3000):
-            many = draw.randrange(1, 7)
+        for turn in range(3000):
+            many, files = draw.randrange(1, 7), ((0, 1), (0, 1), (0, 1, 2, 999, 1000), (0,))[turn % 4]
             records = []
             for at in range(many):
                 kind = draw.choice((1, 2, 4, 8, 10)) if at == 0 else draw.choice(kinds)
                 named = kind in reasons.NAMED
                 records.append(table.Record(kind, draw.choice((0, 0, 0, 1, 2, 3)), int(named), 0, at, at + 1,
-                                            draw.choice((many - at, 1, 1, 2, 3)), 0, 0))
+                                            draw.choice((many - at, 1, 1, 2, 3)), draw.choice(files) if turn % 4 > 1 else int(at > 0 or kind > 1), 0))
             refused += self.held(table.encode(records), b"x")
         self.assertTrue(2000 < refused < 3000)
 

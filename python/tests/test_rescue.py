@@ -128,7 +128,8 @@ class Explain(RescueTest):
         ran = self.run_ducat("rescue", "--explain", "samples/lost.table", "-o", self.at("out"))
         numbers = "".join(f"{word} {number}: {words}\n" for word, number, words in
                           zip(("statements", "nodes", "dropped", "bytes"), (2, 16, 46, 0), WORDS))
-        self.assertEqual(ran.out, numbers + "kept 1: Def, node 1, bytes 0 to 56\nkept 2: Def, node 9, bytes 58 to 112\nlost: 46 nodes, after byte 112\n")
+        self.assertEqual(ran.out, numbers + "kept 1: Def, node 1, file 1, bytes 0 to 56\nkept 2: Def, node 9, file 1, bytes 58 to 112\n"
+                         "lost: 46 nodes, after byte 112 of file 1\n")
 
     def test_with_a_script(self):
         ran = self.run_ducat("rescue", "--explain", "--script", "samples/take.star", "samples/lost.table", "-o", self.at("out"))
@@ -139,7 +140,7 @@ class Explain(RescueTest):
     def test_with_another_script(self):
         ran = self.run_ducat("rescue", "--explain", "--script", "samples/clean.star", "samples/lost.table", "-o", self.at("out"))
         self.assertIn("lost ones are not named", ran.err)
-        self.assertIn("lost: 46 nodes, after byte 112\n", ran.out)
+        self.assertIn("lost: 46 nodes, after byte 112 of file 1\n", ran.out)
         self.says(2, "", "ducat: samples/missing.star: No such file or directory\n", "rescue", "--script", "samples/missing.star",
                   "samples/lost.table", "-o", self.at("out"))
 

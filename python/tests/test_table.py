@@ -59,10 +59,16 @@ WRONG = [
     ("(Break size=65536)", ":1: Break: 65536 is more than 65535"),
     ("(Break size=)", ":1: Break:  is not 1 number"),
     ("(Break kind=256)", ":1: Break: 256 is more than 255"),
-    ("(Break pad=65536)", ":1: Break: 65536 is more than 65535"),
+    ("(Break file=65536)", ":1: Break: 65536 is more than 65535"),
     ("(Break name=1)", ":1: Break: 1 is not 2 numbers"),
     ("(Break name=0+65536)", ":1: Break: 65536 is more than 65535"),
     ("(OtherSimple (Call (Int) (Named ab pos=2147483646 (Int))))", ":1: Named: a name that ends beyond 2147483647"),
+    # source file numbers
+    ("file: 65536\n(Break)", ":1: 65536 is more than 65535"),
+    ("file: one\n(Break)", ":1: one is not a number"),
+    ("(Statements\nfile:\n(Break))", ":2:  is not 1 number"),
+    ("(Statements\n(Break) (If (Int)\nfile: 2\n(Break)))", ":3: a line file: within a statement"),
+    ("(If (Int)\nfile: 2\n(Break))", ":2: a line file: within a statement"),
     # quotes
     ("(Break `break`)", ":1: Break: a quote, and no script is named"),
     ("script: s.star\n(Statements `pass…break` (OtherSimple `pass`)\n(Break))", ":3: Break: it quotes nothing of the script"),
@@ -96,7 +102,7 @@ WRONG = [
 # texts that are right, and how many blocks they take
 RIGHT = [
     ("(Break)", 2), ("(Statements)", 2), (f"(OtherSimple (Identifier {NAME}))", 3), ("(Break kind=13)", 2), ("(Assign (Int))", 2),
-    ("(Break size=0 pad=1 pos=7 name=1+0)", 2), ("(Break span=2147483647-2147483647)", 2), ("(Def:1 (Normal:3 a (Int) (Int)) (Int) (Break))", 3),
+    ("(Break size=0 file=0 pos=7 name=1+0)", 2), ("(Break span=2147483647-2147483647)", 2), ("(Def:1 (Normal:3 a (Int) (Int)) (Int) (Break))", 3),
     ("script: s.star\r\n(Statements `pass…break` (OtherSimple `pass`) (Break `break`))\r\n", 2), ("cut: 0\n(Break)", 0),
     ("(OtherSimple\n  (Op:1 (Identifier\n  a) (Ellipsis)))", 3), ("(Statements ^70<(Statements >^70<)>)", 5), ("^20000<(Not >(Int)^20000<)>", 954),
     ("rules: off\n(Break:9 x span=9-4)", 3), ("rules: off\n", 1), ("dialect: all\n(Break)", 2), ("dialect: standard\n(Break)", 2)]
@@ -136,7 +142,7 @@ class Records(unittest.TestCase):
 
     def test_fields(self):
         held = table.parts_of(support.sample("example.table"))[0]
-        self.assertEqual(table.decode(held)[2], table.Record(50, 2, 1, 1, 9, 12, 2, 0, 0))
+        self.assertEqual(table.decode(held)[2], table.Record(50, 2, 1, 1, 9, 12, 2, 1, 0))
 
     def test_names_and_children(self):
         held, names, dialect = table.parts_of(support.sample("example.table"))
@@ -168,7 +174,7 @@ class Files(unittest.TestCase):
 
     def test_every_length_of_names(self):
         for count in (0, 1, 503, 504, 505, 8064):
-            held, names = table.encode([table.Record(6, 0, 0, 0, 0, 1, 1)]), b"n" * count
+            held, names = table.encode([table.Record(6, 0, 0, 0, 0, 1, 1, 1)]), b"n" * count
             data = support.library().write(held, names, None).data
             self.assertEqual(table.file_of(held, names, None), data)
             self.assertEqual(table.parts_of(data), (held, names, None))
@@ -215,7 +221,7 @@ names: shared
     def test_names_of_any_bytes(self):
         whole = bytes(range(256))
         for start, length in ((0, 1), (10, 1), (32, 1), (34, 1), (40, 2), (92, 1), (96, 1), (61, 1), (200, 56), (1, 255)):
-            held = table.encode([table.Record(10, 0, 0, 0, 0, 1, 2), table.Record(26, 0, length, start, 0, 1, 1)])
+            held = table.encode([table.Record(10, 0, 0, 0, 0, 1, 2, 1), table.Record(26, 0, length, start, 0, 1, 1, 1)])
             self.assertTrue(support.library().write(held, whole, None).accepted)
             self.same(held, whole, None)
 
@@ -223,7 +229,7 @@ names: shared
         for places in (((0, 2), (0, 2)), ((0, 2), (1, 2)), ((2, 1), (0, 2)), ((0, 1), (0, 1))):
             records = [table.Record(1, 0, 0, 0, 0, 9, 5)]
             for start, length in places:
-                records += [table.Record(10, 0, 0, 0, 0, 1, 2), table.Record(26, 0, length, start, 0, 1, 1)]
+                records += [table.Record(10, 0, 0, 0, 0, 1, 2, 1), table.Record(26, 0, length, start, 0, 1, 1, 1)]
             held = table.encode(records)
             self.assertTrue(support.library().write(held, b"aaab", None).accepted)
             self.same(held, b"aaab", None)
@@ -256,6 +262,35 @@ names: shared
         with self.assertRaises(table.TextError):
             table.print_text(bytes(25), b"", None)
 
+    def test_source_file_numbers(self):
+        """Without a word 1, and 0 on a root Statements; file: for what follows; file= for one record."""
+        for text, wanted in (("(Break)", [1]), ("(Statements)", [0]), ("(Statements (Statements (Break)) (Break))", [0, 1, 1, 1]),
+                             ("(If (Int) (Break))", [1, 1, 1]), ("file: 2\n(If (Int) (Break))", [2, 2, 2]), ("file: 2\n(Statements (Break))", [0, 2]),
+                             ("(Statements file=5 (If file=999 (Int) (Break)))", [5, 999, 1, 1]), ("(Break file=0)", [0]),
+                             ("(Statements\nfile: 3\n(Break)\n(If (Int)\n(Break))\nfile: 1000\nfile: 4\n(Break) (Break)\nfile: 3\n(Break))",
+                              [0, 3, 3, 3, 3, 4, 4, 3]), ("(Break kind=1)", [0]), ("(Statements kind=13)", [1])):
+            with self.subTest(text):
+                held, names, dialect = table.parse_text(text)
+                self.assertEqual([record.file for record in table.decode(held)], wanted)
+                self.same(held, names, dialect)
+
+    def test_a_printed_text_of_two_scripts(self):
+        text = """dialect: none
+(Statements span=0-9
+  (Break span=0-1)
+file: 2
+  (If span=0-9
+    (Int span=3-4)
+    (Break span=6-9 file=7)))
+"""
+        self.assertEqual(self.same(*table.parse_text(text)), text)
+
+    def test_a_printed_text_of_zeros(self):
+        """A table that is older than source file numbers."""
+        held, names, dialect = table.parts_of(support.sample("example.table"))
+        zeros = table.encode(record._replace(file=0) for record in table.decode(held))
+        self.assertTrue(self.same(zeros, names, dialect).startswith("dialect: Standard\nfile: 0\n(Def span=0-25\n  (Normal a span=6-7)\n"))
+
 
 class Numbers(unittest.TestCase):
     """The package's lists are those of docs/."""
@@ -267,6 +302,10 @@ class Numbers(unittest.TestCase):
     def test_numbers(self):
         self.assertEqual(numbers.WORDS, {int(number): words for number, _, words, _ in self.rows("numbers.tsv")})
         self.assertEqual(numbers.NUMBERS, {int(number): name for number, name, _, _ in self.rows("numbers.tsv")})
+
+    def test_the_largest_source_file_number(self):
+        with open(os.path.join(support.ROOT, "include", "starlark.h"), encoding="utf-8") as file:
+            self.assertIn(f"#define STARLARK_LAST_FILE {table.LAST_FILE}\n", file.read())
 
     def test_kinds(self):
         self.assertEqual(numbers.KINDS, {int(number): (name, own) for number, name, own in self.rows("kinds.tsv")})

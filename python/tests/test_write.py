@@ -172,7 +172,8 @@ class Dump(CommandTest):
 
     def test_names_of_any_bytes(self):
         names = bytes(range(256))
-        records = table.encode([table.Record(10, 0, 0, 0, 0, 1, 3), table.Record(26, 0, 255, 1, 0, 1, 1), table.Record(26, 0, 3, 8, 0, 1, 1)])
+        records = table.encode([table.Record(10, 0, 0, 0, 0, 1, 3, 1), table.Record(26, 0, 255, 1, 0, 1, 1, 1),
+                                table.Record(26, 0, 3, 8, 0, 1, 1, 1)])
         self.again(table.file_of(records, names))
 
     def test_refused(self):

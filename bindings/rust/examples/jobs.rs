@@ -8,6 +8,8 @@ use starlark_checks::read;
 use starlark_checks::rescue;
 use starlark_checks::Kind;
 use starlark_checks::Table;
+use starlark_checks::AUDIT_WORDS;
+use starlark_checks::ERROR_WORDS;
 use starlark_checks::FILE_BYTES;
 
 const STATEMENTS: u8 = Kind::Statements as u8;
@@ -40,7 +42,8 @@ const BEFORE: u8 = 9;
 /// A tree: a kind, its detail, a name or "", and what stands below it.
 struct Tree(u8, u8, &'static str, Vec<Tree>);
 
-/// The bytes of a tree's table and names. Node i has the span 10 i to 10 i + 7, and a Named's name stands at 10 i + 2.
+/// The bytes of a tree's table and names. Node i has the span 10 i to 10 i + 7, and a Named's name stands at 10 i + 2. The statements under a root
+/// Statements are of source files 1, 2 and so on; any other root is of source file 1.
 #[derive(Default)]
 struct Script {
     nodes: Vec<u8>,
@@ -50,22 +53,38 @@ struct Script {
 impl Script {
     fn of(tree: Tree) -> Script {
         let mut script = Script::default();
-        script.write(&tree);
+        if tree.0 == STATEMENTS {
+            script.open(&tree, 0);
+            tree.3.iter().zip(1..).for_each(|(statement, file)| script.write(statement, file));
+            script.close(0);
+        } else {
+            script.write(&tree, 1);
+        }
         script
     }
 
-    fn write(&mut self, tree: &Tree) {
-        let Tree(kind, detail, name, below) = tree;
+    fn write(&mut self, tree: &Tree, file: u16) {
+        let at = self.open(tree, file);
+        tree.3.iter().for_each(|tree| self.write(tree, file));
+        self.close(at);
+    }
+
+    /// The record of a tree without what stands below it; its first byte. Its size is filled in when it is closed.
+    fn open(&mut self, tree: &Tree, file: u16) -> usize {
+        let Tree(kind, detail, name, _) = tree;
         let at = self.nodes.len();
         let begin = (at / 24 * 10) as u32;
         let start = if name.is_empty() { 0 } else { self.names.len() as u32 };
         self.nodes.extend([*kind, *detail]);
         self.nodes.extend((name.len() as u16).to_le_bytes());
-        for word in [start, begin, begin + 7, 0, if *kind == NAMED { begin + 2 } else { 0 }] {
+        for word in [start, begin, begin + 7, u32::from(file) << 16, if *kind == NAMED { begin + 2 } else { 0 }] {
             self.nodes.extend(word.to_le_bytes());
         }
         self.names.extend(name.as_bytes());
-        below.iter().for_each(|tree| self.write(tree));
+        at
+    }
+
+    fn close(&mut self, at: usize) {
         let size = ((self.nodes.len() - at) / 24) as u16;
         self.nodes[at + 16..at + 18].copy_from_slice(&size.to_le_bytes());
     }
@@ -108,10 +127,12 @@ fn three_leaves() -> Tree {
 }
 
 fn checks() {
-    let good = Script::of(tree(STATEMENTS, vec![leaf(BREAK, ""), leaf(BREAK, "")]));
+    let mut good = Script::of(tree(STATEMENTS, vec![leaf(BREAK, ""), leaf(BREAK, "")]));
     println!("a table: {:?}", good.table().check());
     println!("a part of a record: {:?}", Table { nodes: &good.nodes[..25], names: &[] }.check());
     println!("too many name bytes: {:?}", Table { nodes: &good.nodes, names: &[0; 8065] }.check());
+    good.nodes[24 + 18] = 0;
+    println!("a statement of source file 0: {:?}", good.table().check());
     println!("an unsound record: {:?}", Script::of(tree(STATEMENTS, vec![leaf(BREAK, ""), leaf(BREAK, "a")])).table().check());
     let deep = (0..64).fold(leaf(INT, ""), |below, _| tree(NOT, vec![below]));
     println!("too deep: {:?}", simple(deep).table().check());
@@ -147,7 +168,7 @@ fn calls() {
     println!("no call: {:?}", all.table().call(0));
 }
 
-/// `def f(a, b, /): break`, and behind it a call.
+/// `def f(a, b, /): break` in source file 1, and a call in source file 2.
 fn with_def(arguments: Vec<(u8, &'static str)>) -> Script {
     let parameters = vec![leaf(NORMAL, "a"), leaf(NORMAL, "b"), leaf(SLASH, ""), leaf(BREAK, "")];
     let values = arguments.into_iter().map(|(kind, name)| Tree(kind, 0, name, vec![leaf(INT, "")]));
@@ -209,15 +230,15 @@ fn modules() {
         let answer = module.table().module(dialect, &mut errors).map(|errors| errors.total);
         println!("{words}: {answer:?}, errors {errors:?}");
     };
-    show("def f(a, *, b): break, in the Standard dialect", &STANDARD, 6);
-    show("a list one word short", &STANDARD, 5);
-    show("in the Extended dialect", &EXTENDED, 6);
-    show("with no dialect, so in Extended", &[], 6);
-    show("eight bytes of dialect", &EXTENDED[..8], 6);
-    let mut errors = [0; 6];
+    show("def f(a, *, b): break, in the Standard dialect", &STANDARD, 2 * ERROR_WORDS);
+    show("a list one word short", &STANDARD, 2 * ERROR_WORDS - 1);
+    show("in the Extended dialect", &EXTENDED, 2 * ERROR_WORDS);
+    show("with no dialect, so in Extended", &[], 2 * ERROR_WORDS);
+    show("eight bytes of dialect", &EXTENDED[..8], 2 * ERROR_WORDS);
+    let mut errors = [0; 2 * ERROR_WORDS];
     for error in module.table().module(&STANDARD, &mut errors).expect("the table is sound") {
-        let (number, span) = (error.number, error.span);
-        println!("in words: {} at bytes {} to {}: {}", number.name(), span.start, span.end, number.words());
+        let (number, file, span) = (error.number, error.file, error.span);
+        println!("in words: {} in file {file} at bytes {} to {}: {}", number.name(), span.start, span.end, number.words());
     }
 }
 
@@ -229,10 +250,10 @@ fn audits() {
         let answer = script.table().audit(dialect, &mut errors).map(|errors| errors.total);
         println!("{words}: {answer:?}, errors {errors:?}");
     };
-    show("f(b=a, a), then break, audited", &[], 9);
-    show("a list one word short of two", &[], 7);
-    show("eight bytes of dialect", &EXTENDED[..8], 9);
-    for error in script.table().audit(&[], &mut [0; 8]).expect("the table is sound") {
+    show("f(b=a, a) in file 1 and break in file 2, audited", &[], 2 * AUDIT_WORDS + 1);
+    show("a list one word short of two", &[], 2 * AUDIT_WORDS - 1);
+    show("eight bytes of dialect", &EXTENDED[..8], 2 * AUDIT_WORDS + 1);
+    for error in script.table().audit(&[], &mut [0; 2 * AUDIT_WORDS]).expect("the table is sound") {
         println!("as a value: {error:?}");
     }
 }
@@ -307,11 +328,11 @@ fn reads() {
     show_read("119 bytes for five nodes", &none, 119, 2);
     show_read("one byte for two of names", &none, 120, 1);
     show_read("a file cut short", &none[..1535], 120, 2);
-    show_checked("the file in the Standard dialect, checked", &standard, 6);
-    show_checked("in the Extended dialect", &extended, 6);
-    show_checked("with no dialect, so in Extended", &none, 6);
-    show_checked("a list of five words", &standard, 5);
-    show_checked("a file with a byte behind it", &[&none[..], &[0]].concat(), 6);
+    show_checked("the file in the Standard dialect, checked", &standard, 2 * ERROR_WORDS);
+    show_checked("in the Extended dialect", &extended, 2 * ERROR_WORDS);
+    show_checked("with no dialect, so in Extended", &none, 2 * ERROR_WORDS);
+    show_checked("a list of seven words", &standard, 2 * ERROR_WORDS - 1);
+    show_checked("a file with a byte behind it", &[&none[..], &[0]].concat(), 2 * ERROR_WORDS);
 }
 
 fn main() {

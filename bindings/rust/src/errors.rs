@@ -1,15 +1,18 @@
-//! Lists of errors, from the words that the library stores: three for each error of a module, four for each of an audit.
+//! Lists of errors, from the words that the library stores: [`ERROR_WORDS`] for each error of a module, [`AUDIT_WORDS`] for each of an audit.
 
 use std::ops::Range;
 
 use crate::Number;
+use crate::AUDIT_WORDS;
+use crate::ERROR_WORDS;
 
-/// An error of a module: its number, its node where the audit lists it, and its span.
+/// An error of a module: its number, the source file that its span is in, the span, and its node where the audit lists it.
 #[derive(Clone, Debug, PartialEq, Eq, Hash)]
 pub struct Error {
     pub number: Number,
-    pub node: Option<u32>,
+    pub file: u32,
     pub span: Range<u32>,
+    pub node: Option<u32>,
 }
 
 /// The errors of a module: how many there are, and those that the lent list had room for, in order.
@@ -28,11 +31,11 @@ pub struct Iter<'a> {
 
 impl<'a> Errors<'a> {
     pub(crate) fn of_module(total: u32, words: &'a [u32]) -> Errors<'a> {
-        Errors::new(total, words, 3)
+        Errors::new(total, words, ERROR_WORDS)
     }
 
     pub(crate) fn of_audit(total: u32, words: &'a [u32]) -> Errors<'a> {
-        Errors::new(total, words, 4)
+        Errors::new(total, words, AUDIT_WORDS)
     }
 
     fn new(total: u32, words: &'a [u32], width: usize) -> Errors<'a> {
@@ -57,11 +60,7 @@ impl Iterator for Iter<'_> {
     fn next(&mut self) -> Option<Error> {
         let words = self.words.next()?;
         let number = Number::try_from(words[0]).expect("a list holds no other numbers");
-        let (node, begin, end) = match *words {
-            [_, node, begin, end] => (Some(node), begin, end),
-            _ => (None, words[1], words[2]),
-        };
-        Some(Error { number, node, span: begin..end })
+        Some(Error { number, file: words[1], span: words[2]..words[3], node: words.get(ERROR_WORDS).copied() })
     }
 
     fn size_hint(&self) -> (usize, Option<usize>) {

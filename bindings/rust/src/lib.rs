@@ -11,10 +11,10 @@
 //! ```
 //! use starlark_checks::{Kind, Table, STACK_BYTES};
 //!
-//! // one record: a break
+//! // one record: a break, in source file 1
 //! let mut nodes = [0; 24];
 //! nodes[0] = Kind::Break.into();
-//! nodes[16] = 1;
+//! (nodes[16], nodes[18]) = (1, 1);
 //! let job = move || Table { nodes: &nodes, names: &[] }.check();
 //! let thread = std::thread::Builder::new().stack_size(STACK_BYTES).spawn(job).expect("a thread");
 //! assert_eq!(thread.join().expect("an answer"), Ok(()));
@@ -56,15 +56,16 @@ pub fn version() -> u32 {
     interface::version()
 }
 
-/// A node table, and the bytes that its names lie in. The two may be parts of one slice, and may overlap:
+/// A node table, and the bytes that its names lie in. Bytes 18 and 19 of a node are its source file number. The two slices may be parts of one, and
+/// may overlap:
 ///
 /// ```
 /// use starlark_checks::{Kind, Table};
 ///
 /// // an OtherSimple with an Identifier, whose name is byte 0 of the table itself
 /// let mut bytes = [0; 48];
-/// (bytes[0], bytes[16]) = (Kind::OtherSimple.into(), 2);
-/// (bytes[24], bytes[26], bytes[40]) = (Kind::Identifier.into(), 1, 1);
+/// (bytes[0], bytes[16], bytes[18]) = (Kind::OtherSimple.into(), 2, 1);
+/// (bytes[24], bytes[26], bytes[40], bytes[42]) = (Kind::Identifier.into(), 1, 1, 1);
 /// assert_eq!(Table { nodes: &bytes, names: &bytes[..1] }.check(), Ok(()));
 /// assert_eq!(Table { nodes: &bytes, names: &bytes }.target(1), Ok(1));
 /// ```
@@ -81,13 +82,13 @@ pub struct Refused {
     pub at: At,
 }
 
-/// Where a refusal stands: nowhere, at a node, or at a span of one. `earlier` is for 11 and 22, and None for every other: the node of the first
-/// parameter or argument of the list that has the same name.
+/// Where a refusal stands: nowhere, at a node, or at a span of one. `file` is the node's source file number: the span is one in that script.
+/// `earlier` is for 11 and 22, and None for every other: the node of the first parameter or argument of the list that has the same name.
 #[derive(Clone, Copy, Debug, PartialEq, Eq)]
 pub enum At {
     Nowhere,
     Node(u32),
-    Span { node: u32, begin: u32, end: u32, earlier: Option<u32> },
+    Span { node: u32, file: u32, begin: u32, end: u32, earlier: Option<u32> },
 }
 
 /// An accepted parameter list: five ranges of the list without its marks, and its length.
@@ -134,8 +135,14 @@ pub const FILE_BYTES: usize = 59_904;
 /// No module has more errors: two for each node.
 pub const ERRORS: usize = 4_200;
 
+/// The words of an error of a module in a lent list: number, source file number, begin and end.
+pub const ERROR_WORDS: usize = 4;
+
 /// No audit has more errors: four for each node.
 pub const AUDIT_ERRORS: usize = 8_400;
+
+/// The words of an error of an audit in a lent list: those of a module's, then the node.
+pub const AUDIT_WORDS: usize = 5;
 
 /// Stack enough for every job, twice over.
 pub const STACK_BYTES: usize = 1 << 18;
@@ -185,7 +192,7 @@ impl Refused {
         let at = match number {
             1 | 2 | 5 | 6 | 7 | 70..=75 | 90 | 91 => At::Nowhere,
             3 | 4 => At::Node(out[0]),
-            _ => At::Span { node: out[0], begin: out[1], end: out[2], earlier: place(out[3]) },
+            _ => At::Span { node: out[0], file: out[4], begin: out[1], end: out[2], earlier: place(out[3]) },
         };
         let number = Number::try_from(number).expect("a job gives no other numbers");
         Refused { number, at }
@@ -252,27 +259,27 @@ impl Table<'_> {
         accepted(|out| interface::type_shape(self, dialect, node, shapes, out)).map(|_| ())
     }
 
-    /// The errors that the module has under a dialect (nine bytes, or none for Extended). `errors` is lent three words for each: number, begin
-    /// and end; the first that fit whole are stored.
+    /// The errors that the module has under a dialect (nine bytes, or none for Extended). `errors` is lent [`ERROR_WORDS`] words for each; the
+    /// first that fit whole are stored.
     ///
     /// ```
-    /// use starlark_checks::{dialect, Error, Kind, Number, Table};
+    /// use starlark_checks::{dialect, Error, Kind, Number, Table, ERROR_WORDS};
     ///
-    /// // one record: a break
+    /// // one record: a break, in source file 1
     /// let mut nodes = [0; 24];
-    /// (nodes[0], nodes[12], nodes[16]) = (Kind::Break.into(), 5, 1);
-    /// let mut words = [0; 3];
+    /// (nodes[0], nodes[12], nodes[16], nodes[18]) = (Kind::Break.into(), 5, 1, 1);
+    /// let mut words = [0; ERROR_WORDS];
     /// let errors = Table { nodes: &nodes, names: &[] }.module(&dialect::STANDARD, &mut words).expect("the table is sound");
     /// assert_eq!(errors.total, 1);
-    /// assert_eq!(errors.iter().next(), Some(Error { number: Number::BreakMisplaced, node: None, span: 0..5 }));
+    /// assert_eq!(errors.iter().next(), Some(Error { number: Number::BreakMisplaced, file: 1, span: 0..5, node: None }));
     /// ```
     pub fn module<'a>(self, dialect: &[u8], errors: &'a mut [u32]) -> Result<Errors<'a>, Refused> {
         let out = accepted(|out| interface::module(self, dialect, errors, out))?;
         Ok(Errors::of_module(out[0], errors))
     }
 
-    /// The errors that every job on every node that it fits has under a dialect (nine bytes, or none for Extended). `errors` is lent four words
-    /// for each: number, node, begin and end; the first that fit whole are stored.
+    /// The errors that every job on every node that it fits has under a dialect (nine bytes, or none for Extended). `errors` is lent
+    /// [`AUDIT_WORDS`] words for each; the first that fit whole are stored.
     pub fn audit<'a>(self, dialect: &[u8], errors: &'a mut [u32]) -> Result<Errors<'a>, Refused> {
         let out = accepted(|out| interface::audit(self, dialect, errors, out))?;
         Ok(Errors::of_audit(out[0], errors))

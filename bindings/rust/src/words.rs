@@ -185,16 +185,16 @@ impl fmt::Display for UnknownKind {
     }
 }
 
-/// As `11: a parameter has the name of an earlier one (node 3, bytes 30 to 37; the name stands first at node 1)`.
+/// As `11: a parameter has the name of an earlier one (node 3, file 1, bytes 30 to 37; the name stands first at node 1)`.
 impl fmt::Display for Refused {
     fn fmt(&self, f: &mut fmt::Formatter) -> fmt::Result {
         write!(f, "{}", self.number)?;
         match self.at {
             At::Nowhere => Ok(()),
             At::Node(node) => write!(f, " (node {node})"),
-            At::Span { node, begin, end, earlier: None } => write!(f, " (node {node}, bytes {begin} to {end})"),
-            At::Span { node, begin, end, earlier: Some(first) } => {
-                write!(f, " (node {node}, bytes {begin} to {end}; the name stands first at node {first})")
+            At::Span { node, file, begin, end, earlier: None } => write!(f, " (node {node}, file {file}, bytes {begin} to {end})"),
+            At::Span { node, file, begin, end, earlier: Some(first) } => {
+                write!(f, " (node {node}, file {file}, bytes {begin} to {end}; the name stands first at node {first})")
             }
         }
     }
