@@ -2,11 +2,12 @@
 
 use model::answer::Answer;
 use model::answer::Refusal;
+use model::answer::Span;
+use model::answer::AUDIT_WORDS;
+use model::answer::ERROR_WORDS;
 use model::audit::Job;
 use model::audit::Place;
 use model::jobs;
-use model::module::Error;
-use model::module::Listed;
 use model::numbers::kind;
 use model::numbers::number;
 use model::table::Class;
@@ -49,13 +50,23 @@ fn marked<'a, 'n>(table: &'a Table<'n>) -> Trees<'a, 'n> {
     Trees { table, spans: Spans::Marks }
 }
 
-/// A refusal of the crate, with the span that the table gives the record or the name.
+/// The number of the top-level statement that a record is in: the root's child that holds it, or another root.
+fn file_of(table: &Table, node: usize) -> u32 {
+    let statement = match table.kind(0) {
+        kind::STATEMENTS => table.children(0).take_while(|&child| child <= node).last(),
+        _ => Some(0),
+    };
+    statement.map_or(0, |statement| u32::from(table.records[statement].file))
+}
+
+/// A refusal of the crate, with the span that the table gives the record or the name, and the number of the statement that it is in.
 fn refusal(table: &Table, error: EvalException) -> Refusal {
     let (number, mark) = messages::read(error);
-    match mark {
-        Mark::Node(node) => table.refuse(number, node),
-        Mark::Name(node) => Refusal::spanned(number, node, table.records[node].name_span()),
-    }
+    let (node, span) = match mark {
+        Mark::Node(node) => (node, table.span(node)),
+        Mark::Name(node) => (node, table.records[node].name_span()),
+    };
+    Refusal::spanned(number, node, Span { file: file_of(table, node), ..span })
 }
 
 pub fn params(table: &Table, owner: usize) -> Built<Answer> {
@@ -200,24 +211,126 @@ fn write_shapes(
     }
 }
 
+/// What the crate says of a table: of each top-level statement as a module of its own, and where the whole table has one number of the
+/// whole as one module.
+pub struct Judged {
+    pub by_statement: Answer,
+    pub whole: Option<Answer>,
+}
+
+impl From<Answer> for Judged {
+    fn from(answer: Answer) -> Judged {
+        Judged { by_statement: answer, whole: None }
+    }
+}
+
+impl Judged {
+    pub fn all(&self) -> impl Iterator<Item = &Answer> {
+        std::iter::once(&self.by_statement).chain(&self.whole)
+    }
+}
+
+/// An error of the crate's module pass: its number, its record, and the number of the source file of the statement that was its module.
+#[derive(Clone, Copy, Debug, PartialEq, Eq, PartialOrd, Ord)]
+pub struct Told {
+    pub number: u32,
+    pub node: usize,
+    pub file: u32,
+}
+
+impl Told {
+    fn words(&self, table: &Table) -> [u32; ERROR_WORDS] {
+        let Span { begin, end, .. } = table.span(self.node);
+        [self.number, self.file, begin, end]
+    }
+}
+
 /// A whole table as the crate's tree, ready for any dialect.
 pub struct Module<'a, 'n> {
     table: &'a Table<'n>,
     statement: AstStmt,
     places: Vec<Place>,
+    parents: Vec<usize>,
 }
 
 impl<'a, 'n> Module<'a, 'n> {
     pub fn of(table: &'a Table<'n>) -> Built<Module<'a, 'n>> {
         let statement = marked(table).statement(0)?;
         let places = back::must_be_the_table(table, &statement);
-        Ok(Module { table, statement, places })
+        Ok(Module { table, statement, places, parents: parents(table) })
     }
 
-    /// The errors of the module pass: those of statements in the crate's order, those of each expression in
+    /// The top-level statements: those of a root Statements, or the root itself.
+    fn statements(&self) -> &[AstStmt] {
+        match &self.statement.node {
+            StmtP::Statements(all) => all,
+            _ => std::slice::from_ref(&self.statement),
+        }
+    }
+
+    fn file(&self, statement: &AstStmt) -> u32 {
+        u32::from(self.table.records[marks::read_node(statement.span)].file)
+    }
+
+    /// The number of all top-level statements, where they have one.
+    fn one_file(&self) -> Option<u32> {
+        let mut files = self.statements().iter().map(|statement| self.file(statement));
+        let first = files.next().unwrap_or(0);
+        files.all(|file| file == first).then_some(first)
+    }
+
+    /// Each top-level statement as a module of its own: the errors of statements, in turn and in the crate's order, then those of
+    /// expressions.
+    fn by_statement(&self, dialect: &Dialect) -> Vec<Told> {
+        let lists = self.statements().iter().map(|statement| self.listed(statement, self.file(statement), dialect));
+        let (statements, expressions): (Vec<_>, Vec<_>) = lists.unzip();
+        [statements.concat(), expressions.concat()].concat()
+    }
+
+    /// The whole table as one module, where it has one number.
+    fn whole(&self, dialect: &Dialect) -> Option<Vec<Told>> {
+        let (statements, expressions) = self.listed(&self.statement, self.one_file()?, dialect);
+        Some([statements, expressions].concat())
+    }
+
+    /// The list that is judged by statements, as the job's words.
+    pub fn errors(&self, dialect: &Dialect) -> Vec<[u32; ERROR_WORDS]> {
+        self.by_statement(dialect).iter().map(|error| error.words(self.table)).collect()
+    }
+
+    pub fn judged(&self, dialect: &Dialect) -> Judged {
+        let answer = |list: Vec<Told>| {
+            let errors: Vec<_> = list.iter().map(|error| error.words(self.table)).collect();
+            let total = errors.len() as u32;
+            Answer { errors, ..Answer::accepted(vec![total]) }
+        };
+        Judged { by_statement: answer(self.by_statement(dialect)), whole: self.whole(dialect).map(answer) }
+    }
+
+    /// The errors of one module: those of statements in the crate's order, and those of expressions. The errors of each expression stand in
     /// the crate's order, and the expressions in table order, since the crate's is not known.
-    pub fn validate(&self, dialect: &Dialect) -> Listed {
-        listed(self.table, validate_module(&self.statement, dialect, codemap()))
+    fn listed(&self, module: &AstStmt, file: u32, dialect: &Dialect) -> (Vec<Told>, Vec<Told>) {
+        let mut statements = Vec::new();
+        let mut expressions: Vec<(usize, Vec<Told>)> = Vec::new();
+        for error in validate_module(module, dialect, codemap()) {
+            let (number, mark) = messages::read(error);
+            let Mark::Node(node) = mark else { panic!("the module pass reports a name") };
+            let error = Told { number, node, file };
+            match owner_expression(self.table, &self.parents, node) {
+                None => {
+                    assert!(expressions.is_empty(), "the crate looks at statements first");
+                    statements.push(error);
+                }
+                Some(owner) => match expressions.last_mut() {
+                    Some((last, errors)) if *last == owner => errors.push(error),
+                    _ => expressions.push((owner, vec![error])),
+                },
+            }
+        }
+        expressions.sort();
+        let seen_twice = expressions.windows(2).any(|pair| pair[0].0 == pair[1].0);
+        assert!(!seen_twice, "the errors of one expression stand together");
+        (statements, expressions.into_iter().flat_map(|(_, errors)| errors).collect())
     }
 }
 
@@ -227,8 +340,8 @@ pub struct Audit<'a, 'n> {
     module: Built<Module<'a, 'n>>,
 }
 
-/// An error of the audit: number, node, begin, end.
-type Found = [u32; 4];
+/// An error of the audit: number, file, begin, end, node.
+type Found = [u32; AUDIT_WORDS];
 
 impl<'a, 'n> Audit<'a, 'n> {
     pub fn of(table: &'a Table<'n>) -> Audit<'a, 'n> {
@@ -236,19 +349,23 @@ impl<'a, 'n> Audit<'a, 'n> {
     }
 
     /// The whole list, where the whole table is a tree of the crate; where its functions are run is told by that tree.
-    pub fn answer(&self, dialect: &Dialect) -> Built<Answer> {
+    pub fn judged(&self, dialect: &Dialect) -> Built<Judged> {
         let module = self.module.as_ref().map_err(|none| *none)?;
-        let errors = module.validate(dialect);
-        let own = errors.in_order().filter(|error| !is_of_list(error.number)).map(|error| {
-            let (begin, end) = self.table.span(error.node);
-            [error.number, error.node as u32, begin, end]
-        });
-        let mut audited: Vec<Found> = own.collect();
+        let mut refused: Vec<Found> = Vec::new();
         for &place in &module.places {
-            audited.extend(refused_at(self.table, place, dialect)?);
+            refused.extend(refused_at(self.table, place, dialect)?);
         }
-        let total = audited.len() as u32;
-        Ok(Answer { audited, ..Answer::accepted(vec![total]) })
+        let answer = |list: Vec<Told>| {
+            let own = list.iter().filter(|error| !is_of_list(error.number)).map(|error| {
+                let [number, file, begin, end] = error.words(self.table);
+                [number, file, begin, end, error.node as u32]
+            });
+            let audited: Vec<Found> = own.chain(refused.iter().copied()).collect();
+            let total = audited.len() as u32;
+            Answer { audited, ..Answer::accepted(vec![total]) }
+        };
+        let whole = module.whole(dialect).map(answer);
+        Ok(Judged { by_statement: answer(module.by_statement(dialect)), whole })
     }
 
     /// Of a table that is no tree: what the crate says of those of these places that are.
@@ -274,33 +391,11 @@ fn refused_at(table: &Table, place: Place, dialect: &Dialect) -> Built<Option<Fo
         Job::Target => target(table, place.node),
         Job::Type => type_shape(table, place.node, dialect),
     }?;
-    let words = |answer: Answer| [answer.number, answer.words[0], answer.words[1], answer.words[2]];
+    let words = |answer: Answer| match answer.words[..] {
+        [node, begin, end, _, file] => [answer.number, file, begin, end, node],
+        _ => panic!("a refusal of the crate has a node, a span, an earlier node or none, and a file, not {:?}", answer.words),
+    };
     Ok(Some(answer).filter(|answer| answer.number != 0).map(words))
-}
-
-fn listed(table: &Table, errors: Vec<EvalException>) -> Listed {
-    let parents = parents(table);
-    let mut statements = Vec::new();
-    let mut expressions: Vec<(usize, Vec<Error>)> = Vec::new();
-    for error in errors {
-        let (number, mark) = messages::read(error);
-        let Mark::Node(node) = mark else { panic!("the module pass reports a name") };
-        let error = Error { number, node };
-        match owner_expression(table, &parents, node) {
-            None => {
-                assert!(expressions.is_empty(), "the crate looks at statements first");
-                statements.push(error);
-            }
-            Some(owner) => match expressions.last_mut() {
-                Some((last, errors)) if *last == owner => errors.push(error),
-                _ => expressions.push((owner, vec![error])),
-            },
-        }
-    }
-    expressions.sort();
-    let seen_twice = expressions.windows(2).any(|pair| pair[0].0 == pair[1].0);
-    assert!(!seen_twice, "the errors of one expression stand together");
-    Listed { statements, expressions: expressions.into_iter().map(|(_, errors)| errors).collect() }
 }
 
 /// The expression that an error at this node belongs to; none if it is a statement's.
@@ -322,50 +417,63 @@ fn parents(table: &Table) -> Vec<usize> {
     parents
 }
 
-/// What the crate refuses on a tree that has the table's own spans: number, begin, end of each error.
+/// What the crate refuses on a tree that has the table's own spans: number, file, begin, end of each error. The file is that of the
+/// top-level statement.
 pub mod own_spans {
     use super::*;
+
+    type Words = [u32; ERROR_WORDS];
 
     fn own<'a, 'n>(table: &'a Table<'n>) -> Trees<'a, 'n> {
         Trees { table, spans: Spans::Table }
     }
 
-    fn words(error: EvalException) -> [u32; 3] {
+    fn words(file: u32, error: EvalException) -> Words {
         let (number, span) = messages::number_and_span(error);
-        [number, span.begin().get(), span.end().get()]
+        [number, file, span.begin().get(), span.end().get()]
     }
 
-    fn refused<T>(result: Result<T, EvalException>) -> Vec<[u32; 3]> {
-        result.err().map(words).into_iter().collect()
+    fn refused<T>(table: &Table, node: usize, result: Result<T, EvalException>) -> Vec<Words> {
+        result.err().map(|error| words(file_of(table, node), error)).into_iter().collect()
     }
 
-    pub fn params(table: &Table, owner: usize) -> Built<Vec<[u32; 3]>> {
-        Ok(refused(DefParams::unpack(&own(table).parameters(owner)?, codemap())))
+    pub fn params(table: &Table, owner: usize) -> Built<Vec<Words>> {
+        Ok(refused(table, owner, DefParams::unpack(&own(table).parameters(owner)?, codemap())))
     }
 
-    pub fn call(table: &Table, node: usize) -> Built<Vec<[u32; 3]>> {
+    pub fn call(table: &Table, node: usize) -> Built<Vec<Words>> {
         let args = CallArgsP { args: own(table).arguments(node)? };
-        Ok(refused(CallArgsUnpack::unpack(&args, codemap())))
+        Ok(refused(table, node, CallArgsUnpack::unpack(&args, codemap())))
     }
 
-    pub fn target(table: &Table, node: usize) -> Built<Vec<[u32; 3]>> {
-        Ok(refused(check_assign(codemap(), own(table).expression(node)?)))
+    pub fn target(table: &Table, node: usize) -> Built<Vec<Words>> {
+        Ok(refused(table, node, check_assign(codemap(), own(table).expression(node)?)))
     }
 
-    pub fn assignment(table: &Table, node: usize) -> Built<Vec<[u32; 3]>> {
-        checked_assignment(&own(table), node).map(refused)
+    pub fn assignment(table: &Table, node: usize) -> Built<Vec<Words>> {
+        Ok(refused(table, node, checked_assignment(&own(table), node)?))
     }
 
-    pub fn type_shape(table: &Table, node: usize, dialect: &Dialect) -> Built<Vec<[u32; 3]>> {
-        Ok(refused(dialect_check_type(own(table).expression(node)?, dialect, codemap())))
+    pub fn type_shape(table: &Table, node: usize, dialect: &Dialect) -> Built<Vec<Words>> {
+        Ok(refused(table, node, dialect_check_type(own(table).expression(node)?, dialect, codemap())))
     }
 
-    pub fn module(table: &Table, dialect: &Dialect) -> Built<Vec<[u32; 3]>> {
-        let errors = validate_module(&own(table).statement(0)?, dialect, codemap());
-        Ok(errors.into_iter().map(words).collect())
+    /// Each top-level statement is a tree and a module of its own.
+    pub fn module(table: &Table, dialect: &Dialect) -> Built<Vec<Words>> {
+        let statements: Vec<usize> = match table.kind(0) {
+            kind::STATEMENTS => table.children(0).collect(),
+            _ => vec![0],
+        };
+        let mut errors = Vec::new();
+        for node in statements {
+            let file = u32::from(table.records[node].file);
+            let found = validate_module(&own(table).statement(node)?, dialect, codemap());
+            errors.extend(found.into_iter().map(|error| words(file, error)));
+        }
+        Ok(errors)
     }
 
-    pub fn audit(table: &Table, dialect: &Dialect) -> Built<Vec<[u32; 3]>> {
+    pub fn audit(table: &Table, dialect: &Dialect) -> Built<Vec<Words>> {
         let places = Module::of(table)?.places;
         let mut errors = module(table, dialect)?;
         errors.retain(|error| !is_of_list(error[0]));

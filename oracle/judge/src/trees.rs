@@ -1,5 +1,6 @@
 //! Sound tables as the crate's trees.
 
+use model::answer;
 use model::numbers::kind;
 use model::table::normal_parts;
 use model::table::Class;
@@ -111,8 +112,9 @@ fn inner<T>(node: usize, value: T) -> Spanned<T> {
     Spanned { span: marks::inner(node), node: value }
 }
 
-fn span((begin, end): (u32, u32)) -> Span {
-    Span::new(Pos::new(begin), Pos::new(end))
+/// The crate's spans have no file.
+fn span(of_table: answer::Span) -> Span {
+    Span::new(Pos::new(of_table.begin), Pos::new(of_table.end))
 }
 
 impl Trees<'_, '_> {

@@ -7,13 +7,27 @@ use crate::planted::Fault;
 /// Stands in `out` for a place or a node that is none.
 pub const NONE: u32 = u32::MAX;
 
+/// The words of an error of the module pass: number, file, begin, end.
+pub const ERROR_WORDS: usize = 4;
+
+/// The words of an error of the audit: those, then the node.
+pub const AUDIT_WORDS: usize = 5;
+
+/// A stretch of a source file.
+#[derive(Clone, Copy, Debug, PartialEq, Eq)]
+pub struct Span {
+    pub file: u32,
+    pub begin: u32,
+    pub end: u32,
+}
+
 /// A refusal: its number, and the node and the span where document 01 gives them. 11 and 22 carry the node of the first earlier
 /// parameter or argument with an equal name besides.
 #[derive(Clone, Debug, PartialEq, Eq)]
 pub struct Refusal {
     pub number: u32,
     pub node: Option<u32>,
-    pub span: Option<(u32, u32)>,
+    pub span: Option<Span>,
     pub earlier: Option<u32>,
 }
 
@@ -26,7 +40,7 @@ impl Refusal {
         Refusal { number, node: Some(node as u32), span: None, earlier: None }
     }
 
-    pub fn spanned(number: u32, node: usize, span: (u32, u32)) -> Refusal {
+    pub fn spanned(number: u32, node: usize, span: Span) -> Refusal {
         Refusal { number, node: Some(node as u32), span: Some(span), earlier: None }
     }
 
@@ -42,10 +56,10 @@ pub struct Answer {
     pub words: Vec<u32>,
     /// For a mode or shape buffer, from its start; 0 where the lent byte stays (no mode or shape is 0).
     pub bytes: Vec<u8>,
-    /// The module pass's errors: number, begin, end.
-    pub errors: Vec<[u32; 3]>,
-    /// The audit's errors: number, node, begin, end.
-    pub audited: Vec<[u32; 4]>,
+    /// The module pass's errors: number, file, begin, end.
+    pub errors: Vec<[u32; ERROR_WORDS]>,
+    /// The audit's errors: number, file, begin, end, node.
+    pub audited: Vec<[u32; AUDIT_WORDS]>,
     /// A table file, or a table that is read, which goes to the start of the lent buffer byte by byte.
     pub file: Vec<u8>,
     /// Names that are read, which go to the start of the second lent buffer.
@@ -58,7 +72,10 @@ impl From<Refusal> for Answer {
     fn from(refusal: Refusal) -> Answer {
         let none = if planted(Fault::NoEarlierIsZero) { 0 } else { NONE };
         let earlier = refusal.earlier.unwrap_or(none);
-        let span = refusal.span.map(|(begin, end)| [begin, end, earlier]);
+        let span = refusal.span.map(|Span { file, begin, end }| match planted(Fault::FileBeforeEarlier) {
+            true => [begin, end, file, earlier],
+            false => [begin, end, earlier, file],
+        });
         Answer {
             number: refusal.number,
             words: refusal.node.into_iter().chain(span.into_iter().flatten()).collect(),
@@ -71,8 +88,8 @@ impl Answer {
     /// Whether the crate's answer is this one, which may carry an earlier node: the crate has none.
     pub fn is_told_by_the_crate(&self, judged: &Answer) -> bool {
         match (self.number, self.words.as_slice()) {
-            (number::DUPLICATED_PARAMETER | number::REPEATED_NAMED, &[node, begin, end, _]) => {
-                *judged == Answer { words: vec![node, begin, end, NONE], ..self.clone() }
+            (number::DUPLICATED_PARAMETER | number::REPEATED_NAMED, &[node, begin, end, _, file]) => {
+                *judged == Answer { words: vec![node, begin, end, NONE, file], ..self.clone() }
             }
             _ => judged == self,
         }
@@ -100,10 +117,10 @@ impl Answer {
     /// Writes the words of a binding, or the first errors that fit whole.
     pub fn write_list(&self, lent: &mut [u32]) {
         lent[..self.list.len()].copy_from_slice(&self.list);
-        for (place, error) in lent.chunks_exact_mut(3).zip(&self.errors) {
+        for (place, error) in lent.chunks_exact_mut(ERROR_WORDS).zip(&self.errors) {
             place.copy_from_slice(error);
         }
-        for (place, error) in lent.chunks_exact_mut(4).zip(&self.audited) {
+        for (place, error) in lent.chunks_exact_mut(AUDIT_WORDS).zip(&self.audited) {
             place.copy_from_slice(error);
         }
     }

@@ -1,6 +1,8 @@
 //! Product 1's audit: the module pass, and every job on every node that it fits. Written from the words of the request.
 
 use crate::answer::Refusal;
+use crate::answer::Span;
+use crate::answer::AUDIT_WORDS;
 use crate::call;
 use crate::dialect::Dialect;
 use crate::jobs::argument_refusal;
@@ -38,7 +40,8 @@ pub struct Place {
 
 /// First the module pass's errors without those of parameter lists, then what each job refuses, record by record.
 pub fn audit(table: &Table, dialect: &Dialect) -> Vec<Refusal> {
-    let listed = module::module(table, dialect);
+    let without_def = Dialect { def: false, ..*dialect };
+    let listed = module::module(table, if planted(Fault::AuditOpenedDefStays) { &without_def } else { dialect });
     let is_of_list = |number: u32| (number::SLASH_FIRST..=number::STAR_NOT_FOLLOWED).contains(&number);
     let own = listed.in_order().filter(|error| !is_of_list(error.number) || planted(Fault::AuditTellsListsTwice));
     let own: Vec<Refusal> = own.map(|error| table.refuse(error.number, error.node)).collect();
@@ -131,9 +134,9 @@ fn refused_call(table: &Table, call: usize) -> Option<Refusal> {
     Some(argument_refusal(table, number, &written.nodes, at))
 }
 
-/// Four words of an error: number, node, begin, end.
-pub fn words(refusal: &Refusal) -> [u32; 4] {
+/// The words of an error: those of the module pass, then the node.
+pub fn words(refusal: &Refusal) -> [u32; AUDIT_WORDS] {
     let node = refusal.node.expect("a refusal of a job has a node");
-    let (begin, end) = refusal.span.expect("a refusal of a job has a span");
-    [refusal.number, node, begin, end]
+    let Span { file, begin, end } = refusal.span.expect("a refusal of a job has a span");
+    [refusal.number, file, begin, end, node]
 }

@@ -170,7 +170,7 @@ pub fn printed(file: &[u8]) -> String {
         Err(refusal) => return format!("refused {}\n", refusal.number),
     };
     let answer = crate::jobs::module(&contents.table, &contents.names, &contents.dialect);
-    let lines = answer.errors.iter().map(|[number, begin, end]| format!("{number} {begin} {end}\n"));
+    let lines = answer.errors.iter().map(|[number, file, begin, end]| format!("{number} {file} {begin} {end}\n"));
     let nodes = contents.table.len() / RECORD_BYTES;
     format!("nodes {nodes}\n{}errors {}\n", lines.collect::<String>(), answer.errors.len())
 }

@@ -2,6 +2,9 @@
 
 use crate::answer::Answer;
 use crate::answer::Refusal;
+use crate::answer::Span;
+use crate::answer::AUDIT_WORDS;
+use crate::answer::ERROR_WORDS;
 pub use crate::answer::NONE;
 use crate::audit;
 use crate::bind;
@@ -107,7 +110,10 @@ pub(crate) fn argument_refusal(table: &Table, number: u32, nodes: &[usize], at: 
     match first_equal(table, &nodes[..at], node) {
         Some(earlier) if number == number::REPEATED_NAMED => {
             let at_argument = planted(Fault::RepeatedAtArgumentSpan);
-            let span = if at_argument { table.span(node) } else { table.records[node].name_span() };
+            let mut span = if at_argument { table.span(node) } else { table.records[node].name_span() };
+            if planted(Fault::RepeatedFileZero) {
+                span.file = 0;
+            }
             Refusal::spanned(number, node, span).with_earlier(earlier)
         }
         _ => table.refuse(number, node),
@@ -253,7 +259,7 @@ pub fn rescue(input: &[u8], room: usize) -> Answer {
 pub fn audit(table: &[u8], names: &[u8], dialect: &[u8]) -> Answer {
     answered(Table::check(table, names).and_then(|table| {
         let dialect = dialect::from_bytes(dialect)?;
-        let audited: Vec<[u32; 4]> = audit::audit(&table, &dialect).iter().map(audit::words).collect();
+        let audited: Vec<[u32; AUDIT_WORDS]> = audit::audit(&table, &dialect).iter().map(audit::words).collect();
         let total = audited.len() as u32;
         Ok(Answer { audited, ..Answer::accepted(vec![total]) })
     }))
@@ -306,10 +312,11 @@ pub fn check_file(file: &[u8]) -> Answer {
 /// A list of errors as the job's words.
 pub fn listed_answer(table: &Table, listed: &module::Listed) -> Answer {
     let words = |error: &module::Error| {
-        let (begin, end) = table.span(error.node);
-        [error.number, begin, end]
+        let Span { file, begin, end } = table.span(error.node);
+        let of_first = table.records.get(1).filter(|_| planted(Fault::ErrorFileOfTheFirst));
+        [error.number, of_first.map_or(file, |first| u32::from(first.file)), begin, end]
     };
-    let errors: Vec<[u32; 3]> = listed.in_order().map(words).collect();
+    let errors: Vec<[u32; ERROR_WORDS]> = listed.in_order().map(words).collect();
     let total = errors.len() as u32;
     Answer { errors, ..Answer::accepted(vec![total]) }
 }

@@ -155,7 +155,7 @@ impl Pass<'_, '_> {
             }
             kind::LAMBDA => {
                 let own = Error { number: number::LAMBDA_NOT_ALLOWED, node };
-                let own = (!self.dialect.lambda).then_some(own);
+                let own = (!self.dialect.lambda || planted(Fault::OpenedLambdaStays)).then_some(own);
                 let list = self.parameters(node);
                 if planted(Fault::LambdaBeforeItsNumber) {
                     list.into_iter().chain(own).collect()

@@ -62,7 +62,25 @@ faults! {
     ParseOnlyRefusesEllipsis
     LongNameAllowed
     NameEndWraps
-    ReservedBytesUnchecked
+    FilesUnchecked
+    FileThousandAllowed
+    FileZeroAllowed
+    RootFileUnseen
+    FileOfTheStatementBefore
+    StatementEndsOneLate
+    FirstFileForAll
+    NestedStatementsFileUnseen
+    FileOfNodeZero
+    RepeatedFileZero
+    FileBeforeEarlier
+    BeginBeforeFile
+    FileBeginBeforeFile
+    AuditBeginBeforeFile
+    AuditFileAfterNode
+    RoomInThrees
+    FileRoomInThrees
+    AuditRoomInFours
+    ErrorFileOfTheFirst
     EvenDictUnchecked
     ChildBeforeParentUnsound
     DepthOneMore
@@ -149,6 +167,8 @@ faults! {
     FileDialectUnread
     FileNodesFirst
     FileHalfErrorStored
+    OpenedLambdaStays
+    AuditOpenedDefStays
     LargeTreesUnjudged
     HalfOfTheRandomJobs
 }

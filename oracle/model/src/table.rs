@@ -1,6 +1,7 @@
 //! The node table: records, which of them are sound, and how deep they stand.
 
 use crate::answer::Refusal;
+use crate::answer::Span;
 use crate::numbers::kind;
 use crate::numbers::number;
 use crate::planted::planted;
@@ -11,6 +12,7 @@ pub const MOST_NODES: usize = 2_100;
 pub const MOST_NAME_BYTES: usize = 8_064;
 pub const MOST_DEPTH: usize = 64;
 pub const MOST_POSITION: u32 = 2_147_483_647;
+pub const MOST_FILE: u16 = 999;
 
 #[derive(Clone, Copy, Debug, PartialEq, Eq)]
 pub struct Record {
@@ -21,7 +23,8 @@ pub struct Record {
     pub begin: u32,
     pub end: u32,
     pub size: u16,
-    pub reserved: u16,
+    /// The number of the source file (document 02, W-208); 0 in a root Statements.
+    pub file: u16,
     /// Source position of the name, in kind 61 alone.
     pub source: u32,
 }
@@ -44,7 +47,7 @@ impl Record {
             begin: field32(bytes, 8),
             end: field32(bytes, 12),
             size: field16(bytes, 16),
-            reserved: field16(bytes, 18),
+            file: field16(bytes, 18),
             source: field32(bytes, 20),
         }
     }
@@ -58,18 +61,18 @@ impl Record {
         bytes[8..12].copy_from_slice(&self.begin.to_le_bytes());
         bytes[12..16].copy_from_slice(&self.end.to_le_bytes());
         bytes[16..18].copy_from_slice(&self.size.to_le_bytes());
-        bytes[18..20].copy_from_slice(&self.reserved.to_le_bytes());
+        bytes[18..20].copy_from_slice(&self.file.to_le_bytes());
         bytes[20..24].copy_from_slice(&self.source.to_le_bytes());
         bytes
     }
 
-    pub fn span(&self) -> (u32, u32) {
-        (self.begin, self.end)
+    pub fn span(&self) -> Span {
+        Span { file: u32::from(self.file), begin: self.begin, end: self.end }
     }
 
     /// Where the name of a named argument stands in the source.
-    pub fn name_span(&self) -> (u32, u32) {
-        (self.source, self.source + u32::from(self.name_len))
+    pub fn name_span(&self) -> Span {
+        Span { begin: self.source, end: self.source + u32::from(self.name_len), ..self.span() }
     }
 }
 
@@ -195,22 +198,60 @@ impl<'a> Table<'a> {
         Ok(table)
     }
 
+    /// The first unsound record: down the tree from the root, a record before those below it. As long as all that were looked at are sound,
+    /// the children of each fill it, so this is the order of the index, and no record is passed over.
     fn check_records(&self) -> Result<(), Refusal> {
-        let mut unsound = (0..self.records.len()).filter(|&node| !self.is_sound(node));
-        let found = if planted(Fault::ChildBeforeParentUnsound) { unsound.last() } else { unsound.next() };
-        match found {
-            Some(node) => Err(Refusal::placed(number::UNSOUND, node)),
-            None => Ok(()),
+        if planted(Fault::ChildBeforeParentUnsound) {
+            let last = (0..self.records.len()).rev().find(|&node| !self.is_sound(node));
+            last.map_or(Ok(()), |node| self.check_record(node, true))?;
+        }
+        let root = &self.records[0];
+        if root.kind != kind::STATEMENTS {
+            return self.check_statement(0, root.file);
+        }
+        self.check_record(0, root.file == 0 || planted(Fault::RootFileUnseen))?;
+        let children: Vec<usize> = self.children(0).collect();
+        let file = |place: usize| self.records[children[place]].file;
+        for (place, &child) in children.iter().enumerate() {
+            let before = file(place.saturating_sub(1));
+            if planted(Fault::StatementEndsOneLate) {
+                self.check_record(child, file(place) == before)?;
+            }
+            let below = if planted(Fault::FirstFileForAll) { file(0) } else { file(place) };
+            self.check_statement(child, if planted(Fault::FileOfTheStatementBefore) { before } else { below })?;
+        }
+        Ok(())
+    }
+
+    /// A top-level statement has a number from 1 to 999, and all under it that number.
+    fn check_statement(&self, node: usize, below: u16) -> Result<(), Refusal> {
+        let record = &self.records[node];
+        let is_nested = node > 0 && record.kind == kind::STATEMENTS;
+        let is_unseen = is_nested && planted(Fault::NestedStatementsFileUnseen);
+        self.check_record(node, has_file_number(record) || is_unseen)?;
+        self.children(node).try_for_each(|child| self.check_below(child, below))
+    }
+
+    /// A record under a top-level statement of this number, and all below it.
+    fn check_below(&self, node: usize, file: u16) -> Result<(), Refusal> {
+        self.check_record(node, self.records[node].file == file)?;
+        self.children(node).try_for_each(|child| self.check_below(child, file))
+    }
+
+    fn check_record(&self, node: usize, file_is_sound: bool) -> Result<(), Refusal> {
+        match self.is_sound(node) && (file_is_sound || planted(Fault::FilesUnchecked)) {
+            true => Ok(()),
+            false => Err(Refusal::placed(number::UNSOUND, node)),
         }
     }
 
+    /// Every rule of a record but that of its file number.
     fn is_sound(&self, node: usize) -> bool {
         let record = &self.records[node];
         class(record.kind).is_some()
             && record.detail <= most_detail(record.kind)
             && self.name_is_sound(record)
             && positions_are_sound(record)
-            && (record.reserved == 0 || planted(Fault::ReservedBytesUnchecked))
             && record.size >= 1
             && node + usize::from(record.size) <= self.records.len()
             && (node != 0 || self.root_is_sound())
@@ -288,7 +329,7 @@ impl<'a> Table<'a> {
         usize::from(self.records[node].size)
     }
 
-    pub fn span(&self, node: usize) -> (u32, u32) {
+    pub fn span(&self, node: usize) -> Span {
         self.records[node].span()
     }
 
@@ -315,7 +356,9 @@ impl<'a> Table<'a> {
 
     /// A refusal at a node: its own span.
     pub fn refuse(&self, number: u32, node: usize) -> Refusal {
-        Refusal::spanned(number, node, self.span(node))
+        let of_root = planted(Fault::FileOfNodeZero);
+        let file = if of_root { u32::from(self.records[0].file) } else { u32::from(self.records[node].file) };
+        Refusal::spanned(number, node, Span { file, ..self.span(node) })
     }
 
     /// Number 6, for a node that a job wants to be of certain kinds.
@@ -327,6 +370,13 @@ impl<'a> Table<'a> {
             Err(Refusal::bare(number::NODE))
         }
     }
+}
+
+/// The numbers that a top-level statement may have.
+fn has_file_number(record: &Record) -> bool {
+    let least = u16::from(!planted(Fault::FileZeroAllowed));
+    let most = MOST_FILE + u16::from(planted(Fault::FileThousandAllowed));
+    (least..=most).contains(&record.file)
 }
 
 fn positions_are_sound(record: &Record) -> bool {

@@ -5,7 +5,14 @@ use model::table::class;
 use model::table::has_name;
 use model::table::Class;
 use model::table::Record;
+use model::table::MOST_FILE;
 use model::table::MOST_POSITION;
+use model::table::RECORD_BYTES;
+
+use crate::rng::Rng;
+
+/// Where the number of the source file stands in a record.
+pub const FILE_AT: usize = 18;
 
 /// One record to be: its name is a number, spelled when the table is written.
 #[derive(Clone, Copy, Debug, PartialEq, Eq)]
@@ -138,15 +145,54 @@ pub enum Spans {
     Extreme,
 }
 
+/// Which source files the top-level statements of a table are of.
+#[derive(Clone, Copy, Debug, PartialEq, Eq)]
+pub enum Files {
+    /// All of one.
+    One(u16),
+    /// One number after another from 1 to so many, and from 1 on again: many statements share one.
+    Turns(u16),
+    /// Each has a number of its own, by this seed.
+    Each(u64),
+}
+
+impl Files {
+    /// The number of the statement at this place, from 0.
+    fn number(&self, place: u64) -> u16 {
+        let most = u64::from(MOST_FILE);
+        match *self {
+            Files::One(number) => number,
+            Files::Turns(count) => 1 + (place % u64::from(count)) as u16,
+            Files::Each(seed) => 1 + (Rng::new(seed, place).next() % most) as u16,
+        }
+    }
+}
+
+/// Writes the source file numbers into a table whose sizes are right: 0 into a root Statements, the number of its statement into each
+/// other record.
+pub fn write_files(table: &mut [u8], files: Files) {
+    let is_list = table.first() == Some(&kind::STATEMENTS);
+    let (mut end, mut place, mut number) = (usize::from(is_list), 0, 0);
+    for (node, bytes) in table.chunks_exact_mut(RECORD_BYTES).enumerate() {
+        if node == end {
+            number = files.number(place);
+            place += 1;
+            end = node + usize::from(Record::read(bytes).size).max(1);
+        }
+        bytes[FILE_AT..FILE_AT + 2].copy_from_slice(&number.to_le_bytes());
+    }
+}
+
 #[derive(Clone, Copy, Debug)]
 pub struct Style {
     pub spelling: Spelling,
     /// Equal names stand once in the name bytes, or once for each use.
     pub shared: bool,
     pub spans: Spans,
+    pub files: Files,
 }
 
-pub const PLAIN: Style = Style { spelling: Spelling::Letters, shared: true, spans: Spans::Apart };
+pub const PLAIN: Style = Style { spelling: Spelling::Letters, shared: true, spans: Spans::Apart, files: Files::One(1) };
 
 /// A table and its name bytes.
 #[derive(Clone, Debug, Default)]
@@ -174,11 +220,12 @@ impl Encoded {
                 begin,
                 end,
                 size: cell.size,
-                reserved: 0,
+                file: 0,
                 source,
             };
             self.table.extend_from_slice(&record.write());
         }
+        write_files(&mut self.table, style.files);
     }
 
     fn name(&mut self, name: u8, style: &Style) -> (u32, u16) {

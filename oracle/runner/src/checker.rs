@@ -5,14 +5,17 @@ use std::fmt::Write;
 use judge::dialects;
 use judge::run;
 use judge::run::own_spans;
+use judge::run::Judged;
 use judge::trees::Built;
 use judge::trees::NotATree;
 use model::answer::Answer;
+use model::answer::Span;
+use model::answer::AUDIT_WORDS;
+use model::answer::ERROR_WORDS;
 use model::audit;
 use model::file;
 use model::jobs;
 use model::module;
-use model::module::Listed;
 use model::numbers::number;
 use model::planted::planted;
 use model::planted::Fault;
@@ -129,9 +132,9 @@ impl Checker {
         let Ok(mut of_crate) = or_stop(request, || with_own_spans(request)) else { return };
         let mut of_model = match (model.number, model.words.as_slice()) {
             (0, _) if model.audited.is_empty() => model.errors.clone(),
-            (0, _) => model.audited.iter().map(|&[number, _, begin, end]| [number, begin, end]).collect(),
-            (number, [_, begin, end, _]) => vec![[number, *begin, *end]],
-            (_, words) => panic!("a refusal of the crate has a node, a span and an earlier node or none, not {words:?}"),
+            (0, _) => model.audited.iter().map(|&[number, file, begin, end, _]| [number, file, begin, end]).collect(),
+            (number, &[_, begin, end, _, file]) => vec![[number, file, begin, end]],
+            (_, words) => panic!("a refusal of the crate has a node, a span, an earlier node or none, and a file, not {words:?}"),
         };
         of_crate.sort();
         of_model.sort();
@@ -169,7 +172,7 @@ impl Checker {
                 let model = model_answer(&request);
                 let judged = match &tree {
                     Ok(tree) if !is_ours(model.number) => {
-                        or_stop(&request, || Ok(listed(&checked, tree, dialect)))
+                        or_stop(&request, || Ok(tree.judged(&dialects::from_bytes(dialect))))
                     }
                     _ => Err(NotATree),
                 };
@@ -195,7 +198,7 @@ impl Checker {
             let request = request(dialect, errors);
             let model = model_answer(&request);
             let judge = judge.as_ref().filter(|_| !is_ours(model.number));
-            let judged = judge.map(|judge| or_stop(&request, || judge.answer(&dialects::from_bytes(dialect))));
+            let judged = judge.map(|judge| or_stop(&request, || judge.judged(&dialects::from_bytes(dialect))));
             let is_part = matches!(judged, Some(Err(NotATree)));
             self.compare(&request, &model, judged.unwrap_or(Err(NotATree)));
             if let (Some(judge), Some(table), true) = (judge, &checked, is_part) {
@@ -228,7 +231,7 @@ impl Checker {
         answer.numbers().for_each(|number| self.tally.given[job][number as usize] += 1);
     }
 
-    fn compare(&mut self, request: &Request, model: &Answer, judged: Built<Answer>) {
+    fn compare(&mut self, request: &Request, model: &Answer, judged: Built<Judged>) {
         let is_unjudged = planted(Fault::LargeTreesUnjudged) && request.table.len() > 12 * RECORD_BYTES;
         let judged = if is_unjudged { Err(NotATree) } else { judged };
         self.count_job(request.job.index());
@@ -244,16 +247,18 @@ impl Checker {
         // Never more errors than twice the records, in the audit three times.
         differs |= model.errors.len() > request.table.len() / 12 || model.audited.len() > request.table.len() / 8;
         if let Ok(judged) = &judged {
+            differs |= !judged.all().all(|answer| model.is_told_by_the_crate(answer));
+        }
+        if differs {
+            self.difference(request, &effect, &expected, judged.as_ref().map(|judged| shown(request, model, judged)));
+        } else if let Some(recorder) = &mut self.recorder {
+            recorder.offer(request, model, judged.is_ok());
+        }
+        if judged.is_ok() {
             self.tally.by_crate += 1;
-            differs |= !model.is_told_by_the_crate(judged);
             if self.tally.by_crate % OWN_SPANS_ONCE_IN == 0 {
                 self.check_own_spans(request, model);
             }
-        }
-        if differs {
-            self.difference(request, &effect, &expected, judged);
-        } else if let Some(recorder) = &mut self.recorder {
-            recorder.offer(request, model, judged.is_ok());
         }
     }
 
@@ -269,15 +274,12 @@ impl Checker {
         table == front(request.table) && names == request.names
     }
 
-    fn difference(&mut self, request: &Request, effect: &Effect, expected: &Effect, judged: Built<Answer>) {
+    fn difference(&mut self, request: &Request, effect: &Effect, expected: &Effect, judged: Result<String, &NotATree>) {
         self.tally.differences += 1;
         if self.tally.first.is_some() {
             return;
         }
-        let judged = match judged {
-            Ok(answer) => Effect::before(&request.job).after(&answer).to_string(),
-            Err(NotATree) => "not asked".to_owned(),
-        };
+        let judged = judged.unwrap_or("not asked".to_owned());
         let mut text = String::new();
         let mut line = |what: &str, value: &dyn std::fmt::Display| {
             writeln!(text, "    {what}: {value}").expect("a String can be written");
@@ -312,10 +314,10 @@ impl Checker {
         if self.wants(&request.job) {
             let answer = model_answer(request);
             let spanned = |&(number, node): &(u32, usize)| {
-                let (begin, end) = Record::read(&request.table[RECORD_BYTES * node..]).span();
-                [number, node as u32, begin, end]
+                let Span { file, begin, end } = Record::read(&request.table[RECORD_BYTES * node..]).span();
+                [number, file, begin, end, node as u32]
             };
-            let expected: Vec<[u32; 4]> = list.iter().map(spanned).collect();
+            let expected: Vec<[u32; AUDIT_WORDS]> = list.iter().map(spanned).collect();
             let equal = answer.number == 0 && answer.words == [list.len() as u32] && answer.audited == expected;
             self.note(equal, || format!("the model audits {answer:?}, by hand it is {list:?}: {}", hex(request.table)));
             self.check(request);
@@ -392,7 +394,7 @@ fn model_answer(request: &Request) -> Answer {
 }
 
 /// The crate's answer, where the model has not refused with a number that the crate does not have.
-fn judged(request: &Request, model: &Answer) -> Built<Answer> {
+fn judged(request: &Request, model: &Answer) -> Built<Judged> {
     if is_ours(model.number) || matches!(request.job, Job::Rescue { .. } | Job::Read { .. }) {
         return Err(NotATree);
     }
@@ -402,24 +404,40 @@ fn judged(request: &Request, model: &Answer) -> Built<Answer> {
     let table = Table::check(request.table, request.names).map_err(|_| NotATree)?;
     match request.job {
         Job::Table | Job::Write { .. } | Job::Rescue { .. } | Job::Read { .. } | Job::CheckFile { .. } => Err(NotATree),
-        Job::Params { node, .. } => run::params(&table, node),
-        Job::Call { node } => run::call(&table, node),
-        Job::Target { node } => run::target(&table, node),
-        Job::Assignment { node } => run::assignment(&table, node),
-        Job::Type { dialect, node, .. } => run::type_shape(&table, node, &dialects::from_bytes(dialect)),
-        Job::Module { dialect, .. } => Ok(listed(&table, &run::Module::of(&table)?, dialect)),
-        Job::Bind { call, def, .. } => lists_of_binding(&table, call, def, model),
-        Job::Audit { dialect, .. } => run::Audit::of(&table).answer(&dialects::from_bytes(dialect)),
+        Job::Params { node, .. } => run::params(&table, node).map(Judged::from),
+        Job::Call { node } => run::call(&table, node).map(Judged::from),
+        Job::Target { node } => run::target(&table, node).map(Judged::from),
+        Job::Assignment { node } => run::assignment(&table, node).map(Judged::from),
+        Job::Type { dialect, node, .. } => {
+            run::type_shape(&table, node, &dialects::from_bytes(dialect)).map(Judged::from)
+        }
+        Job::Module { dialect, .. } => Ok(run::Module::of(&table)?.judged(&dialects::from_bytes(dialect))),
+        Job::Bind { call, def, .. } => lists_of_binding(&table, call, def, model).map(Judged::from),
+        Job::Audit { dialect, .. } => run::Audit::of(&table).judged(&dialects::from_bytes(dialect)),
+    }
+}
+
+/// What the crate's answer makes of the memory: of two answers the one that is not the model's. With the lists, where they differ.
+fn shown(request: &Request, model: &Answer, judged: &Judged) -> String {
+    let differing = judged.all().find(|answer| !model.is_told_by_the_crate(answer));
+    let answer = differing.unwrap_or(&judged.by_statement);
+    let effect = Effect::before(&request.job).after(answer);
+    match (answer.errors == model.errors, answer.audited == model.audited) {
+        (true, true) => effect.to_string(),
+        (false, _) => format!("{effect}, whole list {:?}, the model's {:?}", answer.errors, model.errors),
+        _ => format!("{effect}, whole list {:?}, the model's {:?}", answer.audited, model.audited),
     }
 }
 
 /// The crate's module pass over what a file holds.
-fn judged_file(bytes: &[u8]) -> Built<Answer> {
+fn judged_file(bytes: &[u8]) -> Built<Judged> {
     let held = file::read(bytes).map_err(|_| NotATree)?;
     let table = Table::check(&held.table, &held.names).map_err(|_| NotATree)?;
-    let mut answer = listed(&table, &run::Module::of(&table)?, &held.dialect);
-    answer.words.push(table.records.len() as u32);
-    Ok(answer)
+    let mut judged = run::Module::of(&table)?.judged(&dialects::from_bytes(&held.dialect));
+    let nodes = table.records.len() as u32;
+    judged.by_statement.words.push(nodes);
+    judged.whole.iter_mut().for_each(|answer| answer.words.push(nodes));
+    Ok(judged)
 }
 
 /// The crate does not bind: it judges the two lists, and has no answer where it accepts both and the model does too.
@@ -430,7 +448,7 @@ fn lists_of_binding(table: &Table, call: usize, def: usize, model: &Answer) -> B
     refused.or(by_model.then(Answer::default)).ok_or(NotATree)
 }
 
-fn with_own_spans(request: &Request) -> Built<Vec<[u32; 3]>> {
+fn with_own_spans(request: &Request) -> Built<Vec<[u32; ERROR_WORDS]>> {
     if let Job::CheckFile { .. } = request.job {
         let held = file::read(request.table).map_err(|_| NotATree)?;
         let table = Table::check(&held.table, &held.names).map_err(|_| NotATree)?;
@@ -453,9 +471,4 @@ fn with_own_spans(request: &Request) -> Built<Vec<[u32; 3]>> {
             if of_list.is_empty() { own_spans::call(&table, call) } else { Ok(of_list) }
         }
     }
-}
-
-fn listed(table: &Table, tree: &run::Module, dialect: &[u8]) -> Answer {
-    let listed: Listed = tree.validate(&dialects::from_bytes(dialect));
-    jobs::listed_answer(table, &listed)
 }

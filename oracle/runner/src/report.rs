@@ -12,7 +12,9 @@ use crate::port::NAMES;
 
 /// What the whole comparison must run of each job at the least, in the order of `NAMES`: about 99 of 100 of what the quick run has at
 /// any seed.
-const LEAST: [u64; JOBS] = [1_345_000, 2_733_000, 659_000, 2_730_000, 752_000, 3_330_000, 1_282_000, 383_000, 1_393_000, 170_000, 566_000, 114_500, 90_000, 3_400];
+const LEAST: [u64; JOBS] = [
+    1_436_000, 2_761_000, 701_000, 2_781_000, 779_000, 3_357_000, 1_640_000, 433_000, 1_420_000, 180_000, 844_000, 121_800, 97_000, 3_400,
+];
 
 /// What the whole comparison must put to Python at the least, where there is one.
 const LEAST_PYTHON: u64 = 54_500;

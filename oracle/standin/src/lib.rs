@@ -2,6 +2,8 @@
 //! and takes planted faults.
 
 use model::answer::Answer;
+use model::answer::AUDIT_WORDS;
+use model::answer::ERROR_WORDS;
 use model::jobs;
 use model::planted::planted;
 use model::planted::Fault;
@@ -124,7 +126,13 @@ pub unsafe extern "C" fn starlark_module(
     let (table, names) = (lent(table, table_len), lent(names, names_len));
     let mut answer = jobs::module(table, names, lent(dialect, dialect_len));
     let list = lent_mut(errors, errors_len);
+    if planted(Fault::BeginBeforeFile) {
+        exchange(&mut answer.errors, 2);
+    }
     answer.write_list(list);
+    if planted(Fault::RoomInThrees) {
+        store_in_room(&answer.errors, list, ERROR_WORDS - 1);
+    }
     if planted(Fault::DialectByteChanged) {
         change(dialect, dialect_len);
     }
@@ -132,7 +140,7 @@ pub unsafe extern "C" fn starlark_module(
         store_half_error(&answer.errors, list);
     }
     if planted(Fault::TotalCappedByList) && answer.number == 0 {
-        answer.words[0] = answer.words[0].min(list.len() as u32 / 3);
+        answer.words[0] = answer.words[0].min((list.len() / ERROR_WORDS) as u32);
     }
     give(answer, out)
 }
@@ -222,7 +230,16 @@ pub unsafe extern "C" fn starlark_audit(
     let (table, names) = (lent(table, table_len), lent(names, names_len));
     let mut answer = jobs::audit(table, names, lent(dialect, dialect_len));
     let list = lent_mut(errors, errors_len);
+    if planted(Fault::AuditBeginBeforeFile) {
+        exchange(&mut answer.audited, 2);
+    }
+    if planted(Fault::AuditFileAfterNode) {
+        exchange(&mut answer.audited, AUDIT_WORDS - 1);
+    }
     answer.write_list(list);
+    if planted(Fault::AuditRoomInFours) {
+        store_in_room(&answer.audited, list, AUDIT_WORDS - 1);
+    }
     if planted(Fault::AuditDialectChanged) {
         change(dialect, dialect_len);
     }
@@ -230,7 +247,7 @@ pub unsafe extern "C" fn starlark_audit(
         store_half_error(&answer.audited, list);
     }
     if planted(Fault::AuditTotalCapped) && answer.number == 0 {
-        answer.words[0] = answer.words[0].min(list.len() as u32 / 4);
+        answer.words[0] = answer.words[0].min((list.len() / AUDIT_WORDS) as u32);
     }
     give(answer, out)
 }
@@ -271,13 +288,30 @@ pub unsafe extern "C" fn starlark_check_file(
     errors_len: usize,
     out: Out,
 ) -> u32 {
-    let answer = jobs::check_file(lent(file, file_len));
+    let mut answer = jobs::check_file(lent(file, file_len));
     let list = lent_mut(errors, errors_len);
+    if planted(Fault::FileBeginBeforeFile) {
+        exchange(&mut answer.errors, 2);
+    }
     answer.write_list(list);
+    if planted(Fault::FileRoomInThrees) {
+        store_in_room(&answer.errors, list, ERROR_WORDS - 1);
+    }
     if planted(Fault::FileHalfErrorStored) {
         store_half_error(&answer.errors, list);
     }
     give(answer, out)
+}
+
+/// The file of each error in the place of another word, and that word in its place.
+fn exchange<const WIDTH: usize>(errors: &mut [[u32; WIDTH]], other: usize) {
+    errors.iter_mut().for_each(|error| error.swap(1, other));
+}
+
+/// As many errors as there are rooms of so many words; of the last what fits.
+fn store_in_room<const WIDTH: usize>(errors: &[[u32; WIDTH]], list: &mut [u32], room: usize) {
+    let words = errors.iter().take(list.len() / room).flatten();
+    list.iter_mut().zip(words).for_each(|(place, word)| *place = *word);
 }
 
 /// The number of the error that does not fit whole, in the words that are left.

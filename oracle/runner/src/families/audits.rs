@@ -1,5 +1,6 @@
 //! The audit: the module pass and every job on every node that it fits, in one list.
 
+use model::answer::AUDIT_WORDS;
 use model::dialect;
 use model::dialect::ALL_OPTIONS_INTERNAL as ON;
 use model::dialect::STANDARD;
@@ -20,6 +21,7 @@ use super::Random;
 use crate::cells::Cell;
 use crate::cells::Cells;
 use crate::cells::Encoded;
+use crate::cells::FILE_AT;
 use crate::cells::PLAIN;
 use crate::cells::TYPE;
 use crate::checker::Checker;
@@ -60,8 +62,8 @@ fn expect(checker: &mut Checker, dialect: &[u8], list: &[At], build: impl FnOnce
 fn expect_of(checker: &mut Checker, dialect: &[u8], list: &[At], cells: &Cells) {
     let mut encoded = Encoded::default();
     encoded.write(cells, &PLAIN);
-    let words = 4 * list.len();
-    for errors in [0, 3, 4, words.saturating_sub(1), words, words + 1, words + 7] {
+    let words = AUDIT_WORDS * list.len();
+    for errors in [0, 4, 5, words.saturating_sub(1), words, words + 1, words + 7] {
         let job = Job::Audit { dialect, errors };
         checker.expect_audit(&Request { table: &encoded.table, names: &encoded.names, job }, list);
     }
@@ -346,14 +348,14 @@ fn names_span(checker: &mut Checker) {
     });
     let mut encoded = Encoded::default();
     encoded.write(&cells, &PLAIN);
-    expect_words(checker, &encoded.table, &encoded.names, &[[22, 5, 1_001_500, 1_001_501]]);
-    expect_words(checker, &example_table(), b"abc", &[[55, 5, 20, 25], [13, 4, 14, 15]]);
+    expect_words(checker, &encoded.table, &encoded.names, &[[22, 1, 1_001_500, 1_001_501, 5]]);
+    expect_words(checker, &example_table(), b"abc", &[[55, 1, 20, 25, 5], [13, 1, 14, 15, 4]]);
 }
 
-fn expect_words(checker: &mut Checker, table: &[u8], names: &[u8], list: &[[u32; 4]]) {
+fn expect_words(checker: &mut Checker, table: &[u8], names: &[u8], list: &[[u32; AUDIT_WORDS]]) {
     let audited = jobs::audit(table, names, &STANDARD).audited;
     checker.note(audited == list, || format!("the model audits {audited:?}, by hand it is {list:?}"));
-    for errors in 0..=4 * list.len() + 1 {
+    for errors in 0..=AUDIT_WORDS * list.len() + 1 {
         checker.check(&Request { table, names, job: Job::Audit { dialect: &STANDARD, errors } });
     }
 }
@@ -369,7 +371,7 @@ fn refusals(checker: &mut Checker) {
     encoded.write(&cells, &PLAIN);
     let Encoded { table, names, .. } = encoded;
     let mut unsound = table.clone();
-    unsound[RECORD_BYTES * 6 + 18] = 1;
+    unsound[RECORD_BYTES * 6 + FILE_AT] = 2;
     cells.clear();
     cells.tree(kind::SIMPLE, 0, 0, |cells| {
         let opened: Vec<usize> = (0..70).map(|_| cells.open(kind::NOT, 0, 0)).collect();
@@ -381,7 +383,7 @@ fn refusals(checker: &mut Checker) {
     let long = vec![0; RECORD_BYTES * (MOST_NODES + 1)];
     let many = vec![b'n'; MOST_NAME_BYTES + 1];
     let mut refuse = |table: &[u8], names: &[u8], dialect: &[u8], number: u32, words: &[u32]| {
-        for errors in [0, 3, 4, 40] {
+        for errors in [0, 4, 5, 40] {
             checker.expect(&Request { table, names, job: Job::Audit { dialect, errors } }, number, Some(words));
         }
     };
@@ -398,7 +400,7 @@ fn refusals(checker: &mut Checker) {
 
 /// Room for every error, since there are never more than three a record.
 fn room_for_all(table: &[u8]) -> usize {
-    table.len() / RECORD_BYTES * 3 * 4 + 3
+    table.len() / RECORD_BYTES * 3 * AUDIT_WORDS + 3
 }
 
 /// A list that holds all errors, or ends before, in or after one.
@@ -407,8 +409,9 @@ fn list_length(rng: &mut Rng, encoded: &Encoded, dialect: &[u8]) -> usize {
         return room_for_all(&encoded.table);
     }
     let total = jobs::audit(&encoded.table, &encoded.names, dialect).audited.len();
-    let near = (4 * rng.within(0, total) + rng.below(4)).saturating_sub(rng.below(2));
-    rng.pick(&[near, near, 0, 3, 4, 4 * total, (4 * total).saturating_sub(1)])
+    let words = AUDIT_WORDS * total;
+    let near = (AUDIT_WORDS * rng.within(0, total) + rng.below(AUDIT_WORDS)).saturating_sub(rng.below(2));
+    rng.pick(&[near, near, 0, 4, 5, words, words.saturating_sub(1)])
 }
 
 /// Every statement of few records, with everything off, no dialect, everything on, and a dialect that changes from tree to tree.

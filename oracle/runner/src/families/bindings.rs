@@ -20,6 +20,8 @@ use super::write_fitting;
 use super::Plan;
 use crate::cells::Cells;
 use crate::cells::Encoded;
+use crate::cells::Files;
+use crate::cells::Style;
 use crate::cells::PLAIN;
 use crate::checker::Checker;
 use crate::port::Job;
@@ -365,7 +367,8 @@ fn corner(checker: &mut Checker, pair: &Pair, expected: &Expected) {
     let mut cells = Cells::default();
     let Nodes { call, def } = pair.table(&mut cells);
     let mut encoded = Encoded::default();
-    encoded.write(&cells, &PLAIN);
+    // The def and a call beside it are of two source files.
+    encoded.write(&cells, &Style { files: Files::Turns(2), ..PLAIN });
     let Encoded { table, names, .. } = &encoded;
     let request = |list: usize| Request { table, names, job: Job::Bind { call, def, list } };
     let needed = pair.needed();
@@ -396,8 +399,8 @@ fn answer(encoded: &Encoded, call: usize, def: usize, expected: &Expected) -> (u
                 At::Argument(at) => arguments[*at],
                 At::Parameter(at) => below(def, model::table::Class::Parameter)[*at],
             };
-            let Record { begin, end, .. } = table.records[node];
-            (*number, vec![node as u32, begin, end, jobs::NONE], Vec::new())
+            let Record { begin, end, file, .. } = table.records[node];
+            (*number, vec![node as u32, begin, end, jobs::NONE, u32::from(file)], Vec::new())
         }
     }
 }

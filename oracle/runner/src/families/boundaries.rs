@@ -1,5 +1,7 @@
 //! Each boundary on both sides, and inputs that are wrong in several ways at once.
 
+use model::answer::AUDIT_WORDS;
+use model::answer::ERROR_WORDS;
 use model::numbers::kind;
 use model::numbers::number;
 use model::table::Record;
@@ -11,6 +13,7 @@ use super::write_fitting;
 use super::Plan;
 use crate::cells::Cells;
 use crate::cells::Encoded;
+use crate::cells::FILE_AT;
 use crate::cells::PLAIN;
 use crate::checker::Checker;
 use crate::grow;
@@ -181,17 +184,17 @@ fn overlapping(checker: &mut Checker) {
 /// Lists from no word to more than enough, for modules of few errors and of the most there can be.
 fn error_lists(checker: &mut Checker) {
     let misplaced = flat_table(7);
-    for errors in 0..=24 {
+    for errors in 0..=6 * AUDIT_WORDS + 1 {
         checker.check(&Request { table: &misplaced, names: &[], job: Job::Module { dialect: &[], errors } });
         checker.check(&Request { table: &misplaced, names: &[], job: Job::Audit { dialect: &[], errors } });
     }
     let full = flat_table(MOST_NODES);
-    let total = 3 * (MOST_NODES - 1);
-    for errors in [0, 1, 2, 3, total - 4, total - 3, total - 1, total, total + 1, 6 * MOST_NODES] {
+    let total = ERROR_WORDS * (MOST_NODES - 1);
+    for errors in [0, 1, 3, 4, total - 5, total - 4, total - 1, total, total + 1, 8 * MOST_NODES] {
         checker.check(&Request { table: &full, names: &[], job: Job::Module { dialect: &[], errors } });
     }
-    let total = 4 * (MOST_NODES - 1);
-    for errors in [0, 1, 2, 3, 4, total - 5, total - 4, total - 1, total, total + 1, 12 * MOST_NODES] {
+    let total = AUDIT_WORDS * (MOST_NODES - 1);
+    for errors in [0, 1, 2, 4, 5, total - 6, total - 5, total - 1, total, total + 1, 15 * MOST_NODES] {
         checker.check(&Request { table: &full, names: &[], job: Job::Audit { dialect: &[], errors } });
     }
 }
@@ -288,7 +291,7 @@ fn wrong_in_several_ways(checker: &mut Checker) {
         encoded.write(if is(3) { &cells } else { &shallow }, &PLAIN);
         if is(2) {
             let last = encoded.table.len() - 24;
-            encoded.table[last + 18] = 1;
+            encoded.table[last + FILE_AT + 1] = 255;
         }
         if is(0) {
             encoded.table.push(0);

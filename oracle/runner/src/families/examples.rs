@@ -86,7 +86,7 @@ fn refused_lists(checker: &mut Checker) {
     expect_list(checker, &[STAR], 17, None);
     expect_list(checker, &[STAR, kwargs(K)], 18, None);
     // The first name that is equal stands at node 1.
-    expect_list(checker, &[kwargs(K), plain(K)], 11, Some(&[2, 23, 26, 1]));
+    expect_list(checker, &[kwargs(K), plain(K)], 11, Some(&[2, 23, 26, 1, 1]));
     expect_list(checker, &[STAR, kwargs(K), plain(X)], 12, None);
 }
 
@@ -122,7 +122,7 @@ fn repeated(checker: &mut Checker) {
     });
     with_table(&cells, |table, names| {
         let request = Request { table, names, job: Job::Call { node: 1 } };
-        checker.expect(&request, 22, Some(&[9, 1_002_700, 1_002_701, 5]));
+        checker.expect(&request, 22, Some(&[9, 1_002_700, 1_002_701, 5, 1]));
     });
 }
 
@@ -166,7 +166,7 @@ pub fn example_table() -> Vec<u8> {
         begin,
         end,
         size,
-        reserved: 0,
+        file: 1,
         source: 0,
     };
     let records = [
@@ -187,7 +187,7 @@ fn program(checker: &mut Checker, plan: &Plan) {
         let contents = file::Contents { table: table.clone(), names: b"abc".to_vec(), dialect: dialect.to_vec() };
         let written = file::write(&contents);
         let printed = file::printed(&written);
-        let expected = "nodes 6\n13 14 15\n55 20 25\nerrors 2\n";
+        let expected = "nodes 6\n13 1 14 15\n55 1 20 25\nerrors 2\n";
         checker.note(printed == expected, || format!("the model prints {printed:?}"));
         compare_output(checker, plan, &written, true);
     }

@@ -12,12 +12,15 @@ use model::file::Contents;
 use model::file::BLOCK;
 use model::numbers::kind;
 use model::table::MOST_DEPTH;
+use model::table::MOST_FILE;
 
 use super::each_random;
 use super::tables::chain;
 use super::Plan;
 use crate::cells::Cells;
 use crate::cells::Encoded;
+use crate::cells::Files;
+use crate::cells::Style;
 use crate::cells::PLAIN;
 use crate::checker::Checker;
 use crate::grow;
@@ -87,7 +90,8 @@ pub fn contents(records: usize, names: usize, dialect: &[u8]) -> Contents {
     let mut cells = Cells::default();
     cells.tree(kind::STATEMENTS, 0, 0, |cells| (1..records).for_each(|_| cells.leaf(kind::BREAK, 0, 0)));
     let mut encoded = Encoded::default();
-    encoded.write(&cells, &PLAIN);
+    // Statement by statement another source file.
+    encoded.write(&cells, &Style { files: Files::Turns(MOST_FILE), ..PLAIN });
     let names = (0..names).map(|at| b'a' + (at % 26) as u8).collect();
     Contents { table: encoded.table, names, dialect: dialect.to_vec() }
 }

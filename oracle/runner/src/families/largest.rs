@@ -1,6 +1,8 @@
 //! The largest of everything: names, lists, trees, error lists and files of each size that stands next to a power of two or a limit. A fault
 //! that begins at some size shows here, whatever the size is.
 
+use model::answer::AUDIT_WORDS;
+use model::answer::ERROR_WORDS;
 use model::dialect::ALL_OPTIONS_INTERNAL;
 use model::file;
 use model::file::BLOCK;
@@ -16,6 +18,8 @@ use model::table::RECORD_BYTES;
 use super::files::contents;
 use super::names::check_pair;
 use super::Plan;
+use crate::cells::write_files;
+use crate::cells::Files;
 use crate::checker::Checker;
 use crate::port::Job;
 use crate::port::Request;
@@ -60,7 +64,7 @@ impl Turns<'_> {
     }
 }
 
-/// A table that grows record by record; a record's size is put right when it is closed.
+/// A table that grows record by record; a record's size is put right when it is closed, and the source file numbers when the root is.
 #[derive(Default)]
 struct Growing {
     table: Vec<u8>,
@@ -78,7 +82,7 @@ impl Growing {
         let name_start = if name.is_empty() { 0 } else { self.names.len() as u32 };
         let source = if kind == kind::NAMED { 1_000_000 + 300 * node as u32 } else { 0 };
         let name_len = name.len() as u16;
-        let record = Record { kind, detail, name_len, name_start, begin, end: begin + 4, size: 1, reserved: 0, source };
+        let record = Record { kind, detail, name_len, name_start, begin, end: begin + 4, size: 1, file: 0, source };
         self.table.extend_from_slice(&record.write());
         self.names.extend_from_slice(name);
         node
@@ -92,6 +96,9 @@ impl Growing {
         let size = (self.nodes() - node) as u16;
         let at = RECORD_BYTES * node + 16;
         self.table[at..at + 2].copy_from_slice(&size.to_le_bytes());
+        if node == 0 {
+            write_files(&mut self.table, Files::Each(u64::from(size)));
+        }
     }
 
     fn tree(&mut self, kind: u8, detail: u8, below: impl FnOnce(&mut Growing)) {
@@ -505,10 +512,10 @@ pub fn errors(checker: &mut Checker, plan: &Plan) {
     for count in sizes(MOST_NODES - 1) {
         if turns.next(checker) {
             let table = contents(count + 1, 0, &[]).table;
-            for errors in around(3 * count) {
+            for errors in around(ERROR_WORDS * count) {
                 checker.check(&Request { table: &table, names: &[], job: Job::Module { dialect: &NOTHING, errors } });
             }
-            for errors in around(4 * count) {
+            for errors in around(AUDIT_WORDS * count) {
                 checker.check(&Request { table: &table, names: &[], job: Job::Audit { dialect: &NOTHING, errors } });
             }
         }
@@ -518,7 +525,7 @@ pub fn errors(checker: &mut Checker, plan: &Plan) {
     checker.note(total > 3_400, || format!("the table of the most errors has {total}"));
     let held = file::Contents { table: growing.table.clone(), names: Vec::new(), dialect: NOTHING.to_vec() };
     let bytes = file::write(&held);
-    for errors in [0].into_iter().chain(sizes(4 * total)).chain([4 * total + 1, 16 * MOST_NODES]) {
+    for errors in [0].into_iter().chain(sizes(AUDIT_WORDS * total)).chain([AUDIT_WORDS * total + 1, 16 * MOST_NODES]) {
         if turns.next(checker) {
             growing.ask(checker, Job::Module { dialect: &NOTHING, errors });
             growing.ask(checker, Job::Audit { dialect: &NOTHING, errors });
@@ -551,7 +558,7 @@ fn check_file(checker: &mut Checker, records: usize, names: usize) {
     }
     let of_file = |bytes: &[u8], checker: &mut Checker| {
         checker.check(&Request { table: bytes, names: &[], job: Job::Read { table: table.len(), names } });
-        checker.check(&Request { table: bytes, names: &[], job: Job::CheckFile { errors: 3 * records } });
+        checker.check(&Request { table: bytes, names: &[], job: Job::CheckFile { errors: ERROR_WORDS * records } });
         for file in around(whole.len()) {
             checker.check(&Request { table: bytes, names: &[], job: Job::Rescue { file } });
         }

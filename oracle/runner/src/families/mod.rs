@@ -15,14 +15,17 @@ pub mod python;
 pub mod reads;
 pub mod rescues;
 pub mod shapes;
+pub mod sources;
 pub mod tables;
 pub mod written;
 
 use model::planted::planted;
 use model::planted::Fault;
+use model::table::MOST_FILE;
 
 use crate::cells::Cells;
 use crate::cells::Encoded;
+use crate::cells::Files;
 use crate::cells::Spans;
 use crate::cells::Style;
 use crate::cells::TEXT;
@@ -127,32 +130,35 @@ pub const ALL: &[Family] = &[
     family("openings, single steps", 2, MODULE | AUDIT, openings::single_steps, [448_000, 448_000, 397_000]),
     family("no tree of the crate", 2, ARCHIVE, modules::no_trees, [1_302_200, 417_720, 65_300]),
     family("tables, rules of children", 2, TABLE, tables::children, [364_860, 0, 0]),
-    family("tables, every byte", 2, ARCHIVE, tables::every_byte, [831_480, 7_380, 2_940]),
-    family("tables, damaged", 2, ARCHIVE, tables::damaged, [1_183_610, 116_930, 9_150]),
+    family("tables, every byte", 2, ARCHIVE, tables::every_byte, [831_480, 7_370, 2_930]),
+    family("tables, damaged", 2, ARCHIVE, tables::damaged, [1_183_610, 114_440, 9_000]),
     family("tables, depth", 2, ARCHIVE, tables::depth, [196_210, 42_630, 2_500]),
+    family("source files, corner cases", 1, ARCHIVE | READERS | RESCUE, sources::corners, [119_960, 271, 71_800]),
+    family("source files, each record", 2, ARCHIVE | READERS | RESCUE, sources::records, [84_500, 3_800, 230]),
+    family("source files, random", 2, ARCHIVE | READERS | RESCUE, sources::random, [245_280, 54_700, 4_200]),
     family("dialect rows and bytes", 1, MODULE | TYPE | AUDIT, dialects::rows_and_bytes, [14_200, 58, 11]),
-    family("audits, corner cases", 1, AUDIT, audits::corners, [470, 317, 580]),
+    family("audits, corner cases", 1, AUDIT, audits::corners, [482, 320, 589]),
     family("audits, every small tree", 2, AUDIT, audits::small, [92_490, 47_030, 29_700]),
     family("audits, all dialects", 2, AUDIT, audits::all_dialects, [59_910, 53_870, 9_120]),
     family("audits, random", 2, AUDIT, audits::random, [97_730, 86_520, 15_640]),
     family("audits, large", 2, AUDIT, audits::large, [380, 180, 170]),
     family("files, written", 2, WRITE, written::written, [69_490, 0, 31_690]),
-    family("rescues, corner cases", 1, RESCUE, rescues::corners, [430, 0, 430]),
+    family("rescues, corner cases", 1, RESCUE, rescues::corners, [441, 0, 446]),
     family("rescues, every cut", 2, RESCUE, rescues::cuts, [50_490, 0, 23_040]),
     family("rescues, each block", 2, RESCUE, rescues::blocks, [39_130, 0, 40_580]),
     family("rescues, each record", 2, RESCUE, rescues::records, [22_980, 0, 29_850]),
     family("rescues, random", 2, RESCUE, rescues::random, [56_050, 0, 51_330]),
-    family("reads, corner cases", 1, READERS, reads::corners, [350, 63, 362]),
+    family("reads, corner cases", 1, READERS, reads::corners, [363, 80, 377]),
     family("reads, counts and blocks", 1, READERS, reads::counts, [17_240, 1_370, 86]),
     family("reads, every cut", 2, READERS, reads::cuts, [28_540, 4, 0]),
-    family("reads, each block", 2, READERS, reads::blocks, [51_800, 1_640, 103]),
+    family("reads, each block", 2, READERS, reads::blocks, [51_950, 1_780, 109]),
     family("reads, each record", 2, READERS, reads::records, [23_270, 500, 32]),
     family("reads, written files", 2, READERS, reads::written, [58_420, 18_210, 39_960]),
     family("reads, random", 2, READERS, reads::random, [24_010, 670, 20]),
     family("largest, names", 2, PARAMS | CALL | BIND | TYPE | AUDIT, largest::names, [58_860, 34_220, 2_130]),
     family("largest, lists", 2, PARAMS | CALL | BIND | MODULE | AUDIT, largest::lists, [5_190, 4_620, 291]),
     family("largest, trees", 2, ARCHIVE & !WRITE, largest::trees, [3_010, 1_580, 284]),
-    family("largest, error lists", 2, MODULE | AUDIT | CHECK_FILE, largest::errors, [333, 333, 22]),
+    family("largest, error lists", 2, MODULE | AUDIT | CHECK_FILE, largest::errors, [342, 342, 22]),
     family("largest, files", 2, WRITE | READERS | RESCUE, largest::files, [10_650, 460, 28]),
     family("files, through the program", 1, FILE, files::files, [1_700, 0, 0]),
 ];
@@ -163,6 +169,16 @@ pub fn style(number: u64) -> Style {
         spelling: TEXT[(number % 7) as usize],
         shared: number / 7 % 2 == 0,
         spans: if number % 5 == 4 { Spans::Extreme } else { Spans::Apart },
+        files: files(number),
+    }
+}
+
+/// Every fourth table is of one source file, the others of several.
+fn files(number: u64) -> Files {
+    match number % 4 {
+        0 => Files::One(1 + (number / 4 % u64::from(MOST_FILE)) as u16),
+        1 => Files::Turns(2),
+        _ => Files::Each(number),
     }
 }
 
@@ -170,7 +186,7 @@ pub fn style(number: u64) -> Style {
 pub fn write_fitting(encoded: &mut Encoded, cells: &Cells, style: &Style) {
     encoded.write(cells, style);
     if encoded.names.len() > model::table::MOST_NAME_BYTES {
-        encoded.write(cells, &Style { spans: style.spans, ..crate::cells::PLAIN });
+        encoded.write(cells, &Style { spans: style.spans, files: style.files, ..crate::cells::PLAIN });
     }
 }
 

@@ -1,5 +1,6 @@
 //! The module pass, and all jobs on tables that no tree of the crate can be.
 
+use model::answer::ERROR_WORDS;
 use model::dialect;
 use model::jobs;
 use model::table::is_expression;
@@ -27,7 +28,7 @@ use crate::small::Small;
 
 /// Room for every error, since there are never more than two a record.
 fn room_for_all(table: &[u8]) -> usize {
-    table.len() / 24 * 2 * 3 + 2
+    table.len() / 24 * 2 * ERROR_WORDS + 2
 }
 
 /// A list that holds all errors, or ends before, in or after one.
@@ -36,8 +37,9 @@ fn list_length(rng: &mut Rng, encoded: &Encoded, dialect: &[u8]) -> usize {
         return room_for_all(&encoded.table);
     }
     let total = jobs::module(&encoded.table, &encoded.names, dialect).errors.len();
-    let near = (3 * rng.within(0, total) + rng.below(3)).saturating_sub(rng.below(2));
-    rng.pick(&[near, near, 0, 3 * total, (3 * total).saturating_sub(1)])
+    let words = ERROR_WORDS * total;
+    let near = (ERROR_WORDS * rng.within(0, total) + rng.below(ERROR_WORDS)).saturating_sub(rng.below(2));
+    rng.pick(&[near, near, 0, words, words.saturating_sub(1)])
 }
 
 pub fn small(checker: &mut Checker, plan: &Plan) {
@@ -153,7 +155,7 @@ pub fn every_job(checker: &mut Checker, rng: &mut Rng, table: &[u8], names: &[u8
     let ty = node_like(is_expression);
     let dialect = dialects[rng.below(dialects.len())].as_slice();
     // It takes no number of the row, so that the other jobs stay as they were.
-    let audited = [0, 3, 4, 7, 8, 30, 200][(nodes + target) % 7];
+    let audited = [0, 4, 5, 9, 10, 30, 200][(nodes + target) % 7];
     let jobs = [
         Job::Table,
         Job::Params { node: owner, modes: rng.pick(&[0, 1, 2, 4, 8, 16, 64]) },
@@ -161,7 +163,7 @@ pub fn every_job(checker: &mut Checker, rng: &mut Rng, table: &[u8], names: &[u8
         Job::Target { node: target },
         Job::Assignment { node: assignment },
         Job::Type { dialect, node: ty, shapes: rng.pick(&[0, 1, 2, 4, 8, 30, 100]) },
-        Job::Module { dialect, errors: rng.pick(&[0, 1, 3, 5, 6, 20, 100]) },
+        Job::Module { dialect, errors: rng.pick(&[0, 1, 4, 6, 8, 20, 100]) },
         Job::Write { dialect, file: rng.pick(&[0, 1_023, 1_024, 1_535, 1_536, 2_048, 4_096]) },
         Job::Bind { call, def: owner, list: rng.pick(&[0, 1, 2, 4, 8, 16, 64]) },
         Job::Audit { dialect, errors: audited },

@@ -2,8 +2,11 @@
 
 use model::numbers::kind;
 use model::table::Record;
+use model::table::MOST_FILE;
 
 use super::Plan;
+use crate::cells::write_files;
+use crate::cells::Files;
 use crate::checker::Checker;
 use crate::port::Job;
 use crate::port::Request;
@@ -53,10 +56,16 @@ impl List {
         let source = if kind == kind::NAMED { 1_000_000 + 300 * self.node } else { 0 };
         let (name_len, size) = (name.len() as u16, size as u16);
         let record =
-            Record { kind, detail, name_len, name_start, begin, end: begin + 4, size, reserved: 0, source };
+            Record { kind, detail, name_len, name_start, begin, end: begin + 4, size, file: 0, source };
         self.table.extend_from_slice(&record.write());
         self.names.extend_from_slice(name);
         self.node += 1;
+    }
+
+    /// The list as it stands, with source file numbers; where there are two statements each has its own.
+    fn with_files(mut self) -> List {
+        write_files(&mut self.table, Files::Turns(MOST_FILE));
+        self
     }
 
     fn parameters(names: &[Vec<u8>]) -> List {
@@ -64,7 +73,7 @@ impl List {
         list.record(kind::DEF, b"", names.len() + 2);
         names.iter().for_each(|name| list.record(kind::NORMAL, name, 1));
         list.record(kind::SIMPLE, b"", 1);
-        list
+        list.with_files()
     }
 
     fn arguments(names: &[Vec<u8>]) -> List {
@@ -76,7 +85,7 @@ impl List {
             list.record(kind::NAMED, name, 2);
             list.record(kind::INT, b"", 1);
         }
-        list
+        list.with_files()
     }
 }
 
@@ -101,7 +110,7 @@ impl List {
         list.record(kind::IDENTIFIER, b"f", 1);
         list.record(kind::NAMED, called, 2);
         list.record(kind::INT, b"", 1);
-        (list, call)
+        (list.with_files(), call)
     }
 }
 

@@ -3,10 +3,11 @@
 
 use judge::dialects;
 use judge::run;
+use model::answer::AUDIT_WORDS;
+use model::answer::ERROR_WORDS;
 use model::dialect;
 use model::dialect::BYTES;
 use model::dialect::TYPES_AT;
-use model::jobs;
 use model::table::Table;
 use model::table::RECORD_BYTES;
 
@@ -77,22 +78,22 @@ fn of_archive(random: &Random, job: Job, width: usize) -> Vec<Found> {
 
 /// Room for every error of the audit, and so of the module pass.
 fn room(random: &Random) -> usize {
-    random.encoded.table.len() / RECORD_BYTES * 4 * 4
+    random.encoded.table.len() / RECORD_BYTES * 4 * AUDIT_WORDS
 }
 
-fn module_lists(random: &Random, table: &Table, tree: Option<&run::Module>, row: &[u8]) -> Lists {
-    let of_crate = tree.map(|tree| jobs::listed_answer(table, &tree.validate(&dialects::from_bytes(row))).errors);
+fn module_lists(random: &Random, tree: Option<&run::Module>, row: &[u8]) -> Lists {
+    let of_crate = tree.map(|tree| tree.errors(&dialects::from_bytes(row)));
     Lists {
-        of_archive: of_archive(random, Job::Module { dialect: row, errors: room(random) }, 3),
+        of_archive: of_archive(random, Job::Module { dialect: row, errors: room(random) }, ERROR_WORDS),
         of_crate: of_crate.map(|list| list.into_iter().map(Vec::from).collect()),
     }
 }
 
 fn audit_lists(random: &Random, judge: &run::Audit, row: &[u8]) -> Lists {
-    let of_crate = judge.answer(&dialects::from_bytes(row)).ok();
+    let of_crate = judge.judged(&dialects::from_bytes(row)).ok();
     Lists {
-        of_archive: of_archive(random, Job::Audit { dialect: row, errors: room(random) }, 4),
-        of_crate: of_crate.map(|answer| answer.audited.into_iter().map(Vec::from).collect()),
+        of_archive: of_archive(random, Job::Audit { dialect: row, errors: room(random) }, AUDIT_WORDS),
+        of_crate: of_crate.map(|judged| judged.by_statement.audited.into_iter().map(Vec::from).collect()),
     }
 }
 
@@ -115,13 +116,14 @@ pub fn all_pairs(checker: &mut Checker, plan: &Plan) {
     assert_eq!(pairs.len(), PAIRS, "the pairs that document 02 counts");
     each_random(checker, plan, 40, 120, |rng, _| grow::module(rng, false), |checker, _, random| {
         let (bytes, names) = (&random.encoded.table, &random.encoded.names);
-        checker.check_dialects(bytes, names, rows.iter().map(|row| (row.as_slice(), room(random))));
         let table = Table::check(bytes, names).expect("the generated tables are sound");
         let tree = run::Module::of(&table).ok();
-        let lists: Vec<Lists> = rows.iter().map(|row| module_lists(random, &table, tree.as_ref(), row)).collect();
+        let lists: Vec<Lists> = rows.iter().map(|row| module_lists(random, tree.as_ref(), row)).collect();
+        // First the clauses themselves, so that what breaks them is told by them.
         for &(first, second) in &pairs {
             check_pair(checker, random, [&rows[first], &rows[second]], [&lists[first], &lists[second]], false);
         }
+        checker.check_dialects(bytes, names, rows.iter().map(|row| (row.as_slice(), room(random))));
     });
 }
 
@@ -143,16 +145,16 @@ pub fn single_steps(checker: &mut Checker, plan: &Plan) {
     each_random(checker, plan, 41, 40_000, |rng, _| grow::module(rng, false), |checker, rng, random| {
         let (row, next) = steps(rng);
         let (bytes, names) = (&random.encoded.table, &random.encoded.names);
-        let asked = || std::iter::once(&row).chain(&next).map(|row| (row.as_slice(), room(random)));
-        checker.check_dialects(bytes, names, asked());
-        checker.check_audits(bytes, names, asked());
         let table = Table::check(bytes, names).expect("the generated tables are sound");
         let (tree, judge) = (run::Module::of(&table).ok(), run::Audit::of(&table));
-        let module = |row: &[u8]| module_lists(random, &table, tree.as_ref(), row);
+        let module = |row: &[u8]| module_lists(random, tree.as_ref(), row);
         let (first, audited) = (module(&row), audit_lists(random, &judge, &row));
         for second in &next {
             check_pair(checker, random, [&row, second], [&first, &module(second)], false);
             check_pair(checker, random, [&row, second], [&audited, &audit_lists(random, &judge, second)], true);
         }
+        let asked = || std::iter::once(&row).chain(&next).map(|row| (row.as_slice(), room(random)));
+        checker.check_dialects(bytes, names, asked());
+        checker.check_audits(bytes, names, asked());
     });
 }

@@ -1,6 +1,7 @@
 //! The reader into lent buffers, and reader and module pass in one: the files that the rescue and the program are given, and what the
 //! writer makes. Every byte of the buffers is the model's.
 
+use model::answer::ERROR_WORDS;
 use model::dialect;
 use model::dialect::ALL_OPTIONS_INTERNAL;
 use model::dialect::EXTENDED;
@@ -24,6 +25,7 @@ use super::rescues::zeroes;
 use super::Plan;
 use crate::cells::Cells;
 use crate::cells::Encoded;
+use crate::cells::FILE_AT;
 use crate::cells::PLAIN;
 use crate::checker::Checker;
 use crate::grow;
@@ -60,14 +62,14 @@ fn look(checker: &mut Checker, bytes: &[u8], turn: usize) {
         }
     }
     if checker.wants(&listed.job) {
-        let words = 3 * jobs::check_file(bytes).errors.len();
-        let rooms = [words, words + 4, words.saturating_sub(1), words / 2, 0];
+        let words = ERROR_WORDS * jobs::check_file(bytes).errors.len();
+        let rooms = [words, words + 5, words.saturating_sub(1), words / 2, 0];
         checker.check(&checking(bytes, rooms[turn % 5]));
     }
 }
 
 /// A file whose answers are known: what is told of the reading, and how many errors there are.
-fn expect(checker: &mut Checker, held: &Contents, told: &[u32], errors: &[[u32; 3]]) {
+fn expect(checker: &mut Checker, held: &Contents, told: &[u32], errors: &[[u32; ERROR_WORDS]]) {
     let bytes = file::write(held);
     let (table, names) = (held.table.len(), held.names.len());
     for more in [0, 1, 700] {
@@ -87,7 +89,7 @@ fn expect(checker: &mut Checker, held: &Contents, told: &[u32], errors: &[[u32; 
     }
     let listed = jobs::check_file(&bytes);
     checker.note(listed.errors == errors, || format!("the model lists {listed:?}, by hand it is {errors:?}"));
-    for room in 0..=3 * errors.len() + 4 {
+    for room in 0..=ERROR_WORDS * errors.len() + 5 {
         checker.expect(&checking(&bytes, room), 0, Some(&[errors.len() as u32, told[0]]));
     }
 }
@@ -105,12 +107,12 @@ fn refuse(checker: &mut Checker, bytes: &[u8], number: u32, words: &[u32]) {
 /// Answers by hand: nodes, name bytes, 1 for a dialect, its nine bytes in three words; each refusal.
 pub fn corners(checker: &mut Checker, _plan: &Plan) {
     let example = |dialect: &[u8]| Contents { table: example_table(), names: b"abc".to_vec(), dialect: dialect.to_vec() };
-    let errors = [[13, 14, 15], [55, 20, 25]];
+    let errors = [[13, 1, 14, 15], [55, 1, 20, 25]];
     expect(checker, &example(&[]), &[6, 3, 0, 0, 0, 0], &errors);
     expect(checker, &example(&STANDARD), &[6, 3, 1, 0x0001_0101, 0x0001_0000, 0], &errors);
     expect(checker, &example(&EXTENDED), &[6, 3, 1, 0x0101_0101, 0x0101_0200, 0], &errors);
     expect(checker, &example(&ALL_OPTIONS_INTERNAL), &[6, 3, 1, 0x0101_0101, 0x0101_0201, 1], &errors);
-    expect(checker, &example(&[0, 1, 0, 0, 0, 1, 0, 0, 1]), &[6, 3, 1, 0x100, 0x100, 1], &[[52, 0, 25], errors[0], errors[1]]);
+    expect(checker, &example(&[0, 1, 0, 0, 0, 1, 0, 0, 1]), &[6, 3, 1, 0x100, 0x100, 1], &[[52, 1, 0, 25], errors[0], errors[1]]);
     expect(checker, &contents(1, 0, &[]), &[1, 0, 0, 0, 0, 0], &[]);
     let largest = contents(MOST_NODES, MOST_NAME_BYTES, &STANDARD);
     for (table, names) in [(MOST_TABLE_BYTES, MOST_NAME_BYTES), (MOST_TABLE_BYTES - 1, 9_000), (60_000, MOST_NAME_BYTES - 1)] {
@@ -159,7 +161,7 @@ fn contents_refused(checker: &mut Checker) {
         file::write(&held)
     };
     let unsound = with(&|held| {
-        held.table[RECORD_BYTES * 30 + 18] = 1;
+        held.table[RECORD_BYTES * 30 + FILE_AT + 1] = 255;
         held.dialect[3] = 2;
     });
     refuse(checker, &unsound, number::UNSOUND, &[30]);

@@ -11,6 +11,7 @@ use model::jobs;
 use model::numbers::kind;
 use model::numbers::number;
 use model::rescue;
+use model::table::MOST_FILE;
 use model::table::RECORD_BYTES;
 
 use super::each_random;
@@ -19,6 +20,9 @@ use super::files::damage;
 use super::Plan;
 use crate::cells::Cells;
 use crate::cells::Encoded;
+use crate::cells::Files;
+use crate::cells::Style;
+use crate::cells::FILE_AT;
 use crate::cells::PLAIN;
 use crate::checker::Checker;
 use crate::grow;
@@ -35,7 +39,6 @@ const DETAIL_AT: usize = 1;
 const NAME_LENGTH_AT: usize = 2;
 const BEGIN_AT: usize = 8;
 const SIZE_AT: usize = 16;
-const RESERVED_AT: usize = 18;
 
 /// A file in rooms that just suffice, or are so much longer or shorter. What is kept is looked at once more.
 fn check(checker: &mut Checker, input: &[u8], more: &[isize]) {
@@ -89,8 +92,13 @@ impl Damaged {
     }
 
     fn of_cells(cells: &Cells, dialect: &[u8]) -> Damaged {
+        Damaged::of_files(cells, dialect, PLAIN.files)
+    }
+
+    /// With these source file numbers.
+    fn of_files(cells: &Cells, dialect: &[u8], files: Files) -> Damaged {
         let mut encoded = Encoded::default();
-        encoded.write(cells, &PLAIN);
+        encoded.write(cells, &Style { files, ..PLAIN });
         Damaged::of(&Contents { table: encoded.table, names: encoded.names, dialect: dialect.to_vec() })
     }
 
@@ -217,7 +225,7 @@ fn roots(checker: &mut Checker, good: &Damaged) {
         (DETAIL_AT, &[1]),
         (NAME_LENGTH_AT, &[1]),
         (BEGIN_AT, &[255, 255, 255, 127]),
-        (RESERVED_AT, &[1]),
+        (FILE_AT, &[1]),
     ];
     for (at, bytes) in faults {
         for length in [2_048, 3_072] {
@@ -252,7 +260,9 @@ fn sizes(checker: &mut Checker, good: &Damaged) {
 
 /// All blocks are good and 3 or 4 fails: the cut is before that child, and none is skipped.
 fn unsound_children(checker: &mut Checker, good: &Damaged) {
-    for (at, bytes) in [(KIND_AT, [0]), (KIND_AT, [kind::INT]), (KIND_AT, [kind::NORMAL]), (DETAIL_AT, [1]), (RESERVED_AT, [1])] {
+    let kinds = [0, kind::INT, kind::NORMAL].map(|kind| (KIND_AT, [kind]));
+    // The number of the source file: 0, and more than 999.
+    for (at, bytes) in kinds.into_iter().chain([(DETAIL_AT, [1]), (FILE_AT, [0]), (FILE_AT + 1, [4])]) {
         expect(checker, &good.field(25, at, &bytes).bytes, 2_560, &[2_560, 24, 25, 19, 0, 0]);
         expect(checker, &good.field(25, at, &bytes).field(40, at, &bytes).bytes, 2_560, &[2_560, 24, 25, 19, 0, 0]);
         refuse(checker, &good.field(1, at, &bytes).bytes, number::NOTHING_KEPT);
@@ -317,9 +327,13 @@ fn across_blocks(checker: &mut Checker) {
     expect(checker, &across.spoilt(2, 8).bytes, 1_024, &[1_024, 15, 16, 16, 0, 0]);
     expect(checker, &across.size(0, 26).bytes, 1_024, &[1_024, 15, 16, 16, 0, 0]);
     expect(checker, &across.size(0, 27).bytes, 1_536, &[1_536, 16, 27, 5, 0, 0]);
-    expect(checker, &across.field(20, RESERVED_AT, &[1]).bytes, 1_024, &[1_024, 15, 16, 16, 0, 0]);
+    expect(checker, &across.field(20, FILE_AT, &[2]).bytes, 1_024, &[1_024, 15, 16, 16, 0, 0]);
     // The Statements may take in the break behind it.
     expect(checker, &across.size(16, 12).bytes, 1_536, &[1_536, 20, 32, 0, 0, 0]);
+    // But not where that is of another source file.
+    let of_many = Damaged::of_files(&cells, &dialect::STANDARD, Files::Turns(MOST_FILE));
+    expect(checker, &of_many.bytes, 1_536, &[1_536, 21, 32, 0, 0, 0]);
+    expect(checker, &of_many.size(16, 12).bytes, 1_024, &[1_024, 15, 16, 16, 0, 0]);
 }
 
 /// No dialect stays none, and the names are whole.
@@ -372,9 +386,9 @@ fn shapes(rng: &mut Rng) -> Vec<Damaged> {
     let random = grow::large_module(rng, 85, false);
     vec![
         Damaged::of(&contents(64, 505, &dialect::STANDARD)),
-        Damaged::of_cells(&nested, &[]),
+        Damaged::of_files(&nested, &[], Files::Each(17)),
         Damaged::of_cells(&other, &dialect::EXTENDED),
-        Damaged::of_cells(&random, &dialect::STANDARD),
+        Damaged::of_files(&random, &dialect::STANDARD, Files::Turns(2)),
     ]
 }
 

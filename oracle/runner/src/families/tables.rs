@@ -8,6 +8,7 @@ use model::table::most_detail;
 use model::table::Class;
 use model::table::Record;
 use model::table::MOST_DEPTH;
+use model::table::MOST_FILE;
 use model::table::MOST_POSITION;
 
 use super::each_random;
@@ -15,6 +16,7 @@ use super::modules::every_job;
 use super::Plan;
 use crate::cells::Cells;
 use crate::cells::Encoded;
+use crate::cells::FILE_AT;
 use crate::cells::PLAIN;
 use crate::checker::Checker;
 use crate::grow;
@@ -204,7 +206,10 @@ fn change_field(rng: &mut Rng, table: &mut [u8], node: usize, names: usize) {
             let size = record.size;
             record.size = rng.pick(&[0, 1, size.wrapping_sub(1), size.wrapping_add(1), 65_535]);
         }
-        6 => record.reserved = rng.pick(&[1, 256, 0]),
+        6 => {
+            let file = record.file;
+            record.file = rng.pick(&[0, 1, MOST_FILE, MOST_FILE + 1, file.wrapping_sub(1), file.wrapping_add(1), 65_535]);
+        }
         _ => {
             let last = MOST_POSITION - u32::from(record.name_len).min(MOST_POSITION);
             record.source = rng.pick(&[0, 1, last, last + 1, MOST_POSITION, MOST_POSITION + 1, u32::MAX]);
@@ -225,7 +230,7 @@ pub fn depth(checker: &mut Checker, plan: &Plan) {
         if rng.once_in(4) {
             // Too deep and unsound: the unsound record is what counts, wherever it stands.
             let node = rng.below(random.cells.all.len());
-            table[24 * node + 18] = 1;
+            table[24 * node + FILE_AT + 1] |= 0x80;
         }
         every_job(checker, rng, &table, &names, &dialects);
     });
