@@ -6,7 +6,7 @@ from .output import Progress, Report, dumps, encoded, named, say, tell, visible
 from .places import Source
 
 ALL = "the whole checker accepts: the module pass, and every job on every node that it fits"
-MODULE = "none of 10 to 18 and 50 to 61; 20 to 45 (calls, targets, types) are not looked for with --module"
+MODULE = "none of 10 to 19 and 50 to 61; 20 to 45 (calls, targets, types) are not looked for with --module"
 STEP = "a script's table is made by ducat's own parser, and that step is not proved"
 MADE = "made from the script by ducat's own parser; that step is not proved"
 TEXT = frozenset(range(32, 127)) | frozenset(range(128, 256)) | frozenset(b"\t\n\r\f")

@@ -66,7 +66,7 @@ pub enum Unpacked {
     Refused(Refusal),
 }
 
-// The parameter list of the def or lambda at a node: 1 to 4, 6, 7, 10 to 18; or its ranges and flat count, with the
+// The parameter list of the def or lambda at a node: 1 to 4, 6, 7, 10 to 19; or its ranges and flat count, with the
 // modes at the front of the buffer.
 pub fn params(table: &[u8], names: &[u8], node: usize, modes: &mut [u8]) -> Unpacked
     ensures { λ r. ⌜ unpacked r ≡

@@ -166,7 +166,7 @@ impl<'t, 'n> Written<'t, 'n> {
     }
 }
 
-/// The Def's 10 to 18, the call's 20 to 24, then 80 to 84.
+/// The Def's 10 to 19, the call's 20 to 24, then 80 to 84.
 fn bound(table: &Table, owned: &Written, called: &Written) -> Result<Answer, Refusal> {
     let entries = entries(table, &owned.nodes);
     let arguments = called.arguments();
