@@ -75,6 +75,7 @@ enum starlark_number {
     STARLARK_NUMBER_MULTIPLE_KWARGS = 16, /* there is a second `**kwargs` */
     STARLARK_NUMBER_STAR_LAST = 17, /* `*` is the last parameter */
     STARLARK_NUMBER_NO_NORMAL_AFTER_STAR = 18, /* `*` is followed by something other than an ordinary parameter */
+    STARLARK_NUMBER_TOO_MANY_PARAMETERS = 19, /* the parameter list has more than 48 entries, marks counted */
     STARLARK_NUMBER_POSITIONAL_AFTER_NON_POSITIONAL = 20, /* a positional argument stands after one that is not positional */
     STARLARK_NUMBER_NAMED_AFTER_STAR = 21, /* a named argument stands after a star argument or after `**` */
     STARLARK_NUMBER_REPEATED_NAMED = 22, /* a named argument has the name of an earlier one */
@@ -216,6 +217,9 @@ enum starlark_part {
 #define STARLARK_NAME_BYTES 8064
 #define STARLARK_DEPTH 64
 
+/* The entries of a written parameter list, marks counted: more are 19. */
+#define STARLARK_PARAMETERS 48
+
 /* The largest source file number. */
 #define STARLARK_LAST_FILE 999
 
@@ -244,11 +248,12 @@ uint32_t starlark_version(void);
 /* The table check: 1 to 4. Accepted: nothing. */
 uint32_t starlark_table(const uint8_t *table, size_t table_len, const uint8_t *names, size_t names_len, uint32_t *out);
 
-/* The parameter list of the Def or Lambda at `node`: 1 to 4, 6, 7, 10 to 18.
+/* The parameter list of the Def or Lambda at `node`: 1 to 4, 6, 7, 10 to 19.
  * Accepted: out[0..10) begin and end of pos_only, pos_or_named, args, named_only and kwargs, as indices in the list without its marks
  * (no args: the empty range at the end of pos_or_named; no kwargs: the empty range at the count); out[10] the count.
  * modes[i] is then the mode of parameter i (enum starlark_mode). The buffer needs a byte for each
- * written parameter, marks counted (else 7); bytes past the count stay. 10 to 18 have the parameter's source file number in out[4]. */
+ * written parameter, marks counted (else 7); bytes past the count stay. 19 comes after 7 and before 10, and its node is `node`.
+ * 10 to 19 have the source file number of their node in out[4]. */
 uint32_t starlark_params(const uint8_t *table, size_t table_len, const uint8_t *names, size_t names_len, size_t node,
                          uint8_t *modes, size_t modes_len, uint32_t *out);
 
@@ -258,11 +263,11 @@ uint32_t starlark_params(const uint8_t *table, size_t table_len, const uint8_t *
 uint32_t starlark_call(const uint8_t *table, size_t table_len, const uint8_t *names, size_t names_len, size_t node,
                        uint32_t *out);
 
-/* Which argument of the Call at `call` reaches which parameter of the Def at `def` (no Lambda): 1 to 4, 6, 7, 10 to 18, 20 to 24, 80 to 84.
+/* Which argument of the Call at `call` reaches which parameter of the Def at `def` (no Lambda): 1 to 4, 6, 7, 10 to 19, 20 to 24, 80 to 84.
  * Accepted: out[0] the number of parameters, marks omitted, out[1] the number of arguments. The list then begins with a word for each
  * parameter, the node of the argument that it takes, or 0 for its default and for `*args` and `**kwargs`; and then a word for each argument,
  * the index of the parameter that it reached. It needs a word for each written parameter, marks counted, and for each argument (else 7);
- * words past the answer stay. `list_len` counts words. The two nodes may be of different source files: 10 to 18 and 84 have the Def's number in out[4],
+ * words past the answer stay. `list_len` counts words. The two nodes may be of different source files: 10 to 19 and 84 have the Def's number in out[4],
  * 20 to 24 and 80 to 83 the Call's. */
 uint32_t starlark_bind(const uint8_t *table, size_t table_len, const uint8_t *names, size_t names_len, size_t call, size_t def,
                        uint32_t *list, size_t list_len, uint32_t *out);
@@ -284,15 +289,15 @@ uint32_t starlark_type(const uint8_t *table, size_t table_len, const uint8_t *na
                        size_t dialect_len, size_t node, uint8_t *shapes, size_t shapes_len, uint32_t *out);
 
 /* The module pass under a dialect (nine bytes, or none for Extended): 1 to 5. Accepted: out[0] how many errors the module has, at most
- * STARLARK_ERRORS. STARLARK_ERROR_WORDS words of `errors` for each: number (10 to 18, 50 to 61), source file number, begin and end of the span.
+ * STARLARK_ERRORS. STARLARK_ERROR_WORDS words of `errors` for each: number (10 to 19, 50 to 61), source file number, begin and end of the span.
  * The first errors that fit whole are stored, the other words stay; `errors_len` counts words, and a list that is too short is no refusal. */
 uint32_t starlark_module(const uint8_t *table, size_t table_len, const uint8_t *names, size_t names_len, const uint8_t *dialect,
                          size_t dialect_len, uint32_t *errors, size_t errors_len, uint32_t *out);
 
 /* The audit under a dialect (nine bytes, or none for Extended), every job on every node that it fits: 1 to 5. Accepted: out[0] how many errors there
  * are, at most STARLARK_AUDIT_ERRORS; 0 says that the module pass and every job accept. STARLARK_AUDIT_WORDS words of `errors` for each:
- * number (10 to 18, 20 to 24, 30 to 33, 40 to 45, 50 to 61), source file number, begin and end of the span, node. First the module pass's without
- * 10 to 18; then, node by node, what is refused there: the parameter list of a Def or Lambda, the arguments of a Call, an Assign or AssignModify, the
+ * number (10 to 19, 20 to 24, 30 to 33, 40 to 45, 50 to 61), source file number, begin and end of the span, node. First the module pass's without
+ * 10 to 19; then, node by node, what is refused there: the parameter list of a Def or Lambda, the arguments of a Call, an Assign or AssignModify, the
  * target of a For, a type (of a return, a parameter or an assignment). The first errors that fit whole are stored, the other words stay; a list that
  * is too short is no refusal. */
 uint32_t starlark_audit(const uint8_t *table, size_t table_len, const uint8_t *names, size_t names_len, const uint8_t *dialect,
@@ -321,7 +326,7 @@ uint32_t starlark_read(const uint8_t *file, size_t file_len, uint8_t *table, siz
                        uint32_t *out);
 
 /* The module pass over a table file of `file_len` bytes, under the dialect that it holds: 70 to 75, 3 to 5. Accepted: out[0] how many errors the
- * module has, out[1] the nodes. STARLARK_ERROR_WORDS words of `errors` for each, as starlark_module has them: number (10 to 18, 50 to 61), source
+ * module has, out[1] the nodes. STARLARK_ERROR_WORDS words of `errors` for each, as starlark_module has them: number (10 to 19, 50 to 61), source
  * file number, begin and end. */
 uint32_t starlark_check_file(const uint8_t *file, size_t file_len, uint32_t *errors, size_t errors_len, uint32_t *out);
 

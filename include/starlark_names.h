@@ -25,6 +25,7 @@ static inline const char *starlark_number_name(uint32_t number) {
     case STARLARK_NUMBER_MULTIPLE_KWARGS: return "MULTIPLE_KWARGS";
     case STARLARK_NUMBER_STAR_LAST: return "STAR_LAST";
     case STARLARK_NUMBER_NO_NORMAL_AFTER_STAR: return "NO_NORMAL_AFTER_STAR";
+    case STARLARK_NUMBER_TOO_MANY_PARAMETERS: return "TOO_MANY_PARAMETERS";
     case STARLARK_NUMBER_POSITIONAL_AFTER_NON_POSITIONAL: return "POSITIONAL_AFTER_NON_POSITIONAL";
     case STARLARK_NUMBER_NAMED_AFTER_STAR: return "NAMED_AFTER_STAR";
     case STARLARK_NUMBER_REPEATED_NAMED: return "REPEATED_NAMED";
@@ -92,6 +93,7 @@ static inline const char *starlark_number_words(uint32_t number) {
     case STARLARK_NUMBER_MULTIPLE_KWARGS: return "there is a second `**kwargs`";
     case STARLARK_NUMBER_STAR_LAST: return "`*` is the last parameter";
     case STARLARK_NUMBER_NO_NORMAL_AFTER_STAR: return "`*` is followed by something other than an ordinary parameter";
+    case STARLARK_NUMBER_TOO_MANY_PARAMETERS: return "the parameter list has more than 48 entries, marks counted";
     case STARLARK_NUMBER_POSITIONAL_AFTER_NON_POSITIONAL: return "a positional argument stands after one that is not positional";
     case STARLARK_NUMBER_NAMED_AFTER_STAR: return "a named argument stands after a star argument or after `**`";
     case STARLARK_NUMBER_REPEATED_NAMED: return "a named argument has the name of an earlier one";

@@ -18,10 +18,11 @@ HEADER, NAMES = ROOT / "include" / "starlark.h", ROOT / "include" / "starlark_na
 RUST, RAW = ROOT / "bindings" / "rust", ROOT / "bindings" / "raw"
 PYTHON = ROOT / "python" / "ducatmuffin"
 # the header's constants that the wrapper has too, and where the code has them
-SHARED = ["WORDS", "NODES", "NODE_BYTES", "NAME_BYTES", "DEPTH", "FILE_BYTES", "ERRORS", "ERROR_WORDS", "AUDIT_ERRORS", "AUDIT_WORDS", "STACK_BYTES",
-          "DIALECT_BYTES"]
+SHARED = ["WORDS", "NODES", "NODE_BYTES", "NAME_BYTES", "DEPTH", "PARAMETERS", "FILE_BYTES", "ERRORS", "ERROR_WORDS", "AUDIT_ERRORS", "AUDIT_WORDS",
+          "STACK_BYTES", "DIALECT_BYTES"]
 IN_CODE = {"NODES": "table/src/lib.rt: MOST_NODES", "NAME_BYTES": "table/src/lib.rt: MOST_NAMES", "DEPTH": "table/src/depth.rt: MOST_DEPTH",
-           "NODE_BYTES": "forest/src/lib.rt: RECORD", "LAST_FILE": "soundness/src/sound.rt: LAST_FILE", "ERROR_WORDS": "errors/src/lib.rt: WIDTH",
+           "NODE_BYTES": "forest/src/lib.rt: RECORD", "PARAMETERS": "deflist/src/lib.rt: MOST_PARAMETERS",
+           "LAST_FILE": "soundness/src/sound.rt: LAST_FILE", "ERROR_WORDS": "errors/src/lib.rt: WIDTH",
            "AUDIT_WORDS": "errors/src/lib.rt: WIDTH_WITH_NODE"}
 # the bytes that starlark_params and starlark_type store, as crates/deflist/specs and crates/types/specs define them
 MODES = ["PosOnly", "PosOrName", "NameOnly", "Args", "Kwargs"]

@@ -15,6 +15,7 @@ use model::audit::Place;
 use model::file;
 use model::file::Contents;
 use model::jobs;
+use model::numbers::number;
 use model::table::Table;
 use starlark_syntax::codemap::CodeMap;
 use starlark_syntax::syntax::ast::CallArgsP;
@@ -95,6 +96,14 @@ pub fn parameters(input: &'static Input) -> Routes {
             accepted
         }),
     ]
+}
+
+/// A list that is refused with 19, which the crate does not have: timed beside the table check.
+pub fn too_many(input: &'static Input) -> Routes {
+    let mut port = Port::new();
+    let number = port.params(&input.table, &input.names, input.node);
+    assert_eq!(number, number::TOO_MANY_PARAMETERS, "a list of more than 48 entries");
+    vec![Route::new(PORT, move || port.params(&input.table, &input.names, input.node)), check_route(input)]
 }
 
 pub fn arguments(input: &'static Input) -> Routes {

@@ -26,6 +26,7 @@ use scripts::Written;
 #[derive(Clone, Copy, PartialEq, Eq)]
 enum Kind {
     Job,
+    Refused,
     Table,
     File,
     Write,
@@ -96,9 +97,13 @@ fn case(name: String, kind: Kind, routes: impl Fn() -> Vec<Route<'static>> + 'st
 fn all_cases() -> Vec<Case> {
     let mut all = Vec::new();
     let job = Kind::Job;
-    for entries in [4, 16, 48, 384] {
+    for entries in [4, 8, 16, 48] {
         let name = format!("params, {entries} entries");
         all.push(case(name, job, move || cases::parameters(kept(scripts::parameters(entries)))));
+    }
+    for entries in [49, 384, 2_000] {
+        let name = format!("params, {entries} entries, refused with 19");
+        all.push(case(name, Kind::Refused, move || cases::too_many(kept(scripts::plain_parameters(entries)))));
     }
     for entries in [4, 16, 48, 384] {
         let name = format!("call, {entries} arguments");
@@ -193,7 +198,7 @@ fn rescue_cases() -> Vec<Case> {
 fn binding_cases() -> Vec<Case> {
     let mut all = Vec::new();
     for (words, written) in [("place", Written::ByPlace), ("name", Written::ByName), ("name, in another order", Written::Shuffled)] {
-        for entries in [4, 16, 48, 384] {
+        for entries in [4, 16, 48] {
             let name = format!("bind, {entries} by {words}");
             all.push(case(name, Kind::Bind, move || cases::bind(kept(scripts::binding(entries, written)))));
         }
@@ -204,8 +209,8 @@ fn binding_cases() -> Vec<Case> {
 /// Lists whose names are of a family.
 fn name_cases() -> Vec<Case> {
     let mut all = Vec::new();
-    for (words, family, [parameters, arguments]) in scripts::FAMILIES {
-        for entries in [4, 16, 48, 384, parameters] {
+    for (words, family, arguments) in scripts::FAMILIES {
+        for entries in [4, 16, 48] {
             let name = format!("params, {entries} names, {words}");
             all.push(case(name, Kind::Job, move || cases::parameters(kept(scripts::named_parameters(family, entries)))));
         }
@@ -257,6 +262,7 @@ fn print_head(kind: Kind) {
     println!();
     let columns = match kind {
         Kind::Job => "job | port | of it table check | crate | port / crate | crate with reading and tree | port / that",
+        Kind::Refused => "job | port | the table check | port / that",
         Kind::Table => "check | port | the oracle's check | port / that",
         Kind::File => {
             "file to errors | port | the module job by itself | Rust route | port / Rust | reading and check | second check | tree | crate | port / (tree and crate alone)"
@@ -294,6 +300,10 @@ fn print_row(case: &Case, times: &[Times]) {
             row.push(middle(of(times, cases::CHECK)));
             row.extend([micros(ready.spread()), ratio(port.part_of(ready))]);
             row.extend([micros(front.spread()), ratio(port.part_of(front))]);
+        }
+        Kind::Refused => {
+            let check = of(times, cases::CHECK);
+            row.extend([micros(check.spread()), ratio(port.part_of(check))]);
         }
         Kind::Table => {
             let model = of(times, cases::MODEL);

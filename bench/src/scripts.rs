@@ -39,6 +39,11 @@ pub fn parameters(entries: usize) -> Input {
     input(tables, 0)
 }
 
+/// `def f(a, b, c)` with so many short names, and `pass`. The Def is node 0.
+pub fn plain_parameters(entries: usize) -> Input {
+    named_parameters(Family::Short, entries)
+}
+
 /// `f(1, 2, a = 3, b = 4, **kwargs)` of so many arguments, a quarter of them positional. The Call is node 1.
 pub fn arguments(entries: usize) -> Input {
     let mut tables = Tables::default();
@@ -70,13 +75,13 @@ pub enum Family {
     Repeated,
 }
 
-/// A family with its words, and the most names of it. A table has at most 2,100 nodes and 8,064 name bytes: these hold 2,000 parameters or
-/// 1,000 arguments, whose names overlap where they are long, and 560 names that begin with the same 12 bytes, since those cannot.
-pub const FAMILIES: [(&str, Family, [usize; 2]); 4] = [
-    ("a prefix of 12 bytes", Family::Prefix, [560, 560]),
-    ("the last byte differs", Family::LastByte, [2_000, 1_000]),
-    ("1 to 3 bytes", Family::Short, [2_000, 1_000]),
-    ("the last repeats the first", Family::Repeated, [2_000, 1_000]),
+/// A family with its words, and the most arguments with names of it. A table has at most 2,100 nodes and 8,064 name bytes: these hold 1,000
+/// arguments, whose names overlap where they are long, and 560 names that begin with the same 12 bytes, since those cannot.
+pub const FAMILIES: [(&str, Family, usize); 4] = [
+    ("a prefix of 12 bytes", Family::Prefix, 560),
+    ("the last byte differs", Family::LastByte, 1_000),
+    ("1 to 3 bytes", Family::Short, 1_000),
+    ("the last repeats the first", Family::Repeated, 1_000),
 ];
 
 const LETTERS: &[u8; 63] = b"abcdefghijklmnopqrstuvwxyzABCDEFGHIJKLMNOPQRSTUVWXYZ0123456789_";

@@ -346,13 +346,15 @@ static void nested_statements(const char *shape, int kind, size_t limit) {
     measure(shape, 0);
 }
 
-static void many_parameters(void) {
+/* A def with so many parameters: as many as a list may have, or more, which are refused (19). */
+static void many_parameters(const char *shape, size_t parameters) {
     size_t root = open_node(STATEMENTS, 0), def = open_node(DEF, 0);
-    while (nodes < STARLARK_NODES - 1) leaf(NORMAL);
+    for (size_t i = 0; i < parameters; i++) leaf(NORMAL);
     leaf(BREAK);
     close_node(def);
+    while (nodes < STARLARK_NODES) leaf(BREAK);
     close_node(root);
-    measure("2,097 parameters", 1);
+    measure(shape, 1);
 }
 
 static void many_arguments(void) {
@@ -401,10 +403,11 @@ int main(void) {
     siblings("a tuple of 2,097 names", TUPLE, IDENTIFIER);
     siblings("a list of 2,097 names", LIST, IDENTIFIER);
     siblings("a tuple of 2,097 empty tuples", TUPLE, TUPLE);
-    many_parameters();
+    many_parameters("48 parameters", STARLARK_PARAMETERS);
+    many_parameters("2,097 parameters", STARLARK_NODES - 3);
     many_arguments();
-    binding("698 parameters bound by place", NORMAL, 698, POSITIONAL, 698);
-    binding("698 parameters bound by name", NORMAL, 698, NAMED, 698);
+    binding("48 parameters bound by place", NORMAL, STARLARK_PARAMETERS, POSITIONAL, STARLARK_PARAMETERS);
+    binding("48 parameters bound by name", NORMAL, STARLARK_PARAMETERS, NAMED, STARLARK_PARAMETERS);
     binding("2,094 parameters, none bound", NORMAL, 2094, POSITIONAL, 0);
     binding("1,046 arguments for one star", ARGS, 1, POSITIONAL, 1046);
     assignment_of_many();

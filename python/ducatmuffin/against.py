@@ -12,7 +12,7 @@ from .output import encoded, head
 SWITCHES = ("enable_def", "enable_lambda", "enable_load", "enable_keyword_only_arguments", "enable_positional_only_arguments", "enable_types",
             "enable_load_reexport", "enable_top_level_stmt", "enable_f_strings")  # in the order of the nine bytes
 TOP_LEVEL = SWITCHES.index("enable_top_level_stmt")
-PASS = "module pass (10 to 18 and 50 to 61):"
+PASS = "module pass (10 to 19 and 50 to 61):"
 OTHERS = "other jobs, in the new dialect:"
 NOT_TIED = "enable_top_level_stmt opens and there were errors, so no theorem ties the two lists"
 

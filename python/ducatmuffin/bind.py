@@ -181,7 +181,7 @@ class Binder:
     def lines(self, answer, call, def_, places, explain):
         """The lines of an answer."""
         if type(answer) is Refusal:
-            return [places.refused(answer) + (f": {answer.words}" if explain else "")]
+            return [places.refused(answer) + (f": {answer.words}{self.counted(answer)}" if explain else "")]
         lines = []
         for parameter, mode, taken in self.taken(answer, call, def_):
             if taken is None:
@@ -192,6 +192,13 @@ class Binder:
             lines.append(f"{STARS.get(record.kind, '')}{shown(self.tree.name(parameter))}, {MODES[mode]}: {said}")
         return lines or ["no parameters"]
 
+    def counted(self, answer):
+        """For 19 how many entries the list has."""
+        return f": {reasons.too_many(self.entries(answer))}" if answer.number == reasons.TOO_MANY else ""
+
+    def entries(self, answer):
+        return reasons.entries(self.tree.table, self.tree.names, answer.node)
+
     def in_json(self, answer, call, def_, scripts):
         told = {"call": self.node(call, scripts), "def": self.node(def_, scripts)}
         if type(answer) is Refusal:
@@ -199,6 +206,8 @@ class Binder:
                                                       **span_json(scripts.of(answer.file), answer.file, answer.begin, answer.end)}
             if answer.earlier is not None:
                 carried["earlier"] = self.node(answer.earlier, scripts)
+            if answer.number == reasons.TOO_MANY:
+                carried["entries"] = self.entries(answer)
             return {**told, "refused": {"number": answer.number, "words": answer.words, **carried}}
         told["parameters"] = [
             {"name": shown(self.tree.name(parameter)), "mode": MODES[mode], "default": taken is None,

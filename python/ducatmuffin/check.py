@@ -6,7 +6,7 @@ from .output import Progress, Report, dumps, encoded, named, say, tell, visible
 from .places import Source
 
 ALL = "the whole checker accepts: the module pass, and every job on every node that it fits"
-MODULE = "none of 10 to 18 and 50 to 61; 20 to 45 (calls, targets, types) are not looked for with --module"
+MODULE = "none of 10 to 19 and 50 to 61; 20 to 45 (calls, targets, types) are not looked for with --module"
 STEP = "a script's table is made by ducat's own parser, and that step is not proved"
 MADE = "made from the script by ducat's own parser; that step is not proved"
 TEXT = frozenset(range(32, 127)) | frozenset(range(128, 256)) | frozenset(b"\t\n\r\f")
@@ -196,12 +196,18 @@ class Checker:
                 return (answer.earlier, *span_of(found.table, answer.earlier))
         return None
 
-    def nodes_of(self, found, error):
+    def entries(self, found, error):
+        """For 19 how many entries the list has, marks counted; otherwise None."""
+        if error.number != reasons.TOO_MANY:
+            return None
+        return max((reasons.entries(found.table, found.names, node) for node in self.nodes_of(found, error, reasons.LISTS)), default=None)
+
+    def nodes_of(self, found, error, kinds=(50, 53, 54)):
         """The node of an error; the module pass does not list it, so it is looked for by its span."""
         if error.node is not None:
             return [error.node]
         rows = reasons.Records(found.table, found.names).rows
-        return [node for node, row in enumerate(rows) if row[0] in (50, 53, 54) and (row[7], row[4], row[5]) == (error.file, error.begin, error.end)]
+        return [node for node, row in enumerate(rows) if row[0] in kinds and (row[7], row[4], row[5]) == (error.file, error.begin, error.end)]
 
     # ---- printing
 
@@ -266,7 +272,8 @@ class Checker:
         if not source and not note and not self.options.explain:
             return [f"{number} {file} {begin} {end}"]
         kind = f", node {node}, kind {kind_words(found.table, node)}" if self.options.explain and node is not None else ""
-        words = WORDS[number] + kind
+        many = self.entries(found, error)
+        words = WORDS[number] + kind + (f": {reasons.too_many(many)}" if many else "")
         earlier = self.earlier(found, error)
         if source:
             lines = placed(source, begin, end, f"{number} {words}")
@@ -311,7 +318,8 @@ class Checker:
         earlier = self.earlier(found, error)
         if earlier:
             told["earlier"] = {"node": earlier[0], **span_json(source, file, *earlier[1:])}
-        return told
+        many = self.entries(found, error)
+        return {**told, "entries": many} if many else told
 
 
 # ---- what is said of an input without a table

@@ -36,7 +36,7 @@ matches a GLOB of --as-script. Any other file is a table file. Of a folder, hidd
 folders are skipped.
 
 Every job is run on every node that it fits, so `errors 0` means that the whole checker accepts: parameter
-lists (10 to 18), call arguments (20 to 24), targets and assignments (30 to 33), types (40 to 45), and the
+lists (10 to 19), call arguments (20 to 24), targets and assignments (30 to 33), types (40 to 45), and the
 module pass (50 to 61). Not covered: whether a name is defined, what a value is, which def a call reaches (see
 `ducat bind`), what load names, and whether the dialect has f-strings; in a table file also the targets of
 comprehensions, which a table does not mark. Nothing can be switched off: there is no option and no comment
@@ -57,7 +57,7 @@ With --join all scripts are one table: the statements of the first, then those o
 source file numbers count from 1 in the order given."""
 
 AGAINST = """With --against DIALECT each input is checked in its own dialect and in DIALECT, and this prints what the move from
-one to the other does to the errors of the module pass (10 to 18 and 50 to 61):
+one to the other does to the errors of the module pass (10 to 19 and 50 to 61):
   opens SWITCH...             the switches that DIALECT permits and the input's own dialect does not, or nothing
   an error in a line          each error that the move takes out, in the usual form
   taken out N, left M         how many these are, and how many errors the module pass has in DIALECT
@@ -213,7 +213,7 @@ def check_parser():
     parser = make_parser("check", CHECK, f"{AGAINST}\n\n{CHECK_MORE}")
     parser.add_argument("paths", metavar="PATH", nargs="*")
     parser.add_argument("--module", action="store_true",
-                        help="run the module pass alone (10 to 18 and 50 to 61), as the program of document 01; its own order is kept")
+                        help="run the module pass alone (10 to 19 and 50 to 61), as the program of document 01; its own order is kept")
     parser.add_argument("--explain", action="store_true", help="say what each number means, with nodes, kinds, dialect and places in X.star "
                         "beside X.table; of a table with several source file numbers in X.N.star for each number N")
     parser.add_argument("--quiet", action="store_true", help="print nothing: the exit status is the answer; why an input is not read is still said")

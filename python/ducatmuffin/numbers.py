@@ -12,6 +12,7 @@ NODES = 2100
 NODE_BYTES = 24
 NAME_BYTES = 8064
 DEPTH = 64
+PARAMETERS = 48
 FILE_BYTES = 59904
 ERRORS = 4200
 ERROR_WORDS = 4
@@ -38,6 +39,7 @@ NUMBERS = {
     16: "MULTIPLE_KWARGS",
     17: "STAR_LAST",
     18: "NO_NORMAL_AFTER_STAR",
+    19: "TOO_MANY_PARAMETERS",
     20: "POSITIONAL_AFTER_NON_POSITIONAL",
     21: "NAMED_AFTER_STAR",
     22: "REPEATED_NAMED",
@@ -101,6 +103,7 @@ WORDS = {
     16: "there is a second `**kwargs`",
     17: "`*` is the last parameter",
     18: "`*` is followed by something other than an ordinary parameter",
+    19: "the parameter list has more than 48 entries, marks counted",
     20: "a positional argument stands after one that is not positional",
     21: "a named argument stands after a star argument or after `**`",
     22: "a named argument has the name of an earlier one",

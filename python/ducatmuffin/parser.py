@@ -3,7 +3,7 @@
     parse(script) -> the top-level statements, as nodes        raises NotStarlark or TooDeep
 
 The lists of parameters and arguments and the left side of an assignment are as loose as a table is: every order of marks and names, and every
-expression as a target, so that the proved checker judges them (10 to 18, 20 to 24, 30 to 33). Everything else is as strict as the crate.
+expression as a target, so that the proved checker judges them (10 to 19, 20 to 24, 30 to 33). Everything else is as strict as the crate.
 
 A node has a kind of docs/kinds.tsv. Its span begins with its first token and ends with its last; parentheses have no node, and belong to
 the span of the node around them.

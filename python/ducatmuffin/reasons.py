@@ -5,13 +5,15 @@ library is asked about the first blocks: it answers 70 until the bad one is amon
 """
 import struct
 
-from .numbers import KINDS, NAME_BYTES, NODE_BYTES, NODES
+from .numbers import KINDS, NAME_BYTES, NODE_BYTES, NODES, PARAMETERS
 from .table import BLOCK, CONTENT, LAST_FILE, LAST_POSITION, MOST_DETAIL, NAMED, RECORD, parts_of
 
 COUNTS = 4  # where block 0 has its two counts
 MOST_NAME = 255
 NAMED_ARGUMENT = 61
 STATEMENTS = 1
+LISTS = (2, 27)  # the kinds that have a parameter list
+TOO_MANY = 19
 OLD = "bytes 18 and 19 are 0 in every record: the file is older than source file numbers and must be exported again"
 ARTICLE = {"statement": "a statement", "expression": "an expression", "parameter": "a parameter", "argument": "an argument"}
 
@@ -183,6 +185,19 @@ def taken(least, most):
     if most is None:
         return f"{least} or more"
     return str(least) if least == most else f"{least} to {most}"
+
+
+# ---- parameter lists
+
+def entries(table, names, node):
+    """How many entries the parameter list of a Def or Lambda has, marks counted."""
+    records = Records(table, names)
+    return sum(class_of(records.rows[child][0]) == P for child in records.children(node))
+
+
+def too_many(many):
+    """What is said of a list with 19."""
+    return f"it has {many}, and {PARAMETERS} are allowed"
 
 
 # ---- table files

@@ -11,7 +11,7 @@ from ducatmuffin import numbers, table
 STATUS = {"clean": 0, "cut": 2, "damaged": 2, "example": 1, "example-none": 1, "joined": 1, "lambda": 1, "lost": 2, "parameters": 1, "placement": 1,
           "statements": 1, "take": 0, "toplevel": 0, "toplevel-standard": 1, "unsound": 2, "whole": 1}
 ALL = "the whole checker accepts: the module pass, and every job on every node that it fits"
-MODULE = "none of 10 to 18 and 50 to 61; 20 to 45 (calls, targets, types) are not looked for with --module"
+MODULE = "none of 10 to 19 and 50 to 61; 20 to 45 (calls, targets, types) are not looked for with --module"
 LOOKS = "hint: this looks like a script; `ducat check` takes it under a name that ends in .star, with --as-script, or with --stdin-filename\n"
 DEFAULT = "a parameter without a default stands after one that has a default"
 BREAK = "`break` stands outside a `for` loop"
@@ -230,6 +230,54 @@ files 4, with errors 2, refused 1, not read 0, errors 4
         path = self.made("three", "(Def (Normal a) (Normal b) (Normal a) (Normal a) (Break))")
         self.assertIn("11 1 3 4: a parameter has the name of an earlier one, node 3, kind 50 Normal; the earlier parameter is node 1, bytes 1 to 2",
                       self.run_ducat("check", "--explain", path).out)
+
+
+class Limit(CommandTest):
+    """A parameter list has at most 48 entries, marks counted: 19 at the Def or Lambda."""
+    WORDS = "the parameter list has more than 48 entries, marks counted"
+
+    def list_of(self, many, front="", back=""):
+        """A def with a list of so many entries, and a lambda with the same."""
+        given = (front + back).replace("(Int)", "").count("(")
+        entries = front + "".join(f"(Normal p{at})" for at in range(many - given)) + back
+        return self.made("long", f"dialect: AllOptionsInternal\n(Statements (Def {entries} (OtherSimple)) (OtherSimple (Lambda {entries} (Int))))")
+
+    def test_both_sides(self):
+        for front, back in (("", ""), ("(Normal a)(Slash)", ""), ("", "(NoArgs)(Normal z)"), ("(Normal a)(Slash)", "(ArgsParam z)(KwArgsParam k)")):
+            for many in (47, 48):
+                self.says(0, f"nodes {2 * many + 6}\nerrors 0\n", "", "check", self.list_of(many, front, back))
+            self.says(1, "nodes 104\n19 1 1 2\n19 1 53 54\nerrors 2\n", "", "check", self.list_of(49, front, back))
+            self.says(1, "nodes 104\n19 1 1 2\n19 1 53 54\nerrors 2\n", "", "check", "--module", self.list_of(49, front, back))
+
+    def test_it_comes_first(self):
+        for front, back in (("(Slash)", ""), ("(Normal p1)", ""), ("(Normal:2 a (Int))", ""), ("", "(NoArgs)")):
+            out = self.run_ducat("check", self.list_of(49, front, back)).out
+            self.assertEqual([line.split()[0] for line in out.splitlines()[1:-1]], ["19", "19"], front + back)
+
+    def test_explain(self):
+        path = self.list_of(50)
+        self.says(1, f"""nodes 106, dialect all
+19 1 1 2: {self.WORDS}, node 1, kind 2 Def: it has 50, and 48 are allowed
+19 1 54 55: {self.WORDS}, node 54, kind 27 Lambda: it has 50, and 48 are allowed
+errors 2
+""", "", "check", "--explain", path)
+        self.assertIn(f"19 1 1 2: {self.WORDS}: it has 50, and 48 are allowed\n", self.run_ducat("check", "--explain", "--module", path).out)
+        told = json.loads(self.run_ducat("check", "--json", path).out)["inputs"][0]["errors"]
+        self.assertEqual([(error["number"], error["entries"]) for error in told], [(19, 50), (19, 50)])
+
+    def test_bind(self):
+        entries = "".join(f"(Normal p{at})" for at in range(49))
+        path = self.made("bound", f"(Statements (Def {entries} (OtherSimple)) (OtherSimple (Call (Identifier f))))")
+        said = f"refused 19 1 1 2: {self.WORDS}: it has 49, and 48 are allowed\n"
+        self.says(1, said, "", "bind", path, "--call", "53", "--def", "1", "--explain")
+        pair, = json.loads(self.run_ducat("bind", path, "--call", "53", "--def", "1", "--json").out)["inputs"][0]["pairs"]
+        self.assertEqual((pair["refused"]["number"], pair["refused"]["node"], pair["refused"]["entries"]), (19, 1, 49))
+
+    def test_the_table_of_a_longer_list_is_made(self):
+        script = self.put("long.star", f"def f({', '.join(f'p{at}' for at in range(60))}):\n    pass\n")
+        made = self.at("long.table")
+        self.assertEqual(self.run_ducat("table", script, "-o", made).status, 0)
+        self.assertIn("19 1 ", self.run_ducat("check", made).out)
 
 
 class Json(CommandTest):

@@ -156,7 +156,7 @@ class Check(JoinTest):
         words = ("check", "--dialect", "111000010", "--against", "all", *JOIN)
         self.says(1, f"""nodes 52
 opens enable_keyword_only_arguments, enable_positional_only_arguments, enable_types, enable_load_reexport, enable_f_strings
-module pass (10 to 18 and 50 to 61):
+module pass (10 to 19 and 50 to 61):
 {LINE}:2:27: 51 {numbers.WORDS[51]}
     def order(trains, tracks, /, gap=90):
                               ^

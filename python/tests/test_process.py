@@ -28,7 +28,7 @@ class Words(CommandTest):
 
     def test_help_says_what_is_covered(self):
         text = " ".join(self.run_ducat("check", "--help").out.split())
-        for covered in ("10 to 18", "20 to 24", "30 to 33", "40 to 45", "50 to 61", "Not covered", "there is no option and no comment that leaves out a rule",
+        for covered in ("10 to 19", "20 to 24", "30 to 33", "40 to 45", "50 to 61", "Not covered", "there is no option and no comment that leaves out a rule",
                         "59,905", "16,777,216"):
             self.assertIn(covered, text)
 

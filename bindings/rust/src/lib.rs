@@ -139,6 +139,9 @@ pub const NAME_BYTES: usize = 8_064;
 /// The largest depth of a node.
 pub const DEPTH: usize = 64;
 
+/// The entries of a written parameter list, marks counted: more are refused with 19.
+pub const PARAMETERS: usize = 48;
+
 /// A buffer of so many bytes is never too short for a table file.
 pub const FILE_BYTES: usize = 59_904;
 

@@ -39,6 +39,8 @@ pub enum Number {
     StarLast = 17,
     /// `*` is followed by something other than an ordinary parameter
     NoNormalAfterStar = 18,
+    /// the parameter list has more than 48 entries, marks counted
+    TooManyParameters = 19,
     /// a positional argument stands after one that is not positional
     PositionalAfterNonPositional = 20,
     /// a named argument stands after a star argument or after `**`
@@ -279,7 +281,7 @@ pub mod dialect {
 }
 
 /// Each number, its name and what it means.
-pub const NUMBERS: [(Number, &str, &str); 59] = [
+pub const NUMBERS: [(Number, &str, &str); 60] = [
     (Number::TableLength, "TABLE_LENGTH", "the table has no record, more than 2,100, or a part of one"),
     (Number::NameBytes, "NAME_BYTES", "there are more than 8,064 name bytes"),
     (Number::UnsoundRecord, "UNSOUND_RECORD", "a record of the table is unsound"),
@@ -296,6 +298,7 @@ pub const NUMBERS: [(Number, &str, &str); 59] = [
     (Number::MultipleKwargs, "MULTIPLE_KWARGS", "there is a second `**kwargs`"),
     (Number::StarLast, "STAR_LAST", "`*` is the last parameter"),
     (Number::NoNormalAfterStar, "NO_NORMAL_AFTER_STAR", "`*` is followed by something other than an ordinary parameter"),
+    (Number::TooManyParameters, "TOO_MANY_PARAMETERS", "the parameter list has more than 48 entries, marks counted"),
     (Number::PositionalAfterNonPositional, "POSITIONAL_AFTER_NON_POSITIONAL", "a positional argument stands after one that is not positional"),
     (Number::NamedAfterStar, "NAMED_AFTER_STAR", "a named argument stands after a star argument or after `**`"),
     (Number::RepeatedNamed, "REPEATED_NAMED", "a named argument has the name of an earlier one"),

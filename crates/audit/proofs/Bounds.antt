@@ -13,8 +13,8 @@ use Rattle.forest.proofs.Stretch.{count-forest, length-kids}
 use Rattle.table.specs.Answer.{Answer, accepted, refused}
 use Rattle.table.specs.Check.{wants}
 use Rattle.table.specs.declared.Wanted.the-variants.{Parameters, Call, Assignment}
-use Rattle.deflist.specs.Written.{writtenIn}
-use Rattle.deflist.specs.Unpack.{unpack}
+use Rattle.deflist.specs.Written.{rootIn, writtenIn}
+use Rattle.deflist.specs.Limited.{limited}
 use Rattle.deflist.specs.Told.{told}
 use Rattle.deflist.specs.declared.Judged.{Judged}
 use Rattle.deflist.specs.declared.Judged.the-variants.{Accepted, Refused}
@@ -45,7 +45,7 @@ choice-few false x y p q = q
 pub kind-few : (names : List ℕ) (t : Tree) → length (kindErrors names t) ≤ 1
 unfolding kindErrors
 kind-few names t =
-    choice-few (wants Parameters (kindIn t)) _ _ (list-few (told (unpack (writtenIn names t))))
+    choice-few (wants Parameters (kindIn t)) _ _ (list-few (told (limited (rootIn t) (writtenIn names t))))
     (choice-few (wants Call (kindIn t)) _ _ (answer-few (callAnswer names t))
     (choice-few (wants Assignment (kindIn t)) _ _ (answer-few («check_assignment» t)) (omega arith)))
 

@@ -1,9 +1,11 @@
 -- Laws of what is refused at one record, in the terms of code: one for each return. Assumes nothing.
-use mathlib.Core.Path.{_≡_, refl, ap, _∙_}
+use mathlib.Core.Path.{_≡_, refl, sym, ap, _∙_}
+use mathlib.Core.Bool.{false}
 use mathlib.Core.List.{List, [], _++_}
 use Prim.Native.Nat.{ℕ, _+_}
 use native.Mathlib.Omega.{arith}
-use borrow.Author.Tests.{ne-eqb}
+use lib.Dec.{eqb}
+use borrow.Author.Tests.{eq-eqb, ne-eqb}
 use Rattle.dialect.specs.declared.Dialect.{Dialect}
 use Rattle.forest.specs.Forest.{nodeOf, treeOf}
 use Rattle.soundness.specs.KindNumbers.{kindDef, kindLambda, kindCall, kindAssign, kindAssignModify}
@@ -17,7 +19,7 @@ use Rattle.table.specs.declared.Checked.{Checked}
 use Rattle.table.specs.declared.Checked.the-variants.{Sound, Refused as Unsound}
 use Rattle.table.proofs.Heads.{headed-all}
 use Rattle.deflist.specs.Written.{written}
-use Rattle.deflist.specs.Unpack.{unpack}
+use Rattle.deflist.specs.Limited.{limited}
 use Rattle.deflist.specs.Told.{told}
 use Rattle.deflist.specs.declared.Counts.{Counts}
 use Rattle.deflist.specs.declared.Fault.{Fault}
@@ -82,7 +84,7 @@ module _ {why : Refusal} where
   pub type-refused : {a : Shaped} → a ≡ NoType why → answerErrors (refusal why) ≡ answerErrors (shaped a)
   type-refused h = rw h refl
 
--- what unpack says of a list
+-- what is said of a list
 module _ {j k : Judged} (j-is : j ≡ k) where
   pub list-none : {c : Counts} → j ≡ Accepted c → answerErrors (accepted []) ≡ unpackError k
   list-none h = rw (← j-is, h) refl
@@ -104,14 +106,17 @@ module _ (names : List ℕ) (i : ℕ) (t : List ℕ) {k : ℕ} (k-is : k ≡ nod
     ne-eqb k kindAssignModify no-modify,
   ) refl
 
-  module _ {es : List Err} (list : es ≡ unpackError (told (unpack (written names i t)))) where
+  module _ {es : List Err} (list : es ≡ unpackError (told (limited (nodeOf i t) (written names i t)))) where
     pub kind-def : k ≡ kindDef → es ≡ kindErrors names (treeOf i t)
     unfolding kindErrors wants written
-    kind-def h = list ∙ rw (← k-is, h) refl
+    kind-def h = list ∙ rw (eq-eqb (nodeOf 0 t .kind) kindDef (sym k-is ∙ h)) refl
 
     pub kind-lambda : k ≡ kindLambda → es ≡ kindErrors names (treeOf i t)
     unfolding kindErrors wants written
-    kind-lambda h = list ∙ rw (← k-is, h) refl
+    kind-lambda h =
+        let is : nodeOf 0 t .kind ≡ kindLambda = sym k-is ∙ h in
+        let other : eqb (nodeOf 0 t .kind) kindDef ≡ false = rw is refl in
+        list ∙ rw (other, eq-eqb (nodeOf 0 t .kind) kindLambda is) refl
 
   pub kind-call : Headed i t → k ≡ kindCall → (c : Called) → called c ≡ callAnswer names (treeOf i (headedOf i t))
       → {es : List Err} → es ≡ answerErrors (called c) → es ≡ kindErrors names (treeOf i t)

@@ -18,7 +18,7 @@ use Rattle.audit.specs.Refusals.{refusals}
 abbrev pub refusalsIn : Dialect → List ℕ → Forest → List Err
 refusalsIn d names ts = refusals d names (placed Nowhere ts)
 
--- the errors of any bytes in a dialect, unchecked: the module pass's without 10 to 18, then what the jobs refuse, of as
+-- the errors of any bytes in a dialect, unchecked: the module pass's without 10 to 19, then what the jobs refuse, of as
 -- many records as a table has at most
 unfoldable pub auditErrors : Dialect → List ℕ → List ℕ → List Err
 auditErrors d names t = kept Own (passErrors d names t) ++ refusalsIn d names (forest 0 (take mostBytes t))

@@ -8,8 +8,8 @@ use Rattle.forest.specs.Forest.{Tree}
 use Rattle.table.specs.Answer.{Answer, accepted, refused}
 use Rattle.table.specs.Check.{wants}
 use Rattle.table.specs.declared.Wanted.the-variants.{Parameters, Call, Assignment}
-use Rattle.deflist.specs.Written.{writtenIn}
-use Rattle.deflist.specs.Unpack.{unpack}
+use Rattle.deflist.specs.Written.{rootIn, writtenIn}
+use Rattle.deflist.specs.Limited.{limited}
 use Rattle.deflist.specs.Told.{told}
 use Rattle.arguments.specs.Job.{callAnswer}
 use Rattle.targets.specs.Targets.{counted, «check_assignment»}
@@ -32,7 +32,7 @@ answerErrors (refused n vs) = refusedErr n vs ∷ []
 -- the job of a record's kind: the parameters of a Def or Lambda, a Call, an Assign or AssignModify
 unfoldable pub kindErrors : List ℕ → Tree → List Err
 kindErrors names t =
-    if' (wants Parameters (kindIn t)) (λ _. unpackError (told (unpack (writtenIn names t)))) (λ _.
+    if' (wants Parameters (kindIn t)) (λ _. unpackError (told (limited (rootIn t) (writtenIn names t)))) (λ _.
     if' (wants Call (kindIn t)) (λ _. answerErrors (callAnswer names t)) (λ _.
     if' (wants Assignment (kindIn t)) (λ _. answerErrors («check_assignment» t)) (λ _. [])))
 

@@ -15,11 +15,11 @@ use targets::Targeted;
 use types::Shaped;
 ghost use mathlib.Core.Path.{_≡_};
 ghost use Prim.Native.Nat.{_<_, _^_};
-ghost use Rattle.forest.specs.Forest.{treeOf};
+ghost use Rattle.forest.specs.Forest.{nodeOf, treeOf};
 ghost use Rattle.table.specs.Answer.{checked, numberOf, carried};
 ghost use Rattle.table.specs.Check.{Headed};
 ghost use Rattle.deflist.specs.Written.{written};
-ghost use Rattle.deflist.specs.Unpack.{unpack};
+ghost use Rattle.deflist.specs.Limited.{limited};
 ghost use Rattle.deflist.specs.Told.{told};
 ghost use Rattle.deflist.specs.declared.Judged.the-variants.{Refused};
 ghost use Rattle.arguments.specs.Job.{called};
@@ -123,7 +123,7 @@ fn of_fault(f: Fault) -> Checked
 fn of_list(names: &[u8], t: &[u8], at: u32) -> Checked
     requires { ⌜ Headed at (now t) ⌝ }
     ensures { λ r. ⌜ answerErrors (checked r) ≡
-        unpackError (told (unpack (written (now (names .entry)) at (now (t .entry))))) ⌝ }
+        unpackError (told (limited (nodeOf at (now (t .entry))) (written (now (names .entry)) at (now (t .entry))))) ⌝ }
 {
     let judged = deflist::judge(names, t, at);
     match judged {

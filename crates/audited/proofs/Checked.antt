@@ -32,7 +32,8 @@ use Rattle.audit.specs.declared.Roles.the-variants.{Nowhere, TargetFirst, TypeF
 use Rattle.audit.specs.Roles.{ifTyped as rolesIf, rolesOf, roleOf, rolesAfter, Placed, kindIn, placedTree}
 use Rattle.audit.specs.Roles.{placed}
 use Rattle.audit.specs.Job.{auditOf}
-use Rattle.audited.specs.Said.{All, rootIn, rootsIn, isAccepted, Accepts}
+use Rattle.deflist.specs.Written.{rootIn}
+use Rattle.audited.specs.Said.{All, rootsIn, isAccepted, Accepts}
 use Rattle.audited.specs.Checked.{firstOf, secondOf, expressionsOf, targetsOf, ifTyped, typesOf, everywhere}
 use Rattle.audited.specs.Checked.{everywhereIn, Each, Fitting}
 use Rattle.audited.proofs.Everywhere.{all-both, all-left, all-right, all-map, all-join}

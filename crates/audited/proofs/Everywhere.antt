@@ -10,7 +10,8 @@ use Rattle.audit.specs.declared.Role.{Role}
 use Rattle.audit.specs.declared.Roles.{Roles}
 use Rattle.audit.specs.Roles.{rolesOf, roleOf, rolesAfter, Placed, kindIn, placedTree, placed}
 use Rattle.audit.specs.Refusals.{refusedThere, refusals}
-use Rattle.audited.specs.Said.{All, rootIn, rootsIn}
+use Rattle.deflist.specs.Written.{rootIn}
+use Rattle.audited.specs.Said.{All, rootsIn}
 
 module _ (P : Placed → Type 0) where
   pub all-both : (ps qs : List Placed) → All P ps → All P qs → All P (ps ++ qs)

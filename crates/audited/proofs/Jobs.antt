@@ -21,8 +21,9 @@ use Rattle.table.specs.declared.Wanted.the-variants.{Parameters, Call, Assignme
 use Rattle.table.proofs.Checking.{Clean, stretch-is, stretch-size}
 use Rattle.table.proofs.Entering.{given-known, sound-entry}
 use Rattle.table.proofs.Theorems.{clean-accepted}
-use Rattle.deflist.specs.Written.{writtenIn, written}
+use Rattle.deflist.specs.Written.{rootIn, writtenIn, written}
 use Rattle.deflist.specs.Unpack as def
+use Rattle.deflist.specs.Limited.{limited}
 use Rattle.deflist.specs.Told.{told}
 use Rattle.parameters.specs.Params.{answerOf, listAnswer, listOf, paramsOf}
 use Rattle.arguments.specs.Job.{callAnswer}
@@ -35,7 +36,7 @@ use Rattle.audit.specs.declared.Role.{Role}
 use Rattle.audit.specs.declared.Role.the-variants.{AsTarget, AsType, Plain}
 use Rattle.audit.specs.Roles.{Placed, kindIn}
 use Rattle.audit.specs.Refusals.{answerErrors, kindErrors, roleErrors, refusedThere}
-use Rattle.audited.specs.Said.{isAccepted, rootIn, Accepts}
+use Rattle.audited.specs.Said.{isAccepted, Accepts}
 use Rattle.audited.proofs.Everywhere.{either, none-both, both-none}
 use Rattle.audited.proofs.Nodes.{Here}
 use Rattle.audited.proofs.Roled.{Fits, Roled}
@@ -75,7 +76,7 @@ assign-apart k h =
 
 module _ (names : List ℕ) (tree : Tree) where
   list-is : wants Parameters (kindIn tree) ≡ true
-      → kindErrors names tree ≡ unpackError (told (def.unpack (writtenIn names tree)))
+      → kindErrors names tree ≡ unpackError (told (limited (rootIn tree) (writtenIn names tree)))
   unfolding kindErrors
   list-is h = rw h refl
 
@@ -88,7 +89,8 @@ module _ (names : List ℕ) (tree : Tree) where
   assign-is h = let apart = assign-apart (kindIn tree) h in rw (apart .0, apart .1, h) refl
 
   -- a tree of a kind is told nothing where each job of it is
-  kind-quiet : (wants Parameters (kindIn tree) ≡ true → unpackError (told (def.unpack (writtenIn names tree))) ≡ [])
+  kind-quiet : (wants Parameters (kindIn tree) ≡ true
+      → unpackError (told (limited (rootIn tree) (writtenIn names tree))) ≡ [])
       → (wants Call (kindIn tree) ≡ true → answerErrors (callAnswer names tree) ≡ [])
       → (wants Assignment (kindIn tree) ≡ true → answerErrors («check_assignment» tree) ≡ [])
       → kindErrors names tree ≡ []
@@ -96,10 +98,10 @@ module _ (names : List ℕ) (tree : Tree) where
   kind-quiet list call assign =
       go (wants Parameters (kindIn tree)) (wants Call (kindIn tree)) (wants Assignment (kindIn tree)) list call assign
     where
-      go : (p c a : Bool) → (p ≡ true → unpackError (told (def.unpack (writtenIn names tree))) ≡ [])
+      go : (p c a : Bool) → (p ≡ true → unpackError (told (limited (rootIn tree) (writtenIn names tree))) ≡ [])
           → (c ≡ true → answerErrors (callAnswer names tree) ≡ [])
           → (a ≡ true → answerErrors («check_assignment» tree) ≡ [])
-          → if' p (λ _. unpackError (told (def.unpack (writtenIn names tree)))) (λ _.
+          → if' p (λ _. unpackError (told (limited (rootIn tree) (writtenIn names tree)))) (λ _.
           if' c (λ _. answerErrors (callAnswer names tree)) (λ _.
           if' a (λ _. answerErrors («check_assignment» tree)) (λ _. []))) ≡ []
       go true c a x y z = x refl
@@ -131,10 +133,10 @@ module _ (t names bytes : List ℕ) {d : Dialect} (g : givenOf t names bytes ≡
   on-node w rule h = rw (sound-entry w t names i (clean-accepted t names clean) (fits-is w ∙ h)) refl
 
   params-is : wants Parameters (kindIn tree) ≡ true → (room : ℕ) → length (listOf t names i) ≤ room
-      → paramsOf t names i room ≡ answerOf (def.unpack (writtenIn names tree))
+      → paramsOf t names i room ≡ answerOf (limited (rootIn tree) (writtenIn names tree))
   unfolding paramsOf listAnswer listOf written
   params-is h room enough =
-      on-node Parameters (λ tree. listAnswer (writtenIn names tree) room) h
+      on-node Parameters (λ tree. listAnswer (rootIn tree) (writtenIn names tree) room) h
       ∙ rw (le-leb (length (writtenIn names tree)) room enough) refl
 
   type-is : wants Expression (kindIn tree) ≡ true → (room : ℕ) → length (stretchOf t i) / 24 ≤ room
@@ -180,7 +182,7 @@ module _ (t names bytes : List ℕ) {d : Dialect} (g : givenOf t names bytes ≡
     params = λ fits room enough.
         let h : wants Parameters (kindIn tree) ≡ true = sym (fits-is Parameters) ∙ fits in
         ap isAccepted (params-is h room enough)
-        ∙ list-accepted (def.unpack (writtenIn names tree)) (sym (list-is names tree h) ∙ kind-none);
+        ∙ list-accepted (limited (rootIn tree) (writtenIn names tree)) (sym (list-is names tree h) ∙ kind-none);
     call = λ fits.
         let h : wants Call (kindIn tree) ≡ true = sym (fits-is Call) ∙ fits in
         ap isAccepted (on-node Call (callAnswer names) h)
@@ -211,7 +213,7 @@ module _ (t names bytes : List ℕ) {d : Dialect} (g : givenOf t names bytes ≡
   accepts-kind a =
       let room : ℕ = length (listOf t names i) in
       kind-quiet names tree
-      (λ h. list-quiet (def.unpack (writtenIn names tree))
+      (λ h. list-quiet (limited (rootIn tree) (writtenIn names tree))
       (sym (ap isAccepted (params-is h room (omega arith))) ∙ a .params (fits-is Parameters ∙ h) room (omega arith)))
       (λ h. accepted-quiet (callAnswer names tree)
       (sym (ap isAccepted (on-node Call (callAnswer names) h)) ∙ a .call (fits-is Call ∙ h)))

@@ -16,7 +16,8 @@ use Rattle.table.proofs.Checking.{Clean, stretch-is}
 use Rattle.audit.specs.declared.Role.{Role}
 use Rattle.audit.specs.declared.Roles.{Roles}
 use Rattle.audit.specs.Roles.{rolesOf, roleOf, rolesAfter, Placed, placedAs, placedTree, placed}
-use Rattle.audited.specs.Said.{All, rootIn}
+use Rattle.deflist.specs.Written.{rootIn}
+use Rattle.audited.specs.Said.{All}
 use Rattle.audited.proofs.Everywhere.{all-both}
 
 -- a tree in its place is that of a node of the table

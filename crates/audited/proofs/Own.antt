@@ -7,7 +7,7 @@ use Rattle.fields.proofs.Basics.{never, and-both}
 use Rattle.forest.specs.Forest.{Node, Tree, node, Forest, none, _then_}
 use Rattle.table.specs.Check.{wants}
 use Rattle.deflist.specs.Written.{paramsIn}
-use Rattle.deflist.specs.Unpack.{unpack}
+use Rattle.deflist.specs.Limited.{limited}
 use Rattle.deflist.specs.Told.{told}
 use Rattle.deflist.specs.declared.Judged.{Judged}
 use Rattle.deflist.specs.declared.Judged.the-variants.{Accepted, Refused}
@@ -30,7 +30,7 @@ unless-asked true b h = h refl
 unless-asked false b h = refl
 
 list-of : (names : List ℕ) (r : Node) (ks : Forest) → kindErrors names (node r ks) ≡ [] → hasList (r .kind) ≡ true
-    → unpackError (told (unpack (paramsIn names ks))) ≡ []
+    → unpackError (told (limited r (paramsIn names ks))) ≡ []
 unfolding kindErrors wants
 list-of names r ks e h = rw h at e
 
@@ -45,7 +45,7 @@ module _ (names : List ℕ) where
     tree-passes : (role : Role) (t : Tree) → All Quiet (placedTree role t)
         → listPasses names t ≡ true
     tree-passes role (node r ks) a =
-        let j : Judged = told (unpack (paramsIn names ks)) in
+        let j : Judged = told (limited r (paramsIn names ks)) in
         and-both (not (hasList (r .kind)) || passes j) (listsPass names ks)
         (unless-asked (hasList (r .kind)) (passes j) (λ h. quiet-passes j (list-of names r ks (a .0) h)))
         (forest-passes (rolesOf (r .kind) (r .detail)) ks (a .1))

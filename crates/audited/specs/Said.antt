@@ -4,10 +4,11 @@ use mathlib.Core.Bool.{Bool, true, false}
 use mathlib.Core.List.{List, [], _∷_}
 use Prim.Native.Nat.{ℕ, _/_, _≤_}
 use lib.ListN.{length}
-use Rattle.forest.specs.Forest.{recordBytes, Node, Tree, node, forest}
+use Rattle.forest.specs.Forest.{recordBytes, Node, forest}
 use Rattle.table.specs.Answer.{Answer, accepted, refused}
 use Rattle.table.specs.Check.{nodeFits, stretchOf}
 use Rattle.table.specs.declared.Wanted.the-variants.{Parameters, Call, Assignment}
+use Rattle.deflist.specs.Written.{rootIn}
 use Rattle.parameters.specs.Params.{listOf, paramsOf}
 use Rattle.arguments.specs.Job.{callOf}
 use Rattle.targets.specs.Jobs.{targetOf, assignmentOf}
@@ -27,10 +28,7 @@ abbrev pub All : (Placed → Type 0) → List Placed → Type 0
 All P [] = Unit {0}
 All P (p ∷ ps) = P p × All P ps
 
--- a tree's first record, and those of trees in turn
-abbrev pub rootIn : Tree → Node
-rootIn (node r ks) = r
-
+-- the first records of trees in turn
 unfoldable pub rootsIn : List Placed → List Node
 rootsIn [] = []
 rootsIn (p ∷ ps) = rootIn (p .tree) ∷ rootsIn ps

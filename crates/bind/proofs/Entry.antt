@@ -25,6 +25,7 @@ use Rattle.table.proofs.Entering.{entry-sound, sound-entry}
 use Rattle.deflist.specs.Written.{Param, paramsIn, written}
 use Rattle.deflist.specs.Unpack as unpacking
 use Rattle.deflist.specs.Unpack.{modes}
+use Rattle.deflist.specs.Limited.{limited}
 use Rattle.deflist.specs.declared.Counts.{Counts}
 use Rattle.deflist.proofs.Theorems.{written-short}
 use Rattle.parameters.specs.Indices.{countedOf}
@@ -157,8 +158,8 @@ module _ {t ns : List ℕ} {call def room : ℕ} (k : Entered t ns call def room
   pub table-short : length t ≤ 50400
   table-short = accepted-clean t ns (k .sound) .most
 
-  -- the parameter job says what unpack does
-  pub params-say : paramsOf t ns def mostNodes ≡ answerOf (unpacking.unpack (listOf t ns def))
+  -- the parameter job says what becomes of the def's list
+  pub params-say : paramsOf t ns def mostNodes ≡ answerOf (limited (nodeOf def (stretchOf t def)) (listOf t ns def))
   unfolding paramsOf onNode listAnswer listOf written
   params-say = rw (
     sound-entry Parameters t ns def (k .sound) (def-fits t def (k .isADef)),

@@ -26,8 +26,7 @@ use Rattle.deflist.specs.Reading.{isListed, kindHere}
 use Rattle.deflist.specs.declared.Kind.{Kind}
 use Rattle.deflist.specs.declared.Kind.the-variants.{Normal, NoArgs, Slash, Args, KwArgs}
 use Rattle.deflist.specs.declared.State.{State}
-use Rattle.deflist.proofs.Reading.{node-in, kind-in, listed-long, list-on, list-end}
-use Rattle.parameters.proofs.Lists.{Counting, count-end}
+use Rattle.deflist.proofs.Reading.{node-in, kind-in, listed-long, list-on, list-end, Counting, count-all}
 use Rattle.parameters.specs.declared.DefParamIndices.{DefParamIndices}
 use Rattle.arguments.specs.Written as call
 use Rattle.arguments.specs.declared.Kind.{Kind as Form}
@@ -42,7 +41,7 @@ use Rattle.bind.proofs.Lists.{args-end, args-on, arg-node, arg-kind, na
 -- at the end of a list of parameters all are counted
 pub many-end : {params left : List ℕ} {n : ℕ} → Counting params left n → {l : Bool} → l ≡ isListed left → l ≡ false
     → (names : List ℕ) (i : ℕ) → n ≡ length (paramsIn names (forest i params))
-many-end s l-is l-no = count-end s l-is l-no .many
+many-end s l-is l-no = count-all s l-is l-no
 
 -- n arguments are counted, whatever the names and the index
 pub record Numbering (args left : List ℕ) (n : ℕ) : Type 0 where

@@ -6,7 +6,7 @@ use Prim.Native.Nat.{ℕ, _+_, _-_, _*_, _/_, _≤_}
 use native.Mathlib.Omega.{arith}
 use lib.ListN.{length, take, drop, replicate, length-take, length-drop}
 use Rattle.fields.proofs.Basics.{never}
-use Rattle.forest.specs.Forest.{spanOf, kidsOf, forest}
+use Rattle.forest.specs.Forest.{Node, nodeOf, spanOf, kidsOf, forest}
 use Rattle.forest.proofs.Stretch.{length-kids, length-rest}
 use Rattle.table.specs.Answer.{Answer, accepted, refused, andThen, refusal, checked}
 use Rattle.table.specs.Check.{Within, stretchOf}
@@ -17,10 +17,12 @@ use Rattle.table.proofs.Answers.{never-accepted, never-passed}
 use Rattle.deflist.specs.Written.{Param, paramsIn, written}
 use Rattle.deflist.specs.Unpack as outcome
 use Rattle.deflist.specs.Unpack.{unpack, firstState}
+use Rattle.deflist.specs.Limited.{limited}
 use Rattle.deflist.specs.declared.State.{State}
 use Rattle.deflist.specs.declared.Flat.{Flat}
 use Rattle.deflist.specs.declared.Counts.{Counts}
 use Rattle.deflist.proofs.Theorems.{accepted-only, written-short}
+use Rattle.deflist.proofs.Limited.{limited-accepted}
 use Rattle.parameters.specs.Indices.{valuesOf, countedOf}
 use Rattle.parameters.specs.Params.{unpacked, answerOf, listOf}
 use Rattle.parameters.specs.declared.Counted.{Counted}
@@ -188,6 +190,9 @@ module _ (t ns : List ℕ) (call def room : ℕ) {e : Checked} (e-is : checked e
     abbrev ps : List Param
     ps = listOf t ns def
 
+    abbrev owner : Node
+    owner = nodeOf def (stretchOf t def)
+
     abbrev qs : List Argument
     qs = argumentsAt t ns call
 
@@ -202,7 +207,7 @@ module _ (t ns : List ℕ) (call def room : ℕ) {e : Checked} (e-is : checked e
     }
 
     own : (u : Unpacked) (k : Called) (x : outcome.Outcome) → unpacked u ≡ answerOf x
-        → called k ≡ outcomeAnswer (calling.unpack qs) → unpack ps ≡ x
+        → called k ≡ outcomeAnswer (calling.unpack qs) → limited owner ps ≡ x
         → (continued (both u k) t ns call def ≡ counting x (λ c. andThen (outcomeAnswer (calling.unpack qs)) (λ _.
         binding c (flats ps) (noWords c qs) qs))) × IfKept (both u k) t ns call def room
     unfolding continued both
@@ -217,13 +222,13 @@ module _ (t ns : List ℕ) (call def room : ℕ) {e : Checked} (e-is : checked e
     own (Accepted d) (Ordered a) (outcome.accepted c) e f x-is =
         let values : valuesOf d ≡ valuesOf (countedOf c) = cc in
         let same : d ≡ countedOf c = values-injective d (countedOf c) values in
-        rw (same, ← f) (refl, (kept c x-is, record { room = ent .room }))
+        rw (same, ← f) (refl, (kept c (limited-accepted owner ps x-is .1), record { room = ent .room }))
 
     pub rules-own : (r : Unpacked) → OwnRules t ns call def r
         → (continued r t ns call def ≡ wordsOf t ns call def room) × IfKept r t ns call def room
     unfolding wordsOf listsBound
     rules-own r o = rw (let-in, o .is)
-        (own (o .params) (o .args) (unpack ps) (o .list-is ∙ params-say ent) (o .call-is ∙ call-say ent) refl)
+        (own (o .params) (o .args) (limited owner ps) (o .list-is ∙ params-say ent) (o .call-is ∙ call-say ent) refl)
 
 -- the job
 pub if-kept : (t ns : List ℕ) (call def n : ℕ) (r : Unpacked) {c : Counted} → IfKept r t ns call def n → r ≡ Accepted c

@@ -5,7 +5,7 @@ use Prim.Native.Nat.{ℕ, _+_, _*_, _/_}
 use lib.ListN.{length, drop, replicate}
 use lib.Dec.{eqb, ltb, leb}
 use Rattle.fields.specs.Choice.{if'}
-use Rattle.forest.specs.Forest.{recordBytes, nodeOf, treeOf}
+use Rattle.forest.specs.Forest.{recordBytes, Node, nodeOf, treeOf}
 use Rattle.soundness.specs.KindNumbers.{kindDef}
 use Rattle.table.specs.Numbers.{wrongNode, shortBuffer}
 use Rattle.table.specs.Answer.{Answer, accepted, refused, andThen, refusal}
@@ -13,6 +13,7 @@ use Rattle.table.specs.Check.{stretchOf, entryCheck}
 use Rattle.table.specs.declared.Wanted.the-variants.{Call}
 use Rattle.deflist.specs.Written.{Param}
 use Rattle.deflist.specs.Unpack as def
+use Rattle.deflist.specs.Limited.{limited}
 use Rattle.parameters.specs.Indices.{countedOf}
 use Rattle.parameters.specs.Params.{answerOf, listOf}
 use Rattle.parameters.specs.declared.Counted.{Counted}
@@ -35,7 +36,7 @@ defCheck t i = if' (isDef t i) (λ _. accepted []) (λ _. refused wrongNode [])
 abbrev pub roomCheck : ℕ → List Param → List Argument → Answer
 roomCheck room ps qs = if' (leb (length ps + length qs) room) (λ _. accepted []) (λ _. refused shortBuffer [])
 
--- 10 to 18, as the job on the parameters answers them; else by what is counted
+-- 10 to 19, as the job on the parameters answers them; else by what is counted
 abbrev pub counting : def.Outcome → (Counted → Answer) → Answer
 counting (def.accepted c) next = next (countedOf c)
 counting (def.refused n r) next = answerOf (def.refused n r)
@@ -46,10 +47,10 @@ counting (def.internal e r) next = answerOf (def.internal e r)
 abbrev pub noWords : Counted → List Argument → List ℕ
 noWords c qs = replicate (c .flat + length qs) 0
 
--- a written list and arguments: 10 to 18, 20 to 24, 80 to 84; or the words
-unfoldable pub listsBound : List Param → List Argument → Answer
-listsBound ps qs =
-    counting (def.unpack ps) (λ c.
+-- the written list of the def whose record this is, and arguments: 10 to 19, 20 to 24, 80 to 84; or the words
+unfoldable pub listsBound : Node → List Param → List Argument → Answer
+listsBound owner ps qs =
+    counting (limited owner ps) (λ c.
     andThen (outcomeAnswer (call.unpack qs)) (λ _.
     binding c (flats ps) (noWords c qs) qs))
 
@@ -67,7 +68,8 @@ entryOf t names call def room =
 -- then by their lists
 unfoldable pub wordsOf : List ℕ → List ℕ → ℕ → ℕ → ℕ → Answer
 wordsOf t names call def room =
-    andThen (entryOf t names call def room) (λ _. listsBound (listOf t names def) (argumentsAt t names call))
+    andThen (entryOf t names call def room) (λ _.
+    listsBound (nodeOf def (stretchOf t def)) (listOf t names def) (argumentsAt t names call))
 
 -- the answer: the flat count and the number of arguments, or the refusal
 abbrev pub answered : Answer → ℕ → ℕ → Answer

@@ -61,7 +61,7 @@ pub enum Bound {
 // Room for the words of every binding: a word for each flat parameter and for each argument.
 const MOST_WORDS: usize = 2 * MOST_NODES;
 
-// The call and the def at two nodes: 1 to 4, 6, 7, 10 to 18, 20 to 24, 80 to 84; or the flat count and the number of
+// The call and the def at two nodes: 1 to 4, 6, 7, 10 to 19, 20 to 24, 80 to 84; or the flat count and the number of
 // arguments, with a word for each flat parameter and for each argument at the front of the list.
 pub fn bind(table: &[u8], names: &[u8], call: usize, def: usize, list: &mut [u32]) -> Bound
     ensures { λ r. ⌜ bound r ≡
@@ -639,7 +639,7 @@ fn both(unpacked: Unpacked, called: Called) -> Unpacked
     }
 }
 
-// The def's own 10 to 18, then the call's own 20 to 24.
+// The def's own 10 to 19, then the call's own 20 to 24.
 fn own_rules(table: &[u8], names: &[u8], call: usize, def: usize) -> Unpacked
     ensures { λ r. ⌜ OwnRules (now (table .entry)) (now (names .entry)) call def r ⌝ }
 {
@@ -649,7 +649,7 @@ fn own_rules(table: &[u8], names: &[u8], call: usize, def: usize) -> Unpacked
     both(unpacked, arguments::call(table, names, call))
 }
 
-// What comes before the binding: 1 to 4, 6, 7, then the def's own 10 to 18, then the call's own 20 to 24.
+// What comes before the binding: 1 to 4, 6, 7, then the def's own 10 to 19, then the call's own 20 to 24.
 fn rules(table: &[u8], names: &[u8], call: usize, def: usize, room: usize) -> Unpacked
     ensures { λ r. ⌜ continued r (now (table .entry)) (now (names .entry)) call def ≡
         wordsOf (now (table .entry)) (now (names .entry)) call def room ⌝ }

@@ -6,4 +6,5 @@ pub mod Walking
 pub mod Theorems
 pub mod Counted
 pub mod Twice
+pub mod Limited
 pub mod Promises

@@ -5,9 +5,10 @@ use mathlib.Core.List.{List}
 use Prim.Native.Nat.{ℕ, _+_, _/_}
 use lib.ListN.{length}
 use Rattle.fields.proofs.Coincide.{coincide}
-use Rattle.forest.specs.Forest.{recordBytes, kidsOf}
+use Rattle.forest.specs.Forest.{recordBytes, nodeOf, kidsOf}
 use Rattle.deflist.specs.Written.{written}
-use Rattle.deflist.specs.Unpack.{nextState, isSlash, firstState, unpack}
+use Rattle.deflist.specs.Unpack.{nextState, isSlash, firstState}
+use Rattle.deflist.specs.Limited.{limited}
 use Rattle.deflist.specs.Told.{told}
 use Rattle.deflist.specs.Reading.{isListed, kindHere, Inside}
 use Rattle.deflist.specs.declared.Kind.{Kind}
@@ -16,9 +17,10 @@ use Rattle.deflist.specs.declared.Flat.{Flat}
 use Rattle.deflist.specs.declared.Judged.{Judged}
 
 -- of `judge`; its second promise only bounds what the first determines
-pub judge-one : (names t : List ℕ) (node : ℕ) {r s : Judged} → r ≡ told (unpack (written names node t))
-    → Inside (node + 1 + length t / recordBytes) r → s ≡ told (unpack (written names node t))
-    → Inside (node + 1 + length t / recordBytes) s → r ≡ s
+pub judge-one : (names t : List ℕ) (node : ℕ) {r s : Judged}
+    → r ≡ told (limited (nodeOf node t) (written names node t)) → Inside (node + 1 + length t / recordBytes) r
+    → s ≡ told (limited (nodeOf node t) (written names node t)) → Inside (node + 1 + length t / recordBytes) s
+    → r ≡ s
 judge-one names t node p _ q _ = coincide p q
 
 -- of `children`, `entry::listed`, `entry::kind_of`

@@ -7,7 +7,7 @@ use native.Mathlib.Omega.{arith}
 use lib.ListN.{length, take, drop, length-take, length-drop}
 use lib.Seq.{drop-drop}
 use lib.Dec.{eqb, leb}
-use borrow.Author.Tests.{le-leb, leb-true}
+use borrow.Author.Tests.{le-leb, leb-true, lt-ltb, le-ltb}
 use Rattle.fields.proofs.Basics.{and-left, and-right, never}
 use Rattle.fields.proofs.Fields.{tail-part}
 use Rattle.forest.specs.Forest.{Node, sizeOf, nodeOf, spanOf, forest}
@@ -16,7 +16,8 @@ use Rattle.forest.proofs.Stretch.{forest-none, forest-tree, rest-part, record-o
 use Rattle.soundness.specs.Kinds.{parameter, classOf}
 use Rattle.deflist.specs.Written.{Param, nodeIn, kindIn, param, paramOf, paramsIn, kindAt}
 use Rattle.deflist.specs.Unpack.{isSlash, slashFrom, firstSlash, writtenAt}
-use Rattle.deflist.specs.Reading.{isListed, kindHere, SlashAt, Skips}
+use Rattle.deflist.specs.Limited.{mostParameters}
+use Rattle.deflist.specs.Reading.{isListed, kindHere, SlashAt, Exceeds, Skips}
 use Rattle.deflist.specs.declared.Written.{Written}
 use Rattle.deflist.specs.declared.Kind.{Kind}
 use Rattle.deflist.specs.declared.Kind.the-variants.{Normal, NoArgs, Slash, Args, KwArgs}
@@ -179,6 +180,57 @@ pub slash-at : {kids left : List ℕ} (w : Written) → Slashing kids left (w .0
     → SlashAt kids (AtWritten w)
 slash-at w s l-is l-yes k-is b-is b-yes =
     record { first = λ ns i. slash-here s l-is l-yes k-is b-is b-yes ns i }
+
+-- Counting: n parameters are read, whatever the names and the index
+pub record Counting (kids left : List ℕ) (n : ℕ) : Type 0 where
+  pub room : 24 * n + length left ≤ length kids
+  pub from : (ns : List ℕ) (i : ℕ) → ℕ
+  pub reads : (ns : List ℕ) (i : ℕ) → Reading ns (paramsIn ns (forest i kids)) n (from ns i) left
+
+pub count-start : (kids : List ℕ) → Counting kids kids 0
+count-start kids = record { room = omega arith; from = λ ns i. i; reads = λ ns i. read-start ns i kids }
+
+module _ {kids left : List ℕ} {n : ℕ} (s : Counting kids left n) {l : Bool} (l-is : l ≡ isListed left) where
+  pub count-on : l ≡ true → {e : ℕ} → e ≡ spanOf left → Counting kids (take (length left - e) (drop e left)) (n + 1)
+  count-on l-yes {e} e-is =
+      let yes : isListed left ≡ true = sym l-is ∙ l-yes in
+      record {
+        room = simp (length-take, length-drop) (omega (arith, s .room, listed-long left yes));
+        from = λ ns i. s .from ns i + e / 24;
+        reads = λ ns i. read-on (s .reads ns i) yes e-is;
+      }
+
+  pub count-all : l ≡ false → (ns : List ℕ) (i : ℕ) → n ≡ length (paramsIn ns (forest i kids))
+  count-all l-no ns i =
+      let none-left = read-end (s .reads ns i) (sym l-is ∙ l-no) in
+      omega (arith, s .reads ns i .upto, length-drop n (paramsIn ns (forest i kids)), ap length none-left)
+
+-- The same up to the limit: as long as the list goes on, one more than n stand in it
+pub record Limiting (kids left : List ℕ) (n : ℕ) : Type 0 where
+  pub counts : Counting kids left n
+  pub few : n ≤ mostParameters
+
+pub limit-start : (kids : List ℕ) → Limiting kids kids 0
+limit-start kids = record { counts = count-start kids; few = omega arith }
+
+module _ {kids left : List ℕ} {n : ℕ} (s : Limiting kids left n) {l : Bool} (l-is : l ≡ isListed left) where
+  pub limit-over : l ≡ true → mostParameters ≤ n → Exceeds kids true
+  limit-over l-yes full = record {
+    says = λ ns i.
+        let here = read-here (s .counts .reads ns i) (sym l-is ∙ l-yes) refl in
+        sym (lt-ltb mostParameters (length (paramsIn ns (forest i kids))) (omega (arith, full, here .within)));
+  }
+
+  pub limit-on : l ≡ true → n < mostParameters → {e : ℕ} → e ≡ spanOf left
+      → Limiting kids (take (length left - e) (drop e left)) (n + 1)
+  limit-on l-yes more e-is = record { counts = count-on (s .counts) l-is l-yes e-is; few = omega (arith, more) }
+
+  pub limit-end : l ≡ false → Exceeds kids false
+  limit-end l-no = record {
+    says = λ ns i.
+        sym (le-ltb mostParameters (length (paramsIn ns (forest i kids)))
+        (omega (arith, s .few, count-all (s .counts) l-is l-no ns i)));
+  }
 
 -- Stepping over n parameters: i are stepped over, and they take at bytes
 pub record Skipping (kids : List ℕ) (n at i : ℕ) : Type 0 where

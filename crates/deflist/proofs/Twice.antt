@@ -5,7 +5,7 @@
 use mathlib.Core.Path.{_≡_, refl, sym, ap, _∙_}
 use mathlib.Core.Bool.{Bool, true, false}
 use mathlib.Core.List.{List, [], _∷_, _++_, append-assoc, append-nil}
-use Prim.Native.Nat.{ℕ, _+_, _/_}
+use Prim.Native.Nat.{ℕ, _+_, _/_, _<_, _≤_}
 use native.Mathlib.Omega.{arith}
 use lib.ListN.{drop}
 use Rattle.fields.proofs.Basics.{never}
@@ -13,7 +13,8 @@ use Rattle.forest.specs.Forest.{Node, nodeOf, spanOf, kidsOf, restOf, forest}
 use Rattle.forest.specs.declared.Found.{Found}
 use Rattle.forest.specs.declared.Found.the-variants.{At, Nothing}
 use Rattle.fields.specs.Choice.{if'}
-use Rattle.table.specs.Numbers.{slashFirst, duplicatedParameter, normalAfterKwargs, starLast, noNormalAfterStar}
+use Rattle.table.specs.Numbers.{slashFirst, duplicatedParameter, normalAfterKwargs, noDefaultAfterDefault}
+use Rattle.table.specs.Numbers.{starAfterStar, multipleSlash, multipleKwargs, starLast, noNormalAfterStar}
 use Rattle.forest.proofs.Named.{same-bytes-refl, same-bytes-equal}
 use Rattle.forest.proofs.Stretch.{forest-induction, rest-part}
 use Rattle.forest.proofs.Firsts.{found-first, Fresh, only-one, Rising, rising-first, rising-lower, rising-before}
@@ -165,30 +166,38 @@ pub written-twice : (ns : List ℕ) (node : ℕ) (t : List ℕ) {i : ℕ} {r : N
 unfolding written
 written-twice ns node t h = again-twice ns (node + 1) (kidsOf t) (unpack-again _ h)
 
--- and no other rule gives 11
+-- and no other rule gives 11, or a number past 18
+record ListNumber (n : ℕ) : Type 0 where
+  other : n ≡ duplicatedParameter → ⊥
+  low : n ≤ noNormalAfterStar
+
+after-eleven : (n : ℕ) → duplicatedParameter < n → n ≤ noNormalAfterStar → ListNumber n
+after-eleven n h g = record { other = λ e. omega (arith, h, e); low = g }
+
 abbrev Other : Check → Type 0
 Other Fine = Unit {0}
-Other (Broken n) = n ≡ duplicatedParameter → ⊥
+Other (Broken n) = ListNumber n
 Other (Repeated i) = Unit {0}
 
-other-test : (b : Bool) {n : ℕ} → (n ≡ duplicatedParameter → ⊥) → Other (if' b (λ _. Broken n) (λ _. Fine))
-other-test true d = d
-other-test false d = tt
+other-test : (b : Bool) (n : ℕ) → duplicatedParameter < n → n ≤ noNormalAfterStar
+    → Other (if' b (λ _. Broken n) (λ _. Fine))
+other-test true n h g = after-eleven n h g
+other-test false n h g = tt
 
 other-normal : (a b o d : Bool)
     → Other (if' a (λ _. Broken normalAfterKwargs) (λ _. if' b (λ _. Fine) (λ _. defaultRule o d)))
-other-normal true b o d = λ e. omega (arith, e)
+other-normal true b o d = after-eleven normalAfterKwargs (omega arith) (omega arith)
 other-normal false true o d = tt
 other-normal false false true true = tt
-other-normal false false true false = λ e. omega (arith, e)
+other-normal false false true false = after-eleven noDefaultAfterDefault (omega arith) (omega arith)
 other-normal false false false d = tt
 
 other-rule : (s : State) (o : Bool) (k : Kind) → Other (rule s o k)
 other-rule s o (Normal d) = other-normal (seenStarStar s) (seenStar s) o d
-other-rule s o NoArgs = other-test (seenStar s) (λ e. omega (arith, e))
-other-rule s o Slash = other-test (seenSlash s) (λ e. omega (arith, e))
-other-rule s o Args = other-test (seenStar s) (λ e. omega (arith, e))
-other-rule s o KwArgs = other-test (seenStarStar s) (λ e. omega (arith, e))
+other-rule s o NoArgs = other-test (seenStar s) starAfterStar (omega arith) (omega arith)
+other-rule s o Slash = other-test (seenSlash s) multipleSlash (omega arith) (omega arith)
+other-rule s o Args = other-test (seenStar s) starAfterStar (omega arith) (omega arith)
+other-rule s o KwArgs = other-test (seenStarStar s) multipleKwargs (omega arith) (omega arith)
 
 other-check : (before : List Param) (s : State) (o : Bool) (p : Param) → Other (check before s o p)
 other-check before s o p = go (repeats before p)
@@ -198,18 +207,18 @@ other-check before s o p = go (repeats before p)
     go Nothing = other-rule s o (kindIn p)
 
 other-end : (w : List Param) (star : WrittenPlace) (c : Counts) {n : ℕ} {r : Node} → finish w star c ≡ refused n r
-    → n ≡ duplicatedParameter → ⊥
+    → ListNumber n
 unfolding finish
 other-end w NoWritten c h = never (cc)
 other-end w (AtWritten i) c {n} {r} h = go (drop (i .0) w) h
   where
-    seventeen : {m : Node} → refused starLast m ≡ refused n r → n ≡ duplicatedParameter → ⊥
-    seventeen h = let same : n ≡ starLast = cc in λ e. omega (arith, same, e)
+    seventeen : {m : Node} → refused starLast m ≡ refused n r → ListNumber n
+    seventeen h = let same : n ≡ starLast = cc in after-eleven n (omega (arith, same)) (omega (arith, same))
 
-    eighteen : {m : Node} → refused noNormalAfterStar m ≡ refused n r → n ≡ duplicatedParameter → ⊥
-    eighteen h = let same : n ≡ noNormalAfterStar = cc in λ e. omega (arith, same, e)
+    eighteen : {m : Node} → refused noNormalAfterStar m ≡ refused n r → ListNumber n
+    eighteen h = let same : n ≡ noNormalAfterStar = cc in after-eleven n (omega (arith, same)) (omega (arith, same))
 
-    go : (l : List Param) → fromStar l (accepted c) ≡ refused n r → n ≡ duplicatedParameter → ⊥
+    go : (l : List Param) → fromStar l (accepted c) ≡ refused n r → ListNumber n
     go [] h = never (cc)
     go (p ∷ []) h = seventeen h
     go (p ∷ normal s m d ∷ l) h = never (cc)
@@ -219,31 +228,36 @@ other-end w (AtWritten i) c {n} {r} h = go (drop (i .0) w) h
     go (p ∷ kwargs s m ∷ l) h = eighteen h
 
 run-other : (before : List Param) (u : Unpacking) (l : List Param) {n : ℕ} {r : Node} → Cleared u
-    → run before u l ≡ refused n r → n ≡ duplicatedParameter → ⊥
+    → run before u l ≡ refused n r → ListNumber n
 unfolding run
 run-other before u [] clear h = other-end before (u .«index_of_star») (u .counts) h
 run-other before u (p ∷ ps) {n} {r} clear h = go (check before (u .state) (u .«seen_optional») p) refl
     (other-check before (u .state) (u .«seen_optional») p) (λ v x. run-other (before ++ p ∷ []) v ps x)
   where
     go : (k : Check) → check before (u .state) (u .«seen_optional») p ≡ k → Other k
-        → ((v : Unpacking) → Cleared v → run (before ++ p ∷ []) v ps ≡ refused n r → n ≡ duplicatedParameter → ⊥)
-        → n ≡ duplicatedParameter → ⊥
+        → ((v : Unpacking) → Cleared v → run (before ++ p ∷ []) v ps ≡ refused n r → ListNumber n) → ListNumber n
     go Fine f d rest = rest _ (clear-on before u p ps clear f) (sym (run-on before u p ps clear f) ∙ h)
     go (Broken m) f d rest =
         let both : refused m (nodeIn p) ≡ refused n r = sym (run-stop before u p ps f) ∙ h in
-        let same : m ≡ n = cc in
-        λ e. d (same ∙ e)
+        let same : n ≡ m = cc in
+        rw same d
     go (Repeated j) f d rest = let both = sym (run-again before u p ps f) ∙ h in never (cc)
 
-pub refused-other : (l : List Param) {n : ℕ} {r : Node} → unpack l ≡ refused n r → n ≡ duplicatedParameter → ⊥
+list-number : (l : List Param) {n : ℕ} {r : Node} → unpack l ≡ refused n r → ListNumber n
 unfolding unpack
-refused-other [] h = run-other [] (start (flatAt 0)) [] (clear-start (flatAt 0)) h
-refused-other (p ∷ ps) {n} {r} h = go (isSlash (kindIn p)) refl
+list-number [] h = run-other [] (start (flatAt 0)) [] (clear-start (flatAt 0)) h
+list-number (p ∷ ps) {n} {r} h = go (isSlash (kindIn p)) refl
   where
-    go : (b : Bool) → isSlash (kindIn p) ≡ b → n ≡ duplicatedParameter → ⊥
+    go : (b : Bool) → isSlash (kindIn p) ≡ b → ListNumber n
     go true e =
         let ten : refused slashFirst (nodeIn p) ≡ refused n r = rw e at h in
         let same : n ≡ slashFirst = cc in
-        λ d. omega (arith, same, d)
+        record { other = λ d. omega (arith, same, d); low = omega (arith, same) }
     go false e = run-other [] (start (positionalOnly (firstSlash (p ∷ ps)))) (p ∷ ps)
         (clear-start (positionalOnly (firstSlash (p ∷ ps)))) (rw e at h)
+
+pub refused-other : (l : List Param) {n : ℕ} {r : Node} → unpack l ≡ refused n r → n ≡ duplicatedParameter → ⊥
+refused-other l h = list-number l h .other
+
+pub refused-low : (l : List Param) {n : ℕ} {r : Node} → unpack l ≡ refused n r → n ≤ noNormalAfterStar
+refused-low l h = list-number l h .low

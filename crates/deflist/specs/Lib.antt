@@ -1,5 +1,6 @@
 pub mod Written
 pub mod Unpack
+pub mod Limited
 pub mod Told
 pub mod Reading
 pub mod Reached

@@ -4,7 +4,7 @@ use mathlib.Core.Bool.{Bool, true, false, _&&_}
 use mathlib.Core.List.{List, [], _∷_, _++_}
 use Prim.Native.Nat.{ℕ, _+_, _/_, _<_, _≤_}
 use lib.ListN.{length, drop}
-use lib.Dec.{eqb, leb}
+use lib.Dec.{eqb, leb, ltb}
 use Rattle.forest.specs.Forest.{recordBytes, nodeOf, forest}
 use Rattle.forest.specs.Marks.{Known}
 use Rattle.forest.specs.declared.Found.{Found}
@@ -12,6 +12,7 @@ use Rattle.forest.specs.declared.Found.the-variants.{At, Nothing}
 use Rattle.soundness.specs.Kinds.{parameter, classOf}
 use Rattle.deflist.specs.Written.{Name, Param, kindAt, paramOf, paramsIn}
 use Rattle.deflist.specs.Unpack.{isSlash, firstSame, repeats, firstSlash, finish, Outcome}
+use Rattle.deflist.specs.Limited.{mostParameters}
 use Rattle.deflist.specs.Told.{told}
 use Rattle.deflist.specs.declared.Kind.{Kind}
 use Rattle.deflist.specs.declared.Kind.the-variants.{Normal, NoArgs, Slash, Args, KwArgs}
@@ -72,6 +73,10 @@ pub record Says (o : Outcome) (m : ℕ) (r : Judged) : Type 0 where
 -- the first `/` of a stretch, whatever the names and the index
 pub record SlashAt (kids : List ℕ) (s : WrittenPlace) : Type 0 where
   pub first : (names : List ℕ) (i : ℕ) → s ≡ firstSlash (paramsIn names (forest i kids))
+
+-- a stretch has more parameters than a list may have, whatever the names and the index
+pub record Exceeds (kids : List ℕ) (b : Bool) : Type 0 where
+  pub says : (names : List ℕ) (i : ℕ) → b ≡ ltb mostParameters (length (paramsIn names (forest i kids)))
 
 -- the first n parameters of a stretch take r bytes, whatever the names and the index
 pub record Skips (kids : List ℕ) (n r : ℕ) : Type 0 where

@@ -73,6 +73,10 @@ paramsIn names none = []
 paramsIn names (node r ks then ts) =
     if' (eqb (classOf (r .kind)) parameter) (λ _. paramOf names r ∷ paramsIn names ts) (λ _. [])
 
+-- a node's own record
+abbrev pub rootIn : Tree → Node
+rootIn (node r ks) = r
+
 -- the written list of a node: the parameters that come first among its children
 abbrev pub writtenIn : List ℕ → Tree → List Param
 writtenIn names (node r ks) = paramsIn names ks

@@ -14,14 +14,19 @@ use forest::Found;
 use forest::RECORD;
 use forest::marks;
 use table::Span;
+use table::numbers;
 ghost use mathlib.Core.Path.{_≡_};
 ghost use Prim.Native.Nat.{_+_, _/_};
 ghost use lib.ListN.{length};
-ghost use Rattle.forest.specs.Forest.{recordBytes, kidsOf};
+ghost use Rattle.forest.specs.Forest.{recordBytes, nodeOf, kidsOf};
 ghost use Rattle.deflist.specs.Written.{written};
 ghost use Rattle.deflist.specs.Unpack.{unpack};
+ghost use Rattle.deflist.specs.Limited.{limited};
 ghost use Rattle.deflist.specs.Told.{told};
 ghost use Rattle.deflist.specs.Reading.{Inside, Says};
+
+// A list has at most so many entries, marks counted.
+pub const MOST_PARAMETERS: usize = 48;
 
 // Where unpack stands in the list, in this order.
 pub enum State {
@@ -112,32 +117,30 @@ pub fn children(t: &[u8]) -> &[u8]
     &t[RECORD..e]
 }
 
-// DefParams::unpack of the written list of a node, whose stretch is lent: what is counted, or the first refusal.
+// The written list of a node, whose stretch is lent: 19 at that node if it has more than MOST_PARAMETERS entries, else
+// what DefParams::unpack counts, or its first refusal.
 pub fn judge(names: &[u8], t: &[u8], node: u32) -> Judged
-    ensures { λ r. ⌜ r ≡ told (unpack (written (now (names .entry)) node (now (t .entry)))) ⌝ }
+    ensures { λ r. ⌜ r ≡
+        told (limited (nodeOf node (now (t .entry))) (written (now (names .entry)) node (now (t .entry)))) ⌝ }
     ensures { λ r. ⌜ Inside (node + 1 + length (now (t .entry)) / recordBytes) r ⌝ }
 {
-    let n = forest::span(t);
-    if marks::LONG <= n {
-        return with_many(names, t, node);
+    if list::is_long(children(t)) {
+        return Judged::Refused(walk::fault(
+            numbers::TOO_MANY_PARAMETERS,
+            node as usize,
+            t,
+            Found::Nothing,
+        ));
     }
-    if marks::SHORT <= n {
-        return with_some(names, t, node);
+    if marks::SHORT <= forest::span(t) {
+        return with_marks(names, t, node);
     }
     let mut none = [0u8; 1];
     walk::judge(names, t, node, &mut none[0..0])
 }
 
-// With marks for many parameters, and for some.
-fn with_many(names: &[u8], t: &[u8], node: u32) -> Judged
-    ensures { λ r. ⌜ Says (unpack (written (now (names .entry)) node (now (t .entry))))
-        (node + 1 + length (now (t .entry)) / recordBytes) r ⌝ }
-{
-    let mut noted = [0u8; marks::MANY];
-    walk::judge(names, t, node, &mut noted)
-}
-
-fn with_some(names: &[u8], t: &[u8], node: u32) -> Judged
+// With marks of the names: a list has so few that some are enough.
+fn with_marks(names: &[u8], t: &[u8], node: u32) -> Judged
     ensures { λ r. ⌜ Says (unpack (written (now (names .entry)) node (now (t .entry))))
         (node + 1 + length (now (t .entry)) / recordBytes) r ⌝ }
 {

@@ -1,12 +1,13 @@
 // The written list, read from the children of a def or lambda: each next parameter is found by stepping over the one
 // before it.
+use crate::MOST_PARAMETERS;
 use crate::Written;
 use crate::WrittenPlace;
 use crate::entry;
 ghost use mathlib.Core.Path.{_≡_};
 ghost use Prim.Native.Nat.{_+_, _<_, _^_};
 ghost use Rattle.deflist.specs.Unpack.{writtenAt};
-ghost use Rattle.deflist.specs.Reading.{SlashAt, Skips};
+ghost use Rattle.deflist.specs.Reading.{SlashAt, Exceeds, Skips};
 
 // The next position in the written list.
 pub(crate) fn next(n: Written) -> Written
@@ -31,6 +32,24 @@ pub(crate) fn first_slash(kids: &[u8]) -> WrittenPlace
         i = next(i);
     }
     WrittenPlace::NoWritten
+}
+
+// Whether a list has more than MOST_PARAMETERS entries, marks counted. The entries after the first one too many are
+// not read.
+pub(crate) fn is_long(kids: &[u8]) -> bool
+    ensures { λ r. ⌜ Exceeds (now (kids .entry)) r ⌝ }
+{
+    let mut left = kids;
+    let mut n = 0;
+    while entry::listed(left) {
+        if MOST_PARAMETERS <= n {
+            return true;
+        }
+        let e = forest::span(left);
+        left = &left[e..];
+        n += 1;
+    }
+    false
 }
 
 // How many bytes the first n parameters take.

@@ -55,7 +55,7 @@ fn earlier(names: &[u8], name: &[u8], kids: &[u8], first: usize, n: Written) -> 
 }
 
 // A refusal at the record that a stretch begins with, and the node of an earlier one.
-fn fault(number: u32, node: usize, t: &[u8], earlier: Found) -> Fault
+pub(crate) fn fault(number: u32, node: usize, t: &[u8], earlier: Found) -> Fault
     ensures { λ r. ⌜ r ≡ faultOf number (nodeOf node (now (t .entry))) earlier ⌝ }
 {
     Fault {

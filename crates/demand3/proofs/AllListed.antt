@@ -5,14 +5,12 @@ use mathlib.Core.Bool.{Bool, true, false}
 use mathlib.Core.Logic.{_⊎_, inl, inr}
 use mathlib.Core.List.{List, [], _∷_, _++_, map}
 use Prim.Native.Nat.{ℕ, zero, suc, _+_, _-_, _*_, _/_, _<_}
-use native.Mathlib.Omega.{arith}
 use lib.ListN.{length, drop, replicate}
 use lib.Dec.{eqb}
 use borrow.Author.Tests.{eq-eqb}
 use Rattle.fields.proofs.Basics.{never}
 use Rattle.fields.specs.Choice.{if'}
-use Rattle.forest.specs.Forest.{Node, sizeOf, nodeOf, kidsOf, node, Forest, none, _then_, forest}
-use Rattle.forest.proofs.Stretch.{node-take}
+use Rattle.forest.specs.Forest.{Node, nodeOf, kidsOf, node, Forest, none, _then_, forest}
 use Rattle.soundness.specs.KindNumbers.{kindDef, kindLambda}
 use Rattle.soundness.specs.Kinds.{statement, expression, parameter, ifDetail, kindIn, kindOf, classOf}
 use Rattle.soundness.specs.Sound.{classes, wanted, contextOf}
@@ -20,12 +18,12 @@ use Rattle.soundness.proofs.SoundTables.{node-classes, sound-first}
 use Rattle.table.specs.Answer.{accepted}
 use Rattle.table.specs.Check.{checkOf, stretchOf}
 use Rattle.table.specs.declared.Wanted.the-variants.{Parameters}
-use Rattle.table.proofs.Checking.{Clean, accepted-clean, stretch-is, stretch-sound, stretch-size}
+use Rattle.table.proofs.Checking.{Clean, accepted-clean, stretch-sound}
 use Rattle.table.proofs.Handed.{stretch-within}
 use Rattle.deflist.specs.Written.{Param, paramOf, paramsIn, written}
 use Rattle.parameters.specs.Params.{listOf}
 use Rattle.demand3.specs.Given.{parametersIn, allParameters}
-use Rattle.demand3.proofs.OverTheJob.{list-fits}
+use Rattle.demand3.proofs.OverTheJob.{list-fits, record-kept}
 
 -- classes among which no parameter is
 abbrev NoParameter : List ℕ → Type 0
@@ -66,11 +64,7 @@ module _ (t names : List ℕ) (i : ℕ) (sound : checkOf t names ≡ accepted []
   kids = forest (i + 1) (kidsOf (stretchOf t i))
 
   kind-kept : nodeOf i (stretchOf t i) .kind ≡ nodeOf i (drop (24 * i) t) .kind
-  kind-kept =
-      let size = stretch-size clean i within in
-      let kept = ap (λ (n : Node). n .kind)
-      (node-take i (24 * sizeOf (drop (24 * i) t)) (drop (24 * i) t) (omega arith)) in
-      rw (stretch-is clean i within) kept
+  kind-kept = ap (λ (n : Node). n .kind) (record-kept t names i sound within)
 
   -- the classes of its children are those that its row wants of so many
   here-classes : classes kids

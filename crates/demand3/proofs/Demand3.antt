@@ -1,7 +1,7 @@
 -- DEMAND 3, in the user's words:
 --
 -- In a sound table, with a long enough mode buffer, the parameter list of a def or lambda is accepted exactly when it
--- can be cut, in written order, into:
+-- has at most 48 written entries (document 02, W-211) and can be cut, in written order, into:
 -- nothing, or one or more ordinary parameters and `/`; ordinary parameters; nothing, or `*` with at least one ordinary
 -- parameter, or `*args` with any number;
 -- nothing or `**kwargs`; all names distinct; and in the first two parts none without default after one with. The cut is
@@ -13,16 +13,19 @@
 -- specs/Given.antt says what is given, specs/Cut.antt what a cut is and what is asked of it; neither speaks of unpack.
 -- The job `parameters::params` promises to answer `paramsOf` and to leave `modesAfter` in the lent buffer, so each
 -- theorem is about its answer and the buffer at exit. Assumes nothing.
-use mathlib.Core.Path.{_≡_, sym, _∙_}
+use mathlib.Core.Path.{_≡_, sym, ap, _∙_}
 use mathlib.Core.Logic.{_⊎_, _↔_}
 use mathlib.Core.List.{List, []}
 use Prim.Native.Nat.{ℕ, _*_, _/_, _<_, _≤_}
+use native.Mathlib.Omega.{arith}
 use lib.ListN.{length, getD, drop}
 use Rattle.forest.specs.Forest.{recordBytes, nodeOf}
 use Rattle.soundness.specs.KindNumbers.{kindDef, kindLambda}
-use Rattle.table.specs.Answer.{accepted}
+use Rattle.table.specs.Numbers.{tooManyParameters}
+use Rattle.table.specs.Answer.{accepted, refusedAt}
 use Rattle.table.specs.Check.{checkOf}
 use Rattle.deflist.specs.Written.{Param}
+use Rattle.deflist.specs.Limited.{mostParameters}
 use Rattle.parameters.specs.declared.Counted.{Counted}
 use Rattle.parameters.specs.Params.{unpacked, listOf, paramsOf, modesAfter}
 use Rattle.parameters.specs.declared.Unpacked.{Unpacked}
@@ -30,6 +33,7 @@ use Rattle.parameters.specs.declared.Unpacked.the-variants.{Accepted}
 use Rattle.demand3.specs.Cut.{Cut, join, partsOf, flatList, cutRanges, cutFlat, holders, cutValues}
 use Rattle.demand3.specs.Cut.{ByRange, Follow, CutBy}
 use Rattle.demand3.specs.Given.{allParameters, Given, CutOf, RangesAre}
+use Rattle.parameters.proofs.Long.{nineteen-long}
 use Rattle.demand3.proofs.Cuts.{join-injective}
 use Rattle.demand3.proofs.AllListed.{all-listed}
 use Rattle.demand3.proofs.Ranges as ranges
@@ -62,31 +66,52 @@ ranges-cut-the-flat-list l c joins = rw (← joins) (ranges.cut-parts c)
 
 -- "In a sound table, with a long enough mode buffer, the parameter list of a def or lambda"
 module _ (t names : List ℕ) (node : ℕ) (ms : List ℕ) (given : Given t names node ms) where
-  -- "is accepted exactly when it can be cut"
+  -- its length, all its parameters counted, is that of the list that the job reads
+  length-is : length (listOf t names node) ≡ length (allParameters t names node)
+  length-is = ap length (all-listed t names node (given .sound) (given .within) (given .defOrLambda))
+
+  -- "is accepted exactly when it has at most 48 written entries and can be cut"
   pub accepted-iff-cut : ((vs : List ℕ) × (paramsOf t names node (length ms) ≡ accepted vs))
-      ↔ ((c : Cut) × CutOf (listOf t names node) c)
+      ↔ ((length (allParameters t names node) ≤ mostParameters) × ((c : Cut) × CutOf (listOf t names node) c))
   accepted-iff-cut = (
-    λ x. job.has-cut t names node ms given (x .1),
-    λ x. (cutValues (x .0), job.cut-answer t names node ms given (x .0) (x .1)),
+    λ x. let y = job.has-cut t names node ms given (x .1) in (omega (arith, length-is, y .0), y .1),
+    λ x. (
+      cutValues (x .1 .0),
+      job.cut-answer t names node ms given (omega (arith, length-is, x .0)) (x .1 .0) (x .1 .1),
+    ),
   )
 
-  -- where c is the cut of the list
-  module _ (c : Cut) (cut : CutOf (listOf t names node) c) where
+  -- W-211: the answer is 19 at the def or lambda exactly when the list has more than 48 written entries, whatever else
+  -- is wrong with it
+  pub nineteen-iff-long : (paramsOf t names node (length ms)
+      ≡ refusedAt tooManyParameters (nodeOf node (drop (recordBytes * node) t)))
+      ↔ (mostParameters < length (allParameters t names node))
+  nineteen-iff-long = (
+    λ e. omega (arith, length-is, nineteen-long t names node (length ms) e),
+    λ long. job.long-answer t names node ms given (omega (arith, length-is, long)),
+  )
+
+  -- where the list has at most 48 entries and c is its cut
+  module _ (short : length (allParameters t names node) ≤ mostParameters) (c : Cut)
+      (cut : CutOf (listOf t names node) c) where
+    few : length (listOf t names node) ≤ mostParameters
+    few = omega (arith, length-is, short)
+
     -- "The five index ranges are then the cut's": the values of the answer, and the ranges of what code answers
     pub ranges-are-the-cuts : paramsOf t names node (length ms) ≡ accepted (cutValues c)
-    ranges-are-the-cuts = job.cut-answer t names node ms given c cut
+    ranges-are-the-cuts = job.cut-answer t names node ms given few c cut
 
     pub answer-has-the-ranges : (r : Unpacked) → unpacked r ≡ paramsOf t names node (length ms)
         → (a : Counted) × (r ≡ Accepted a) × RangesAre a (cutRanges c)
-    answer-has-the-ranges = job.answer-is t names node ms given c cut
+    answer-has-the-ranges = job.answer-is t names node ms given few c cut
 
     -- "and each flat parameter's mode is written and is its range's": in the lent buffer afterwards
     pub modes-are-the-ranges : ByRange (cutRanges c) (modesAfter t names node ms)
-    modes-are-the-ranges = job.modes-there t names node ms given c cut
+    modes-are-the-ranges = job.modes-there t names node ms given few c cut
 
     -- every other byte is as it was
     pub other-bytes-stay : (i : ℕ) → cutFlat c ≤ i → getD (modesAfter t names node ms) i 0 ≡ getD ms i 0
-    other-bytes-stay = job.others-stay t names node ms given c cut
+    other-bytes-stay = job.others-stay t names node ms given few c cut
 
     pub buffer-as-long : length (modesAfter t names node ms) ≡ length ms
-    buffer-as-long = job.as-long t names node ms given c cut
+    buffer-as-long = job.as-long t names node ms given few c cut

@@ -4,6 +4,7 @@
 use mathlib.Core.Path.{_≡_, refl}
 use mathlib.Core.Logic.{inl}
 use mathlib.Core.List.{[], _∷_, _++_}
+use Prim.Native.Nat.{_≤_}
 use native.Mathlib.Omega.{arith}
 use lib.ListN.{length}
 use Rattle.fields.specs.Field.{field}
@@ -20,9 +21,10 @@ use Rattle.table.specs.Depth.{classWeight, weight, firstDeep, deepIn}
 use Rattle.deflist.specs.Written.{kindAt, paramOf, paramsIn, written}
 use Rattle.deflist.specs.Unpack.{hasName, firstSame, repeats, slashFrom, modesFrom, modes}
 use Rattle.deflist.specs.Unpack.{modePosOnly, modePosOrName, modeNameOnly, modeArgs, modeKwargs}
+use Rattle.deflist.specs.Limited.{mostParameters}
 use Rattle.parameters.specs.Params.{listOf, paramsOf, modesAfter}
 use Rattle.demand3.specs.Cut.{join, firsts, Good}
-use Rattle.demand3.specs.Given.{Given, CutOf}
+use Rattle.demand3.specs.Given.{parametersIn, allParameters, Given, CutOf}
 use Rattle.demand3.specs.Example.{table, names, buffer, cut}
 use Rattle.demand3.proofs.Names.{fresh-iff, defaults-iff}
 use Rattle.demand3.proofs.Demand3.{ranges-are-the-cuts}
@@ -56,13 +58,18 @@ good = record {
   defaulted = defaults-iff (firsts (cut .before) ++ cut .middle) .0 (refl, (refl, tt));
 }
 
+-- and it is within the limit
+pub short : length (allParameters table names 0) ≤ mostParameters
+unfolding parametersIn paramOf kindAt stretchOf field sizeOf kidsOf restOf forestIn forest kindIn kindOf nameOf
+short = omega arith
+
 pub isCut : CutOf (listOf table names 0) cut
 isCut = record { joins = joins; good = good }
 
 -- so the job accepts it, with the five ranges [0, 1), [1, 2), [2, 3), [3, 4), [4, 5), and the flat count 5
 pub answer : paramsOf table names 0 (length buffer)
     ≡ accepted (0 ∷ 1 ∷ 1 ∷ 2 ∷ 2 ∷ 3 ∷ 3 ∷ 4 ∷ 4 ∷ 5 ∷ 5 ∷ [])
-answer = ranges-are-the-cuts table names 0 buffer given cut isCut
+answer = ranges-are-the-cuts table names 0 buffer given short cut isCut
 
 -- and the buffer then holds the five modes, and three bytes as they were
 pub filled : modesAfter table names 0 buffer

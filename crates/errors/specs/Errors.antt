@@ -9,7 +9,7 @@ use lib.ListN.{length, drop}
 use Rattle.fields.specs.Choice.{if'}
 use Rattle.forest.specs.Forest.{Node}
 use Rattle.table.specs.Answer.{spanAt}
-use Rattle.table.specs.Numbers.{slashFirst, noNormalAfterStar}
+use Rattle.table.specs.Numbers.{slashFirst, tooManyParameters}
 use Rattle.table.specs.declared.Span.{Span}
 use Rattle.errors.specs.declared.Err.{Err}
 use Rattle.errors.specs.declared.Listing.{Listing}
@@ -35,9 +35,9 @@ unlessIn false e = e ∷ []
 abbrev pub unless : Bool → ℕ → Node → List Err
 unless permitted n r = unlessIn permitted (errAt n r)
 
--- the numbers of parameter lists, 10 to 18
+-- the numbers of parameter lists, 10 to 19
 abbrev pub isListError : ℕ → Bool
-isListError n = leb slashFirst n && leb n noNormalAfterStar
+isListError n = leb slashFirst n && leb n tooManyParameters
 
 -- all errors but those of parameter lists
 unfoldable pub withoutLists : List Err → List Err

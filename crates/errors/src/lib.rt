@@ -25,7 +25,7 @@ pub struct Err {
 // The form of a list of errors.
 pub enum Listing {
     Module, // the module pass's: WIDTH words an error
-    Own, // the module pass's in the audit: with the node, and the errors of parameter lists, 10 to 18, are left out
+    Own, // the module pass's in the audit: with the node, and the errors of parameter lists, 10 to 19, are left out
     Audit, // the audit's: with the node
 }
 
@@ -83,7 +83,7 @@ fn push_own(e: Err, errors: &mut [u32]) -> usize
 fn is_list_error(number: u32) -> bool
     ensures { λ r. ⌜ r ≡ isListError number ⌝ }
 {
-    (numbers::SLASH_FIRST <= number) & (number <= numbers::NO_NORMAL_AFTER_STAR)
+    (numbers::SLASH_FIRST <= number) & (number <= numbers::TOO_MANY_PARAMETERS)
 }
 
 // The error of a number at the record that a stretch begins with; at is its index.

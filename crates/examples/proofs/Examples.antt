@@ -2,8 +2,10 @@
 use mathlib.Core.Path.{_≡_, refl}
 use mathlib.Core.List.{map}
 use lib.ListN.{length}
+use Rattle.forest.specs.Forest.{Node}
 use Rattle.forest.specs.Names.{nameOf, same}
 use Rattle.deflist.specs.Unpack.{hasName, firstSame, repeats, advance, step, finish, run, slashFrom, start, unpack}
+use Rattle.deflist.specs.Limited.{limited}
 use Rattle.parameters.specs.Indices.{countedOf}
 use Rattle.arguments.specs.Call.{repeats as callRepeats, check, advance as callAdvance, run as callRun}
 use Rattle.arguments.specs.Call.{unpack as callUnpack}
@@ -12,12 +14,12 @@ use Rattle.types.specs.Paths.{objectPath, «unpack_path»}
 use Rattle.types.specs.Types.{indexBase, index2Base, listLength, atNode, «unpack» as typeUnpack}
 use Rattle.examples.specs.Table.{Row, answer, table}
 
--- THEOREM: every row of the table is what the definitions answer
-pub examples : map (λ (r : Row). answer (r .asked)) table ≡ map (λ (r : Row). r .shown) table
+-- THEOREM: every row of the table is what the definitions answer, whatever the record of the def
+pub examples : (def : Node) → map (λ (r : Row). answer def (r .asked)) table ≡ map (λ (r : Row). r .shown) table
 unfolding nameOf same hasName firstSame repeats advance step finish run slashFrom start unpack countedOf callRepeats
     check callAdvance callRun callUnpack formOf objectPath «unpack_path» indexBase index2Base listLength atNode
-    typeUnpack
-examples = refl
+    typeUnpack limited
+examples def = refl
 
 -- THEOREM: the number of rows
 pub how-many : length table ≡ 14

@@ -10,6 +10,7 @@ use Rattle.table.specs.Numbers.{duplicatedParameter}
 use Rattle.table.specs.Answer.{Answer, accepted, refused}
 use Rattle.deflist.specs.Written.{Param, normal, noArgs, slash, args, kwargs}
 use Rattle.deflist.specs.Unpack as def
+use Rattle.deflist.specs.Limited.{limited}
 use Rattle.deflist.specs.Told.{internalError}
 use Rattle.parameters.specs.Indices.{range, namedOnly, countedOf}
 use Rattle.parameters.specs.declared.Counted.{Counted}
@@ -132,11 +133,11 @@ abbrev pub ofAnswer : Answer → Shown
 ofAnswer (accepted vs) = fine
 ofAnswer (refused n vs) = number n
 
--- what the definitions answer
-abbrev pub answer : Asked → Shown
-answer (parameters l) = ofOutcome (def.unpack l)
-answer (arguments l) = ofAnswer (outcomeAnswer (call.unpack l))
-answer (aType t) = ofAnswer («unpack» names t)
+-- what the definitions answer, where this is the record of the def that has the parameters
+abbrev pub answer : Node → Asked → Shown
+answer owner (parameters l) = ofOutcome (limited owner l)
+answer owner (arguments l) = ofAnswer (outcomeAnswer (call.unpack l))
+answer owner (aType t) = ofAnswer («unpack» names t)
 
 pub record Row : Type 0 where
   pub asked : Asked

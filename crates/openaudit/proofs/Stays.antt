@@ -1,4 +1,4 @@
--- What an opening does to the two parts of the audit's list. The first part is the module pass's without 10 to 18:
+-- What an opening does to the two parts of the audit's list. The first part is the module pass's without 10 to 19:
 -- taking out the opened numbers and leaving out those of lists can be done in either order (`own-swaps`). The second
 -- part is what the other jobs refuse: all its numbers lie below 50, so nothing is taken out (`refusals-stay`), and it
 -- reads of the dialect only whether it has types (`refusals-same`). The induction is on the list of errors, or of
@@ -15,7 +15,7 @@ use Rattle.forest.specs.Forest.{Tree, node}
 use Rattle.table.specs.Answer.{Answer, accepted, refused}
 use Rattle.table.specs.Check.{wants}
 use Rattle.table.specs.declared.Wanted.the-variants.{Parameters, Call, Assignment}
-use Rattle.deflist.specs.Written.{writtenIn}
+use Rattle.deflist.specs.Written.{rootIn, writtenIn}
 use Rattle.arguments.specs.Job.{callAnswer}
 use Rattle.targets.specs.Targets.{counted, «check_assignment»}
 use Rattle.types.specs.Types.{«dialect_check_type»}
@@ -23,7 +23,7 @@ use Rattle.errors.specs.declared.Err.{Err}
 use Rattle.errors.specs.declared.Listing.the-variants.{Own}
 use Rattle.errors.specs.Errors.{isListError, withoutLists, kept}
 use Rattle.opening.specs.Opening.{opened, without}
-use Rattle.opening.proofs.Filters.{without-append, without-one, small-stays, unpack-stays}
+use Rattle.opening.proofs.Filters.{without-append, without-one, small-stays, list-error-stays}
 use Rattle.audit.specs.declared.Role.{Role}
 use Rattle.audit.specs.declared.Role.the-variants.{AsTarget, AsType, Plain}
 use Rattle.audit.specs.Roles.{Placed, kindIn}
@@ -70,7 +70,7 @@ module _ (d e : Dialect) where
   stay-kind : (names : List ℕ) (t : Tree) → Stay (kindErrors names t)
   unfolding kindErrors
   stay-kind names t =
-      stay-if (wants Parameters (kindIn t)) _ _ (unpack-stays d e (writtenIn names t))
+      stay-if (wants Parameters (kindIn t)) _ _ (list-error-stays d e (rootIn t) (writtenIn names t))
       (stay-if (wants Call (kindIn t)) _ _ (stay-answer (callAnswer names t) (call-small names t))
       (stay-if (wants Assignment (kindIn t)) _ _ (stay-answer («check_assignment» t) (assignment-small t)) stay-none))
 

@@ -36,7 +36,8 @@ use Rattle.audit.specs.declared.Roles.the-variants.{Nowhere}
 use Rattle.audit.specs.Roles.{Placed, placed}
 use Rattle.audit.specs.Refusals.{refusals}
 use Rattle.audit.specs.Job.{auditErrors, auditIn, allErrors, auditOf}
-use Rattle.audited.specs.Said.{isAccepted, rootIn, Accepts}
+use Rattle.deflist.specs.Written.{rootIn}
+use Rattle.audited.specs.Said.{isAccepted, Accepts}
 use Rattle.audited.proofs.Everywhere.{all-map}
 use Rattle.audited.proofs.Audited.{zero-passes, passes-zero}
 use Rattle.openaudit.proofs.Stays.{own-swaps, refusals-stay, refusals-same}

@@ -1,8 +1,8 @@
 -- What taking errors out does to the lists that the module pass is made of: to two lists joined, to a list of one
--- number, to the one error of unpack. A list of one number goes whole or stays whole (`without-one`, `without-every`).
--- Unpack's error always stays: validate's `unpack-left` says that it is one of a parameter list, and those numbers lie
--- below 50 (`list-stays`), while the opened ones are 50 and more. Induction on the list of errors, or of parameters.
--- Assumes nothing.
+-- number, to the one error of a list. A list of one number goes whole or stays whole (`without-one`, `without-every`).
+-- The error of a list always stays: validate's `list-left` says that its number is one of parameter lists, and those
+-- lie below 50 (`list-stays`), while the opened ones are 50 and more. Induction on the list of errors, or of
+-- parameters. Assumes nothing.
 use mathlib.Core.Path.{_≡_, refl, ap, _∙_}
 use mathlib.Core.Bool.{Bool, true, false, not}
 use mathlib.Core.List.{List, [], _∷_, _++_}
@@ -16,7 +16,7 @@ use Rattle.fields.proofs.Basics.{never, and-right}
 use Rattle.dialect.specs.declared.Dialect.{Dialect}
 use Rattle.forest.specs.Forest.{Node}
 use Rattle.deflist.specs.Written.{Param, nodeIn, kindIn}
-use Rattle.deflist.specs.Unpack.{unpack}
+use Rattle.deflist.specs.Limited.{limited}
 use Rattle.deflist.specs.Told.{told}
 use Rattle.deflist.specs.declared.Judged.{Judged}
 use Rattle.deflist.specs.declared.Judged.the-variants.{Accepted, Refused}
@@ -25,7 +25,7 @@ use Rattle.errors.specs.declared.Listing.the-variants.{Own}
 use Rattle.errors.specs.Errors.{errAt, unless, isListError, withoutLists, kept}
 use Rattle.validate.specs.Params.{isMark, notPermitted, everyMark, unpackError}
 use Rattle.validate.specs.declared.Mark.{Mark}
-use Rattle.validate.proofs.Refusals.{unpack-left}
+use Rattle.validate.proofs.Refusals.{list-left}
 use Rattle.opening.specs.Opening.{opened, without}
 
 -- errors, and none where something holds
@@ -113,11 +113,11 @@ small-stays d e n h = rw (
 pub list-stays : (d e : Dialect) (n : ℕ) → isListError n ≡ true → opened d e n ≡ false
 list-stays d e n h = small-stays d e n (omega (arith, leb-true n _ (and-right (leb _ n) (leb n _) h)))
 
--- LAW: so unpack's error stays
-pub unpack-stays : (d e : Dialect) (ps : List Param)
-    → without (opened d e) (unpackError (told (unpack ps))) ≡ unpackError (told (unpack ps))
+-- LAW: so the error of a list stays
+pub list-error-stays : (d e : Dialect) (owner : Node) (ps : List Param)
+    → without (opened d e) (unpackError (told (limited owner ps))) ≡ unpackError (told (limited owner ps))
 unfolding without withoutLists
-unpack-stays d e ps = go (told (unpack ps)) (unpack-left ps)
+list-error-stays d e owner ps = go (told (limited owner ps)) (list-left owner ps)
   where
     go : (j : Judged) → kept Own (unpackError j) ≡ [] → without (opened d e) (unpackError j) ≡ unpackError j
     go (Accepted c) none = refl

@@ -30,13 +30,13 @@ use Rattle.validate.specs.declared.Mark.the-variants.{Star, Slash}
 use Rattle.validate.specs.declared.Standing.{Standing}
 use Rattle.validate.specs.declared.Arm.{Arm}
 use Rattle.opening.specs.Opening.{atLeast, newly, opened}
-use Rattle.opening.proofs.Filters.{without-every, unpack-stays}
+use Rattle.opening.proofs.Filters.{without-every, list-error-stays}
 use Rattle.opening.proofs.Opens.{Opens, opens-none, opens-both, opens-if, opens-same, opens-one}
 use Rattle.opening.proofs.Opens.{opens-switch, opens-unless}
 use Rattle.opening.proofs.Fields.{Permits}
 
 module _ {d e : Dialect} (all : Permits d e) (names : List ℕ) where
-  -- a parameter list: the marks of each sort, and unpack's error
+  -- a parameter list: the marks of each sort, and its one error
   mark-switch : (m : Mark) → atLeast (permits d m) (permits e m) ≡ true
   mark-switch Star = all .keywordOnly
   mark-switch Slash = all .positionalOnly
@@ -57,7 +57,7 @@ module _ {d e : Dialect} (all : Permits d e) (names : List ℕ) where
   opens-with b c n r ks least is =
       let ps : List Param = paramsIn names ks in
       opens-both (opens-unless b c n r least is)
-      (opens-both (opens-both (opens-marks Star ps) (opens-marks Slash ps)) (opens-same (unpack-stays d e ps)))
+      (opens-both (opens-both (opens-marks Star ps) (opens-marks Slash ps)) (opens-same (list-error-stays d e r ps)))
 
   -- a def, a load, an expression: what each is told by itself
   opens-def : (r : Node) (ks : Forest) → Opens d e (withParams d names (d .«enable_def») defNotPermitted r ks)

@@ -1,5 +1,5 @@
 -- What an accepted answer of the job says, and that its numbers are small. Assumes nothing.
-use mathlib.Core.Path.{_≡_, refl}
+use mathlib.Core.Path.{_≡_, refl, _∙_}
 use mathlib.Core.Bool.{true}
 use mathlib.Core.List.{List, [], _∷_}
 use Prim.Native.Nat.{ℕ, _+_, _<_, _≤_}
@@ -7,6 +7,7 @@ use native.Mathlib.Omega.{arith}
 use lib.ListN.{length}
 use borrow.Author.Tests.{le-leb, leb-true}
 use Rattle.table.proofs.Answers.{never-passed, passed-both, test-passed}
+use Rattle.forest.specs.Forest.{nodeOf}
 use Rattle.table.specs.Answer.{accepted, refused}
 use Rattle.table.specs.Check.{checkOf, nodeFits, stretchOf, entryCheck, onNode}
 use Rattle.table.specs.declared.Wanted.the-variants.{Parameters}
@@ -15,6 +16,7 @@ use Rattle.table.proofs.Handed.{stretch-within}
 use Rattle.table.proofs.Entering.{entry-sound, sound-entry}
 use Rattle.deflist.specs.Written.{written}
 use Rattle.deflist.specs.Unpack as def
+use Rattle.deflist.specs.Limited.{mostParameters, limited}
 use Rattle.parameters.specs.Indices.{placeRange, placeOf, valuesOf, countedOf}
 use Rattle.deflist.specs.Reading.{PlaceBelow, Bounded}
 use Rattle.deflist.specs.declared.FlatPlace.{FlatPlace}
@@ -22,15 +24,17 @@ use Rattle.deflist.specs.declared.FlatPlace.the-variants.{AtFlat, NoFlat}
 use Rattle.deflist.specs.declared.Counts.{Counts}
 use Rattle.deflist.specs.Reached.{reached, AllAtMost}
 use Rattle.deflist.proofs.Theorems.{accepted-bounded, written-short}
+use Rattle.deflist.proofs.Limited.{limited-short, limited-accepted}
 use Rattle.deflist.proofs.Counted.{counted-at-most, at-most-wider}
 use Rattle.parameters.specs.Params.{AllBelow, answerOf, roomCheck, listAnswer, listOf, paramsOf}
 
--- an accepted answer: the table is sound, the node fits, the buffer is long enough, and unpack accepts the list with
--- these values
+-- an accepted answer: the table is sound, the node fits, the buffer is long enough, the list is within the limit, and
+-- unpack accepts it with these values
 pub record Passed (t ns : List ℕ) (node room : ℕ) (vs : List ℕ) : Type 0 where
   pub sound : checkOf t ns ≡ accepted []
   pub fits : nodeFits t node Parameters ≡ true
   pub enough : length (listOf t ns node) ≤ room
+  pub few : length (listOf t ns node) ≤ mostParameters
   pub counts : Counts
   pub outcome : def.unpack (listOf t ns node) ≡ def.accepted counts
   pub values : vs ≡ valuesOf (countedOf counts)
@@ -38,13 +42,13 @@ pub record Passed (t ns : List ℕ) (node room : ℕ) (vs : List ℕ) : Type 0 w
 -- LAW: and such an answer is accepted
 pub passed-accepted : (t ns : List ℕ) (node room : ℕ) {c : Counts} → checkOf t ns ≡ accepted []
     → nodeFits t node Parameters ≡ true → length (listOf t ns node) ≤ room
-    → def.unpack (listOf t ns node) ≡ def.accepted c
+    → length (listOf t ns node) ≤ mostParameters → def.unpack (listOf t ns node) ≡ def.accepted c
     → paramsOf t ns node room ≡ accepted (valuesOf (countedOf c))
 unfolding paramsOf onNode listAnswer listOf written
-passed-accepted t ns node room sound fits enough outcome = rw (
+passed-accepted t ns node room sound fits enough few outcome = rw (
   sound-entry Parameters t ns node sound fits,
   le-leb (length (listOf t ns node)) room enough,
-  outcome,
+  limited-short (nodeOf node (stretchOf t node)) (listOf t ns node) few ∙ outcome,
 ) refl
 
 -- LAW: an accepted answer has passed every check
@@ -55,17 +59,19 @@ accepted-passed t ns node room {vs} e =
     let entered = passed-both (entryCheck Parameters t ns node) _ e in
     let roomy = passed-both (roomCheck room (listOf t ns node)) _ (entered .2) in
     go (entry-sound Parameters t ns node (entered .1))
-    (leb-true (length (listOf t ns node)) room (test-passed _ _ (roomy .1))) (def.unpack (listOf t ns node)) refl
-    (roomy .2)
+    (leb-true (length (listOf t ns node)) room (test-passed _ _ (roomy .1)))
+    (limited (nodeOf node (stretchOf t node)) (listOf t ns node)) refl (roomy .2)
   where
     go : (checkOf t ns ≡ accepted []) × (nodeFits t node Parameters ≡ true) → length (listOf t ns node) ≤ room
-        → (o : def.Outcome) → def.unpack (listOf t ns node) ≡ o → answerOf o ≡ accepted vs → Passed t ns node room vs
+        → (o : def.Outcome) → limited (nodeOf node (stretchOf t node)) (listOf t ns node) ≡ o
+        → answerOf o ≡ accepted vs → Passed t ns node room vs
     go s m (def.accepted c) u e = record {
       sound = s .0;
       fits = s .1;
       enough = m;
+      few = limited-accepted _ (listOf t ns node) u .0;
       counts = c;
-      outcome = u;
+      outcome = limited-accepted _ (listOf t ns node) u .1;
       values = cc;
     }
     go s m (def.refused n r) u e = never-passed e

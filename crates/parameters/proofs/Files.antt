@@ -1,17 +1,17 @@
--- The parameter job refuses at parameters of the written list (`unpack-at`), which are nodes of the tree that it reads
--- (`written-all`), so that its refusals carry the number of the node that they name (table's `node-files`). The
--- induction is on the written list: each parameter in its turn refuses at itself, and after the last one 17 and 18 are
--- at one that is already read. Assumes nothing.
+-- The parameter job refuses at the def or lambda itself (19), or at parameters of its written list (`unpack-at`). All
+-- are nodes of the tree that it reads (`written-all`), so that its refusals carry the number of the node that they name
+-- (table's `node-files`). The induction is on the written list: each parameter in its turn refuses at itself, and after
+-- the last one 17 and 18 are at one that is already read. Assumes nothing.
 use mathlib.Core.Bool.{Bool, true, false}
 use mathlib.Core.List.{List, [], _∷_, _++_}
 use Prim.Native.Nat.{ℕ, zero, suc}
 use native.Mathlib.Omega.{arith}
 use lib.ListN.{length, drop}
-use lib.Dec.{eqb, leb}
+use lib.Dec.{eqb, leb, ltb}
 use Rattle.fields.specs.Choice.{if'}
 use Rattle.forest.specs.Forest.{Node, Tree, node, Forest, none, _then_, nodes, nodesOf}
 use Rattle.soundness.specs.Kinds.{parameter, classOf}
-use Rattle.table.specs.Numbers.{shortBuffer, slashFirst, duplicatedParameter}
+use Rattle.table.specs.Numbers.{shortBuffer, slashFirst, duplicatedParameter, tooManyParameters}
 use Rattle.table.specs.Carrying.{CarriesFile}
 use Rattle.table.specs.declared.Wanted.the-variants.{Parameters}
 use Rattle.table.proofs.Carried.{before-test}
@@ -19,9 +19,10 @@ use Rattle.table.proofs.Filed.{All, Told, Filed, all-tree, all-row, told-at, to
 use Rattle.table.proofs.Filed.{node-files}
 use Rattle.deflist.specs.Written.{Name, Param, normal, noArgs, slash, args, kwargs, nodeIn, kindIn, kindAt, param}
 use Rattle.deflist.specs.Written.{paramOf}
-use Rattle.deflist.specs.Written.{paramsIn, writtenIn}
+use Rattle.deflist.specs.Written.{paramsIn, rootIn, writtenIn}
 use Rattle.deflist.specs.Unpack as def
 use Rattle.deflist.specs.Unpack.{Step, on, stop, again, broken, isSlash, finish, run, unpack}
+use Rattle.deflist.specs.Limited.{mostParameters, limited}
 use Rattle.deflist.specs.declared.Kind.{Kind}
 use Rattle.deflist.specs.declared.Kind.the-variants.{Normal, NoArgs, Slash, Args, KwArgs}
 use Rattle.deflist.specs.declared.Counts.{Counts}
@@ -98,6 +99,15 @@ module _ (P : Node → Type 0) where
       go true = h .0
       go false = run-at [] (def.start (def.positionalOnly (def.firstSlash (p ∷ ps)))) (p ∷ ps) tt h
 
+  -- LAW: and a list that is too long is refused at the record that owns it
+  pub limited-at : (owner : Node) (l : List Param) → P owner → AllOf l → OutcomeAt (limited owner l)
+  unfolding limited
+  limited-at owner l here h = go (ltb mostParameters (length l))
+    where
+      go : (b : Bool) → OutcomeAt (if' b (λ _. def.refused tooManyParameters owner) (λ _. unpack l))
+      go true = here
+      go false = unpack-at l h
+
   pub told-outcome : (o : def.Outcome) → OutcomeAt o → Told P (answerOf o)
   told-outcome (def.accepted c) h = tt
   told-outcome (def.refused n r) h = told-at P n r h
@@ -125,19 +135,21 @@ module _ (P : Node → Type 0) where
       go true here rest = (here, rest)
       go false here rest = tt
 
-  pub written-all : (names : List ℕ) (t : Tree) → All P (nodesOf t) → AllOf (writtenIn names t)
-  written-all names (node r ks) h = params-all names ks (all-tree P r ks h .1)
+  pub written-all : (names : List ℕ) (t : Tree) → All P (nodesOf t) → P (rootIn t) × AllOf (writtenIn names t)
+  written-all names (node r ks) h =
+      let both = all-tree P r ks h in
+      (both .0, params-all names ks (both .1))
 
-  told-list : (l : List Param) (room : ℕ) → AllOf l → Told P (listAnswer l room)
+  told-list : (owner : Node) (l : List Param) (room : ℕ) → P owner × AllOf l → Told P (listAnswer owner l room)
   unfolding listAnswer
-  told-list l room h =
-      told-then P (roomCheck room l) (λ _. answerOf (unpack l))
+  told-list owner l room h =
+      told-then P (roomCheck room l) (λ _. answerOf (limited owner l))
       (told-before P (roomCheck room l) (before-test 10 (leb (length l) room) shortBuffer (omega arith)))
-      (told-outcome (unpack l) (unpack-at l h))
+      (told-outcome (limited owner l) (limited-at owner l (h .0) (h .1)))
 
 -- THEOREM: every refusal from 10 on of the parameter job carries the number of the node that it names
 pub params-files : (t names : List ℕ) (i room : ℕ) → CarriesFile t i (paramsOf t names i room)
 unfolding paramsOf
 params-files t names i room =
-    node-files Parameters (λ tree. listAnswer (writtenIn names tree) room) t names i
-    (λ tree h. told-list (Filed t i) (writtenIn names tree) room (written-all (Filed t i) names tree h))
+    node-files Parameters (λ tree. listAnswer (rootIn tree) (writtenIn names tree) room) t names i
+    (λ tree h. told-list (Filed t i) (rootIn tree) (writtenIn names tree) room (written-all (Filed t i) names tree h))

@@ -9,7 +9,7 @@ use lib.ListN.{length, drop}
 use lib.Seq.{sets, sets-eq}
 use borrow.Author.Tests.{le-leb, lt-leb}
 use Rattle.fields.proofs.Basics.{clash}
-use Rattle.forest.specs.Forest.{kidsOf, forest}
+use Rattle.forest.specs.Forest.{nodeOf, kidsOf, forest}
 use Rattle.table.specs.Numbers.{shortBuffer}
 use Rattle.table.specs.Answer.{Answer, accepted, refused, refusal, checked, earlierValues, spanValues}
 use Rattle.table.specs.Check.{Headed, stretchOf, entryCheck}
@@ -22,9 +22,10 @@ use Rattle.table.specs.declared.Checked.{Checked}
 use Rattle.table.specs.declared.Checked.the-variants.{Sound, Refused as Unsound}
 use Rattle.table.specs.declared.Wanted.the-variants.{Parameters}
 use Rattle.table.proofs.Entering.{job-refused, job-is}
-use Rattle.deflist.specs.Written.{paramsIn, writtenIn, written}
+use Rattle.deflist.specs.Written.{paramsIn, rootIn, writtenIn, written}
 use Rattle.deflist.specs.Unpack as def
 use Rattle.deflist.specs.Unpack.{modes}
+use Rattle.deflist.specs.Limited.{limited}
 use Rattle.deflist.specs.Told.{told}
 use Rattle.deflist.specs.Reading.{NotPast, Inside, PlaceBelow, Bounded}
 use Rattle.deflist.specs.declared.State.{State}
@@ -34,6 +35,7 @@ use Rattle.deflist.specs.declared.Counts.{Counts}
 use Rattle.deflist.specs.declared.Judged.{Judged}
 use Rattle.deflist.specs.declared.Judged.the-variants.{Accepted, Refused}
 use Rattle.deflist.proofs.Theorems.{accepted-bounded, accepted-only, written-short, modes-short, told-accepted}
+use Rattle.deflist.proofs.Limited.{limited-accepted}
 use Rattle.parameters.specs.declared.Counted.{Counted}
 use Rattle.deflist.specs.declared.Fault.{Fault}
 use Rattle.parameters.specs.Indices.{valuesOf, countedOf}
@@ -109,12 +111,21 @@ module _ (kids ms : List ℕ) {j : Judged} {b : Bool} (b-is : b ≡ isRefused j)
 pub listed-most : {kids : List ℕ} {m n : ℕ} → Listed kids m → m ≤ n → AtMost kids n
 listed-most l h = record { most = λ names i. omega (arith, l .many names i) }
 
--- every number of unpack's answer is small
-pub told-small : (ns t : List ℕ) (node : ℕ) (j : Judged) → j ≡ told (def.unpack (written ns node t))
-    → Inside (node + 1 + length t / 24) j → Headed node t → Small j
+-- the outcome of a node's list, and what follows for unpack's where it is accepted
+abbrev outcome : List ℕ → List ℕ → ℕ → def.Outcome
+outcome ns t node = limited (nodeOf node t) (written ns node t)
+
+told-counts : (ns t : List ℕ) (node : ℕ) {c : Counts} → Accepted c ≡ told (outcome ns t node)
+    → def.unpack (written ns node t) ≡ def.accepted c
+told-counts ns t node h =
+    limited-accepted (nodeOf node t) (written ns node t) (told-accepted (outcome ns t node) (sym h)) .1
+
+-- every number of the answer is small
+pub told-small : (ns t : List ℕ) (node : ℕ) (j : Judged)
+    → j ≡ told (limited (nodeOf node t) (written ns node t)) → Inside (node + 1 + length t / 24) j → Headed node t
+    → Small j
 told-small ns t node (Accepted c) j-is h short =
-    bounded-wider c
-    (accepted-bounded (written ns node t) (told-accepted (def.unpack (written ns node t)) (sym j-is)))
+    bounded-wider c (accepted-bounded (written ns node t) (told-counts ns t node j-is))
     (omega (arith, written-short ns node t))
 told-small ns t node (Refused f) j-is h short =
     (omega (arith, h .0), not-past-wider (f .earlier) (h .1) (omega arith))
@@ -126,7 +137,7 @@ module _ (ns t ms : List ℕ) (node : ℕ) {kids : List ℕ} (kids-are : kids �
     unfolding written
     list-long = rw kids-are at (m-is .many ns (node + 1))
 
-    pub into-short : length ms < m → Leaves (written ns node t) ms (refused shortBuffer []) ms
+    pub into-short : length ms < m → Leaves (nodeOf node t) (written ns node t) ms (refused shortBuffer []) ms
     unfolding listAnswer
     into-short h =
         let short = lt-leb (length (written ns node t)) (length ms) (omega (arith, list-long)) in
@@ -145,21 +156,22 @@ module _ (ns t ms : List ℕ) (node : ℕ) {kids : List ℕ} (kids-are : kids �
           rw zero-add at (sets-eq (modes (written ns node t)) ms 0
           (omega (arith, modes-short (written ns node t), list-long)))
 
-      pub into-told : {j : Judged} → j ≡ told (def.unpack (written ns node t)) → {ms′ : List ℕ} → Kept kids j ms ms′
-          → {u : Answer} → u ≡ judgedAnswer j → Leaves (written ns node t) ms u ms′
+      pub into-told : {j : Judged} → j ≡ told (limited (nodeOf node t) (written ns node t)) → {ms′ : List ℕ}
+          → Kept kids j ms ms′ → {u : Answer} → u ≡ judgedAnswer j
+          → Leaves (nodeOf node t) (written ns node t) ms u ms′
       unfolding listAnswer
       into-told {j} j-is {ms′} k u-is =
           let enough = le-leb (length (written ns node t)) (length ms) (omega (arith, list-long)) in
-          let answer-is = ap judgedAnswer j-is ∙ judged-answer (def.unpack (written ns node t)) in
+          let answer-is = ap judgedAnswer j-is ∙ judged-answer (outcome ns t node) in
           record {
             answer = rw enough (u-is ∙ answer-is);
             buffer = rw (enough, ← answer-is) (go j j-is k);
           }
         where
-          go : (x : Judged) → x ≡ told (def.unpack (written ns node t)) → Kept kids x ms ms′
+          go : (x : Judged) → x ≡ told (outcome ns t node) → Kept kids x ms ms′
               → ms′ ≡ afterwards (judgedAnswer x) (modes (written ns node t)) ms
           go (Accepted c) e k = k .wrote refl .wrote ns (node + 1)
-              ∙ ap (sets ms 0) (same-modes (told-accepted (def.unpack (written ns node t)) (sym e))) ∙ stored
+              ∙ ap (sets ms 0) (same-modes (told-counts ns t node e)) ∙ stored
           go (Refused f) e k = k .left refl
 
 -- 1 to 4, 6, then the list
@@ -167,17 +179,19 @@ module _ (t ns : List ℕ) (node : ℕ) {e : Checked} (e-is : checked e ≡ entr
   module _ {why : Refusal} (h : e ≡ Unsound why) where
     pub params-refused : (room : ℕ) → refusal why ≡ paramsOf t ns node room
     unfolding paramsOf
-    params-refused room = job-refused Parameters t ns node e-is (λ tree. listAnswer (writtenIn ns tree) room) h
+    params-refused room =
+        job-refused Parameters t ns node e-is (λ tree. listAnswer (rootIn tree) (writtenIn ns tree) room) h
 
     pub params-left : (ms : List ℕ) → ms ≡ modesAfter t ns node ms
     unfolding modesAfter
     params-left ms = rw (← (params-refused (length ms))) refl
 
   module _ (good : e ≡ Sound) {s : List ℕ} (s-is : s ≡ stretchOf t node) {ms : List ℕ} {u : Answer} {ms′ : List ℕ}
-      (h : Leaves (written ns node s) ms u ms′) where
-    params-is : paramsOf t ns node (length ms) ≡ listAnswer (written ns node s) (length ms)
+      (h : Leaves (nodeOf node s) (written ns node s) ms u ms′) where
+    params-is : paramsOf t ns node (length ms) ≡ listAnswer (nodeOf node s) (written ns node s) (length ms)
     unfolding paramsOf written
-    params-is = rw s-is (job-is Parameters t ns node e-is good (λ tree. listAnswer (writtenIn ns tree) (length ms)))
+    params-is = rw s-is (job-is Parameters t ns node e-is good
+        (λ tree. listAnswer (rootIn tree) (writtenIn ns tree) (length ms)))
 
     pub params-answer : u ≡ paramsOf t ns node (length ms)
     params-answer = h .answer ∙ sym params-is

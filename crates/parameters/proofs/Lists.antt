@@ -2,9 +2,9 @@
 use mathlib.Core.Path.{_≡_, refl, sym, ap, _∙_}
 use mathlib.Core.Bool.{Bool, true, false}
 use mathlib.Core.List.{List, [], _∷_, _++_}
-use Prim.Native.Nat.{ℕ, zero, suc, _+_, _-_, _*_, _/_, _<_, _≤_}
+use Prim.Native.Nat.{ℕ, zero, suc, _+_, _-_, _/_, _<_, _≤_}
 use native.Mathlib.Omega.{arith}
-use lib.ListN.{length, set, take, drop, length-take, length-drop}
+use lib.ListN.{length, set, take, drop}
 use lib.Seq.{sets, length-sets}
 use Rattle.forest.specs.Forest.{nodeOf, spanOf, forest}
 use Rattle.deflist.specs.Written.{Param, kindIn, paramOf, paramsIn}
@@ -14,34 +14,14 @@ use Rattle.deflist.specs.declared.Kind.{Kind}
 use Rattle.deflist.specs.declared.Kind.the-variants.{Normal, NoArgs, Slash, Args, KwArgs}
 use Rattle.deflist.specs.declared.State.{State}
 use Rattle.deflist.specs.declared.State.the-variants.{Normal as BeforeSlash, SeenSlash, SeenStar, SeenStarStar}
-use Rattle.deflist.proofs.Reading.{kind-in, listed-long, Reading, read-start, read-here, read-on, read-end, list-on}
+use Rattle.deflist.proofs.Reading.{kind-in, Reading, read-start, read-here, read-on, read-end, list-on}
+use Rattle.deflist.proofs.Reading.{Counting, count-all}
 use Rattle.parameters.specs.Writing.{modeByte, modeIn, Listed, AtMost, Modes}
 
--- n parameters are counted
-pub record Counting (kids left : List ℕ) (n : ℕ) : Type 0 where
-  pub room : 24 * n + length left ≤ length kids
-  pub from : (ns : List ℕ) (i : ℕ) → ℕ
-  pub reads : (ns : List ℕ) (i : ℕ) → Reading ns (paramsIn ns (forest i kids)) n (from ns i) left
-
-pub count-start : (kids : List ℕ) → Counting kids kids 0
-count-start kids = record { room = omega arith; from = λ ns i. i; reads = λ ns i. read-start ns i kids }
-
-module _ {kids left : List ℕ} {n : ℕ} (s : Counting kids left n) {l : Bool} (l-is : l ≡ isListed left) where
-  pub count-on : l ≡ true → {e : ℕ} → e ≡ spanOf left → Counting kids (take (length left - e) (drop e left)) (n + 1)
-  count-on l-yes {e} e-is =
-      let yes : isListed left ≡ true = sym l-is ∙ l-yes in
-      record {
-        room = simp (length-take, length-drop) (omega (arith, s .room, listed-long left yes));
-        from = λ ns i. s .from ns i + e / 24;
-        reads = λ ns i. read-on (s .reads ns i) yes e-is;
-      }
-
-  pub count-end : l ≡ false → Listed kids n
-  count-end l-no = record {
-    many = λ ns i.
-        let none-left = read-end (s .reads ns i) (sym l-is ∙ l-no) in
-        omega (arith, s .reads ns i .upto, length-drop n (paramsIn ns (forest i kids)), ap length none-left);
-  }
+-- at the end all parameters are counted
+pub count-end : {kids left : List ℕ} {n : ℕ} → Counting kids left n → {l : Bool} → l ≡ isListed left → l ≡ false
+    → Listed kids n
+count-end s l-is l-no = record { many = count-all s l-is l-no }
 
 -- the mode byte is the mode
 mode-in : (s : State) (k : Kind) → modeIn (modeByte s k) ≡ modeOf s k

@@ -7,16 +7,18 @@ use native.Mathlib.Omega.{arith}
 use lib.ListN.{length}
 use lib.Dec.{leb}
 use Rattle.fields.proofs.Basics.{never}
-use Rattle.forest.specs.Forest.{Node}
+use Rattle.forest.specs.Forest.{Node, nodeOf}
 use Rattle.table.specs.Numbers.{shortBuffer, duplicatedParameter}
 use Rattle.table.specs.Answer.{accepted, refused, OnlyCarries, spanValues, spanAt}
-use Rattle.table.specs.Check.{entryCheck, onNode}
+use Rattle.table.specs.Check.{stretchOf, entryCheck, onNode}
 use Rattle.table.specs.declared.Wanted.the-variants.{Parameters}
 use Rattle.table.proofs.Carried.{Before, before-test, carries-then, from-next, entry-before}
 use Rattle.deflist.specs.Written.{Param, written}
 use Rattle.deflist.specs.Unpack as def
+use Rattle.deflist.specs.Limited.{limited}
 use Rattle.deflist.specs.Twice.{NamedTwice}
-use Rattle.deflist.proofs.Twice.{written-twice, refused-other}
+use Rattle.deflist.proofs.Twice.{written-twice}
+use Rattle.deflist.proofs.Limited.{limited-repeated, limited-other}
 use Rattle.parameters.specs.Params.{answerOf, roomCheck, listAnswer, listOf, paramsOf}
 
 -- 1 to 4, 6 and 7 come before 11, and carry no earlier node
@@ -31,14 +33,17 @@ pub params-carries : (t ns : List ℕ) (node room : ℕ) → OnlyCarries duplica
 unfolding paramsOf onNode listAnswer listOf written
 params-carries t ns node room =
     carries-then duplicatedParameter (entryCheck Parameters t ns node) _ (entry-first t ns node)
-    (carries-then duplicatedParameter (roomCheck room l) _ (room-first room l) (go (def.unpack l) refl))
+    (carries-then duplicatedParameter (roomCheck room l) _ (room-first room l) (go (limited owner l) refl))
   where
     l : List Param
     l = listOf t ns node
 
-    go : (o : def.Outcome) → def.unpack l ≡ o → OnlyCarries duplicatedParameter (answerOf o)
+    owner : Node
+    owner = nodeOf node (stretchOf t node)
+
+    go : (o : def.Outcome) → limited owner l ≡ o → OnlyCarries duplicatedParameter (answerOf o)
     go (def.accepted c) h = tt
-    go (def.refused n r) h = (λ e. absurd (refused-other l h e), λ d. omega arith)
+    go (def.refused n r) h = (λ e. absurd (limited-other owner l h e), λ d. omega arith)
     go (def.repeated i r) h = (λ e. refl, λ d. absurd (d refl))
     go (def.internal x r) h = (λ e. absurd (omega (arith, e)), λ d. omega arith)
 
@@ -49,16 +54,19 @@ pub params-twice : (t ns : List ℕ) (node room : ℕ) {vs : List ℕ}
     → (i : ℕ) × ((r : Node) × ((vs ≡ r .at ∷ spanValues (spanAt r) ++ i ∷ []) × NamedTwice (listOf t ns node) i r))
 unfolding paramsOf onNode listAnswer listOf written
 params-twice t ns node room {vs} e =
-    go (def.unpack l) refl
+    go (limited owner l) refl
     (from-next duplicatedParameter (roomCheck room l) _ (room-first room l)
     (from-next duplicatedParameter (entryCheck Parameters t ns node) _ (entry-first t ns node) e))
   where
     l : List Param
     l = listOf t ns node
 
-    go : (o : def.Outcome) → def.unpack l ≡ o → answerOf o ≡ refused duplicatedParameter vs
+    owner : Node
+    owner = nodeOf node (stretchOf t node)
+
+    go : (o : def.Outcome) → limited owner l ≡ o → answerOf o ≡ refused duplicatedParameter vs
         → (i : ℕ) × ((r : Node) × ((vs ≡ r .at ∷ spanValues (spanAt r) ++ i ∷ []) × NamedTwice l i r))
     go (def.accepted c) h e = never (cc)
-    go (def.refused n r) h e = let same : n ≡ duplicatedParameter = cc in absurd (refused-other l h same)
-    go (def.repeated i r) h e = (i, (r, (cc, written-twice ns node _ h)))
+    go (def.refused n r) h e = let same : n ≡ duplicatedParameter = cc in absurd (limited-other owner l h same)
+    go (def.repeated i r) h e = (i, (r, (cc, written-twice ns node _ (limited-repeated owner l h))))
     go (def.internal x r) h e = let same : 0 ≡ duplicatedParameter = cc in absurd (omega (arith, same))

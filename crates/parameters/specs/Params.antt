@@ -4,12 +4,14 @@ use Prim.Native.Nat.{ℕ, _≤_}
 use lib.ListN.{length, drop}
 use lib.Dec.{leb}
 use Rattle.fields.specs.Choice.{if'}
+use Rattle.forest.specs.Forest.{Node}
 use Rattle.table.specs.Numbers.{shortBuffer, duplicatedParameter}
 use Rattle.table.specs.Answer.{Answer, accepted, refused, andThen, refusedAt, refusedAfter, refusal}
 use Rattle.table.specs.Check.{stretchOf, onNode}
 use Rattle.table.specs.declared.Wanted.the-variants.{Parameters}
-use Rattle.deflist.specs.Written.{Param, writtenIn, written}
+use Rattle.deflist.specs.Written.{Param, rootIn, writtenIn, written}
 use Rattle.deflist.specs.Unpack as def
+use Rattle.deflist.specs.Limited.{limited}
 use Rattle.deflist.specs.Told.{internalError}
 use Rattle.parameters.specs.Indices.{valuesOf, countedOf}
 use Rattle.parameters.specs.declared.Unpacked.{Unpacked}
@@ -20,7 +22,7 @@ abbrev pub unpacked : Unpacked → Answer
 unpacked (Accepted c) = accepted (valuesOf c)
 unpacked (Refused r) = refusal r
 
--- what document 01 answers for an outcome of unpack
+-- what document 01 answers for an outcome
 abbrev pub answerOf : def.Outcome → Answer
 answerOf (def.accepted c) = accepted (valuesOf (countedOf c))
 answerOf (def.refused n r) = refusedAt n r
@@ -31,17 +33,18 @@ answerOf (def.internal e r) = refusedAt internalError r
 abbrev pub roomCheck : ℕ → List Param → Answer
 roomCheck room l = if' (leb (length l) room) (λ _. accepted []) (λ _. refused shortBuffer [])
 
--- 7, then unpack's answer for a written list
-unfoldable pub listAnswer : List Param → ℕ → Answer
-listAnswer l room = andThen (roomCheck room l) (λ _. answerOf (def.unpack l))
+-- 7, then the answer for the written list of the def or lambda whose record this is
+unfoldable pub listAnswer : Node → List Param → ℕ → Answer
+listAnswer owner l room = andThen (roomCheck room l) (λ _. answerOf (limited owner l))
 
 -- the written list of a node of a table
 unfoldable pub listOf : List ℕ → List ℕ → ℕ → List Param
 listOf t names node = written names node (stretchOf t node)
 
--- the job: 1 to 4, 6, 7, then unpack's
+-- the job: 1 to 4, 6, 7, then the list's
 unfoldable pub paramsOf : List ℕ → List ℕ → ℕ → ℕ → Answer
-paramsOf t names node room = onNode Parameters (λ tree. listAnswer (writtenIn names tree) room) t names node
+paramsOf t names node room =
+    onNode Parameters (λ tree. listAnswer (rootIn tree) (writtenIn names tree) room) t names node
 
 -- the buffer ms afterwards, where these are the modes: they stand at its front and the rest stays; a refusal leaves it
 abbrev pub afterwards : Answer → List ℕ → List ℕ → List ℕ

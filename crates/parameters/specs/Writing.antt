@@ -6,7 +6,7 @@ use mathlib.Core.List.{List, [], _∷_, _++_}
 use Prim.Native.Nat.{ℕ, zero, suc, _≤_, _<_, _^_}
 use lib.ListN.{length}
 use lib.Seq.{sets}
-use Rattle.forest.specs.Forest.{forest}
+use Rattle.forest.specs.Forest.{Node, forest}
 use Rattle.deflist.specs.Written.{Param, paramsIn}
 use Rattle.deflist.specs.Unpack.{firstState, modeOf, modesFrom, modes}
 use Rattle.deflist.specs.declared.Kind.{Kind}
@@ -83,7 +83,7 @@ pub record Kept (kids : List ℕ) (j : Judged) (ms ms′ : List ℕ) : Type 0 wh
   pub left : isRefused j ≡ true → ms′ ≡ ms
   pub wrote : isRefused j ≡ false → Modes kids (firstOf j) ms ms′
 
--- the answer u for a written list, and the buffer ms′ that the job leaves of ms
-pub record Leaves (l : List Param) (ms : List ℕ) (u : Answer) (ms′ : List ℕ) : Type 0 where
-  pub answer : u ≡ listAnswer l (length ms)
-  pub buffer : ms′ ≡ afterwards (listAnswer l (length ms)) (modes l) ms
+-- the answer u for the written list of a record, and the buffer ms′ that the job leaves of ms
+pub record Leaves (owner : Node) (l : List Param) (ms : List ℕ) (u : Answer) (ms′ : List ℕ) : Type 0 where
+  pub answer : u ≡ listAnswer owner l (length ms)
+  pub buffer : ms′ ≡ afterwards (listAnswer owner l (length ms)) (modes l) ms

@@ -27,7 +27,7 @@ ghost use mathlib.Core.Bool.{true};
 ghost use Prim.Native.Nat.{_+_, _<_, _^_};
 ghost use lib.ListN.{length};
 ghost use lib.Seq.{sets};
-ghost use Rattle.forest.specs.Forest.{forest};
+ghost use Rattle.forest.specs.Forest.{nodeOf, forest};
 ghost use Rattle.table.specs.Answer.{refusal as refusalOf};
 ghost use Rattle.table.specs.Check.{Headed};
 ghost use Rattle.deflist.specs.Written.{written};
@@ -66,7 +66,7 @@ pub enum Unpacked {
     Refused(Refusal),
 }
 
-// The parameter list of the def or lambda at a node: 1 to 4, 6, 7, 10 to 18; or its ranges and flat count, with the
+// The parameter list of the def or lambda at a node: 1 to 4, 6, 7, 10 to 19; or its ranges and flat count, with the
 // modes at the front of the buffer.
 pub fn params(table: &[u8], names: &[u8], node: usize, modes: &mut [u8]) -> Unpacked
     ensures { λ r. ⌜ unpacked r ≡
@@ -81,12 +81,12 @@ pub fn params(table: &[u8], names: &[u8], node: usize, modes: &mut [u8]) -> Unpa
     unpack_into(names, table::stretch(table, node), node as u32, modes)
 }
 
-// 7, then unpack's answer for the list of a node, whose stretch is lent; the modes are written once the list is
+// 7, then the answer for the list of a node, whose stretch is lent; the modes are written once the list is
 // accepted.
 fn unpack_into(names: &[u8], t: &[u8], node: u32, modes: &mut [u8]) -> Unpacked
     requires { ⌜ Headed node (now t) ⌝ }
-    ensures { λ r. ⌜ Leaves (written (now (names .entry)) node (now (t .entry))) (now (modes .entry)) (unpacked r)
-        (now (modes .exit)) ⌝ }
+    ensures { λ r. ⌜ Leaves (nodeOf node (now (t .entry))) (written (now (names .entry)) node (now (t .entry)))
+        (now (modes .entry)) (unpacked r) (now (modes .exit)) ⌝ }
 {
     let kids = deflist::children(t);
     if modes.len() < list_length(kids) {

@@ -10,8 +10,9 @@ use lib.Dec.{ltb}
 use borrow.Author.Tests.{le-leb}
 use Rattle.fields.specs.Choice.{if'}
 use Rattle.fields.proofs.Basics.{never}
-use Rattle.forest.specs.Forest.{Node}
+use Rattle.forest.specs.Forest.{Node, nodeOf}
 use Rattle.table.specs.Answer.{accepted}
+use Rattle.table.specs.Check.{stretchOf}
 use Rattle.table.specs.declared.Place.{Place}
 use Rattle.table.specs.declared.Place.the-variants.{At, Nothing}
 use Rattle.table.specs.declared.Wanted.the-variants.{Call}
@@ -20,6 +21,7 @@ use Rattle.deflist.specs.Written.{Name, Param}
 use Rattle.deflist.specs.Unpack as outcome
 use Rattle.deflist.specs.Unpack.{unpack, modeArgs, modeKwargs}
 use Rattle.deflist.specs.declared.Counts.{Counts}
+use Rattle.deflist.proofs.Limited.{limited-short}
 use Rattle.parameters.specs.Indices.{placeOf, countedOf}
 use Rattle.parameters.specs.Params.{listOf}
 use Rattle.parameters.specs.declared.DefParamIndices.{DefParamIndices}
@@ -228,7 +230,7 @@ module _ (t ns : List ℕ) (call def : ℕ) (list : List ℕ) (rules : Rules t n
     sound-entry Call t ns call (rules .sound) (rules .isACall),
     rules .isADef,
     le-leb (length ps + length qs) (length list) (rules .room),
-    counted,
+    limited-short (nodeOf def (stretchOf t def)) ps (rules .short) ∙ counted,
     ordered-unpacked qs (rules .order .0) (rules .order .1),
     star-accepts qs (m .noArgs) (m .noKwargs),
     walk .1,

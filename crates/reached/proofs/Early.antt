@@ -1,5 +1,5 @@
 -- The checks before the binding give no number of 80 or more: the entry at most 7 (`early-entry`), a list of parameters
--- less than 20 (`early-list`), a list of arguments 20 to 24 or the 0 of an internal error (`call-numbers`). Each is
+-- less than 20 (`early-limited`), a list of arguments 20 to 24 or the 0 of an internal error (`call-numbers`). Each is
 -- shown rule by rule, then along the list. Assumes nothing.
 use mathlib.Core.Path.{_≡_, refl}
 use mathlib.Core.Bool.{Bool, true, false}
@@ -8,13 +8,13 @@ use mathlib.Core.List.{List, [], _∷_, _++_}
 use Prim.Native.Nat.{ℕ, _+_, _<_}
 use native.Mathlib.Omega.{arith}
 use lib.ListN.{length, drop}
-use lib.Dec.{eqb, leb}
+use lib.Dec.{eqb, leb, ltb}
 use Rattle.fields.specs.Choice.{if'}
-use Rattle.forest.specs.Forest.{forest}
+use Rattle.forest.specs.Forest.{Node, forest}
 use Rattle.forest.specs.declared.Found.{Found}
 use Rattle.forest.specs.declared.Found.the-variants.{At, Nothing}
 use Rattle.soundness.specs.Sound.{firstUnsound}
-use Rattle.table.specs.Numbers.{wrongNode, shortBuffer, unsoundRecord, tooDeep}
+use Rattle.table.specs.Numbers.{wrongNode, shortBuffer, unsoundRecord, tooDeep, tooManyParameters}
 use Rattle.table.specs.Answer.{Answer, accepted, refused, andThen}
 use Rattle.table.specs.Check.{lengthSound, lengthCheck, namesCheck, noneFound, checkOf, nodeFits, entryCheck}
 use Rattle.table.specs.Depth.{firstDeep}
@@ -22,6 +22,7 @@ use Rattle.table.specs.declared.Wanted.the-variants.{Call}
 use Rattle.deflist.specs.Written.{Param, normal, noArgs, slash, args, kwargs, nodeIn, kindIn}
 use Rattle.deflist.specs.Unpack as list
 use Rattle.deflist.specs.Unpack.{step, finish, run, unpack}
+use Rattle.deflist.specs.Limited.{mostParameters, limited}
 use Rattle.deflist.specs.declared.Check as checks
 use Rattle.deflist.specs.declared.Check.the-variants.{Fine, Broken, Repeated as Twice}
 use Rattle.deflist.specs.declared.Kind.{Kind}
@@ -85,7 +86,7 @@ early-entry t ns call def n =
     (early-if (isDef t def) wrongNode (omega arith))
     (early-if (leb (length (listOf t ns def) + length (argumentsAt t ns call)) n) shortBuffer (omega arith)))
 
--- 10 to 18
+-- 10 to 19
 abbrev EarlyCheck : checks.Check → Type 0
 EarlyCheck Fine = Unit {0}
 EarlyCheck (Broken n) = n < 20
@@ -191,7 +192,7 @@ early-run before u (p ∷ ps) = go (list.step before u p) (early-step before u p
     go (list.again i) e rest = tt
     go (list.broken x) e rest = tt
 
-pub early-list : (l : List Param) → EarlyOutcome (list.unpack l)
+early-list : (l : List Param) → EarlyOutcome (list.unpack l)
 unfolding unpack
 early-list [] = early-run [] (list.start (list.flatAt 0)) []
 early-list (p ∷ ps) = go (list.isSlash (kindIn p))
@@ -202,6 +203,14 @@ early-list (p ∷ ps) = go (list.isSlash (kindIn p))
         list.run [] (list.start (list.positionalOnly (list.firstSlash (p ∷ ps)))) (p ∷ ps)))
     go true e = omega arith
     go false e = e
+
+pub early-limited : (owner : Node) (l : List Param) → EarlyOutcome (limited owner l)
+unfolding limited
+early-limited owner l = go (ltb mostParameters (length l))
+  where
+    go : (b : Bool) → EarlyOutcome (if' b (λ _. list.refused tooManyParameters owner) (λ _. list.unpack l))
+    go true = omega arith
+    go false = early-list l
 
 -- 20 to 24
 abbrev InCall : ℕ → Type 0

@@ -26,6 +26,7 @@ use Rattle.deflist.specs.Written.{Name, kindAt, paramOf, paramsIn, written}
 use Rattle.deflist.specs.Unpack.{slashFrom, modeArgs, modeKwargs}
 use Rattle.deflist.specs.Unpack as def
 use Rattle.parameters.specs.Indices.{countedOf}
+use Rattle.deflist.specs.Limited.{limited}
 use Rattle.parameters.specs.Params.{listOf, listAnswer, paramsOf}
 use Rattle.demand3.specs.Example.{recordAt}
 use Rattle.demand3.specs.Given.{CutOf}
@@ -161,11 +162,11 @@ matching = record {
 -- the list can be cut, since the job on the parameters accepts it
 has-cut : (c : Cut) × CutOf (listOf table names 1) c
 unfolding listOf written paramsIn paramOf kindAt stretchOf field sizeOf kidsOf restOf forestIn forest kindIn kindOf
-    nameOf paramsOf listAnswer onNode entryCheck nodeFits wants slashFrom countedOf
+    nameOf paramsOf listAnswer limited onNode entryCheck nodeFits wants slashFrom countedOf
     def.unpack def.run def.step def.repeats def.firstSame def.start def.advance def.hasName same def.finish
 has-cut = accepted-iff-cut table names 1 room
     record { sound = sound; within = omega arith; defOrLambda = inl refl; room = omega arith } .0
-    (0 ∷ 1 ∷ 1 ∷ 2 ∷ 2 ∷ 3 ∷ 3 ∷ 4 ∷ 4 ∷ 5 ∷ 5 ∷ [], rw sound refl)
+    (0 ∷ 1 ∷ 1 ∷ 2 ∷ 2 ∷ 3 ∷ 3 ∷ 4 ∷ 4 ∷ 5 ∷ 5 ∷ [], rw sound refl) .1
 
 -- the arguments are in order, since the job on the call accepts it
 in-order : Ordered (argumentsAt table names 11) counts
@@ -188,6 +189,7 @@ rules = record {
   isACall = refl;
   isADef = refl;
   room = omega (arith, written-six, ap length arguments-are);
+  short = omega (arith, written-six);
   cut = has-cut;
   order = (counts, in-order);
   matching = rw (params-are, arguments-are) matching;

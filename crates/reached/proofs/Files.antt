@@ -1,4 +1,4 @@
--- W-208, of a binding: a refusal carries the source file of the node that it names, which is the def's for 10 to 18 and
+-- W-208, of a binding: a refusal carries the source file of the node that it names, which is the def's for 10 to 19 and
 -- 84 and the call's for 20 to 24 and 80 to 83. A refusal comes from the entry (before 10), from the def's list, from
 -- the call's arguments or from the binding; the first two lists are nodes of the def's and of the call's tree, whose
 -- numbers are all one (table's `tree-filed`), and so are the flat parameters and the arguments that the binding names.
@@ -27,14 +27,15 @@ use Rattle.table.proofs.Entering.{entry-sound}
 use Rattle.table.proofs.Filed.{Told, Filed, told-at, files-told, tree-filed, fits-filed, not-root}
 use Rattle.deflist.specs.Written.{Param, written, nodeIn as paramNode, kindIn as paramKind}
 use Rattle.deflist.specs.Unpack as outcome
-use Rattle.deflist.specs.Unpack.{unpack, nextState, modeOf, firstSlash, positionalOnly, firstState}
+use Rattle.deflist.specs.Limited.{limited}
+use Rattle.deflist.specs.Unpack.{nextState, modeOf, firstSlash, positionalOnly, firstState}
 use Rattle.deflist.specs.declared.State.{State}
 use Rattle.parameters.specs.Indices.{countedOf}
 use Rattle.parameters.specs.Params.{listOf}
 use Rattle.parameters.specs.declared.Counted.{Counted}
 use Rattle.parameters.specs.declared.DefParamIndices.{DefParamIndices}
 use Rattle.parameters.proofs.Files as params
-use Rattle.parameters.proofs.Files.{unpack-at, told-outcome}
+use Rattle.parameters.proofs.Files.{limited-at, told-outcome}
 use Rattle.arguments.specs.Written.{Argument, nodeIn, kindIn}
 use Rattle.arguments.specs.Call as calling
 use Rattle.arguments.specs.Job.{outcomeAnswer}
@@ -49,7 +50,7 @@ use Rattle.bind.specs.Job.{answeredAt, bindOf}
 use Rattle.bind.specs.declared.Reach.{Reach}
 use Rattle.bind.specs.declared.Reach.the-variants.{Fills, Joins, Nowhere}
 use Rattle.reached.specs.Refused.{BoundFile}
-use Rattle.reached.proofs.Early.{EarlyOutcome, early-list, CallNumber, call-numbers}
+use Rattle.reached.proofs.Early.{EarlyOutcome, early-limited, CallNumber, call-numbers}
 use Rattle.reached.proofs.Kept.{entry-first}
 
 module _ (t : List ℕ) (call def : ℕ) where
@@ -186,10 +187,11 @@ module _ (t : List ℕ) (call def : ℕ) where
       go (inl z) = λ late. absurd (omega arith)
       go (inr h) = of-call n vs told (omega (arith, h .0)) (λ e. omega (arith, h .1, e))
 
-  lists-side : (ps : List Param) (qs : List Argument) → params.AllOf (Filed t def) ps → InCall qs
-      → Sided (listsBound ps qs)
+  lists-side : (owner : Node) (ps : List Param) (qs : List Argument) → Filed t def owner
+      → params.AllOf (Filed t def) ps → InCall qs → Sided (listsBound owner ps qs)
   unfolding listsBound
-  lists-side ps qs p h = go (unpack ps) (unpack-at (Filed t def) ps p) (early-list ps)
+  lists-side owner ps qs o p h =
+      go (limited owner ps) (limited-at (Filed t def) owner ps o p) (early-limited owner ps)
     where
       go : (o : outcome.Outcome) → params.OutcomeAt (Filed t def) o → EarlyOutcome o
           → Sided (counting o (λ c. andThen (outcomeAnswer (calling.unpack qs)) (λ _.
@@ -207,7 +209,8 @@ module _ (t : List ℕ) (call def : ℕ) where
 
 -- where a binding is let in, the def's list and the call's arguments are nodes of their trees
 module _ (t names : List ℕ) (call def : ℕ) (c : Clean t names) where
-  params-filed : isDef t def ≡ true → params.AllOf (Filed t def) (listOf t names def)
+  params-filed : isDef t def ≡ true
+      → Filed t def (nodeOf def (stretchOf t def)) × params.AllOf (Filed t def) (listOf t names def)
   unfolding isDef listOf written
   params-filed e =
       let kind : ℕ = nodeOf def (drop (24 * def) t) .kind in
@@ -223,7 +226,7 @@ module _ (t names : List ℕ) (call def : ℕ) (c : Clean t names) where
       (fits-filed c Call call fits)
 
 -- THEOREM: "for every refusal from 10 on, the file that it carries is that of the node it names; in a binding the Def's
--- for 10 to 18 and 84, the Call's for 20 to 24 and 80 to 83"
+-- for 10 to 19 and 84, the Call's for 20 to 24 and 80 to 83"
 pub bind-files : (t names : List ℕ) (call def room : ℕ) {n : ℕ} {vs : List ℕ}
     → bindOf t names call def room ≡ refused n vs → 10 ≤ n → BoundFile t call def n vs
 unfolding bindOf wordsOf entryOf
@@ -233,14 +236,15 @@ bind-files t names call def room {n} {vs} e late =
     (rw e at sided) late
   where
     entry : (a : Answer) → entryOf t names call def room ≡ a → Before 8 a
-        → Sided t call def (andThen a (λ _. listsBound (listOf t names def) (argumentsAt t names call)))
+        → Sided t call def (andThen a (λ _.
+        listsBound (nodeOf def (stretchOf t def)) (listOf t names def) (argumentsAt t names call)))
     entry (accepted us) k b =
         let in-call = passed-both (entryCheck Call t names call) _ k in
         let in-def = passed-both (defCheck t def) _ (in-call .2) in
         let known = entry-sound Call t names call (in-call .1) in
         let clean = accepted-clean t names (known .0) in
-        lists-side t call def (listOf t names def) (argumentsAt t names call)
-        (params-filed t names call def clean (test-passed _ _ (in-def .1)))
+        let filed = params-filed t names call def clean (test-passed _ _ (in-def .1)) in
+        lists-side t call def _ (listOf t names def) (argumentsAt t names call) (filed .0) (filed .1)
         (args-filed t names call def clean (known .1))
     entry (refused m us) k b = λ from. absurd (omega (arith, b .0))
 

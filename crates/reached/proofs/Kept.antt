@@ -16,18 +16,19 @@ use lib.Seq.{getD-append-add, getD-drop}
 use lib.Dec.{eqb, ltb, leb}
 use Rattle.fields.proofs.Basics.{never}
 use Rattle.fields.specs.Choice.{if'}
-use Rattle.forest.specs.Forest.{Node}
+use Rattle.forest.specs.Forest.{Node, nodeOf}
 use Rattle.table.specs.Numbers.{wrongNode, shortBuffer, duplicatedParameter, repeatedNamed, alreadyFilled}
 use Rattle.table.specs.Numbers.{starArgument, emptyParameter}
 use Rattle.table.specs.Answer.{Answer, accepted, refused, andThen, refusedAt, OnlyCarries}
-use Rattle.table.specs.Check.{entryCheck}
+use Rattle.table.specs.Check.{stretchOf, entryCheck}
 use Rattle.table.specs.declared.Wanted.the-variants.{Call}
 use Rattle.table.proofs.Carried.{Before, before-then, before-test, entry-before}
 use Rattle.deflist.specs.Written.{Param}
 use Rattle.deflist.specs.Unpack as outcome
-use Rattle.deflist.specs.Unpack.{unpack, modes}
+use Rattle.deflist.specs.Unpack.{modes}
+use Rattle.deflist.specs.Limited.{limited}
 use Rattle.deflist.proofs.Theorems.{modes-short}
-use Rattle.deflist.proofs.Twice.{refused-other}
+use Rattle.deflist.proofs.Limited.{limited-other}
 use Rattle.parameters.specs.Indices.{countedOf}
 use Rattle.parameters.specs.Params.{listOf}
 use Rattle.parameters.specs.declared.Counted.{Counted}
@@ -47,7 +48,7 @@ use Rattle.bind.specs.declared.Reach.the-variants.{Fills, Joins, Nowhere}
 use Rattle.bind.proofs.Lists.{flats-modes}
 use Rattle.reached.specs.Said.{flatsAt}
 use Rattle.reached.specs.Refused.{spanned, OnlyTwoCarry}
-use Rattle.reached.proofs.Early.{EarlyOutcome, early-list, CallNumber, call-numbers}
+use Rattle.reached.proofs.Early.{EarlyOutcome, early-limited, CallNumber, call-numbers}
 use Rattle.reached.proofs.Passed as passing
 use Rattle.reached.proofs.Passed.{Passed}
 
@@ -203,18 +204,18 @@ call-first (refused n vs) next c m rest = (go m, λ a b. c .1 b)
     go (inl z) (inl e) = absurd (omega arith)
     go (inr h) (inl e) = absurd (omega (arith, h .0))
 
-lists-carry : (ps : List Param) (qs : List Argument) → OnlyTwoCarry (listsBound ps qs)
+lists-carry : (owner : Node) (ps : List Param) (qs : List Argument) → OnlyTwoCarry (listsBound owner ps qs)
 unfolding listsBound
-lists-carry ps qs = go (unpack ps) refl (early-list ps)
+lists-carry owner ps qs = go (limited owner ps) refl (early-limited owner ps)
   where
-    go : (o : outcome.Outcome) → unpack ps ≡ o → EarlyOutcome o
+    go : (o : outcome.Outcome) → limited owner ps ≡ o → EarlyOutcome o
         → OnlyTwoCarry (counting o (λ c. andThen (outcomeAnswer (calling.unpack qs)) (λ _.
         binding c (flats ps) (noWords c qs) qs)))
     go (outcome.accepted c) u early = call-first (outcomeAnswer (calling.unpack qs)) _ (list-carries qs)
         (call-numbers qs) (bound-none (binding (countedOf c) (flats ps) (noWords (countedOf c) qs) qs)
         (bound-binding (countedOf c) (flats ps) (noWords (countedOf c) qs) qs))
     go (outcome.refused n r) u early =
-        without n (spanned r) (refused-other ps u) (λ e. absurd (omega (arith, e))) (omega arith)
+        without n (spanned r) (limited-other owner ps u) (λ e. absurd (omega (arith, e))) (omega arith)
     go (outcome.repeated i r) u early = (λ s. refl, λ a b. absurd (a refl))
     go (outcome.internal x r) u early =
         without 0 (spanned r) (λ e. absurd (omega (arith, e))) (λ e. absurd (omega (arith, e))) (omega arith)
@@ -231,8 +232,9 @@ bind-carries t names call def room {n} {vs} e =
     rw e at told
   where
     entry : (a : Answer) → Before 8 a
-        → OnlyTwoCarry (andThen a (λ _. listsBound (listOf t names def) (argumentsAt t names call)))
-    entry (accepted us) b = lists-carry (listOf t names def) (argumentsAt t names call)
+        → OnlyTwoCarry (andThen a (λ _.
+        listsBound (nodeOf def (stretchOf t def)) (listOf t names def) (argumentsAt t names call)))
+    entry (accepted us) b = lists-carry _ (listOf t names def) (argumentsAt t names call)
     entry (refused m us) b =
         without m us (λ e. absurd (omega (arith, b .0, e))) (λ e. absurd (omega (arith, b .0, e))) (b .1)
 

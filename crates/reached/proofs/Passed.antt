@@ -4,11 +4,15 @@ use mathlib.Core.List.{List, _++_}
 use Prim.Native.Nat.{ℕ, _+_, _<_, _≤_}
 use native.Mathlib.Omega.{arith}
 use lib.ListN.{length, getD, drop, length-replicate, List·getD-append}
+use Rattle.forest.specs.Forest.{nodeOf}
 use Rattle.table.specs.Answer.{Answer, accepted, refused, andThen}
+use Rattle.table.specs.Check.{stretchOf}
 use Rattle.table.proofs.Answers.{never-passed}
 use Rattle.deflist.specs.Written.{Param}
 use Rattle.deflist.specs.Unpack as outcome
 use Rattle.deflist.specs.Unpack.{unpack}
+use Rattle.deflist.specs.Limited.{mostParameters, limited}
+use Rattle.deflist.proofs.Limited.{limited-accepted}
 use Rattle.deflist.specs.declared.Counts.{Counts}
 use Rattle.parameters.specs.Indices.{countedOf}
 use Rattle.parameters.specs.Params.{listOf}
@@ -51,6 +55,7 @@ module _ (t ns : List ℕ) (call def : ℕ) (list : List ℕ) where
   pub record Passed : Type 0 where
     pub entry : Entered t ns call def (length list)
     pub counts : Counts
+    pub short : length (listOf t ns def) ≤ mostParameters
     pub outcome : unpack (listOf t ns def) ≡ outcome.accepted counts
     pub callValues : List ℕ
     pub inOrder : outcomeAnswer (calling.unpack qs) ≡ accepted callValues
@@ -68,11 +73,12 @@ module _ (t ns : List ℕ) (call def : ℕ) (list : List ℕ) where
   passed {vs} e = by-words (wordsOf t ns call def (length list)) refl e
     where
       by-binding : Entered t ns call def (length list) → (c : Counts)
-          → unpack (listOf t ns def) ≡ outcome.accepted c → {cs ws : List ℕ}
+          → limited (nodeOf def (stretchOf t def)) (listOf t ns def) ≡ outcome.accepted c → {cs ws : List ℕ}
           → outcomeAnswer (calling.unpack qs) ≡ accepted cs
           → binding (countedOf c) fs (noWords (countedOf c) qs) qs ≡ accepted ws
           → listAfter t ns call def list ≡ ws ++ drop (length ws) list → Passed
       by-binding n c u {cs} {ws} o b x =
+          let list-kept = limited-accepted _ (listOf t ns def) u in
           let first = both-passed (starCheck qs) _ b in
           let second = with-passed
           (along (countedOf c .flat) (countedOf c .indices) fs 0 (noWords (countedOf c) qs) qs) _
@@ -83,7 +89,8 @@ module _ (t ns : List ℕ) (call def : ℕ) (list : List ℕ) where
           record {
             entry = n;
             counts = c;
-            outcome = u;
+            short = list-kept .0;
+            outcome = list-kept .1;
             callValues = cs;
             inOrder = o;
             stars = first .0;
@@ -95,7 +102,8 @@ module _ (t ns : List ℕ) (call def : ℕ) (list : List ℕ) where
             exit = rw these x;
           }
 
-      by-counts : Entered t ns call def (length list) → (o : outcome.Outcome) → unpack (listOf t ns def) ≡ o
+      by-counts : Entered t ns call def (length list) → (o : outcome.Outcome)
+          → limited (nodeOf def (stretchOf t def)) (listOf t ns def) ≡ o
           → {ws : List ℕ} → counting o (λ c. andThen (outcomeAnswer (calling.unpack qs)) (λ _.
           binding c fs (noWords c qs) qs)) ≡ accepted ws
           → listAfter t ns call def list ≡ ws ++ drop (length ws) list → Passed
@@ -112,7 +120,8 @@ module _ (t ns : List ℕ) (call def : ℕ) (list : List ℕ) where
       by-words (accepted ws) w e =
           let k = both-passed (entryOf t ns call def (length list)) _ w in
           let x : listAfter t ns call def list ≡ ws ++ drop (length ws) list = rw w refl in
-          by-counts (entered t ns call def (length list) (k .1 .0)) (unpack (listOf t ns def)) refl (k .1 .1) x
+          by-counts (entered t ns call def (length list) (k .1 .0))
+          (limited (nodeOf def (stretchOf t def)) (listOf t ns def)) refl (k .1 .1) x
 
 -- the words of the list at exit
 module _ (t ns : List ℕ) (call def : ℕ) (list : List ℕ) (p : Passed t ns call def list) where

@@ -12,9 +12,13 @@ use lib.Dec.{eqb}
 use Rattle.fields.proofs.Basics.{never}
 use Rattle.fields.specs.Choice.{if'}
 use Rattle.table.specs.Numbers.{emptyParameter}
+use Rattle.forest.specs.Forest.{nodeOf}
 use Rattle.table.specs.Answer.{Answer, accepted, refused, andThen, refusedAt}
+use Rattle.table.specs.Check.{stretchOf}
 use Rattle.deflist.specs.Unpack as outcome
 use Rattle.deflist.specs.Unpack.{unpack}
+use Rattle.deflist.specs.Limited.{limited}
+use Rattle.deflist.proofs.Limited.{limited-accepted}
 use Rattle.deflist.specs.declared.Counts.{Counts}
 use Rattle.parameters.specs.Indices.{countedOf}
 use Rattle.parameters.specs.Params.{listOf}
@@ -26,7 +30,7 @@ use Rattle.bind.specs.Binding.{andWith, along}
 use Rattle.bind.specs.Binding.{starCheck, emptyCheck, binding}
 use Rattle.bind.specs.Job.{counting, noWords, listsBound, argumentsAt, entryOf, wordsOf, answeredAt, bindOf}
 use Rattle.reached.specs.Said.{flatsAt}
-use Rattle.reached.proofs.Early.{Early, early-entry, EarlyOutcome, early-list, early-call}
+use Rattle.reached.proofs.Early.{Early, early-entry, EarlyOutcome, early-limited, early-call}
 
 -- a refusal of two checks in order is one of them
 either : (a : Answer) (next : Unit {0} → Answer) {n : ℕ} {vs : List ℕ} → andThen a next ≡ refused n vs
@@ -90,7 +94,7 @@ module _ (t ns : List ℕ) (call def : ℕ) where
   unfolding bindOf wordsOf listsBound
   late room n {vs} e low = by-words (wordsOf t ns call def room) refl e
     where
-      by-counts : (o : outcome.Outcome) → unpack (listOf t ns def) ≡ o → EarlyOutcome o
+      by-counts : (o : outcome.Outcome) → limited (nodeOf def (stretchOf t def)) (listOf t ns def) ≡ o → EarlyOutcome o
           → counting o (λ c. andThen (outcomeAnswer (calling.unpack qs)) (λ _.
           binding c (flatsAt t ns def) (noWords c qs) qs)) ≡ refused n vs → Late t ns call def n vs
       by-counts (outcome.accepted c) u early b = go (either (outcomeAnswer (calling.unpack qs)) _ b)
@@ -100,8 +104,13 @@ module _ (t ns : List ℕ) (call def : ℕ) where
               × (binding (countedOf c) (flatsAt t ns def) (noWords (countedOf c) qs) qs ≡ refused n vs)))
               → Late t ns call def n vs
           go (inl y) = absurd (not-early (outcomeAnswer (calling.unpack qs)) n (early-call qs) y low)
-          go (inr y) =
-              record { counts = c; outcome = u; callValues = y .0; inOrder = y .1 .0; refuses = y .1 .1 }
+          go (inr y) = record {
+            counts = c;
+            outcome = limited-accepted _ (listOf t ns def) u .1;
+            callValues = y .0;
+            inOrder = y .1 .0;
+            refuses = y .1 .1;
+          }
       by-counts (outcome.refused m r) u early b = let same : m ≡ n = cc in absurd (omega arith)
       by-counts (outcome.repeated i r) u early b = let same : n ≡ 11 = cc in absurd (omega arith)
       by-counts (outcome.internal x r) u early b = let same : n ≡ 0 = cc in absurd (omega arith)
@@ -113,10 +122,12 @@ module _ (t ns : List ℕ) (call def : ℕ) where
         where
           go : (entryOf t ns call def room ≡ refused n vs)
               ⊎ ((us : List ℕ) × ((entryOf t ns call def room ≡ accepted us)
-              × (listsBound (listOf t ns def) qs ≡ refused n vs))) → Late t ns call def n vs
+              × (listsBound (nodeOf def (stretchOf t def)) (listOf t ns def) qs ≡ refused n vs)))
+              → Late t ns call def n vs
           go (inl y) = absurd
               (not-early (entryOf t ns call def room) n (early-entry t ns call def room) y low)
-          go (inr y) = by-counts (unpack (listOf t ns def)) refl (early-list (listOf t ns def)) (y .1 .1)
+          go (inr y) = by-counts (limited (nodeOf def (stretchOf t def)) (listOf t ns def)) refl
+              (early-limited _ (listOf t ns def)) (y .1 .1)
 
   abbrev fold : Counts → Answer
   fold c = along (countedOf c .flat) (countedOf c .indices) (flatsAt t ns def) 0 (noWords (countedOf c) qs) qs

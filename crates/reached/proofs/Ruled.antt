@@ -179,6 +179,7 @@ module _ (t names : List ℕ) (call def : ℕ) (list : List ℕ) {vs : List ℕ}
         isACall = pass .entry .callFits;
         isADef = pass .entry .isADef;
         room = pass .entry .room;
+        short = pass .short;
         cut = (w .0, record { joins = w .1; good = w .2 });
         order = call-ordered qs (pass .inOrder);
         matching = record {

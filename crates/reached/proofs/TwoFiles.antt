@@ -16,6 +16,7 @@ use Rattle.table.specs.Check.{lengthSound, checkOf, stretchOf, wants, nodeFits,
 use Rattle.table.specs.Depth.{classWeight, weight, firstDeep, deepIn}
 use Rattle.deflist.specs.Written.{kindAt, paramOf, paramsIn, written}
 use Rattle.deflist.specs.Unpack.{slashFrom, hasName, firstSame, repeats, advance, step, finish, run, start, unpack}
+use Rattle.deflist.specs.Limited.{limited}
 use Rattle.parameters.specs.Indices.{countedOf}
 use Rattle.parameters.specs.Params.{listOf}
 use Rattle.arguments.specs.Written.{kindAt as argumentKind, argumentOf, argumentsIn}
@@ -30,9 +31,9 @@ pub two-files : (bindOf table names 5 1 4 ≡ refused emptyParameter (2 ∷ 6 �
     × (bindOf table names 8 1 4 ≡ refused repeatedNamed (12 ∷ 11 ∷ 12 ∷ 2 ∷ 10 ∷ []))
 unfolding bindOf wordsOf entryOf listsBound argumentsAt isDef binding along starCheck emptyCheck flats flatsFrom
     countedOf listOf written paramsIn paramOf kindAt slashFrom hasName firstSame repeats advance step finish run start
-    unpack argumentKind argumentOf argumentsIn argumentHas firstArgument repeatsName checkArgument advanceCall runCall
-    unpackCall entryCheck wants nodeFits stretchOf checkOf lengthSound field sizeOf kidsOf restOf forestIn forest
-    count countTree nameOf same kindIn kindOf nameSound spanSound sourceSound fileSound endsBy topOf filesOf
+    unpack limited argumentKind argumentOf argumentsIn argumentHas firstArgument repeatsName checkArgument advanceCall
+    runCall unpackCall entryCheck wants nodeFits stretchOf checkOf lengthSound field sizeOf kidsOf restOf forestIn
+    forest count countTree nameOf same kindIn kindOf nameSound spanSound sourceSound fileSound endsBy topOf filesOf
     fieldsSound wholeTrees classes permitted wanted permits kidsSound soundNode soundAt rootSound contextOf
     recordSound firstFalse firstUnsound classWeight weight firstDeep deepIn
 two-files = (refl, refl)

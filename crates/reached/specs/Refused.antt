@@ -58,7 +58,7 @@ OnlyTwoCarry (refused n vs) = ((n ≡ duplicatedParameter) ⊎ (n ≡ repeatedNa
     × ((n ≡ duplicatedParameter → ⊥) → (n ≡ repeatedNamed → ⊥) → length vs ≤ 4)
 
 -- the source file number that a refusal from 10 on carries: that of the node that it names, which is the def's for 10
--- to 18 and 84, and the call's for 20 to 24 and 80 to 83
+-- to 19 and 84, and the call's for 20 to 24 and 80 to 83
 pub record BoundFile (t : List ℕ) (call def n : ℕ) (vs : List ℕ) : Type 0 where
   pub there : 4 ≤ length vs
   pub named : getD vs 3 0 ≡ fileAt t (getD vs 0 0)

@@ -12,6 +12,7 @@ use Rattle.table.specs.Check.{checkOf, nodeFits}
 use Rattle.table.specs.declared.Wanted.the-variants.{Call}
 use Rattle.deflist.specs.Written.{Name}
 use Rattle.deflist.specs.Unpack.{modeArgs, modeKwargs}
+use Rattle.deflist.specs.Limited.{mostParameters}
 use Rattle.parameters.specs.Params.{listOf}
 use Rattle.demand3.specs.Cut.{Cut}
 use Rattle.demand3.specs.Given.{CutOf}
@@ -60,6 +61,7 @@ pub record Rules (t names : List ℕ) (call def n : ℕ) : Type 0 where
   pub isACall : nodeFits t call Call ≡ true
   pub isADef : isDef t def ≡ true
   pub room : length (listOf t names def) + length (argumentsAt t names call) ≤ n
+  pub short : length (listOf t names def) ≤ mostParameters
   pub cut : (c : Cut) × CutOf (listOf t names def) c
   pub order : (a : CallArgs) × Ordered (argumentsAt t names call) a
   pub matching : Matching (flatsAt t names def) (argumentsAt t names call)

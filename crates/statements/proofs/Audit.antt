@@ -25,7 +25,8 @@ use Rattle.audit.specs.declared.Role.the-variants.{AsTarget, AsType}
 use Rattle.audit.specs.declared.Roles.the-variants.{Nowhere}
 use Rattle.audit.specs.Roles.{placed}
 use Rattle.audit.specs.Job.{allErrors, auditOf}
-use Rattle.audited.specs.Said.{All, rootIn, rootsIn, isAccepted, Accepts}
+use Rattle.deflist.specs.Written.{rootIn}
+use Rattle.audited.specs.Said.{All, rootsIn, isAccepted, Accepts}
 use Rattle.audited.specs.Checked.{targetsOf, typesOf, everywhere, Each, Fitting}
 use Rattle.audited.proofs.Everywhere.{all-map}
 use Rattle.audited.proofs.Checked.{each-map}

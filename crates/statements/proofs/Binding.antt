@@ -18,6 +18,7 @@ use Rattle.table.specs.Answer.{accepted, refused}
 use Rattle.table.specs.Check.{checkOf, nodeFits}
 use Rattle.table.specs.declared.Wanted.the-variants.{Call}
 use Rattle.deflist.specs.Written.{Name}
+use Rattle.deflist.specs.Limited.{mostParameters}
 use Rattle.deflist.specs.Unpack.{modePosOnly, modeArgs, modeKwargs}
 use Rattle.parameters.specs.Params.{listOf}
 use Rattle.demand3.specs.Cut.{Cut, join, namesOf, firsts, Defaulted, SlashGood, StarGood}
@@ -222,14 +223,15 @@ filled-against-positional t names call def room e =
     )
 
 -- "A call and a def that meet the rules (stated without the job) are accepted."
--- In words: in a sound table, a call and a def with room for both lists, a list of parameters that can be cut,
--- arguments in order, no star among them, a parameter for each, none for two, and an argument for each parameter
+-- In words: in a sound table, a call and a def with room for both lists, a list of at most 48 parameters that can be
+-- cut, arguments in order, no star among them, a parameter for each, none for two, and an argument for each parameter
 -- without default: these are accepted, with the two counts as the answer.
 pub accepted-by-rules : (t names : List ℕ) (call def : ℕ) (list : List ℕ)
     → checkOf t names ≡ accepted []
     → nodeFits t call Call ≡ true
     → isDef t def ≡ true
     → length (listOf t names def) + length (argumentsAt t names call) ≤ length list
+    → length (listOf t names def) ≤ mostParameters
     → (c : Cut)
     → join c ≡ listOf t names def
     → SlashGood (c .before)
@@ -258,13 +260,14 @@ pub accepted-by-rules : (t names : List ℕ) (call def : ℕ) (list : List ℕ)
     ⊎ ((k : ℕ) × ((r : Node) × (IsAt (argumentsAt t names call) k (named r (p .name)) × CanBeNamed p))))
     → bindOf t names call def (length list)
     ≡ accepted (length (flatsAt t names def) ∷ length (argumentsAt t names call) ∷ [])
-accepted-by-rules t names call def list sound isCall isADef room c j b s n d o kinds star kw own noArgs noKwargs places
-    byName notTwice needed =
+accepted-by-rules t names call def list sound isCall isADef room short c j b s n d o kinds star kw own noArgs noKwargs
+    places byName notTwice needed =
     theorem.accepted-by-rules t names call def list record {
       sound = sound;
       isACall = isCall;
       isADef = isADef;
       room = room;
+      short = short;
       cut = (c, record { joins = j; good = record { slash = b; star = s; distinct = n; defaulted = d } });
       order = (o, record { kinds = kinds; star-at = star; kwargs-at = kw; distinct = own });
       matching = record {
@@ -337,6 +340,7 @@ pub accepted-has-rules : (t names : List ℕ) (call def : ℕ) (list : List ℕ)
     × (nodeFits t call Call ≡ true)
     × (isDef t def ≡ true)
     × (length (listOf t names def) + length (argumentsAt t names call) ≤ length list)
+    × (length (listOf t names def) ≤ mostParameters)
     × (c : Cut)
     × (join c ≡ listOf t names def)
     × SlashGood (c .before)
@@ -372,6 +376,7 @@ accepted-has-rules t names call def list bound =
       x .isACall,
       x .isADef,
       x .room,
+      x .short,
       x .cut .0,
       x .cut .1 .joins,
       g .slash,
@@ -461,8 +466,9 @@ pub bind-carries : (t names : List ℕ) (call def room : ℕ) {n : ℕ} {vs : Li
 bind-carries = theorem-kept.bind-carries
 
 -- the corner cases of W-204
--- In words: the definition of the job answers each row's lists as the row shows.
-pub corner-cases : map (λ (r : Row). listsBound (r .params) (r .arguments)) rows ≡ map (λ (r : Row). r .shown) rows
+-- In words: the definition of the job answers each row's lists as the row shows, whatever the record of the def.
+pub corner-cases : (def : Node)
+    → map (λ (r : Row). listsBound def (r .params) (r .arguments)) rows ≡ map (λ (r : Row). r .shown) rows
 corner-cases = theorem-cases.corner-cases
 
 -- the number of the corner cases
@@ -471,7 +477,7 @@ pub how-many-cases : length rows ≡ 18
 how-many-cases = theorem-cases.how-many
 
 -- W-208: "all answers with a span carry the file number": the binding job, which reads a call and a def
--- In words: the number is that of the record that the refusal names. For 10 to 18 and 84 it is the def's, for 20 to 24
+-- In words: the number is that of the record that the refusal names. For 10 to 19 and 84 it is the def's, for 20 to 24
 -- and 80 to 83 the call's.
 pub bind-file : (t names : List ℕ) (call def room : ℕ) {n : ℕ} {vs : List ℕ}
     → bindOf t names call def room ≡ refused n vs

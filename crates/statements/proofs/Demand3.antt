@@ -6,15 +6,17 @@
 -- Assumes nothing.
 use mathlib.Core.Path.{_≡_}
 use mathlib.Core.Logic.{_⊎_, _↔_}
-use mathlib.Core.List.{List, [], _++_}
+use mathlib.Core.List.{List, [], _∷_, _++_}
 use Prim.Native.Nat.{ℕ, _-_, _*_, _/_, _<_, _≤_}
 use lib.ListN.{length, getD, take, drop}
 use Rattle.forest.specs.Forest.{recordBytes, nodeOf}
 use Rattle.forest.specs.Names.{Distinct}
 use Rattle.soundness.specs.KindNumbers.{kindDef, kindLambda}
-use Rattle.table.specs.Answer.{accepted}
+use Rattle.table.specs.Numbers.{tooManyParameters}
+use Rattle.table.specs.Answer.{accepted, refused}
 use Rattle.table.specs.Check.{checkOf}
 use Rattle.deflist.specs.Written.{Param}
+use Rattle.deflist.specs.Limited.{mostParameters}
 use Rattle.deflist.specs.Unpack.{modePosOnly, modePosOrName, modeNameOnly, modeArgs, modeKwargs}
 use Rattle.parameters.specs.Indices.{posOnly, posOrNamed, argsRange, namedOnly, kwargsRange}
 use Rattle.parameters.specs.declared.Counted.{Counted}
@@ -63,10 +65,11 @@ pub cut-unique : (l : List Param) (c d : Cut)
 cut-unique = theorem.cut-unique
 
 -- "In a sound table, with a long enough mode buffer, the parameter list of a def or lambda is accepted exactly when it
--- can be cut, in written order, into: nothing, or one or more ordinary parameters and `/`; ordinary parameters;
--- nothing, or `*` with at least one ordinary parameter, or `*args` with any number; nothing or `**kwargs`; all names
--- distinct; and in the first two parts none without default after one with."
--- In words: the job accepts the list if and only if a cut joins to it whose parts and names are as asked.
+-- has at most 48 written entries and can be cut, in written order, into: nothing, or one or more ordinary parameters
+-- and `/`; ordinary parameters; nothing, or `*` with at least one ordinary parameter, or `*args` with any number;
+-- nothing or `**kwargs`; all names distinct; and in the first two parts none without default after one with."
+-- In words: the job accepts the list if and only if it has at most 48 entries and a cut joins to it whose parts and
+-- names are as asked.
 pub accepted-iff-cut : (t names : List ℕ) (node : ℕ) (ms : List ℕ)
     → checkOf t names ≡ accepted []
     → node < length t / recordBytes
@@ -74,18 +77,38 @@ pub accepted-iff-cut : (t names : List ℕ) (node : ℕ) (ms : List ℕ)
     ⊎ (nodeOf node (drop (recordBytes * node) t) .kind ≡ kindLambda)
     → length (listOf t names node) ≤ length ms
     → ((vs : List ℕ) × (paramsOf t names node (length ms) ≡ accepted vs))
-    ↔ ((c : Cut)
+    ↔ ((length (allParameters t names node) ≤ mostParameters)
+    × ((c : Cut)
     × (join c ≡ listOf t names node)
     × SlashGood (c .before)
     × StarGood (c .star)
     × Distinct (namesOf (join c))
-    × Defaulted (firsts (c .before) ++ c .middle))
+    × Defaulted (firsts (c .before) ++ c .middle)))
 accepted-iff-cut t names node ms s w k r =
     let e = theorem.accepted-iff-cut t names node ms (given s w k r) in (
-      λ x. let y = e .0 x in
-          (y .0, y .1 .joins, y .1 .good .slash, y .1 .good .star, y .1 .good .distinct, y .1 .good .defaulted),
-      λ x. e .1 (x .0, cutOf (x .1) (x .2) (x .3) (x .4) (x .5)),
+      λ x. let l = e .0 x in let y = l .1 in (
+        l .0,
+        (y .0, y .1 .joins, y .1 .good .slash, y .1 .good .star, y .1 .good .distinct, y .1 .good .defaulted),
+      ),
+      λ x. let y = x .1 in e .1 (x .0, (y .0, cutOf (y .1) (y .2) (y .3) (y .4) (y .5))),
     )
+
+-- W-211: "A written list of over 48 entries, marks counted, is refused. Refusals: 19 on the Def or Lambda node"
+-- In words: the job answers 19 with the node, the span and the file of the def or lambda if and only if the list has
+-- more than 48 entries, whatever else is wrong with it.
+pub nineteen-iff-long : (t names : List ℕ) (node : ℕ) (ms : List ℕ)
+    → checkOf t names ≡ accepted []
+    → node < length t / recordBytes
+    → (nodeOf node (drop (recordBytes * node) t) .kind ≡ kindDef)
+    ⊎ (nodeOf node (drop (recordBytes * node) t) .kind ≡ kindLambda)
+    → length (listOf t names node) ≤ length ms
+    → (paramsOf t names node (length ms) ≡ refused tooManyParameters (node
+    ∷ nodeOf node (drop (recordBytes * node) t) .begin
+    ∷ nodeOf node (drop (recordBytes * node) t) .stop
+    ∷ nodeOf node (drop (recordBytes * node) t) .file
+    ∷ []))
+    ↔ (mostParameters < length (allParameters t names node))
+nineteen-iff-long t names node ms s w k r = theorem.nineteen-iff-long t names node ms (given s w k r)
 
 -- "The five index ranges are then the cut's"
 -- In words: the accepted answer has the begin and the end of each of the cut's five ranges, and the flat count.
@@ -95,6 +118,7 @@ pub ranges-are-the-cuts : (t names : List ℕ) (node : ℕ) (ms : List ℕ)
     → (nodeOf node (drop (recordBytes * node) t) .kind ≡ kindDef)
     ⊎ (nodeOf node (drop (recordBytes * node) t) .kind ≡ kindLambda)
     → length (listOf t names node) ≤ length ms
+    → length (allParameters t names node) ≤ mostParameters
     → (c : Cut)
     → join c ≡ listOf t names node
     → SlashGood (c .before)
@@ -102,8 +126,8 @@ pub ranges-are-the-cuts : (t names : List ℕ) (node : ℕ) (ms : List ℕ)
     → Distinct (namesOf (join c))
     → Defaulted (firsts (c .before) ++ c .middle)
     → paramsOf t names node (length ms) ≡ accepted (cutValues c)
-ranges-are-the-cuts t names node ms s w k r c j b a n d =
-    theorem.ranges-are-the-cuts t names node ms (given s w k r) c (cutOf j b a n d)
+ranges-are-the-cuts t names node ms s w k r l c j b a n d =
+    theorem.ranges-are-the-cuts t names node ms (given s w k r) l c (cutOf j b a n d)
 
 -- "The five index ranges are then the cut's": what code answers
 -- In words: an answer that keeps the job's promise is accepted, and its five ranges and its flat count are the cut's.
@@ -113,6 +137,7 @@ pub answer-has-the-ranges : (t names : List ℕ) (node : ℕ) (ms : List ℕ)
     → (nodeOf node (drop (recordBytes * node) t) .kind ≡ kindDef)
     ⊎ (nodeOf node (drop (recordBytes * node) t) .kind ≡ kindLambda)
     → length (listOf t names node) ≤ length ms
+    → length (allParameters t names node) ≤ mostParameters
     → (c : Cut)
     → join c ≡ listOf t names node
     → SlashGood (c .before)
@@ -129,8 +154,8 @@ pub answer-has-the-ranges : (t names : List ℕ) (node : ℕ) (ms : List ℕ)
     × (namedOnly (a .indices) (a .flat) ≡ cutRanges c .namedOnly)
     × (kwargsRange (a .indices) (a .flat) ≡ cutRanges c .kwargs)
     × (a .flat ≡ cutRanges c .kwargs .upto)
-answer-has-the-ranges t names node ms s w k m c j b a n d r e =
-    let x = theorem.answer-has-the-ranges t names node ms (given s w k m) c (cutOf j b a n d) r e in (
+answer-has-the-ranges t names node ms s w k m l c j b a n d r e =
+    let x = theorem.answer-has-the-ranges t names node ms (given s w k m) l c (cutOf j b a n d) r e in (
       x .0,
       x .1,
       x .2 .posOnlyIs,
@@ -206,6 +231,7 @@ pub modes-are-the-ranges : (t names : List ℕ) (node : ℕ) (ms : List ℕ)
     → (nodeOf node (drop (recordBytes * node) t) .kind ≡ kindDef)
     ⊎ (nodeOf node (drop (recordBytes * node) t) .kind ≡ kindLambda)
     → length (listOf t names node) ≤ length ms
+    → length (allParameters t names node) ≤ mostParameters
     → (c : Cut)
     → join c ≡ listOf t names node
     → SlashGood (c .before)
@@ -222,8 +248,8 @@ pub modes-are-the-ranges : (t names : List ℕ) (node : ℕ) (ms : List ℕ)
     → getD (modesAfter t names node ms) i 0 ≡ modeNameOnly)
     × ((i : ℕ) → cutRanges c .kwargs .from ≤ i → i < cutRanges c .kwargs .upto
     → getD (modesAfter t names node ms) i 0 ≡ modeKwargs)
-modes-are-the-ranges t names node ms s w k r c j b a n d =
-    let x = theorem.modes-are-the-ranges t names node ms (given s w k r) c (cutOf j b a n d) in
+modes-are-the-ranges t names node ms s w k r l c j b a n d =
+    let x = theorem.modes-are-the-ranges t names node ms (given s w k r) l c (cutOf j b a n d) in
     (x .posOnly, x .posOrNamed, x .args, x .namedOnly, x .kwargs)
 
 -- every other byte is as it was
@@ -234,6 +260,7 @@ pub other-bytes-stay : (t names : List ℕ) (node : ℕ) (ms : List ℕ)
     → (nodeOf node (drop (recordBytes * node) t) .kind ≡ kindDef)
     ⊎ (nodeOf node (drop (recordBytes * node) t) .kind ≡ kindLambda)
     → length (listOf t names node) ≤ length ms
+    → length (allParameters t names node) ≤ mostParameters
     → (c : Cut)
     → join c ≡ listOf t names node
     → SlashGood (c .before)
@@ -243,8 +270,8 @@ pub other-bytes-stay : (t names : List ℕ) (node : ℕ) (ms : List ℕ)
     → (i : ℕ)
     → cutFlat c ≤ i
     → getD (modesAfter t names node ms) i 0 ≡ getD ms i 0
-other-bytes-stay t names node ms s w k r c j b a n d =
-    theorem.other-bytes-stay t names node ms (given s w k r) c (cutOf j b a n d)
+other-bytes-stay t names node ms s w k r l c j b a n d =
+    theorem.other-bytes-stay t names node ms (given s w k r) l c (cutOf j b a n d)
 
 -- the buffer keeps its length
 -- In words: after the job the mode buffer is as long as it was.
@@ -254,6 +281,7 @@ pub buffer-as-long : (t names : List ℕ) (node : ℕ) (ms : List ℕ)
     → (nodeOf node (drop (recordBytes * node) t) .kind ≡ kindDef)
     ⊎ (nodeOf node (drop (recordBytes * node) t) .kind ≡ kindLambda)
     → length (listOf t names node) ≤ length ms
+    → length (allParameters t names node) ≤ mostParameters
     → (c : Cut)
     → join c ≡ listOf t names node
     → SlashGood (c .before)
@@ -261,5 +289,5 @@ pub buffer-as-long : (t names : List ℕ) (node : ℕ) (ms : List ℕ)
     → Distinct (namesOf (join c))
     → Defaulted (firsts (c .before) ++ c .middle)
     → length (modesAfter t names node ms) ≡ length ms
-buffer-as-long t names node ms s w k r c j b a n d =
-    theorem.buffer-as-long t names node ms (given s w k r) c (cutOf j b a n d)
+buffer-as-long t names node ms s w k r l c j b a n d =
+    theorem.buffer-as-long t names node ms (given s w k r) l c (cutOf j b a n d)

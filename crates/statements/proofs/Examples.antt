@@ -4,12 +4,13 @@
 use mathlib.Core.Path.{_≡_}
 use mathlib.Core.List.{map}
 use lib.ListN.{length}
+use Rattle.forest.specs.Forest.{Node}
 use Rattle.examples.specs.Table.{Row, answer, table}
 use Rattle.examples.proofs.Examples as theorem
 
 -- document 01's table of proved examples
--- In words: the definitions answer each row as the row shows.
-pub examples : map (λ (r : Row). answer (r .asked)) table ≡ map (λ (r : Row). r .shown) table
+-- In words: the definitions answer each row as the row shows, whatever the record of the def that has the parameters.
+pub examples : (def : Node) → map (λ (r : Row). answer def (r .asked)) table ≡ map (λ (r : Row). r .shown) table
 examples = theorem.examples
 
 -- "14 rows"

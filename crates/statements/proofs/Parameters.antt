@@ -1,4 +1,4 @@
--- THE PARAMETER JOB: 1 TO 4, 6, 7, 10 TO 18
+-- THE PARAMETER JOB: 1 TO 4, 6, 7, 10 TO 19
 --
 -- Theorems of crate `parameters` over the answer of `parameters::params` and the mode buffer at exit; the cut is below,
 -- in demand 3. What the records `NamedTwice` and `FirstPassing` hold stands field by field. Each is proved by citing

@@ -66,6 +66,10 @@ starLast = 17
 abbrev pub noNormalAfterStar : ℕ
 noNormalAfterStar = 18
 
+-- more parameters than a list may have
+abbrev pub tooManyParameters : ℕ
+tooManyParameters = 19
+
 -- positional after non positional
 abbrev pub positionalAfterNonPositional : ℕ
 positionalAfterNonPositional = 20

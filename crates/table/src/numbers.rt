@@ -31,6 +31,8 @@ pub const STAR_LAST: u32 = 17; // `*` last
 
 pub const NO_NORMAL_AFTER_STAR: u32 = 18; // the entry after `*` is no Normal
 
+pub const TOO_MANY_PARAMETERS: u32 = 19; // more parameters than a list may have
+
 pub const POSITIONAL_AFTER_NON_POSITIONAL: u32 = 20; // positional after non positional
 
 pub const NAMED_AFTER_STAR: u32 = 21; // named after star or `**`

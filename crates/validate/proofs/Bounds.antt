@@ -17,7 +17,7 @@ use Rattle.forest.proofs.Stretch.{count-forest, length-kids}
 use Rattle.soundness.specs.KindNumbers.{kindEllipsis, kindLambda}
 use Rattle.soundness.specs.Kinds.{statement, expression, parameter, kindIn as rowIn, kindOf, classOf}
 use Rattle.deflist.specs.Written.{Param, nodeIn, kindIn, paramOf, paramsIn}
-use Rattle.deflist.specs.Unpack.{unpack}
+use Rattle.deflist.specs.Limited.{limited}
 use Rattle.deflist.specs.Told.{told}
 use Rattle.deflist.specs.declared.Judged.{Judged}
 use Rattle.deflist.specs.declared.Judged.the-variants.{Accepted, Refused}
@@ -68,21 +68,22 @@ error-few (Accepted c) = omega arith
 error-few (Refused f) = omega arith
 
 -- a parameter list: no more than its parameters, and one
-pub params-few : (d : Dialect) (ps : List Param) → length («validate_params» d ps) ≤ length ps + 1
+pub params-few : (d : Dialect) (owner : Node) (ps : List Param)
+    → length («validate_params» d owner ps) ≤ length ps + 1
 unfolding «validate_params»
-params-few d ps = simp length-append (omega (
+params-few d owner ps = simp length-append (omega (
   arith,
   marks-few d Star ps,
   marks-few d SlashMark ps,
   every-few ps,
-  error-few (told (unpack ps)),
+  error-few (told (limited owner ps)),
 ))
 
 pub with-few : (d : Dialect) (names : List ℕ) (b : Bool) (n : ℕ) (r : Node) (ks : Forest)
     → length (withParams d names b n r ks) ≤ length (paramsIn names ks) + 2
 unfolding withParams
 with-few d names b n r ks =
-    simp length-append (omega (arith, unless-few b (errAt n r), params-few d (paramsIn names ks)))
+    simp length-append (omega (arith, unless-few b (errAt n r), params-few d r (paramsIn names ks)))
 
 -- a statement by itself: two, and its parameters, and what is below it
 arm-few : (d : Dialect) (names : List ℕ) (s : Standing) (r : Node) (ks : Forest) (visit : Standing → List Err) (n : ℕ)

@@ -9,7 +9,7 @@ use Rattle.dialect.specs.declared.Dialect.{Dialect}
 use Rattle.forest.specs.Forest.{nodeOf, spanOf, kidsOf, restOf, forest}
 use Rattle.forest.proofs.Stretch.{forest-none, forest-induction, rest-part, length-rest, length-kids}
 use Rattle.deflist.specs.Written.{paramsIn, written}
-use Rattle.deflist.specs.Unpack.{unpack}
+use Rattle.deflist.specs.Limited.{limited}
 use Rattle.deflist.specs.Told.{told}
 use Rattle.deflist.specs.Reading.{isListed, kindHere, Inside}
 use Rattle.deflist.specs.declared.Counts.{Counts}
@@ -124,7 +124,7 @@ module _ {l : Listing} (d : Dialect) (m : Mark) (i : ℕ) (t xs : List ℕ) {p :
       → StoresFew l (length t / 24) (marks d m (paramsIn [] (forest i t))) xs n ys
   marks-not off s = rw (← p-is, off) s
 
--- what unpack says of a list
+-- what is said of a list
 module _ {l : Listing} {j k : Judged} (j-is : j ≡ k) (xs : List ℕ) where
   pub error-none : {c : Counts} → j ≡ Accepted c → StoresFew l 1 (unpackError k) xs 0 xs
   error-none h = record { few = omega arith; stores = rw (← j-is, h) (stores-none xs) }
@@ -143,7 +143,7 @@ pub kids-within : (i : ℕ) (t : List ℕ) {list : List ℕ} → (24 ≤ length 
     → 24 * (i + 1) + length list ≤ 50400
 kids-within i t h list-is = rw list-is (omega (arith, length-kids t, h .0, h .1))
 
--- the whole of a list: every `*`, every `/`, unpack's error
+-- the whole of a list: every `*`, every `/`, its one error
 module _ {l : Listing} (d : Dialect) (names t : List ℕ) (i : ℕ) where
   told-anywhere : (m : Mark) {list xs : List ℕ} {n : ℕ} {ys : List ℕ} → list ≡ kidsOf t
       → Stores l (marks d m (paramsIn [] (forest (i + 1) list))) xs n ys
@@ -155,20 +155,20 @@ module _ {l : Listing} (d : Dialect) (names t : List ℕ) (i : ℕ) where
       → Stores l (marks d Star (paramsIn [] (forest (i + 1) list))) xs a ys → k ≡ freeAt l a ys
       → Stores l (marks d SlashMark (paramsIn [] (forest (i + 1) list))) (after k ys) b zs
       → m ≡ freeAt l (a + b) (back k ys zs)
-      → Stores l (unpackError (told (unpack (written names i t))))
+      → Stores l (unpackError (told (limited (nodeOf i t) (written names i t))))
       (after m (back k ys zs)) c vs
-      → StoresFew l (1 + length t / 24) («validate_params» d (written names i t)) xs (a + b + c)
+      → StoresFew l (1 + length t / 24) («validate_params» d (nodeOf i t) (written names i t)) xs (a + b + c)
       (back m (back k ys zs) vs)
   unfolding «validate_params»
-  params-all list-is stars k-is slashes m-is last = few-by («validate_params» d (written names i t))
-      (omega (arith, params-few d (written names i t), written-short names i t))
+  params-all list-is stars k-is slashes m-is last = few-by («validate_params» d (nodeOf i t) (written names i t))
+      (omega (arith, params-few d (nodeOf i t) (written names i t), written-short names i t))
       (stores-both _ _ (stores-both _ _ (told-anywhere Star list-is stars) k-is
       (told-anywhere SlashMark list-is slashes)) m-is last)
 
   -- what a parameter list's node is told
   pub with-all : (p : Bool) (n : ℕ) {xs ys zs : List ℕ} {m r at : ℕ} → Stores l (unless p n (nodeOf i t)) xs m ys
       → at ≡ freeAt l m ys
-      → Stores l («validate_params» d (written names i t)) (after at ys) r zs
+      → Stores l («validate_params» d (nodeOf i t) (written names i t)) (after at ys) r zs
       → StoresFew l (2 + length t / 24) (withParams d names p n (nodeOf i t) (forest (i + 1) (kidsOf t))) xs (m + r)
       (back at ys zs)
   unfolding withParams written

@@ -1,4 +1,4 @@
--- Where no parameter list is refused, the module pass has no error of 10 to 18: its own errors are then all. Assumes
+-- Where no parameter list is refused, the module pass has no error of 10 to 19: its own errors are then all. Assumes
 -- nothing.
 use mathlib.Core.Path.{_≡_, refl, _∙_}
 use mathlib.Core.Bool.{Bool, true, false, _&&_, _||_, not}
@@ -17,7 +17,7 @@ use Rattle.table.specs.Numbers.{defNotPermitted, topLevelFor, topLevelIf, break
 use Rattle.table.specs.Numbers.{returnMisplaced, loadNotAtTop, loadNotPermitted, ellipsisNotPermitted}
 use Rattle.table.specs.Numbers.{lambdaNotPermitted}
 use Rattle.deflist.specs.Written.{Param, nodeIn, kindIn, paramsIn}
-use Rattle.deflist.specs.Unpack.{unpack}
+use Rattle.deflist.specs.Limited.{limited}
 use Rattle.deflist.specs.Told.{told}
 use Rattle.deflist.specs.declared.Judged.{Judged}
 use Rattle.deflist.specs.declared.Judged.the-variants.{Accepted, Refused}
@@ -50,7 +50,7 @@ unfoldable mutual
 
   pub listPasses : List ℕ → Tree → Bool
   listPasses names (node r ks) =
-      (not (hasList (r .kind)) || passes (told (unpack (paramsIn names ks)))) && listsPass names ks
+      (not (hasList (r .kind)) || passes (told (limited r (paramsIn names ks)))) && listsPass names ks
 
 passes-quiet : (j : Judged) → passes j ≡ true → unpackError j ≡ []
 passes-quiet (Accepted c) e = refl
@@ -100,23 +100,23 @@ own-marks d m ps = go (permits d m)
 
 module _ (d : Dialect) (names : List ℕ) where
   own-with : (b : Bool) (n : ℕ) (r : Node) (ks : Forest) → isListError n ≡ false
-      → unpackError (told (unpack (paramsIn names ks))) ≡ [] → OwnOnly (withParams d names b n r ks)
+      → unpackError (told (limited r (paramsIn names ks))) ≡ [] → OwnOnly (withParams d names b n r ks)
   unfolding withParams «validate_params»
   own-with b n r ks h passed =
       let ps : List Param = paramsIn names ks in
-      own-both (unlessIn b (errAt n r)) ((marks d Star ps ++ marks d SlashMark ps) ++ unpackError (told (unpack ps)))
+      own-both (unlessIn b (errAt n r)) ((marks d Star ps ++ marks d SlashMark ps) ++ unpackError (told (limited r ps)))
       (own-unless b n r h)
-      (own-both (marks d Star ps ++ marks d SlashMark ps) (unpackError (told (unpack ps)))
+      (own-both (marks d Star ps ++ marks d SlashMark ps) (unpackError (told (limited r ps)))
       (own-both (marks d Star ps) (marks d SlashMark ps) (own-marks d Star ps) (own-marks d SlashMark ps))
       (rw passed own-none))
 
   -- a node that has a list, where it passes
   abbrev Passed : Node → Forest → Type 0
-  Passed r ks = (not (hasList (r .kind)) || passes (told (unpack (paramsIn names ks)))) ≡ true
+  Passed r ks = (not (hasList (r .kind)) || passes (told (limited r (paramsIn names ks)))) ≡ true
 
   passed-list : (r : Node) (ks : Forest) → hasList (r .kind) ≡ true → Passed r ks
-      → unpackError (told (unpack (paramsIn names ks))) ≡ []
-  passed-list r ks h e = passes-quiet (told (unpack (paramsIn names ks))) (asked (hasList (r .kind)) _ e h)
+      → unpackError (told (limited r (paramsIn names ks))) ≡ []
+  passed-list r ks h e = passes-quiet (told (limited r (paramsIn names ks))) (asked (hasList (r .kind)) _ e h)
 
   -- the arm of a Def, and the numbers of the others
   own-arm : (s : Standing) (r : Node) (ks : Forest) (visit : Standing → List Err) → ((p : Standing) → OwnOnly (visit p))
@@ -189,7 +189,7 @@ module _ (d : Dialect) (names : List ℕ) where
     own-tree : (t : Tree) → listPasses names t ≡ true
         → ((s : Standing) → OwnOnly (f d names s t)) × OwnOnly (expr d names t)
     own-tree (node r ks) e =
-        let one : Bool = not (hasList (r .kind)) || passes (told (unpack (paramsIn names ks))) in
+        let one : Bool = not (hasList (r .kind)) || passes (told (limited r (paramsIn names ks))) in
         let here : Passed r ks = and-left one (listsPass names ks) e in
         let below = own-forest ks (and-right one (listsPass names ks) e) in (
           λ s. own-stmt s r ks (below .0) here,

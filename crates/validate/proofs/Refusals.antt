@@ -1,4 +1,4 @@
--- Every refusal of a parameter list is one of 10 to 18, so a form that leaves these out leaves nothing of a list to be
+-- Every refusal of a parameter list is one of 10 to 19, so a form that leaves these out leaves nothing of a list to be
 -- judged. Assumes nothing.
 use mathlib.Core.Path.{_≡_, refl}
 use mathlib.Core.Bool.{Bool, true, false}
@@ -6,15 +6,18 @@ use mathlib.Core.List.{List, [], _∷_, _++_}
 use Prim.Native.Nat.{ℕ}
 use native.Mathlib.Omega.{arith}
 use lib.ListN.{length, drop}
+use lib.Dec.{ltb}
 use Rattle.fields.specs.Choice.{if'}
+use Rattle.forest.specs.Forest.{Node}
 use Rattle.forest.specs.declared.Found.{Found}
 use Rattle.forest.specs.declared.Found.the-variants.{At, Nothing}
-use Rattle.table.specs.Numbers.{slashFirst}
+use Rattle.table.specs.Numbers.{slashFirst, tooManyParameters}
 use Rattle.deflist.specs.Written.{Param, normal, noArgs, slash, args, kwargs, nodeIn, kindIn}
 use Rattle.deflist.specs.Unpack.{defaultRule, rule, firstly, check, repeats, unlessWritten, unlessFlat, keep, step}
 use Rattle.deflist.specs.Unpack.{unlessBroken, Step, on, stop, again, broken, Internal, Outcome, accepted, refused}
 use Rattle.deflist.specs.Unpack.{repeated, internal, fromStar, finish, after, run, isSlash, firstSlash, positionalOnly}
 use Rattle.deflist.specs.Unpack.{flatAt, writtenAt, start, unpack}
+use Rattle.deflist.specs.Limited.{mostParameters, limited}
 use Rattle.deflist.specs.Told.{told}
 use Rattle.deflist.specs.declared.Check.{Check}
 use Rattle.deflist.specs.declared.Check.the-variants.{Fine, Broken, Repeated}
@@ -29,7 +32,7 @@ use Rattle.deflist.specs.declared.FlatPlace.{FlatPlace}
 use Rattle.deflist.specs.declared.FlatPlace.the-variants.{AtFlat, NoFlat}
 use Rattle.deflist.specs.declared.Counts.{Counts}
 use Rattle.deflist.specs.declared.Unpacking.{Unpacking}
-use Rattle.deflist.proofs.Theorems.{no-internal-error}
+use Rattle.deflist.proofs.Limited.{limited-internal}
 use Rattle.errors.specs.Errors.{isListError, withoutLists, kept}
 use Rattle.errors.specs.declared.Listing.{Listing}
 use Rattle.errors.specs.declared.Listing.the-variants.{Own}
@@ -145,7 +148,7 @@ run-in before u (p ∷ ps) =
     go next (again i) h rest = refl
     go next (broken e) h rest = refl
 
--- THEOREM: every refusal of a parameter list is one of 10 to 18
+-- every refusal of unpack is one of these
 pub unpack-in : (ps : List Param) → outcomeIn (unpack ps) ≡ true
 unfolding unpack
 unpack-in [] = run-in [] (start (flatAt 0)) []
@@ -157,18 +160,27 @@ unpack-in (p ∷ ps) = go (isSlash (kindIn p)) _
     go true o h = refl
     go false o h = h
 
--- LAW: the module pass's own errors have none of unpack
-pub unpack-left : (ps : List Param) → kept Own (unpackError (told (unpack ps))) ≡ []
-unfolding withoutLists
-unpack-left ps = go (unpack ps) refl (unpack-in ps)
+-- THEOREM: every refusal of a parameter list is one of 10 to 19
+pub list-in : (owner : Node) (ps : List Param) → outcomeIn (limited owner ps) ≡ true
+unfolding limited
+list-in owner ps = go (ltb mostParameters (length ps))
   where
-    go : (o : Outcome) → unpack ps ≡ o → outcomeIn o ≡ true → kept Own (unpackError (told o)) ≡ []
+    go : (b : Bool) → outcomeIn (if' b (λ _. refused tooManyParameters owner) (λ _. unpack ps)) ≡ true
+    go true = refl
+    go false = unpack-in ps
+
+-- LAW: the module pass's own errors have none of a list
+pub list-left : (owner : Node) (ps : List Param) → kept Own (unpackError (told (limited owner ps))) ≡ []
+unfolding withoutLists
+list-left owner ps = go (limited owner ps) refl (list-in owner ps)
+  where
+    go : (o : Outcome) → limited owner ps ≡ o → outcomeIn o ≡ true → kept Own (unpackError (told o)) ≡ []
     go (accepted c) e h = refl
     go (refused n r) e h = rw h refl
     go (repeated i r) e h = refl
-    go (internal i r) e h = absurd (no-internal-error ps e)
+    go (internal i r) e h = absurd (limited-internal owner ps e)
 
-pub own-judges-none : {l : Listing} (ps : List Param) (xs : List ℕ) → l ≡ Own
-    → StoresFew l 1 (unpackError (told (unpack ps))) xs 0 xs
-own-judges-none ps xs h =
-    rw h record { few = omega arith; stores = stores-nothing _ xs (unpack-left ps) }
+pub own-judges-none : {l : Listing} (owner : Node) (ps : List Param) (xs : List ℕ) → l ≡ Own
+    → StoresFew l 1 (unpackError (told (limited owner ps))) xs 0 xs
+own-judges-none owner ps xs h =
+    rw h record { few = omega arith; stores = stores-nothing _ xs (list-left owner ps) }

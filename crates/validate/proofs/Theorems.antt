@@ -65,7 +65,7 @@ abbrev pub noneOfLists : List Err → Bool
 noneOfLists [] = true
 noneOfLists (e ∷ es) = not (isListError (e .number)) && noneOfLists es
 
--- THEOREM: of the module pass's own errors none is one of a parameter list, 10 to 18
+-- THEOREM: of the module pass's own errors none is one of a parameter list, 10 to 19
 pub own-none : (es : List Err) → noneOfLists (kept Own es) ≡ true
 unfolding withoutLists
 own-none [] = refl
@@ -77,7 +77,7 @@ own-none (e ∷ es) = go (isListError (e .number)) refl (own-none es)
     go false is-none h = rw (is-none, h) refl
 
 -- THEOREM: and every other is there: where none is one of a parameter list, all are kept. In the form Own the pass's
--- errors are therefore the module pass's, in their order, without 10 to 18 (`kept-append` of errors says it of parts)
+-- errors are therefore the module pass's, in their order, without 10 to 19 (`kept-append` of errors says it of parts)
 pub own-all : (es : List Err) → noneOfLists es ≡ true → kept Own es ≡ es
 unfolding withoutLists
 own-all [] h = refl

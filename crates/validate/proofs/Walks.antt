@@ -1,6 +1,6 @@
 -- Laws of the two walks over a stretch, in the terms of code: which kinds are statements, and one for each return and
 -- each loop. Assumes nothing.
-use mathlib.Core.Path.{_≡_, refl}
+use mathlib.Core.Path.{_≡_, refl, sym, _∙_}
 use mathlib.Core.Bool.{Bool, true, false, _&&_, not}
 use mathlib.Core.List.{List, [], _∷_, _++_, append-nil}
 use Prim.Native.Nat.{ℕ, zero, suc, _+_, _-_, _*_, _/_, _<_, _≤_}
@@ -206,8 +206,11 @@ module _ {l : Listing} (d : Dialect) (names : List ℕ) (i : ℕ) (t : List ℕ)
         → StoresFew l most (withParams d names (d .«enable_lambda») lambdaNotPermitted (nodeOf i t) (children i t)) xs
         m ys
         → StoresFew l most (exprErrors d names (nodeOf i t) (children i t)) xs m ys
-    unfolding exprErrors withParams
-    own-lambda h s = rw (← k-is, h) s
+    unfolding exprErrors
+    own-lambda h s =
+        let is : nodeOf 0 t .kind ≡ kindLambda = sym k-is ∙ h in
+        let other : eqb (nodeOf 0 t .kind) kindEllipsis ≡ false = rw is refl in
+        rw (other, eq-eqb (nodeOf 0 t .kind) kindLambda is) s
 
     pub own-other : (k ≡ kindEllipsis → ⊥) → (k ≡ kindLambda → ⊥) → {xs : List ℕ}
         → StoresFew l (2 + length t / 24) (exprErrors d names (nodeOf i t) (children i t)) xs 0 xs

@@ -10,7 +10,8 @@ use Rattle.dialect.specs.declared.Dialect.{Dialect}
 use Rattle.forest.specs.Forest.{Node, Forest}
 use Rattle.table.specs.Numbers.{starNotPermitted, slashNotPermitted}
 use Rattle.deflist.specs.Written.{Param, nodeIn, kindIn, paramsIn}
-use Rattle.deflist.specs.Unpack.{isSlash, unpack}
+use Rattle.deflist.specs.Unpack.{isSlash}
+use Rattle.deflist.specs.Limited.{limited}
 use Rattle.deflist.specs.Told.{told}
 use Rattle.deflist.specs.declared.Judged.{Judged}
 use Rattle.deflist.specs.declared.Judged.the-variants.{Accepted, Refused}
@@ -53,15 +54,15 @@ everyMark m (p ∷ ps) = markError m (nodeIn p) (kindIn p) ++ everyMark m ps
 abbrev pub marks : Dialect → Mark → List Param → List Err
 marks d m ps = if' (permits d m) (λ _. []) (λ _. everyMark m ps)
 
--- unpack's one error, if it has one
+-- the one error of a list, if it has one: 19, or unpack's
 abbrev pub unpackError : Judged → List Err
 unpackError (Accepted c) = []
 unpackError (Refused f) = err (f .number) (f .node) (f .span) ∷ []
 
--- every 50, then every 51, then unpack's one error
-unfoldable pub «validate_params» : Dialect → List Param → List Err
-«validate_params» d ps = (marks d Star ps ++ marks d SlashMark ps) ++ unpackError (told (unpack ps))
+-- every 50, then every 51, then the one error of the list of the def or lambda whose record this is
+unfoldable pub «validate_params» : Dialect → Node → List Param → List Err
+«validate_params» d owner ps = (marks d Star ps ++ marks d SlashMark ps) ++ unpackError (told (limited owner ps))
 
 -- what may not be in this dialect, then its parameters, which stand first among its children
 unfoldable pub withParams : Dialect → List ℕ → Bool → ℕ → Node → Forest → List Err
-withParams d names permitted n r ks = unless permitted n r ++ «validate_params» d (paramsIn names ks)
+withParams d names permitted n r ks = unless permitted n r ++ «validate_params» d r (paramsIn names ks)

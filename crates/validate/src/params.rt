@@ -20,7 +20,7 @@ ghost use Prim.Native.Nat.{_+_, _/_, _^_, _<_};
 ghost use lib.ListN.{length};
 ghost use Rattle.forest.specs.Forest.{recordBytes, nodeOf, kidsOf, forest};
 ghost use Rattle.deflist.specs.Written.{paramsIn, written};
-ghost use Rattle.deflist.specs.Unpack.{unpack};
+ghost use Rattle.deflist.specs.Limited.{limited};
 ghost use Rattle.deflist.specs.Told.{told};
 ghost use Rattle.deflist.specs.Reading.{kindHere};
 ghost use Rattle.errors.specs.Errors.{err, Stores};
@@ -52,7 +52,7 @@ pub(crate) fn with_params(
     first + rest
 }
 
-// Every `*` and then every `/` that is not permitted, then unpack's one error.
+// Every `*` and then every `/` that is not permitted, then the list's one error.
 fn validate_params(
     listing: Listing,
     d: Dialect,
@@ -63,8 +63,8 @@ fn validate_params(
 ) -> usize
     requires { ⌜ Headed at (now t) ⌝ }
     ensures { λ r. ⌜ StoresFew listing (1 + length (now (t .entry)) / recordBytes)
-        («validate_params» d (written (now (names .entry)) at (now (t .entry)))) (now (errors .entry)) r
-        (now (errors .exit)) ⌝ }
+        («validate_params» d (nodeOf at (now (t .entry))) (written (now (names .entry)) at (now (t .entry))))
+        (now (errors .entry)) r (now (errors .exit)) ⌝ }
 {
     let list = deflist::children(t);
     let first = at + 1;
@@ -83,11 +83,11 @@ fn validate_params(
     stars + slashes + last
 }
 
-// unpack's one error. It is one of 10 to 18, so a list is not judged for a form that leaves these out.
+// The list's one error. It is one of 10 to 19, so a list is not judged for a form that leaves these out.
 fn list_error(listing: Listing, names: &[u8], t: &[u8], at: usize, errors: &mut [u32]) -> usize
     requires { ⌜ Headed at (now t) ⌝ }
     ensures { λ r. ⌜ StoresFew listing 1
-        (unpackError (told (unpack (written (now (names .entry)) at (now (t .entry))))))
+        (unpackError (told (limited (nodeOf at (now (t .entry))) (written (now (names .entry)) at (now (t .entry))))))
         (now (errors .entry)) r (now (errors .exit)) ⌝ }
 {
     match listing {
@@ -97,11 +97,11 @@ fn list_error(listing: Listing, names: &[u8], t: &[u8], at: usize, errors: &mut 
     }
 }
 
-// unpack's one error, if it has one.
+// The list's one error, if it has one: 19, or unpack's.
 fn unpack_error(listing: Listing, names: &[u8], t: &[u8], at: usize, errors: &mut [u32]) -> usize
     requires { ⌜ Headed at (now t) ⌝ }
     ensures { λ r. ⌜ StoresFew listing 1
-        (unpackError (told (unpack (written (now (names .entry)) at (now (t .entry))))))
+        (unpackError (told (limited (nodeOf at (now (t .entry))) (written (now (names .entry)) at (now (t .entry))))))
         (now (errors .entry)) r (now (errors .exit)) ⌝ }
 {
     let judged = deflist::judge(names, t, at as u32);
@@ -111,7 +111,7 @@ fn unpack_error(listing: Listing, names: &[u8], t: &[u8], at: usize, errors: &mu
     }
 }
 
-// unpack's refusal as an error.
+// A refusal of a list as an error.
 fn error_of(f: Fault) -> Err
     requires { ⌜ f .node < 2 ^ 32 ⌝ }
     ensures { λ r. ⌜ r ≡ err (f .number) (f .node) (f .span) ⌝ }

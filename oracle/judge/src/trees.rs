@@ -2,6 +2,7 @@
 
 use model::answer;
 use model::numbers::kind;
+use model::params::MOST_ENTRIES;
 use model::table::normal_parts;
 use model::table::Class;
 use model::table::Table;
@@ -259,8 +260,13 @@ impl Trees<'_, '_> {
         self.table.children_of(owner, Class::Parameter).collect()
     }
 
+    /// A list that is longer than document 02 permits is not given to the crate, which has no such limit.
     pub fn parameters(&self, owner: usize) -> Built<Vec<AstParameter>> {
-        self.all(&self.parameter_nodes(owner), Self::parameter)
+        let nodes = self.parameter_nodes(owner);
+        if nodes.len() > MOST_ENTRIES {
+            return Err(NotATree);
+        }
+        self.all(&nodes, Self::parameter)
     }
 
     fn parameter(&self, node: usize) -> Built<AstParameter> {

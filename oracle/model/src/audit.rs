@@ -6,13 +6,11 @@ use crate::answer::AUDIT_WORDS;
 use crate::call;
 use crate::dialect::Dialect;
 use crate::jobs::argument_refusal;
-use crate::jobs::parameter_refusal;
+use crate::jobs::unpacked;
 use crate::jobs::Written;
 use crate::module;
-use crate::module::entries;
 use crate::numbers::kind;
 use crate::numbers::number;
-use crate::params;
 use crate::planted::planted;
 use crate::planted::Fault;
 use crate::table::normal_parts;
@@ -42,7 +40,8 @@ pub struct Place {
 pub fn audit(table: &Table, dialect: &Dialect) -> Vec<Refusal> {
     let without_def = Dialect { def: false, ..*dialect };
     let listed = module::module(table, if planted(Fault::AuditOpenedDefStays) { &without_def } else { dialect });
-    let is_of_list = |number: u32| (number::SLASH_FIRST..=number::STAR_NOT_FOLLOWED).contains(&number);
+    let last = if planted(Fault::TooManyTwiceInTheAudit) { number::STAR_NOT_FOLLOWED } else { number::TOO_MANY_PARAMETERS };
+    let is_of_list = |number: u32| (number::SLASH_FIRST..=last).contains(&number);
     let own = listed.in_order().filter(|error| !is_of_list(error.number) || planted(Fault::AuditTellsListsTwice));
     let own: Vec<Refusal> = own.map(|error| table.refuse(error.number, error.node)).collect();
     let refused: Vec<Refusal> = places(table).into_iter().filter_map(|place| refused_at(table, dialect, place)).collect();
@@ -124,8 +123,7 @@ pub fn refused_at(table: &Table, dialect: &Dialect, place: Place) -> Option<Refu
 
 fn refused_list(table: &Table, owner: usize) -> Option<Refusal> {
     let nodes = Written::of(table, owner, Class::Parameter).nodes;
-    let (number, at) = params::unpack(&entries(table, &nodes)).err()?;
-    Some(parameter_refusal(table, number, &nodes, at))
+    unpacked(table, owner, &nodes).err()
 }
 
 fn refused_call(table: &Table, call: usize) -> Option<Refusal> {

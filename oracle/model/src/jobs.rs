@@ -54,11 +54,15 @@ fn params_of(table: &Table, owner: usize, modes: usize) -> Result<Answer, Refusa
     let entries = entries(table, &nodes);
     let flat = |e: &&params::Entry| !e.name.is_empty();
     let by_flat = planted(Fault::ModeBufferByFlatCount);
+    if planted(Fault::TooManyBeforeShortBuffer) {
+        short_enough(table, owner, &nodes)?;
+    }
     long_enough(modes, if by_flat { entries.iter().filter(flat).count() } else { nodes.len() })?;
-    match params::unpack(&entries) {
+    match unpacked(table, owner, &nodes) {
         Ok(unpacked) => Ok(unpacked_answer(&unpacked, nodes.len())),
-        Err((number, at)) => {
-            let mut refused = Answer::from(parameter_refusal(table, number, &nodes, at));
+        Err(refusal) => {
+            let at = nodes.iter().position(|&node| refusal.node == Some(node as u32)).unwrap_or(0);
+            let mut refused = Answer::from(refusal);
             if planted(Fault::RefusedListWritesModes) {
                 refused.bytes = vec![2; at];
             }
@@ -67,8 +71,33 @@ fn params_of(table: &Table, owner: usize, modes: usize) -> Result<Answer, Refusa
     }
 }
 
+/// The list of a Def or Lambda: 19 at the owner, otherwise the rules of the list.
+pub(crate) fn unpacked(table: &Table, owner: usize, nodes: &[usize]) -> Result<params::Unpacked, Refusal> {
+    let rules = || {
+        let at_entry = |(number, at): params::At| parameter_refusal(table, number, nodes, at);
+        params::unpack(&entries(table, nodes)).map_err(at_entry)
+    };
+    if planted(Fault::TooManyAfterTheRules) {
+        rules()?;
+    }
+    short_enough(table, owner, nodes)?;
+    rules()
+}
+
+/// 19: a list has at most 48 entries, marks counted.
+fn short_enough(table: &Table, owner: usize, nodes: &[usize]) -> Result<(), Refusal> {
+    let marks = entries(table, nodes).iter().filter(|entry| entry.is_mark()).count();
+    let many = nodes.len() - if planted(Fault::TooManyByFlatCount) { marks } else { 0 };
+    let most = params::MOST_ENTRIES + usize::from(planted(Fault::OneEntryMore));
+    if many <= most || table.kind(owner) == kind::LAMBDA && planted(Fault::TooManyNotInLambdas) {
+        return Ok(());
+    }
+    let node = if planted(Fault::TooManyAtTheEntry) { nodes[params::MOST_ENTRIES] } else { owner };
+    Err(table.refuse(number::TOO_MANY_PARAMETERS, node))
+}
+
 /// 11 carries the first earlier parameter with an equal name.
-pub(crate) fn parameter_refusal(table: &Table, number: u32, nodes: &[usize], at: usize) -> Refusal {
+fn parameter_refusal(table: &Table, number: u32, nodes: &[usize], at: usize) -> Refusal {
     let refusal = table.refuse(number, nodes[at]);
     match first_equal(table, &nodes[..at], nodes[at]) {
         Some(_) if planted(Fault::EarlierIsThePlace) => refusal.with_earlier(at),
@@ -135,7 +164,7 @@ pub fn bind(table: &[u8], names: &[u8], call: usize, def: usize, room: usize) ->
         let owned = Written::of(&table, def, Class::Parameter);
         let marks = if planted(Fault::RoomByFlatCount) { owned.marks() } else { 0 };
         long_enough(room, owned.nodes.len() - marks + called.nodes.len())?;
-        bound(&table, &owned, &called)
+        bound(&table, def, &owned, &called)
     }))
 }
 
@@ -167,16 +196,15 @@ impl<'t, 'n> Written<'t, 'n> {
     }
 }
 
-/// The Def's 10 to 18, the call's 20 to 24, then 80 to 84.
-fn bound(table: &Table, owned: &Written, called: &Written) -> Result<Answer, Refusal> {
+/// The Def's 10 to 19, the call's 20 to 24, then 80 to 84.
+fn bound(table: &Table, def: usize, owned: &Written, called: &Written) -> Result<Answer, Refusal> {
     let entries = entries(table, &owned.nodes);
     let arguments = called.arguments();
-    let of_list = |(number, at): params::At| parameter_refusal(table, number, &owned.nodes, at);
     let of_call = |(number, at): (u32, usize)| argument_refusal(table, number, &called.nodes, at);
     if planted(Fault::CallBeforeDef) {
         call::unpack(&arguments).map_err(of_call)?;
     }
-    let parameters = bind::flat(&entries, &params::unpack(&entries).map_err(of_list)?);
+    let parameters = bind::flat(&entries, &unpacked(table, def, &owned.nodes)?);
     call::unpack(&arguments).map_err(of_call)?;
     let reached = bind::bind(&parameters, &arguments).map_err(|(number, at)| match at {
         bind::At::Argument(at) => table.refuse(number, called.nodes[at]),

@@ -1,9 +1,9 @@
 //! The module pass.
 
 use crate::dialect::Dialect;
+use crate::jobs::unpacked;
 use crate::numbers::kind;
 use crate::numbers::number;
-use crate::params;
 use crate::params::Entry;
 use crate::planted::planted;
 use crate::planted::Fault;
@@ -138,8 +138,10 @@ impl Pass<'_, '_> {
         } else {
             stars.chain(slashes).collect()
         };
-        if let Err((number, at)) = params::unpack(&entries(self.table, &nodes)) {
-            errors.push(Error { number, node: nodes[at] });
+        if let Err(refusal) = unpacked(self.table, owner, &nodes) {
+            let node = refusal.node.expect("a refusal of a list has a node") as usize;
+            let is_missed = refusal.number == number::TOO_MANY_PARAMETERS && planted(Fault::TooManyNotInTheModule);
+            errors.extend((!is_missed).then_some(Error { number: refusal.number, node }));
         }
         errors
     }

@@ -86,6 +86,7 @@ pub mod number {
     pub const MULTIPLE_KWARGS: u32 = 16;
     pub const STAR_LAST: u32 = 17;
     pub const STAR_NOT_FOLLOWED: u32 = 18;
+    pub const TOO_MANY_PARAMETERS: u32 = 19;
 
     pub const POSITIONAL_AFTER_NON_POSITIONAL: u32 = 20;
     pub const NAMED_AFTER_STAR: u32 = 21;

@@ -8,6 +8,9 @@ use crate::numbers::number;
 use crate::planted::planted;
 use crate::planted::Fault;
 
+/// The most entries of a written list, marks counted (document 02, W-211). The crate has no such limit.
+pub const MOST_ENTRIES: usize = 48;
+
 /// One written entry of a parameter list.
 #[derive(Clone, Copy, Debug)]
 pub struct Entry<'a> {

@@ -28,6 +28,14 @@ faults! {
     ModesOfMarksWritten
     RefusedListWritesModes
     ModeBufferByFlatCount
+    OneEntryMore
+    TooManyByFlatCount
+    TooManyAtTheEntry
+    TooManyBeforeShortBuffer
+    TooManyAfterTheRules
+    TooManyNotInTheModule
+    TooManyNotInLambdas
+    TooManyTwiceInTheAudit
     RepeatedBeforeNamedAfterStar
     RepeatedAtArgumentSpan
     StarAfterStarStarAllowed

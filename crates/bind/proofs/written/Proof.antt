@@ -1,8 +1,7 @@
 -- `bind::written` meets its contract: at the end all are counted. Assumes nothing.
 use lib.ListN.{length}
 use native.Mathlib.Omega.{arith}
-use Rattle.deflist.proofs.Reading.{rest-less}
-use Rattle.parameters.proofs.Lists.{Counting, count-start, count-on}
+use Rattle.deflist.proofs.Reading.{Counting, count-start, count-on, rest-less}
 use Rattle.bind.proofs.Loops.{many-end}
 use borrow.Author.Needs.{needs}
 use Rattle.bind.proofs.written.Statement.{statement}

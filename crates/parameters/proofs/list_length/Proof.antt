@@ -1,8 +1,8 @@
 -- `parameters::list_length` meets its contract: at the end all are counted. Assumes nothing.
 use borrow.Author.Needs.{needs}
 use lib.ListN.{length}
-use Rattle.deflist.proofs.Reading.{rest-less}
-use Rattle.parameters.proofs.Lists.{Counting, count-start, count-on, count-end}
+use Rattle.deflist.proofs.Reading.{Counting, count-start, count-on, rest-less}
+use Rattle.parameters.proofs.Lists.{count-end}
 use Rattle.parameters.proofs.list_length.Statement.{statement}
 use Rattle.parameters.proofs.list_length.Tie as tie
 

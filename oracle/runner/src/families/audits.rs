@@ -286,7 +286,7 @@ fn calls(checker: &mut Checker) {
     }
 }
 
-/// The module pass's own errors stand in front, in its order, without 10 to 18; those of lists stay where the list is.
+/// The module pass's own errors stand in front, in its order, without 10 to 19; those of lists stay where the list is.
 fn own_errors(checker: &mut Checker) {
     expect(checker, &OFF, &[], |_| {});
     let list = |cells: &mut Cells| {

@@ -4,6 +4,7 @@ use model::answer::AUDIT_WORDS;
 use model::answer::ERROR_WORDS;
 use model::numbers::kind;
 use model::numbers::number;
+use model::params::MOST_ENTRIES;
 use model::table::Record;
 use model::table::MOST_NAME_BYTES;
 use model::table::MOST_NODES;
@@ -30,6 +31,7 @@ pub fn boundaries(checker: &mut Checker, plan: &Plan) {
     nodes_and_buffers(checker, &mut rng);
     overlapping(checker);
     error_lists(checker);
+    list_entries(checker);
     depths(checker);
     wrong_in_several_ways(checker);
 }
@@ -177,6 +179,65 @@ fn overlapping(checker: &mut Checker) {
         let table = &encoded.table[..];
         for node in [0, cells.all.len() / 2, cells.all.len() - 1] {
             all_jobs_at(checker, table, table, &[1, 1, 1, 1, 1, 2, 1, 1, 1], node, cells.all.len());
+        }
+    }
+}
+
+/// A list of so many entries: ordinary ones with names of their own, where `marked` with `/` and `*` among them, and one that breaks a rule.
+fn add_entries(cells: &mut Cells, count: usize, marked: bool, broken: Broken) {
+    for place in 0..count {
+        let name = place as u8;
+        match (place, broken) {
+            (0, Broken::Slash) | (2, _) if place == 0 || marked => cells.leaf(kind::SLASH, 0, 0),
+            (1, Broken::Repeated) => cells.leaf(kind::NORMAL, 0, 0),
+            (1, Broken::Default) => cells.tree(kind::NORMAL, 2, name, |cells| cells.leaf(kind::INT, 0, 0)),
+            (_, Broken::Star) if place + 1 == count => cells.leaf(kind::NO_ARGS, 0, 0),
+            (5, _) if marked => cells.leaf(kind::NO_ARGS, 0, 0),
+            _ => cells.leaf(kind::NORMAL, 0, name),
+        }
+    }
+}
+
+/// Which rule of its own a list breaks: none, 10, 11, 13, or 17 (14 where there is another star).
+#[derive(Clone, Copy)]
+enum Broken {
+    Nothing,
+    Slash,
+    Repeated,
+    Default,
+    Star,
+}
+
+/// 47, 48 and 49 entries, with and without marks, of a Def and of a Lambda, that break no other rule or one: by every job, with rooms around
+/// what each needs.
+fn list_entries(checker: &mut Checker) {
+    let mut encoded = Encoded::default();
+    for count in [MOST_ENTRIES - 1, MOST_ENTRIES, MOST_ENTRIES + 1, MOST_ENTRIES + 2, 4 * MOST_ENTRIES] {
+        for marked in [false, true] {
+            for broken in [Broken::Nothing, Broken::Slash, Broken::Repeated, Broken::Default, Broken::Star] {
+                let mut cells = Cells::default();
+                cells.tree(kind::STATEMENTS, 0, 0, |cells| {
+                    cells.tree(kind::DEF, 0, 0, |cells| {
+                        add_entries(cells, count, marked, broken);
+                        cells.leaf(kind::SIMPLE, 0, 0);
+                    });
+                    cells.tree(kind::SIMPLE, 0, 0, |cells| {
+                        cells.tree(kind::LAMBDA, 0, 0, |cells| {
+                            add_entries(cells, count, marked, broken);
+                            cells.leaf(kind::INT, 0, 0);
+                        });
+                        cells.tree(kind::CALL, 0, 0, |cells| cells.leaf(kind::IDENTIFIER, 0, 1));
+                    });
+                });
+                encoded.write(&cells, &PLAIN);
+                let lambda = cells.all.iter().position(|cell| cell.kind == kind::LAMBDA).expect("there is one");
+                for dialect in [&[1, 1, 1, 1, 1, 2, 1, 1, 1], &[0; 9]] {
+                    for room in [0, count - 1, count, count + 1, 6 * AUDIT_WORDS, 2 * count + 9] {
+                        all_jobs_at(checker, &encoded.table, &encoded.names, dialect, 1, room);
+                        all_jobs_at(checker, &encoded.table, &encoded.names, dialect, lambda, room);
+                    }
+                }
+            }
         }
     }
 }

@@ -9,6 +9,7 @@ use model::file::BLOCK;
 use model::file::CONTENT;
 use model::jobs;
 use model::numbers::kind;
+use model::params::MOST_ENTRIES;
 use model::table::Record;
 use model::table::MOST_DEPTH;
 use model::table::MOST_NAME_BYTES;
@@ -152,21 +153,47 @@ pub fn names(checker: &mut Checker, plan: &Plan) {
     }
 }
 
-/// Parameters whose names, of one length, fill the name bytes as far as the records go; the last name once more, or not.
+/// Parameters whose names have one length, and arguments whose names fill the name bytes as far as the records go; the last name once more, or
+/// not.
 fn full_names(checker: &mut Checker, length: usize) {
-    let count = (MOST_NAME_BYTES / length).min(MOST_NODES - 2);
+    let long = |name: usize| [&vec![b'n'; length - 2][..], &short(name)].concat();
+    let audit = Job::Audit { dialect: &ALL_OPTIONS_INTERNAL, errors: 9 };
+    let count = (MOST_NAME_BYTES / length).min(MOST_ENTRIES);
     for last in [count - 1, count - 2, 0] {
         let mut growing = Growing::default();
         growing.tree(kind::DEF, 0, |growing| {
-            for name in (0..count - 1).chain([last]) {
-                growing.leaf(kind::NORMAL, &[&vec![b'n'; length - 2][..], &short(name)].concat());
-            }
+            (0..count - 1).chain([last]).for_each(|name| growing.leaf(kind::NORMAL, &long(name)));
             growing.leaf(kind::SIMPLE, b"");
         });
         growing.names.resize(MOST_NAME_BYTES, b'n');
         growing.ask(checker, Job::Params { node: 0, modes: count });
-        growing.ask(checker, Job::Audit { dialect: &ALL_OPTIONS_INTERNAL, errors: 9 });
+        growing.ask(checker, audit);
     }
+    let count = ((MOST_NAME_BYTES - 1) / length).min((MOST_NODES - 3) / 2);
+    for last in [count - 1, count - 2, 0] {
+        let mut growing = Growing::default();
+        let named: Vec<Vec<u8>> = (0..count - 1).chain([last]).map(long).collect();
+        let node = add_named(&mut growing, &named);
+        growing.names.resize(MOST_NAME_BYTES, b'n');
+        growing.ask(checker, Job::Call { node });
+        growing.ask(checker, audit);
+    }
+}
+
+/// A statement that calls with arguments of these names, and the Call's node.
+fn add_named(growing: &mut Growing, names: &[Vec<u8>]) -> usize {
+    let node = growing.nodes() + 1;
+    growing.tree(kind::SIMPLE, 0, |growing| {
+        growing.tree(kind::CALL, 0, |growing| {
+            growing.leaf(kind::IDENTIFIER, b"f");
+            for name in names {
+                let node = growing.open(kind::NAMED, 0, name);
+                growing.leaf(kind::INT, b"");
+                growing.close(node);
+            }
+        });
+    });
+    node
 }
 
 /// Two names of a length that differ in one bit: of the first byte, or of one of the last eight.
@@ -218,7 +245,7 @@ fn check_field(checker: &mut Checker, field: &[u8]) {
 /// Parameter lists, calls and bindings.
 pub fn lists(checker: &mut Checker, plan: &Plan) {
     let mut turns = Turns::of(plan);
-    for count in sizes(MOST_NODES - 2) {
+    for count in sizes(MOST_ENTRIES).into_iter().chain(too_many(MOST_NODES - 2)) {
         for form in 0..4 {
             if turns.next(checker) {
                 check_parameters(checker, count, form);
@@ -234,6 +261,11 @@ pub fn lists(checker: &mut Checker, plan: &Plan) {
     }
     repeated_names(checker, &mut turns);
     bindings(checker, &mut turns);
+}
+
+/// Sizes of parameter lists that are not permitted, up to `most`.
+fn too_many(most: usize) -> impl Iterator<Item = usize> {
+    sizes(most).into_iter().chain([MOST_ENTRIES + 1, MOST_ENTRIES + 2]).filter(|&size| MOST_ENTRIES < size)
 }
 
 /// What stands at a place of a list of so many parameters: all ordinary; half of them before `/`; behind `*args`; behind `*`, with
@@ -315,20 +347,34 @@ fn check_arguments(checker: &mut Checker, count: usize, form: usize) {
 /// A name that stands once more at the end of a list: of long lists every earlier place is tried, so that whatever a check notes of the names
 /// between the two is tried too. The numbers of a list differ by less than 3,844, so that its names do.
 fn repeated_names(checker: &mut Checker, turns: &mut Turns) {
+    for from in (1..=12).map(|set| set * WITHOUT_ORDER) {
+        for count in [20, 40, MOST_ENTRIES - 1] {
+            for place in 0..count {
+                if turns.next(checker) {
+                    let names: Vec<usize> = (from..from + count).chain([from + place]).collect();
+                    parameters(&names, 0).ask(checker, Job::Params { node: 0, modes: count + 1 });
+                }
+            }
+        }
+    }
     for from in [1, 2, 3].map(|set| set * WITHOUT_ORDER) {
         for count in [120, 250, 260] {
             for place in 0..count {
                 if turns.next(checker) {
                     let names: Vec<usize> = (from..from + count).chain([from + place]).collect();
-                    parameters(&names, 0).ask(checker, Job::Params { node: 0, modes: count + 1 });
-                    let mut call = Growing::default();
-                    let node = add_call(&mut call, &names, 1);
-                    call.ask(checker, Job::Call { node });
+                    check_repeated(checker, &names);
                 }
             }
         }
     }
-    for count in sizes(MOST_NODES - 3).into_iter().filter(|&count| 1 < count) {
+    for count in sizes((MOST_NODES - 5) / 2).into_iter().filter(|&count| 1 < count) {
+        for place in [0, count / 2, count - 1] {
+            if turns.next(checker) {
+                check_repeated(checker, &(0..count).chain([place]).collect::<Vec<_>>());
+            }
+        }
+    }
+    for count in too_many(MOST_NODES - 3) {
         for place in [0, count / 2, count - 1] {
             if turns.next(checker) {
                 let names: Vec<usize> = (0..count).chain([place]).collect();
@@ -338,9 +384,16 @@ fn repeated_names(checker: &mut Checker, turns: &mut Turns) {
     }
 }
 
+/// A call whose arguments have these names.
+fn check_repeated(checker: &mut Checker, names: &[usize]) {
+    let mut call = Growing::default();
+    let node = add_call(&mut call, names, 1);
+    call.ask(checker, Job::Call { node });
+}
+
 /// Defs and calls, with as many arguments as parameters, and with all arguments for `*args` or `**kwargs`.
 fn bindings(checker: &mut Checker, turns: &mut Turns) {
-    for count in sizes((MOST_NODES - 6) / 3) {
+    for count in sizes(MOST_ENTRIES).into_iter().chain(too_many((MOST_NODES - 6) / 3)) {
         for form in 0..3 {
             if turns.next(checker) {
                 check_binding(checker, &(0..count).collect::<Vec<_>>(), 0, count, form);

@@ -110,7 +110,7 @@ const FORMATS: u32 = FSTRING_WRITE | FSTRING_READ;
 
 pub const ALL: &[Family] = &[
     family("document 01's examples", 1, ARCHIVE | FILE, examples::rows, [17, 17, 20]),
-    family("boundaries", 1, ARCHIVE, boundaries::boundaries, [452_010, 62_500, 14_530]),
+    family("boundaries", 1, ARCHIVE, boundaries::boundaries, [465_090, 63_130, 15_750]),
     family("parameter lists, every order", 4, PARAMS, lists::parameter_orders, [1_921_150, 1_857_110, 2_037_220]),
     family("parameter lists, random", 2, PARAMS, lists::random_parameters, [407_030, 393_470, 295_570]),
     family("call lists, every order", 2, CALL, lists::argument_orders, [72_940, 72_940, 4_550]),
@@ -160,7 +160,7 @@ pub const ALL: &[Family] = &[
     family("reads, written files", 2, READERS, reads::written, [58_420, 18_210, 39_960]),
     family("reads, random", 2, READERS, reads::random, [24_010, 670, 20]),
     family("largest, names", 2, PARAMS | CALL | BIND | TYPE | AUDIT, largest::names, [58_860, 34_220, 2_130]),
-    family("largest, lists", 2, PARAMS | CALL | BIND | MODULE | AUDIT, largest::lists, [5_190, 4_620, 291]),
+    family("largest, lists", 2, PARAMS | CALL | BIND | MODULE | AUDIT, largest::lists, [4_760, 3_730, 231]),
     family("largest, trees", 2, ARCHIVE & !WRITE, largest::trees, [3_010, 1_580, 284]),
     family("largest, error lists", 2, MODULE | AUDIT | CHECK_FILE, largest::errors, [342, 342, 22]),
     family("largest, files", 2, WRITE | READERS | RESCUE, largest::files, [10_650, 460, 28]),

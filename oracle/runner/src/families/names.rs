@@ -1,6 +1,7 @@
 //! Names that are nearly equal: those that share all bytes but one, and those of which one is the beginning of the other.
 
 use model::numbers::kind;
+use model::params::MOST_ENTRIES;
 use model::table::Record;
 use model::table::MOST_FILE;
 
@@ -114,19 +115,26 @@ impl List {
     }
 }
 
-/// Two names in lists of both kinds, the first of them in front and the second at the end; and in a binding, the first a parameter's and the
-/// second an argument's.
-pub fn check_pair(checker: &mut Checker, entries: usize, first: &[u8], second: &[u8]) {
+/// A list of so many names: one in front, one at the end, and others between them.
+fn between(entries: usize, first: &[u8], second: &[u8]) -> Vec<Vec<u8>> {
     let mut names = vec![first.to_vec()];
     names.extend((2..entries).map(filler));
     names.push(second.to_vec());
+    names
+}
+
+/// Two names in lists of both kinds, the first of them in front and the second at the end; and in a binding, the first a parameter's and the
+/// second an argument's. A parameter list has no more entries than are permitted.
+pub fn check_pair(checker: &mut Checker, entries: usize, first: &[u8], second: &[u8]) {
+    let listed = entries.min(MOST_ENTRIES);
+    let names = between(listed, first, second);
     let List { table, names: bytes, .. } = List::parameters(&names);
-    checker.check(&Request { table: &table, names: &bytes, job: Job::Params { node: 0, modes: entries } });
-    let List { table, names: bytes, .. } = List::arguments(&names);
-    checker.check(&Request { table: &table, names: &bytes, job: Job::Call { node: 1 } });
-    let (List { table, names: bytes, .. }, call) = List::binding(&names[..entries - 1], second);
-    let job = Job::Bind { call, def: BOUND_DEF, list: entries };
+    checker.check(&Request { table: &table, names: &bytes, job: Job::Params { node: 0, modes: listed } });
+    let (List { table, names: bytes, .. }, call) = List::binding(&names[..listed - 1], second);
+    let job = Job::Bind { call, def: BOUND_DEF, list: listed };
     checker.check(&Request { table: &table, names: &bytes, job });
+    let List { table, names: bytes, .. } = List::arguments(&between(entries, first, second));
+    checker.check(&Request { table: &table, names: &bytes, job: Job::Call { node: 1 } });
 }
 
 /// Every length, equal names, one byte more, and each byte that can differ. The longer lists take every length in the long run, and else those

@@ -12,6 +12,7 @@ use model::file::BLOCK;
 use model::jobs;
 use model::numbers::kind;
 use model::numbers::number;
+use model::params::MOST_ENTRIES;
 use model::table::MOST_NAME_BYTES;
 use model::table::MOST_NODES;
 use model::table::RECORD_BYTES;
@@ -114,6 +115,10 @@ pub fn corners(checker: &mut Checker, _plan: &Plan) {
     expect(checker, &example(&ALL_OPTIONS_INTERNAL), &[6, 3, 1, 0x0101_0101, 0x0101_0201, 1], &errors);
     expect(checker, &example(&[0, 1, 0, 0, 0, 1, 0, 0, 1]), &[6, 3, 1, 0x100, 0x100, 1], &[[52, 1, 0, 25], errors[0], errors[1]]);
     expect(checker, &contents(1, 0, &[]), &[1, 0, 0, 0, 0, 0], &[]);
+    for (entries, errors) in [(MOST_ENTRIES, &[][..]), (MOST_ENTRIES + 1, &[[number::TOO_MANY_PARAMETERS, 1, 5, 5]][..])] {
+        let held = listed(entries);
+        expect(checker, &held, &[entries as u32 + 2, held.names.len() as u32, 0, 0, 0, 0], errors);
+    }
     let largest = contents(MOST_NODES, MOST_NAME_BYTES, &STANDARD);
     for (table, names) in [(MOST_TABLE_BYTES, MOST_NAME_BYTES), (MOST_TABLE_BYTES - 1, 9_000), (60_000, MOST_NAME_BYTES - 1)] {
         checker.check(&reading(&file::write(&largest), table, names));
@@ -121,6 +126,18 @@ pub fn corners(checker: &mut Checker, _plan: &Plan) {
     blocks_refused(checker);
     contents_refused(checker);
     gigabytes(checker);
+}
+
+/// A def with so many parameters.
+fn listed(entries: usize) -> Contents {
+    let mut cells = Cells::default();
+    cells.tree(kind::DEF, 0, 0, |cells| {
+        (0..entries).for_each(|name| cells.leaf(kind::NORMAL, 0, name as u8));
+        cells.leaf(kind::SIMPLE, 0, 0);
+    });
+    let mut encoded = Encoded::default();
+    encoded.write(&cells, &PLAIN);
+    Contents { table: encoded.table, names: encoded.names, dialect: Vec::new() }
 }
 
 /// 70, 72, 71, 73, 74, 75: the first that is wrong, block by block.

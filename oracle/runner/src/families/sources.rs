@@ -317,7 +317,7 @@ fn refusals_of_two_files(checker: &mut Checker) {
     expect_refusal(checker, &encoded, Job::Bind { call: 8, def: 1, list: 9 }, (11, 3, 2, 7));
 }
 
-/// A def of one source file and a call of another: 10 to 18 and 84 with the def's number, 20 to 24 and 80 to 83 with the call's.
+/// A def of one source file and a call of another: 10 to 19 and 84 with the def's number, 20 to 24 and 80 to 83 with the call's.
 fn bindings_of_two_files(checker: &mut Checker) {
     const DEF: u16 = 300;
     const CALL: u16 = 40;

@@ -1,4 +1,4 @@
--- `validate::params::list_error` meets its contract: what unpack says of the list, or nothing where the form leaves
+-- `validate::params::list_error` meets its contract: what is said of the list, or nothing where the form leaves
 -- that out. Assumes nothing.
 use Rattle.validate.proofs.Refusals.{own-judges-none}
 use borrow.Author.Needs.{needs}

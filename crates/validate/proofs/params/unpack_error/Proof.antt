@@ -1,4 +1,4 @@
--- `validate::params::unpack_error` meets its contract: what unpack says of the list. Assumes nothing.
+-- `validate::params::unpack_error` meets its contract: what is said of the list. Assumes nothing.
 use Rattle.validate.proofs.Lists.{fault-small, error-none, error-one}
 use borrow.Author.Needs.{needs}
 use Rattle.validate.proofs.params.unpack_error.Statement.{statement}
