@@ -1,11 +1,11 @@
--- `writer::put` meets its contract: the bytes are laid over the others one after another. Assumes nothing.
+-- `blocks::bytes::lay` meets its contract: the bytes are laid over the others one after another. Assumes nothing.
 use Prim.Native.Nat.{_-_}
 use lib.ListN.{length}
 use native.Mathlib.Omega.{arith}
 use borrow.Author.Needs.{needs}
-use Rattle.writer.proofs.Laying.{Putting, put-start, put-long, put-on, put-end}
-use Rattle.writer.proofs.put.Statement.{statement}
-use Rattle.writer.proofs.put.Tie as tie
+use Rattle.blocks.proofs.Laying.{Putting, put-start, put-long, put-on, put-end}
+use Rattle.blocks.proofs.bytes.lay.Statement.{statement}
+use Rattle.blocks.proofs.bytes.lay.Tie as tie
 
 abbrev Inv-loop : tie.InvT-loop
 Inv-loop bytes at out₀ i₀ out i = Putting out₀ bytes at out i
@@ -13,8 +13,8 @@ Inv-loop bytes at out₀ i₀ out i = Putting out₀ bytes at out i
 abbrev μ-loop : tie.MeasureT-loop
 μ-loop bytes at out₀ i₀ out i = length bytes - i
 
-pub put-spec : {M : Type 1} → statement M
-put-spec =
+pub lay-spec : {M : Type 1} → statement M
+lay-spec =
     tie.close
     (tie.spec
     Inv-loop

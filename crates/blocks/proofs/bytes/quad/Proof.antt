@@ -1,8 +1,8 @@
--- `writer::quad` meets its contract: byte by byte, the low one first. Assumes nothing.
+-- `blocks::bytes::quad` meets its contract: byte by byte, the low one first. Assumes nothing.
 use borrow.Author.Needs.{needs}
 use Rattle.fields.specs.Field.{bytesOf}
-use Rattle.writer.proofs.quad.Statement.{statement}
-use Rattle.writer.proofs.quad.Tie as tie
+use Rattle.blocks.proofs.bytes.quad.Statement.{statement}
+use Rattle.blocks.proofs.bytes.quad.Tie as tie
 
 pub quad-spec : {M : Type 1} → statement M
 unfolding bytesOf

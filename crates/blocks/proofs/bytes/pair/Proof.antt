@@ -1,8 +1,8 @@
--- `writer::pair` meets its contract: byte by byte, the low one first. Assumes nothing.
+-- `blocks::bytes::pair` meets its contract: byte by byte, the low one first. Assumes nothing.
 use borrow.Author.Needs.{needs}
 use Rattle.fields.specs.Field.{bytesOf}
-use Rattle.writer.proofs.pair.Statement.{statement}
-use Rattle.writer.proofs.pair.Tie as tie
+use Rattle.blocks.proofs.bytes.pair.Statement.{statement}
+use Rattle.blocks.proofs.bytes.pair.Tie as tie
 
 pub pair-spec : {M : Type 1} → statement M
 unfolding bytesOf
