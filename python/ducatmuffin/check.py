@@ -12,9 +12,9 @@ MODULE = "none of 10 to 18 and 50 to 61; 20 to 45 (calls, targets, types) are no
 STEP = "a script's table is made by ducat's own parser, and that step is not proved"
 MADE = "made from the script by ducat's own parser; that step is not proved"
 TEXT = frozenset(range(32, 127)) | frozenset(range(128, 256)) | frozenset(b"\t\n\r\f")
-VERDICTS = ("accepted", "errors", "refused", "unreadable", "no table", "syntax", "no opening")
-ACCEPTED, ERRORS, REFUSED, UNREADABLE, NO_TABLE, SYNTAX, NO_OPENING = range(7)  # the last is against.py's
-STATUS = (0, 1, 2, 2, 2, 1, 2)
+VERDICTS = ("accepted", "errors", "refused", "unreadable", "no table", "syntax", "no opening", "other dialect")
+ACCEPTED, ERRORS, REFUSED, UNREADABLE, NO_TABLE, SYNTAX, NO_OPENING, OTHER = range(8)  # no opening is against.py's
+STATUS = (0, 1, 2, 2, 2, 1, 2, 2)
 REPEATED = {11: "parameter", 22: "argument"}  # the errors that have an earlier place
 
 
@@ -24,6 +24,7 @@ class Options:
     def __init__(self, module=False, explain=False, quiet=False, bad_only=False, json=False, many=False, dialect=None, script=None):
         self.module, self.explain, self.quiet, self.bad_only = module, explain, quiet, bad_only
         self.json, self.many, self.dialect, self.script = json, many, dialect, script
+        self.by_books = False  # the dialect is the books', also of table files
 
 
 class Answer:
@@ -49,7 +50,7 @@ class Checker:
     def __init__(self, library, options):
         self.library, self.options = library, options
         self.source = options.script
-        self.plain = not (options.explain or options.json or options.script)
+        self.plain = not (options.explain or options.json or options.script or options.by_books)
 
     def answer(self, one):
         if self.plain and self.options.module and not one.script:
@@ -110,7 +111,18 @@ class Checker:
             self.refused(found, answer)
             return
         found.table, found.names, found.dialect = answer.table, answer.names, answer.dialect
+        if self.options.by_books and not self.of_the_books(found):
+            return
         self.judge(found)
+
+    def of_the_books(self, found):
+        """Whether a table file has the dialect of the books, or none, and then takes it."""
+        if found.dialect not in (None, self.options.dialect):
+            own, wanted = dialects.name_of(found.dialect), dialects.name_of(self.options.dialect)
+            found.verdict, found.message = OTHER, f"its dialect is {own}, and the books give {wanted}: it is not checked"
+            return False
+        found.dialect = self.options.dialect
+        return True
 
     def judge(self, found):
         job = self.library.module if self.options.module else self.library.audit
@@ -163,7 +175,7 @@ class Checker:
     def rendered(self, found):
         answer = Answer(found.verdict, found.total)
         if found.verdict == ACCEPTED and self.options.bad_only or self.options.quiet:
-            answer.err = self.complaint(found) if found.verdict in (UNREADABLE, NO_TABLE) else b""
+            answer.err = self.complaint(found) if found.verdict in (UNREADABLE, NO_TABLE, OTHER) else b""
             return answer
         if self.options.json:
             answer.out = dumps(self.entry(found))
@@ -177,7 +189,7 @@ class Checker:
     def complaint(self, found):
         """What goes to standard error: why there is no answer, or why the file is refused."""
         name = found.one.name
-        if found.verdict == UNREADABLE:
+        if found.verdict in (UNREADABLE, OTHER):
             said = f"ducat: {name}: {found.message}"
         elif found.verdict == NO_TABLE:
             said = f"ducat: {name}:{found.place[0]}:{found.place[1]}: {found.message}"
@@ -192,7 +204,7 @@ class Checker:
 
     def lines(self, found):
         explain = self.options.explain
-        if found.verdict in (UNREADABLE, NO_TABLE):
+        if found.verdict in (UNREADABLE, NO_TABLE, OTHER):
             return b""
         if found.verdict == SYNTAX:
             return encoded("\n".join([*syntax_lines(found.source, found.syntax), f"errors {found.total}"]) + "\n")
@@ -245,7 +257,7 @@ class Checker:
         entry = {**named(one.name), "kind": "script" if one.script else "table", "verdict": VERDICTS[found.verdict]}
         if found.data is not None:
             entry.update(evidence(found.data, one.script))
-        if found.verdict in (UNREADABLE, NO_TABLE):
+        if found.verdict in (UNREADABLE, NO_TABLE, OTHER):
             entry["failed"] = visible(found.message)
             if found.place:
                 entry["line"], entry["column"] = found.place
@@ -365,7 +377,7 @@ class Totals:
         self.errors += answer.errors
         self.faulty += answer.verdict in (ERRORS, SYNTAX)
         self.refused += answer.verdict == REFUSED
-        self.unread += answer.verdict in (UNREADABLE, NO_TABLE)
+        self.unread += answer.verdict in (UNREADABLE, NO_TABLE, OTHER)
         self.status = max(self.status, STATUS[answer.verdict])
 
     def line(self):

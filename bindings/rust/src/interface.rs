@@ -4,6 +4,10 @@
 use starlark_checks_raw::starlark_assignment;
 use starlark_checks_raw::starlark_audit;
 use starlark_checks_raw::starlark_bind;
+use starlark_checks_raw::starlark_book_add;
+use starlark_checks_raw::starlark_book_blank;
+use starlark_checks_raw::starlark_book_lookup;
+use starlark_checks_raw::starlark_book_remove;
 use starlark_checks_raw::starlark_call;
 use starlark_checks_raw::starlark_check_file;
 use starlark_checks_raw::starlark_module;
@@ -95,4 +99,23 @@ pub fn read(file: &[u8], table: &mut [u8], names: &mut [u8], out: &mut Words) ->
 
 pub fn check_file(file: &[u8], errors: &mut [u32], out: &mut Words) -> u32 {
     unsafe { starlark_check_file(file.as_ptr(), file.len(), errors.as_mut_ptr(), errors.len(), out) }
+}
+
+pub fn book_lookup(zone_book: &[u8], line_book: &[u8], zone: u32, setting: u32, out: &mut Words) -> u32 {
+    let (z, zl, l, ll) = (zone_book.as_ptr(), zone_book.len(), line_book.as_ptr(), line_book.len());
+    unsafe { starlark_book_lookup(z, zl, l, ll, zone, setting, out) }
+}
+
+pub fn book_add(zone_book: &mut [u8], line_book: &mut [u8], zone: u32, setting: u32, dialect: &[u8], out: &mut Words) -> u32 {
+    let (z, zl, l, ll) = (zone_book.as_mut_ptr(), zone_book.len(), line_book.as_mut_ptr(), line_book.len());
+    unsafe { starlark_book_add(z, zl, l, ll, zone, setting, dialect.as_ptr(), dialect.len(), out) }
+}
+
+pub fn book_remove(zone_book: &mut [u8], line_book: &mut [u8], zone: u32, setting: u32, out: &mut Words) -> u32 {
+    let (z, zl, l, ll) = (zone_book.as_mut_ptr(), zone_book.len(), line_book.as_mut_ptr(), line_book.len());
+    unsafe { starlark_book_remove(z, zl, l, ll, zone, setting, out) }
+}
+
+pub fn book_blank(book: &mut [u8], out: &mut Words) -> u32 {
+    unsafe { starlark_book_blank(book.as_mut_ptr(), book.len(), out) }
 }

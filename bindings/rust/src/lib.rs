@@ -24,6 +24,7 @@ use std::ops::Range;
 
 use starlark_checks_raw::Words;
 
+pub mod books;
 mod errors;
 mod interface;
 mod made;

@@ -8,11 +8,11 @@ use Prim.Native.Nat.{ℕ, zero, suc, _+_, _*_, _-_, _/_, _<_, _≤_}
 use native.Mathlib.Numerals.{add-one}
 use native.Mathlib.Omega.{arith}
 use lib.ListN.{length, take, drop, replicate, length-append, length-replicate}
-use lib.Dec.{leb}
-use borrow.Author.Tests.{eq-eqb, ne-eqb}
+use lib.Dec.{eqb, leb}
+use borrow.Author.Tests.{eq-eqb, ne-eqb, eqb-true}
 use Rattle.fields.specs.Choice.{if'}
 use Rattle.fields.specs.Field.{bytesOf}
-use Rattle.fields.proofs.Basics.{never, le-or-lt, and-right}
+use Rattle.fields.proofs.Basics.{never, clash, le-or-lt, and-left, and-right}
 use Rattle.fields.proofs.Spelling.{length-bytes}
 use Rattle.dialect.specs.Bytes.{validBytes}
 use Rattle.dialect.proofs.Laws.{valid-length}
@@ -77,15 +77,38 @@ module _ {test : ℕ → Bool} {n p : ℕ} (s : Searching test n p) where
       let e : p ≡ n = omega (arith, s .upto) in
       record { is = sym (rw e at (s .none)); inside = omega arith }
 
-module _ (book : List ℕ) {n p : ℕ} (h : p < n) {e : List ℕ} (e-is : e ≡ entryAt book p) {t : Bool} where
-  module _ (s : Searching (emptyAt book) n p) (t-is : t ≡ zeros e) where
-    pub empty-hit : t ≡ true → First (emptyAt book) n (p + 1)
-    unfolding emptyAt
-    empty-hit f = hit s h (rw (← e-is, ← t-is) f)
+-- the loop that remembers: the first of the places before
+pub record Finding (test : ℕ → Bool) (n first p : ℕ) : Type 0 where
+  pub upto : p ≤ n
+  pub inside : first ≤ p
+  pub is : first ≡ firstIn test p
 
-    pub empty-miss : t ≡ false → Searching (emptyAt book) n (p + 1)
-    unfolding emptyAt
-    empty-miss f = miss s h (rw (← e-is, ← t-is) f)
+pub find-start : (test : ℕ → Bool) (n : ℕ) → Finding test n 0 0
+unfolding firstIn
+find-start test n = record { upto = omega arith; inside = omega arith; is = refl }
+
+-- one place more
+first-on : (a p : ℕ) (t : Bool) → (t && eqb a 0) ≡ false → orElse a (if' t (λ _. suc p) (λ _. 0)) ≡ a
+first-on zero p true e = clash refl e
+first-on zero p false e = refl
+first-on (suc a) p t e = refl
+
+module _ (book : List ℕ) {n p : ℕ} (h : p < n) {e : List ℕ} (e-is : e ≡ entryAt book p) {t : Bool} where
+  module _ {first : ℕ} (s : Finding (emptyAt book) n first p) (t-is : t ≡ zeros e) where
+    pub empty-hit : (t && eqb first 0) ≡ true → Finding (emptyAt book) n (p + 1) (p + 1)
+    unfolding firstIn emptyAt
+    empty-hit f =
+        let here : zeros (entryAt book p) ≡ true = rw (← e-is, ← t-is) (and-left t (eqb first 0) f) in
+        let none : firstIn (emptyAt book) p ≡ 0 = sym (s .is) ∙ eqb-true first 0 (and-right t (eqb first 0) f) in
+        record { upto = omega arith; inside = omega arith; is = rw (add-one p, none, here) refl }
+
+    pub empty-miss : (t && eqb first 0) ≡ false → Finding (emptyAt book) n first (p + 1)
+    unfolding firstIn emptyAt
+    empty-miss f = record {
+      upto = omega arith;
+      inside = omega (arith, s .inside);
+      is = rw (add-one p, ← s .is, ← e-is, ← t-is) (sym (first-on first p t f));
+    }
 
   module _ (zone setting : ℕ) (s : Searching (forAt zone setting book) n p) (t-is : t ≡ isFor zone setting e) where
     pub for-hit : t ≡ true → First (forAt zone setting book) n (p + 1)
@@ -95,6 +118,10 @@ module _ (book : List ℕ) {n p : ℕ} (h : p < n) {e : List ℕ} (e-is : e ≡ 
     pub for-miss : t ≡ false → Searching (forAt zone setting book) n (p + 1)
     unfolding forAt
     for-miss f = miss s h (rw (← e-is, ← t-is) f)
+
+pub find-end : {test : ℕ → Bool} {n first p : ℕ} → Finding test n first p → n ≤ p → First test n first
+find-end {test} {n} {first} {p} s h =
+    let e : p ≡ n = omega (arith, s .upto) in record { is = rw e at (s .is); inside = rw e at (s .inside) }
 
 -- an entry's bytes
 pub entry-built : (zone setting : ℕ) (dialect : List ℕ) {z s o₁ o₂ o₃ : List ℕ} → length dialect ≡ 9

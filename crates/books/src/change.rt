@@ -67,10 +67,11 @@ fn place_to_add(book: &[u8], line: bool, zone: u32, setting: u32) -> Changed
     if search::twice_in(book) {
         return Changed::Refused(numbers::ENTRY_TWICE, book_number(line));
     }
-    if search::seen_in(book, zone, setting, 21 * (book.len() / BLOCK_BYTES)) {
+    let seen = search::seen_in(book, zone, setting, 21 * (book.len() / BLOCK_BYTES));
+    let first = search::first_empty(book);
+    if seen {
         return Changed::Refused(numbers::ENTRY_TWICE, book_number(line));
     }
-    let first = search::first_empty(book);
     if first == 0 {
         return Changed::Bare(numbers::NO_EMPTY_PLACE);
     }

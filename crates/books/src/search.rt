@@ -113,14 +113,16 @@ pub(crate) fn first_empty(book: &[u8]) -> usize
     ensures { λ r. ⌜ First (emptyAt (now (book .entry))) (placesOf (now (book .entry))) r ⌝ }
 {
     let n = 21 * (book.len() / BLOCK_BYTES);
+    let mut first = 0;
     let mut p = 0;
     while p < n {
-        if places::empty(places::entry(book, p)) {
-            return p + 1;
-        }
+        let here = places::empty(places::entry(book, p));
         p += 1;
+        if here & (first == 0) {
+            first = p;
+        }
     }
-    0
+    first
 }
 
 // The place of a zone and a setting, counted from 1; 0 where there is none.

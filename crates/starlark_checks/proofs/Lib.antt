@@ -1,3 +1,4 @@
 mod Told
+mod Places
 pub mod Promises
 pub mod ReadBack
