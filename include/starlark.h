@@ -22,8 +22,9 @@
  * `out`, twelve words
  *   accepted      as said at each function
  *   3, 4          out[0] the node
- *   1, 2, 5, 6, 7 nothing; so for 70 to 75, 90 and 91
- *   62 to 64      as said at starlark_fstring_write and starlark_fstring_read; 62 is no refusal
+ *   1, 2, 5, 6, 7 nothing; so for 64, 70 to 75, 90 and 91, and for 97 and 98
+ *   62, 63        as said at starlark_fstring_write and starlark_fstring_read; 62 is no refusal
+ *   95, 96        out[0] the book, 0 the zone book, 1 the line book; but 95 of starlark_book_blank nothing
  *   all others    out[0] the node, out[1] and out[2] begin and end of its span (22: the name's span), out[3] STARLARK_NONE; but for 11 and 22,
  *                 a name that stands twice, out[3] is the node of the first parameter (11) or argument (22) of the list that has it;
  *                 out[4] the source file number that the node has: its span is one in that script
@@ -32,7 +33,7 @@
  * What the caller must see to: nothing checks it
  *   Each pointer points to as many elements as the length beside it says, and `out` to twelve words. A pointer of length 0 may be NULL.
  *   Buffers that are only read may overlap each other; a written buffer (modes, shapes, list, errors, the file that is written, table and names of
- *   starlark_read, a format text, its parts and texts, `out`) overlaps none. Words are aligned to four bytes.
+ *   starlark_read, a format text, its parts and texts, a book that is changed, `out`) overlaps none. Words are aligned to four bytes.
  *   The thread has stack enough: STARLARK_STACK_BYTES is more than twice what any job was measured to need (bindings/c/stack.c, on aarch64):
  *   at 2,100 nodes of many shapes the table check needs 17 KB, the parameter job 17 KB, the call job 17 KB, the type job 26 KB, the module pass
  *   43 KB, the audit 64 KB, the binding job 34 KB, the target, assignment and write jobs no more than 17 KB; of a file of 2,100 nodes the rescue and
@@ -119,6 +120,10 @@ enum starlark_number {
     STARLARK_NUMBER_EMPTY_PARAMETER = 84, /* an ordinary parameter without default is left empty */
     STARLARK_NUMBER_BAD_HEADER = 90, /* block 0 or a name block of a file to be rescued is bad */
     STARLARK_NUMBER_NOTHING_KEPT = 91, /* the blocks of a file to be rescued do not pass, and no child of its root can be kept */
+    STARLARK_NUMBER_BOOK_UNSOUND = 95, /* a book has an unsound length, block or entry, or the entry to be added is unsound */
+    STARLARK_NUMBER_ENTRY_TWICE = 96, /* a book has an entry for the same zone and setting twice, or the entry to be added is there already */
+    STARLARK_NUMBER_NO_ENTRY = 97, /* neither book has a fitting entry, or there is none to remove */
+    STARLARK_NUMBER_NO_EMPTY_PLACE = 98, /* the book has no empty place for the entry to be added */
 };
 
 /* The kinds of records: byte 0 of each. */
@@ -349,6 +354,32 @@ uint32_t starlark_fstring_write(const uint32_t *parts, size_t parts_len, const u
  * ones left out and str as no conversion; what is read here and written again is the same text. */
 uint32_t starlark_fstring_read(const uint8_t *text, size_t text_len, uint32_t *parts, size_t parts_len, uint8_t *texts, size_t texts_len,
                                uint32_t *out);
+
+/* Books: the dialect of a zone and a setting. docs/FORMAT.md, "Books", has their format: a zone book and a line book, each of 1 to 100 blocks of 512
+ * bytes with 21 places of 24 bytes. A zone is 32 bits wide here, though an entry has 16: no entry has a larger zone.
+ *
+ * The lookup, which always judges both books, in the order 95 zone book, 95 line book, 96 zone book, 96 line book, 97: 95 to 97.
+ * Accepted: out[0] the book, 0 the zone book and 1 the line book, out[1] where the nine dialect bytes begin in it. They are those of the zone's
+ * entry with the highest setting not above `setting` or, where the zone book has no fitting entry, of the line book's. Zone 0 uses the line book
+ * alone. Where the lookup refuses there are no bytes: never pass none on as a dialect, for no dialect bytes mean Extended. */
+uint32_t starlark_book_lookup(const uint8_t *zone_book, size_t zone_book_len, const uint8_t *line_book, size_t line_book_len, uint32_t zone,
+                              uint32_t setting, uint32_t *out);
+
+/* Adds an entry to its book, zone 0 to the line book, and looks at that book alone: 95, 96, 98.
+ * Accepted: out[0] the book, out[1] the place, from 0 on, 21 a block: the first that was empty. Only that place and its block's sum change.
+ * 95 is also an entry with setting 0, a zone above 65,535 or bytes that are not nine valid dialect bytes; 96 also an entry that is there already,
+ * whatever its dialect. */
+uint32_t starlark_book_add(uint8_t *zone_book, size_t zone_book_len, uint8_t *line_book, size_t line_book_len, uint32_t zone, uint32_t setting,
+                           const uint8_t *dialect, size_t dialect_len, uint32_t *out);
+
+/* Removes the entry of exactly this zone and setting from its book, and looks at that book alone: 95, 96, 97.
+ * Accepted: out[0] the book, out[1] the place, which is empty then. Only that place and its block's sum change. */
+uint32_t starlark_book_remove(uint8_t *zone_book, size_t zone_book_len, uint8_t *line_book, size_t line_book_len, uint32_t zone,
+                              uint32_t setting, uint32_t *out);
+
+/* Makes a book of empty places of `book_len` bytes, which must be 1 to 100 whole blocks: 95.
+ * Accepted: no word; the book passes as a zone book and as a line book. */
+uint32_t starlark_book_blank(uint8_t *book, size_t book_len, uint32_t *out);
 
 #ifdef __cplusplus
 }

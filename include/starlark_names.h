@@ -69,6 +69,10 @@ static inline const char *starlark_number_name(uint32_t number) {
     case STARLARK_NUMBER_EMPTY_PARAMETER: return "EMPTY_PARAMETER";
     case STARLARK_NUMBER_BAD_HEADER: return "BAD_HEADER";
     case STARLARK_NUMBER_NOTHING_KEPT: return "NOTHING_KEPT";
+    case STARLARK_NUMBER_BOOK_UNSOUND: return "BOOK_UNSOUND";
+    case STARLARK_NUMBER_ENTRY_TWICE: return "ENTRY_TWICE";
+    case STARLARK_NUMBER_NO_ENTRY: return "NO_ENTRY";
+    case STARLARK_NUMBER_NO_EMPTY_PLACE: return "NO_EMPTY_PLACE";
     default: return "unknown";
     }
 }
@@ -137,6 +141,10 @@ static inline const char *starlark_number_words(uint32_t number) {
     case STARLARK_NUMBER_EMPTY_PARAMETER: return "an ordinary parameter without default is left empty";
     case STARLARK_NUMBER_BAD_HEADER: return "block 0 or a name block of a file to be rescued is bad";
     case STARLARK_NUMBER_NOTHING_KEPT: return "the blocks of a file to be rescued do not pass, and no child of its root can be kept";
+    case STARLARK_NUMBER_BOOK_UNSOUND: return "a book has an unsound length, block or entry, or the entry to be added is unsound";
+    case STARLARK_NUMBER_ENTRY_TWICE: return "a book has an entry for the same zone and setting twice, or the entry to be added is there already";
+    case STARLARK_NUMBER_NO_ENTRY: return "neither book has a fitting entry, or there is none to remove";
+    case STARLARK_NUMBER_NO_EMPTY_PLACE: return "the book has no empty place for the entry to be added";
     default: return "unknown";
     }
 }

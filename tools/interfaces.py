@@ -257,7 +257,7 @@ def stored():
 def declared():
     """The faults of the functions: Rust declares, and Python calls, those of the header with the same arguments, in the same order."""
     told, kinds_c = [], {"uint32_t *": "*mut u32", "uint8_t *": "*mut u8", "const uint8_t *": "*const u8", "const uint32_t *": "*const u32",
-                         "size_t ": "usize"}
+                         "size_t ": "usize", "uint32_t ": "u32"}
     header = dict(re.findall(r"^uint32_t starlark_(\w+)\(([^;]*)\);", HEADER.read_text(), re.M))
     rust_text = dict(re.findall(r"^    pub fn starlark_(\w+)\(([^;]*?),?\s*\) -> u32;", (RAW / "src" / "lib.rs").read_text(), re.M))
     for name, words in header.items():

@@ -87,3 +87,23 @@ uint32_t starlark_fstring_read(const uint8_t *text, size_t text_len, uint32_t *p
                                uint32_t *out) {
     return inner_fstring_read(SLICE(text, text_len), SLICE(parts, parts_len), SLICE(texts, texts_len), out);
 }
+
+#define BOOKS uint8_t *z, size_t zl, uint8_t *l, size_t ll
+
+uint32_t inner_book_lookup(struct slice *, struct slice *, uint32_t, uint32_t, uint32_t *);
+uint32_t starlark_book_lookup(const uint8_t *z, size_t zl, const uint8_t *l, size_t ll, uint32_t zone, uint32_t setting, uint32_t *out) {
+    return inner_book_lookup(SLICE(z, zl), SLICE(l, ll), zone, setting, out);
+}
+
+uint32_t inner_book_add(struct slice *, struct slice *, uint32_t, uint32_t, struct slice *, uint32_t *);
+uint32_t starlark_book_add(BOOKS, uint32_t zone, uint32_t setting, const uint8_t *d, size_t dl, uint32_t *out) {
+    return inner_book_add(SLICE(z, zl), SLICE(l, ll), zone, setting, SLICE(d, dl), out);
+}
+
+uint32_t inner_book_remove(struct slice *, struct slice *, uint32_t, uint32_t, uint32_t *);
+uint32_t starlark_book_remove(BOOKS, uint32_t zone, uint32_t setting, uint32_t *out) {
+    return inner_book_remove(SLICE(z, zl), SLICE(l, ll), zone, setting, out);
+}
+
+uint32_t inner_book_blank(struct slice *, uint32_t *);
+uint32_t starlark_book_blank(uint8_t *book, size_t book_len, uint32_t *out) { return inner_book_blank(SLICE(book, book_len), out); }

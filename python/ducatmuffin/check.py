@@ -10,9 +10,9 @@ MODULE = "none of 10 to 19 and 50 to 61; 20 to 45 (calls, targets, types) are no
 STEP = "a script's table is made by ducat's own parser, and that step is not proved"
 MADE = "made from the script by ducat's own parser; that step is not proved"
 TEXT = frozenset(range(32, 127)) | frozenset(range(128, 256)) | frozenset(b"\t\n\r\f")
-VERDICTS = ("accepted", "errors", "refused", "unreadable", "no table", "syntax", "no opening")
-ACCEPTED, ERRORS, REFUSED, UNREADABLE, NO_TABLE, SYNTAX, NO_OPENING = range(7)  # the last is against.py's
-STATUS = (0, 1, 2, 2, 2, 1, 2)
+VERDICTS = ("accepted", "errors", "refused", "unreadable", "no table", "syntax", "no opening", "other dialect")
+ACCEPTED, ERRORS, REFUSED, UNREADABLE, NO_TABLE, SYNTAX, NO_OPENING, OTHER = range(8)  # no opening is against.py's
+STATUS = (0, 1, 2, 2, 2, 1, 2, 2)
 REPEATED = {11: "parameter", 22: "argument"}  # the errors that have an earlier place
 
 
@@ -22,6 +22,7 @@ class Options:
     def __init__(self, module=False, explain=False, quiet=False, bad_only=False, json=False, many=False, dialect=None, scripts=None):
         self.module, self.explain, self.quiet, self.bad_only = module, explain, quiet, bad_only
         self.json, self.many, self.dialect, self.scripts = json, many, dialect, scripts
+        self.by_books = False  # the dialect is the books', also of table files
 
 
 class Answer:
@@ -102,7 +103,7 @@ class Checker:
 
     def __init__(self, library, options):
         self.library, self.options = library, options
-        self.plain = not (options.explain or options.json or options.scripts)
+        self.plain = not (options.explain or options.json or options.scripts or options.by_books)
 
     def answer(self, one):
         if self.plain and self.options.module and not one.script:
@@ -155,7 +156,18 @@ class Checker:
             self.refused(found, answer)
             return
         found.table, found.names, found.dialect = answer.table, answer.names, answer.dialect
+        if self.options.by_books and not self.of_the_books(found):
+            return
         self.judge(found)
+
+    def of_the_books(self, found):
+        """Whether a table file has the dialect of the books, or none, and then takes it."""
+        if found.dialect not in (None, self.options.dialect):
+            own, wanted = dialects.name_of(found.dialect), dialects.name_of(self.options.dialect)
+            found.verdict, found.message = OTHER, f"its dialect is {own}, and the books give {wanted}: it is not checked"
+            return False
+        found.dialect = self.options.dialect
+        return True
 
     def judge(self, found):
         job = self.library.module if self.options.module else self.library.audit
@@ -214,7 +226,7 @@ class Checker:
     def rendered(self, found):
         answer = Answer(found.verdict, found.total)
         if found.verdict == ACCEPTED and self.options.bad_only or self.options.quiet:
-            answer.err = self.complaint(found) if found.verdict in (UNREADABLE, NO_TABLE) else b""
+            answer.err = self.complaint(found) if found.verdict in (UNREADABLE, NO_TABLE, OTHER) else b""
             return answer
         if self.options.json:
             answer.out = dumps(self.entry(found))
@@ -228,7 +240,7 @@ class Checker:
     def complaint(self, found):
         """What goes to standard error: why there is no answer, or why the file is refused."""
         said = []
-        if found.verdict in (UNREADABLE, NO_TABLE):
+        if found.verdict in (UNREADABLE, NO_TABLE, OTHER):
             said = complaints(found)
         elif found.verdict == REFUSED and not self.options.explain:
             said = [f"{found.one.name}: {self.refusal(found)}"]
@@ -239,7 +251,7 @@ class Checker:
 
     def lines(self, found):
         explain = self.options.explain
-        if found.verdict in (UNREADABLE, NO_TABLE):
+        if found.verdict in (UNREADABLE, NO_TABLE, OTHER):
             return b""
         if found.verdict == SYNTAX:
             lines = [line for part in found.syntax for line in syntax_lines(part.source, part.syntax)]
@@ -286,7 +298,7 @@ class Checker:
     def entry(self, found):
         one = found.one
         entry = {**start(found), "verdict": VERDICTS[found.verdict], **evidence_of(found)}
-        if found.verdict in (UNREADABLE, NO_TABLE):
+        if found.verdict in (UNREADABLE, NO_TABLE, OTHER):
             return {**entry, **failed_json(found)}
         if found.verdict == SYNTAX:
             return {**entry, "errors": syntax_errors(found)}
@@ -465,7 +477,7 @@ class Totals:
         self.errors += answer.errors
         self.faulty += answer.verdict in (ERRORS, SYNTAX)
         self.refused += answer.verdict == REFUSED
-        self.unread += answer.verdict in (UNREADABLE, NO_TABLE)
+        self.unread += answer.verdict in (UNREADABLE, NO_TABLE, OTHER)
         self.status = max(self.status, STATUS[answer.verdict])
 
     def line(self):

@@ -5,7 +5,7 @@ import sys
 from . import __version__, files, signals
 from .output import Failed, Out, OutputFailed, flush_error, head, say, text_of
 
-COMMANDS = ("check", "bind", "rescue", "write", "table", "dump", "build")
+COMMANDS = ("check", "bind", "rescue", "write", "table", "dump", "book", "build")
 
 USAGE = """usage: ducat COMMAND [OPTION...] ...
        ducat COMMAND --help
@@ -19,6 +19,7 @@ Checks Starlark scripts and their node tables with a proved library.
                                                a table file from raw bytes
   ducat table INPUT... -o OUT                  a table file from scripts, or from the text form of a table
   ducat dump FILE                              the text form of a table file
+  ducat book COMMAND ...                       dialects by zone and setting: lookup, add, remove, list, show, new
   ducat build [--unproved]                     prove and compile the library
 
   --version     print the version, and which library is used
@@ -130,6 +131,20 @@ be written, or wrong usage."""
 DUMP = """Prints the text form of a table file, or of a script's table. `ducat table` of it gives the same bytes back.
 `-` is standard input."""
 
+BOOK = """usage: ducat book COMMAND ...
+       ducat book COMMAND --help
+
+Dialects by zone and setting, in a zone book and a line book.
+
+  ducat book lookup ZONEBOOK LINEBOOK ZONE SETTING         print the nine digits of a zone's dialect
+  ducat book add ZONEBOOK LINEBOOK ZONE SETTING DIALECT    add an entry to its book, in place
+  ducat book remove ZONEBOOK LINEBOOK ZONE SETTING         remove an entry from its book, in place
+  ducat book list BOOK                                     print the entries of a book
+  ducat book show ZONEBOOK LINEBOOK                        print which book answers, by zone and setting
+  ducat book new BLOCKS -o BOOK                            make an empty book
+
+Exit status: 0; 1 for 97 and 98; 2 otherwise."""
+
 BUILD = """Proves and compiles the library, if it is not current. Every command does this by itself when it must; an
 installed ducat never does."""
 
@@ -209,6 +224,14 @@ def add_list(parser):
     parser.add_argument("-0", "--null", action="store_true", help="the names of --files-from end with NUL, not with a newline")
 
 
+def add_books(parser):
+    from .book import SETTING, ZONE
+    parser.add_argument("--books", metavar=("ZONEBOOK", "LINEBOOK"), nargs=2,
+                        help="check scripts, and table files without a dialect, in the dialect that these books give for --zone and --setting")
+    parser.add_argument("--zone", metavar="Z", type=ZONE, help="the zone, for --books")
+    parser.add_argument("--setting", metavar="S", type=SETTING, help="the setting, for --books")
+
+
 def check_parser():
     parser = make_parser("check", CHECK, f"{AGAINST}\n\n{CHECK_MORE}")
     parser.add_argument("paths", metavar="PATH", nargs="*")
@@ -223,6 +246,7 @@ def check_parser():
     add_dialect(parser, "of scripts; a table file has its own")
     parser.add_argument("--against", metavar="DIALECT", help="say what the move to DIALECT, which must permit all that the input's own does, does to its "
                         "errors; a name or nine digits as for --dialect")
+    add_books(parser)
     parser.add_argument("--exclude", metavar="GLOB", action="append", default=[],
                         help="leave out what a search finds and whose name or path matches; may be repeated")
     add_as_script(parser)
@@ -445,6 +469,7 @@ def check(words, out):
         if options.module:
             raise Failed("--against runs the module pass and the other jobs: --module is not for it")
         options.against = dialect_word(options.against, "--against") or b""
+    books_fit(options)
     configured = Configured(options)
     search = found_in(options, configured, options.paths, folders=not options.join)
     if options.join and search.found:
@@ -455,6 +480,11 @@ def check(words, out):
         raise Failed("--script is for table files: a script that is checked is its own")
     scripts = scripts_named(options.script, not options.quiet)
     library = open_library()
+    if options.books:
+        from . import book
+        configured.dialect, status = book.dialect_for_check(library, options, out)
+        if configured.dialect is None:
+            return status
     configured.say()
     for path, excluded in search.empty:
         say(f"{path}: no table file and no script is found in this folder" + (f"; {excluded:,} excluded" if excluded else ""))
@@ -462,6 +492,7 @@ def check(words, out):
     json = options.format == "json"
     many = len(search.found) > 1 or bool(search.empty) or any(one.path not in options.paths for one in search.found if one.path is not None)
     how = job.Options(options.module, options.explain and not json, options.quiet, options.bad_only, json, many, configured.dialect, scripts)
+    how.by_books = bool(options.books)
     if options.against is not None:
         from . import against
         status = against.run(library, how, options.against, search.found, options.jobs, out,
@@ -470,6 +501,17 @@ def check(words, out):
         front = head("check", library, configured.in_json(), module=options.module) if json else None
         status = job.run(library, how, search.found, options.jobs, out, front)
     return max(status, 2 if search.empty else 0)
+
+
+def books_fit(options):
+    """--books, --zone and --setting go together, and give the dialect."""
+    given = [options.books is not None, options.zone is not None, options.setting is not None]
+    if any(given) and not all(given):
+        raise Failed("--books, --zone and --setting go together")
+    if options.books and (options.dialect is not None or options.against is not None):
+        raise Failed("--books gives the dialect: --dialect and --against are not for it")
+    if options.books:
+        once(*options.books, *options.paths)
 
 
 def could_be_script(path, stdin_filename, as_script):
@@ -577,6 +619,25 @@ def dump(words, out):
     library = open_library()
     configured.say()
     return job.run(library, options, out, head("dump", library, configured.in_json()) if options.json else None)
+
+
+def book(words, out):
+    from . import book as job
+    if not words:
+        raise Failed("no command of `ducat book` is named (`ducat book --help` says which there are)")
+    if words[0] in ("-h", "--help"):
+        out.write(BOOK.encode() + b"\n")
+        return 0
+    if words[0] not in job.RUN:
+        raise Failed(f"there is no command book {words[0]} (`ducat book --help` says which there are)")
+    options = parse(job.parser_of(words[0], make_parser), words[1:])
+    if words[0] == "new":
+        named_out(options.out)
+    elif words[0] != "list":
+        once(options.zone_book, options.line_book)
+    if words[0] == "add":
+        options.dialect = dialect_word(options.dialect, "DIALECT") or b""
+    return job.RUN[words[0]](open_library(), options, out)
 
 
 def build(words, out):

@@ -49,6 +49,10 @@ FUNCTIONS = {
     "check_file": READ + LENT + OUT,
     "fstring_write": [ctypes.c_void_p, LENGTH] + READ * 2 + LENT + OUT,
     "fstring_read": READ + LENT * 2 + OUT,
+    "book_lookup": READ * 2 + [WORD] * 2 + OUT,
+    "book_add": LENT * 2 + [WORD] * 2 + READ + OUT,
+    "book_remove": LENT * 2 + [WORD] * 2 + OUT,
+    "book_blank": LENT + OUT,
     "version": [],
 }
 # the first words of the parts of a format text that are no text
@@ -202,6 +206,34 @@ class Parts:
     accepted: ClassVar[bool] = True
 
 
+@dataclass(frozen=True)
+class BookRefusal:
+    """Why a book or an entry is refused: 95 to 98, what it means, and the book (0 the zone book, 1 the line book) where the number carries it."""
+    number: int
+    words: str
+    book: Optional[int] = None
+    accepted: ClassVar[bool] = False
+
+
+@dataclass(frozen=True)
+class Found:
+    """The dialect of a lookup: its nine bytes, the book that they stand in (0 the zone book, 1 the line book), and where they begin in it."""
+    dialect: bytes
+    book: int
+    at: int
+    accepted: ClassVar[bool] = True
+
+
+@dataclass(frozen=True)
+class Changed:
+    """An entry added or removed: the book (0 the zone book, 1 the line book), the place in it from 0, and both books afterwards."""
+    book: int
+    place: int
+    zone_book: bytes
+    line_book: bytes
+    accepted: ClassVar[bool] = True
+
+
 class Buffers(threading.local):
     """What a thread lends to the library: the words of the answer, and the largest buffers that a job needs."""
 
@@ -267,6 +299,18 @@ def _part_words(parts):
             for at in range(0, len(text), most):
                 words += [0, min(most, len(text) - at)]
     return words, b"".join(texts)
+
+
+def _word(number, what):
+    """A number of 32 bits: a larger one is no other number."""
+    number = operator.index(number)
+    if not 0 <= number < 2 ** 32:
+        raise ValueError(f"a {what} is from 0 to 4294967295: {number}")
+    return number
+
+
+def _book_refusal(number, out):
+    return BookRefusal(number, numbers.WORDS.get(number, "unknown"), out[0] if number in (95, 96) else None)
 
 
 def _refusal(number, out):
@@ -510,6 +554,42 @@ class Library:
             parts.append(names[kind] if kind else texts[at:at + length])
             at += length
         return Parts(tuple(parts))
+
+    def book_lookup(self, zone_book: Bytes, line_book: Bytes, zone: int, setting: int) -> Union[Found, BookRefusal]:
+        """The dialect of a zone at a setting, by the zone book or, where it has no fitting entry, by the line book."""
+        books, own = (_bytes(zone_book), _bytes(line_book)), self._buffers
+        number = self._book_lookup(
+            books[0], len(books[0]), books[1], len(books[1]), _word(zone, "zone"), _word(setting, "setting"), own.out_at)
+        if number:
+            return _book_refusal(number, own.out)
+        book, at = own.out[:2]
+        return Found(books[book][at:at + 9], book, at)
+
+    def book_add(self, zone_book: Bytes, line_book: Bytes, zone: int, setting: int, dialect: Bytes) -> Union[Changed, BookRefusal]:
+        """The two books with an entry more, in the line book for zone 0 and else in the zone book."""
+        dialect = _bytes(dialect)
+        return self._book_change(self._book_add, zone_book, line_book, zone, setting, dialect, len(dialect))
+
+    def book_remove(self, zone_book: Bytes, line_book: Bytes, zone: int, setting: int) -> Union[Changed, BookRefusal]:
+        """The two books without the entry of exactly this zone and setting."""
+        return self._book_change(self._book_remove, zone_book, line_book, zone, setting)
+
+    def _book_change(self, change, zone_book, line_book, zone, setting, *dialect):
+        books, own = [ctypes.create_string_buffer(data, len(data)) for data in (_bytes(zone_book), _bytes(line_book))], self._buffers
+        zone, setting = _word(zone, "zone"), _word(setting, "setting")
+        number = change(ctypes.addressof(books[0]), len(books[0]), ctypes.addressof(books[1]), len(books[1]), zone, setting, *dialect, own.out_at)
+        if number:
+            return _book_refusal(number, own.out)
+        return Changed(own.out[0], own.out[1], books[0].raw, books[1].raw)
+
+    def book_blank(self, blocks: int) -> Union[bytes, BookRefusal]:
+        """A book of empty places, of 1 to 100 blocks."""
+        blocks = operator.index(blocks)
+        if not 0 <= blocks <= 101:
+            return BookRefusal(95, numbers.WORDS[95])
+        book, own = ctypes.create_string_buffer(512 * blocks), self._buffers
+        number = self._book_blank(ctypes.addressof(book), len(book), own.out_at)
+        return BookRefusal(number, numbers.WORDS[number]) if number else book.raw
 
 
 def _identity(path):

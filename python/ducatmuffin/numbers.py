@@ -83,6 +83,10 @@ NUMBERS = {
     84: "EMPTY_PARAMETER",
     90: "BAD_HEADER",
     91: "NOTHING_KEPT",
+    95: "BOOK_UNSOUND",
+    96: "ENTRY_TWICE",
+    97: "NO_ENTRY",
+    98: "NO_EMPTY_PLACE",
 }
 
 # what each number means
@@ -147,6 +151,10 @@ WORDS = {
     84: "an ordinary parameter without default is left empty",
     90: "block 0 or a name block of a file to be rescued is bad",
     91: "the blocks of a file to be rescued do not pass, and no child of its root can be kept",
+    95: "a book has an unsound length, block or entry, or the entry to be added is unsound",
+    96: "a book has an entry for the same zone and setting twice, or the entry to be added is there already",
+    97: "neither book has a fitting entry, or there is none to remove",
+    98: "the book has no empty place for the entry to be added",
 }
 
 # the name and the class of each kind

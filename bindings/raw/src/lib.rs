@@ -129,4 +129,34 @@ extern "C" {
         texts_len: usize,
         out: *mut Words,
     ) -> u32;
+    pub fn starlark_book_lookup(
+        zone_book: *const u8,
+        zone_book_len: usize,
+        line_book: *const u8,
+        line_book_len: usize,
+        zone: u32,
+        setting: u32,
+        out: *mut Words,
+    ) -> u32;
+    pub fn starlark_book_add(
+        zone_book: *mut u8,
+        zone_book_len: usize,
+        line_book: *mut u8,
+        line_book_len: usize,
+        zone: u32,
+        setting: u32,
+        dialect: *const u8,
+        dialect_len: usize,
+        out: *mut Words,
+    ) -> u32;
+    pub fn starlark_book_remove(
+        zone_book: *mut u8,
+        zone_book_len: usize,
+        line_book: *mut u8,
+        line_book_len: usize,
+        zone: u32,
+        setting: u32,
+        out: *mut Words,
+    ) -> u32;
+    pub fn starlark_book_blank(book: *mut u8, book_len: usize, out: *mut Words) -> u32;
 }

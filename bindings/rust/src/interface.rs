@@ -4,6 +4,10 @@
 use starlark_checks_raw::starlark_assignment;
 use starlark_checks_raw::starlark_audit;
 use starlark_checks_raw::starlark_bind;
+use starlark_checks_raw::starlark_book_add;
+use starlark_checks_raw::starlark_book_blank;
+use starlark_checks_raw::starlark_book_lookup;
+use starlark_checks_raw::starlark_book_remove;
 use starlark_checks_raw::starlark_call;
 use starlark_checks_raw::starlark_check_file;
 use starlark_checks_raw::starlark_fstring_read;
@@ -108,4 +112,23 @@ pub fn fstring_write(words: &[u32], texts: &[u8], dialect: &[u8], text: &mut [u8
 pub fn fstring_read(text: &[u8], words: &mut [u32], texts: &mut [u8], out: &mut Words) -> u32 {
     let (w, wl, t, tl) = (words.as_mut_ptr(), words.len(), texts.as_mut_ptr(), texts.len());
     unsafe { starlark_fstring_read(text.as_ptr(), text.len(), w, wl, t, tl, out) }
+}
+
+pub fn book_lookup(zone_book: &[u8], line_book: &[u8], zone: u32, setting: u32, out: &mut Words) -> u32 {
+    let (z, zl, l, ll) = (zone_book.as_ptr(), zone_book.len(), line_book.as_ptr(), line_book.len());
+    unsafe { starlark_book_lookup(z, zl, l, ll, zone, setting, out) }
+}
+
+pub fn book_add(zone_book: &mut [u8], line_book: &mut [u8], zone: u32, setting: u32, dialect: &[u8], out: &mut Words) -> u32 {
+    let (z, zl, l, ll) = (zone_book.as_mut_ptr(), zone_book.len(), line_book.as_mut_ptr(), line_book.len());
+    unsafe { starlark_book_add(z, zl, l, ll, zone, setting, dialect.as_ptr(), dialect.len(), out) }
+}
+
+pub fn book_remove(zone_book: &mut [u8], line_book: &mut [u8], zone: u32, setting: u32, out: &mut Words) -> u32 {
+    let (z, zl, l, ll) = (zone_book.as_mut_ptr(), zone_book.len(), line_book.as_mut_ptr(), line_book.len());
+    unsafe { starlark_book_remove(z, zl, l, ll, zone, setting, out) }
+}
+
+pub fn book_blank(book: &mut [u8], out: &mut Words) -> u32 {
+    unsafe { starlark_book_blank(book.as_mut_ptr(), book.len(), out) }
 }

@@ -25,6 +25,7 @@ use std::ops::Range;
 
 use starlark_checks_raw::Words;
 
+pub mod books;
 mod errors;
 mod format;
 mod interface;

@@ -127,6 +127,14 @@ pub enum Number {
     BadHeader = 90,
     /// the blocks of a file to be rescued do not pass, and no child of its root can be kept
     NothingKept = 91,
+    /// a book has an unsound length, block or entry, or the entry to be added is unsound
+    BookUnsound = 95,
+    /// a book has an entry for the same zone and setting twice, or the entry to be added is there already
+    EntryTwice = 96,
+    /// neither book has a fitting entry, or there is none to remove
+    NoEntry = 97,
+    /// the book has no empty place for the entry to be added
+    NoEmptyPlace = 98,
 }
 
 /// The kind of a record: its byte 0. docs/FORMAT.md has what each takes below it.
@@ -281,7 +289,7 @@ pub mod dialect {
 }
 
 /// Each number, its name and what it means.
-pub const NUMBERS: [(Number, &str, &str); 60] = [
+pub const NUMBERS: [(Number, &str, &str); 64] = [
     (Number::TableLength, "TABLE_LENGTH", "the table has no record, more than 2,100, or a part of one"),
     (Number::NameBytes, "NAME_BYTES", "there are more than 8,064 name bytes"),
     (Number::UnsoundRecord, "UNSOUND_RECORD", "a record of the table is unsound"),
@@ -342,6 +350,10 @@ pub const NUMBERS: [(Number, &str, &str); 60] = [
     (Number::EmptyParameter, "EMPTY_PARAMETER", "an ordinary parameter without default is left empty"),
     (Number::BadHeader, "BAD_HEADER", "block 0 or a name block of a file to be rescued is bad"),
     (Number::NothingKept, "NOTHING_KEPT", "the blocks of a file to be rescued do not pass, and no child of its root can be kept"),
+    (Number::BookUnsound, "BOOK_UNSOUND", "a book has an unsound length, block or entry, or the entry to be added is unsound"),
+    (Number::EntryTwice, "ENTRY_TWICE", "a book has an entry for the same zone and setting twice, or the entry to be added is there already"),
+    (Number::NoEntry, "NO_ENTRY", "neither book has a fitting entry, or there is none to remove"),
+    (Number::NoEmptyPlace, "NO_EMPTY_PLACE", "the book has no empty place for the entry to be added"),
 ];
 
 /// Each kind, its name and its class.

@@ -1,5 +1,6 @@
 pub mod Filling
 pub mod Sums
+pub mod Laying
 pub mod Judging
 pub mod Blocks
 pub mod Runs

@@ -1,12 +1,14 @@
 -- Two answers that meet the promise of a public function coincide. Assumes nothing.
 use mathlib.Core.Path.{_≡_, refl}
-use mathlib.Core.List.{List}
-use Prim.Native.Nat.{ℕ, min}
+use mathlib.Core.List.{List, _++_}
+use Prim.Native.Nat.{ℕ, _%_, min}
+use Rattle.fields.specs.Field.{bytesOf}
 use Rattle.fields.proofs.Basics.{never}
 use Rattle.fields.proofs.Coincide.{coincide, coincide-by}
 use Rattle.blocks.specs.declared.Judged.{Judged}
 use Rattle.blocks.specs.declared.Judged.the-variants.{Passed, Refused}
-use Rattle.blocks.specs.Block.{contentBytes, weightOf, judge, judged}
+use Rattle.blocks.specs.Block.{contentBytes, weightOf, sumOf, judge, judged}
+use Rattle.blocks.specs.Laid.{laidAt}
 use Rattle.blocks.specs.Run.{blocksFor, judgeRun, contentIn}
 
 -- no two judgements mean the same
@@ -42,3 +44,24 @@ content-one bytes number = coincide
 -- of `weight`
 pub weight-one : (p x : ℕ) {r s : ℕ} → r ≡ weightOf p x → s ≡ weightOf p x → r ≡ s
 weight-one p x = coincide
+
+-- of `sum`, the bytes as lent
+pub sum-one : (b : List ℕ) {r s : ℕ} → r ≡ sumOf b → s ≡ sumOf b → r ≡ s
+sum-one b = coincide
+
+-- of `put`, the buffers as lent and at exit
+pub put-one : (bytes : List ℕ) (at : ℕ) (out : List ℕ) {out-r out-s : List ℕ} → out-r ≡ laidAt at bytes out
+    → out-s ≡ laidAt at bytes out → out-r ≡ out-s
+put-one bytes at out = coincide
+
+-- of `pair`
+pub pair-one : (a b : ℕ) {r s : List ℕ} → r ≡ bytesOf 2 a ++ bytesOf 2 b → s ≡ bytesOf 2 a ++ bytesOf 2 b → r ≡ s
+pair-one a b = coincide
+
+-- of `quad`
+pub quad-one : (n : ℕ) {r s : List ℕ} → r ≡ bytesOf 4 n → s ≡ bytesOf 4 n → r ≡ s
+quad-one n = coincide
+
+-- of `low`
+pub low-one : (n : ℕ) {r s : ℕ} → r ≡ n % 256 → s ≡ n % 256 → r ≡ s
+low-one n = coincide

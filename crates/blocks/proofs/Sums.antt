@@ -1,12 +1,14 @@
--- Laws of the sum of a block: what it depends on, its bound, and that one changed byte changes it. Assumes nothing.
-use mathlib.Core.Path.{_≡_, refl}
+-- Laws of the sum of a block: what it depends on, its bound, and that one changed byte changes it. The loops keep the
+-- sum over the places so far (`Summed`); that of `sum` ends where the bytes do, because past the end nothing is
+-- weighed (`sum-clipped`). Assumes nothing.
+use mathlib.Core.Path.{_≡_, refl, sym, ap, _∙_}
 use mathlib.Core.Logic.{⊎-elim}
 use mathlib.Core.List.{List, _++_}
-use Prim.Native.Nat.{ℕ, zero, suc, _+_, _*_, _<_, _≤_, _^_}
-use native.Mathlib.Nat.{mul-le-mul, eq-of-mul-eq-mul-left}
+use Prim.Native.Nat.{ℕ, zero, suc, _+_, _*_, _-_, _<_, _≤_, _^_, min}
+use native.Mathlib.Nat.{add-zero, mul-le-mul, eq-of-mul-eq-mul-left}
 use native.Mathlib.Numerals.{add-one}
 use native.Mathlib.Omega.{arith}
-use lib.ListN.{length, getD, set, List·getD-append}
+use lib.ListN.{length, getD, set, List·getD-append, List·getD-eq-default}
 use lib.Seq.{getD-set-same, getD-set-other}
 use Rattle.fields.proofs.Basics.{le-or-lt}
 use Rattle.blocks.specs.Block.{weighed, sumOf}
@@ -85,6 +87,49 @@ module _ {b : List ℕ} {sum p : ℕ} (s : Summed b sum p) where
     pub sum-fits : sum + w < 2 ^ 32
     sum-fits = omega (arith, sum-on .is, weighed-small (p + 1) b (omega arith) (s .small))
 
-  pub sum-end : 508 ≤ p → sum ≡ sumOf b
-  unfolding sumOf
-  sum-end h = let e : p ≡ 508 = omega (arith, s .upto) in rw e at (s .is)
+-- past the end there is nothing to weigh
+weighed-past : (k : ℕ) (b : List ℕ) → weighed (length b + k) b ≡ weighed (length b) b
+unfolding weighed
+weighed-past zero b = rw (add-zero (length b)) refl
+weighed-past (suc k) b =
+    let e : length b + suc k ≡ suc (length b + k) = omega arith in
+    let none : getD b (length b + k) 0 ≡ 0 = List·getD-eq-default b 0 (omega arith) in
+    rw (e, none) (omega (arith, weighed-past k b))
+
+sum-clipped : (b : List ℕ) → weighed (min 508 (length b)) b ≡ sumOf b
+unfolding sumOf
+sum-clipped b = ⊎-elim
+    (λ (h : 508 ≤ length b). let e : min 508 (length b) ≡ 508 = omega arith in rw e refl)
+    (λ (h : length b < 508).
+    let e : min 508 (length b) ≡ length b = omega arith in
+    let n : length b + (508 - length b) ≡ 508 = omega arith in
+    rw e (sym (rw n at (weighed-past (508 - length b) b))))
+    (le-or-lt 508 (length b))
+
+-- the loop of a sum goes over as many places as are there, and at most 508
+pub record Summing (b : List ℕ) (n sum p : ℕ) : Type 0 where
+  pub clipped : n ≡ min 508 (length b)
+  pub before : p ≤ n
+  pub summed : Summed b sum p
+
+pub summing-start : (b : List ℕ) {n : ℕ} → n ≡ min 508 (length b) → Bytes b → Summing b n 0 0
+summing-start b n-is small = record { clipped = n-is; before = omega arith; summed = sum-start b small }
+
+module _ {b : List ℕ} {n sum p : ℕ} (s : Summing b n sum p) where
+  pub summing-place : p < n → p < length b
+  summing-place h = omega (arith, s .clipped)
+
+  pub summing-few : p < n → p < 508
+  summing-few h = omega (arith, s .clipped)
+
+  module _ (h : p < n) {w : ℕ} (e : w ≡ (p + 1) * getD b p 0) where
+    pub summing-on : Summing b n (sum + w) (p + 1)
+    summing-on = record { clipped = s .clipped; before = omega arith; summed = sum-on (s .summed) (summing-few h) e }
+
+    pub summing-fits : sum + w < 2 ^ 32
+    summing-fits = sum-fits (s .summed) (summing-few h) e
+
+  pub summing-end : n ≤ p → sum ≡ sumOf b
+  summing-end h =
+      let e : p ≡ min 508 (length b) = omega (arith, s .clipped, s .before) in
+      s .summed .is ∙ ap (λ (k : ℕ). weighed k b) e ∙ sum-clipped b

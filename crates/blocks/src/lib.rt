@@ -1,4 +1,6 @@
 // Blocks of 512 bytes: number, used bytes, content and sum, judged one by one or as a run.
+pub mod bytes;
+
 use table::numbers;
 ghost use mathlib.Core.Path.{_≡_};
 ghost use Prim.Native.Nat.{_+_, _≤_, min};
@@ -129,18 +131,29 @@ pub fn weight(p: u16, x: u8) -> u32
     (p as u32 + 1) * (x as u32)
 }
 
-// The sum of (p + 1) times byte p over p = 0 to 507, in 32 bits: it is below 33 million.
-fn sum(b: &[u8]) -> u32
-    requires { ⌜ length (now b) ≡ blockBytes ⌝ }
+// The sum of (p + 1) times byte p over p = 0 to 507, in 32 bits: it is below 33 million. What stands past the end
+// counts as zero.
+pub fn sum(b: &[u8]) -> u32
     ensures { λ r. ⌜ r ≡ sumOf (now (b .entry)) ⌝ }
 {
+    let n = summed(b.len());
     let mut sum = 0u32;
     let mut p = 0;
-    while p < 508 {
+    while p < n {
         sum += weight(p as u16, b[p]);
         p += 1;
     }
     sum
+}
+
+// How many of so many bytes are summed.
+fn summed(n: usize) -> usize
+    ensures { λ r. ⌜ r ≡ min 508 n ⌝ }
+{
+    if n < 508 {
+        return n;
+    }
+    508
 }
 
 // Whether the content is zero from a place on.

@@ -9,7 +9,7 @@ use Rattle.dialect.specs.declared.Dialect.{Dialect}
 use Rattle.dialect.specs.declared.DialectTypes.{DialectTypes}
 use Rattle.dialect.specs.declared.Name.{Name}
 use Rattle.dialect.specs.Rows.{permitsTypes, dialectNamed}
-use Rattle.dialect.specs.Bytes.{fromBytes}
+use Rattle.dialect.specs.Bytes.{validBytes, fromBytes}
 
 -- of `named`
 pub named-one : (name : Name) {r s : Dialect} → r ≡ dialectNamed name → s ≡ dialectNamed name → r ≡ s
@@ -23,3 +23,7 @@ from-bytes-one bytes = coincide
 pub permits-types-one : (types : DialectTypes) {r s : Bool} → r ≡ permitsTypes types → s ≡ permitsTypes types
     → r ≡ s
 permits-types-one types = coincide
+
+-- of `valid_bytes`, the bytes as lent
+pub valid-bytes-one : (bytes : List ℕ) {r s : Bool} → r ≡ validBytes bytes → s ≡ validBytes bytes → r ≡ s
+valid-bytes-one bytes = coincide

@@ -127,8 +127,8 @@ fn types_of(number: u8) -> DialectTypes
     DialectTypes::Enable
 }
 
-// Whether bytes are the nine numbers of a dialect.
-fn valid_bytes(bytes: &[u8]) -> bool
+// Whether bytes are the nine numbers of a dialect. No bytes are not, though they give one.
+pub fn valid_bytes(bytes: &[u8]) -> bool
     ensures { λ r. ⌜ r ≡ validBytes (now (bytes .entry)) ⌝ }
 {
     if bytes.len() != 9 {

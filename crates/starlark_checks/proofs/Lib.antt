@@ -1,4 +1,5 @@
 mod Told
 mod FormatTold
+mod Places
 pub mod Promises
 pub mod ReadBack

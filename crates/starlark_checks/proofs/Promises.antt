@@ -1,7 +1,7 @@
 -- Two answers that meet the promise of a public function coincide: the number, the twelve words, and the lent buffer,
 -- for every input. Assumes nothing.
 use mathlib.Core.Path.{_≡_}
-use mathlib.Core.List.{List}
+use mathlib.Core.List.{List, []}
 use Prim.Native.Nat.{ℕ}
 use lib.ListN.{length}
 use Rattle.fields.proofs.Coincide.{coincide}
@@ -19,6 +19,9 @@ use Rattle.tablefile.specs.Lending.{intoCheck, handed}
 use Rattle.filepass.specs.Passing.{answerOf, wordsAfter}
 use Rattle.writer.specs.Writing.{writeOf, fileAfter}
 use Rattle.rescue.specs.Job.{rescueOf, fileAfter as rescuedAfter}
+use Rattle.books.specs.Lookup.{lookupOf, looked}
+use Rattle.books.specs.Change.{addOf, zoneAdded, lineAdded, removeOf, zoneRemoved, lineRemoved, changed}
+use Rattle.books.specs.Change.{blankOf, blankAfter}
 use Rattle.starlark_checks.specs.Words.{number, words, callWords, rescueWords, laid}
 use Rattle.starlark_checks.specs.Words.{readOf, passWords}
 use Rattle.starlark_checks.specs.Version.{version}
@@ -171,3 +174,48 @@ pub starlark-fstring-read-one : (text parts texts out : List ℕ) {r s : ℕ} {p
     → (r ≡ s) × (parts-r ≡ parts-s) × (texts-r ≡ texts-s) × (out-r ≡ out-s)
 starlark-fstring-read-one text parts texts out r-is out-is parts-is texts-is s-is out-are parts-are texts-are =
     (coincide r-is s-is, coincide parts-is parts-are, coincide texts-is texts-are, coincide out-is out-are)
+
+-- of `starlark_book_lookup`
+pub starlark-book-lookup-one : («zone_book» «line_book» : List ℕ) (zone setting : ℕ) (out : List ℕ) {r s : ℕ}
+    {out-r out-s : List ℕ} → r ≡ number (looked (lookupOf «zone_book» «line_book» zone setting))
+    → out-r ≡ laid (words (looked (lookupOf «zone_book» «line_book» zone setting))) 0 out
+    → s ≡ number (looked (lookupOf «zone_book» «line_book» zone setting))
+    → out-s ≡ laid (words (looked (lookupOf «zone_book» «line_book» zone setting))) 0 out → (r ≡ s) × (out-r ≡ out-s)
+starlark-book-lookup-one «zone_book» «line_book» zone setting out r-is out-is s-is out-are =
+    (coincide r-is s-is, coincide out-is out-are)
+
+-- of `starlark_book_add`
+pub starlark-book-add-one : («zone_book» «line_book» : List ℕ) (zone setting : ℕ) (dialect out : List ℕ) {r s : ℕ}
+    {zone-book-r zone-book-s : List ℕ} {line-book-r line-book-s : List ℕ} {out-r out-s : List ℕ}
+    → r ≡ number (changed (addOf «zone_book» «line_book» zone setting dialect))
+    → out-r ≡ laid (words (changed (addOf «zone_book» «line_book» zone setting dialect))) 0 out
+    → zone-book-r ≡ zoneAdded «zone_book» «line_book» zone setting dialect
+    → line-book-r ≡ lineAdded «zone_book» «line_book» zone setting dialect
+    → s ≡ number (changed (addOf «zone_book» «line_book» zone setting dialect))
+    → out-s ≡ laid (words (changed (addOf «zone_book» «line_book» zone setting dialect))) 0 out
+    → zone-book-s ≡ zoneAdded «zone_book» «line_book» zone setting dialect
+    → line-book-s ≡ lineAdded «zone_book» «line_book» zone setting dialect
+    → (r ≡ s) × (zone-book-r ≡ zone-book-s) × (line-book-r ≡ line-book-s) × (out-r ≡ out-s)
+starlark-book-add-one «zone_book» «line_book» zone setting dialect out a b c d e f g h =
+    (coincide a e, coincide c g, coincide d h, coincide b f)
+
+-- of `starlark_book_remove`
+pub starlark-book-remove-one : («zone_book» «line_book» : List ℕ) (zone setting : ℕ) (out : List ℕ) {r s : ℕ}
+    {zone-book-r zone-book-s : List ℕ} {line-book-r line-book-s : List ℕ} {out-r out-s : List ℕ}
+    → r ≡ number (changed (removeOf «zone_book» «line_book» zone setting))
+    → out-r ≡ laid (words (changed (removeOf «zone_book» «line_book» zone setting))) 0 out
+    → zone-book-r ≡ zoneRemoved «zone_book» «line_book» zone setting
+    → line-book-r ≡ lineRemoved «zone_book» «line_book» zone setting
+    → s ≡ number (changed (removeOf «zone_book» «line_book» zone setting))
+    → out-s ≡ laid (words (changed (removeOf «zone_book» «line_book» zone setting))) 0 out
+    → zone-book-s ≡ zoneRemoved «zone_book» «line_book» zone setting
+    → line-book-s ≡ lineRemoved «zone_book» «line_book» zone setting
+    → (r ≡ s) × (zone-book-r ≡ zone-book-s) × (line-book-r ≡ line-book-s) × (out-r ≡ out-s)
+starlark-book-remove-one «zone_book» «line_book» zone setting out a b c d e f g h =
+    (coincide a e, coincide c g, coincide d h, coincide b f)
+
+-- of `starlark_book_blank`
+pub starlark-book-blank-one : (book out : List ℕ) {r s : ℕ} {book-r book-s : List ℕ} {out-r out-s : List ℕ}
+    → r ≡ blankOf (length book) → out-r ≡ laid [] 0 out → book-r ≡ blankAfter book → s ≡ blankOf (length book)
+    → out-s ≡ laid [] 0 out → book-s ≡ blankAfter book → (r ≡ s) × (book-r ≡ book-s) × (out-r ≡ out-s)
+starlark-book-blank-one book out a b c d e f = (coincide a d, coincide c f, coincide b e)

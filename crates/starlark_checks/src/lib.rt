@@ -2,6 +2,8 @@
 use arguments::CallArgs;
 use arguments::Called;
 use bind::Bound;
+use books::Changed;
+use books::Looked;
 use filepass::Passed;
 use parameters::Counted;
 use parameters::Range;
@@ -38,6 +40,9 @@ ghost use Rattle.tablefile.specs.Lending.{intoCheck, handed};
 ghost use Rattle.filepass.specs.Passing.{answerOf, wordsAfter};
 ghost use Rattle.writer.specs.Writing.{writeOf, fileAfter};
 ghost use Rattle.rescue.specs.Job.{rescueOf, fileAfter as rescuedAfter, told};
+ghost use Rattle.books.specs.Lookup.{lookupOf, looked};
+ghost use Rattle.books.specs.Change.{addOf, zoneAdded, lineAdded, removeOf, zoneRemoved, lineRemoved, changed};
+ghost use Rattle.books.specs.Change.{blankOf, blankAfter};
 ghost use Rattle.starlark_checks.specs.Words.{number, words, callWords, rescueWords, laid, Fit, placeIn};
 ghost use Rattle.starlark_checks.specs.Words.{heldValues, readOf, passWords};
 ghost use Rattle.starlark_checks.specs.Version.{version};
@@ -559,4 +564,103 @@ pub extern "C" fn starlark_fstring_read(
         fstring::Reading::StrayAt(position) => put_stray(position, out),
         fstring::Reading::Short => numbers::SHORT_BUFFER,
     }
+}
+
+// A refusal that carries a book: 0 the zone book, 1 the line book.
+fn put_book(n: u32, book: u32, out: &mut [u32; 12]) -> u32
+    ensures { λ r. ⌜ r ≡ number (refused n (book ∷ [])) ⌝ }
+    ensures { λ r. ⌜ now (out .exit) ≡ laid (words (refused n (book ∷ []))) 0 (now (out .entry)) ⌝ }
+{
+    out[0] = book;
+    n
+}
+
+// The lookup in two books: which book, 0 the zone book and 1 the line book, and where the nine bytes begin in it.
+#[no_mangle]
+pub extern "C" fn starlark_book_lookup(
+    zone_book: &[u8],
+    line_book: &[u8],
+    zone: u32,
+    setting: u32,
+    out: &mut [u32; 12],
+) -> u32
+    ensures { λ r. ⌜ r ≡
+        number (looked (lookupOf (now («zone_book» .entry)) (now («line_book» .entry)) zone setting)) ⌝ }
+    ensures { λ r. ⌜ now (out .exit) ≡
+        laid (words (looked (lookupOf (now («zone_book» .entry)) (now («line_book» .entry)) zone setting))) 0
+        (now (out .entry)) ⌝ }
+{
+    let answer = books::judge_lookup(zone_book, line_book, zone, setting);
+    match answer {
+        Looked::Zone(at) => put_two(0, at as u32, out),
+        Looked::Line(at) => put_two(1, at as u32, out),
+        Looked::Refused(n, book) => put_book(n, book, out),
+        Looked::Nothing => numbers::NO_ENTRY,
+    }
+}
+
+// Adds an entry to its book, zone 0 to the line book: the book and the place, from 0 on, 21 a block.
+#[no_mangle]
+pub extern "C" fn starlark_book_add(
+    zone_book: &mut [u8],
+    line_book: &mut [u8],
+    zone: u32,
+    setting: u32,
+    dialect: &[u8],
+    out: &mut [u32; 12],
+) -> u32
+    ensures { λ r. ⌜ r ≡
+        number (changed (addOf (now («zone_book» .entry)) (now («line_book» .entry)) zone setting
+        (now (dialect .entry)))) ⌝ }
+    ensures { λ r. ⌜ now (out .exit) ≡
+        laid (words (changed (addOf (now («zone_book» .entry)) (now («line_book» .entry)) zone setting
+        (now (dialect .entry))))) 0 (now (out .entry)) ⌝ }
+    ensures { λ r. ⌜ now («zone_book» .exit) ≡
+        zoneAdded (now («zone_book» .entry)) (now («line_book» .entry)) zone setting (now (dialect .entry)) ⌝ }
+    ensures { λ r. ⌜ now («line_book» .exit) ≡
+        lineAdded (now («zone_book» .entry)) (now («line_book» .entry)) zone setting (now (dialect .entry)) ⌝ }
+{
+    let answer = books::add(zone_book, line_book, zone, setting, dialect);
+    match answer {
+        Changed::Placed(book, place) => put_two(book, place as u32, out),
+        Changed::Refused(n, book) => put_book(n, book, out),
+        Changed::Bare(n) => n,
+    }
+}
+
+// Removes the entry of exactly this zone and setting from its book: the book and the place.
+#[no_mangle]
+pub extern "C" fn starlark_book_remove(
+    zone_book: &mut [u8],
+    line_book: &mut [u8],
+    zone: u32,
+    setting: u32,
+    out: &mut [u32; 12],
+) -> u32
+    ensures { λ r. ⌜ r ≡
+        number (changed (removeOf (now («zone_book» .entry)) (now («line_book» .entry)) zone setting)) ⌝ }
+    ensures { λ r. ⌜ now (out .exit) ≡
+        laid (words (changed (removeOf (now («zone_book» .entry)) (now («line_book» .entry)) zone setting))) 0
+        (now (out .entry)) ⌝ }
+    ensures { λ r. ⌜ now («zone_book» .exit) ≡
+        zoneRemoved (now («zone_book» .entry)) (now («line_book» .entry)) zone setting ⌝ }
+    ensures { λ r. ⌜ now («line_book» .exit) ≡
+        lineRemoved (now («zone_book» .entry)) (now («line_book» .entry)) zone setting ⌝ }
+{
+    let answer = books::remove(zone_book, line_book, zone, setting);
+    match answer {
+        Changed::Placed(book, place) => put_two(book, place as u32, out),
+        Changed::Refused(n, book) => put_book(n, book, out),
+        Changed::Bare(n) => n,
+    }
+}
+
+// Makes an empty book of a buffer of 1 to 100 blocks; else 95.
+#[no_mangle]
+pub extern "C" fn starlark_book_blank(book: &mut [u8], out: &mut [u32; 12]) -> u32
+    ensures { λ r. ⌜ r ≡ blankOf (length (now (book .entry))) ⌝ }
+    ensures { λ r. ⌜ now (out .exit) ≡ laid [] 0 (now (out .entry)) ⌝ }
+    ensures { λ r. ⌜ now (book .exit) ≡ blankAfter (now (book .entry)) ⌝ }
+{
+    books::blank(book)
 }

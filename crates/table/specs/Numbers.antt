@@ -241,3 +241,19 @@ badHeader = 90
 -- the blocks of such a file do not pass, and no child of the root can be kept
 abbrev pub nothingKept : ℕ
 nothingKept = 91
+
+-- an unsound length, block or entry of a book, or an unsound entry to be added
+abbrev pub bookUnsound : ℕ
+bookUnsound = 95
+
+-- the same zone and setting twice in a book, or added again
+abbrev pub entryTwice : ℕ
+entryTwice = 96
+
+-- no fitting entry in either book, or none to remove
+abbrev pub noEntry : ℕ
+noEntry = 97
+
+-- no empty place for the entry to be added
+abbrev pub noEmptyPlace : ℕ
+noEmptyPlace = 98

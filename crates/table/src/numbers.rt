@@ -118,3 +118,11 @@ pub const EMPTY_PARAMETER: u32 = 84; // an ordinary parameter left empty, withou
 pub const BAD_HEADER: u32 = 90; // block 0 or a name block of a file to be rescued is bad
 
 pub const NOTHING_KEPT: u32 = 91; // the blocks of such a file do not pass, and no child of the root can be kept
+
+pub const BOOK_UNSOUND: u32 = 95; // an unsound length, block or entry of a book, or an unsound entry to be added
+
+pub const ENTRY_TWICE: u32 = 96; // the same zone and setting twice in a book, or added again
+
+pub const NO_ENTRY: u32 = 97; // no fitting entry in either book, or none to remove
+
+pub const NO_EMPTY_PLACE: u32 = 98; // no empty place for the entry to be added

@@ -22,7 +22,9 @@ use Rattle.fields.proofs.Over.{over-none, over-front, length-over, over-next, o
 use Rattle.fields.proofs.Spelling.{length-bytes}
 use Rattle.blocks.specs.Block.{weighed, sumOf, beforeSum, blockOf}
 use Rattle.blocks.specs.Run.{blocksFor, blocksOf, runOf}
+use Rattle.blocks.specs.Laid.{laidAt}
 use Rattle.blocks.proofs.Sums.{weighed-front}
+use Rattle.blocks.proofs.Laying.{laid-fits, length-laid}
 use Rattle.blocks.proofs.Blocks.{length-front, length-block, take-min}
 use Rattle.blocks.proofs.Runs.{blocks-more, length-run}
 use Rattle.tablefile.specs.File.{headerOf, fileOf, mostBlocks}
@@ -106,7 +108,7 @@ module _ (number : ℕ) (content d : List ℕ) {head o₁ o₂ o₃ : List ℕ} 
       ∙ weighed-front 508 (beforeSum number content) rest (omega (arith, length-front number content fits)))
 
   -- LAW: that is the block of the number and the content
-  pub block-whole : {sum : ℕ} → sum ≡ weighed (4 + length content) o₃ → {check o₄ : List ℕ} → check ≡ bytesOf 4 sum
+  block-whole : {sum : ℕ} → sum ≡ weighed (4 + length content) o₃ → {check o₄ : List ℕ} → check ≡ bytesOf 4 sum
       → o₄ ≡ over 508 check o₃ → o₄ ≡ over 0 (blockOf number content) d
   unfolding blockOf over
   block-whole {sum} is {check} check-is o₄-is =
@@ -122,19 +124,37 @@ module _ (number : ℕ) (content d : List ℕ) {head o₁ o₂ o₃ : List ℕ} 
       ∙ rw (check-so, four, front, take-at f rest 508 long, behind, whole)
       (sym (append-assoc f (bytesOf 4 (sumOf f)) (drop 512 d)))
 
+-- LAW: the same, as code lays it over bytes that have room for a block
+pub block-laid : (number : ℕ) (content d : List ℕ) {head o₁ o₂ o₃ : List ℕ} → length content ≤ 504 → 512 ≤ length d
+    → head ≡ bytesOf 2 number ++ bytesOf 2 (length content) → o₁ ≡ laidAt 0 (replicate 512 0) d
+    → o₂ ≡ over 0 head o₁ → o₃ ≡ over 4 content o₂ → length o₃ ≡ length o₂ → length o₂ ≡ length o₁ → {sum : ℕ}
+    → sum ≡ weighed (4 + length content) o₃ → {check o₄ : List ℕ} → check ≡ bytesOf 4 sum → o₄ ≡ laidAt 508 check o₃
+    → o₄ ≡ over 0 (blockOf number content) d
+block-laid number content d {o₃ = o₃} fits room head-is o₁-is o₂-is o₃-is long₃ long₂ {sum} is {check} check-is o₄-is =
+    let zeros : length (replicate {A = ℕ} 512 0) ≡ 512 = length-replicate {A = ℕ} 512 0 in
+    let four : length check ≡ 4 = ap length check-is ∙ length-bytes 4 sum in
+    let o₁-so = o₁-is ∙ laid-fits 0 (replicate 512 0) d (omega arith) in
+    let long : length o₃ ≡ length d = long₃ ∙ long₂ ∙ ap length o₁-is ∙ length-laid 0 (replicate 512 0) d in
+    let o₄-so = o₄-is ∙ laid-fits 508 check o₃ (omega arith) in
+    block-whole number content d fits head-is o₁-so o₂-is o₃-is is check-is o₄-so
+
 -- block 0: the counts, then the dialect
-pub header-whole : (t names ds d : List ℕ) {counts o₁ o₂ out : List ℕ}
-    → counts ≡ bytesOf 2 (length t / 24) ++ bytesOf 2 (length names) → o₁ ≡ over 0 counts (replicate 13 0)
-    → o₂ ≡ over 4 ds o₁ → out ≡ over 0 (blockOf 0 (take (4 + length ds - 0) (drop 0 o₂))) d
+pub header-whole : (t names ds d : List ℕ) {counts o₁ o₂ out : List ℕ} → length ds ≤ 9
+    → counts ≡ bytesOf 2 (length t / 24) ++ bytesOf 2 (length names) → o₁ ≡ laidAt 0 counts (replicate 13 0)
+    → o₂ ≡ laidAt 4 ds o₁ → out ≡ over 0 (blockOf 0 (take (4 + length ds - 0) (drop 0 o₂))) d
     → out ≡ over 0 (blockOf 0 (headerOf (holding t names ds))) d
 unfolding headerOf
-header-whole t names ds d {counts} {o₂ = o₂} counts-is o₁-is o₂-is out-is =
+header-whole t names ds d {counts} {o₁} {o₂} few counts-is o₁-is o₂-is out-is =
     let n : ℕ = 4 + length ds in
     let four : length counts ≡ 4 = pair-four (length t / 24) (length names) counts-is in
+    let zeros : length (replicate {A = ℕ} 13 0) ≡ 13 = length-replicate {A = ℕ} 13 0 in
+    let o₁-so : o₁ ≡ over 0 counts (replicate 13 0) = o₁-is ∙ laid-fits 0 counts (replicate 13 0) (omega arith) in
+    let o₁-long : length o₁ ≡ 13 = ap length o₁-is ∙ length-laid 0 counts (replicate 13 0) ∙ zeros in
+    let o₂-so : o₂ ≡ over 4 ds o₁ = o₂-is ∙ laid-fits 4 ds o₁ (omega arith) in
     let all : n - 0 ≡ n = omega arith in
     let long : length (counts ++ ds) ≡ n = simp length-append (omega arith) in
     let header : take (n - 0) (drop 0 o₂) ≡ headerOf (holding t names ds) =
-    ap (λ (k : ℕ). take k o₂) all ∙ ap (take n) (four-then (replicate 13 0) counts ds four o₁-is o₂-is)
+    ap (λ (k : ℕ). take k o₂) all ∙ ap (take n) (four-then (replicate 13 0) counts ds four o₁-so o₂-so)
     ∙ take-at (counts ++ ds) (drop n (replicate 13 0)) n long ∙ ap (λ (x : List ℕ). x ++ ds) counts-is
     ∙ append-assoc (bytesOf 2 (length t / 24)) (bytesOf 2 (length names)) ds in
     rw header at out-is

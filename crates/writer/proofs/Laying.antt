@@ -1,54 +1,19 @@
--- Laws of the loops that lay bytes over a buffer, byte by byte, and weigh them. Assumes nothing.
+-- Laws of the loop that lays bytes over a block, byte by byte, and weighs them: it lays them as blocks' loop does
+-- (`Putting`), and the sum is over the places up to the last one laid (`Laying`). Assumes nothing.
 use mathlib.Core.Path.{_≡_, sym, ap, _∙_}
-use mathlib.Core.List.{List, [], _∷_, append-assoc}
-use Prim.Native.Nat.{ℕ, zero, suc, _+_, _*_, _<_, _≤_, _^_}
+use mathlib.Core.List.{List}
+use Prim.Native.Nat.{ℕ, _+_, _*_, _<_, _≤_, _^_}
 use native.Mathlib.Nat.{add-zero}
-use native.Mathlib.Numerals.{add-one}
 use native.Mathlib.Omega.{arith}
-use lib.ListN.{length, getD, take, drop, set}
-use lib.Seq.{paste, paste-zero, paste-suc, length-paste, take-length, getD-set-same}
+use lib.ListN.{length, getD, set}
+use lib.Seq.{getD-set-same}
 use Rattle.fields.specs.Over.{over}
-use Rattle.fields.proofs.Spelling.{Bytes}
+use Rattle.fields.proofs.Spelling.{Bytes, bytes-set}
 use Rattle.blocks.specs.Block.{weightOf, weighed}
 use Rattle.blocks.proofs.Sums.{Summed, weighed-outside, weighed-small, weight-small, sum-on}
+use Rattle.blocks.proofs.Laying.{Putting, put-start, put-long, put-on, put-end}
 
--- the first i of some bytes stand in out from a place on, and all else is as it was in d
-pub record Putting (d bytes : List ℕ) (at : ℕ) (out : List ℕ) (i : ℕ) : Type 0 where
-  pub upto : i ≤ length bytes
-  pub room : at + length bytes ≤ length d
-  pub is : out ≡ paste d at bytes i
-
-pub put-start : (d bytes : List ℕ) (at : ℕ) → at + length bytes ≤ length d → Putting d bytes at d 0
-put-start d bytes at h = record { upto = omega arith; room = h; is = paste-zero d at bytes }
-
-module _ {d bytes : List ℕ} {at : ℕ} {out : List ℕ} {i : ℕ} (s : Putting d bytes at out i) where
-  pub put-long : length out ≡ length d
-  put-long = ap length (s .is)
-      ∙ length-paste d at bytes i (omega (arith, s .upto, s .room)) (s .upto)
-
-  pub put-on : i < length bytes → {x : ℕ} → x ≡ getD bytes i 0 → Putting d bytes at (set out (at + i) x) (i + 1)
-  put-on h x-is = record {
-    upto = omega arith;
-    room = s .room;
-    is = rw (s .is, x-is, add-one i) (paste-suc d at bytes i 0 (omega (arith, s .room)) h);
-  }
-
-  pub put-end : length bytes ≤ i → out ≡ over at bytes d
-  unfolding over
-  put-end h =
-      let e : i ≡ length bytes = omega (arith, s .upto) in
-      let is : out ≡ paste d at bytes (length bytes) = rw e at (s .is) in
-      is ∙ rw (take-length bytes) (append-assoc (take at d) bytes (drop (at + length bytes) d))
-
--- bytes stay bytes
-bytes-set : (l : List ℕ) (i x : ℕ) → Bytes l → x < 256 → Bytes (set l i x)
-bytes-set [] i x small h j = small j
-bytes-set (y ∷ l) zero x small h zero = h
-bytes-set (y ∷ l) zero x small h (suc j) = small (suc j)
-bytes-set (y ∷ l) (suc i) x small h zero = small zero
-bytes-set (y ∷ l) (suc i) x small h (suc j) = bytes-set l i x (λ k. small (suc k)) h j
-
--- and they are weighed with what stands before them
+-- the first i of some bytes are laid, and weighed with what stands before them
 pub record Laying (d bytes : List ℕ) (at : ℕ) (out : List ℕ) (sum i : ℕ) : Type 0 where
   pub put : Putting d bytes at out i
   pub summed : Summed out sum (at + i)

@@ -1,5 +1,6 @@
 // The writer of table files: a table, its names and a dialect, or none, to document 01's blocks, into a lent buffer.
 use blocks::BLOCK_BYTES;
+use blocks::bytes;
 use forest::RECORD;
 use table::Given;
 use table::MOST_BYTES;
@@ -7,10 +8,8 @@ use table::MOST_NAMES;
 use table::Refusal;
 use table::numbers;
 ghost use mathlib.Core.Path.{_≡_};
-ghost use mathlib.Core.List.{_++_};
-ghost use Prim.Native.Nat.{_+_, _*_, _%_, _≤_, _<_};
+ghost use Prim.Native.Nat.{_+_, _*_, _≤_};
 ghost use lib.ListN.{length};
-ghost use Rattle.fields.specs.Field.{bytesOf};
 ghost use Rattle.fields.specs.Over.{over};
 ghost use Rattle.table.specs.Answer.{isRefused};
 ghost use Rattle.blocks.specs.Block.{blockBytes, contentBytes, weighed, blockOf};
@@ -128,9 +127,9 @@ fn write_header(table: &[u8], names: &[u8], dialect: &[u8], out: &mut [u8])
         (now (out .entry)) ⌝ }
 {
     let mut header = [0u8; 13];
-    let counts = pair(table.len() / RECORD, names.len());
-    put(&counts, 0, &mut header);
-    put(dialect, 4, &mut header);
+    let counts = bytes::pair(table.len() / RECORD, names.len());
+    bytes::put(&counts, 0, &mut header);
+    bytes::put(dialect, 4, &mut header);
     let used = 4 + dialect.len();
     write_block(0, &header[0..used], out)
 }
@@ -159,12 +158,12 @@ fn write_block(number: usize, content: &[u8], out: &mut [u8])
     ensures { λ r. ⌜ now (out .exit) ≡ over 0 (blockOf number (now (content .entry))) (now (out .entry)) ⌝ }
 {
     let zeros = [0u8; BLOCK_BYTES];
-    put(&zeros, 0, out);
-    let head = pair(number, content.len());
+    bytes::put(&zeros, 0, out);
+    let head = bytes::pair(number, content.len());
     let begun = lay(&head, 0, 0, out);
     let sum = lay(content, 4, begun, out);
-    let check = quad(sum);
-    put(&check, 508, out)
+    let check = bytes::quad(sum);
+    bytes::put(&check, 508, out)
 }
 
 // Lays bytes over a block from a place on, and adds what they weigh to the sum of the places before.
@@ -182,41 +181,4 @@ fn lay(bytes: &[u8], at: usize, before: u32, out: &mut [u8]) -> u32
         i += 1;
     }
     sum
-}
-
-// Lays bytes over others from a place on.
-fn put(bytes: &[u8], at: usize, out: &mut [u8])
-    requires { ⌜ at + length (now bytes) ≤ length (now out) ⌝ }
-    ensures { λ r. ⌜ now (out .exit) ≡ over at (now (bytes .entry)) (now (out .entry)) ⌝ }
-{
-    let mut i = 0;
-    while i < bytes.len() {
-        out[at + i] = bytes[i];
-        i += 1;
-    }
-}
-
-// Two numbers, two bytes each.
-fn pair(a: usize, b: usize) -> [u8; 4]
-    ensures { λ r. ⌜ r ≡ bytesOf 2 a ++ bytesOf 2 b ⌝ }
-{
-    [low(a), low(a / 256), low(b), low(b / 256)]
-}
-
-// A number as four bytes.
-fn quad(n: u32) -> [u8; 4]
-    ensures { λ r. ⌜ r ≡ bytesOf 4 n ⌝ }
-{
-    let a = n as usize;
-    let b = a / 256;
-    let c = b / 256;
-    let d = c / 256;
-    [low(a), low(b), low(c), low(d)]
-}
-
-// A number's low byte.
-fn low(n: usize) -> u8
-    ensures { λ r. ⌜ r ≡ n % 256 ⌝ }
-{
-    (n % 256) as u8
 }

@@ -1,7 +1,7 @@
 -- `writer::write_block` meets its contract: head, content and sum over zeros are the block. Assumes nothing.
 use borrow.Author.Needs.{needs}
 use Rattle.blocks.specs.Block.{weighed}
-use Rattle.writer.proofs.Building.{begun-four, block-whole}
+use Rattle.writer.proofs.Building.{begun-four, block-laid}
 use Rattle.writer.proofs.write_block.Statement.{statement}
 use Rattle.writer.proofs.write_block.Tie as tie
 
@@ -20,4 +20,4 @@ write-block-spec =
     (λ c. search needs)
     (λ c κs. search needs)
     (λ c. search needs)
-    (λ c. search block-whole))  -- returns
+    (λ c. search block-laid))  -- returns

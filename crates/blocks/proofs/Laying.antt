@@ -1,0 +1,85 @@
+-- Laws of bytes laid over a buffer. The loop stores them one after another: after i of them the buffer is the old one
+-- with those pasted over it (`Putting`), and at the end all are laid (`put-end`). What is laid where it fits is
+-- `over` (`laid-fits`), what does not fit changes nothing (`laid-away`), and no length changes (`length-laid`).
+-- Assumes nothing.
+use mathlib.Core.Path.{_≡_, refl, sym, ap, _∙_}
+use mathlib.Core.Bool.{Bool, true, false}
+use mathlib.Core.Logic.{⊎-elim}
+use mathlib.Core.List.{List, append-assoc}
+use Prim.Native.Nat.{ℕ, _+_, _-_, _<_, _≤_}
+use native.Mathlib.Numerals.{add-one}
+use native.Mathlib.Omega.{arith}
+use lib.ListN.{length, getD, take, drop, set}
+use lib.Seq.{paste, paste-zero, paste-suc, length-paste, take-length}
+use lib.Dec.{leb}
+use borrow.Author.Tests.{le-leb, lt-leb, leb-true}
+use Rattle.fields.specs.Over.{over}
+use Rattle.fields.proofs.Basics.{le-or-lt}
+use Rattle.fields.proofs.Over.{length-over}
+use Rattle.blocks.specs.Laid.{laidAt}
+
+-- the first i of some bytes stand in out from a place on, and all else is as it was in d
+pub record Putting (d bytes : List ℕ) (at : ℕ) (out : List ℕ) (i : ℕ) : Type 0 where
+  pub upto : i ≤ length bytes
+  pub room : at + length bytes ≤ length d
+  pub is : out ≡ paste d at bytes i
+
+pub put-start : (d bytes : List ℕ) (at : ℕ) → at + length bytes ≤ length d → Putting d bytes at d 0
+put-start d bytes at h = record { upto = omega arith; room = h; is = paste-zero d at bytes }
+
+module _ {d bytes : List ℕ} {at : ℕ} {out : List ℕ} {i : ℕ} (s : Putting d bytes at out i) where
+  pub put-long : length out ≡ length d
+  put-long = ap length (s .is)
+      ∙ length-paste d at bytes i (omega (arith, s .upto, s .room)) (s .upto)
+
+  pub put-on : i < length bytes → {x : ℕ} → x ≡ getD bytes i 0 → Putting d bytes at (set out (at + i) x) (i + 1)
+  put-on h x-is = record {
+    upto = omega arith;
+    room = s .room;
+    is = rw (s .is, x-is, add-one i) (paste-suc d at bytes i 0 (omega (arith, s .room)) h);
+  }
+
+  pub put-end : length bytes ≤ i → out ≡ over at bytes d
+  unfolding over
+  put-end h =
+      let e : i ≡ length bytes = omega (arith, s .upto) in
+      let is : out ≡ paste d at bytes (length bytes) = rw e at (s .is) in
+      is ∙ rw (take-length bytes) (append-assoc (take at d) bytes (drop (at + length bytes) d))
+
+module _ (at : ℕ) (bs d : List ℕ) where
+  pub laid-fits : at + length bs ≤ length d → laidAt at bs d ≡ over at bs d
+  unfolding laidAt
+  laid-fits h = rw (le-leb (at + length bs) (length d) h) refl
+
+  pub laid-away : length d < at + length bs → laidAt at bs d ≡ d
+  unfolding laidAt
+  laid-away h = rw (lt-leb (at + length bs) (length d) h) refl
+
+  pub length-laid : length (laidAt at bs d) ≡ length d
+  length-laid = ⊎-elim
+      (λ (h : at + length bs ≤ length d). ap length (laid-fits h) ∙ length-over at bs d h)
+      (λ (h : length d < at + length bs). ap length (laid-away h))
+      (le-or-lt (at + length bs) (length d))
+
+-- the test, as code makes it
+pub fits-not : (at n room : ℕ) → room < at → false ≡ leb (at + n) room
+fits-not at n room h = sym (lt-leb (at + n) room (omega arith))
+
+pub fits-is : (at n room : ℕ) → at ≤ room → leb n (room - at) ≡ leb (at + n) room
+fits-is at n room h = ⊎-elim
+    (λ (k : n ≤ room - at). le-leb n (room - at) k ∙ sym (le-leb (at + n) room (omega arith)))
+    (λ (k : room - at < n). lt-leb n (room - at) k ∙ sym (lt-leb (at + n) room (omega arith)))
+    (le-or-lt n (room - at))
+
+-- the two returns
+module _ (at : ℕ) (bs d : List ℕ) {t : Bool} (t-is : t ≡ leb (at + length bs) (length d)) where
+  pub put-away : t ≡ false → d ≡ laidAt at bs d
+  unfolding laidAt
+  put-away f = rw (← t-is, f) refl
+
+  pub put-room : t ≡ true → at + length bs ≤ length d
+  put-room f = leb-true (at + length bs) (length d) (sym t-is ∙ f)
+
+  pub put-whole : t ≡ true → {o : List ℕ} → o ≡ over at bs d → o ≡ laidAt at bs d
+  unfolding laidAt
+  put-whole f o-is = o-is ∙ rw (← t-is, f) refl

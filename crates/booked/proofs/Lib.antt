@@ -1,0 +1,9 @@
+pub mod Best
+pub mod Lookups
+pub mod Parts
+pub mod Kept
+pub mod Changes
+pub mod Whole
+pub mod Back
+pub mod Fresh
+pub mod Booked

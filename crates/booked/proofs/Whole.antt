@@ -1,0 +1,93 @@
+-- Two books that pass, of the same length, with the same entry at every place, are the same bytes (`same-book`). Why:
+-- a block that passes is the block of its number and content and nothing else (blocks' `passed-is-block`), and the
+-- content is its 21 places. So removing what was just added restores the book byte for byte (`add-remove`). Assumes
+-- nothing.
+use mathlib.Core.Path.{_≡_, refl, sym, ap, _∙_}
+use mathlib.Core.Bool.{Bool, true}
+use mathlib.Core.List.{List}
+use Prim.Native.Nat.{ℕ, zero, suc, _+_, _*_, _-_, _/_, _%_, _<_}
+use native.Mathlib.Omega.{arith}
+use lib.ListN.{length, take, drop}
+use lib.Seq.{take-all, take-add, drop-drop}
+use lib.Dec.{eqb}
+use borrow.Author.Tests.{eqb-true}
+use Rattle.fields.proofs.Basics.{and-left, and-right}
+use Rattle.fields.proofs.Spelling.{Bytes, bytes-drop}
+use Rattle.blocks.specs.Block.{blockOf}
+use Rattle.blocks.proofs.Blocks.{passed-is-block}
+use Rattle.books.specs.Book.{placesOf, placeAt, entryAt, soundLength, soundBlocks, soundBook}
+use Rattle.booked.specs.Said.{Passing}
+use Rattle.booked.proofs.Kept.{run-each}
+
+-- lists that agree piece by piece
+pieces24 : (m : ℕ) (l k : List ℕ) → ((i : ℕ) → i < m → take 24 (drop (24 * i) l) ≡ take 24 (drop (24 * i) k))
+    → take (24 * m) l ≡ take (24 * m) k
+pieces24 zero l k f = refl
+pieces24 (suc m) l k f =
+    let n : 24 * suc m ≡ 24 * m + 24 = omega arith in
+    rw (
+      n,
+      take-add (24 * m) 24 l,
+      take-add (24 * m) 24 k,
+      pieces24 m l k (λ i h. f i (omega arith)),
+      f m
+          (omega arith),
+    ) refl
+
+pieces512 : (m : ℕ) (l k : List ℕ) → ((i : ℕ) → i < m → take 512 (drop (512 * i) l) ≡ take 512 (drop (512 * i) k))
+    → take (512 * m) l ≡ take (512 * m) k
+pieces512 zero l k f = refl
+pieces512 (suc m) l k f =
+    let n : 512 * suc m ≡ 512 * m + 512 = omega arith in
+    rw (
+      n,
+      take-add (512 * m) 512 l,
+      take-add (512 * m) 512 k,
+      pieces512 m l k (λ i h. f i (omega arith)),
+      f m
+          (omega arith),
+    )
+    refl
+
+-- a place of a block is a piece of its content
+pub place-piece : (book : List ℕ) (j i : ℕ) → i < 21
+    → take 24 (drop (24 * i) (drop 4 (drop (512 * j) book))) ≡ entryAt book (21 * j + i)
+unfolding entryAt
+place-piece book j i h =
+    let at : 512 * j + 4 + 24 * i ≡ placeAt (21 * j + i) =
+    let q : (21 * j + i) / 21 ≡ j = omega arith in
+    let r : (21 * j + i) % 21 ≡ i = omega arith in
+    rw (q, r) (omega arith) in
+    ap (λ (x : List ℕ). take 24 (drop (24 * i) x)) (drop-drop 4 (512 * j) book)
+    ∙ ap (take 24) (drop-drop (24 * i) (512 * j + 4) book) ∙ ap (λ (n : ℕ). take 24 (drop n book)) at
+
+module _ {line : Bool} {book : List ℕ} (b : Passing line book) where
+  pub blocks-sound : soundBlocks book ≡ true
+  unfolding soundBook
+  blocks-sound = and-left (soundBlocks book) _ (and-right (soundLength (length book)) _ (b .sound))
+
+  pub whole-blocks : length book ≡ 512 * (length book / 512)
+  unfolding soundBook
+  whole-blocks =
+      let l : soundLength (length book) ≡ true = and-left (soundLength (length book)) _ (b .sound) in
+      let e : length book % 512 ≡ 0 = eqb-true (length book % 512) 0 (and-left (eqb (length book % 512) 0) _ l) in
+      omega arith
+
+-- THEOREM: the entries determine the book
+pub same-book : {line other : Bool} {a b : List ℕ} → Passing line a → Passing other b → Bytes a → Bytes b
+    → length a ≡ length b → ((p : ℕ) → p < placesOf a → entryAt a p ≡ entryAt b p) → a ≡ b
+same-book {line} {other} {a} {b} pa pb small-a small-b long same =
+    let n : ℕ = length a / 512 in
+    let each : (j : ℕ) → j < n → take 512 (drop (512 * j) a) ≡ take 512 (drop (512 * j) b) = λ j h.
+    let h-b : j < length b / 512 = rw (← long) h in
+    let content : take 504 (drop 4 (drop (512 * j) a)) ≡ take 504 (drop 4 (drop (512 * j) b)) =
+    pieces24 21 (drop 4 (drop (512 * j) a)) (drop 4 (drop (512 * j) b))
+    (λ i g. place-piece a j i g ∙ same (21 * j + i) (omega arith) ∙ sym (place-piece b j i g)) in
+    passed-is-block j 504 (drop (512 * j) a) (omega arith) (bytes-drop a (512 * j) small-a) (run-each a
+    (blocks-sound pa) j h)
+    ∙ ap (blockOf j) content
+    ∙ sym (passed-is-block j 504 (drop (512 * j) b) (omega arith) (bytes-drop b (512 * j) small-b)
+    (run-each b (blocks-sound pb) j h-b)) in
+    let all-a : take (512 * n) a ≡ a = take-all (512 * n) a (omega (arith, whole-blocks pa)) in
+    let all-b : take (512 * n) b ≡ b = take-all (512 * n) b (omega (arith, whole-blocks pa)) in
+    sym all-a ∙ pieces512 n a b each ∙ all-b

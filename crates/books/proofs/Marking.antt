@@ -1,0 +1,197 @@
+-- The search for an entry that stands twice, with marks. The loop keeps that no entry of the places before stands
+-- twice, and that the marks know those entries: six bytes that are not noted are those of none of them (`Once`). Two
+-- entries with the same zone and setting have the same six bytes (`keys-same`), so an entry that is not noted was not
+-- there before (`unseen`), and the search is spared (`again-is`). Cite `once-stop`, `once-on`, `once-end`. Assumes
+-- nothing.
+use mathlib.Core.Path.{_≡_, refl, sym, ap, _∙_}
+use mathlib.Core.Bool.{Bool, true, false, _&&_, not}
+use mathlib.Core.Logic.{⊎-elim}
+use mathlib.Core.List.{List, _++_}
+use Prim.Native.Nat.{ℕ, _+_, _<_, _≤_}
+use native.Mathlib.Numerals.{add-one}
+use native.Mathlib.Omega.{arith}
+use lib.ListN.{length, take, drop, length-drop, length-set}
+use lib.Seq.{length-take-le, take-add}
+use lib.Dec.{eqb}
+use borrow.Author.Tests.{eqb-true, not-true}
+use Rattle.fields.specs.Choice.{if'}
+use Rattle.fields.specs.Field.{field, bytesOf}
+use Rattle.fields.proofs.Basics.{clash, and-left, and-right, le-or-lt}
+use Rattle.fields.proofs.Spelling.{Bytes, bytes-take, bytes-drop, bytes-field}
+use Rattle.forest.specs.Marks.{noted, mayStand}
+use Rattle.forest.proofs.Named.{same-bytes-refl}
+use Rattle.forest.proofs.Marked.{not-noted}
+use Rattle.blocks.specs.Block.{zeros}
+use Rattle.books.specs.Book.{some, placesOf, placeAt, entryAt, zoneOf, settingOf, isFor, seenIn, seenBefore}
+use Rattle.books.specs.Book.{again}
+use Rattle.books.specs.Book.{twiceIn}
+use Rattle.books.specs.Marked.{keyOf, mayRepeat, notedEntry}
+use Rattle.books.proofs.Laws.{some-stop, some-none}
+
+-- a place is noted, as code does it
+module _ (marks e : List ℕ) {x : Bool} (x-is : x ≡ zeros e) where
+  pub empty-new : x ≡ true → false ≡ mayRepeat marks e
+  unfolding mayRepeat
+  empty-new f = rw (← x-is, f) refl
+
+  pub empty-stays : x ≡ true → marks ≡ notedEntry marks e
+  unfolding notedEntry
+  empty-stays f = rw (← x-is, f) refl
+
+  module _ (f : x ≡ false) {k : List ℕ} (k-is : k ≡ take 6 (drop 0 e)) where
+    pub note-may : {t : Bool} → t ≡ mayStand marks k → t ≡ mayRepeat marks e
+    unfolding mayRepeat
+    note-may t-is = t-is ∙ rw (← x-is, f, k-is) refl
+
+    pub note-set : {m : List ℕ} → m ≡ noted marks k → m ≡ notedEntry marks e
+    unfolding notedEntry
+    note-set m-is = m-is ∙ rw (← x-is, f, k-is) refl
+
+-- an entry that may have been there before is searched for
+module _ (book : List ℕ) (p : ℕ) {may : Bool} where
+  pub again-not : may ≡ false → false ≡ (may && seenBefore book p)
+  again-not f = rw f refl
+
+  pub again-seen : may ≡ true → {e : List ℕ} → e ≡ entryAt book p → {o w : ℕ} → o ≡ field 2 e 0 → w ≡ field 4 e 2
+      → {t : Bool} → t ≡ seenIn o w book p → t ≡ (may && seenBefore book p)
+  unfolding seenBefore
+  again-seen f e-is o-is w-is t-is = rw (f, ← e-is, ← o-is, ← w-is) t-is
+
+-- the parts of an entry for a zone and a setting
+pub for-parts : (zone setting : ℕ) (e : List ℕ) → isFor zone setting e ≡ true
+    → (zeros e ≡ false) × (zoneOf e ≡ zone) × (settingOf e ≡ setting)
+unfolding isFor
+for-parts zone setting e h =
+    let two = and-right (not (zeros e)) _ h in (
+      not-true (zeros e) (and-left (not (zeros e)) _ h),
+      eqb-true (zoneOf e) zone (and-left (eqb (zoneOf e) zone) _ two),
+      eqb-true (settingOf e) setting (and-right (eqb (zoneOf e) zone) _ two),
+    )
+
+-- the bytes of a place
+pub entry-there : (book : List ℕ) (p : ℕ) → p < placesOf book → length (entryAt book p) ≡ 24
+unfolding entryAt
+entry-there book p h = length-take-le 24 (drop (placeAt p) book) (simp length-drop (omega arith))
+
+pub entry-bytes : (book : List ℕ) (p : ℕ) → Bytes book → Bytes (entryAt book p)
+unfolding entryAt
+entry-bytes book p small = bytes-take (drop (placeAt p) book) 24 (bytes-drop book (placeAt p) small)
+
+-- the six bytes spell the zone and the setting
+key-spelled : (e : List ℕ) → length e ≡ 24 → Bytes e → bytesOf 2 (zoneOf e) ++ bytesOf 4 (settingOf e) ≡ keyOf e
+key-spelled e long small = rw (bytes-field 2 e 0 small (omega arith), bytes-field 4 e 2 small (omega arith))
+    (sym (take-add 2 4 e))
+
+keys-same : (e f : List ℕ) → length e ≡ 24 → length f ≡ 24 → Bytes e → Bytes f → zoneOf e ≡ zoneOf f
+    → settingOf e ≡ settingOf f → keyOf e ≡ keyOf f
+keys-same e f long-e long-f small-e small-f zones settings =
+    sym (key-spelled e long-e small-e) ∙ rw (zones, settings) (key-spelled f long-f small-f)
+
+-- as many marks as before
+noted-long : (marks e : List ℕ) → length (notedEntry marks e) ≡ length marks
+unfolding notedEntry noted
+noted-long marks e = go (zeros e)
+  where
+    go : (z : Bool) → length (if' z (λ _. marks) (λ _. noted marks (keyOf e))) ≡ length marks
+    go true = refl
+    go false = length-set marks _ _
+
+-- the loop: the entries of the places before stand once, and the marks know them
+pub record Once (book first marks : List ℕ) (p : ℕ) : Type 0 where
+  pub upto : p ≤ placesOf book
+  pub long : length marks ≡ length first
+  pub small : Bytes book
+  pub sofar : twiceIn book p ≡ false
+  pub known : (x : List ℕ) → mayStand marks x ≡ false → (q : ℕ) → q < p → zeros (entryAt book q) ≡ false
+      → keyOf (entryAt book q) ≡ x → ⊥
+
+pub once-start : (book marks : List ℕ) → Bytes book → Once book marks marks 0
+unfolding twiceIn some
+once-start book marks small = record {
+  upto = omega arith;
+  long = refl;
+  small = small;
+  sofar = refl;
+  known = λ x gone q h taken key. omega arith;
+}
+
+module _ {book first marks : List ℕ} {p : ℕ} (s : Once book first marks p) where
+  -- an entry that is not noted was not there before
+  module _ (h : p < placesOf book) (new : mayStand marks (keyOf (entryAt book p)) ≡ false) where
+    not-for : (q : ℕ) → q < p → isFor (zoneOf (entryAt book p)) (settingOf (entryAt book p)) (entryAt book q) ≡ false
+    not-for q g = go (isFor (zoneOf (entryAt book p)) (settingOf (entryAt book p)) (entryAt book q)) refl
+      where
+        go : (t : Bool) → isFor (zoneOf (entryAt book p)) (settingOf (entryAt book p)) (entryAt book q) ≡ t → t ≡ false
+        go false e = refl
+        go true e =
+            let parts = for-parts (zoneOf (entryAt book p)) (settingOf (entryAt book p)) (entryAt book q) e in
+            let long-p : length (entryAt book p) ≡ 24 = entry-there book p h in
+            let long-q : length (entryAt book q) ≡ 24 = entry-there book q (omega arith) in
+            let key : keyOf (entryAt book q) ≡ keyOf (entryAt book p) =
+            keys-same (entryAt book q) (entryAt book p) long-q long-p (entry-bytes book q (s .small))
+            (entry-bytes book p (s .small)) (parts .1) (parts .2) in
+            absurd (s .known (keyOf (entryAt book p)) new q g (parts .0) key)
+
+    unseen : seenBefore book p ≡ false
+    unfolding seenBefore seenIn
+    unseen = some-none (λ q. isFor (zoneOf (entryAt book p)) (settingOf (entryAt book p)) (entryAt book q)) p not-for
+
+  module _ (h : p < placesOf book) {e : List ℕ} (e-is : e ≡ entryAt book p) {may : Bool}
+      (may-is : may ≡ mayRepeat marks e) {t : Bool} (t-is : t ≡ (may && seenBefore book p)) where
+    again-is : t ≡ again book p
+    unfolding again mayRepeat
+    again-is = t-is ∙ rw (may-is, e-is)
+        (go (zeros (entryAt book p)) (mayStand marks (keyOf (entryAt book p))) refl)
+      where
+        go : (x y : Bool) → mayStand marks (keyOf (entryAt book p)) ≡ y
+            → ((not x && y) && seenBefore book p) ≡ (not x && seenBefore book p)
+        go true y y-is = refl
+        go false true y-is = refl
+        go false false y-is = sym (unseen h y-is)
+
+    pub once-stop : t ≡ true → true ≡ twiceIn book (placesOf book)
+    unfolding twiceIn
+    once-stop f = sym (some-stop (again book) (placesOf book) p h (sym again-is ∙ f))
+
+    -- the marks know this place too
+    knows : (x : List ℕ) → mayStand (notedEntry marks (entryAt book p)) x ≡ false → (q : ℕ) → q < p + 1
+        → zeros (entryAt book q) ≡ false → keyOf (entryAt book q) ≡ x → ⊥
+    unfolding notedEntry
+    knows x gone q g taken key = go (zeros (entryAt book p)) refl gone
+      where
+        here : (p ≤ q) → zeros (entryAt book p) ≡ false
+        here k = let same-place : q ≡ p = omega arith in rw same-place at taken
+
+        own : (p ≤ q) → keyOf (entryAt book p) ≡ x
+        own k = let same-place : q ≡ p = omega arith in rw same-place at key
+
+        go : (z : Bool) → zeros (entryAt book p) ≡ z
+            → mayStand (if' z (λ _. marks) (λ _. noted marks (keyOf (entryAt book p)))) x ≡ false → ⊥
+        go true z-is away = ⊎-elim
+            (λ (k : p ≤ q). clash z-is (here k))
+            (λ (k : q < p). s .known x away q k taken key) (le-or-lt p q)
+        go false z-is away =
+            let two = not-noted marks (keyOf (entryAt book p)) x away in ⊎-elim
+            (λ (k : p ≤ q). clash (same-bytes-refl (keyOf (entryAt book p))) (rw (← own k) at (two .1)))
+            (λ (k : q < p). s .known x (two .0) q k taken key) (le-or-lt p q)
+
+    pub once-on : t ≡ false → {m : List ℕ} → m ≡ notedEntry marks e → Once book first m (p + 1)
+    unfolding twiceIn some
+    once-on f {m} m-is =
+        let m-so : m ≡ notedEntry marks (entryAt book p) = m-is ∙ ap (notedEntry marks) e-is in record {
+          upto = omega arith;
+          long = ap length m-so ∙ noted-long marks (entryAt book p) ∙ s .long;
+          small = s .small;
+          sofar = rw (add-one p, s .sofar, ← again-is) f;
+          known = rw m-so knows;
+        }
+
+  pub once-long : length marks ≡ length first
+  once-long = s .long
+
+  -- a place more is noted before the search
+  pub noted-once : (e : List ℕ) {m : List ℕ} → m ≡ notedEntry marks e → length m ≡ length first
+  noted-once e m-is = ap length m-is ∙ noted-long marks e ∙ s .long
+
+  pub once-end : placesOf book ≤ p → false ≡ twiceIn book (placesOf book)
+  once-end h = let e : p ≡ placesOf book = omega (arith, s .upto) in sym (rw e at (s .sofar))

@@ -1,0 +1,4 @@
+pub mod Book
+pub mod Lookup
+pub mod Change
+pub mod Marked
