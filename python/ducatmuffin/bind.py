@@ -6,8 +6,8 @@ import os
 import re
 
 from . import dialects, inputs, reasons
-from .check import (MADE, NO_TABLE, STEP, SYNTAX, Found, complaints, evidence_of, failed_json, hint_of, is_joined, made, node_json, read_parts,
-                    span_json, start, syntax_errors, syntax_lines)
+from .check import (MADE, NO_TABLE, STEP, SYNTAX, Found, complaints, evidence_of, failed_json, hint_of, in_one_table, is_joined, node_json, parsed,
+                    read_parts, span_json, start, syntax_errors, syntax_lines)
 from .library import Refusal
 from .numbers import KIND, KINDS
 from .output import Failed, Report, dumps, encoded, named, say, shown, visible
@@ -27,10 +27,10 @@ OTHER = "a call of an expression, which is bound to no def"
 
 
 class Tree:
-    """A sound table by its defs and calls."""
+    """A sound table by its defs and calls. `number` gives the number of a node in JSON, which is its own but for a table of two statements."""
 
-    def __init__(self, table, names):
-        self.table, self.names, self.records = table, names, decode(table)
+    def __init__(self, table, names, number=lambda node: node):
+        self.table, self.names, self.records, self.number = table, names, decode(table), number
 
     def of_kind(self, kind):
         return [node for node, record in enumerate(self.records) if record.kind == kind]
@@ -112,12 +112,7 @@ class Places:
 
     def text(self, node):
         source = self.source(node)
-        if not source:
-            return self.of_table(node)
-        begin, end = self.tree.span(node)
-        first, more, _ = source.bytes[begin:end].partition(b"\n")
-        text = shown(first)
-        return text[:LONGEST - 1] + "…" if more or len(text) > LONGEST else text
+        return text_in(source, *self.tree.span(node)) if source else self.of_table(node)
 
     def of_table(self, node):
         """The text of an argument or a call, as far as its table tells it."""
@@ -129,15 +124,24 @@ class Places:
     def place(self, node):
         if node not in self.known:
             source = self.source(node)
-            if source:
-                where = "{}:{}".format(*source.line_column(self.tree.records[node].begin))
-                self.known[node] = f"{visible(source.path)}:{where}" if self.named else where
-            else:
-                self.known[node] = self.bytes.place(node)
+            self.known[node] = place_in(source, self.tree.records[node].begin, self.named) if source else self.bytes.place(node)
         return self.known[node]
 
     def refused(self, refusal):
         return f"refused {refusal.number}" + (f", {self.text(refusal.node)} ({self.place(refusal.node)})" if refusal.node is not None else "")
+
+
+def text_in(source, begin, end):
+    """A part of a script in one line."""
+    first, more, _ = source.bytes[begin:end].partition(b"\n")
+    text = shown(first)
+    return text[:LONGEST - 1] + "…" if more or len(text) > LONGEST else text
+
+
+def place_in(source, begin, named):
+    """The line and column of a byte, after the script's name where that is wanted."""
+    where = "{}:{}".format(*source.line_column(begin))
+    return f"{visible(source.path)}:{where}" if named else where
 
 
 class Binder:
@@ -195,7 +199,7 @@ class Binder:
     def in_json(self, answer, call, def_, scripts):
         told = {"call": self.node(call, scripts), "def": self.node(def_, scripts)}
         if type(answer) is Refusal:
-            carried = {} if answer.node is None else {**node_json(self.tree.table, answer.node),
+            carried = {} if answer.node is None else {**node_json(self.tree.table, answer.node, self.tree.number(answer.node)),
                                                       **span_json(scripts.of(answer.file), answer.file, answer.begin, answer.end)}
             if answer.earlier is not None:
                 carried["earlier"] = self.node(answer.earlier, scripts)
@@ -207,7 +211,7 @@ class Binder:
         return told
 
     def node(self, node, scripts):
-        return {"node": node, **place_json(self.tree, node, scripts)}
+        return {"node": self.tree.number(node), **place_json(self.tree, node, scripts)}
 
 
 def place_json(tree, node, scripts):
@@ -248,7 +252,12 @@ class Run:
     def file(self, one):
         """One input."""
         found = Found(one)
-        if not (self.made(found) if one.script else self.read(found)):
+        if one.script and not self.parsed(found):
+            return
+        if one.script and not in_one_table(found):
+            self.wide(found)
+            return
+        if not (self.sound(found) if one.script else self.read(found)):
             return
         tree = Tree(found.table, found.names)
         try:
@@ -271,12 +280,16 @@ class Run:
         found.table, found.names, found.dialect, found.scripts = answer.table, answer.names, answer.dialect, self.options.scripts
         return True
 
-    def made(self, found):
-        """Makes the table of a script, or of several, and says whether it is accepted."""
+    def parsed(self, found):
+        """Reads a script, or several, and says whether all are Starlark."""
         found.dialect = self.options.dialect
-        if not (read_parts(found) and made(found)):
+        if not (read_parts(found) and parsed(found)):
             self.not_starlark(found) if found.verdict == SYNTAX else self.failed(found)
             return False
+        return True
+
+    def sound(self, found):
+        """Says whether the table of a script is accepted."""
         answer = self.library.table(found.table, found.names)
         if type(answer) is Refusal:
             self.refused(found, answer)
@@ -416,6 +429,34 @@ class Run:
             self.out.flush()
             for note in notes:
                 say(f"{found.one.name}: {note}")
+
+
+    def wide(self, found):
+        """The same over a script that is larger than a table may be: each pair in a table of its two top-level statements."""
+        from .wide import Wide
+        wide, alone, pairs = Wide(self.library, found), [], []
+        totals = {"bound": 0, "refused": 0, "without_def": 0, "not_judged": 0}
+        if not self.report:
+            self.header(found.one)
+        for call in wide.calls:
+            defs = wide.defs.get(call.name, [])
+            for pair in (wide.pair(call, def_) for def_ in defs):
+                totals[pair.judged] += 1
+                self.worse(pair.status)
+                if self.report:
+                    pairs.append(pair.in_json())
+                else:
+                    self.out.lines([f"{wide.head(call)}, def {wide.place(pair.def_)}", *("    " + line for line in pair.lines(self.options.explain))])
+            if not defs:
+                alone.append(call)
+                if not self.report:
+                    self.out.lines([f"{wide.head(call)}, {call.unnamed if call.name is None else NO_DEF}"])
+        totals["without_def"] = len(alone)
+        if self.report:
+            verdict = "not judged" if totals["not_judged"] else "refused" if totals["refused"] else "bound"
+            self.told(found, verdict=verdict, **script_json(found), pairs=pairs, without_def=[wide.call_json(call) for call in alone], totals=totals)
+        else:
+            self.out.lines(["bound {bound}, refused {refused}, without a def {without_def}, not judged {not_judged}".format(**totals)])
 
 
 class Options:

@@ -1,9 +1,10 @@
 """ducat check: table files and scripts, each with every job (or, with --module, as the program of document 01), in one process or several."""
 from . import dialects, inputs, reasons, scripts
-from .library import Error, Refusal
+from .library import Error, Errors, Refusal
 from .numbers import KINDS, NODE_BYTES, WORDS
 from .output import Progress, Report, dumps, encoded, named, say, tell, visible
 from .places import Source
+from .table import Piece
 
 ALL = "the whole checker accepts: the module pass, and every job on every node that it fits"
 MODULE = "none of 10 to 18 and 50 to 61; 20 to 45 (calls, targets, types) are not looked for with --module"
@@ -42,12 +43,22 @@ class Part:
 
 
 class Found:
-    """What is found in one input. `parts` are its scripts, where it is one or several."""
+    """What is found in one input. `parts` are its scripts, where it is one or several. `pieces` are its tables: one, or several of a script that is
+    larger than a table may be. The numbers of nodes are those that one table of the whole would have."""
 
     def __init__(self, one):
-        self.one, self.verdict, self.nodes, self.errors, self.total, self.targets = one, ACCEPTED, None, (), 0, ()
+        self.one, self.verdict, self.nodes, self.errors, self.total, self.pieces = one, ACCEPTED, None, (), 0, ()
         self.parts = [Part(file, script) for file, script in inputs.scripts_of(one)] if one.script else []
-        self.refusal = self.why = self.message = self.data = self.dialect = self.table = self.names = self.scripts = None
+        self.refusal = self.why = self.message = self.data = self.dialect = self.table = self.names = self.scripts = self.statements = None
+
+    def hold(self, table, names, targets=()):
+        """One table, and the targets of comprehensions in it."""
+        self.table, self.names, self.pieces = table, names, [Piece(table, names, targets, 0, 0)]
+
+    def place_of(self, node):
+        """The table that has a node, and the node's number in it."""
+        piece = next((piece for piece in reversed(self.pieces) if piece.first <= node), self.pieces[0])
+        return piece, node - piece.shift
 
     @property
     def failed(self):
@@ -75,26 +86,44 @@ def read_parts(found):
     return True
 
 
-def made(found):
-    """Makes the table of the scripts that were read, and says whether there is one."""
+def parsed(found):
+    """Reads the statements of the scripts, and says whether all are Starlark."""
     from . import export
-    statements = []
+    found.statements = []
     for part in found.parts:
         try:
-            statements.append(export.statements_of(part.data))
+            found.statements.append(export.statements_of(part.data))
         except export.ScriptSyntaxError as error:
             part.syntax = error
         except export.ScriptError as error:
             part.failed, part.place = error.message, (error.line, error.column)
-    if not found.failed and not found.syntax:
-        try:
-            found.table, found.names, found.targets = export.join([part.data for part in found.parts], statements, found.parts[0].file)
-            return True
-        except export.ScriptError as error:
-            part = found.parts[error.at]
-            part.failed, part.place = error.message, (error.line, error.column)
-    found.verdict, found.total = (NO_TABLE, 0) if found.failed else (SYNTAX, len(found.syntax))
-    return False
+    if found.failed or found.syntax:
+        found.verdict, found.total = (NO_TABLE, 0) if found.failed else (SYNTAX, len(found.syntax))
+        return False
+    return True
+
+
+def in_one_table(found):
+    """Makes one table of the statements, and says whether it is no larger than a table may be."""
+    from . import export
+    try:
+        found.hold(*export.join([part.data for part in found.parts], found.statements, found.parts[0].file))
+        return True
+    except export.ScriptTooLarge:
+        return False
+
+
+def in_tables(found):
+    """Makes several tables of the statements, and says whether each statement fits into one."""
+    from . import export
+    try:
+        found.pieces = export.cut([part.data for part in found.parts], found.statements, found.parts[0].file)
+    except export.ScriptTooLarge as error:
+        part = found.parts[error.at]
+        found.verdict, part.failed, part.place = NO_TABLE, error.message, (error.line, error.column)
+        return False
+    found.table, found.names = found.pieces[0][:2]
+    return True
 
 
 class Checker:
@@ -141,7 +170,7 @@ class Checker:
 
     def check_scripts(self, found):
         found.dialect = self.options.dialect
-        if read_parts(found) and made(found):
+        if read_parts(found) and parsed(found) and (in_one_table(found) or in_tables(found)):
             self.judge(found)
 
     def check_file(self, found):
@@ -154,26 +183,42 @@ class Checker:
         if type(answer) is Refusal:
             self.refused(found, answer)
             return
-        found.table, found.names, found.dialect = answer.table, answer.names, answer.dialect
+        found.hold(answer.table, answer.names)
+        found.dialect = answer.dialect
         self.judge(found)
 
     def judge(self, found):
         job = self.library.module if self.options.module else self.library.audit
-        answer = job(found.table, found.names, found.dialect or b"")
+        answer = self.in_pieces(found, job, found.dialect)
         if type(answer) is Refusal:
-            self.refused(found, answer)
             return
-        found.nodes, found.total, found.errors = len(found.table) // NODE_BYTES, answer.total, answer.errors
+        found.nodes, found.total, found.errors = nodes_of(found), answer.total, answer.errors
         if not self.options.module:
             more = self.in_comprehensions(found)
             found.total += len(more)
             found.errors = sorted([*found.errors, *more], key=order)
         found.verdict = ERRORS if found.total else ACCEPTED
 
+    def in_pieces(self, found, job, dialect):
+        """The errors of a job in all tables of an input, or its refusal of one, which is noted."""
+        total, errors = 0, []
+        for piece in found.pieces:
+            answer = job(piece.table, piece.names, dialect or b"")
+            if type(answer) is Refusal:
+                found.table, found.names = piece[:2]
+                self.refused(found, answer)
+                return answer
+            if len(found.pieces) == 1 and not piece.shift:
+                return answer
+            total += answer.total
+            errors += [shifted(error, piece.shift) for error in answer.errors]
+        return Errors(total, tuple(errors))
+
     def in_comprehensions(self, found):
         """The errors of the targets of a script's comprehensions, which a table does not mark: the target job on each."""
-        answers = [self.library.target(found.table, found.names, node) for node in found.targets]
-        return [Error(answer.number, answer.file, answer.begin, answer.end, answer.node) for answer in answers if type(answer) is Refusal]
+        answers = [(self.library.target(piece.table, piece.names, node), piece.shift) for piece in found.pieces for node in piece.targets]
+        return [Error(answer.number, answer.file, answer.begin, answer.end, answer.node + shift)
+                for answer, shift in answers if type(answer) is Refusal]
 
     def refused(self, found, refusal):
         found.verdict, found.refusal = REFUSED, refusal
@@ -188,20 +233,20 @@ class Checker:
         """The span of the first parameter or argument of the name that stands twice, and its node."""
         if error.number not in REPEATED:
             return None
-        for node in self.nodes_of(found, error):
-            parent = parent_of(found.table, node)
+        for piece, node in self.nodes_of(found, error):
+            parent = parent_of(piece.table, node)
             job = self.library.params if error.number == 11 else self.library.call
-            answer = job(found.table, found.names, parent)
+            answer = job(piece.table, piece.names, parent)
             if type(answer) is Refusal and (answer.number, answer.node) == (error.number, node) and answer.earlier is not None:
-                return (answer.earlier, *span_of(found.table, answer.earlier))
+                return (answer.earlier + piece.shift, *span_of(piece.table, answer.earlier))
         return None
 
     def nodes_of(self, found, error):
-        """The node of an error; the module pass does not list it, so it is looked for by its span."""
+        """The table and the node in it of an error; the module pass does not list it, so it is looked for by its span."""
         if error.node is not None:
-            return [error.node]
-        rows = reasons.Records(found.table, found.names).rows
-        return [node for node, row in enumerate(rows) if row[0] in (50, 53, 54) and (row[7], row[4], row[5]) == (error.file, error.begin, error.end)]
+            return [found.place_of(error.node)]
+        return [(piece, node) for piece in found.pieces for node, row in enumerate(reasons.Records(piece.table, piece.names).rows)
+                if row[0] in (50, 53, 54) and (row[7], row[4], row[5]) == (error.file, error.begin, error.end)]
 
     # ---- printing
 
@@ -243,7 +288,7 @@ class Checker:
                 return f"refused {found.refusal.number}\n".encode()
             hint = hint_of(found)
             return encoded(self.refusal(found) + "\n" + (f"hint: {hint}\n" if hint else ""))
-        lines = [f"nodes {found.nodes}" + (f", dialect {dialects.told(found.dialect, found.one.script)}" if explain else "")]
+        lines = [counted(found) + (f", dialect {dialects.told(found.dialect, found.one.script)}" if explain else "")]
         for error in found.errors:
             lines += self.error(found, error)
         covered = f": {MODULE if self.options.module else ALL}" if explain and not found.total else ""
@@ -265,7 +310,7 @@ class Checker:
         source, note = held.of(file), held.note(file)
         if not source and not note and not self.options.explain:
             return [f"{number} {file} {begin} {end}"]
-        kind = f", node {node}, kind {kind_words(found.table, node)}" if self.options.explain and node is not None else ""
+        kind = f", node {node}, kind {kind_words(*found.place_of(node))}" if self.options.explain and node is not None else ""
         words = WORDS[number] + kind
         earlier = self.earlier(found, error)
         if source:
@@ -294,6 +339,8 @@ class Checker:
         held = self.scripts_of(found)
         if not one.script:
             entry.update(held.in_json())
+        if len(found.pieces) > 1:
+            entry["tables"] = len(found.pieces)
         entry.update(nodes=found.nodes, errors=[self.in_json(found, error) for error in found.errors])
         return entry
 
@@ -307,7 +354,8 @@ class Checker:
         if note:
             told["note"] = visible(note)
         if node is not None:
-            told.update(node_json(found.table, node))
+            piece, at = found.place_of(node)
+            told.update(node_json(piece.table, at, node))
         earlier = self.earlier(found, error)
         if earlier:
             told["earlier"] = {"node": earlier[0], **span_json(source, file, *earlier[1:])}
@@ -375,14 +423,30 @@ def span_of(table, node):
     return (position, position + length) if kind == reasons.NAMED_ARGUMENT else (begin, end)
 
 
-def kind_words(table, node):
-    kind = table[NODE_BYTES * node]
+def kind_words(piece, node):
+    kind = piece.table[NODE_BYTES * node]
     return f"{kind} {KINDS[kind][0]}"
 
 
-def node_json(table, node):
+def node_json(table, node, number=None):
+    """A node and its kind in JSON; `number` is its number in the table of the whole, where that is another one."""
     kind = table[NODE_BYTES * node]
-    return {"node": node, "kind": {"number": kind, "name": KINDS[kind][0]}}
+    return {"node": node if number is None else number, "kind": {"number": kind, "name": KINDS[kind][0]}}
+
+
+def shifted(error, shift):
+    """An error with the node's number of the whole."""
+    return error if error.node is None else error._replace(node=error.node + shift)
+
+
+def nodes_of(found):
+    """The number of nodes that one table of the whole has."""
+    last = found.pieces[-1]
+    return len(last.table) // NODE_BYTES + last.shift
+
+
+def counted(found):
+    return f"nodes {found.nodes}" + (f", in {len(found.pieces)} tables" if len(found.pieces) > 1 else "")
 
 
 def order(error):

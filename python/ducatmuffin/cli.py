@@ -18,6 +18,7 @@ Checks Starlark scripts and their node tables with a proved library.
   ducat write TABLE NAMES [--dialect D] -o OUT
                                                a table file from raw bytes
   ducat table INPUT... -o OUT                  a table file from scripts, or from the text form of a table
+  ducat table SCRIPT... --compare FILE         whether a table file is the table of scripts
   ducat dump FILE                              the text form of a table file
   ducat build [--unproved]                     prove and compile the library
 
@@ -107,7 +108,7 @@ and then OUT is as it was. A sound file is written as it is, without the bytes a
 RESCUE_MORE = """Exit status: 0 nothing is lost (dropped 0 and bytes 0); 1 something is lost; 2 it is refused, IN cannot be
 read or OUT not written, wrong usage, or no library."""
 
-ATOMIC = """OUT is at each moment the old file or the whole new one."""
+ATOMIC = """OUT is at each moment the old file or the whole new one. A script's name as OUT is refused."""
 
 WRITE = """Writes to OUT the table file of a node table (24 bytes for each node) and of the bytes that its names are in,
 and prints
@@ -122,10 +123,19 @@ read by ducat's own parser; that step is not proved.
 
 Several scripts are joined: the statements of the first, then those of the second, and so on, become one table.
 Each statement has the source file number of its script, which counts from 1, or from --number, in the order
-given, and positions in that script.
+given, and positions in that script. A script or a join of more than 2,100 nodes or 8,064 name bytes has no table:
+its size is said, and nothing is written.
 
-Exit status: 0 OUT is written; 1 a script is not Starlark; 2 an INPUT is refused or cannot be read, OUT cannot
-be written, or wrong usage."""
+With --compare FILE nothing is written. This prints
+  same N                          FILE is the table of the scripts: N nodes
+  differs, node N: ...            the first record that differs, and the fields in which it does
+  differs, nodes N and M          one of them has more nodes
+  differs, dialect D and E        all records are equal
+Equal names may have their bytes at other places in FILE. The dialect is compared where --dialect or a
+configuration gives one.
+
+Exit status: 0 OUT is written, or FILE is the same; 1 a script is not Starlark, or FILE differs; 2 an INPUT or
+FILE is refused or cannot be read, a script is larger than a table may be, OUT cannot be written, or wrong usage."""
 
 DUMP = """Prints the text form of a table file, or of a script's table. `ducat table` of it gives the same bytes back.
 `-` is standard input."""
@@ -296,7 +306,8 @@ def write_parser():
 def table_parser():
     parser = make_parser("table", TABLE, ATOMIC)
     parser.add_argument("inputs", metavar="INPUT", nargs="+")
-    add_output(parser)
+    add_output(parser, required=False)
+    parser.add_argument("--compare", metavar="FILE", help="write nothing: say whether the table file FILE is the table of the scripts")
     parser.add_argument("--number", metavar="N", type=file_number, help="the source file number of the first script; the others follow (default: 1)")
     parser.add_argument("--parts", action="store_true",
                         help="OUT is a folder, new or empty: a table file of each top-level statement, 0001.table and so on")
@@ -533,9 +544,12 @@ def write(words, out):
     return job.run(library, options, out, head("write", library) if options.json else None)
 
 
-def named_out(name):
+def named_out(name, as_script=()):
+    from . import inputs
     if name in ("", "-"):
         raise Failed("-o needs the name of a file")
+    if inputs.is_script(name, as_script):
+        raise Failed(f"-o {name}: this is a script's name, and nothing is written over a script")
 
 
 def one_input(options, words_for_table):
@@ -550,9 +564,12 @@ def one_input(options, words_for_table):
 
 def table(words, out):
     options = parse(table_parser(), words)
-    named_out(options.out)
-    once(*options.inputs)
+    if (options.out is None) == (options.compare is None):
+        raise Failed("one of -o and --compare is needed (`ducat table --help` says how)")
+    once(*options.inputs, *([options.compare] if options.compare is not None else []))
     configured = Configured(options)
+    if options.out is not None:
+        named_out(options.out, configured.as_script)
     found = [input_of(name, options.stdin_filename, configured.as_script) for name in options.inputs]
     texts = [one for one in found if not one.script]
     if texts and (configured.given or options.number is not None):
@@ -560,8 +577,10 @@ def table(words, out):
                      "--number is for scripts: a text has its own source file numbers")
     if texts and len(found) > 1:
         raise Failed(f"several INPUTs must be scripts, and {texts[0].name} is taken as the text form of a table")
+    if options.compare is not None and (texts or options.parts):
+        raise Failed("--compare is for scripts" if texts else "--compare is for one table: --parts makes several")
     numbered(len(found), options.number or 1)
-    finished(options, inputs=found, number=options.number or 1, dialect=None if texts else configured.dialect)
+    finished(options, inputs=found, number=options.number or 1, dialect=None if texts else configured.dialect, given=configured.given)
     from . import tabling as job
     library = open_library()
     configured.say()
@@ -570,9 +589,9 @@ def table(words, out):
 
 def dump(words, out):
     options = parse(dump_parser(), words)
-    if options.out is not None:
-        named_out(options.out)
     configured = one_input(options, "a table file")
+    if options.out is not None:
+        named_out(options.out, configured.as_script)
     from . import dump as job
     library = open_library()
     configured.say()

@@ -113,13 +113,13 @@ errors 2
         self.says(1, f"{path}:1:8: syntax: expected `:`, found end of line\n    def f()\n           ^\nerrors 1\n", STEP, "check", path)
 
     def test_what_has_no_table(self):
-        path = self.put("large.star", "pass\n" * 2100)
-        said = f"ducat: {path}:2100:1: a table has at most 2100, and here are 2101 nodes\n"
+        path = self.put("large.star", "pass\n\nx = [" + "1, " * 2200 + "]\n")
+        said = f"ducat: {path}:3:1: this statement has 2,203 nodes, and a table has at most 2,100\n"
         self.says(2, "", f"{STEP}{said}", "check", path)
         self.says(2, "", said, "check", "--quiet", path)
         ran = self.run_ducat("check", "--json", path)
         entry, = json.loads(ran.out)["inputs"]
-        self.assertEqual((ran.status, entry["verdict"], entry["line"], entry["column"]), (2, "no table", 2100, 1))
+        self.assertEqual((ran.status, entry["verdict"], entry["line"], entry["column"]), (2, "no table", 3, 1))
         self.says(2, f"{path}:\nsamples/clean.table:\nnodes 34\nerrors 0\n"
                   "files 2, with errors 0, refused 0, not read 1, errors 0\n", None, "check", path, "samples/clean.table")
         deep = self.put("deep.star", "x = " + "(" * 300 + "1" + ")" * 300 + "\n")
