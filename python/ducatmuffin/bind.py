@@ -6,11 +6,11 @@ import os
 import re
 
 from . import dialects, inputs, reasons
-from .check import (MADE, NO_TABLE, STEP, SYNTAX, Found, complaints, evidence_of, failed_json, hint_of, in_one_table, is_joined, node_json, parsed,
+from .check import (MADE, NO_TABLE, SAYS_THE_STEP, STEP, SYNTAX, Found, complaints, evidence_of, failed_json, hint_of, in_one_table, is_joined, node_json, parsed,
                     read_parts, span_json, start, syntax_errors, syntax_lines)
 from .library import Refusal
 from .numbers import KIND, KINDS
-from .output import Failed, Report, dumps, encoded, named, say, shown, visible
+from .output import PLAIN, Failed, named, say, shown, visible
 from .scripts import NONE, files_of
 from .table import children, decode, name_of
 
@@ -296,6 +296,13 @@ class Run:
             return False
         return True
 
+    def add(self, found, entry):
+        """Adds the JSON of an input to the report, in its format."""
+        from .formats import rendered
+        data = rendered(self.options.format, entry, found.one.name, found.scripts or NONE)
+        if data:
+            self.report.add(data)
+
     # ---- what cannot be bound
 
     def failed(self, found, message=None):
@@ -304,7 +311,7 @@ class Run:
         if self.report:
             told = failed_json(found) if message is None else {"failed": visible(message)}
             verdict = "no table" if found.verdict == NO_TABLE else "unreadable"
-            self.report.add(dumps({**start(found), **joined_evidence(found), "verdict": verdict, **told}))
+            self.add(found, {**start(found), **joined_evidence(found), "verdict": verdict, **told})
             return
         for line in complaints(found) if message is None else [message]:
             say(line)
@@ -312,11 +319,11 @@ class Run:
     def not_starlark(self, found):
         self.worse(1)
         if self.report:
-            self.report.add(dumps({**start(found), **evidence_of(found), "verdict": "syntax", "errors": syntax_errors(found)}))
+            self.add(found, {**start(found), **evidence_of(found), "verdict": "syntax", "errors": syntax_errors(found)})
             return
         self.header(found.one)
         for part in found.syntax:
-            self.out.lines(syntax_lines(part.source, part.syntax))
+            self.out.lines(syntax_lines(part.source, part.syntax, self.options.paint))
 
     def refused(self, found, refusal):
         self.worse(2)
@@ -324,15 +331,16 @@ class Run:
         why = reasons.why_file(self.library, found.data, refusal, len(found.data) < inputs.TABLE_MOST) if not one.script else reasons.Why()
         if self.report:
             told = {"number": refusal.number, "words": refusal.words, **why.in_json()}
-            self.report.add(dumps({**start(found), **evidence_of(found), "verdict": "refused", "refused": told}))
+            self.add(found, {**start(found), **evidence_of(found), "verdict": "refused", "refused": told})
             return
         said = f"refused {refusal.number}: {refusal.words}{why}"
         self.header(one)
+        paint = self.options.paint.refusal
         if self.options.explain:
             hint = hint_of(found)
-            self.out.lines([said] + ([f"hint: {hint}"] if hint else []))
+            self.out.lines([paint(said)] + ([f"hint: {hint}"] if hint else []))
         else:
-            self.out.lines([f"refused {refusal.number}"])
+            self.out.lines([paint(f"refused {refusal.number}")])
             self.out.flush()
             say(f"{one.name}: {said}")
 
@@ -340,7 +348,7 @@ class Run:
 
     def header(self, one):
         if self.many:
-            self.out.write(encoded(visible(one.name)) + b":\n")
+            self.out.lines([self.options.paint.bold(visible(one.name) + ":")])
 
     def table(self, found, tree):
         if self.options.call is not None:
@@ -352,7 +360,7 @@ class Run:
 
     def told(self, found, **more):
         table = {"table": MADE} if found.one.script else {}
-        self.report.add(dumps({**start(found), **evidence_of(found), **table, "dialect": dialects.in_json(found.dialect), **more}))
+        self.add(found, {**start(found), **evidence_of(found), **table, "dialect": dialects.in_json(found.dialect), **more})
 
     def pair(self, found, tree):
         """A call and a def by their nodes."""
@@ -361,7 +369,7 @@ class Run:
         answer = binder.bound(call, def_)
         self.worse(status_of(answer))
         if not self.report:
-            self.out.lines(binder.lines(answer, call, def_, Bytes(tree), self.options.explain))
+            self.out.lines(map(self.options.paint.refusal, binder.lines(answer, call, def_, Bytes(tree), self.options.explain)))
             return
         verdict = ("bound", "refused", "refused")[status_of(answer)]
         if status_of(answer) == 2:
@@ -398,6 +406,10 @@ class Run:
                 "form": "name" if name is not None else {CALL: "call", DOT: "method"}.get(tree.records[node + 1].kind, "expression"),
                 "arguments": len(tree.arguments(node))}
 
+    def bound(self, head, lines):
+        paint = self.options.paint
+        self.out.lines([paint.bold(head), *("    " + paint.refusal(line) for line in lines)])
+
     def script(self, found, tree, places):
         """All calls of a name with the defs of that name, and the calls that have none."""
         binder, accepted, refused, alone, pairs = Binder(self.library, tree), 0, 0, [], []
@@ -413,7 +425,7 @@ class Run:
                     pairs.append(binder.in_json(answer, call, def_, places.scripts))
                 else:
                     lines = binder.lines(answer, call, def_, places, self.options.explain)
-                    self.out.lines([f"{head}, def {places.place(def_)}", *("    " + line for line in lines)])
+                    self.bound(f"{head}, def {places.place(def_)}", lines)
             if not defs:
                 alone.append(call)
                 if not self.report:
@@ -446,7 +458,7 @@ class Run:
                 if self.report:
                     pairs.append(pair.in_json())
                 else:
-                    self.out.lines([f"{wide.head(call)}, def {wide.place(pair.def_)}", *("    " + line for line in pair.lines(self.options.explain))])
+                    self.bound(f"{wide.head(call)}, def {wide.place(pair.def_)}", pair.lines(self.options.explain))
             if not defs:
                 alone.append(call)
                 if not self.report:
@@ -460,17 +472,20 @@ class Run:
 
 
 class Options:
-    def __init__(self, files, explain=False, json=False, dialect=None, scripts=None, call=None, def_=None):
-        self.files, self.explain, self.json, self.dialect = files, explain, json, dialect
-        self.scripts, self.call, self.def_ = scripts, call, def_
+    """How a run binds and prints; `json` and `paint` as in check.Options."""
+
+    def __init__(self, files, explain=False, json=False, dialect=None, scripts=None, call=None, def_=None, format=None, paint=PLAIN):
+        self.files, self.explain, self.dialect, self.format = files, explain, dialect, format or ("json" if json else "text")
+        self.json, self.scripts, self.call, self.def_, self.paint = self.format != "text", scripts, call, def_, paint
 
 
 def run(library, options, out, front):
     """Binds the calls of all files, and returns the exit status."""
     one = Run(library, options, out)
     if options.json:
-        one.report = Report(out, front)
-    elif any(file.script for file in options.files):
+        from .formats import report
+        one.report = report(options.format, out, front)
+    if options.format not in SAYS_THE_STEP and any(file.script for file in options.files):
         say(STEP)
     for file in options.files:
         one.file(file)

@@ -2,7 +2,7 @@
 from . import dialects, inputs, reasons, scripts
 from .library import Error, Errors, Refusal
 from .numbers import KINDS, NODE_BYTES, WORDS
-from .output import Progress, Report, dumps, encoded, named, say, tell, visible
+from .output import PLAIN, Progress, encoded, named, say, tell, visible
 from .places import Source
 from .table import Piece
 
@@ -10,19 +10,23 @@ ALL = "the whole checker accepts: the module pass, and every job on every node t
 MODULE = "none of 10 to 18 and 50 to 61; 20 to 45 (calls, targets, types) are not looked for with --module"
 STEP = "a script's table is made by ducat's own parser, and that step is not proved"
 MADE = "made from the script by ducat's own parser; that step is not proved"
+SYNTAX_WORD = "syntax:"  # with which the message of what is not Starlark begins
 TEXT = frozenset(range(32, 127)) | frozenset(range(128, 256)) | frozenset(b"\t\n\r\f")
 VERDICTS = ("accepted", "errors", "refused", "unreadable", "no table", "syntax", "no opening")
 ACCEPTED, ERRORS, REFUSED, UNREADABLE, NO_TABLE, SYNTAX, NO_OPENING = range(7)  # the last is against.py's
 STATUS = (0, 1, 2, 2, 2, 1, 2)
+SAYS_THE_STEP = ("json", "sarif")  # the formats that say of a script that its table is not proved
 REPEATED = {11: "parameter", 22: "argument"}  # the errors that have an earlier place
 
 
 class Options:
-    """How a run checks and prints."""
+    """How a run checks and prints. `json` is whether an input's JSON is made, for whatever `format` but text; `paint` colours the text."""
 
-    def __init__(self, module=False, explain=False, quiet=False, bad_only=False, json=False, many=False, dialect=None, scripts=None):
+    def __init__(self, module=False, explain=False, quiet=False, bad_only=False, json=False, many=False, dialect=None, scripts=None, format=None,
+                 paint=PLAIN):
         self.module, self.explain, self.quiet, self.bad_only = module, explain, quiet, bad_only
-        self.json, self.many, self.dialect, self.scripts = json, many, dialect, scripts
+        self.format = format or ("json" if json else "text")
+        self.json, self.many, self.dialect, self.scripts, self.paint = self.format != "text", many, dialect, scripts, paint
 
 
 class Answer:
@@ -131,7 +135,7 @@ class Checker:
 
     def __init__(self, library, options):
         self.library, self.options = library, options
-        self.plain = not (options.explain or options.json or options.scripts)
+        self.plain = not (options.explain or options.json or options.scripts or options.paint.on)
 
     def answer(self, one):
         if self.plain and self.options.module and not one.script:
@@ -256,13 +260,14 @@ class Checker:
             answer.err = self.complaint(found) if found.verdict in (UNREADABLE, NO_TABLE) else b""
             return answer
         if self.options.json:
-            answer.out = dumps(self.entry(found))
+            from .formats import rendered
+            answer.out = rendered(self.options.format, self.entry(found), found.one.name, found.scripts or scripts.NONE)
             return answer
         answer.out, answer.err = self.header(found.one) + self.lines(found), self.complaint(found)
         return answer
 
     def header(self, one):
-        return encoded(visible(one.name)) + b":\n" if self.options.many else b""
+        return encoded(self.options.paint.bold(visible(one.name) + ":") + "\n") if self.options.many else b""
 
     def complaint(self, found):
         """What goes to standard error: why there is no answer, or why the file is refused."""
@@ -281,13 +286,14 @@ class Checker:
         if found.verdict in (UNREADABLE, NO_TABLE):
             return b""
         if found.verdict == SYNTAX:
-            lines = [line for part in found.syntax for line in syntax_lines(part.source, part.syntax)]
+            lines = [line for part in found.syntax for line in syntax_lines(part.source, part.syntax, self.options.paint)]
             return encoded("\n".join([*lines, f"errors {found.total}"]) + "\n")
         if found.verdict == REFUSED:
+            paint = self.options.paint.refusal
             if not explain:
-                return f"refused {found.refusal.number}\n".encode()
+                return encoded(paint(f"refused {found.refusal.number}") + "\n")
             hint = hint_of(found)
-            return encoded(self.refusal(found) + "\n" + (f"hint: {hint}\n" if hint else ""))
+            return encoded(paint(self.refusal(found)) + "\n" + (f"hint: {hint}\n" if hint else ""))
         lines = [counted(found) + (f", dialect {dialects.told(found.dialect, found.one.script)}" if explain else "")]
         for error in found.errors:
             lines += self.error(found, error)
@@ -306,18 +312,18 @@ class Checker:
     def error(self, found, error):
         """The lines of an error."""
         number, file, begin, end, node = error
-        held = self.scripts_of(found)
-        source, note = held.of(file), held.note(file)
+        held, paint = self.scripts_of(found), self.options.paint
+        source, note, red = held.of(file), held.note(file), paint.red(str(number))
         if not source and not note and not self.options.explain:
-            return [f"{number} {file} {begin} {end}"]
+            return [f"{red} {file} {begin} {end}"]
         kind = f", node {node}, kind {kind_words(*found.place_of(node))}" if self.options.explain and node is not None else ""
         words = WORDS[number] + kind
         earlier = self.earlier(found, error)
         if source:
-            lines = placed(source, begin, end, f"{number} {words}")
-            return lines + (placed(source, *earlier[1:], f"note: the earlier {REPEATED[number]}") if earlier else [])
+            lines = placed(source, begin, end, f"{red} {words}", paint)
+            return lines + (placed(source, *earlier[1:], f"note: the earlier {REPEATED[number]}", paint) if earlier else [])
         before = f"; the earlier {REPEATED[number]} is node {earlier[0]}, bytes {earlier[1]} to {earlier[2]}" if earlier else ""
-        return [f"{number} {file} {begin} {end}: {words}{before}"] + ([f"    note: {visible(note)}"] if note else [])
+        return [f"{red} {file} {begin} {end}: {words}{before}"] + ([f"    note: {visible(note)}"] if note else [])
 
     # ---- JSON
 
@@ -476,20 +482,22 @@ def evidence_of(found):
     return evidence(data, found.one.script) if data is not None else {}
 
 
-def placed(source, begin, end, words):
+def placed(source, begin, end, words, paint=PLAIN):
     """A place in a script, with its line and carets."""
     path = visible(source.path)
     if source.is_beyond(begin, end):
-        return [f"{path}: {words}", f"    (bytes {begin} to {end}, beyond the script's {len(source.bytes)})"]
+        return [f"{paint.bold(path + ':')} {words}", f"    (bytes {begin} to {end}, beyond the script's {len(source.bytes)})"]
     line, column = source.line_column(begin)
-    return [f"{path}:{line}:{column}: {words}", *(f"    {text}".rstrip() for text in source.drawn(begin, end))]
+    text, carets = source.drawn(begin, end)
+    return [f"{paint.bold(f'{path}:{line}:{column}:')} {words}", f"    {text}".rstrip(), paint.red(f"    {carets}".rstrip())]
 
 
-def syntax_lines(source, error):
+def syntax_lines(source, error, paint=PLAIN):
     """Why a script is not Starlark, as an error of it. At the end of a script there is nothing to draw."""
+    words = paint.red(SYNTAX_WORD) + error.message[len(SYNTAX_WORD):]
     if error.begin < error.end:
-        return placed(source, error.begin, error.end, error.message)
-    return [f"{visible(source.path)}:{error.line}:{error.column}: {error.message}"]
+        return placed(source, error.begin, error.end, words, paint)
+    return [f"{paint.bold(f'{visible(source.path)}:{error.line}:{error.column}:')} {words}"]
 
 
 def syntax_json(error, file):
@@ -536,9 +544,12 @@ def run(library, options, found, jobs, out, front, checker=None, totals=None):
     those of a plain check."""
     from .workers import answers
     checker, totals = checker or Checker(library, options), totals or Totals()
-    if any(one.script for one in found) and not options.json and not options.quiet:
+    if any(one.script for one in found) and options.format not in SAYS_THE_STEP and not options.quiet:
         say(STEP)
-    report = Report(out, front) if options.json and not options.quiet else None
+    report = None
+    if options.json and not options.quiet:
+        from .formats import report as report_in
+        report = report_in(options.format, out, front)
     progress = Progress(len(found), not options.quiet)
     out.before = progress.clear
     given = answers(checker, found, jobs)

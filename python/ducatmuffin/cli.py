@@ -3,7 +3,7 @@ import os
 import sys
 
 from . import __version__, files, signals
-from .output import Failed, Out, OutputFailed, flush_error, head, say, text_of
+from .output import Failed, Out, OutputFailed, flush_error, head, paint_of, say, text_of
 
 COMMANDS = ("check", "bind", "rescue", "write", "table", "dump", "build")
 
@@ -179,9 +179,23 @@ def restored(value, names):
     return names[int(value[1:])] if isinstance(value, str) and value.startswith("\0") else value
 
 
-def add_format(parser):
-    parser.add_argument("--format", choices=("text", "json"), default="text", help="what is printed (docs/JSON.md describes the JSON)")
+def add_format(parser, more=()):
+    parser.add_argument("--format", choices=("text", "json", *more), default="text", help="what is printed (docs/JSON.md describes the JSON"
+                        + ("; gcc: a line of an error; github: a workflow command; sarif: SARIF 2.1.0)" if more else ")"))
     parser.add_argument("--json", dest="format", action="store_const", const="json", help="short for --format json")
+
+
+OTHERS = ("gcc", "github", "sarif")  # the formats of check and bind besides text and JSON
+
+
+def add_color(parser):
+    parser.add_argument("--color", choices=("auto", "always", "never"), default="auto",
+                        help="colours in text: auto (the default) has them on a terminal, unless NO_COLOR is set")
+
+
+def machine(format_):
+    """Whether the JSON of a run is made, as it is or for another format."""
+    return format_ != "text"
 
 
 def add_output(parser, required=True):
@@ -240,7 +254,8 @@ def check_parser():
     add_stdin_filename(parser)
     parser.add_argument("--jobs", metavar="N", type=positive, default=1, help="use N processes; the output is the same")
     add_config(parser)
-    add_format(parser)
+    add_format(parser, OTHERS)
+    add_color(parser)
     return parser
 
 
@@ -279,7 +294,8 @@ def bind_parser():
     add_list(parser)
     add_stdin_filename(parser)
     add_config(parser)
-    add_format(parser)
+    add_format(parser, OTHERS)
+    add_color(parser)
     return parser
 
 
@@ -470,9 +486,10 @@ def check(words, out):
     for path, excluded in search.empty:
         say(f"{path}: no table file and no script is found in this folder" + (f"; {excluded:,} excluded" if excluded else ""))
     from . import check as job
-    json = options.format == "json"
+    json = machine(options.format)
     many = len(search.found) > 1 or bool(search.empty) or any(one.path not in options.paths for one in search.found if one.path is not None)
-    how = job.Options(options.module, options.explain and not json, options.quiet, options.bad_only, json, many, configured.dialect, scripts)
+    how = job.Options(options.module, options.explain and not json, options.quiet, options.bad_only, json, many, configured.dialect, scripts,
+                      options.format, paint_of(options.color, out.terminal))
     if options.against is not None:
         from . import against
         status = against.run(library, how, options.against, search.found, options.jobs, out,
@@ -511,8 +528,9 @@ def bind(words, out):
     library = open_library()
     configured.say()
     from . import bind as job
-    json = options.format == "json"
-    how = job.Options(found, options.explain, json, configured.dialect, scripts, options.call, options.def_)
+    json = machine(options.format)
+    how = job.Options(found, options.explain, json, configured.dialect, scripts, options.call, options.def_, options.format,
+                      paint_of(options.color, out.terminal))
     return job.run(library, how, out, head("bind", library, configured.in_json()) if json else None)
 
 
