@@ -5,7 +5,7 @@ import sys
 from . import __version__, files, signals
 from .output import Failed, Out, OutputFailed, flush_error, head, paint_of, say, text_of
 
-COMMANDS = ("check", "bind", "rescue", "write", "table", "dump", "build")
+COMMANDS = ("check", "bind", "rescue", "write", "table", "dump", "rule", "diff", "build")
 
 USAGE = """usage: ducat COMMAND [OPTION...] ...
        ducat COMMAND --help
@@ -20,6 +20,8 @@ Checks Starlark scripts and their node tables with a proved library.
   ducat table INPUT... -o OUT                  a table file from scripts, or from the text form of a table
   ducat table SCRIPT... --compare FILE         whether a table file is the table of scripts
   ducat dump FILE                              the text form of a table file
+  ducat rule NUMBER                            what a number means, which jobs give it, and an example
+  ducat diff OLD.json NEW.json                 the errors that only one of two runs has
   ducat build [--unproved]                     prove and compile the library
 
   --version     print the version, and which library is used
@@ -139,6 +141,21 @@ FILE is refused or cannot be read, a script is larger than a table may be, OUT c
 
 DUMP = """Prints the text form of a table file, or of a script's table. `ducat table` of it gives the same bytes back.
 `-` is standard input."""
+
+RULE = """Prints what NUMBER means, which jobs give it, and an example that gives it: a script, or a table in text form where no
+script does. NUMBER may also be a name, as NO_DEFAULT_AFTER_DEFAULT."""
+
+DIFF = """Compares the JSON of two runs of `ducat check`, or of `ducat bind` (--json; docs/JSON.md). `-` is standard input. This
+prints
+  new: PATH:LINE:COLUMN: NUMBER and its words     an error that only NEW has
+  gone: ...                                       an error that only OLD has
+  new N, gone N, same N                           how many these are, and how many both have
+An error is the same where its input, its number, its source file number and its bytes are the same. One that has
+moved in its script is gone from its old place and new at the other. An input that is refused, is not read or has
+no table counts as an error.
+
+Exit status: 0 nothing is new; 1 something is; 2 one of them cannot be read or is not the JSON of a whole run, they
+are not two of the same command with the same options, or wrong usage."""
 
 BUILD = """Proves and compiles the library, if it is not current. Every command does this by itself when it must; an
 installed ducat never does."""
@@ -343,6 +360,21 @@ def dump_parser():
     add_as_script(parser)
     add_stdin_filename(parser)
     add_config(parser)
+    add_format(parser)
+    return parser
+
+
+def rule_parser():
+    parser = make_parser("rule", RULE)
+    parser.add_argument("number", metavar="NUMBER")
+    add_format(parser)
+    return parser
+
+
+def diff_parser():
+    parser = make_parser("diff", DIFF)
+    parser.add_argument("old", metavar="OLD.json")
+    parser.add_argument("new", metavar="NEW.json")
     add_format(parser)
     return parser
 
@@ -614,6 +646,27 @@ def dump(words, out):
     library = open_library()
     configured.say()
     return job.run(library, options, out, head("dump", library, configured.in_json()) if options.json else None)
+
+
+def rule(words, out):
+    """No library is needed for this."""
+    options = parse(rule_parser(), words)
+    from . import rules as job
+    number = job.of(options.number)
+    if options.format == "json":
+        from .output import Report
+        Report(out, head("rule", None)).end(rule=job.in_json(number), status=0)
+    else:
+        out.lines(job.lines(number))
+    return 0
+
+
+def diff(words, out):
+    """No library is needed for this."""
+    options = finished(parse(diff_parser(), words))
+    once(options.old, options.new)
+    from . import diff as job
+    return job.run(options, out, head("diff", None) if options.json else None)
 
 
 def build(words, out):

@@ -21,7 +21,8 @@ class Side:
 
     def fields(self, node):
         record = self.records[node]
-        return (record.kind, record.detail, table.name_of(record, self.names), record.file, record.begin, record.end, record.source)
+        name = table.name_of(record, self.names)
+        return (record.kind, record.detail, name if len(name) == record.name_length else None, record.file, record.begin, record.end, record.source)
 
 
 class Difference:
@@ -59,7 +60,7 @@ def words_of(name, value):
     if name == "kind":
         return f"{value} {KINDS[value][0]}" if value in KINDS else str(value)
     if name == "name":
-        return shown(value) or "none"
+        return "beyond the name bytes" if value is None else shown(value) or "none"
     if name == "dialect":
         return dialects.name_of(value) if value else "none"
     return str(value)
@@ -67,7 +68,7 @@ def words_of(name, value):
 
 def in_json(name, value):
     if name == "name":
-        return shown(value)
+        return None if value is None else shown(value)
     return dialects.in_json(value) if name == "dialect" else value
 
 
