@@ -71,11 +71,13 @@ permit all that the input's own dialect does, the one line is
 The exit status is that of DIALECT: 0 no job has an error in it; 1 one has; 2 also where it is no opening."""
 
 CHECK_MORE = """No more than 59,905 bytes of a table file are read, one more than the largest has, and no more than 16,777,216
-of a script. A script's table is made by ducat's own parser; that step is not proved.
+of a script. A script's table is made by ducat's own parser; that step is not proved. A script of more than
+2,100 nodes or 8,064 name bytes is checked in several tables, cut between top-level statements; `nodes N, in M
+tables` says so.
 
-Exit status: 0 no errors; 1 errors; 2 an input is refused or cannot be read, a script is larger than a table
-may be, nothing is found in a PATH, wrong usage, no library, or output that cannot be written. Of several
-inputs the highest counts."""
+Exit status: 0 no errors; 1 errors; 2 an input is refused or cannot be read, a top-level statement is larger
+than a table may be, nothing is found in a PATH, wrong usage, no library, or output that cannot be written. Of
+several inputs the highest counts."""
 
 BIND = """Says which argument of each call reaches which parameter. FILE is a table file or a script; `-` is standard
 input.
@@ -92,9 +94,12 @@ of a call, such as outer(1)(2), and a method call are listed as such and bound t
 Which argument reaches which parameter is proved. Which call is paired with which def is not: a name that
 means another function at the call is not seen."""
 
-BIND_MORE = """Exit status: 0 every call is accepted; 1 a call or def is refused (10 to 84), or a script is not Starlark; 2 a
-file is refused or cannot be read, a node is not a Call or not a Def (6), the script is not the table's or is
-larger than a table may be, wrong usage, no library, or output that cannot be written."""
+BIND_MORE = """A script that is larger than a table may be is bound too: a call and a def in a table of their two top-level
+statements. A pair that exceeds a limit of a table is listed as not judged.
+
+Exit status: 0 every call is accepted; 1 a call or def is refused (10 to 84), or a script is not Starlark; 2 a
+file is refused or cannot be read, a node is not a Call or not a Def (6), a pair is not judged, the script is not
+the table's, wrong usage, no library, or output that cannot be written."""
 
 RESCUE = """Writes to OUT a sound table file with what can be kept of the damaged table file IN (`-` is standard input),
 and prints
