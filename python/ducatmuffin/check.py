@@ -55,9 +55,9 @@ class Found:
         self.parts = [Part(file, script) for file, script in inputs.scripts_of(one)] if one.script else []
         self.refusal = self.why = self.message = self.data = self.dialect = self.table = self.names = self.scripts = self.statements = None
 
-    def hold(self, table, names, targets=()):
-        """One table, and the targets of comprehensions in it."""
-        self.table, self.names, self.pieces = table, names, [Piece(table, names, targets, 0, 0)]
+    def hold(self, table, names, targets=(), fstrings=()):
+        """One table, and what a script has besides: the targets of comprehensions and the f-strings, as export.Exported has them."""
+        self.table, self.names, self.pieces = table, names, [Piece(table, names, targets, fstrings, 0, 0)]
 
     def place_of(self, node):
         """The table that has a node, and the node's number in it."""

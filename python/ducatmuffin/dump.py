@@ -1,4 +1,6 @@
-"""ducat dump: the text form of a table file, or of a script's table. `ducat table` makes the same bytes of it."""
+"""ducat dump: the text form of a table file, or of a script's table. `ducat table` makes the same bytes of it. The f-strings of a script are comments."""
+import json
+
 from . import dialects, files, inputs, reasons, table
 from .check import MADE, STEP, evidence
 from .library import Refusal
@@ -36,7 +38,8 @@ def of_script(library, options, data):
     if not options.json:
         say(STEP)
     try:
-        return None, None, (*export.export(data, options.input.name, options.dialect), options.dialect)
+        made = export.exported(data)
+        return None, None, (made.table, made.names, options.dialect, made.fstrings)
     except export.ScriptError as error:
         raise no_table(options.input, error) from None
 
@@ -60,9 +63,19 @@ def start(one, data):
     return {**named(one.name), "kind": "script" if one.script else "table", **evidence(data, one.script), **made}
 
 
-def printed(options, out, front, data, records, names, dialect):
+def comments(fstrings):
+    """A line of each f-string, with its format text, which a table does not hold."""
+    return "".join(f"# node {node}, the format text of an f-string: {json.dumps(text_of(parts))}\n" for node, parts in fstrings)
+
+
+def text_of(parts):
+    from .fstring import format_text
+    return format_text(parts).decode()
+
+
+def printed(options, out, front, data, records, names, dialect, fstrings=()):
     try:
-        text = table.print_text(records, names, dialect)
+        text = comments(fstrings) + table.print_text(records, names, dialect)
     except table.TextError as error:
         raise Failed(f"{options.input.name}: {error}") from None
     if options.out:
@@ -72,7 +85,8 @@ def printed(options, out, front, data, records, names, dialect):
             raise Failed(f"{options.out}: {inputs.reason(error)}") from None
     if options.json:
         report = Report(out, front)
-        report.add(dumps({**start(options.input, data), "verdict": "dumped", "dialect": dialects.in_json(dialect), "text": text,
+        told = {"f_strings": [{"node": node, "format": text_of(parts)} for node, parts in fstrings]} if options.input.script else {}
+        report.add(dumps({**start(options.input, data), "verdict": "dumped", "dialect": dialects.in_json(dialect), "text": text, **told,
                           "records": [record_json(node, record, names) for node, record in enumerate(table.decode(records))]}))
         report.end(status=0)
     elif not options.out:

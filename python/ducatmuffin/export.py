@@ -2,7 +2,7 @@
 proved of the table alone.
 
     table, names = export(source, "a.star", dialect)     raises ScriptError with line, column and message
-    table, names, targets = joined_export([zone, line])  raises ScriptError, whose `at` says which script it is of
+    made = joined_export([zone, line])                   raises ScriptError, whose `at` says which script it is of
     pieces = cut([zone, line], statements)               several tables, where one would be larger than a table may be
 
 Equal names share their bytes. A script of one statement is that statement, one of several a Statements at the root. Several scripts are a Statements
@@ -12,7 +12,7 @@ from typing import List, NamedTuple, Optional, Sequence, Set, Tuple
 
 from . import numbers
 from .lexer import NotStarlark
-from .parser import DICT_COMP, LIST_COMP, NAMED, STATEMENTS, Node, TooDeep, joined, parse
+from .parser import DICT_COMP, F_STRING, LIST_COMP, NAMED, STATEMENTS, Node, TooDeep, joined, parse
 from .places import Source
 from .table import RECORD, Piece, weight
 
@@ -21,10 +21,11 @@ WEIGHTS = [weight(kind) for kind in range(256)]
 
 
 class Exported(NamedTuple):
-    """A table, its names, and what it does not mark: the nodes that are targets of comprehensions."""
+    """A table, its names, and what it does not hold: the nodes that are targets of comprehensions, and each f-string by its node and its parts."""
     table: bytes
     names: bytes
     targets: List[int]
+    fstrings: List[Tuple[int, list]]
 
 
 class ScriptError(ValueError):
@@ -89,7 +90,7 @@ def preorder(root: Node) -> Tuple[List[Node], List[int]]:
 
 
 def table_of(root: Node, files: Sequence[int]) -> Exported:
-    """The records of a tree, its name bytes and the targets of its comprehensions. `files` has the source file number of each top-level statement:
+    """The table of a tree. `files` has the source file number of each top-level statement:
     of the children of a root Statements, or of the root."""
     nodes, depths = preorder(root)
     names, known, reached, over = [], {b"": 0}, 0, None
@@ -112,7 +113,8 @@ def table_of(root: Node, files: Sequence[int]) -> Exported:
         first = next(number for number, depth in enumerate(depths) if depth > numbers.DEPTH)
         raise Beyond(first, nodes[first], f"a table has at most {numbers.DEPTH}, and here are {deepest} levels below each other")
     sizes = _sizes(nodes)
-    return Exported(_records(nodes, sizes, _files(root, sizes, files), known), b"".join(names), _targets(nodes))
+    fstrings = [(number, node.parts) for number, node in enumerate(nodes) if node.kind == F_STRING]
+    return Exported(_records(nodes, sizes, _files(root, sizes, files), known), b"".join(names), _targets(nodes), fstrings)
 
 
 def _sizes(nodes):
@@ -257,7 +259,7 @@ def cut(sources: Sequence[bytes], scripts: Sequence[List[Node]], first: int = 1)
 
 
 def joined_export(sources: Sequence[bytes], first: int = 1) -> Exported:
-    """One table of scripts, numbered from `first` on, its names, and the targets of their comprehensions. Raises ScriptError."""
+    """One table of scripts, numbered from `first` on. Raises ScriptError."""
     scripts = []
     for at, source in enumerate(sources):
         try:
@@ -269,7 +271,7 @@ def joined_export(sources: Sequence[bytes], first: int = 1) -> Exported:
 
 
 def exported(source: bytes) -> Exported:
-    """The table of a script, its names, and the targets of its comprehensions. Raises ScriptError."""
+    """The table of a script. Raises ScriptError."""
     return joined_export([source])
 
 

@@ -189,6 +189,7 @@ class Piece(NamedTuple):
     table: bytes
     names: bytes
     targets: List[int]
+    fstrings: List[Tuple[int, list]]
     first: int
     shift: int
 
