@@ -60,11 +60,13 @@ def properties(entry, told):
     return {**more, "dialect": entry["dialect"]} if entry.get("dialect") else more
 
 
+def note(told, words, name, scripts):
+    place = place_of(told, name, scripts)
+    return place, placed(told, words, place)
+
+
 def earlier_of(told, number, name, scripts):
-    if "earlier" not in told:
-        return []
-    place = place_of({"file": told["file"], **told["earlier"]}, name, scripts)
-    return [(place, placed({"file": told["file"], **told["earlier"]}, f"the earlier {REPEATED[number]}", place))]
+    return [note(told["earlier"], f"the earlier {REPEATED[number]}", name, scripts)] if "earlier" in told else []
 
 
 def of_error(entry, told, name, scripts):
@@ -76,8 +78,7 @@ def of_error(entry, told, name, scripts):
 def of_pair(entry, pair, name, scripts):
     """A call that is refused, or is not judged."""
     call, def_ = pair["call"], pair["def"]
-    notes = [(place_of(told, name, scripts), what) for told, what in ((call, "the call"), (def_, "the def")) if "begin" in told]
-    notes = [(place, placed(told, words, place)) for (place, words), told in zip(notes, (call, def_))]
+    notes = [note(told, words, name, scripts) for told, words in ((call, "the call"), (def_, "the def")) if "begin" in told]
     if "not_judged" in pair:
         return Finding(NOT_JUDGED, f"not judged: {pair['not_judged']}", place_of(call, name, scripts), notes[1:], **properties(entry, call))
     told = pair["refused"]

@@ -1,6 +1,7 @@
 """The inputs of ducat: folders, lists of names, scripts, links, FIFOs, devices, and how much of a file is read."""
 import json
 import os
+import re
 import threading
 import time
 import unittest
@@ -12,6 +13,19 @@ from ducatmuffin import inputs, numbers
 
 PLAN = 'def plan(trains):\n    return trains\n\nfor train in ["7"]:\n    plan(train)\n'
 CLEAN = "nodes 34\nerrors 0\n"
+
+
+class Hook(unittest.TestCase):
+    def test_the_hook_takes_the_names_of_scripts(self):
+        """.pre-commit-hooks.yaml has a pattern of paths; pre-commit looks for it with re.search."""
+        with open(os.path.join(support.ROOT, ".pre-commit-hooks.yaml"), encoding="utf-8") as file:
+            text = file.read()
+        pattern = re.search(r"(?m)^  files: '(.*)'$", text)[1]
+        self.assertIn("\n  language: system\n", text)
+        for folder in ("", "zone/", "a.star/"):
+            for name in ("plan.star", "a.bzl", "a.sky", "MODULE.bazel", "x.BUILD", "BUILD", "BUCK", "WORKSPACE", "a.table", "BUILDER", "MYBUILD", "a.star.txt",
+                         "BUILD.txt", "xBUCK", "plan.STAR", "star", "aBUILD"):
+                self.assertEqual(bool(re.search(pattern, folder + name)), inputs.is_script(folder + name), folder + name)
 
 
 class Scripts(CommandTest):
