@@ -245,12 +245,12 @@ class Checker:
                 return (answer.earlier + piece.shift, *span_of(piece.table, answer.earlier))
         return None
 
-    def nodes_of(self, found, error):
-        """The table and the node in it of an error; the module pass does not list it, so it is looked for by its span."""
+    def nodes_of(self, found, error, kinds=(50, 53, 54)):
+        """The table and the node in it of an error; the module pass does not list it, so it is looked for by its kind and span."""
         if error.node is not None:
             return [found.place_of(error.node)]
         return [(piece, node) for piece in found.pieces for node, row in enumerate(reasons.Records(piece.table, piece.names).rows)
-                if row[0] in (50, 53, 54) and (row[7], row[4], row[5]) == (error.file, error.begin, error.end)]
+                if row[0] in kinds and (row[7], row[4], row[5]) == (error.file, error.begin, error.end)]
 
     # ---- printing
 
