@@ -117,6 +117,7 @@ STEPS = [
         lane=BESIDE,
         counts=r"(\d+) tests passed, (\d+) failed",
     ),
+    Step("speed", "ducat checks scripts no slower than 1.2 times flake8, and its cost is linear", python("-I", "-S", "python/tests/speed_scripts.py"), ("flake8",), BESIDE),
     Step("programs", "tablecheck and tablerescue read, print and replace what they must", python("tools/try_programs.py"), lane=BESIDE),
     Step("against", "ducat prints and writes what the two programs do, byte by byte", python("-I", "-S", "python/tests/against_programs.py"), lane=BESIDE),
     Step("shown", "the commands print what the documents show", python("tools/shown.py"), lane=BESIDE),

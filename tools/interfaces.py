@@ -112,6 +112,7 @@ def python():
         + "".join(f"{'OUT_WORDS' if name == 'WORDS' else name} = {limits[name]}\n" for name in SHARED),
         listed("NUMBERS", "the name of each number", [(int(number), f'"{name}"') for number, name, _, _ in numbers]),
         listed("WORDS", "what each number means", [(int(number), f'"{in_c(words)}"') for number, _, words, _ in numbers]),
+        listed("GIVEN", "the jobs that give each number", [(int(number), f'"{jobs}"') for number, _, _, jobs in numbers]),
         listed("KINDS", "the name and the class of each kind", [(int(number), f'("{name}", "{own}")') for number, name, own in kinds]),
         "# the number of each kind by its name\nKIND = {name: number for number, (name, _) in KINDS.items()}\n",
         listed("DIALECTS", "the dialects that have a name", [(name.lower(), f"bytes({row})") for name, row in dialects().items()])

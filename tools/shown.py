@@ -16,7 +16,15 @@ import tempfile
 ROOT = pathlib.Path(__file__).resolve().parent.parent
 DOCUMENTS = ("docs/COMMANDS.md",)
 MARKED = re.compile(r"^<!-- shown: (.+) -->\n((?:    .*\n|\n(?=    ))+)", re.M)
-FIRST = ("README.md", "./ducat check samples/example.table", "    nodes 6\n    13 1 14 15\n    55 1 20 25\n    errors 2\n")
+FIRST = ("README.md", "./ducat check samples/example.star", """    nodes 6
+    samples/example.star:1:15: 13 a parameter without a default stands after one that has a default
+        def f(a, b=1, c):
+                      ^
+    samples/example.star:2:3: 55 `break` stands outside a `for` loop
+          break
+          ^^^^^
+    errors 2
+""")
 
 # what the bindings of two joined scripts are, from their table and from the scripts themselves
 RECORDED = [("samples/joined.bound", "./ducat bind --script 1=samples/joined.1.star --script 2=samples/joined.2.star samples/joined.table"),

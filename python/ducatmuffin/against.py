@@ -6,7 +6,7 @@ out is what the second answer lacks. An answer that is no part of the other one 
 """
 from . import check, dialects
 from .library import Refusal
-from .numbers import DIALECTS, NODE_BYTES
+from .numbers import DIALECTS
 from .output import encoded, head
 
 SWITCHES = ("enable_def", "enable_lambda", "enable_load", "enable_keyword_only_arguments", "enable_positional_only_arguments", "enable_types",
@@ -82,18 +82,17 @@ class Comparer(check.Checker):
         self.against = against
 
     def judge(self, found):
-        table, names, own = found.table, found.names, found.dialect
+        own = found.dialect
         found.move, found.from_ = None, own
-        before = self.library.module(table, names, own or b"")
+        before = self.in_pieces(found, self.library.module, own)
         if type(before) is Refusal:
-            self.refused(found, before)
             return
         found.dialect = self.against
-        after, audit = self.library.module(table, names, self.against), self.library.audit(table, names, self.against)
+        after = self.in_pieces(found, self.library.module, self.against)
         if type(after) is Refusal:
-            self.refused(found, after)
             return
-        found.nodes, found.move = len(table) // NODE_BYTES, Move(row(own), row(self.against))
+        audit = self.in_pieces(found, self.library.audit, self.against)
+        found.nodes, found.move = check.nodes_of(found), Move(row(own), row(self.against))
         if found.move.closes:
             found.verdict = check.NO_OPENING
             return
@@ -110,7 +109,7 @@ class Comparer(check.Checker):
             return super().lines(found)
         move, script = found.move, found.one.script
         said = f", from {dialects.told(found.from_, script)} to {dialects.name_of(row(self.against))}" if self.options.explain else ""
-        lines = [f"nodes {found.nodes}{said}"]
+        lines = [check.counted(found) + said]
         if found.verdict == check.NO_OPENING:
             return joined([*lines, f"no opening, closes {', '.join(move.closes)}"])
         lines += [f"opens {', '.join(move.opens) or 'nothing'}", PASS]

@@ -6,11 +6,11 @@ import os
 import re
 
 from . import dialects, inputs, reasons
-from .check import (MADE, NO_TABLE, STEP, SYNTAX, Found, complaints, evidence_of, failed_json, hint_of, is_joined, made, node_json, read_parts,
-                    span_json, start, syntax_errors, syntax_lines)
+from .check import (MADE, NO_TABLE, SAYS_THE_STEP, STEP, SYNTAX, Found, complaints, evidence_of, failed_json, hint_of, in_one_table, is_joined, node_json, parsed,
+                    read_parts, span_json, start, syntax_errors, syntax_lines)
 from .library import Refusal
 from .numbers import KIND, KINDS
-from .output import Failed, Report, dumps, encoded, named, say, shown, visible
+from .output import PLAIN, Failed, named, say, shown, visible
 from .scripts import NONE, files_of
 from .table import children, decode, name_of
 
@@ -27,10 +27,10 @@ OTHER = "a call of an expression, which is bound to no def"
 
 
 class Tree:
-    """A sound table by its defs and calls."""
+    """A sound table by its defs and calls. `number` gives the number of a node in JSON, which is its own but for a table of two statements."""
 
-    def __init__(self, table, names):
-        self.table, self.names, self.records = table, names, decode(table)
+    def __init__(self, table, names, number=lambda node: node):
+        self.table, self.names, self.records, self.number = table, names, decode(table), number
 
     def of_kind(self, kind):
         return [node for node, record in enumerate(self.records) if record.kind == kind]
@@ -112,12 +112,7 @@ class Places:
 
     def text(self, node):
         source = self.source(node)
-        if not source:
-            return self.of_table(node)
-        begin, end = self.tree.span(node)
-        first, more, _ = source.bytes[begin:end].partition(b"\n")
-        text = shown(first)
-        return text[:LONGEST - 1] + "…" if more or len(text) > LONGEST else text
+        return text_in(source, *self.tree.span(node)) if source else self.of_table(node)
 
     def of_table(self, node):
         """The text of an argument or a call, as far as its table tells it."""
@@ -129,15 +124,24 @@ class Places:
     def place(self, node):
         if node not in self.known:
             source = self.source(node)
-            if source:
-                where = "{}:{}".format(*source.line_column(self.tree.records[node].begin))
-                self.known[node] = f"{visible(source.path)}:{where}" if self.named else where
-            else:
-                self.known[node] = self.bytes.place(node)
+            self.known[node] = place_in(source, self.tree.records[node].begin, self.named) if source else self.bytes.place(node)
         return self.known[node]
 
     def refused(self, refusal):
         return f"refused {refusal.number}" + (f", {self.text(refusal.node)} ({self.place(refusal.node)})" if refusal.node is not None else "")
+
+
+def text_in(source, begin, end):
+    """A part of a script in one line."""
+    first, more, _ = source.bytes[begin:end].partition(b"\n")
+    text = shown(first)
+    return text[:LONGEST - 1] + "…" if more or len(text) > LONGEST else text
+
+
+def place_in(source, begin, named):
+    """The line and column of a byte, after the script's name where that is wanted."""
+    where = "{}:{}".format(*source.line_column(begin))
+    return f"{visible(source.path)}:{where}" if named else where
 
 
 class Binder:
@@ -202,7 +206,7 @@ class Binder:
     def in_json(self, answer, call, def_, scripts):
         told = {"call": self.node(call, scripts), "def": self.node(def_, scripts)}
         if type(answer) is Refusal:
-            carried = {} if answer.node is None else {**node_json(self.tree.table, answer.node),
+            carried = {} if answer.node is None else {**node_json(self.tree.table, answer.node, self.tree.number(answer.node)),
                                                       **span_json(scripts.of(answer.file), answer.file, answer.begin, answer.end)}
             if answer.earlier is not None:
                 carried["earlier"] = self.node(answer.earlier, scripts)
@@ -216,7 +220,7 @@ class Binder:
         return told
 
     def node(self, node, scripts):
-        return {"node": node, **place_json(self.tree, node, scripts)}
+        return {"node": self.tree.number(node), **place_json(self.tree, node, scripts)}
 
 
 def place_json(tree, node, scripts):
@@ -257,7 +261,12 @@ class Run:
     def file(self, one):
         """One input."""
         found = Found(one)
-        if not (self.made(found) if one.script else self.read(found)):
+        if one.script and not self.parsed(found):
+            return
+        if one.script and not in_one_table(found):
+            self.wide(found)
+            return
+        if not (self.sound(found) if one.script else self.read(found)):
             return
         tree = Tree(found.table, found.names)
         try:
@@ -280,17 +289,28 @@ class Run:
         found.table, found.names, found.dialect, found.scripts = answer.table, answer.names, answer.dialect, self.options.scripts
         return True
 
-    def made(self, found):
-        """Makes the table of a script, or of several, and says whether it is accepted."""
+    def parsed(self, found):
+        """Reads a script, or several, and says whether all are Starlark."""
         found.dialect = self.options.dialect
-        if not (read_parts(found) and made(found)):
+        if not (read_parts(found) and parsed(found)):
             self.not_starlark(found) if found.verdict == SYNTAX else self.failed(found)
             return False
+        return True
+
+    def sound(self, found):
+        """Says whether the table of a script is accepted."""
         answer = self.library.table(found.table, found.names)
         if type(answer) is Refusal:
             self.refused(found, answer)
             return False
         return True
+
+    def add(self, found, entry):
+        """Adds the JSON of an input to the report, in its format."""
+        from .formats import rendered
+        data = rendered(self.options.format, entry, found.one.name, found.scripts or NONE)
+        if data:
+            self.report.add(data)
 
     # ---- what cannot be bound
 
@@ -300,7 +320,7 @@ class Run:
         if self.report:
             told = failed_json(found) if message is None else {"failed": visible(message)}
             verdict = "no table" if found.verdict == NO_TABLE else "unreadable"
-            self.report.add(dumps({**start(found), **joined_evidence(found), "verdict": verdict, **told}))
+            self.add(found, {**start(found), **joined_evidence(found), "verdict": verdict, **told})
             return
         for line in complaints(found) if message is None else [message]:
             say(line)
@@ -308,11 +328,11 @@ class Run:
     def not_starlark(self, found):
         self.worse(1)
         if self.report:
-            self.report.add(dumps({**start(found), **evidence_of(found), "verdict": "syntax", "errors": syntax_errors(found)}))
+            self.add(found, {**start(found), **evidence_of(found), "verdict": "syntax", "errors": syntax_errors(found)})
             return
         self.header(found.one)
         for part in found.syntax:
-            self.out.lines(syntax_lines(part.source, part.syntax))
+            self.out.lines(syntax_lines(part.source, part.syntax, self.options.paint))
 
     def refused(self, found, refusal):
         self.worse(2)
@@ -320,15 +340,16 @@ class Run:
         why = reasons.why_file(self.library, found.data, refusal, len(found.data) < inputs.TABLE_MOST) if not one.script else reasons.Why()
         if self.report:
             told = {"number": refusal.number, "words": refusal.words, **why.in_json()}
-            self.report.add(dumps({**start(found), **evidence_of(found), "verdict": "refused", "refused": told}))
+            self.add(found, {**start(found), **evidence_of(found), "verdict": "refused", "refused": told})
             return
         said = f"refused {refusal.number}: {refusal.words}{why}"
         self.header(one)
+        paint = self.options.paint.refusal
         if self.options.explain:
             hint = hint_of(found)
-            self.out.lines([said] + ([f"hint: {hint}"] if hint else []))
+            self.out.lines([paint(said)] + ([f"hint: {hint}"] if hint else []))
         else:
-            self.out.lines([f"refused {refusal.number}"])
+            self.out.lines([paint(f"refused {refusal.number}")])
             self.out.flush()
             say(f"{one.name}: {said}")
 
@@ -336,7 +357,7 @@ class Run:
 
     def header(self, one):
         if self.many:
-            self.out.write(encoded(visible(one.name)) + b":\n")
+            self.out.lines([self.options.paint.bold(visible(one.name) + ":")])
 
     def table(self, found, tree):
         if self.options.call is not None:
@@ -348,7 +369,7 @@ class Run:
 
     def told(self, found, **more):
         table = {"table": MADE} if found.one.script else {}
-        self.report.add(dumps({**start(found), **evidence_of(found), **table, "dialect": dialects.in_json(found.dialect), **more}))
+        self.add(found, {**start(found), **evidence_of(found), **table, "dialect": dialects.in_json(found.dialect), **more})
 
     def pair(self, found, tree):
         """A call and a def by their nodes."""
@@ -357,7 +378,7 @@ class Run:
         answer = binder.bound(call, def_)
         self.worse(status_of(answer))
         if not self.report:
-            self.out.lines(binder.lines(answer, call, def_, Bytes(tree), self.options.explain))
+            self.out.lines(map(self.options.paint.refusal, binder.lines(answer, call, def_, Bytes(tree), self.options.explain)))
             return
         verdict = ("bound", "refused", "refused")[status_of(answer)]
         if status_of(answer) == 2:
@@ -394,6 +415,10 @@ class Run:
                 "form": "name" if name is not None else {CALL: "call", DOT: "method"}.get(tree.records[node + 1].kind, "expression"),
                 "arguments": len(tree.arguments(node))}
 
+    def bound(self, head, lines):
+        paint = self.options.paint
+        self.out.lines([paint.bold(head), *("    " + paint.refusal(line) for line in lines)])
+
     def script(self, found, tree, places):
         """All calls of a name with the defs of that name, and the calls that have none."""
         binder, accepted, refused, alone, pairs = Binder(self.library, tree), 0, 0, [], []
@@ -409,7 +434,7 @@ class Run:
                     pairs.append(binder.in_json(answer, call, def_, places.scripts))
                 else:
                     lines = binder.lines(answer, call, def_, places, self.options.explain)
-                    self.out.lines([f"{head}, def {places.place(def_)}", *("    " + line for line in lines)])
+                    self.bound(f"{head}, def {places.place(def_)}", lines)
             if not defs:
                 alone.append(call)
                 if not self.report:
@@ -427,18 +452,49 @@ class Run:
                 say(f"{found.one.name}: {note}")
 
 
+    def wide(self, found):
+        """The same over a script that is larger than a table may be: each pair in a table of its two top-level statements."""
+        from .wide import Wide
+        wide, alone, pairs = Wide(self.library, found), [], []
+        totals = {"bound": 0, "refused": 0, "without_def": 0, "not_judged": 0}
+        if not self.report:
+            self.header(found.one)
+        for call in wide.calls:
+            defs = wide.defs.get(call.name, [])
+            for pair in (wide.pair(call, def_) for def_ in defs):
+                totals[pair.judged] += 1
+                self.worse(pair.status)
+                if self.report:
+                    pairs.append(pair.in_json())
+                else:
+                    self.bound(f"{wide.head(call)}, def {wide.place(pair.def_)}", pair.lines(self.options.explain))
+            if not defs:
+                alone.append(call)
+                if not self.report:
+                    self.out.lines([f"{wide.head(call)}, {call.unnamed if call.name is None else NO_DEF}"])
+        totals["without_def"] = len(alone)
+        if self.report:
+            verdict = "not judged" if totals["not_judged"] else "refused" if totals["refused"] else "bound"
+            self.told(found, verdict=verdict, **script_json(found), pairs=pairs, without_def=[wide.call_json(call) for call in alone], totals=totals)
+        else:
+            self.out.lines(["bound {bound}, refused {refused}, without a def {without_def}, not judged {not_judged}".format(**totals)])
+
+
 class Options:
-    def __init__(self, files, explain=False, json=False, dialect=None, scripts=None, call=None, def_=None):
-        self.files, self.explain, self.json, self.dialect = files, explain, json, dialect
-        self.scripts, self.call, self.def_ = scripts, call, def_
+    """How a run binds and prints; `json` and `paint` as in check.Options."""
+
+    def __init__(self, files, explain=False, json=False, dialect=None, scripts=None, call=None, def_=None, format=None, paint=PLAIN):
+        self.files, self.explain, self.dialect, self.format = files, explain, dialect, format or ("json" if json else "text")
+        self.json, self.scripts, self.call, self.def_, self.paint = self.format != "text", scripts, call, def_, paint
 
 
 def run(library, options, out, front):
     """Binds the calls of all files, and returns the exit status."""
     one = Run(library, options, out)
     if options.json:
-        one.report = Report(out, front)
-    elif any(file.script for file in options.files):
+        from .formats import report
+        one.report = report(options.format, out, front)
+    if options.format not in SAYS_THE_STEP and any(file.script for file in options.files):
         say(STEP)
     for file in options.files:
         one.file(file)

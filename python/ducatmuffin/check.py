@@ -1,27 +1,32 @@
 """ducat check: table files and scripts, each with every job (or, with --module, as the program of document 01), in one process or several."""
 from . import dialects, inputs, reasons, scripts
-from .library import Error, Refusal
+from .library import Error, Errors, Refusal
 from .numbers import KINDS, NODE_BYTES, WORDS
-from .output import Progress, Report, dumps, encoded, named, say, tell, visible
+from .output import PLAIN, Progress, encoded, named, say, tell, visible
 from .places import Source
+from .table import Piece
 
 ALL = "the whole checker accepts: the module pass, and every job on every node that it fits"
 MODULE = "none of 10 to 19 and 50 to 61; 20 to 45 (calls, targets, types) are not looked for with --module"
 STEP = "a script's table is made by ducat's own parser, and that step is not proved"
 MADE = "made from the script by ducat's own parser; that step is not proved"
+SYNTAX_WORD = "syntax:"  # with which the message of what is not Starlark begins
 TEXT = frozenset(range(32, 127)) | frozenset(range(128, 256)) | frozenset(b"\t\n\r\f")
 VERDICTS = ("accepted", "errors", "refused", "unreadable", "no table", "syntax", "no opening", "other dialect")
 ACCEPTED, ERRORS, REFUSED, UNREADABLE, NO_TABLE, SYNTAX, NO_OPENING, OTHER = range(8)  # no opening is against.py's
 STATUS = (0, 1, 2, 2, 2, 1, 2, 2)
+SAYS_THE_STEP = ("json", "sarif")  # the formats that say of a script that its table is not proved
 REPEATED = {11: "parameter", 22: "argument"}  # the errors that have an earlier place
 
 
 class Options:
-    """How a run checks and prints."""
+    """How a run checks and prints. `json` is whether an input's JSON is made, for whatever `format` but text; `paint` colours the text."""
 
-    def __init__(self, module=False, explain=False, quiet=False, bad_only=False, json=False, many=False, dialect=None, scripts=None):
+    def __init__(self, module=False, explain=False, quiet=False, bad_only=False, json=False, many=False, dialect=None, scripts=None, format=None,
+                 paint=PLAIN):
         self.module, self.explain, self.quiet, self.bad_only = module, explain, quiet, bad_only
-        self.json, self.many, self.dialect, self.scripts = json, many, dialect, scripts
+        self.format = format or ("json" if json else "text")
+        self.json, self.many, self.dialect, self.scripts, self.paint = self.format != "text", many, dialect, scripts, paint
         self.by_books = False  # the dialect is the books', also of table files
 
 
@@ -43,12 +48,22 @@ class Part:
 
 
 class Found:
-    """What is found in one input. `parts` are its scripts, where it is one or several."""
+    """What is found in one input. `parts` are its scripts, where it is one or several. `pieces` are its tables: one, or several of a script that is
+    larger than a table may be. The numbers of nodes are those that one table of the whole would have."""
 
     def __init__(self, one):
-        self.one, self.verdict, self.nodes, self.errors, self.total, self.targets = one, ACCEPTED, None, (), 0, ()
+        self.one, self.verdict, self.nodes, self.errors, self.total, self.pieces = one, ACCEPTED, None, (), 0, ()
         self.parts = [Part(file, script) for file, script in inputs.scripts_of(one)] if one.script else []
-        self.refusal = self.why = self.message = self.data = self.dialect = self.table = self.names = self.scripts = None
+        self.refusal = self.why = self.message = self.data = self.dialect = self.table = self.names = self.scripts = self.statements = None
+
+    def hold(self, table, names, targets=(), fstrings=()):
+        """One table, and what a script has besides: the targets of comprehensions and the f-strings, as export.Exported has them."""
+        self.table, self.names, self.pieces = table, names, [Piece(table, names, targets, fstrings, 0, 0)]
+
+    def place_of(self, node):
+        """The table that has a node, and the node's number in it."""
+        piece = next((piece for piece in reversed(self.pieces) if piece.first <= node), self.pieces[0])
+        return piece, node - piece.shift
 
     @property
     def failed(self):
@@ -76,26 +91,44 @@ def read_parts(found):
     return True
 
 
-def made(found):
-    """Makes the table of the scripts that were read, and says whether there is one."""
+def parsed(found):
+    """Reads the statements of the scripts, and says whether all are Starlark."""
     from . import export
-    statements = []
+    found.statements = []
     for part in found.parts:
         try:
-            statements.append(export.statements_of(part.data))
+            found.statements.append(export.statements_of(part.data))
         except export.ScriptSyntaxError as error:
             part.syntax = error
         except export.ScriptError as error:
             part.failed, part.place = error.message, (error.line, error.column)
-    if not found.failed and not found.syntax:
-        try:
-            found.table, found.names, found.targets = export.join([part.data for part in found.parts], statements, found.parts[0].file)
-            return True
-        except export.ScriptError as error:
-            part = found.parts[error.at]
-            part.failed, part.place = error.message, (error.line, error.column)
-    found.verdict, found.total = (NO_TABLE, 0) if found.failed else (SYNTAX, len(found.syntax))
-    return False
+    if found.failed or found.syntax:
+        found.verdict, found.total = (NO_TABLE, 0) if found.failed else (SYNTAX, len(found.syntax))
+        return False
+    return True
+
+
+def in_one_table(found):
+    """Makes one table of the statements, and says whether it is no larger than a table may be."""
+    from . import export
+    try:
+        found.hold(*export.join([part.data for part in found.parts], found.statements, found.parts[0].file))
+        return True
+    except export.ScriptTooLarge:
+        return False
+
+
+def in_tables(found):
+    """Makes several tables of the statements, and says whether each statement fits into one."""
+    from . import export
+    try:
+        found.pieces = export.cut([part.data for part in found.parts], found.statements, found.parts[0].file)
+    except export.ScriptTooLarge as error:
+        part = found.parts[error.at]
+        found.verdict, part.failed, part.place = NO_TABLE, error.message, (error.line, error.column)
+        return False
+    found.table, found.names = found.pieces[0][:2]
+    return True
 
 
 class Checker:
@@ -103,7 +136,7 @@ class Checker:
 
     def __init__(self, library, options):
         self.library, self.options = library, options
-        self.plain = not (options.explain or options.json or options.scripts or options.by_books)
+        self.plain = not (options.explain or options.json or options.scripts or options.by_books or options.paint.on)
 
     def answer(self, one):
         if self.plain and self.options.module and not one.script:
@@ -142,7 +175,7 @@ class Checker:
 
     def check_scripts(self, found):
         found.dialect = self.options.dialect
-        if read_parts(found) and made(found):
+        if read_parts(found) and parsed(found) and (in_one_table(found) or in_tables(found)):
             self.judge(found)
 
     def check_file(self, found):
@@ -155,7 +188,8 @@ class Checker:
         if type(answer) is Refusal:
             self.refused(found, answer)
             return
-        found.table, found.names, found.dialect = answer.table, answer.names, answer.dialect
+        found.hold(answer.table, answer.names)
+        found.dialect = answer.dialect
         if self.options.by_books and not self.of_the_books(found):
             return
         self.judge(found)
@@ -171,21 +205,42 @@ class Checker:
 
     def judge(self, found):
         job = self.library.module if self.options.module else self.library.audit
-        answer = job(found.table, found.names, found.dialect or b"")
+        answer = self.in_pieces(found, job, found.dialect)
         if type(answer) is Refusal:
-            self.refused(found, answer)
             return
-        found.nodes, found.total, found.errors = len(found.table) // NODE_BYTES, answer.total, answer.errors
+        found.nodes, found.total, found.errors = nodes_of(found), answer.total, answer.errors
         if not self.options.module:
-            more = self.in_comprehensions(found)
+            more = [*self.in_comprehensions(found), *self.in_f_strings(found)]
             found.total += len(more)
             found.errors = sorted([*found.errors, *more], key=order)
         found.verdict = ERRORS if found.total else ACCEPTED
 
+    def in_pieces(self, found, job, dialect):
+        """The errors of a job in all tables of an input, or its refusal of one, which is noted."""
+        total, errors = 0, []
+        for piece in found.pieces:
+            answer = job(piece.table, piece.names, dialect or b"")
+            if type(answer) is Refusal:
+                found.table, found.names = piece[:2]
+                self.refused(found, answer)
+                return answer
+            if len(found.pieces) == 1 and not piece.shift:
+                return answer
+            total += answer.total
+            errors += [shifted(error, piece.shift) for error in answer.errors]
+        return Errors(total, tuple(errors))
+
     def in_comprehensions(self, found):
         """The errors of the targets of a script's comprehensions, which a table does not mark: the target job on each."""
-        answers = [self.library.target(found.table, found.names, node) for node in found.targets]
-        return [Error(answer.number, answer.file, answer.begin, answer.end, answer.node) for answer in answers if type(answer) is Refusal]
+        answers = [(self.library.target(piece.table, piece.names, node), piece.shift) for piece in found.pieces for node in piece.targets]
+        return [Error(answer.number, answer.file, answer.begin, answer.end, answer.node + shift)
+                for answer, shift in answers if type(answer) is Refusal]
+
+    def in_f_strings(self, found):
+        """62 for each f-string of a script, which a table does not mark, where the writer of format texts says that the dialect has none."""
+        return [Error(62, file_of(piece.table, node), *span_of(piece.table, node), node + piece.shift)
+                for piece in found.pieces for node, parts in piece.fstrings
+                if self.library.fstring_write(parts, found.dialect).notice]
 
     def refused(self, found, refusal):
         found.verdict, found.refusal = REFUSED, refusal
@@ -200,26 +255,27 @@ class Checker:
         """The span of the first parameter or argument of the name that stands twice, and its node."""
         if error.number not in REPEATED:
             return None
-        for node in self.nodes_of(found, error):
-            parent = parent_of(found.table, node)
+        for piece, node in self.nodes_of(found, error):
+            parent = parent_of(piece.table, node)
             job = self.library.params if error.number == 11 else self.library.call
-            answer = job(found.table, found.names, parent)
+            answer = job(piece.table, piece.names, parent)
             if type(answer) is Refusal and (answer.number, answer.node) == (error.number, node) and answer.earlier is not None:
-                return (answer.earlier, *span_of(found.table, answer.earlier))
+                return (answer.earlier + piece.shift, *span_of(piece.table, answer.earlier))
         return None
 
     def entries(self, found, error):
         """For 19 how many entries the list has, marks counted; otherwise None."""
         if error.number != reasons.TOO_MANY:
             return None
-        return max((reasons.entries(found.table, found.names, node) for node in self.nodes_of(found, error, reasons.LISTS)), default=None)
+        places = self.nodes_of(found, error, reasons.LISTS)
+        return max((reasons.entries(piece.table, piece.names, node) for piece, node in places), default=None)
 
     def nodes_of(self, found, error, kinds=(50, 53, 54)):
-        """The node of an error; the module pass does not list it, so it is looked for by its span."""
+        """The table and the node in it of an error; the module pass does not list it, so it is looked for by its kind and span."""
         if error.node is not None:
-            return [error.node]
-        rows = reasons.Records(found.table, found.names).rows
-        return [node for node, row in enumerate(rows) if row[0] in kinds and (row[7], row[4], row[5]) == (error.file, error.begin, error.end)]
+            return [found.place_of(error.node)]
+        return [(piece, node) for piece in found.pieces for node, row in enumerate(reasons.Records(piece.table, piece.names).rows)
+                if row[0] in kinds and (row[7], row[4], row[5]) == (error.file, error.begin, error.end)]
 
     # ---- printing
 
@@ -229,13 +285,14 @@ class Checker:
             answer.err = self.complaint(found) if found.verdict in (UNREADABLE, NO_TABLE, OTHER) else b""
             return answer
         if self.options.json:
-            answer.out = dumps(self.entry(found))
+            from .formats import rendered
+            answer.out = rendered(self.options.format, self.entry(found), found.one.name, found.scripts or scripts.NONE)
             return answer
         answer.out, answer.err = self.header(found.one) + self.lines(found), self.complaint(found)
         return answer
 
     def header(self, one):
-        return encoded(visible(one.name)) + b":\n" if self.options.many else b""
+        return encoded(self.options.paint.bold(visible(one.name) + ":") + "\n") if self.options.many else b""
 
     def complaint(self, found):
         """What goes to standard error: why there is no answer, or why the file is refused."""
@@ -254,14 +311,15 @@ class Checker:
         if found.verdict in (UNREADABLE, NO_TABLE, OTHER):
             return b""
         if found.verdict == SYNTAX:
-            lines = [line for part in found.syntax for line in syntax_lines(part.source, part.syntax)]
+            lines = [line for part in found.syntax for line in syntax_lines(part.source, part.syntax, self.options.paint)]
             return encoded("\n".join([*lines, f"errors {found.total}"]) + "\n")
         if found.verdict == REFUSED:
+            paint = self.options.paint.refusal
             if not explain:
-                return f"refused {found.refusal.number}\n".encode()
+                return encoded(paint(f"refused {found.refusal.number}") + "\n")
             hint = hint_of(found)
-            return encoded(self.refusal(found) + "\n" + (f"hint: {hint}\n" if hint else ""))
-        lines = [f"nodes {found.nodes}" + (f", dialect {dialects.told(found.dialect, found.one.script)}" if explain else "")]
+            return encoded(paint(self.refusal(found)) + "\n" + (f"hint: {hint}\n" if hint else ""))
+        lines = [counted(found) + (f", dialect {dialects.told(found.dialect, found.one.script)}" if explain else "")]
         for error in found.errors:
             lines += self.error(found, error)
         covered = f": {MODULE if self.options.module else ALL}" if explain and not found.total else ""
@@ -279,19 +337,19 @@ class Checker:
     def error(self, found, error):
         """The lines of an error."""
         number, file, begin, end, node = error
-        held = self.scripts_of(found)
-        source, note = held.of(file), held.note(file)
+        held, paint = self.scripts_of(found), self.options.paint
+        source, note, red = held.of(file), held.note(file), paint.red(str(number))
         if not source and not note and not self.options.explain:
-            return [f"{number} {file} {begin} {end}"]
-        kind = f", node {node}, kind {kind_words(found.table, node)}" if self.options.explain and node is not None else ""
+            return [f"{red} {file} {begin} {end}"]
+        kind = f", node {node}, kind {kind_words(*found.place_of(node))}" if self.options.explain and node is not None else ""
         many = self.entries(found, error)
         words = WORDS[number] + kind + (f": {reasons.too_many(many)}" if many else "")
         earlier = self.earlier(found, error)
         if source:
-            lines = placed(source, begin, end, f"{number} {words}")
-            return lines + (placed(source, *earlier[1:], f"note: the earlier {REPEATED[number]}") if earlier else [])
+            lines = placed(source, begin, end, f"{red} {words}", paint)
+            return lines + (placed(source, *earlier[1:], f"note: the earlier {REPEATED[number]}", paint) if earlier else [])
         before = f"; the earlier {REPEATED[number]} is node {earlier[0]}, bytes {earlier[1]} to {earlier[2]}" if earlier else ""
-        return [f"{number} {file} {begin} {end}: {words}{before}"] + ([f"    note: {visible(note)}"] if note else [])
+        return [f"{red} {file} {begin} {end}: {words}{before}"] + ([f"    note: {visible(note)}"] if note else [])
 
     # ---- JSON
 
@@ -313,6 +371,8 @@ class Checker:
         held = self.scripts_of(found)
         if not one.script:
             entry.update(held.in_json())
+        if len(found.pieces) > 1:
+            entry["tables"] = len(found.pieces)
         entry.update(nodes=found.nodes, errors=[self.in_json(found, error) for error in found.errors])
         return entry
 
@@ -326,7 +386,8 @@ class Checker:
         if note:
             told["note"] = visible(note)
         if node is not None:
-            told.update(node_json(found.table, node))
+            piece, at = found.place_of(node)
+            told.update(node_json(piece.table, at, node))
         earlier = self.earlier(found, error)
         if earlier:
             told["earlier"] = {"node": earlier[0], **span_json(source, file, *earlier[1:])}
@@ -395,14 +456,35 @@ def span_of(table, node):
     return (position, position + length) if kind == reasons.NAMED_ARGUMENT else (begin, end)
 
 
-def kind_words(table, node):
-    kind = table[NODE_BYTES * node]
+def file_of(table, node):
+    """The source file number of a node."""
+    return reasons.RECORD.unpack_from(table, NODE_BYTES * node)[7]
+
+
+def kind_words(piece, node):
+    kind = piece.table[NODE_BYTES * node]
     return f"{kind} {KINDS[kind][0]}"
 
 
-def node_json(table, node):
+def node_json(table, node, number=None):
+    """A node and its kind in JSON; `number` is its number in the table of the whole, where that is another one."""
     kind = table[NODE_BYTES * node]
-    return {"node": node, "kind": {"number": kind, "name": KINDS[kind][0]}}
+    return {"node": node if number is None else number, "kind": {"number": kind, "name": KINDS[kind][0]}}
+
+
+def shifted(error, shift):
+    """An error with the node's number of the whole."""
+    return error if error.node is None else error._replace(node=error.node + shift)
+
+
+def nodes_of(found):
+    """The number of nodes that one table of the whole has."""
+    last = found.pieces[-1]
+    return len(last.table) // NODE_BYTES + last.shift
+
+
+def counted(found):
+    return f"nodes {found.nodes}" + (f", in {len(found.pieces)} tables" if len(found.pieces) > 1 else "")
 
 
 def order(error):
@@ -432,20 +514,22 @@ def evidence_of(found):
     return evidence(data, found.one.script) if data is not None else {}
 
 
-def placed(source, begin, end, words):
+def placed(source, begin, end, words, paint=PLAIN):
     """A place in a script, with its line and carets."""
     path = visible(source.path)
     if source.is_beyond(begin, end):
-        return [f"{path}: {words}", f"    (bytes {begin} to {end}, beyond the script's {len(source.bytes)})"]
+        return [f"{paint.bold(path + ':')} {words}", f"    (bytes {begin} to {end}, beyond the script's {len(source.bytes)})"]
     line, column = source.line_column(begin)
-    return [f"{path}:{line}:{column}: {words}", *(f"    {text}".rstrip() for text in source.drawn(begin, end))]
+    text, carets = source.drawn(begin, end)
+    return [f"{paint.bold(f'{path}:{line}:{column}:')} {words}", f"    {text}".rstrip(), paint.red(f"    {carets}".rstrip())]
 
 
-def syntax_lines(source, error):
+def syntax_lines(source, error, paint=PLAIN):
     """Why a script is not Starlark, as an error of it. At the end of a script there is nothing to draw."""
+    words = paint.red(SYNTAX_WORD) + error.message[len(SYNTAX_WORD):]
     if error.begin < error.end:
-        return placed(source, error.begin, error.end, error.message)
-    return [f"{visible(source.path)}:{error.line}:{error.column}: {error.message}"]
+        return placed(source, error.begin, error.end, words, paint)
+    return [f"{paint.bold(f'{visible(source.path)}:{error.line}:{error.column}:')} {words}"]
 
 
 def syntax_json(error, file):
@@ -492,9 +576,12 @@ def run(library, options, found, jobs, out, front, checker=None, totals=None):
     those of a plain check."""
     from .workers import answers
     checker, totals = checker or Checker(library, options), totals or Totals()
-    if any(one.script for one in found) and not options.json and not options.quiet:
+    if any(one.script for one in found) and options.format not in SAYS_THE_STEP and not options.quiet:
         say(STEP)
-    report = Report(out, front) if options.json and not options.quiet else None
+    report = None
+    if options.json and not options.quiet:
+        from .formats import report as report_in
+        report = report_in(options.format, out, front)
     progress = Progress(len(found), not options.quiet)
     out.before = progress.clear
     given = answers(checker, found, jobs)

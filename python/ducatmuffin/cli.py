@@ -3,9 +3,9 @@ import os
 import sys
 
 from . import __version__, files, signals
-from .output import Failed, Out, OutputFailed, flush_error, head, say, text_of
+from .output import Failed, Out, OutputFailed, flush_error, head, paint_of, say, text_of
 
-COMMANDS = ("check", "bind", "rescue", "write", "table", "dump", "book", "build")
+COMMANDS = ("check", "bind", "rescue", "write", "table", "dump", "book", "rule", "diff", "build")
 
 USAGE = """usage: ducat COMMAND [OPTION...] ...
        ducat COMMAND --help
@@ -18,8 +18,11 @@ Checks Starlark scripts and their node tables with a proved library.
   ducat write TABLE NAMES [--dialect D] -o OUT
                                                a table file from raw bytes
   ducat table INPUT... -o OUT                  a table file from scripts, or from the text form of a table
+  ducat table SCRIPT... --compare FILE         whether a table file is the table of scripts
   ducat dump FILE                              the text form of a table file
   ducat book COMMAND ...                       dialects by zone and setting: lookup, add, remove, list, show, new
+  ducat rule NUMBER                            what a number means, which jobs give it, and an example
+  ducat diff OLD.json NEW.json                 the errors that only one of two runs has
   ducat build [--unproved]                     prove and compile the library
 
   --version     print the version, and which library is used
@@ -69,11 +72,13 @@ permit all that the input's own dialect does, the one line is
 The exit status is that of DIALECT: 0 no job has an error in it; 1 one has; 2 also where it is no opening."""
 
 CHECK_MORE = """No more than 59,905 bytes of a table file are read, one more than the largest has, and no more than 16,777,216
-of a script. A script's table is made by ducat's own parser; that step is not proved.
+of a script. A script's table is made by ducat's own parser; that step is not proved. A script of more than
+2,100 nodes or 8,064 name bytes is checked in several tables, cut between top-level statements; `nodes N, in M
+tables` says so.
 
-Exit status: 0 no errors; 1 errors; 2 an input is refused or cannot be read, a script is larger than a table
-may be, nothing is found in a PATH, wrong usage, no library, or output that cannot be written. Of several
-inputs the highest counts."""
+Exit status: 0 no errors; 1 errors; 2 an input is refused or cannot be read, a top-level statement is larger
+than a table may be, nothing is found in a PATH, wrong usage, no library, or output that cannot be written. Of
+several inputs the highest counts."""
 
 BIND = """Says which argument of each call reaches which parameter. FILE is a table file or a script; `-` is standard
 input.
@@ -90,9 +95,12 @@ of a call, such as outer(1)(2), and a method call are listed as such and bound t
 Which argument reaches which parameter is proved. Which call is paired with which def is not: a name that
 means another function at the call is not seen."""
 
-BIND_MORE = """Exit status: 0 every call is accepted; 1 a call or def is refused (10 to 84), or a script is not Starlark; 2 a
-file is refused or cannot be read, a node is not a Call or not a Def (6), the script is not the table's or is
-larger than a table may be, wrong usage, no library, or output that cannot be written."""
+BIND_MORE = """A script that is larger than a table may be is bound too: a call and a def in a table of their two top-level
+statements. A pair that exceeds a limit of a table is listed as not judged.
+
+Exit status: 0 every call is accepted; 1 a call or def is refused (10 to 84), or a script is not Starlark; 2 a
+file is refused or cannot be read, a node is not a Call or not a Def (6), a pair is not judged, the script is not
+the table's, wrong usage, no library, or output that cannot be written."""
 
 RESCUE = """Writes to OUT a sound table file with what can be kept of the damaged table file IN (`-` is standard input),
 and prints
@@ -108,7 +116,7 @@ and then OUT is as it was. A sound file is written as it is, without the bytes a
 RESCUE_MORE = """Exit status: 0 nothing is lost (dropped 0 and bytes 0); 1 something is lost; 2 it is refused, IN cannot be
 read or OUT not written, wrong usage, or no library."""
 
-ATOMIC = """OUT is at each moment the old file or the whole new one."""
+ATOMIC = """OUT is at each moment the old file or the whole new one. A script's name as OUT is refused."""
 
 WRITE = """Writes to OUT the table file of a node table (24 bytes for each node) and of the bytes that its names are in,
 and prints
@@ -123,10 +131,19 @@ read by ducat's own parser; that step is not proved.
 
 Several scripts are joined: the statements of the first, then those of the second, and so on, become one table.
 Each statement has the source file number of its script, which counts from 1, or from --number, in the order
-given, and positions in that script.
+given, and positions in that script. A script or a join of more than 2,100 nodes or 8,064 name bytes has no table:
+its size is said, and nothing is written.
 
-Exit status: 0 OUT is written; 1 a script is not Starlark; 2 an INPUT is refused or cannot be read, OUT cannot
-be written, or wrong usage."""
+With --compare FILE nothing is written. This prints
+  same N                          FILE is the table of the scripts: N nodes
+  differs, node N: ...            the first record that differs, and the fields in which it does
+  differs, nodes N and M          one of them has more nodes
+  differs, dialect D and E        all records are equal
+Equal names may have their bytes at other places in FILE. The dialect is compared where --dialect or a
+configuration gives one.
+
+Exit status: 0 OUT is written, or FILE is the same; 1 a script is not Starlark, or FILE differs; 2 an INPUT or
+FILE is refused or cannot be read, a script is larger than a table may be, OUT cannot be written, or wrong usage."""
 
 DUMP = """Prints the text form of a table file, or of a script's table. `ducat table` of it gives the same bytes back.
 `-` is standard input."""
@@ -144,6 +161,21 @@ Dialects by zone and setting, in a zone book and a line book.
   ducat book new BLOCKS -o BOOK                            make an empty book
 
 Exit status: 0; 1 for 97 and 98; 2 otherwise."""
+
+RULE = """Prints what NUMBER means, which jobs give it, and an example that gives it: a script, or a table in text form where no
+script does. NUMBER may also be a name, as NO_DEFAULT_AFTER_DEFAULT."""
+
+DIFF = """Compares the JSON of two runs of `ducat check`, or of `ducat bind` (--json; docs/JSON.md). `-` is standard input. This
+prints
+  new: PATH:LINE:COLUMN: NUMBER and its words     an error that only NEW has
+  gone: ...                                       an error that only OLD has
+  new N, gone N, same N                           how many these are, and how many both have
+An error is the same where its input, its number, its source file number and its bytes are the same. One that has
+moved in its script is gone from its old place and new at the other. An input that is refused, is not read or has
+no table counts as an error.
+
+Exit status: 0 nothing is new; 1 something is; 2 one of them cannot be read or is not the JSON of a whole run, they
+are not two of the same command with the same options, or wrong usage."""
 
 BUILD = """Proves and compiles the library, if it is not current. Every command does this by itself when it must; an
 installed ducat never does."""
@@ -184,9 +216,23 @@ def restored(value, names):
     return names[int(value[1:])] if isinstance(value, str) and value.startswith("\0") else value
 
 
-def add_format(parser):
-    parser.add_argument("--format", choices=("text", "json"), default="text", help="what is printed (docs/JSON.md describes the JSON)")
+def add_format(parser, more=()):
+    parser.add_argument("--format", choices=("text", "json", *more), default="text", help="what is printed (docs/JSON.md describes the JSON"
+                        + ("; gcc: a line of an error; github: a workflow command; sarif: SARIF 2.1.0)" if more else ")"))
     parser.add_argument("--json", dest="format", action="store_const", const="json", help="short for --format json")
+
+
+OTHERS = ("gcc", "github", "sarif")  # the formats of check and bind besides text and JSON
+
+
+def add_color(parser):
+    parser.add_argument("--color", choices=("auto", "always", "never"), default="auto",
+                        help="colours in text: auto (the default) has them on a terminal, unless NO_COLOR is set")
+
+
+def machine(format_):
+    """Whether the JSON of a run is made, as it is or for another format."""
+    return format_ != "text"
 
 
 def add_output(parser, required=True):
@@ -254,7 +300,8 @@ def check_parser():
     add_stdin_filename(parser)
     parser.add_argument("--jobs", metavar="N", type=positive, default=1, help="use N processes; the output is the same")
     add_config(parser)
-    add_format(parser)
+    add_format(parser, OTHERS)
+    add_color(parser)
     return parser
 
 
@@ -293,7 +340,8 @@ def bind_parser():
     add_list(parser)
     add_stdin_filename(parser)
     add_config(parser)
-    add_format(parser)
+    add_format(parser, OTHERS)
+    add_color(parser)
     return parser
 
 
@@ -320,7 +368,8 @@ def write_parser():
 def table_parser():
     parser = make_parser("table", TABLE, ATOMIC)
     parser.add_argument("inputs", metavar="INPUT", nargs="+")
-    add_output(parser)
+    add_output(parser, required=False)
+    parser.add_argument("--compare", metavar="FILE", help="write nothing: say whether the table file FILE is the table of the scripts")
     parser.add_argument("--number", metavar="N", type=file_number, help="the source file number of the first script; the others follow (default: 1)")
     parser.add_argument("--parts", action="store_true",
                         help="OUT is a folder, new or empty: a table file of each top-level statement, 0001.table and so on")
@@ -340,6 +389,21 @@ def dump_parser():
     add_as_script(parser)
     add_stdin_filename(parser)
     add_config(parser)
+    add_format(parser)
+    return parser
+
+
+def rule_parser():
+    parser = make_parser("rule", RULE)
+    parser.add_argument("number", metavar="NUMBER")
+    add_format(parser)
+    return parser
+
+
+def diff_parser():
+    parser = make_parser("diff", DIFF)
+    parser.add_argument("old", metavar="OLD.json")
+    parser.add_argument("new", metavar="NEW.json")
     add_format(parser)
     return parser
 
@@ -489,9 +553,10 @@ def check(words, out):
     for path, excluded in search.empty:
         say(f"{path}: no table file and no script is found in this folder" + (f"; {excluded:,} excluded" if excluded else ""))
     from . import check as job
-    json = options.format == "json"
+    json = machine(options.format)
     many = len(search.found) > 1 or bool(search.empty) or any(one.path not in options.paths for one in search.found if one.path is not None)
-    how = job.Options(options.module, options.explain and not json, options.quiet, options.bad_only, json, many, configured.dialect, scripts)
+    how = job.Options(options.module, options.explain and not json, options.quiet, options.bad_only, json, many, configured.dialect, scripts,
+                      options.format, paint_of(options.color, out.terminal))
     how.by_books = bool(options.books)
     if options.against is not None:
         from . import against
@@ -542,8 +607,9 @@ def bind(words, out):
     library = open_library()
     configured.say()
     from . import bind as job
-    json = options.format == "json"
-    how = job.Options(found, options.explain, json, configured.dialect, scripts, options.call, options.def_)
+    json = machine(options.format)
+    how = job.Options(found, options.explain, json, configured.dialect, scripts, options.call, options.def_, options.format,
+                      paint_of(options.color, out.terminal))
     return job.run(library, how, out, head("bind", library, configured.in_json()) if json else None)
 
 
@@ -575,9 +641,12 @@ def write(words, out):
     return job.run(library, options, out, head("write", library) if options.json else None)
 
 
-def named_out(name):
+def named_out(name, as_script=()):
+    from . import inputs
     if name in ("", "-"):
         raise Failed("-o needs the name of a file")
+    if inputs.is_script(name, as_script):
+        raise Failed(f"-o {name}: this is a script's name, and nothing is written over a script")
 
 
 def one_input(options, words_for_table):
@@ -592,9 +661,12 @@ def one_input(options, words_for_table):
 
 def table(words, out):
     options = parse(table_parser(), words)
-    named_out(options.out)
-    once(*options.inputs)
+    if (options.out is None) == (options.compare is None):
+        raise Failed("one of -o and --compare is needed (`ducat table --help` says how)")
+    once(*options.inputs, *([options.compare] if options.compare is not None else []))
     configured = Configured(options)
+    if options.out is not None:
+        named_out(options.out, configured.as_script)
     found = [input_of(name, options.stdin_filename, configured.as_script) for name in options.inputs]
     texts = [one for one in found if not one.script]
     if texts and (configured.given or options.number is not None):
@@ -602,8 +674,10 @@ def table(words, out):
                      "--number is for scripts: a text has its own source file numbers")
     if texts and len(found) > 1:
         raise Failed(f"several INPUTs must be scripts, and {texts[0].name} is taken as the text form of a table")
+    if options.compare is not None and (texts or options.parts):
+        raise Failed("--compare is for scripts" if texts else "--compare is for one table: --parts makes several")
     numbered(len(found), options.number or 1)
-    finished(options, inputs=found, number=options.number or 1, dialect=None if texts else configured.dialect)
+    finished(options, inputs=found, number=options.number or 1, dialect=None if texts else configured.dialect, given=configured.given)
     from . import tabling as job
     library = open_library()
     configured.say()
@@ -612,9 +686,9 @@ def table(words, out):
 
 def dump(words, out):
     options = parse(dump_parser(), words)
-    if options.out is not None:
-        named_out(options.out)
     configured = one_input(options, "a table file")
+    if options.out is not None:
+        named_out(options.out, configured.as_script)
     from . import dump as job
     library = open_library()
     configured.say()
@@ -638,6 +712,27 @@ def book(words, out):
     if words[0] == "add":
         options.dialect = dialect_word(options.dialect, "DIALECT") or b""
     return job.RUN[words[0]](open_library(), options, out)
+
+
+def rule(words, out):
+    """No library is needed for this."""
+    options = parse(rule_parser(), words)
+    from . import rules as job
+    number = job.of(options.number)
+    if options.format == "json":
+        from .output import Report
+        Report(out, head("rule", None)).end(rule=job.in_json(number), status=0)
+    else:
+        out.lines(job.lines(number))
+    return 0
+
+
+def diff(words, out):
+    """No library is needed for this."""
+    options = finished(parse(diff_parser(), words))
+    once(options.old, options.new)
+    from . import diff as job
+    return job.run(options, out, head("diff", None) if options.json else None)
 
 
 def build(words, out):

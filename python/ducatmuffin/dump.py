@@ -1,4 +1,6 @@
-"""ducat dump: the text form of a table file, or of a script's table. `ducat table` makes the same bytes of it."""
+"""ducat dump: the text form of a table file, or of a script's table. `ducat table` makes the same bytes of it. The f-strings of a script are comments."""
+import json
+
 from . import dialects, files, inputs, reasons, table
 from .check import MADE, STEP, evidence
 from .library import Refusal
@@ -36,7 +38,9 @@ def of_script(library, options, data):
     if not options.json:
         say(STEP)
     try:
-        return None, None, (*export.export(data, options.input.name, options.dialect), options.dialect)
+        made = export.exported(data)
+        texts = [(node, library.fstring_write(parts, None).data.decode()) for node, parts in made.fstrings]
+        return None, None, (made.table, made.names, options.dialect, texts)
     except export.ScriptError as error:
         raise no_table(options.input, error) from None
 
@@ -60,9 +64,14 @@ def start(one, data):
     return {**named(one.name), "kind": "script" if one.script else "table", **evidence(data, one.script), **made}
 
 
-def printed(options, out, front, data, records, names, dialect):
+def comments(fstrings):
+    """A line of each f-string, with its format text, which a table does not hold."""
+    return "".join(f"# node {node}, the format text of an f-string: {json.dumps(text)}\n" for node, text in fstrings)
+
+
+def printed(options, out, front, data, records, names, dialect, fstrings=()):
     try:
-        text = table.print_text(records, names, dialect)
+        text = comments(fstrings) + table.print_text(records, names, dialect)
     except table.TextError as error:
         raise Failed(f"{options.input.name}: {error}") from None
     if options.out:
@@ -72,7 +81,8 @@ def printed(options, out, front, data, records, names, dialect):
             raise Failed(f"{options.out}: {inputs.reason(error)}") from None
     if options.json:
         report = Report(out, front)
-        report.add(dumps({**start(options.input, data), "verdict": "dumped", "dialect": dialects.in_json(dialect), "text": text,
+        told = {"f_strings": [{"node": node, "format": text} for node, text in fstrings]} if options.input.script else {}
+        report.add(dumps({**start(options.input, data), "verdict": "dumped", "dialect": dialects.in_json(dialect), "text": text, **told,
                           "records": [record_json(node, record, names) for node, record in enumerate(table.decode(records))]}))
         report.end(status=0)
     elif not options.out:

@@ -54,10 +54,11 @@ class NotStarlark(Exception):
 
 
 class Tokens:
-    """The tokens of a script: their kinds and where they begin and end. `opened` are the brackets that are not closed."""
+    """The tokens of a script: their kinds and where they begin and end. `opened` are the brackets that are not closed, `fstrings` the f-strings by where
+    they begin."""
 
     def __init__(self, script):
-        self.script, self.kinds, self.begins, self.ends, self.error, self.opened = script, [], [], [], None, []
+        self.script, self.kinds, self.begins, self.ends, self.error, self.opened, self.fstrings = script, [], [], [], None, [], {}
 
     def add(self, kind, begin, end):
         self.kinds.append(kind)
@@ -66,12 +67,13 @@ class Tokens:
 
 
 class Field:
-    """An f-string: its quote, whether it is raw, where it begins, and the number of brackets that are open where its field begins."""
+    """An f-string: its quote, whether it is raw, where it begins, the number of brackets that are open where its field begins, and its texts as they are
+    written, before, between and after its fields."""
 
-    __slots__ = ("quote", "raw", "begin", "depth")
+    __slots__ = ("quote", "raw", "begin", "depth", "texts")
 
     def __init__(self, quote, raw, begin, depth):
-        self.quote, self.raw, self.begin, self.depth = quote, raw, begin, depth
+        self.quote, self.raw, self.begin, self.depth, self.texts = quote, raw, begin, depth, []
 
 
 def tokens(script):
@@ -211,7 +213,8 @@ class Lexer:
         raw = b"r" in prefix
         if b"f" in prefix:
             self.found.add(FSTRING, begin, end)
-            self.fields.append(Field(quote, raw, begin, None))
+            self.found.fstrings[begin] = field = Field(quote, raw, begin, None)
+            self.fields.append(field)
             return self.text(end)
         stops, kind = STOPS[quote], BYTES if b"b" in prefix else STRING
         at = end
@@ -226,7 +229,7 @@ class Lexer:
 
     def text(self, at):
         """The text of the innermost f-string, to its next field or its end."""
-        field, script = self.fields[-1], self.script
+        field, script, first = self.fields[-1], self.script, at
         stops = TEXT_STOPS[field.quote]
         while True:
             stop = stops.search(script, at)
@@ -236,6 +239,7 @@ class Lexer:
             if text == field.quote:
                 self.found.add(FSTRING_END, begin, end)
                 self.fields.pop()
+                field.texts.append(script[first:begin])
                 return end
             if text == b"\\":
                 at = self.escape(begin, field.raw, FSTRING, field.begin)
@@ -244,6 +248,7 @@ class Lexer:
             elif text == b"{":
                 self.found.add(FIELD, begin, end)
                 field.depth = len(self.opened)
+                field.texts.append(script[first:begin])
                 return end
             else:
                 raise NotStarlark("a `}` that closes no field of the f-string: `}}` is the character", begin)

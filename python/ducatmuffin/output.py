@@ -43,6 +43,38 @@ def encoded(text):
     return text.encode("utf-8", "surrogateescape")
 
 
+class Paint:
+    """Colours of a terminal, by the escape sequences of ECMA-48, or none."""
+
+    REFUSAL = re.compile(r"refused \d+|not judged")
+
+    def __init__(self, on=False):
+        self.on = on
+
+    def _put(self, code, text):
+        return f"\x1b[{code}m{text}\x1b[0m" if self.on and text else text
+
+    def bold(self, text):
+        return self._put("1", text)
+
+    def red(self, text):
+        return self._put("1;31", text)
+
+    def refusal(self, line):
+        """A line that may begin with a refusal."""
+        found = self.REFUSAL.match(line) if self.on else None
+        return self.red(found[0]) + line[found.end():] if found else line
+
+
+PLAIN = Paint()
+
+
+def paint_of(word, terminal, environment=os.environ):
+    """The colours that --color names: `auto` has them on a terminal, and NO_COLOR, unless it is empty, takes them away."""
+    dull = environment.get("NO_COLOR") or environment.get("TERM") == "dumb"
+    return Paint(word == "always" or word == "auto" and terminal and not dull)
+
+
 def write_all(descriptor, data):
     while data:
         data = data[os.write(descriptor, data):]

@@ -8,6 +8,7 @@ expression as a target, so that the proved checker judges them (10 to 19, 20 to 
 A node has a kind of docs/kinds.tsv. Its span begins with its first token and ends with its last; parentheses have no node, and belong to
 the span of the node around them.
 """
+from .fstring import parts_of
 from .lexer import (BANG, BYTES, DEDENT, END, ERROR, FIELD, FIELD_END, FLOAT, FSTRING, FSTRING_END, INDENT, INT, NAME, NEWLINE, STRING, NotStarlark,
                     tokens)
 from .numbers import KIND
@@ -47,9 +48,10 @@ class TooDeep(Exception):
 
 
 class Node:
-    """A statement, expression, parameter or argument. A comprehension also has `targets`, those of its children that follow a `for`."""
+    """A statement, expression, parameter or argument. A comprehension also has `targets`, those of its children that follow a `for`, and an f-string
+    `parts`, as the module `fstring` has them."""
 
-    __slots__ = ("kind", "begin", "end", "children", "detail", "name", "targets")
+    __slots__ = ("kind", "begin", "end", "children", "detail", "name", "targets", "parts")
 
     def __init__(self, kind, begin, end, children=(), detail=0, name=b""):
         self.kind, self.begin, self.end, self.children, self.detail, self.name = kind, begin, end, children, detail, name
@@ -528,23 +530,32 @@ class Parser:
             children.append(self.expression())
 
     def f_string(self):
-        begin, children = self.begin, []
+        begin, children, conversions = self.begin, [], []
         self.advance()
         while self.kind == FIELD:
             self.advance()
             if self.kind == FIELD_END:
                 raise NotStarlark(FIELDS, self.begin)
             children.append(self.expression())
-            if self.kind == BANG:
-                self.advance()
-                if self.kind != NAME or self.script[self.begin:self.ends[self.at]] not in (b"r", b"s"):
-                    raise NotStarlark(FIELDS, self.begin)
-                self.advance()
+            conversions.append(self.conversion())
             if self.kind != FIELD_END:
                 raise self.unexpected("`}`", FIELDS)
             self.advance()
         self.expect(FSTRING_END)
-        return Node(F_STRING, begin, self.ended, children)
+        found, written = Node(F_STRING, begin, self.ended, children), self.tokens.fstrings[begin]
+        found.parts = parts_of(written.texts, conversions, written.quote, written.raw)
+        return found
+
+    def conversion(self):
+        """The letter after the `!` of a field, or None."""
+        if self.kind != BANG:
+            return None
+        self.advance()
+        letter = self.script[self.begin:self.ends[self.at]] if self.kind == NAME else None
+        if letter not in (b"r", b"s"):
+            raise NotStarlark(FIELDS, self.begin)
+        self.advance()
+        return letter
 
     # ---- errors
 

@@ -183,6 +183,17 @@ class Text(NamedTuple):
         return made
 
 
+class Piece(NamedTuple):
+    """A table of some top-level statements. Their first node is node `first` of the table that all statements would have, and the number of each node
+    is there larger by `shift`."""
+    table: bytes
+    names: bytes
+    targets: List[int]
+    fstrings: List[Tuple[int, list]]
+    first: int
+    shift: int
+
+
 def weight(kind):
     """What a record adds to the depth: a statement or an expression one, a parameter or an argument nothing."""
     return int(kind < KIND["Normal"])

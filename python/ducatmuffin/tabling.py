@@ -17,6 +17,9 @@ def run(library, options, out, front):
             raise Failed(f"{one.name}: {inputs.reason(error)}") from None
     if options.parts:
         return run_parts(library, options, out, front, datas)
+    if options.compare is not None:
+        from . import comparing
+        return comparing.run(library, options, out, front, datas, table_of(options, datas), entries(options, datas))
     made, dialect = of_scripts(library, options, datas) if found[0].script else of_text(library, options, datas[0])
     if isinstance(made, tuple):
         return write.refused(options, out, front, entries(options, datas), *made)
@@ -36,14 +39,19 @@ def no_table(one, error):
     return Failed(f"{one.name}:{error.line}:{error.column}: {error.message}", 1 if isinstance(error, export.ScriptSyntaxError) else 2)
 
 
-def of_scripts(library, options, datas):
+def table_of(options, datas):
+    """The table of scripts, and its names."""
     from . import export
     if not options.json:
         say(STEP)
     try:
-        made = export.joined_export(datas, options.number)[:2]
+        return export.joined_export(datas, options.number)[:2]
     except export.ScriptError as error:
         raise no_table(options.inputs[error.at], error) from None
+
+
+def of_scripts(library, options, datas):
+    made = table_of(options, datas)
     answer = library.write(*made, options.dialect or b"")
     if type(answer) is Refusal:
         return (answer, reasons.why_table(*made, options.dialect, answer)), options.dialect

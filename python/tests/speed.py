@@ -54,10 +54,10 @@ int main(int count, char **names) {
 """
 
 
-def least(words, cwd):
+def least(words, cwd, runs=RUNS):
     """The least processor time of several runs, and what the last has printed."""
     best, out = None, b""
-    for _ in range(RUNS):
+    for _ in range(runs):
         before = resource.getrusage(resource.RUSAGE_CHILDREN)
         out = subprocess.run(words, cwd=cwd, stdin=subprocess.DEVNULL, stdout=subprocess.PIPE, stderr=subprocess.DEVNULL).stdout
         after = resource.getrusage(resource.RUSAGE_CHILDREN)

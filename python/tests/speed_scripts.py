@@ -3,8 +3,8 @@
     python3 -I -S python/tests/speed_scripts.py
 
 `ducat check` of 500 scripts of 85 lines takes at most 1.2 times as long as flake8 on the same files. The parser's cost is linear: a line of a script
-of 100,000 lines takes at most twice as long as one of 1,000 lines. Each is run several times, and the least counts.
-Exit status: 0 both hold; 1 one does not; 3 the second holds, and flake8 is missing.
+of 100,000 lines takes at most twice as long as one of 1,000 lines, also where the script is cut into tables. What is short is run several times, and the
+least counts. Exit status: 0 all hold; 1 one does not; 3 the others hold, and flake8 is missing.
 """
 import os
 import shutil
@@ -15,7 +15,7 @@ import time
 sys.path.insert(0, os.path.dirname(os.path.abspath(__file__)))
 from command import command  # noqa: E402
 from speed import least  # noqa: E402
-from ducatmuffin import parser  # noqa: E402
+from ducatmuffin import export, parser  # noqa: E402
 
 FILES, LINES, TIMES = 500, 85, 1.2
 SHORT, LONG, GROWTH = 1000, 100000, 2
@@ -46,22 +46,29 @@ def of_lines(lines):
     return (HEAD + "".join(DEF.format(at) for at in range((lines - HEAD.count("\n")) // DEF.count("\n")))).encode()
 
 
-def parsing(lines):
-    """The least processor time of a line."""
-    source = of_lines(lines)
+def timed(work, lines, times):
+    """The least processor time of so many runs, for a line, and what the last gives."""
     best = None
-    for _ in range(3):
+    for _ in range(times):
         began = time.process_time()
-        parser.parse(source)
+        given = work()
         took = time.process_time() - began
         best = took if best is None else min(best, took)
-    return best / source.count(b"\n")
+    return best / lines, given
+
+
+def costs(lines, times):
+    """What a line of a script costs: to parse, and to cut into tables."""
+    source = of_lines(lines)
+    parse, statements = timed(lambda: parser.parse(source), source.count(b"\n"), times)
+    return parse, timed(lambda: export.cut([source], [statements]), source.count(b"\n"), times)[0]
 
 
 def main():
-    short, long = parsing(SHORT), parsing(LONG)
-    linear = long <= GROWTH * short
-    print(f"speed: a line of {SHORT:,} lines {1e6 * short:.1f} us, of {LONG:,} lines {1e6 * long:.1f} us, of {GROWTH * 1e6 * short:.1f} us")
+    linear = True
+    for what, short, long in zip(("parsed", "cut into tables"), costs(SHORT, 5), costs(LONG, 1)):
+        linear = linear and long <= GROWTH * short
+        print(f"speed: {what}: a line of {SHORT:,} lines {1e6 * short:.1f} us, of {LONG:,} lines {1e6 * long:.1f} us, of {GROWTH * 1e6 * short:.1f} us")
     flake8 = shutil.which("flake8")
     with tempfile.TemporaryDirectory(prefix="ducat-test-") as room:
         source = of_lines(LINES)
@@ -70,8 +77,8 @@ def main():
         for name in names:
             with open(os.path.join(room, name), "wb") as file:
                 file.write(source)
-        ducat, told = least(command("check", "--dialect", "all", *names), room)
-        other = least([flake8, "--isolated", "-j", "1", *names], room)[0] if flake8 else None
+        ducat, told = least(command("check", "--dialect", "all", *names), room, 2)
+        other = least([flake8, "--isolated", "-j", "1", *names], room, 1)[0] if flake8 else None
     right = told.splitlines()[-1:] == [b"files %d, with errors 0, refused 0, not read 0, errors 0" % FILES]
     if not right:
         print("speed: ducat does not accept the scripts")

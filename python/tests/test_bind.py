@@ -240,8 +240,8 @@ bound 1, refused 0, without a def 3
         self.says(0, "defs 0, calls 0\n", "", "bind", self.made("plain", "(Break)"))
 
     def test_no_table(self):
-        path = self.put("large.star", "pass\n" * 2100)
-        self.says(2, "", f"{STEP}ducat: {path}:2100:1: a table has at most 2100, and here are 2101 nodes\n", "bind", path)
+        path = self.put("deep.star", "x = " + "(" * 300 + "1" + ")" * 300 + "\n")
+        self.assertIn("nested too deeply", self.says(2, "", None, "bind", path).err)
 
     def test_not_starlark(self):
         path = self.put("wrong.star", "def f(): pass\nf(1 2)\n")
@@ -306,8 +306,8 @@ class Json(BindTest):
         self.assertEqual((entry["pairs"][0]["refused"]["number"], entry["pairs"][0]["refused"]["earlier"]["node"]), (22, 7))
 
     def test_what_cannot_be_bound(self):
-        large, wrong = self.put("large.star", "pass\n" * 2100), self.put("wrong.star", "x = \n")
-        told = self.told(2, "samples/damaged.table", "samples/missing.table", large, wrong)
+        deep, wrong = self.put("deep.star", "x = " + "(" * 300 + "1" + ")" * 300 + "\n"), self.put("wrong.star", "x = \n")
+        told = self.told(2, "samples/damaged.table", "samples/missing.table", deep, wrong)
         self.assertEqual([entry["verdict"] for entry in told["inputs"]], ["refused", "unreadable", "no table", "syntax"])
         self.assertEqual(told["inputs"][3]["errors"], [{"number": None, "words": "syntax: unexpected end of line", "file": 1, "begin": 4, "end": 5,
                                                         "line": 1, "column": 5, "script": {"name": wrong}}])

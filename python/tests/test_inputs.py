@@ -1,6 +1,7 @@
 """The inputs of ducat: folders, lists of names, scripts, links, FIFOs, devices, and how much of a file is read."""
 import json
 import os
+import re
 import threading
 import time
 import unittest
@@ -12,6 +13,19 @@ from ducatmuffin import inputs, numbers
 
 PLAN = 'def plan(trains):\n    return trains\n\nfor train in ["7"]:\n    plan(train)\n'
 CLEAN = "nodes 34\nerrors 0\n"
+
+
+class Hook(unittest.TestCase):
+    def test_the_hook_takes_the_names_of_scripts(self):
+        """.pre-commit-hooks.yaml has a pattern of paths; pre-commit looks for it with re.search."""
+        with open(os.path.join(support.ROOT, ".pre-commit-hooks.yaml"), encoding="utf-8") as file:
+            text = file.read()
+        pattern = re.search(r"(?m)^  files: '(.*)'$", text)[1]
+        self.assertIn("\n  language: system\n", text)
+        for folder in ("", "zone/", "a.star/"):
+            for name in ("plan.star", "a.bzl", "a.sky", "MODULE.bazel", "x.BUILD", "BUILD", "BUCK", "WORKSPACE", "a.table", "BUILDER", "MYBUILD", "a.star.txt",
+                         "BUILD.txt", "xBUCK", "plan.STAR", "star", "aBUILD"):
+                self.assertEqual(bool(re.search(pattern, folder + name)), inputs.is_script(folder + name), folder + name)
 
 
 class Scripts(CommandTest):
@@ -113,13 +127,13 @@ errors 2
         self.says(1, f"{path}:1:8: syntax: expected `:`, found end of line\n    def f()\n           ^\nerrors 1\n", STEP, "check", path)
 
     def test_what_has_no_table(self):
-        path = self.put("large.star", "pass\n" * 2100)
-        said = f"ducat: {path}:2100:1: a table has at most 2100, and here are 2101 nodes\n"
+        path = self.put("large.star", "pass\n\nx = [" + "1, " * 2200 + "]\n")
+        said = f"ducat: {path}:3:1: this statement has 2,203 nodes, and a table has at most 2,100\n"
         self.says(2, "", f"{STEP}{said}", "check", path)
         self.says(2, "", said, "check", "--quiet", path)
         ran = self.run_ducat("check", "--json", path)
         entry, = json.loads(ran.out)["inputs"]
-        self.assertEqual((ran.status, entry["verdict"], entry["line"], entry["column"]), (2, "no table", 2100, 1))
+        self.assertEqual((ran.status, entry["verdict"], entry["line"], entry["column"]), (2, "no table", 3, 1))
         self.says(2, f"{path}:\nsamples/clean.table:\nnodes 34\nerrors 0\n"
                   "files 2, with errors 0, refused 0, not read 1, errors 0\n", None, "check", path, "samples/clean.table")
         deep = self.put("deep.star", "x = " + "(" * 300 + "1" + ")" * 300 + "\n")

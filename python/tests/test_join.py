@@ -130,11 +130,15 @@ class Check(JoinTest):
 
     def test_too_large_together(self):
         first, second = self.put("1.star", "pass\n" * 2000), self.put("2.star", "pass\n" * 100)
-        said = f"ducat: {second}:100:1: a table has at most 2100, and here are 2101 nodes\n"
-        self.says(2, "", STEP + said, "check", "--join", first, second)
+        self.says(0, "nodes 2101, in 2 tables\nerrors 0\n", STEP, "check", "--join", first, second)
         self.says(0, None, STEP, "check", first, second)
-        entry, = self.told(2, "check", "--join", first, second)["inputs"]
-        self.assertEqual((entry["verdict"], entry["scripts"][1]["line"], "failed" in entry["scripts"][0]), ("no table", 100, False))
+        entry, = self.told(0, "check", "--join", first, second)["inputs"]
+        self.assertEqual((entry["verdict"], entry["tables"], entry["nodes"]), ("accepted", 2, 2101))
+        large = self.put("large.star", "pass\nx = [" + "1, " * 2200 + "]\n")
+        said = f"ducat: {large}:2:1: this statement has 2,203 nodes, and a table has at most 2,100\n"
+        self.says(2, "", STEP + said, "check", "--join", first, large)
+        entry, = self.told(2, "check", "--join", first, large)["inputs"]
+        self.assertEqual((entry["verdict"], entry["scripts"][1]["line"], "failed" in entry["scripts"][0]), ("no table", 2, False))
         deep, wrong = self.put("deep.star", "x = " + "(" * 300 + "1" + ")" * 300), self.put("wrong.star", "x = \n")
         ran = self.says(2, "", None, "check", "--join", wrong, deep)
         self.assertIn("nested too deeply", ran.err)

@@ -36,7 +36,7 @@ class Words(CommandTest):
         for words, said in (((), "no command is named"), (("chek",), "there is no command chek"), (("--nothing",), "there is no option --nothing"),
                             (("check",), "no PATH is named"), (("check", "--nothing", "x"), "unrecognized arguments: --nothing"),
                             (("check", "--modul", "x"), "unrecognized arguments: --modul"), (("check", "--format", "xml", "x"), "invalid choice"),
-                            (("write", "a", "-o", "x"), "NAMES"), (("table", "a"), "-o/--output"), (("build", "x"), "unrecognized arguments: x"),
+                            (("write", "a", "-o", "x"), "NAMES"), (("table", "a"), "one of -o and --compare is needed"), (("build", "x"), "unrecognized arguments: x"),
                             (("check", "--x\nerrors"), "unrecognized arguments: --x?errors")):
             ran = self.run_ducat(*words)
             self.assertEqual((ran.status, ran.out, len(ran.err.splitlines())), (2, "", 1), (words, ran.err))
