@@ -1,5 +1,5 @@
--- `starlark_checks::starlark_book_remove` meets its contract: the answer of the removal, arm by arm, and the books as it
--- leaves them. Assumes nothing.
+-- `starlark_checks::starlark_book_remove` meets its contract: the answer of the removal, arm by arm, and the books as
+-- it leaves them. Assumes nothing.
 use mathlib.Core.Path.{refl, ap}
 use borrow.Author.Needs.{needs}
 use Rattle.books.specs.Change.{changed}
