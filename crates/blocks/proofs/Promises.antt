@@ -1,14 +1,14 @@
 -- Two answers that meet the promise of a public function coincide. Assumes nothing.
 use mathlib.Core.Path.{_≡_, refl}
 use mathlib.Core.List.{List, _++_}
-use Prim.Native.Nat.{ℕ, _%_, min}
+use Prim.Native.Nat.{ℕ, min}
 use Rattle.fields.specs.Field.{bytesOf}
 use Rattle.fields.proofs.Basics.{never}
 use Rattle.fields.proofs.Coincide.{coincide, coincide-by}
 use Rattle.blocks.specs.declared.Judged.{Judged}
 use Rattle.blocks.specs.declared.Judged.the-variants.{Passed, Refused}
 use Rattle.blocks.specs.Block.{contentBytes, weightOf, sumOf, judge, judged}
-use Rattle.blocks.specs.Laid.{laidAt}
+use Rattle.blocks.specs.Laid.{laidAt, lowByte}
 use Rattle.blocks.specs.Run.{blocksFor, judgeRun, contentIn}
 
 -- no two judgements mean the same
@@ -63,5 +63,5 @@ pub quad-one : (n : ℕ) {r s : List ℕ} → r ≡ bytesOf 4 n → s ≡ bytesO
 quad-one n = coincide
 
 -- of `low`
-pub low-one : (n : ℕ) {r s : ℕ} → r ≡ n % 256 → s ≡ n % 256 → r ≡ s
+pub low-one : (n : ℕ) {r s : ℕ} → r ≡ lowByte n → s ≡ lowByte n → r ≡ s
 low-one n = coincide

@@ -1,12 +1,12 @@
 // Bytes written into lent memory: bytes laid over others, and numbers as bytes, the low one first.
 ghost use mathlib.Core.Path.{_≡_};
 ghost use mathlib.Core.List.{_++_};
-ghost use Prim.Native.Nat.{_+_, _%_, _≤_};
+ghost use Prim.Native.Nat.{_+_, _≤_};
 ghost use lib.ListN.{length};
 ghost use lib.Dec.{leb};
 ghost use Rattle.fields.specs.Field.{bytesOf};
 ghost use Rattle.fields.specs.Over.{over};
-ghost use Rattle.blocks.specs.Laid.{laidAt};
+ghost use Rattle.blocks.specs.Laid.{laidAt, lowByte};
 
 // Lays bytes over others from a place on. Where they do not fit there, nothing changes.
 pub fn put(bytes: &[u8], at: usize, out: &mut [u8])
@@ -38,7 +38,7 @@ pub fn quad(n: u32) -> [u8; 4]
 
 // A number's low byte.
 pub fn low(n: usize) -> u8
-    ensures { λ r. ⌜ r ≡ n % 256 ⌝ }
+    ensures { λ r. ⌜ r ≡ lowByte n ⌝ }
 {
     (n % 256) as u8
 }

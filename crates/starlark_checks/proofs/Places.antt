@@ -18,7 +18,7 @@ use Rattle.books.specs.declared.Changed.the-variants.{Placed, Refused as Away}
 use Rattle.books.specs.Book.{placesOf, placeAt, entryAt, settingOf, soundLength, soundBook, twiceIn, seenIn}
 use Rattle.books.specs.Lookup.{fits, bestSetting, bestIn, told, lookupOf, looked}
 use Rattle.books.specs.Change.{firstIn, emptyAt, forAt, mayAdd, bookNumber, foundOr, placeToAdd, addIn, removeIn}
-use Rattle.books.specs.Change.{addOf, removeOf}
+use Rattle.books.specs.Change.{addOf, removeOf, blankOf}
 use Rattle.books.proofs.Changing.{first-inside}
 use Rattle.starlark_checks.specs.Words.{number, words, laid}
 
@@ -152,3 +152,16 @@ module _ (zb lb : List ℕ) (zone setting : ℕ) {l : Looked} (l-is : l ≡ look
   pub look-words : (v : Looked) → l ≡ v → (xs : List ℕ) {ys : List ℕ} → ys ≡ laid (words (looked v)) 0 xs
       → ys ≡ laid (words (looked (lookupOf zb lb zone setting))) 0 xs
   look-words v e xs ys-is = ys-is ∙ ap (λ (x : Looked). laid (words (looked x)) 0 xs) (sym e ∙ l-is)
+
+-- an empty book: 0, or 95 and nothing else
+module _ (n : ℕ) {a : ℕ} (a-is : a ≡ blankOf n) where
+  pub blank-made : a ≡ 0 → 0 ≡ blankOf n
+  blank-made e = sym e ∙ a-is
+
+  pub blank-refused : (a ≡ 0 → ⊥) → 95 ≡ blankOf n
+  unfolding blankOf
+  blank-refused other = go (soundLength n) (λ e. other (a-is ∙ e))
+    where
+      go : (t : Bool) → (if' {A = ℕ} t (λ _. 0) (λ _. 95) ≡ 0 → ⊥) → 95 ≡ if' {A = ℕ} t (λ _. 0) (λ _. 95)
+      go true f = absurd (f refl)
+      go false f = refl

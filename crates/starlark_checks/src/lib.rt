@@ -662,5 +662,9 @@ pub extern "C" fn starlark_book_blank(book: &mut [u8], out: &mut [u32; 12]) -> u
     ensures { λ r. ⌜ now (out .exit) ≡ laid [] 0 (now (out .entry)) ⌝ }
     ensures { λ r. ⌜ now (book .exit) ≡ blankAfter (now (book .entry)) ⌝ }
 {
-    books::blank(book)
+    let answer = books::blank(book);
+    if answer == 0 {
+        return 0;
+    }
+    numbers::BOOK_UNSOUND
 }

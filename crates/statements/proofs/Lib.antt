@@ -19,6 +19,7 @@ pub mod OpeningAudit
 pub mod TableFile
 pub mod Writer
 pub mod Rescue
+pub mod Books
 pub mod FilePass
 pub mod FString
 pub mod InC
