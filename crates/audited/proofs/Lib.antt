@@ -5,3 +5,4 @@ pub mod Roled
 pub mod Jobs
 pub mod Audited
 pub mod Checked
+pub mod Files

@@ -5,13 +5,13 @@
 -- Cite `bind-files`. Assumes nothing.
 use mathlib.Core.Path.{_≡_, refl}
 use mathlib.Core.Bool.{Bool, true, false, not, _&&_}
-use mathlib.Core.Logic.{_⊎_, inl, inr}
+use mathlib.Core.Logic.{_⊎_, inl, inr, ⊎-elim}
 use mathlib.Core.List.{List, [], _∷_, _++_, map}
 use Prim.Native.Nat.{ℕ, _+_, _*_, _/_, _<_, _≤_}
 use native.Mathlib.Omega.{arith}
 use lib.ListN.{length, getD, drop, set}
 use lib.Dec.{eqb, ltb}
-use borrow.Author.Tests.{eqb-true, ltb-true, lt-ltb, le-ltb, ne-eqb}
+use borrow.Author.Tests.{eqb-true, ltb-true}
 use Rattle.fields.specs.Choice.{if'}
 use Rattle.fields.proofs.Basics.{and-left, and-right}
 use Rattle.forest.specs.Forest.{Node, nodeOf, treeOf}
@@ -19,7 +19,6 @@ use Rattle.soundness.specs.KindNumbers.{kindDef, kindStatements}
 use Rattle.table.specs.Numbers.{alreadyFilled, starArgument, emptyParameter}
 use Rattle.table.specs.Answer.{Answer, accepted, refused, andThen, refusedAt}
 use Rattle.table.specs.Check.{nodeFits, stretchOf, entryCheck}
-use Rattle.table.specs.Carrying.{FileOf}
 use Rattle.table.specs.declared.Wanted.the-variants.{Call}
 use Rattle.table.proofs.Answers.{passed-both, test-passed}
 use Rattle.table.proofs.Carried.{Before}
@@ -50,34 +49,37 @@ use Rattle.bind.specs.Job.{isDef, defCheck, counting, noWords, listsBound, argu
 use Rattle.bind.specs.Job.{answeredAt, bindOf}
 use Rattle.bind.specs.declared.Reach.{Reach}
 use Rattle.bind.specs.declared.Reach.the-variants.{Fills, Joins, Nowhere}
-use Rattle.reached.specs.Refused.{sideOf}
+use Rattle.reached.specs.Refused.{BoundFile}
 use Rattle.reached.proofs.Early.{EarlyOutcome, early-limited, CallNumber, call-numbers}
 use Rattle.reached.proofs.Kept.{entry-first}
-
--- LAWS: which node a number belongs to
-module _ (call def n : ℕ) where
-  pub side-def : (n < 20) ⊎ (n ≡ 84) → sideOf call def n ≡ def
-  side-def (inl h) = rw (lt-ltb n 20 h) refl
-  side-def (inr h) = rw h refl
-
-  pub side-call : 20 ≤ n → (n ≡ 84 → ⊥) → sideOf call def n ≡ call
-  side-call late other = rw (le-ltb n 20 late, ne-eqb n 84 other) refl
 
 module _ (t : List ℕ) (call def : ℕ) where
   -- what is claimed of an answer
   abbrev Sided : Answer → Type 0
   Sided (accepted vs) = Unit {0}
-  Sided (refused n vs) = 10 ≤ n → FileOf t (sideOf call def n) vs
+  Sided (refused n vs) = 10 ≤ n → BoundFile t call def n vs
 
   -- a refusal at a node of the def's tree, by a number of the def's; and at one of the call's
-  of-def : (n : ℕ) (vs : List ℕ) → Told (Filed t def) (refused n vs)
-      → (n < 20) ⊎ (n ≡ 84) → Sided (refused n vs)
-  of-def n vs told side = λ late. rw (side-def call def n side) (files-told t def (refused n vs) told late)
+  of-def : (n : ℕ) (vs : List ℕ) → Told (Filed t def) (refused n vs) → (n < 20) ⊎ (n ≡ 84) → Sided (refused n vs)
+  of-def n vs told side = λ late.
+      let f = files-told t def (refused n vs) told late in
+      record {
+        there = f .there;
+        named = f .named;
+        ofDef = λ s. f .same;
+        ofCall = λ from other. absurd (⊎-elim (λ (h : n < 20). omega arith) (λ (h : n ≡ 84). other h) side);
+      }
 
   of-call : (n : ℕ) (vs : List ℕ) → Told (Filed t call) (refused n vs) → 20 ≤ n → (n ≡ 84 → ⊥)
       → Sided (refused n vs)
   of-call n vs told late other = λ from.
-      rw (side-call call def n late other) (files-told t call (refused n vs) told from)
+      let f = files-told t call (refused n vs) told from in
+      record {
+        there = f .there;
+        named = f .named;
+        ofDef = λ side. absurd (⊎-elim (λ (h : n < 20). omega arith) (λ (h : n ≡ 84). other h) side);
+        ofCall = λ h k. f .same;
+      }
 
   at-call : (n : ℕ) (r : Node) → Filed t call r → 20 ≤ n → n < 84 → Sided (refusedAt n r)
   at-call n r f late before = of-call n _ (told-at (Filed t call) n r f) late (λ e. omega arith)
@@ -226,7 +228,7 @@ module _ (t names : List ℕ) (call def : ℕ) (c : Clean t names) where
 -- THEOREM: "for every refusal from 10 on, the file that it carries is that of the node it names; in a binding the Def's
 -- for 10 to 19 and 84, the Call's for 20 to 24 and 80 to 83"
 pub bind-files : (t names : List ℕ) (call def room : ℕ) {n : ℕ} {vs : List ℕ}
-    → bindOf t names call def room ≡ refused n vs → 10 ≤ n → FileOf t (sideOf call def n) vs
+    → bindOf t names call def room ≡ refused n vs → 10 ≤ n → BoundFile t call def n vs
 unfolding bindOf wordsOf entryOf
 bind-files t names call def room {n} {vs} e late =
     let sided : Sided t call def (bindOf t names call def room) = answer (wordsOf t names call def room)

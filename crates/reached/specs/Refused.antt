@@ -2,14 +2,13 @@
 use mathlib.Core.Path.{_≡_}
 use mathlib.Core.Logic.{_⊎_}
 use mathlib.Core.List.{List, _∷_}
-use mathlib.Core.Bool.{false, _||_}
+use mathlib.Core.Bool.{false}
 use Prim.Native.Nat.{ℕ, _<_, _≤_}
-use lib.ListN.{length}
-use lib.Dec.{eqb, ltb}
-use Rattle.fields.specs.Choice.{if'}
+use lib.ListN.{length, getD}
 use Rattle.forest.specs.Forest.{Node}
 use Rattle.table.specs.Numbers.{duplicatedParameter, repeatedNamed, positionalAfterNonPositional, emptyParameter}
 use Rattle.table.specs.Answer.{Answer, accepted, refused, spanValues, spanAt}
+use Rattle.table.specs.Carrying.{fileAt}
 use Rattle.deflist.specs.Unpack.{modeArgs}
 use Rattle.arguments.specs.Written.{Argument, positional, named, args, kwargs}
 use Rattle.bind.specs.FlatList.{FlatParam}
@@ -58,6 +57,10 @@ OnlyTwoCarry (accepted vs) = Unit {0}
 OnlyTwoCarry (refused n vs) = ((n ≡ duplicatedParameter) ⊎ (n ≡ repeatedNamed) → length vs ≡ 5)
     × ((n ≡ duplicatedParameter → ⊥) → (n ≡ repeatedNamed → ⊥) → length vs ≤ 4)
 
--- whose source file a refusal from 10 on carries: the def's for 10 to 19 and 84, the call's for 20 to 24 and 80 to 83
-abbrev pub sideOf : ℕ → ℕ → ℕ → ℕ
-sideOf call def n = if' (ltb n positionalAfterNonPositional || eqb n emptyParameter) (λ _. def) (λ _. call)
+-- the source file number that a refusal from 10 on carries: that of the node that it names, which is the def's for 10
+-- to 19 and 84, and the call's for 20 to 24 and 80 to 83
+pub record BoundFile (t : List ℕ) (call def n : ℕ) (vs : List ℕ) : Type 0 where
+  pub there : 4 ≤ length vs
+  pub named : getD vs 3 0 ≡ fileAt t (getD vs 0 0)
+  pub ofDef : (n < positionalAfterNonPositional) ⊎ (n ≡ emptyParameter) → getD vs 3 0 ≡ fileAt t def
+  pub ofCall : positionalAfterNonPositional ≤ n → (n ≡ emptyParameter → ⊥) → getD vs 3 0 ≡ fileAt t call

@@ -5,12 +5,15 @@
 use mathlib.Core.Path.{_≡_}
 use mathlib.Core.Bool.{true}
 use mathlib.Core.List.{List, [], _∷_, _++_}
-use Prim.Native.Nat.{ℕ, _+_, _<_}
+use Prim.Native.Nat.{ℕ, _+_, _*_, _<_, _≤_}
+use lib.ListN.{length, getD, drop}
+use Rattle.fields.specs.Field.{field}
 use Rattle.forest.specs.Forest.{Node, treeOf}
 use Rattle.forest.specs.Names.{Distinct, NonePasses}
-use Rattle.table.specs.Numbers.{repeatedNamed}
+use Rattle.table.specs.Numbers.{slashFirst, repeatedNamed}
 use Rattle.table.specs.Answer.{accepted, refused, OnlyCarries}
 use Rattle.table.specs.Check.{checkOf, nodeFits, stretchOf}
+use Rattle.table.specs.Carrying.{CarriesFile}
 use Rattle.table.specs.declared.Wanted.the-variants.{Call}
 use Rattle.arguments.specs.Written.{Name, Argument, nodeIn, argumentsOf}
 use Rattle.arguments.specs.Call.{bit, given, hasName, unpack}
@@ -21,6 +24,7 @@ use Rattle.arguments.specs.declared.CallArgs.{CallArgs}
 use Rattle.arguments.proofs.AcceptedCalls as theorem
 use Rattle.arguments.proofs.Order as theorem-order
 use Rattle.arguments.proofs.Twice as theorem-twice
+use Rattle.arguments.proofs.Files as theorem-files
 
 -- "Both files' internal errors are shown never to arise": call.rs 82, 97, 112
 -- In words: no list of arguments is answered with an internal error.
@@ -119,3 +123,17 @@ call-twice t names i e =
       w .only,
       w .smaller,
     )
+
+-- W-208: "all answers with a span carry the file number": the call job
+-- In words: a refusal from 10 on carries, as its fourth number, the source file number of the record that it names,
+-- bytes 18 and 19, and that is the number of the node that the job is asked of. 22 has the argument's number.
+pub call-file : (t names : List ℕ) (i : ℕ) {n : ℕ} {vs : List ℕ}
+    → callOf t names i ≡ refused n vs
+    → slashFirst ≤ n
+    → (4 ≤ length vs)
+    × (getD vs 3 0 ≡ field 2 (drop (24 * getD vs 0 0) t) 18)
+    × (getD vs 3 0 ≡ field 2 (drop (24 * i) t) 18)
+call-file t names i {n} {vs} e late =
+    let told : CarriesFile t i (refused n vs) = rw e at (theorem-files.call-files t names i) in
+    let f = told late in
+    (f .there, f .named, f .same)

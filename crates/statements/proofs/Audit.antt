@@ -6,29 +6,33 @@
 use mathlib.Core.Path.{_≡_}
 use mathlib.Core.Bool.{true}
 use mathlib.Core.List.{List, [], _∷_}
-use Prim.Native.Nat.{ℕ, _/_, _≤_}
-use lib.ListN.{length}
+use Prim.Native.Nat.{ℕ, _*_, _/_, _≤_}
+use lib.ListN.{length, drop}
+use Rattle.fields.specs.Field.{field}
 use Rattle.forest.specs.Forest.{recordBytes, forest}
 use Rattle.forest.proofs.Stretch.{records}
+use Rattle.table.specs.Numbers.{slashFirst}
 use Rattle.table.specs.Answer.{accepted}
 use Rattle.table.specs.Check.{nodeFits, stretchOf}
 use Rattle.table.specs.declared.Wanted.the-variants.{Parameters, Call, Assignment}
+use Rattle.deflist.specs.Written.{rootIn}
 use Rattle.parameters.specs.Params.{listOf, paramsOf}
 use Rattle.arguments.specs.Job.{callOf}
 use Rattle.targets.specs.Jobs.{targetOf, assignmentOf}
 use Rattle.types.specs.Jobs.{typeShapeOf}
-use Rattle.validate.specs.Job.{moduleOf}
+use Rattle.errors.specs.declared.Err.{Err}
+use Rattle.validate.specs.Job.{errorsOf, moduleOf}
 use Rattle.audit.specs.declared.Role.the-variants.{AsTarget, AsType}
 use Rattle.audit.specs.declared.Roles.the-variants.{Nowhere}
 use Rattle.audit.specs.Roles.{placed}
-use Rattle.audit.specs.Job.{auditOf}
-use Rattle.deflist.specs.Written.{rootIn}
+use Rattle.audit.specs.Job.{allErrors, auditOf}
 use Rattle.audited.specs.Said.{All, rootsIn, isAccepted, Accepts}
 use Rattle.audited.specs.Checked.{targetsOf, typesOf, everywhere, Each, Fitting}
 use Rattle.audited.proofs.Everywhere.{all-map}
 use Rattle.audited.proofs.Checked.{each-map}
 use Rattle.audited.proofs.Audited as theorem
 use Rattle.audited.proofs.Checked as theorem-checked
+use Rattle.audited.proofs.Files as theorem-files
 
 -- "every node"
 -- In words: the trees that the audit looks at begin at the table's records, each once and in order.
@@ -130,3 +134,17 @@ pub checks-all-zero : (t names bytes : List ℕ)
     → auditOf t names bytes ≡ accepted (0 ∷ [])
 checks-all-zero t names bytes e nodes = theorem-checked.checks-all-zero t names bytes e
     (each-map (λ r x. record { params = x .0; call = x .1; assignment = x .2 }) (records (length t / 24) 0 t) nodes)
+
+-- W-208: "Errors become four words: number, file, begin, end": the module pass's list
+-- In words: every error from 10 on of the list has the source file number of the record that it names.
+pub module-file : (t names bytes : List ℕ)
+    → Each (λ (e : Err). slashFirst ≤ e .number → e .span .file ≡ field 2 (drop (24 * e .node) t) 18)
+    (errorsOf t names bytes)
+module-file = theorem-files.module-filed
+
+-- W-208: "all answers with a span carry the file number": the audit's list
+-- In words: the same of the audit's list.
+pub audit-file : (t names bytes : List ℕ)
+    → Each (λ (e : Err). slashFirst ≤ e .number → e .span .file ≡ field 2 (drop (24 * e .node) t) 18)
+    (allErrors t names bytes)
+audit-file = theorem-files.audit-filed

@@ -7,12 +7,13 @@ use mathlib.Core.Path.{_≡_}
 use mathlib.Core.Bool.{true, false}
 use mathlib.Core.Logic.{_⊎_, inl, inr, _↔_, ⊎-elim}
 use mathlib.Core.List.{List, [], _∷_, _++_, map}
-use Prim.Native.Nat.{ℕ, _+_, _<_, _≤_}
-use lib.ListN.{length, getD}
+use Prim.Native.Nat.{ℕ, _+_, _*_, _<_, _≤_}
+use lib.ListN.{length, getD, drop}
+use Rattle.fields.specs.Field.{field}
 use Rattle.forest.specs.Forest.{Node}
 use Rattle.forest.specs.Names.{Distinct}
 use Rattle.table.specs.Numbers.{duplicatedParameter, repeatedNamed, starArgument, tooManyPositional, unknownNamed}
-use Rattle.table.specs.Numbers.{alreadyFilled, emptyParameter}
+use Rattle.table.specs.Numbers.{alreadyFilled, emptyParameter, slashFirst, positionalAfterNonPositional}
 use Rattle.table.specs.Answer.{accepted, refused}
 use Rattle.table.specs.Check.{checkOf, nodeFits}
 use Rattle.table.specs.declared.Wanted.the-variants.{Call}
@@ -34,7 +35,10 @@ use Rattle.reached.proofs.Reached as theorem
 use Rattle.reached.proofs.Kept as theorem-kept
 use Rattle.reached.proofs.Ruled as theorem-ruled
 use Rattle.reached.proofs.Reported as theorem-reported
+use Rattle.reached.specs.TwoFiles.{table as twoFiles, names as twoNames}
 use Rattle.reached.proofs.Examples as theorem-cases
+use Rattle.reached.proofs.Files as theorem-files
+use Rattle.reached.proofs.TwoFiles as theorem-two
 
 -- "Accepted calls use every argument once."
 -- In words: the word of each argument of an accepted call is the index of a flat parameter.
@@ -471,3 +475,24 @@ corner-cases = theorem-cases.corner-cases
 -- In words: the table has eighteen rows.
 pub how-many-cases : length rows ≡ 18
 how-many-cases = theorem-cases.how-many
+
+-- W-208: "all answers with a span carry the file number": the binding job, which reads a call and a def
+-- In words: the number is that of the record that the refusal names. For 10 to 19 and 84 it is the def's, for 20 to 24
+-- and 80 to 83 the call's.
+pub bind-file : (t names : List ℕ) (call def room : ℕ) {n : ℕ} {vs : List ℕ}
+    → bindOf t names call def room ≡ refused n vs
+    → slashFirst ≤ n
+    → (4 ≤ length vs)
+    × (getD vs 3 0 ≡ field 2 (drop (24 * getD vs 0 0) t) 18)
+    × ((n < positionalAfterNonPositional) ⊎ (n ≡ emptyParameter) → getD vs 3 0 ≡ field 2 (drop (24 * def) t) 18)
+    × (positionalAfterNonPositional ≤ n → (n ≡ emptyParameter → ⊥) → getD vs 3 0 ≡ field 2 (drop (24 * call) t) 18)
+bind-file t names call def room e late =
+    let f = theorem-files.bind-files t names call def room e late in (f .there, f .named, f .ofDef, f .ofCall)
+
+-- W-208: "A zone's table now joins its own script and the line's common one."
+-- In words: in a table of a def of file 1 and two calls of file 2, a call without its argument is refused with 84 at
+-- the parameter, in file 1, and one that repeats a name with 22 at the argument, in file 2, and with the earlier
+-- argument's node.
+pub two-files : (bindOf twoFiles twoNames 5 1 4 ≡ refused emptyParameter (2 ∷ 6 ∷ 7 ∷ 1 ∷ []))
+    × (bindOf twoFiles twoNames 8 1 4 ≡ refused repeatedNamed (12 ∷ 11 ∷ 12 ∷ 2 ∷ 10 ∷ []))
+two-files = theorem-two.two-files

@@ -8,7 +8,8 @@ pub mod Demand3
 pub mod Arguments
 pub mod Binding
 pub mod BindingRoom
-pub mod RefusalFiles
+pub mod Targets
+pub mod Types
 pub mod Shapes
 pub mod Module
 pub mod Opening

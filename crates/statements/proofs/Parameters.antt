@@ -6,13 +6,15 @@
 use mathlib.Core.Path.{_≡_}
 use mathlib.Core.Bool.{true}
 use mathlib.Core.List.{List, [], _∷_, _++_}
-use Prim.Native.Nat.{ℕ, _<_}
-use lib.ListN.{length}
+use Prim.Native.Nat.{ℕ, _*_, _<_, _≤_}
+use lib.ListN.{length, getD, drop}
+use Rattle.fields.specs.Field.{field}
 use Rattle.forest.specs.Forest.{Node}
 use Rattle.forest.specs.Names.{NonePasses}
-use Rattle.table.specs.Numbers.{duplicatedParameter}
+use Rattle.table.specs.Numbers.{slashFirst, duplicatedParameter}
 use Rattle.table.specs.Answer.{accepted, refused, OnlyCarries}
 use Rattle.table.specs.Check.{checkOf, nodeFits}
+use Rattle.table.specs.Carrying.{CarriesFile}
 use Rattle.table.specs.declared.Wanted.the-variants.{Parameters}
 use Rattle.deflist.specs.Written.{Name, Param, nodeIn}
 use Rattle.deflist.specs.Unpack.{hasName}
@@ -22,6 +24,7 @@ use Rattle.parameters.specs.Params.{listOf, paramsOf, modesAfter, AllBelow}
 use Rattle.parameters.proofs.Accepted as theorem
 use Rattle.parameters.proofs.Buffer as theorem-buffer
 use Rattle.parameters.proofs.Twice as theorem-twice
+use Rattle.parameters.proofs.Files as theorem-files
 
 -- "No refusal changes a buffer": modes
 -- In words: where the job refuses, the mode buffer at exit is the buffer at entry.
@@ -101,3 +104,17 @@ params-twice t names node room e =
       w .only,
       w .smaller,
     )
+
+-- W-208: "all answers with a span carry the file number": the parameter job
+-- In words: a refusal from 10 on carries, as its fourth number, the source file number of the record that it names,
+-- bytes 18 and 19, and that is the number of the node that the job is asked of.
+pub params-file : (t names : List ℕ) (i room : ℕ) {n : ℕ} {vs : List ℕ}
+    → paramsOf t names i room ≡ refused n vs
+    → slashFirst ≤ n
+    → (4 ≤ length vs)
+    × (getD vs 3 0 ≡ field 2 (drop (24 * getD vs 0 0) t) 18)
+    × (getD vs 3 0 ≡ field 2 (drop (24 * i) t) 18)
+params-file t names i room {n} {vs} e late =
+    let told : CarriesFile t i (refused n vs) = rw e at (theorem-files.params-files t names i room) in
+    let f = told late in
+    (f .there, f .named, f .same)

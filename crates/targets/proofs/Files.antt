@@ -34,7 +34,7 @@ module _ (P : Node → Type 0) where
         let both = all-row P t ts h in
         told-then P («check_assign» t) (λ _. checkEach ts) (told-target t (both .0)) (told-each ts (both .1))
 
-  told-counted : (n : ℕ) (t : Tree) → All P (nodesOf t) → Told P (counted n t)
+  pub told-counted : (n : ℕ) (t : Tree) → All P (nodesOf t) → Told P (counted n t)
   unfolding counted
   told-counted n t h = told-then P («check_assign» t) (λ _. accepted ((n + leaves t) ∷ [])) (told-target t h) tt
 
@@ -52,7 +52,7 @@ module _ (P : Node → Type 0) where
       if' (isGroup (lhs .kind)) (λ _. refusedAt typeOnTuple ty) (λ _. accepted []))
       (told-at P typeOnAugmented ty (here .0)) tuple) tt
 
-  told-assignment : (t : Tree) → All P (nodesOf t) → Told P («check_assignment» t)
+  pub told-assignment : (t : Tree) → All P (nodesOf t) → Told P («check_assignment» t)
   unfolding «check_assignment»
   told-assignment (node r none) h = tt
   told-assignment (node r (node lhs ks then ts)) h =

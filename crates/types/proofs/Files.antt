@@ -131,7 +131,7 @@ module _ (P : Node → Type 0) where
         (told-argument names t (both .0)))
         (told-each (readsAs (reads .others) (reads .others)) names ts (both .1))
 
-  told-type : (names : L.List ℕ) (types : DialectTypes) (t : Tree) → All P (nodesOf t)
+  pub told-type : (names : L.List ℕ) (types : DialectTypes) (t : Tree) → All P (nodesOf t)
       → Told P («dialect_check_type» names types t)
   unfolding «dialect_check_type»
   told-type names types (node r ks) h =

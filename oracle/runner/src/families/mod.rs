@@ -134,7 +134,7 @@ pub const ALL: &[Family] = &[
     family("tables, damaged", 2, ARCHIVE, tables::damaged, [1_183_610, 114_440, 9_000]),
     family("tables, depth", 2, ARCHIVE, tables::depth, [196_210, 42_630, 2_500]),
     family("source files, corner cases", 1, ARCHIVE | READERS | RESCUE, sources::corners, [119_960, 271, 71_800]),
-    family("source files, each record", 2, ARCHIVE | READERS | RESCUE, sources::records, [84_500, 3_800, 230]),
+    family("source files, each record", 2, ARCHIVE | READERS | RESCUE, sources::records, [84_500, 2_900, 180]),
     family("source files, random", 2, ARCHIVE | READERS | RESCUE, sources::random, [245_280, 54_700, 4_200]),
     family("dialect rows and bytes", 1, MODULE | TYPE | AUDIT, dialects::rows_and_bytes, [14_200, 58, 11]),
     family("audits, corner cases", 1, AUDIT, audits::corners, [482, 320, 589]),
