@@ -23,6 +23,7 @@
  *   accepted      as said at each function
  *   3, 4          out[0] the node
  *   1, 2, 5, 6, 7 nothing; so for 70 to 75, 90 and 91
+ *   62 to 64      as said at starlark_fstring_write and starlark_fstring_read; 62 is no refusal
  *   all others    out[0] the node, out[1] and out[2] begin and end of its span (22: the name's span), out[3] STARLARK_NONE; but for 11 and 22,
  *                 a name that stands twice, out[3] is the node of the first parameter (11) or argument (22) of the list that has it;
  *                 out[4] the source file number that the node has: its span is one in that script
@@ -31,11 +32,11 @@
  * What the caller must see to: nothing checks it
  *   Each pointer points to as many elements as the length beside it says, and `out` to twelve words. A pointer of length 0 may be NULL.
  *   Buffers that are only read may overlap each other; a written buffer (modes, shapes, list, errors, the file that is written, table and names of
- *   starlark_read, `out`) overlaps none. Words are aligned to four bytes.
+ *   starlark_read, a format text, its parts and texts, `out`) overlaps none. Words are aligned to four bytes.
  *   The thread has stack enough: STARLARK_STACK_BYTES is more than twice what any job was measured to need (bindings/c/stack.c, on aarch64):
- *   at 2,100 nodes of many shapes the table check needs 17 KB, the parameter job 17 KB, the call job 17 KB, the type job 22 KB, the module pass
- *   43 KB, the audit 62 KB, the binding job 34 KB, the target, assignment and write jobs no more than 17 KB; of a file of 2,100 nodes the rescue and
- *   starlark_read need 76 KB, starlark_check_file 100 KB.
+ *   at 2,100 nodes of many shapes the table check needs 17 KB, the parameter job 17 KB, the call job 17 KB, the type job 26 KB, the module pass
+ *   43 KB, the audit 64 KB, the binding job 34 KB, the target, assignment and write jobs no more than 17 KB; of a file of 2,100 nodes the rescue and
+ *   starlark_read need 76 KB, starlark_check_file 100 KB. The two functions of format texts need less than 1 KB.
  */
 #ifndef STARLARK_H
 #define STARLARK_H
@@ -56,7 +57,7 @@ extern "C" {
 /* What a function returns that accepts. */
 #define STARLARK_ACCEPTED 0
 
-/* The numbers given back: what a function returns that refuses, and the numbers in a list of errors. */
+/* The numbers given back: what a function returns that refuses, the numbers in a list of errors, and a notice (62). */
 enum starlark_number {
     STARLARK_NUMBER_TABLE_LENGTH = 1, /* the table has no record, more than 2,100, or a part of one */
     STARLARK_NUMBER_NAME_BYTES = 2, /* there are more than 8,064 name bytes */
@@ -64,7 +65,7 @@ enum starlark_number {
     STARLARK_NUMBER_TOO_DEEP = 4, /* a statement or expression is more than 64 deep */
     STARLARK_NUMBER_BAD_DIALECT = 5, /* the dialect bytes give no dialect */
     STARLARK_NUMBER_WRONG_NODE = 6, /* the node asked for is beyond the table, or of the wrong kind */
-    STARLARK_NUMBER_SHORT_BUFFER = 7, /* the buffer for modes, shapes, words of a binding, a file or what a file holds is too short */
+    STARLARK_NUMBER_SHORT_BUFFER = 7, /* the buffer for modes, shapes, words of a binding, a file, what a file holds, a format text or its parts is too short */
     STARLARK_NUMBER_SLASH_FIRST = 10, /* `/` is the first parameter */
     STARLARK_NUMBER_DUPLICATED_PARAMETER = 11, /* a parameter has the name of an earlier one */
     STARLARK_NUMBER_NORMAL_AFTER_KWARGS = 12, /* an ordinary parameter stands after `**kwargs` */
@@ -102,6 +103,9 @@ enum starlark_number {
     STARLARK_NUMBER_LOAD_NOT_PERMITTED = 59, /* the dialect has no `load` */
     STARLARK_NUMBER_ELLIPSIS_NOT_PERMITTED = 60, /* `...` stands in a dialect that has no types */
     STARLARK_NUMBER_LAMBDA_NOT_PERMITTED = 61, /* the dialect has no `lambda` */
+    STARLARK_NUMBER_F_STRINGS_DISABLED = 62, /* the dialect has no f-strings: a notice and no refusal, the format text is written */
+    STARLARK_NUMBER_STRAY_BRACE = 63, /* a brace of a format text starts none of `{{`, `}}`, `{}` and `{!r}` */
+    STARLARK_NUMBER_BROKEN_PART = 64, /* a part of a format text is broken, or the lengths of the texts do not add up to the text bytes */
     STARLARK_NUMBER_BLOCK_SHORT = 70, /* the file ends before a block is whole */
     STARLARK_NUMBER_BLOCK_NUMBER = 71, /* a block has the wrong number */
     STARLARK_NUMBER_BLOCK_CHECK = 72, /* the sum of a block is wrong, so a byte is damaged */
@@ -184,6 +188,14 @@ enum starlark_shape {
     STARLARK_SHAPE_LIST = 5,
     STARLARK_SHAPE_UNION = 6,
     STARLARK_SHAPE_TUPLE = 7,
+};
+
+/* The first words of the parts of a format text: what starlark_fstring_write takes and starlark_fstring_read gives. */
+enum starlark_part {
+    STARLARK_PART_TEXT = 0, /* the second word is the number of its bytes; with the others it is 0 */
+    STARLARK_PART_NONE = 1, /* an expression without a conversion */
+    STARLARK_PART_STR = 2,  /* !s */
+    STARLARK_PART_REPR = 3, /* !r */
 };
 
 /* The number of bytes of a dialect, and the three dialects that have a name, each as a pointer to so many bytes. */
@@ -317,6 +329,26 @@ uint32_t starlark_read(const uint8_t *file, size_t file_len, uint8_t *table, siz
  * module has, out[1] the nodes. STARLARK_ERROR_WORDS words of `errors` for each, as starlark_module has them: number (10 to 19, 50 to 61), source
  * file number, begin and end. */
 uint32_t starlark_check_file(const uint8_t *file, size_t file_len, uint32_t *errors, size_t errors_len, uint32_t *out);
+
+/* The format text of an f-string's parts in a dialect (nine bytes, or none for Extended), at the front of `text`: 5, 64, 7.
+ * Accepted: out[0] and out[1] the length of the text, low and high word; out[2] the notice's number (62) where the dialect has no f-strings, else 0:
+ * the text is written all the same. Bytes past the text stay. A refusal has no word.
+ * A part is two words (enum starlark_part); `parts_len` counts words. The texts stand one after another in `texts`, any bytes; a part may end
+ * inside a character. A brace of a text is written twice, an expression without a conversion and with str is `{}`, with repr `{!r}`.
+ * 64 is an odd number of words, a first word above 3, a second word that is not 0 behind 1, 2 or 3, or lengths that are not `texts_len` together.
+ * 7 exactly where the text is longer than `text_len`. No parts and no texts give the empty text. */
+uint32_t starlark_fstring_write(const uint32_t *parts, size_t parts_len, const uint8_t *texts, size_t texts_len, const uint8_t *dialect,
+                                size_t dialect_len, uint8_t *text, size_t text_len, uint32_t *out);
+
+/* The parts of a format text of `text_len` bytes, their words at the front of `parts`, their texts one after another at the front of `texts`: 63, 7.
+ * Accepted: out[0] and out[1] the number of parts, two words each, out[2] and out[3] the number of text bytes, each low and high word. Words and bytes
+ * past them stay. 63: out[0] and out[1] the position of the first brace that starts none of `{{`, `}}`, `{}` and `{!r}`, looked for in the whole text
+ * before 7. 7 exactly where two words for each part are more than `parts_len`, the text bytes are more than `texts_len`, or one text has 2^32 bytes or
+ * more, so that its length is no word.
+ * Text and doubled braces side by side are one part. What starlark_fstring_write has written gives back its parts, texts side by side joined, empty
+ * ones left out and str as no conversion; what is read here and written again is the same text. */
+uint32_t starlark_fstring_read(const uint8_t *text, size_t text_len, uint32_t *parts, size_t parts_len, uint8_t *texts, size_t texts_len,
+                               uint32_t *out);
 
 #ifdef __cplusplus
 }

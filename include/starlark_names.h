@@ -53,6 +53,9 @@ static inline const char *starlark_number_name(uint32_t number) {
     case STARLARK_NUMBER_LOAD_NOT_PERMITTED: return "LOAD_NOT_PERMITTED";
     case STARLARK_NUMBER_ELLIPSIS_NOT_PERMITTED: return "ELLIPSIS_NOT_PERMITTED";
     case STARLARK_NUMBER_LAMBDA_NOT_PERMITTED: return "LAMBDA_NOT_PERMITTED";
+    case STARLARK_NUMBER_F_STRINGS_DISABLED: return "F_STRINGS_DISABLED";
+    case STARLARK_NUMBER_STRAY_BRACE: return "STRAY_BRACE";
+    case STARLARK_NUMBER_BROKEN_PART: return "BROKEN_PART";
     case STARLARK_NUMBER_BLOCK_SHORT: return "BLOCK_SHORT";
     case STARLARK_NUMBER_BLOCK_NUMBER: return "BLOCK_NUMBER";
     case STARLARK_NUMBER_BLOCK_CHECK: return "BLOCK_CHECK";
@@ -80,7 +83,7 @@ static inline const char *starlark_number_words(uint32_t number) {
     case STARLARK_NUMBER_TOO_DEEP: return "a statement or expression is more than 64 deep";
     case STARLARK_NUMBER_BAD_DIALECT: return "the dialect bytes give no dialect";
     case STARLARK_NUMBER_WRONG_NODE: return "the node asked for is beyond the table, or of the wrong kind";
-    case STARLARK_NUMBER_SHORT_BUFFER: return "the buffer for modes, shapes, words of a binding, a file or what a file holds is too short";
+    case STARLARK_NUMBER_SHORT_BUFFER: return "the buffer for modes, shapes, words of a binding, a file, what a file holds, a format text or its parts is too short";
     case STARLARK_NUMBER_SLASH_FIRST: return "`/` is the first parameter";
     case STARLARK_NUMBER_DUPLICATED_PARAMETER: return "a parameter has the name of an earlier one";
     case STARLARK_NUMBER_NORMAL_AFTER_KWARGS: return "an ordinary parameter stands after `**kwargs`";
@@ -118,6 +121,9 @@ static inline const char *starlark_number_words(uint32_t number) {
     case STARLARK_NUMBER_LOAD_NOT_PERMITTED: return "the dialect has no `load`";
     case STARLARK_NUMBER_ELLIPSIS_NOT_PERMITTED: return "`...` stands in a dialect that has no types";
     case STARLARK_NUMBER_LAMBDA_NOT_PERMITTED: return "the dialect has no `lambda`";
+    case STARLARK_NUMBER_F_STRINGS_DISABLED: return "the dialect has no f-strings: a notice and no refusal, the format text is written";
+    case STARLARK_NUMBER_STRAY_BRACE: return "a brace of a format text starts none of `{{`, `}}`, `{}` and `{!r}`";
+    case STARLARK_NUMBER_BROKEN_PART: return "a part of a format text is broken, or the lengths of the texts do not add up to the text bytes";
     case STARLARK_NUMBER_BLOCK_SHORT: return "the file ends before a block is whole";
     case STARLARK_NUMBER_BLOCK_NUMBER: return "a block has the wrong number";
     case STARLARK_NUMBER_BLOCK_CHECK: return "the sum of a block is wrong, so a byte is damaged";

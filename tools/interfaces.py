@@ -155,7 +155,7 @@ def rust_enum(name, words, of, cases):
 
 def rust():
     numbers, kinds = rows("numbers.tsv"), rows("kinds.tsv")
-    number = rust_enum("Number", "A number given back: why a job refuses, or an error of a module.", "u32",
+    number = rust_enum("Number", "A number given back: why a job refuses, an error of a module, or a notice (62).", "u32",
                        [(number, name, words) for number, name, words, _ in numbers])
     kind = rust_enum("Kind", "The kind of a record: its byte 0. docs/FORMAT.md has what each takes below it.", "u8",
                      [(number, name, f"{own.capitalize()} {number}.") for number, name, own in kinds])
@@ -256,7 +256,8 @@ def stored():
 
 def declared():
     """The faults of the functions: Rust declares, and Python calls, those of the header with the same arguments, in the same order."""
-    told, kinds_c = [], {"uint32_t *": "*mut u32", "uint8_t *": "*mut u8", "const uint8_t *": "*const u8", "size_t ": "usize"}
+    told, kinds_c = [], {"uint32_t *": "*mut u32", "uint8_t *": "*mut u8", "const uint8_t *": "*const u8", "const uint32_t *": "*const u32",
+                         "size_t ": "usize"}
     header = dict(re.findall(r"^uint32_t starlark_(\w+)\(([^;]*)\);", HEADER.read_text(), re.M))
     rust_text = dict(re.findall(r"^    pub fn starlark_(\w+)\(([^;]*?),?\s*\) -> u32;", (RAW / "src" / "lib.rs").read_text(), re.M))
     for name, words in header.items():

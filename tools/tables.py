@@ -24,7 +24,7 @@ from ducatmuffin import table as tables  # noqa: E402
 from ducatmuffin.table import TextError, demand, file_of, table_of, trees  # noqa: E402
 
 JOBS = {"check": 1, "node": 2, "dialect": 3, "call": 4, "params": 5, "target": 6, "assignment": 7, "type": 8, "module": 9, "bind": 10,
-        "audit": 11}
+        "audit": 11, "format": 12, "parts": 13}
 numbers = tables._numbers
 WANTED = {"parameters": 1, "call": 2, "assignment": 3, "expression": 4}
 
@@ -51,6 +51,8 @@ def request(line, number):
     label, asked, *tree = [part.strip() for part in line.split("|")] + [""] * ("|" not in line)
     demand(asked and len(tree) < 2, "a case is: label | what is asked | tree")
     job, *words = asked.split()
+    if job in ("format", "parts"):
+        return format_case(job, label, words, tree[0] if tree else "")
     table, names = table_of(trees(tree[0] if tree else "", number))
     dialect, wanted, node, room, owner = b"", 0, 0, 0, 0
     for word in words:
@@ -70,6 +72,16 @@ def request(line, number):
         else:
             wanted = looked_up(word, WANTED, "wish")
     return pack(looked_up(job, JOBS, "job"), label + ": ", table, names, dialect, wanted, room, node, owner)
+
+
+def format_case(job, label, words, text):
+    """A case of a format text: of `format` the third part of the line is the texts, and `words` has the words of the parts; of `parts` it is the
+    text, and `texts` has the room of the second buffer."""
+    said = dict(word.partition("=")[::2] for word in words)
+    demand(set(said) <= {"words", "bits", "room", "texts"}, f"there is no such word for {job}: {' '.join(words)}")
+    parts = b"".join(struct.pack("<I", int(word)) for word in said.get("words", "").split(",") if word)
+    room, texts = count(said.get("room", "0")), count(said.get("texts", "0"))
+    return pack(JOBS[job], label + ": ", text.encode(), parts, digits(said.get("bits", "")), 0, room, 0, texts)
 
 
 def text_of(path):

@@ -6,6 +6,7 @@
 
 mod cases;
 mod clock;
+mod formats;
 mod measure;
 mod plain;
 mod port;
@@ -32,6 +33,7 @@ enum Kind {
     Bind,
     Rescue,
     Audit,
+    Format,
 }
 
 struct Case {
@@ -138,6 +140,20 @@ fn all_cases() -> Vec<Case> {
     all.extend(binding_cases());
     all.extend(rescue_cases());
     all.extend(audit_cases());
+    all.extend(format_cases());
+    all
+}
+
+/// Format texts of four shapes and two lengths, written and read.
+fn format_cases() -> Vec<Case> {
+    let mut all = Vec::new();
+    for (words, shape) in formats::SHAPES {
+        for bytes in [100, 10_000] {
+            let name = |job: &str| format!("format text {job}, {bytes} bytes of {words}");
+            all.push(case(name("written"), Kind::Format, move || formats::written(formats::parts(shape, bytes))));
+            all.push(case(name("read"), Kind::Format, move || formats::read_back(formats::parts(shape, bytes))));
+        }
+    }
     all
 }
 
@@ -253,6 +269,7 @@ fn print_head(kind: Kind) {
         }
         Kind::Bind => "arguments bound | port | params and call on the same table | port / that | one table check",
         Kind::Audit => "audit | port | the same jobs one by one | port / that | the module pass | port / that | one table check",
+        Kind::Format => "format text | port | plain Rust | port / that",
         Kind::Rescue => "file rescued | port | the port reads the whole file | port / that | one table check of the whole | copying what is kept",
         Kind::Write => {
             "file written | port | of it table check | Rust writer with the oracle's checks | port / that | Rust writer alone | port without its check / that | copying the bytes"
@@ -308,6 +325,10 @@ fn print_row(case: &Case, times: &[Times]) {
             let (each, module) = (of(times, cases::EACH), of(times, cases::MODULE));
             row.extend([micros(each.spread()), ratio(port.part_of(each))]);
             row.extend([micros(module.spread()), ratio(port.part_of(module)), middle(of(times, cases::CHECK))]);
+        }
+        Kind::Format => {
+            let plain = of(times, cases::PLAIN);
+            row.extend([micros(plain.spread()), ratio(port.part_of(plain))]);
         }
         Kind::Rescue => {
             let reader = of(times, cases::READER);

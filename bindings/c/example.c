@@ -65,7 +65,9 @@ static int accepted(const char *job, uint32_t number, const uint32_t *out) {
     if (number != STARLARK_ACCEPTED) printf("refused with %u %s", number, starlark_number_name(number));
     if (number == STARLARK_NUMBER_UNSOUND_RECORD || number == STARLARK_NUMBER_TOO_DEEP) {
         printf(" at node %u", out[0]);
-    } else if ((number >= 10 && number < 70) || (number >= 80 && number < 90)) {
+    } else if (number == STARLARK_NUMBER_STRAY_BRACE) {
+        printf(" at byte %u", out[0]);
+    } else if ((number >= 10 && number < 62) || (number >= 80 && number < 90)) {
         printf(" at node %u, file %u, bytes %u to %u", out[0], out[4], out[1], out[2]);
         if (out[3] != STARLARK_NONE) printf(", its name first at node %u", out[3]);
     }
@@ -252,6 +254,32 @@ static void check_file(const char *words, const uint8_t *dialect, size_t dialect
     printf("\n");
 }
 
+/* A format text of `length` bytes as its parts, in `room` words and `bytes_room` bytes, which hold 9 and a dot. */
+static void read_format(const char *words, const char *text, size_t length, size_t room, size_t bytes_room) {
+    uint32_t out[STARLARK_WORDS], parts[16];
+    char texts[24];
+    for (size_t i = 0; i < room; i++) parts[i] = 9;
+    memset(texts, '.', sizeof texts);
+    if (accepted(words, starlark_fstring_read((const uint8_t *)text, length, parts, room, (uint8_t *)texts, bytes_room, out), out)) {
+        printf("%u parts, %u text bytes", out[0], out[2]);
+    }
+    printf(", words");
+    for (size_t i = 0; i < room; i++) printf(" %u", parts[i]);
+    printf(", texts %.*s\n", (int)bytes_room, texts);
+}
+
+/* The format text of parts, in a buffer of `length` bytes, which hold a dot; and the parts that are read from it again. */
+static void write_format(const char *words, const uint32_t *parts, size_t count, const char *texts, const uint8_t *dialect, size_t dialect_length,
+                         size_t length) {
+    uint32_t out[STARLARK_WORDS];
+    char text[24];
+    memset(text, '.', sizeof text);
+    int written = accepted(words, starlark_fstring_write(parts, count, (const uint8_t *)texts, strlen(texts), dialect, dialect_length, (uint8_t *)text, length, out), out);
+    if (written) printf("%u bytes%s", out[0], out[2] == STARLARK_NUMBER_F_STRINGS_DISABLED ? ", and the dialect has no f-strings" : "");
+    printf(", text %.*s\n", (int)length, text);
+    if (written) read_format("  read back", text, out[0], 14, length);
+}
+
 int main(int count, char **words) {
     node(STATEMENTS, 0, 63, "");
     source_file = 1;
@@ -383,5 +411,18 @@ int main(int count, char **words) {
     check_file("the file in the Extended dialect, checked", extended, 9, none, 26);
     check_file("with no dialect, a list of seven words", extended, 0, none, 7);
     check_file("with a changed byte", extended, 9, 600, 4);
+    enum { TEXT = STARLARK_PART_TEXT, NONE = STARLARK_PART_NONE, STR = STARLARK_PART_STR, REPR = STARLARK_PART_REPR };
+    static const uint32_t parts[] = {TEXT, 6, TEXT, 2, STR, 0, TEXT, 0, TEXT, 4, REPR, 0, NONE, 0};
+    enum { PARTS = sizeof parts / sizeof *parts };
+    write_format("parts in all options", parts, PARTS, "{train}  at ", STARLARK_DIALECT_ALL, 9, 24);
+    write_format("in the Extended dialect", parts, PARTS, "{train}  at ", extended, 9, 22);
+    write_format("21 bytes for 22", parts, PARTS, "{train}  at ", extended, 9, 21);
+    write_format("one text byte too few", parts, PARTS, "{train}  at", extended, 9, 24);
+    write_format("13 words", parts, PARTS - 1, "{train}  at ", extended, 9, 24);
+    write_format("eight bytes of dialect", parts, PARTS, "{train}  at ", extended, 8, 24);
+    write_format("no parts", parts, 0, "", extended, 0, 0);
+    read_format("a text that is cut", "a{!r", 4, 0, 0);
+    read_format("two parts in three words", "a{}", 3, 3, 1);
+    read_format("two bytes in one", "}}a", 3, 2, 1);
     return 0;
 }

@@ -25,6 +25,9 @@ enum { NODES = 10, DEF = 1, ASSIGN = 4, TARGET = 5, CALL = 6 };
 static uint8_t table[NODES * STARLARK_NODE_BYTES], names[1] = {'a'}, file[BUFFER];
 static uint8_t dialect[9] = {1, 1, 1, 1, 0, 2, 1, 1, 0};
 static size_t file_length;
+/* a format text, and its parts: a text of one byte and an expression */
+static uint8_t text[3] = {'a', '{', '}'};
+static uint32_t words[4] = {0, 1, 1, 0};
 
 static void make_table(void) {
     for (int i = 0; i < NODES; i++) {
@@ -50,6 +53,10 @@ static uint32_t run_write(const struct part *part, uint32_t *out) { return starl
 static uint32_t run_rescue(const struct part *part, uint32_t *out) { return starlark_rescue(PART(0), PART(1), out); }
 static uint32_t run_read(const struct part *part, uint32_t *out) { return starlark_read(PART(0), PART(1), PART(2), out); }
 static uint32_t run_check_file(const struct part *part, uint32_t *out) { return starlark_check_file(PART(0), PART(1), out); }
+static uint32_t run_fstring_write(const struct part *part, uint32_t *out) {
+    return starlark_fstring_write(PART(0), PART(1), PART(2), PART(3), out);
+}
+static uint32_t run_fstring_read(const struct part *part, uint32_t *out) { return starlark_fstring_read(PART(0), PART(1), PART(2), out); }
 
 /* what a part is: a buffer that is read, one of bytes that is written, or one of words; a job's parts in the order of its arguments */
 static const struct job {
@@ -59,7 +66,7 @@ static const struct job {
             {"bind", "tnw", run_bind},    {"target", "tn", run_target},  {"assignment", "tn", run_assignment},
             {"type", "tndb", run_type},   {"module", "tndw", run_module}, {"write", "tndb", run_write},
             {"rescue", "fb", run_rescue}, {"read", "fbb", run_read},     {"check_file", "fw", run_check_file},
-            {"audit", "tndw", run_audit}};
+            {"audit", "tndw", run_audit}, {"fstring_write", "pndb", run_fstring_write}, {"fstring_read", "xwb", run_fstring_read}};
 enum { JOBS = sizeof jobs / sizeof *jobs };
 
 /* What a run leaves: its number, its words, and the buffers that it writes. */
@@ -75,6 +82,8 @@ static void run(const struct job *job, unsigned empty, void *nowhere, struct lef
         case 't': part[i] = (struct part){table, sizeof table}; break;
         case 'n': part[i] = (struct part){names, sizeof names}; break;
         case 'd': part[i] = (struct part){dialect, sizeof dialect}; break;
+        case 'p': part[i] = (struct part){words, sizeof words / sizeof *words}; break;
+        case 'x': part[i] = (struct part){text, sizeof text}; break;
         case 'f': part[i] = (struct part){file, file_length}; break;
         case 'b': part[i] = (struct part){left->buffers[i], BUFFER}; break;
         default: part[i] = (struct part){left->buffers[i], BUFFER / 4};

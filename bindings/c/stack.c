@@ -120,6 +120,28 @@ static uint8_t read_table[STARLARK_NODES * STARLARK_NODE_BYTES], read_names[STAR
 static void run_read(void) { number = starlark_read(damaged, damaged_bytes + 1, read_table, sizeof read_table, read_names, sizeof read_names, out); }
 static void run_check_file(void) { number = starlark_check_file(damaged, damaged_bytes + 1, errors, STARLARK_ERROR_WORDS * STARLARK_ERRORS, out); }
 
+/* A format text of as many bytes as the table has, of bytes, doubled braces and expressions, and its parts. */
+static uint8_t text[sizeof table], texts[sizeof table];
+static uint32_t parts[2 * sizeof table];
+static size_t text_bytes, part_words, part_bytes;
+static void run_fstring_read(void) {
+    number = starlark_fstring_read(text, text_bytes, parts, sizeof parts / sizeof *parts, texts, sizeof texts, out);
+}
+static void run_fstring_write(void) {
+    number = starlark_fstring_write(parts, part_words, texts, part_bytes, all_on, 9, text, sizeof text, out);
+}
+static void make_format(void) {
+    static const char form[] = "a{{{}}}{!r}";
+    size_t length = sizeof form - 1;
+    while (text_bytes + length <= sizeof text) {
+        memcpy(text + text_bytes, form, length);
+        text_bytes += length;
+    }
+    run_fstring_read();
+    part_words = 2 * (size_t)out[0];
+    part_bytes = out[2];
+}
+
 struct job {
     const char *name;
     void (*run)(void);
@@ -127,7 +149,8 @@ struct job {
 } jobs[] = {{"table", run_table, 0}, {"params", run_params, 0}, {"call", run_call, 0}, {"target", run_target, 0}, {"assignment", run_assignment, 0}, {"type", run_type, 0},
           {"module", run_module, 0}, {"module with all switches off", run_refusing, 0}, {"write", run_write, 0}, {"bind", run_bind, 0},
           {"rescue of a cut file", run_rescue, 0}, {"rescue of a whole file", run_rescue_whole, 0}, {"read of a file", run_read, 0},
-          {"check of a file", run_check_file, 0}, {"audit", run_audit, 0}, {"audit with all switches off", run_audit_off, 0}};
+          {"check of a file", run_check_file, 0}, {"audit", run_audit, 0}, {"audit with all switches off", run_audit_off, 0},
+          {"fstring_read", run_fstring_read, 0}, {"fstring_write", run_fstring_write, 0}};
 enum { JOBS = sizeof jobs / sizeof *jobs };
 
 /* Whether a job ends on a stack of so many bytes. */
@@ -375,6 +398,7 @@ static void assignment_of_many(void) {
 }
 
 int main(void) {
+    make_format();
     many_statements();
     siblings("a tuple of 2,097 names", TUPLE, IDENTIFIER);
     siblings("a list of 2,097 names", LIST, IDENTIFIER);

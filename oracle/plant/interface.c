@@ -75,3 +75,15 @@ uint32_t inner_check_file(struct slice *, struct slice *, uint32_t *);
 uint32_t starlark_check_file(const uint8_t *f, size_t fl, uint32_t *errors, size_t errors_len, uint32_t *out) {
     return inner_check_file(SLICE(f, fl), SLICE(errors, errors_len), out);
 }
+
+uint32_t inner_fstring_write(struct slice *, struct slice *, struct slice *, struct slice *, uint32_t *);
+uint32_t starlark_fstring_write(const uint32_t *parts, size_t parts_len, const uint8_t *texts, size_t texts_len, const uint8_t *d, size_t dl,
+                                uint8_t *text, size_t text_len, uint32_t *out) {
+    return inner_fstring_write(SLICE(parts, parts_len), SLICE(texts, texts_len), SLICE(d, dl), SLICE(text, text_len), out);
+}
+
+uint32_t inner_fstring_read(struct slice *, struct slice *, struct slice *, uint32_t *);
+uint32_t starlark_fstring_read(const uint8_t *text, size_t text_len, uint32_t *parts, size_t parts_len, uint8_t *texts, size_t texts_len,
+                               uint32_t *out) {
+    return inner_fstring_read(SLICE(text, text_len), SLICE(parts, parts_len), SLICE(texts, texts_len), out);
+}

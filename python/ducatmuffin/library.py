@@ -7,15 +7,15 @@
 Each function takes any bytes (bytes, bytearray, memoryview) of any length and returns a dataclass: what the job answers, or a Refusal. Several
 threads may call at the same time: each has buffers of its own, and ctypes releases the interpreter's lock while the library works.
 
-`room` is the length of the buffer that the job is lent: bytes for modes, shapes and files, words of four bytes for errors and bindings. Without
-it the buffer is never too short.
+`room` is the length of the buffer that the job is lent: bytes for modes, shapes, files and format texts, words of four bytes for errors, bindings and
+the parts of a format text. Without it the buffer is never too short.
 """
 import ctypes
 import operator
 import os
 import threading
 from dataclasses import dataclass
-from typing import ClassVar, NamedTuple, Optional, Tuple, Union
+from typing import ClassVar, NamedTuple, Optional, Sequence, Tuple, Union
 
 from . import __version__, numbers
 
@@ -25,7 +25,7 @@ NONE = numbers.NONE
 MOST = 2 ** 64 - 1  # of a size_t
 LIST_WORDS = numbers.AUDIT_WORDS * numbers.AUDIT_ERRORS  # the longest list of errors
 FILE_WORDS = numbers.ERROR_WORDS * numbers.ERRORS  # the longest one of the module pass
-BARE = frozenset([1, 2, 5, 6, 7, *range(70, 76), 90, 91])  # the numbers that carry nothing
+BARE = frozenset([1, 2, 5, 6, 7, 64, *range(70, 76), 90, 91])  # the numbers that carry nothing
 Bytes = Union[bytes, bytearray, memoryview]
 
 POINTER, LENGTH, WORD = ctypes.c_char_p, ctypes.c_size_t, ctypes.c_uint32
@@ -47,8 +47,12 @@ FUNCTIONS = {
     "rescue": READ + LENT + OUT,
     "read": READ + LENT * 2 + OUT,
     "check_file": READ + LENT + OUT,
+    "fstring_write": [ctypes.c_void_p, LENGTH] + READ * 2 + LENT + OUT,
+    "fstring_read": READ + LENT * 2 + OUT,
     "version": [],
 }
+# the first words of the parts of a format text that are no text
+CONVERSIONS = {"none": 1, "str": 2, "repr": 3}
 
 
 class LibraryError(Exception):
@@ -74,6 +78,7 @@ class Refusal:
     end: Optional[int] = None
     earlier: Optional[int] = None
     file: Optional[int] = None
+    position: Optional[int] = None
     accepted: ClassVar[bool] = False
 
 
@@ -174,6 +179,29 @@ class Loaded:
     accepted: ClassVar[bool] = True
 
 
+# a part of an f-string: a text, or the conversion of an expression: "none", "str" or "repr"
+Part = Union[bytes, str]
+
+
+@dataclass(frozen=True)
+class Formatted:
+    """A format text, and whether the dialect has f-strings. Where it has none the notice is 62, and the text is made all the same."""
+    data: bytes
+    enabled: bool
+    accepted: ClassVar[bool] = True
+
+    @property
+    def notice(self) -> Optional[int]:
+        return None if self.enabled else 62
+
+
+@dataclass(frozen=True)
+class Parts:
+    """The parts of a format text: a text as bytes, an expression as "none" or "repr"."""
+    parts: Tuple[Part, ...]
+    accepted: ClassVar[bool] = True
+
+
 class Buffers(threading.local):
     """What a thread lends to the library: the words of the answer, and the largest buffers that a job needs."""
 
@@ -220,12 +248,35 @@ def _place(word):
     return None if word == NONE else word
 
 
+def _wide(low, high):
+    """A number in two words."""
+    return high << 32 | low
+
+
+def _part_words(parts):
+    """The words of parts, and their texts. A text that is longer than a word can say is several parts."""
+    words, texts, most = [], [], 2 ** 32 - 1
+    for part in parts:
+        if isinstance(part, str):
+            if part not in CONVERSIONS:
+                raise ValueError(f"a part is bytes or one of {', '.join(CONVERSIONS)}, not {part!r}")
+            words += [CONVERSIONS[part], 0]
+        else:
+            text = _bytes(part)
+            texts.append(text)
+            for at in range(0, len(text), most):
+                words += [0, min(most, len(text) - at)]
+    return words, b"".join(texts)
+
+
 def _refusal(number, out):
     words = numbers.WORDS.get(number, "unknown")
     if number in (3, 4):
         return Refusal(number, words, out[0])
     if number in BARE:
         return Refusal(number, words)
+    if number == 63:
+        return Refusal(number, words, position=_wide(out[0], out[1]))
     return Refusal(number, words, out[0], out[1], out[2], _place(out[3]), out[4])
 
 
@@ -422,6 +473,43 @@ class Library:
             return _refusal(number, own.out)
         total, errors = _errors(own.out, words, room, numbers.ERROR_WORDS)
         return Errors(total, errors, own.out[1])
+
+    def fstring_write(self, parts: Sequence[Part], dialect: Optional[Bytes], room: Optional[int] = None) -> Union[Formatted, Refusal]:
+        """The format text of an f-string's parts in a dialect (None is no dialect, by which Extended is meant)."""
+        words, texts = _part_words(parts)
+        return self.fstring_write_words(words, texts, dialect, room)
+
+    def fstring_write_words(self, words: Sequence[int], texts: Bytes, dialect: Optional[Bytes],
+                            room: Optional[int] = None) -> Union[Formatted, Refusal]:
+        """The same of parts in words, as the C interface takes them: 0 and the length of a text, or 1, 2, 3 for none, str, repr and then 0."""
+        texts, dialect, own = _bytes(texts), _bytes(dialect or b""), self._buffers
+        if any(not 0 <= operator.index(word) < 2 ** 32 for word in words):
+            raise ValueError("a word is a number from 0 to 4,294,967,295")
+        lent = (WORD * len(words))(*words)
+        room, buffer = _room(2 * (len(words) + len(texts)) if room is None else room, 0, 1)
+        text_at = own.file_at if buffer is None else ctypes.addressof(buffer)
+        number = self._fstring_write(ctypes.addressof(lent), len(words), texts, len(texts), dialect, len(dialect), text_at, room, own.out_at)
+        if number:
+            return _refusal(number, own.out)
+        return Formatted(ctypes.string_at(text_at, _wide(own.out[0], own.out[1])), own.out[2] == 0)
+
+    def fstring_read(self, text: Bytes, room: Optional[int] = None, texts_room: Optional[int] = None) -> Union[Parts, Refusal]:
+        """The parts of a format text. `room` counts words, two a part, `texts_room` bytes."""
+        text, own = _bytes(text), self._buffers
+        room, buffer = _room(2 * len(text) if room is None else room, 0, 4)
+        texts_room, texts_buffer = _room(len(text) if texts_room is None else texts_room, 0, 1)
+        lent = own.words_at if buffer is None else ctypes.addressof(buffer)
+        texts_at = own.names_at if texts_buffer is None else ctypes.addressof(texts_buffer)
+        number = self._fstring_read(text, len(text), lent, room, texts_at, texts_room, own.out_at)
+        if number:
+            return _refusal(number, own.out)
+        many, size = _wide(own.out[0], own.out[1]), _wide(own.out[2], own.out[3])
+        words, texts, parts, at = (WORD * (2 * many)).from_address(lent)[:], ctypes.string_at(texts_at, size), [], 0
+        names = {number: name for name, number in CONVERSIONS.items()}
+        for kind, length in zip(words[::2], words[1::2]):
+            parts.append(names[kind] if kind else texts[at:at + length])
+            at += length
+        return Parts(tuple(parts))
 
 
 def _identity(path):

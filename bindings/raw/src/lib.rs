@@ -109,4 +109,24 @@ extern "C" {
         node: usize,
         out: *mut Words,
     ) -> u32;
+    pub fn starlark_fstring_write(
+        parts: *const u32,
+        parts_len: usize,
+        texts: *const u8,
+        texts_len: usize,
+        dialect: *const u8,
+        dialect_len: usize,
+        text: *mut u8,
+        text_len: usize,
+        out: *mut Words,
+    ) -> u32;
+    pub fn starlark_fstring_read(
+        text: *const u8,
+        text_len: usize,
+        parts: *mut u32,
+        parts_len: usize,
+        texts: *mut u8,
+        texts_len: usize,
+        out: *mut Words,
+    ) -> u32;
 }

@@ -2,11 +2,16 @@
 //! is where a table file is put.
 
 use starlark_checks::check_file;
+use starlark_checks::dialect::ALL;
 use starlark_checks::dialect::EXTENDED;
 use starlark_checks::dialect::STANDARD;
+use starlark_checks::fstring_read;
+use starlark_checks::fstring_write;
+use starlark_checks::fstring_write_words;
 use starlark_checks::read;
 use starlark_checks::rescue;
 use starlark_checks::Kind;
+use starlark_checks::Part;
 use starlark_checks::Table;
 use starlark_checks::AUDIT_WORDS;
 use starlark_checks::ERROR_WORDS;
@@ -335,6 +340,46 @@ fn reads() {
     show_checked("a file with a byte behind it", &[&none[..], &[0]].concat(), 2 * ERROR_WORDS);
 }
 
+/// Parts written into a buffer of `room` bytes, and read back from there.
+fn show_format(words: &str, parts: &[Part], dialect: &[u8], room: usize) {
+    let mut text = vec![b'.'; room];
+    let answer = fstring_write(parts, dialect, &mut text);
+    println!("{words}: {answer:?}, text {}", String::from_utf8_lossy(&text));
+    if let Ok(formatted) = answer {
+        show_parts("  read back", &text[..formatted.length], 2 * room, room);
+    }
+}
+
+/// The parts of a text, in `room` words and `bytes` bytes.
+fn show_parts(words: &str, text: &[u8], room: usize, bytes: usize) {
+    let (mut list, mut texts) = (vec![u32::from(BEFORE); room], vec![b'.'; bytes]);
+    match fstring_read(text, &mut list, &mut texts) {
+        Ok(parts) => {
+            let shown = |part| match part {
+                Part::Text(text) => format!("text {}", String::from_utf8_lossy(text)),
+                other => format!("{other:?}"),
+            };
+            println!("{words}: {}", parts.iter().map(shown).collect::<Vec<_>>().join(" | "));
+        }
+        Err(refused) => println!("{words}: {refused}, words {list:?}, texts {}", String::from_utf8_lossy(&texts)),
+    }
+}
+
+fn formats() {
+    let parts = [Part::Text(b"{train"), Part::Text(b"} "), Part::Str, Part::Text(b""), Part::Text(b" at "), Part::Repr, Part::None];
+    show_format("parts in all options", &parts, &ALL, 24);
+    show_format("in the Extended dialect, which has no f-strings", &parts, &EXTENDED, 22);
+    show_format("21 bytes for 22", &parts, &ALL, 21);
+    show_format("eight bytes of dialect", &parts, &ALL[..8], 22);
+    show_format("no parts", &[], &[], 0);
+    let mut text = [b'.'; 4];
+    println!("a kind 4: {:?}", fstring_write_words(&[4, 0], b"", &ALL, &mut text));
+    println!("one byte for a text of two: {:?}", fstring_write_words(&[0, 2], b"a", &ALL, &mut text));
+    show_parts("a text that is cut", b"a{!r", 0, 0);
+    show_parts("two parts in three words", b"a{}", 3, 1);
+    show_parts("two bytes in one", b"}}a", 2, 1);
+}
+
 fn main() {
     checks();
     parameter_lists();
@@ -348,4 +393,5 @@ fn main() {
     files();
     rescues();
     reads();
+    formats();
 }

@@ -6,6 +6,8 @@ use starlark_checks_raw::starlark_audit;
 use starlark_checks_raw::starlark_bind;
 use starlark_checks_raw::starlark_call;
 use starlark_checks_raw::starlark_check_file;
+use starlark_checks_raw::starlark_fstring_read;
+use starlark_checks_raw::starlark_fstring_write;
 use starlark_checks_raw::starlark_module;
 use starlark_checks_raw::starlark_params;
 use starlark_checks_raw::starlark_read;
@@ -95,4 +97,15 @@ pub fn read(file: &[u8], table: &mut [u8], names: &mut [u8], out: &mut Words) ->
 
 pub fn check_file(file: &[u8], errors: &mut [u32], out: &mut Words) -> u32 {
     unsafe { starlark_check_file(file.as_ptr(), file.len(), errors.as_mut_ptr(), errors.len(), out) }
+}
+
+pub fn fstring_write(words: &[u32], texts: &[u8], dialect: &[u8], text: &mut [u8], out: &mut Words) -> u32 {
+    let (w, wl, t, tl) = (words.as_ptr(), words.len(), texts.as_ptr(), texts.len());
+    let (start, length) = (text.as_mut_ptr(), text.len());
+    unsafe { starlark_fstring_write(w, wl, t, tl, dialect.as_ptr(), dialect.len(), start, length, out) }
+}
+
+pub fn fstring_read(text: &[u8], words: &mut [u32], texts: &mut [u8], out: &mut Words) -> u32 {
+    let (w, wl, t, tl) = (words.as_mut_ptr(), words.len(), texts.as_mut_ptr(), texts.len());
+    unsafe { starlark_fstring_read(text.as_ptr(), text.len(), w, wl, t, tl, out) }
 }

@@ -1,6 +1,7 @@
 //! A safe wrapper of the proved checks: each job takes slices, and answers a value or why it refuses.
 //!
-//! Any bytes may come in. A job keeps nothing between calls and allocates nothing. A job that refuses leaves the lent buffer as it was.
+//! Any bytes may come in. A job keeps nothing between calls and allocates nothing, but for the words that [`fstring_write`] makes of its parts.
+//! A job that refuses leaves the lent buffer as it was.
 //!
 //! What a job only reads may overlap: table, names, dialect and input may be parts of one slice. What it writes is borrowed `&mut`, so that
 //! the compiler rules out that it overlaps anything else.
@@ -25,6 +26,7 @@ use std::ops::Range;
 use starlark_checks_raw::Words;
 
 mod errors;
+mod format;
 mod interface;
 mod made;
 mod words;
@@ -32,6 +34,13 @@ mod words;
 pub use errors::Error;
 pub use errors::Errors;
 pub use errors::Iter;
+pub use format::fstring_read;
+pub use format::fstring_write;
+pub use format::fstring_write_words;
+pub use format::Formatted;
+pub use format::Part;
+pub use format::Parts;
+pub use format::PartsIter;
 pub use made::dialect;
 pub use made::Kind;
 pub use made::Mode;
@@ -82,11 +91,12 @@ pub struct Refused {
     pub at: At,
 }
 
-/// Where a refusal stands: nowhere, at a node, or at a span of one. `file` is the node's source file number: the span is one in that script.
-/// `earlier` is for 11 and 22, and None for every other: the node of the first parameter or argument of the list that has the same name.
+/// Where a refusal stands: nowhere, at a byte of a format text, at a node, or at a span of one. `file` is the node's source file number: the span is
+/// one in that script. `earlier` is for 11 and 22, and None for every other: the node of the first parameter or argument of the list that has the same name.
 #[derive(Clone, Copy, Debug, PartialEq, Eq)]
 pub enum At {
     Nowhere,
+    Position(usize),
     Node(u32),
     Span { node: u32, file: u32, begin: u32, end: u32, earlier: Option<u32> },
 }
@@ -193,7 +203,8 @@ fn place(word: u32) -> Option<u32> {
 impl Refused {
     fn new(number: u32, out: &Words) -> Refused {
         let at = match number {
-            1 | 2 | 5 | 6 | 7 | 70..=75 | 90 | 91 => At::Nowhere,
+            1 | 2 | 5 | 6 | 7 | 64 | 70..=75 | 90 | 91 => At::Nowhere,
+            63 => At::Position(format::position(out)),
             3 | 4 => At::Node(out[0]),
             _ => At::Span { node: out[0], file: out[4], begin: out[1], end: out[2], earlier: place(out[3]) },
         };

@@ -2,7 +2,7 @@
 
 use crate::Class;
 
-/// A number given back: why a job refuses, or an error of a module.
+/// A number given back: why a job refuses, an error of a module, or a notice (62).
 #[derive(Clone, Copy, Debug, PartialEq, Eq, PartialOrd, Ord, Hash)]
 #[repr(u32)]
 #[non_exhaustive]
@@ -19,7 +19,7 @@ pub enum Number {
     BadDialect = 5,
     /// the node asked for is beyond the table, or of the wrong kind
     WrongNode = 6,
-    /// the buffer for modes, shapes, words of a binding, a file or what a file holds is too short
+    /// the buffer for modes, shapes, words of a binding, a file, what a file holds, a format text or its parts is too short
     ShortBuffer = 7,
     /// `/` is the first parameter
     SlashFirst = 10,
@@ -95,6 +95,12 @@ pub enum Number {
     EllipsisNotPermitted = 60,
     /// the dialect has no `lambda`
     LambdaNotPermitted = 61,
+    /// the dialect has no f-strings: a notice and no refusal, the format text is written
+    FStringsDisabled = 62,
+    /// a brace of a format text starts none of `{{`, `}}`, `{}` and `{!r}`
+    StrayBrace = 63,
+    /// a part of a format text is broken, or the lengths of the texts do not add up to the text bytes
+    BrokenPart = 64,
     /// the file ends before a block is whole
     BlockShort = 70,
     /// a block has the wrong number
@@ -275,14 +281,14 @@ pub mod dialect {
 }
 
 /// Each number, its name and what it means.
-pub const NUMBERS: [(Number, &str, &str); 57] = [
+pub const NUMBERS: [(Number, &str, &str); 60] = [
     (Number::TableLength, "TABLE_LENGTH", "the table has no record, more than 2,100, or a part of one"),
     (Number::NameBytes, "NAME_BYTES", "there are more than 8,064 name bytes"),
     (Number::UnsoundRecord, "UNSOUND_RECORD", "a record of the table is unsound"),
     (Number::TooDeep, "TOO_DEEP", "a statement or expression is more than 64 deep"),
     (Number::BadDialect, "BAD_DIALECT", "the dialect bytes give no dialect"),
     (Number::WrongNode, "WRONG_NODE", "the node asked for is beyond the table, or of the wrong kind"),
-    (Number::ShortBuffer, "SHORT_BUFFER", "the buffer for modes, shapes, words of a binding, a file or what a file holds is too short"),
+    (Number::ShortBuffer, "SHORT_BUFFER", "the buffer for modes, shapes, words of a binding, a file, what a file holds, a format text or its parts is too short"),
     (Number::SlashFirst, "SLASH_FIRST", "`/` is the first parameter"),
     (Number::DuplicatedParameter, "DUPLICATED_PARAMETER", "a parameter has the name of an earlier one"),
     (Number::NormalAfterKwargs, "NORMAL_AFTER_KWARGS", "an ordinary parameter stands after `**kwargs`"),
@@ -320,6 +326,9 @@ pub const NUMBERS: [(Number, &str, &str); 57] = [
     (Number::LoadNotPermitted, "LOAD_NOT_PERMITTED", "the dialect has no `load`"),
     (Number::EllipsisNotPermitted, "ELLIPSIS_NOT_PERMITTED", "`...` stands in a dialect that has no types"),
     (Number::LambdaNotPermitted, "LAMBDA_NOT_PERMITTED", "the dialect has no `lambda`"),
+    (Number::FStringsDisabled, "F_STRINGS_DISABLED", "the dialect has no f-strings: a notice and no refusal, the format text is written"),
+    (Number::StrayBrace, "STRAY_BRACE", "a brace of a format text starts none of `{{`, `}}`, `{}` and `{!r}`"),
+    (Number::BrokenPart, "BROKEN_PART", "a part of a format text is broken, or the lengths of the texts do not add up to the text bytes"),
     (Number::BlockShort, "BLOCK_SHORT", "the file ends before a block is whole"),
     (Number::BlockNumber, "BLOCK_NUMBER", "a block has the wrong number"),
     (Number::BlockCheck, "BLOCK_CHECK", "the sum of a block is wrong, so a byte is damaged"),

@@ -191,6 +191,7 @@ impl fmt::Display for Refused {
         write!(f, "{}", self.number)?;
         match self.at {
             At::Nowhere => Ok(()),
+            At::Position(at) => write!(f, " (byte {at})"),
             At::Node(node) => write!(f, " (node {node})"),
             At::Span { node, file, begin, end, earlier: None } => write!(f, " (node {node}, file {file}, bytes {begin} to {end})"),
             At::Span { node, file, begin, end, earlier: Some(first) } => {

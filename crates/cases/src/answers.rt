@@ -329,8 +329,96 @@ fn say_bind(table: &[u8], names: &[u8], call: usize, def: usize, room: usize) {
     say_words(list);
 }
 
+fn say_formatted(w: fstring::Written) {
+    match w {
+        fstring::Written::Accepted { length, enabled } => {
+            say(b"bytes ");
+            say_number(length as u64);
+            if !enabled {
+                say(b", notice 62");
+            }
+        }
+        fstring::Written::Refused(r) => say_refusal(r),
+    }
+}
+
+// The format text of parts, whose words stand in bytes, at most 14; and the buffer afterwards, which holds a dot in
+// every byte.
+fn say_format(texts: &[u8], parts: &[u8], dialect: &[u8], room: usize) {
+    let words = [
+        fields::word(parts, 0),
+        fields::word(parts, 4),
+        fields::word(parts, 8),
+        fields::word(parts, 12),
+        fields::word(parts, 16),
+        fields::word(parts, 20),
+        fields::word(parts, 24),
+        fields::word(parts, 28),
+        fields::word(parts, 32),
+        fields::word(parts, 36),
+        fields::word(parts, 40),
+        fields::word(parts, 44),
+        fields::word(parts, 48),
+        fields::word(parts, 52),
+    ];
+    let mut space = [46u8; 64];
+    let all: &[u32] = &words;
+    let lent: &mut [u8] = &mut space;
+    let count = parts.len() / 4;
+    if all.len() < count {
+        return;
+    }
+    if lent.len() < room {
+        return;
+    }
+    let text = &mut lent[0..room];
+    let w = fstring::write(&all[0..count], texts, dialect, text);
+    say_formatted(w);
+    say(b", text ");
+    say(text);
+}
+
+fn say_reading(r: fstring::Reading) {
+    match r {
+        fstring::Reading::Accepted { parts, bytes } => {
+            say(b"parts ");
+            say_number(parts as u64);
+            say(b", bytes ");
+            say_number(bytes as u64);
+        }
+        fstring::Reading::StrayAt(position) => {
+            say(b"63 at byte ");
+            say_number(position as u64);
+        }
+        fstring::Reading::Short => say(b"7"),
+    }
+}
+
+// The parts of a format text, and both buffers afterwards, which hold 9 in every word and a dot in every byte.
+fn say_parts(text: &[u8], room: usize, texts_room: usize) {
+    let mut space = [9u32; 64];
+    let mut more = [46u8; 64];
+    let lent: &mut [u32] = &mut space;
+    let lent_texts: &mut [u8] = &mut more;
+    if lent.len() < room {
+        return;
+    }
+    if lent_texts.len() < texts_room {
+        return;
+    }
+    let parts = &mut lent[0..room];
+    let texts = &mut lent_texts[0..texts_room];
+    let r = fstring::read(text, parts, texts);
+    say_reading(r);
+    say(b", words");
+    say_words(parts);
+    say(b", texts ");
+    say(texts);
+}
+
 // 0 is a heading, 1 the table check, 2 a job's node, 3 the bytes of a dialect, 4 a call's arguments, 5 parameters, 6 a
-// target, 7 an assignment, 8 a type, 9 a module, 10 a binding, 11 an audit.
+// target, 7 an assignment, 8 a type, 9 a module, 10 a binding, 11 an audit, 12 a format text, 13 its parts. Of a format
+// text the texts stand where a table does, and the words of its parts where names do.
 pub(crate) fn answer(a: Asked, table: &[u8], names: &[u8], dialect: &[u8]) {
     let job = a.job;
     match job {
@@ -344,6 +432,8 @@ pub(crate) fn answer(a: Asked, table: &[u8], names: &[u8], dialect: &[u8]) {
         9 => say_module(table, names, dialect, a.room),
         10 => say_bind(table, names, a.node, a.def, a.room),
         11 => say_audit(table, names, dialect, a.room),
+        12 => say_format(table, names, dialect, a.room),
+        13 => say_parts(table, a.room, a.def),
         _ => say(b""),
     }
 }

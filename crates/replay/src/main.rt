@@ -25,7 +25,7 @@ fn at(counts: &[u64], place: usize) -> u64 {
 }
 
 // How many answers by a judge agree, and the number of the first request whose answer does not, from 1.
-fn say_judged(place: usize, agree: &[u64; 26], differ: &[u64; 26], first: &[u64; 26]) {
+fn say_judged(place: usize, agree: &[u64; 30], differ: &[u64; 30], first: &[u64; 30]) {
     say_number(at(agree, place));
     say(b" agree, ");
     say_number(at(differ, place));
@@ -41,9 +41,9 @@ fn say_counts(
     name: &[u8],
     model: usize,
     of_crate: usize,
-    agree: &[u64; 26],
-    differ: &[u64; 26],
-    first: &[u64; 26],
+    agree: &[u64; 30],
+    differ: &[u64; 30],
+    first: &[u64; 30],
 ) {
     say(name);
     say(b": by the crate ");
@@ -110,9 +110,9 @@ fn main() {
         os::fail(b"requests.bin");
         return;
     }
-    let mut agree = [0u64; 26];
-    let mut differ = [0u64; 26];
-    let mut first = [0u64; 26];
+    let mut agree = [0u64; 30];
+    let mut differ = [0u64; 30];
+    let mut first = [0u64; 30];
     all(fd, &mut agree, &mut differ, &mut first);
     libc::close(fd);
     say_counts(b"table", 0, 1, &agree, &differ, &first);
@@ -128,4 +128,6 @@ fn main() {
     say_counts(b"audit", 20, 21, &agree, &differ, &first);
     say_counts(b"read", 22, 23, &agree, &differ, &first);
     say_counts(b"check_file", 24, 25, &agree, &differ, &first);
+    say_counts(b"fstring_write", 26, 27, &agree, &differ, &first);
+    say_counts(b"fstring_read", 28, 29, &agree, &differ, &first);
 }

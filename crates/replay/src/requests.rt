@@ -12,7 +12,7 @@ pub(crate) enum Replayed {
 
 // The head of a request: the job, how long its parts are, the job's node, the number that it answers, how many words,
 // and whether the crate (1) or the model alone (0) has given the answer. `second` is the Def's node of a binding, and
-// how long the second buffer of the reader is.
+// how long the second buffer of a reader is.
 struct Asked {
     job: usize,
     dialect: usize,
@@ -37,6 +37,12 @@ const CHECK_FILE: usize = 12;
 
 // The reader, whose two buffers are of bytes.
 const READ: usize = 11;
+
+// The writer of format texts, the words of whose parts stand where names do, four bytes each; and their reader, whose
+// first buffer is of words.
+const FSTRING_WRITE: usize = 13;
+
+const FSTRING_READ: usize = 14;
 
 // What each byte of the lent memory is before a job.
 const FILL: u8 = 0xEE;
@@ -70,13 +76,16 @@ fn is_listed(job: usize) -> bool {
 
 // How many bytes the recorded buffers have.
 fn buffer_len(job: usize, room: usize, second: usize) -> usize
-    ensures { λ r. ⌜ r < 262144 ⌝ }
+    ensures { λ r. ⌜ r < 327680 ⌝ }
 {
     if is_listed(job) {
         return 4 * (room % 65536);
     }
     if job == READ {
         return room % 65536 + second % 65536;
+    }
+    if job == FSTRING_READ {
+        return 4 * (room % 65536) + second % 65536;
     }
     room % 65536
 }
@@ -241,6 +250,79 @@ fn list_agrees(a: Asked, table: &[u8], names: &[u8], dialect: &[u8], answer: &[u
     each_word(behind(answer, bytes_of(a.words)), room, whole)
 }
 
+// Whether the format text of parts is told and left as recorded. A request has at most twelve words.
+fn format_agrees(a: Asked, texts: &[u8], parts: &[u8], dialect: &[u8], answer: &[u8]) -> bool {
+    let words = [
+        fields::word(parts, 0),
+        fields::word(parts, 4),
+        fields::word(parts, 8),
+        fields::word(parts, 12),
+        fields::word(parts, 16),
+        fields::word(parts, 20),
+        fields::word(parts, 24),
+        fields::word(parts, 28),
+        fields::word(parts, 32),
+        fields::word(parts, 36),
+        fields::word(parts, 40),
+        fields::word(parts, 44),
+    ];
+    let mut space = [FILL; 2560];
+    let mut out = [FILL_WORD; 12];
+    let all: &[u32] = &words;
+    let text: &mut [u8] = &mut space;
+    let count = parts.len() / 4;
+    let room = a.room;
+    if all.len() < count {
+        return false;
+    }
+    if text.len() < room {
+        return false;
+    }
+    let number = starlark_checks::starlark_fstring_write(
+        &all[0..count],
+        texts,
+        dialect,
+        &mut text[0..room],
+        &mut out,
+    );
+    if !is_told(a, number, answer, &out) {
+        return false;
+    }
+    let whole = &text[..];
+    names::same_bytes(front(whole, room), behind(answer, bytes_of(a.words)))
+}
+
+// Whether the parts of a format text are told and both buffers left as recorded.
+fn parts_agree(a: Asked, text: &[u8], answer: &[u8]) -> bool {
+    let mut space = [FILL_WORD; 256];
+    let mut more = [FILL; 2560];
+    let mut out = [FILL_WORD; 12];
+    let list: &mut [u32] = &mut space;
+    let texts: &mut [u8] = &mut more;
+    let room = a.room;
+    let second = a.second;
+    if list.len() < room {
+        return false;
+    }
+    if texts.len() < second {
+        return false;
+    }
+    let number = starlark_checks::starlark_fstring_read(
+        text,
+        &mut list[0..room],
+        &mut texts[0..second],
+        &mut out,
+    );
+    if !is_told(a, number, answer, &out) {
+        return false;
+    }
+    let read = behind(answer, bytes_of(a.words));
+    let whole_list = &list[..];
+    let whole_texts = &texts[..];
+    each_word(read, room, whole_list)
+        & names::same_bytes(front(whole_texts, second), behind(read, bytes_of(room)))
+}
+
 // Whether a request's answer is the recorded one, where the request stands behind its head.
 fn is_same(a: Asked, body: &[u8]) -> bool {
     let table = front(body, a.table);
@@ -254,6 +336,12 @@ fn is_same(a: Asked, body: &[u8]) -> bool {
     }
     if a.job == READ {
         return read_agrees(a, table, answer);
+    }
+    if a.job == FSTRING_WRITE {
+        return format_agrees(a, table, names, dialect, answer);
+    }
+    if a.job == FSTRING_READ {
+        return parts_agree(a, table, answer);
     }
     agrees(a, table, names, dialect, answer)
 }

@@ -11,6 +11,8 @@ use lib.ListN.{length, take, drop, length-take, length-drop}
 use lib.Seq.{take-at}
 use lib.Dec.{leb}
 use Rattle.fields.proofs.Fields.{tail-part}
+use Rattle.fields.specs.Over.{over}
+use Rattle.fields.proofs.Over.{over-front}
 use Rattle.fields.proofs.Spelling.{Bytes}
 use Rattle.table.specs.Numbers.{shortBuffer, badHeader, nothingKept}
 use Rattle.table.specs.Answer.{accepted, refused, passes}
@@ -23,9 +25,8 @@ use Rattle.tablefile.proofs.Copies.{copied-is}
 use Rattle.tablefile.specs.Reading.{headerAt, contentAt}
 use Rattle.tablefile.specs.declared.Heading.{Heading}
 use Rattle.tablefile.proofs.Fronts.{dialect-few, first-is, taken-is, table-length}
-use Rattle.writer.specs.Writing.{holding, bytesFor, over, laidOver}
+use Rattle.writer.specs.Writing.{holding, bytesFor, laidOver}
 use Rattle.writer.proofs.Building.{length-file}
-use Rattle.writer.proofs.Over.{over-front}
 use Rattle.writer.proofs.Jobs.{Fitting, laid-over}
 use Rattle.rescue.specs.Good.{headGood, blocksPass, goodTable}
 use Rattle.rescue.specs.Job.{tableKept, kept, statementsOf, toldOf, rescueOf, fileAfter, told}

@@ -13,6 +13,7 @@ use lib.Seq.{take-at, drop-at}
 use lib.Dec.{leb}
 use borrow.Author.Tests.{leb-true, leb-false, le-leb, lt-leb, eq-eqb}
 use Rattle.fields.proofs.Basics.{never, clash, le-or-lt}
+use Rattle.fields.proofs.Over.{over-front}
 use Rattle.fields.proofs.Spelling.{Bytes}
 use Rattle.forest.specs.Forest.{nodeOf, Forest, roots}
 use Rattle.forest.proofs.Prefix.{firsts-roots}
@@ -34,7 +35,6 @@ use Rattle.tablefile.proofs.Accepted.{read-fronted, read-whole, read-is-sound, 
 use Rattle.tablefile.proofs.Theorems.{Read, file-read-back}
 use Rattle.writer.specs.Writing.{bytesFor}
 use Rattle.writer.proofs.Building.{length-file}
-use Rattle.writer.proofs.Over.{over-front}
 use Rattle.rescue.specs.declared.Kept.{Kept}
 use Rattle.rescue.specs.declared.Rescued.{Rescued}
 use Rattle.rescue.specs.declared.Rescued.the-variants.{Accepted, Refused}

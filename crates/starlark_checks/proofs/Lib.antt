@@ -1,3 +1,4 @@
 mod Told
+mod FormatTold
 pub mod Promises
 pub mod ReadBack

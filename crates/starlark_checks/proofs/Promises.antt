@@ -22,6 +22,9 @@ use Rattle.rescue.specs.Job.{rescueOf, fileAfter as rescuedAfter}
 use Rattle.starlark_checks.specs.Words.{number, words, callWords, rescueWords, laid}
 use Rattle.starlark_checks.specs.Words.{readOf, passWords}
 use Rattle.starlark_checks.specs.Version.{version}
+use Rattle.fstring.specs.Writing.{writeOf as textOf, textAfter}
+use Rattle.fstring.specs.Reading.{readOf as partsRead, wordsAfter as partsAfter, textsAfter}
+use Rattle.starlark_checks.specs.FormatWords.{textWords, partWords}
 
 -- of `starlark_version`
 pub starlark-version-one : {r s : ℕ} → r ≡ version → s ≡ version → r ≡ s
@@ -145,3 +148,26 @@ pub starlark-check-file-one : (file errors out : List ℕ) {r s : ℕ} {errors-r
     → (r ≡ s) × (errors-r ≡ errors-s) × (out-r ≡ out-s)
 starlark-check-file-one file errors out r-is out-is errors-is s-is out-are errors-are =
     (coincide r-is s-is, coincide errors-is errors-are, coincide out-is out-are)
+
+-- of `starlark_fstring_write`
+pub starlark-fstring-write-one : (parts texts dialect text out : List ℕ) {r s : ℕ} {text-r text-s : List ℕ}
+    {out-r out-s : List ℕ} → r ≡ number (textOf parts texts dialect (length text))
+    → out-r ≡ laid (textWords (textOf parts texts dialect (length text))) 0 out
+    → text-r ≡ textAfter parts texts dialect text
+    → s ≡ number (textOf parts texts dialect (length text))
+    → out-s ≡ laid (textWords (textOf parts texts dialect (length text))) 0 out
+    → text-s ≡ textAfter parts texts dialect text → (r ≡ s) × (text-r ≡ text-s) × (out-r ≡ out-s)
+starlark-fstring-write-one parts texts dialect text out r-is out-is text-is s-is out-are text-are =
+    (coincide r-is s-is, coincide text-is text-are, coincide out-is out-are)
+
+-- of `starlark_fstring_read`
+pub starlark-fstring-read-one : (text parts texts out : List ℕ) {r s : ℕ} {parts-r parts-s : List ℕ}
+    {texts-r texts-s : List ℕ} {out-r out-s : List ℕ} → r ≡ number (partsRead text (length parts) (length texts))
+    → out-r ≡ laid (partWords (partsRead text (length parts) (length texts))) 0 out
+    → parts-r ≡ partsAfter text parts (length texts) → texts-r ≡ textsAfter text (length parts) texts
+    → s ≡ number (partsRead text (length parts) (length texts))
+    → out-s ≡ laid (partWords (partsRead text (length parts) (length texts))) 0 out
+    → parts-s ≡ partsAfter text parts (length texts) → texts-s ≡ textsAfter text (length parts) texts
+    → (r ≡ s) × (parts-r ≡ parts-s) × (texts-r ≡ texts-s) × (out-r ≡ out-s)
+starlark-fstring-read-one text parts texts out r-is out-is parts-is texts-is s-is out-are parts-are texts-are =
+    (coincide r-is s-is, coincide parts-is parts-are, coincide texts-is texts-are, coincide out-is out-are)

@@ -11,6 +11,7 @@ use rescue::Rescued;
 use table::Checked;
 use table::Place;
 use table::Refusal;
+use table::numbers;
 use tablefile::Verdict;
 use targets::Targeted;
 use types::Shaped;
@@ -20,7 +21,8 @@ ghost use mathlib.Core.Path.{_≡_};
 ghost use mathlib.Core.List.{[], _∷_};
 ghost use Prim.Native.Nat.{_+_, _<_};
 ghost use lib.ListN.{length};
-ghost use Rattle.table.specs.Answer.{accepted, refusal};
+ghost use Rattle.table.specs.Answer.{accepted, refused, refusal};
+ghost use Rattle.table.specs.Numbers.{strayBrace};
 ghost use Rattle.table.specs.Check.{checkOf};
 ghost use Rattle.parameters.specs.Indices.{valuesOf};
 ghost use Rattle.parameters.specs.Params.{paramsOf, modesAfter};
@@ -39,6 +41,9 @@ ghost use Rattle.rescue.specs.Job.{rescueOf, fileAfter as rescuedAfter, told};
 ghost use Rattle.starlark_checks.specs.Words.{number, words, callWords, rescueWords, laid, Fit, placeIn};
 ghost use Rattle.starlark_checks.specs.Words.{heldValues, readOf, passWords};
 ghost use Rattle.starlark_checks.specs.Version.{version};
+ghost use Rattle.fstring.specs.Writing.{writeOf as textOf, textAfter, notice};
+ghost use Rattle.fstring.specs.Reading.{readOf as partsRead, wordsAfter as partsAfter, textsAfter};
+ghost use Rattle.starlark_checks.specs.FormatWords.{twoWords, textWords, partWords};
 
 // The version of the library.
 const MAJOR: u32 = 0;
@@ -452,5 +457,106 @@ pub extern "C" fn starlark_check_file(file: &[u8], errors: &mut [u32], out: &mut
     match answer {
         Passed::Listed { nodes, total } => put_two(total, nodes, out),
         Passed::Refused(r) => put_refused(r, out),
+    }
+}
+
+// A number that may pass 32 bits, in two words from a place on, the low one first.
+fn put_wide(n: usize, at: usize, out: &mut [u32; 12])
+    requires { ⌜ at < 11 ⌝ }
+    ensures { λ u. ⌜ now (out .exit) ≡ laid (twoWords n) at (now (out .entry)) ⌝ }
+{
+    out[at] = (n % 4_294_967_296) as u32;
+    out[at + 1] = (n / 4_294_967_296) as u32;
+}
+
+// 62 where the dialect lacks f-strings, else 0.
+fn notice_word(enabled: bool) -> u32
+    ensures { λ r. ⌜ r ≡ notice enabled ⌝ }
+{
+    if enabled {
+        return 0;
+    }
+    numbers::F_STRINGS_DISABLED
+}
+
+// The length of a format text, and 62 or 0.
+fn put_text(n: usize, enabled: bool, out: &mut [u32; 12]) -> u32
+    ensures { λ r. ⌜ r ≡ number (accepted (n ∷ notice enabled ∷ [])) ⌝ }
+    ensures { λ r. ⌜ now (out .exit) ≡ laid (textWords (accepted (n ∷ notice enabled ∷ []))) 0 (now (out .entry)) ⌝ }
+{
+    put_wide(n, 0, out);
+    out[2] = notice_word(enabled);
+    0
+}
+
+// The number of parts, and of their text bytes.
+fn put_parts(parts: usize, bytes: usize, out: &mut [u32; 12]) -> u32
+    ensures { λ r. ⌜ r ≡ number (accepted (parts ∷ bytes ∷ [])) ⌝ }
+    ensures { λ r. ⌜ now (out .exit) ≡ laid (partWords (accepted (parts ∷ bytes ∷ []))) 0 (now (out .entry)) ⌝ }
+{
+    put_wide(parts, 0, out);
+    put_wide(bytes, 2, out);
+    0
+}
+
+// The position of a stray brace.
+fn put_stray(position: usize, out: &mut [u32; 12]) -> u32
+    ensures { λ r. ⌜ r ≡ number (refused strayBrace (position ∷ [])) ⌝ }
+    ensures { λ r. ⌜ now (out .exit) ≡ laid (partWords (refused strayBrace (position ∷ []))) 0 (now (out .entry)) ⌝ }
+{
+    put_wide(position, 0, out);
+    numbers::STRAY_BRACE
+}
+
+// The format text of parts: its length in two words, the low one first, and 62 or 0; the text at the front of the
+// buffer.
+#[no_mangle]
+pub extern "C" fn starlark_fstring_write(
+    parts: &[u32],
+    texts: &[u8],
+    dialect: &[u8],
+    text: &mut [u8],
+    out: &mut [u32; 12],
+) -> u32
+    ensures { λ r. ⌜ r ≡
+        number (textOf (now (parts .entry)) (now (texts .entry)) (now (dialect .entry))
+        (length (now (text .entry)))) ⌝ }
+    ensures { λ r. ⌜ now (out .exit) ≡
+        laid (textWords (textOf (now (parts .entry)) (now (texts .entry)) (now (dialect .entry))
+        (length (now (text .entry))))) 0 (now (out .entry)) ⌝ }
+    ensures { λ r. ⌜ now (text .exit) ≡
+        textAfter (now (parts .entry)) (now (texts .entry)) (now (dialect .entry)) (now (text .entry)) ⌝ }
+{
+    let answer = fstring::write(parts, texts, dialect, text);
+    match answer {
+        fstring::Written::Accepted { length, enabled } => put_text(length, enabled, out),
+        fstring::Written::Refused(r) => put_refused(r, out),
+    }
+}
+
+// The parts of a format text: how many, and how many text bytes, each in two words, the low one first; so is the
+// position of 63. Words and texts at the fronts of two buffers.
+#[no_mangle]
+pub extern "C" fn starlark_fstring_read(
+    text: &[u8],
+    parts: &mut [u32],
+    texts: &mut [u8],
+    out: &mut [u32; 12],
+) -> u32
+    ensures { λ r. ⌜ r ≡
+        number (partsRead (now (text .entry)) (length (now (parts .entry))) (length (now (texts .entry)))) ⌝ }
+    ensures { λ r. ⌜ now (out .exit) ≡
+        laid (partWords (partsRead (now (text .entry)) (length (now (parts .entry))) (length (now (texts .entry))))) 0
+        (now (out .entry)) ⌝ }
+    ensures { λ r. ⌜ now (parts .exit) ≡
+        partsAfter (now (text .entry)) (now (parts .entry)) (length (now (texts .entry))) ⌝ }
+    ensures { λ r. ⌜ now (texts .exit) ≡
+        textsAfter (now (text .entry)) (length (now (parts .entry))) (now (texts .entry)) ⌝ }
+{
+    let answer = fstring::read(text, parts, texts);
+    match answer {
+        fstring::Reading::Accepted { parts, bytes } => put_parts(parts, bytes, out),
+        fstring::Reading::StrayAt(position) => put_stray(position, out),
+        fstring::Reading::Short => numbers::SHORT_BUFFER,
     }
 }

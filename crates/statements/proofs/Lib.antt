@@ -20,5 +20,6 @@ pub mod TableFile
 pub mod Writer
 pub mod Rescue
 pub mod FilePass
+pub mod FString
 pub mod InC
 pub mod Examples

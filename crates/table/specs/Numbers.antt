@@ -26,7 +26,7 @@ badDialect = 5
 abbrev pub wrongNode : ℕ
 wrongNode = 6
 
--- a mode or shape buffer too short
+-- a lent buffer too short
 abbrev pub shortBuffer : ℕ
 shortBuffer = 7
 
@@ -177,6 +177,18 @@ ellipsisNotPermitted = 60
 -- lambda
 abbrev pub lambdaNotPermitted : ℕ
 lambdaNotPermitted = 61
+
+-- f-strings disabled in the dialect: a notice, no refusal
+abbrev pub fStringsDisabled : ℕ
+fStringsDisabled = 62
+
+-- a brace of a format text that starts none of the four forms
+abbrev pub strayBrace : ℕ
+strayBrace = 63
+
+-- a broken part of a format text, or lengths that do not add up to the text bytes
+abbrev pub brokenPart : ℕ
+brokenPart = 64
 
 -- short block
 abbrev pub blockShort : ℕ

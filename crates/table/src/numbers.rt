@@ -11,7 +11,7 @@ pub const BAD_DIALECT: u32 = 5; // no dialect
 
 pub const WRONG_NODE: u32 = 6; // no node, or one of the wrong kind
 
-pub const SHORT_BUFFER: u32 = 7; // a mode or shape buffer too short
+pub const SHORT_BUFFER: u32 = 7; // a lent buffer too short
 
 pub const SLASH_FIRST: u32 = 10; // `/` is first
 
@@ -86,6 +86,12 @@ pub const LOAD_NOT_PERMITTED: u32 = 59; // load not in this dialect
 pub const ELLIPSIS_NOT_PERMITTED: u32 = 60; // `...` with types disabled
 
 pub const LAMBDA_NOT_PERMITTED: u32 = 61; // lambda
+
+pub const F_STRINGS_DISABLED: u32 = 62; // f-strings disabled in the dialect: a notice, no refusal
+
+pub const STRAY_BRACE: u32 = 63; // a brace of a format text that starts none of the four forms
+
+pub const BROKEN_PART: u32 = 64; // a broken part of a format text, or lengths that do not add up to the text bytes
 
 pub const BLOCK_SHORT: u32 = 70; // short block
 

@@ -17,6 +17,8 @@ use borrow.Rule.Slice.PartMut.{putMid}
 use Rattle.fields.proofs.Basics.{le-or-lt}
 use Rattle.fields.proofs.Fields.{tail-part}
 use Rattle.fields.specs.Field.{bytesOf}
+use Rattle.fields.specs.Over.{over}
+use Rattle.fields.proofs.Over.{over-none, over-front, length-over, over-next, over-part}
 use Rattle.fields.proofs.Spelling.{length-bytes}
 use Rattle.blocks.specs.Block.{weighed, sumOf, beforeSum, blockOf}
 use Rattle.blocks.specs.Run.{blocksFor, blocksOf, runOf}
@@ -25,8 +27,7 @@ use Rattle.blocks.proofs.Blocks.{length-front, length-block, take-min}
 use Rattle.blocks.proofs.Runs.{blocks-more, length-run}
 use Rattle.tablefile.specs.File.{headerOf, fileOf, mostBlocks}
 use Rattle.tablefile.proofs.Copies.{drop-zeros}
-use Rattle.writer.specs.Writing.{holding, bytesFor, over}
-use Rattle.writer.proofs.Over.{over-none, over-front, length-over, over-next, over-part}
+use Rattle.writer.specs.Writing.{holding, bytesFor}
 
 -- four bytes, and what is laid behind them
 four-then : (d a b : List ℕ) {o₁ o₂ : List ℕ} → length a ≡ 4 → o₁ ≡ over 0 a d → o₂ ≡ over 4 b o₁
@@ -34,7 +35,7 @@ four-then : (d a b : List ℕ) {o₁ o₂ : List ℕ} → length a ≡ 4 → o�
 four-then d a b four o₁-is o₂-is =
     let at : 4 ≡ 0 + length a = omega arith in
     let long : length (a ++ b) ≡ 4 + length b = simp length-append (omega arith) in
-    o₂-is ∙ ap (over 4 b) o₁-is ∙ ap (λ (n : ℕ). over n b (over 0 a d)) at ∙ over-next 0 a d (omega arith) b
+    o₂-is ∙ ap (over 4 b) o₁-is ∙ ap (λ (n : ℕ). over n b (over 0 a d)) at ∙ over-next 0 a d b
     ∙ over-front (a ++ b) d ∙ ap (λ (n : ℕ). (a ++ b) ++ drop n d) long
 
 -- two numbers are four bytes
@@ -209,7 +210,7 @@ module _ {d content : List ℕ} {first : ℕ} {out left : List ℕ} {done : ℕ}
           long = long ∙ s .long;
           same = ap (λ (n : ℕ). over (512 * (done + 1)) (runOf n (drop 504 left)) (over (512 * done) block out)) onward
               ∙ ap (λ (n : ℕ). over n (runOf (first + done + 1) (drop 504 left)) (over (512 * done) block out)) next
-              ∙ over-next (512 * done) block out (omega (arith, run-room)) (runOf (first + done + 1) (drop 504 left))
+              ∙ over-next (512 * done) block out (runOf (first + done + 1) (drop 504 left))
               ∙ ap (λ (x : List ℕ). over (512 * done) x out) (sym (run-first (first + done) left more)) ∙ s .same;
         }
 
@@ -226,7 +227,7 @@ module _ {d content : List ℕ} {first : ℕ} {out left : List ℕ} {done : ℕ}
         ∙ ap (λ (n : ℕ). drop n left) used-is ∙ drop-used left in
         let ys-so : ys ≡ over 0 block (take (length out - 512 * done) (drop (512 * done) out)) = rw part at ys-is in
         let new : putMid (512 * done) (length out - 512 * done) out ys ≡ over (512 * done) block out =
-        over-part (512 * done) block out (omega (arith, run-room)) ys-so in
+        over-part (512 * done) block out ys-so in
         rw (new, after) run-next
 
 -- a file: block 0, the names' run, the nodes' run
@@ -255,9 +256,6 @@ module _ (t names ds d : List ℕ) (pre : (length ds ≤ 9)
   abbrev first : ℕ
   first = 1 + blocksFor (length names)
 
-  room : 512 * (first + blocksFor (length t)) ≤ length d
-  room = pre .2
-
   header-is : length header ≡ 512
   header-is = header-long t names ds (pre .0)
 
@@ -265,12 +263,6 @@ module _ (t names ds d : List ℕ) (pre : (length ds ≤ 9)
   begun-long = simp length-append (omega (arith, header-is, length-run 1 names))
 
   module _ {f₁ : List ℕ} (f₁-is : f₁ ≡ over 0 header d) where
-    f₁-long : length f₁ ≡ length d
-    f₁-long = rw f₁-is (length-over 0 header d (omega (arith, room, header-is)))
-
-    names-place : 512 ≤ length f₁
-    names-place = omega (arith, room, f₁-long)
-
     module _ {ys : List ℕ} (ys-is : ys ≡ over 0 (runOf 1 names) (take (length f₁ - 512) (drop 512 f₁))) where
       abbrev f₂ : List ℕ
       f₂ = putMid 512 (length f₁ - 512) f₁ ys
@@ -278,16 +270,10 @@ module _ (t names ds d : List ℕ) (pre : (length ds ≤ 9)
       f₂-so : f₂ ≡ over 0 begun d
       f₂-so =
           let at : 512 ≡ 0 + length header = omega (arith, header-is) in
-          over-part 512 (runOf 1 names) f₁ names-place ys-is
-          ∙ rw (f₁-is, at) (over-next 0 header d (omega arith) (runOf 1 names))
-
-      f₂-long : length f₂ ≡ length d
-      f₂-long = rw f₂-so (length-over 0 begun d (omega (arith, room, begun-long)))
+          over-part 512 (runOf 1 names) f₁ ys-is
+          ∙ rw (f₁-is, at) (over-next 0 header d (runOf 1 names))
 
       module _ {k : ℕ} (k-is : k ≡ blocksFor (length names)) where
-        nodes-place : 512 * (1 + k) ≤ length f₂
-        nodes-place = rw k-is (omega (arith, room, f₂-long))
-
         -- LAW: that is the file
         pub file-whole : {zs : List ℕ}
             → zs ≡ over 0 (runOf (1 + k) t) (take (length f₂ - 512 * (1 + k)) (drop (512 * (1 + k)) f₂))
@@ -295,6 +281,6 @@ module _ (t names ds d : List ℕ) (pre : (length ds ≤ 9)
         unfolding fileOf
         file-whole zs-is =
             let at : 512 * first ≡ 0 + length begun = omega (arith, begun-long) in
-            over-part (512 * (1 + k)) (runOf (1 + k) t) f₂ nodes-place zs-is
-            ∙ rw (f₂-so, k-is, at) (over-next 0 begun d (omega arith) (runOf first t))
+            over-part (512 * (1 + k)) (runOf (1 + k) t) f₂ zs-is
+            ∙ rw (f₂-so, k-is, at) (over-next 0 begun d (runOf first t))
             ∙ ap (λ (x : List ℕ). over 0 x d) (append-assoc header (runOf 1 names) (runOf first t))

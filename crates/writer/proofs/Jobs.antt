@@ -21,9 +21,10 @@ use Rattle.blocks.specs.Run.{blocksFor}
 use Rattle.tablefile.specs.File.{fileOf, mostBlocks}
 use Rattle.tablefile.specs.Reading.{soundCheck}
 use Rattle.tablefile.proofs.Accepted.{dialect-lengths}
-use Rattle.writer.specs.Writing.{holding, bytesFor, roomCheck, writeOf, over, afterwards, fileAfter}
+use Rattle.writer.specs.Writing.{holding, bytesFor, roomCheck, writeOf, afterwards, fileAfter}
 use Rattle.writer.specs.Writing.{fitsIn, laidOver}
 use Rattle.fields.specs.Choice.{if'}
+use Rattle.fields.specs.Over.{over}
 
 -- how many bytes a file takes, in the terms of code
 module _ (t n room : ℕ) {k m : ℕ} (k-is : k ≡ blocksFor n) (m-is : m ≡ blocksFor t) where

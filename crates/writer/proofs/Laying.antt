@@ -7,10 +7,10 @@ use native.Mathlib.Numerals.{add-one}
 use native.Mathlib.Omega.{arith}
 use lib.ListN.{length, getD, take, drop, set}
 use lib.Seq.{paste, paste-zero, paste-suc, length-paste, take-length, getD-set-same}
+use Rattle.fields.specs.Over.{over}
 use Rattle.fields.proofs.Spelling.{Bytes}
 use Rattle.blocks.specs.Block.{weightOf, weighed}
 use Rattle.blocks.proofs.Sums.{Summed, weighed-outside, weighed-small, weight-small, sum-on}
-use Rattle.writer.specs.Writing.{over}
 
 -- the first i of some bytes stand in out from a place on, and all else is as it was in d
 pub record Putting (d bytes : List ℕ) (at : ℕ) (out : List ℕ) (i : ℕ) : Type 0 where

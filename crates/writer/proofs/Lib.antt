@@ -1,4 +1,3 @@
-pub mod Over
 pub mod Laying
 pub mod Building
 pub mod Jobs

@@ -12,6 +12,7 @@ use lib.ListN.{length, take, drop}
 use lib.Seq.{take-at, drop-at}
 use borrow.Author.Tests.{lt-leb}
 use Rattle.fields.proofs.Spelling.{Bytes}
+use Rattle.fields.proofs.Over.{over-front}
 use Rattle.table.specs.Numbers.{shortBuffer}
 use Rattle.table.specs.Answer.{accepted, isRefused}
 use Rattle.table.specs.declared.Refusal.{Refusal}
@@ -29,7 +30,6 @@ use Rattle.tablefile.proofs.Theorems.{Read, accepted-is-file, accepted-is-sound
 use Rattle.writer.specs.declared.Written.{Written}
 use Rattle.writer.specs.declared.Written.the-variants.{Accepted, Refused}
 use Rattle.writer.specs.Writing.{holding, bytesFor, writeOf, fileAfter, written}
-use Rattle.writer.proofs.Over.{over-front}
 use Rattle.writer.proofs.Building.{length-file}
 use Rattle.writer.proofs.Jobs.{Says, passed-says, sound-few, sound-accepted}
 use Rattle.writer.proofs.Promises.{written-injective}

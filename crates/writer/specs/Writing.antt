@@ -1,10 +1,11 @@
 -- Writing a table file: the job's answer, and the buffer at exit. These are definitions.
 use mathlib.Core.Bool.{Bool, _&&_}
-use mathlib.Core.List.{List, [], _∷_, _++_}
+use mathlib.Core.List.{List, [], _∷_}
 use Prim.Native.Nat.{ℕ, _+_, _*_}
-use lib.ListN.{length, take, drop}
+use lib.ListN.{length}
 use lib.Dec.{leb}
 use Rattle.fields.specs.Choice.{if'}
+use Rattle.fields.specs.Over.{over}
 use Rattle.table.specs.Numbers.{shortBuffer}
 use Rattle.table.specs.Answer.{Answer, accepted, refused, andThen, refusal}
 use Rattle.table.specs.Check.{mostBytes, mostNames}
@@ -31,10 +32,6 @@ roomCheck size room = if' (leb size room) (λ _. accepted (size ∷ [])) (λ _. 
 unfoldable pub writeOf : List ℕ → List ℕ → List ℕ → ℕ → Answer
 writeOf t names bytes room =
     andThen (soundCheck (holding t names bytes)) (λ _. roomCheck (bytesFor (length t) (length names)) room)
-
--- bytes laid over a buffer from a place on; what stands before and behind them stays
-unfoldable pub over : ℕ → List ℕ → List ℕ → List ℕ
-over at bs buffer = take at buffer ++ (bs ++ drop (at + length bs) buffer)
 
 -- the buffer at exit: the file laid over its front when accepted, else as it was
 abbrev pub afterwards : Answer → List ℕ → List ℕ → List ℕ

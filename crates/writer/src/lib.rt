@@ -11,11 +11,12 @@ ghost use mathlib.Core.List.{_++_};
 ghost use Prim.Native.Nat.{_+_, _*_, _%_, _≤_, _<_};
 ghost use lib.ListN.{length};
 ghost use Rattle.fields.specs.Field.{bytesOf};
+ghost use Rattle.fields.specs.Over.{over};
 ghost use Rattle.table.specs.Answer.{isRefused};
 ghost use Rattle.blocks.specs.Block.{blockBytes, contentBytes, weighed, blockOf};
 ghost use Rattle.blocks.specs.Run.{blocksFor, runOf};
 ghost use Rattle.tablefile.specs.File.{headerOf, fileOf, mostBlocks};
-ghost use Rattle.writer.specs.Writing.{holding, bytesFor, roomCheck, writeOf, over, fileAfter, fitsIn, laidOver};
+ghost use Rattle.writer.specs.Writing.{holding, bytesFor, roomCheck, writeOf, fileAfter, fitsIn, laidOver};
 ghost use Rattle.writer.specs.Writing.{written};
 
 // The answer of the job: how many bytes are written, a multiple of 512, or why it is refused.

@@ -3,6 +3,7 @@
 
 pub mod back;
 pub mod dialects;
+pub mod format;
 pub mod marks;
 pub mod messages;
 pub mod run;

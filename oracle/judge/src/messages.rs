@@ -45,6 +45,7 @@ const WHOLE: &[(&str, u32)] = &[
     ("`load` is not allowed in this dialect", number::LOAD_NOT_ALLOWED),
     ("`...` is not allowed in this dialect", number::ELLIPSIS_NOT_ALLOWED),
     ("`lambda` is not allowed in this dialect", number::LAMBDA_NOT_ALLOWED),
+    ("Your Starlark dialect must enable f-strings to use them", number::F_STRINGS_DISABLED),
 ];
 
 /// Messages with a changing part: how they begin, what stands in them, the number.

@@ -64,8 +64,10 @@ pub struct Answer {
     pub file: Vec<u8>,
     /// Names that are read, which go to the start of the second lent buffer.
     pub names: Vec<u8>,
-    /// A binding, which goes to the start of the lent list word by word.
+    /// A binding or the parts of a format text, which go to the start of the lent list word by word.
     pub list: Vec<u32>,
+    /// A notice beside an accepted answer (62), which is among its words too; 0 where there is none.
+    pub notice: u32,
 }
 
 impl From<Refusal> for Answer {
@@ -125,10 +127,10 @@ impl Answer {
         }
     }
 
-    /// The numbers that it gives: its own, and those of its errors.
+    /// The numbers that it gives: its own, those of its errors, and its notice.
     pub fn numbers(&self) -> impl Iterator<Item = u32> + '_ {
         let of_errors = self.errors.iter().map(|error| error[0]).chain(self.audited.iter().map(|error| error[0]));
-        std::iter::once(self.number).chain(of_errors)
+        std::iter::once(self.number).chain(of_errors).chain((self.notice != 0).then_some(self.notice))
     }
 
     pub fn write_words(&self, out: &mut [u32; 12]) {

@@ -14,6 +14,7 @@ use crate::call::Called;
 use crate::dialect;
 use crate::file;
 use crate::file::Contents;
+use crate::fstring;
 use crate::module;
 use crate::module::entries;
 use crate::numbers::kind;
@@ -335,6 +336,16 @@ pub fn check_file(file: &[u8]) -> Answer {
         }
         answer
     }))
+}
+
+/// The format text of parts, into a buffer of so many bytes.
+pub fn fstring_write(words: &[u32], texts: &[u8], dialect: &[u8], room: usize) -> Answer {
+    answered(fstring::write(words, texts, dialect, room))
+}
+
+/// The parts of a format text, into so many words and bytes.
+pub fn fstring_read(text: &[u8], words: usize, texts: usize) -> Answer {
+    fstring::read(text, words, texts)
 }
 
 /// A list of errors as the job's words.

@@ -1,7 +1,7 @@
 //! Document 01 in Rust: its node table, its file, its limits, and what its definitions answer for every
 //! table. Written from the document, so that it can judge tables that no tree of the crate can be.
-//! And document 02's binding of arguments to parameters and its rescue of files, which the crate does not have, and the audit of a whole
-//! table by all jobs.
+//! And document 02's binding of arguments to parameters, its rescue of files and its reader of format texts, which the crate does not have, and
+//! the audit of a whole table by all jobs.
 
 pub mod answer;
 pub mod audit;
@@ -9,6 +9,7 @@ pub mod bind;
 pub mod call;
 pub mod dialect;
 pub mod file;
+pub mod fstring;
 pub mod jobs;
 pub mod module;
 pub mod numbers;

@@ -119,6 +119,10 @@ pub mod number {
     pub const ELLIPSIS_NOT_ALLOWED: u32 = 60;
     pub const LAMBDA_NOT_ALLOWED: u32 = 61;
 
+    pub const F_STRINGS_DISABLED: u32 = 62;
+    pub const STRAY_BRACE: u32 = 63;
+    pub const BROKEN_PART: u32 = 64;
+
     pub const SHORT_BLOCK: u32 = 70;
     pub const BLOCK_NUMBER: u32 = 71;
     pub const BLOCK_CHECK: u32 = 72;

@@ -177,6 +177,23 @@ faults! {
     FileHalfErrorStored
     OpenedLambdaStays
     AuditOpenedDefStays
+    SecondWordUnseen
+    OddWordAllowed
+    LengthsIn32Bits
+    BraceOnce
+    StrIsRepr
+    EmptyTextKept
+    ReprReadAsNone
+    StrayOneBehind
+    TextsNotJoined
+    FormatShortFirst
+    NoticeOfTypes
+    NoticeRefuses
+    ShortBeforeStray
+    OddWordIsRoom
+    RefusedFormatWrites
+    BytePastFormatWritten
+    WordPastPartsWritten
     LargeTreesUnjudged
     HalfOfTheRandomJobs
 }

@@ -3,6 +3,7 @@
 use std::fmt::Write;
 
 use judge::dialects;
+use judge::format;
 use judge::run;
 use judge::run::own_spans;
 use judge::run::Judged;
@@ -256,7 +257,8 @@ impl Checker {
         }
         if judged.is_ok() {
             self.tally.by_crate += 1;
-            if self.tally.by_crate % OWN_SPANS_ONCE_IN == 0 {
+            let has_spans = !matches!(request.job, Job::FstringWrite { .. });
+            if has_spans && self.tally.by_crate % OWN_SPANS_ONCE_IN == 0 {
                 self.check_own_spans(request, model);
             }
         }
@@ -390,13 +392,18 @@ fn model_answer(request: &Request) -> Answer {
         Job::Audit { dialect, .. } => jobs::audit(table, names, dialect),
         Job::Read { table: room, names } => jobs::read(table, room, names),
         Job::CheckFile { .. } => jobs::check_file(table),
+        Job::FstringWrite { parts, dialect, text } => jobs::fstring_write(parts, table, dialect, text),
+        Job::FstringRead { parts, texts } => jobs::fstring_read(table, parts, texts),
     }
 }
 
 /// The crate's answer, where the model has not refused with a number that the crate does not have.
 fn judged(request: &Request, model: &Answer) -> Built<Judged> {
-    if is_ours(model.number) || matches!(request.job, Job::Rescue { .. } | Job::Read { .. }) {
+    if is_ours(model.number) || matches!(request.job, Job::Rescue { .. } | Job::Read { .. } | Job::FstringRead { .. }) {
         return Err(NotATree);
+    }
+    if let Job::FstringWrite { parts, dialect, .. } = request.job {
+        return format::write(parts, request.table, &dialects::from_bytes(dialect)).map(Judged::from);
     }
     if let Job::CheckFile { .. } = request.job {
         return judged_file(request.table);
@@ -404,6 +411,7 @@ fn judged(request: &Request, model: &Answer) -> Built<Judged> {
     let table = Table::check(request.table, request.names).map_err(|_| NotATree)?;
     match request.job {
         Job::Table | Job::Write { .. } | Job::Rescue { .. } | Job::Read { .. } | Job::CheckFile { .. } => Err(NotATree),
+        Job::FstringWrite { .. } | Job::FstringRead { .. } => Err(NotATree),
         Job::Params { node, .. } => run::params(&table, node).map(Judged::from),
         Job::Call { node } => run::call(&table, node).map(Judged::from),
         Job::Target { node } => run::target(&table, node).map(Judged::from),
@@ -457,6 +465,7 @@ fn with_own_spans(request: &Request) -> Built<Vec<[u32; ERROR_WORDS]>> {
     let table = Table::check(request.table, request.names).map_err(|_| NotATree)?;
     match request.job {
         Job::Table | Job::Write { .. } | Job::Rescue { .. } | Job::Read { .. } | Job::CheckFile { .. } => Err(NotATree),
+        Job::FstringWrite { .. } | Job::FstringRead { .. } => Err(NotATree),
         Job::Params { node, .. } => own_spans::params(&table, node),
         Job::Call { node } => own_spans::call(&table, node),
         Job::Target { node } => own_spans::target(&table, node),

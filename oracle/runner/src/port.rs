@@ -8,6 +8,8 @@ use starlark_checks_raw::starlark_audit;
 use starlark_checks_raw::starlark_bind;
 use starlark_checks_raw::starlark_call;
 use starlark_checks_raw::starlark_check_file;
+use starlark_checks_raw::starlark_fstring_read;
+use starlark_checks_raw::starlark_fstring_write;
 use starlark_checks_raw::starlark_module;
 use starlark_checks_raw::starlark_params;
 use starlark_checks_raw::starlark_read;
@@ -36,10 +38,14 @@ pub enum Job<'a> {
     /// The request's table is the file, and its names are none: so in the next.
     Read { table: usize, names: usize },
     CheckFile { errors: usize },
+    /// The request's table is the texts, and its names are none.
+    FstringWrite { parts: &'a [u32], dialect: &'a [u8], text: usize },
+    /// The request's table is the format text, and its names are none.
+    FstringRead { parts: usize, texts: usize },
 }
 
 /// How many jobs there are: those of the interface, and the program's.
-pub const JOBS: usize = 14;
+pub const JOBS: usize = 16;
 
 /// The jobs by the names that the command line knows.
 pub const NAMES: [&str; JOBS] = [
@@ -56,6 +62,8 @@ pub const NAMES: [&str; JOBS] = [
     "audit",
     "read",
     "check_file",
+    "fstring_write",
+    "fstring_read",
     "file",
 ];
 
@@ -79,6 +87,8 @@ impl Job<'_> {
             Job::Audit { .. } => 10,
             Job::Read { .. } => 11,
             Job::CheckFile { .. } => 12,
+            Job::FstringWrite { .. } => 13,
+            Job::FstringRead { .. } => 14,
         }
     }
 
@@ -86,7 +96,7 @@ impl Job<'_> {
     pub fn dialect(&self) -> Option<&[u8]> {
         match self {
             Job::Type { dialect, .. } | Job::Module { dialect, .. } => Some(dialect),
-            Job::Write { dialect, .. } | Job::Audit { dialect, .. } => Some(dialect),
+            Job::Write { dialect, .. } | Job::Audit { dialect, .. } | Job::FstringWrite { dialect, .. } => Some(dialect),
             _ => None,
         }
     }
@@ -101,17 +111,18 @@ pub struct Request<'a> {
 
 const GUARD: usize = 8;
 
-/// Everything that a job may change, guards included: the answer's number, `out`, and the lent buffers. And the dialect, which no job
-/// may change.
+/// Everything that a job may change, guards included: the answer's number, `out`, and the lent buffers. And the dialect and the words of a format
+/// text's parts, which no job may change.
 #[derive(Clone, Debug, PartialEq, Eq)]
 pub struct Effect {
     pub number: u32,
     pub out: [u32; 12 + 2 * GUARD],
     pub bytes: Vec<u8>,
-    /// The second buffer of bytes, which the reader alone is lent.
+    /// The second buffer of bytes, which the two readers alone are lent.
     pub names: Vec<u8>,
     pub words: Vec<u32>,
     pub dialect: Vec<u8>,
+    pub parts: Vec<u32>,
 }
 
 /// No mode, no shape and no length is like it.
@@ -130,6 +141,13 @@ fn guarded(bytes: &[u8]) -> Vec<u8> {
     all
 }
 
+/// The same of words.
+fn guarded_words(words: &[u32]) -> Vec<u32> {
+    let mut all: Vec<u32> = (0..words.len() + 2 * GUARD).map(word_pattern).collect();
+    all[GUARD..GUARD + words.len()].copy_from_slice(words);
+    all
+}
+
 impl Effect {
     /// The lent memory before the job.
     pub fn before(job: &Job) -> Effect {
@@ -140,9 +158,16 @@ impl Effect {
             Job::Write { file, .. } | Job::Rescue { file } => (file, 0),
             Job::Bind { list, .. } => (0, list),
             Job::Read { table, .. } => (table, 0),
+            Job::FstringWrite { text, .. } => (text, 0),
+            Job::FstringRead { parts, .. } => (0, parts),
             _ => (0, 0),
         };
-        let names = if let Job::Read { names, .. } = *job { names } else { 0 };
+        let names = match *job {
+            Job::Read { names, .. } => names,
+            Job::FstringRead { texts, .. } => texts,
+            _ => 0,
+        };
+        let parts = if let Job::FstringWrite { parts, .. } = *job { guarded_words(parts) } else { Vec::new() };
         Effect {
             number: 0,
             out: std::array::from_fn(word_pattern),
@@ -150,6 +175,7 @@ impl Effect {
             names: (0..names + 2 * GUARD).map(byte_pattern).collect(),
             words: (0..words + 2 * GUARD).map(word_pattern).collect(),
             dialect: job.dialect().map_or(Vec::new(), guarded),
+            parts,
         }
     }
 
@@ -194,6 +220,11 @@ impl Effect {
         self.dialect.get(GUARD..self.dialect.len().saturating_sub(GUARD)).unwrap_or(&[])
     }
 
+    /// The words of parts without their guards.
+    fn lent_parts(&self) -> &[u32] {
+        self.parts.get(GUARD..self.parts.len().saturating_sub(GUARD)).unwrap_or(&[])
+    }
+
     /// The archive's function on this memory. Where a length is 0 the pointer may be NULL.
     pub fn run(&mut self, request: &Request, null_for_none: bool) {
         let read = |memory: &[u8]| match memory.is_empty() && null_for_none {
@@ -201,6 +232,10 @@ impl Effect {
             false => (memory.as_ptr(), memory.len()),
         };
         let ((t, tl), (n, nl), (d, dl)) = (read(request.table), read(request.names), read(self.lent_dialect()));
+        let (p, pl) = match self.lent_parts() {
+            [] if null_for_none => (std::ptr::null(), 0),
+            parts => (parts.as_ptr(), parts.len()),
+        };
         let out: *mut Words = self.out();
         let (bytes, bytes_len) = written(self.lent_bytes(), null_for_none);
         let (second, second_len) = written(self.lent_names(), null_for_none);
@@ -221,6 +256,8 @@ impl Effect {
                 Job::Audit { .. } => starlark_audit(t, tl, n, nl, d, dl, words, words_len, out),
                 Job::Read { .. } => starlark_read(t, tl, bytes, bytes_len, second, second_len, out),
                 Job::CheckFile { .. } => starlark_check_file(t, tl, words, words_len, out),
+                Job::FstringWrite { .. } => starlark_fstring_write(p, pl, t, tl, d, dl, bytes, bytes_len, out),
+                Job::FstringRead { .. } => starlark_fstring_read(t, tl, words, words_len, second, second_len, out),
             }
         };
     }

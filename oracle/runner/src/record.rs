@@ -2,7 +2,7 @@
 //!
 //! Each request is a head of 20 bytes, then table, names and dialect, then what the answer made of the lent
 //! memory: the words of `out` that it wrote, and the whole buffer, which was filled with `FILL` before. The head
-//! says whether the crate has given the answer, or the model alone.
+//! says whether the crate has given the answer, or the model alone. The words of a format text's parts stand where names stand, four bytes each.
 
 use std::collections::HashMap;
 
@@ -28,6 +28,7 @@ const LARGE: [&str; 5] = ["write", "rescue", "audit", "read", "check_file"];
 const MOST_TABLE_BYTES: usize = 40 * 24;
 const MOST_FILE_BYTES: usize = 3 * 512;
 const MOST_NAME_BYTES: usize = 300;
+const MOST_PART_BYTES: usize = 48;
 const MOST_ROOM: usize = 150;
 const MOST_FILE_ROOM: usize = 2_048;
 
@@ -52,7 +53,7 @@ impl Recorder {
     pub fn offer(&mut self, request: &Request, answer: &Answer, by_crate: bool) {
         let asked = Asked::of(&request.job);
         let is_small = request.table.len() <= if takes_file(&request.job) { MOST_FILE_BYTES } else { MOST_TABLE_BYTES }
-            && request.names.len() <= MOST_NAME_BYTES
+            && names_of(request).len() <= if is_format(&request.job) { MOST_PART_BYTES } else { MOST_NAME_BYTES }
             && asked.room.max(asked.second_room) <= if has_file_room(&request.job) { MOST_FILE_ROOM } else { MOST_ROOM }
             && u32::try_from(asked.node).is_ok()
             && u16::try_from(asked.second).is_ok();
@@ -90,7 +91,8 @@ const HEAD: usize = 20;
 fn written(request: &Request, answer: &Answer, judge: usize, asked: &Asked) -> Vec<u8> {
     let &Asked { dialect, node, second, room, .. } = asked;
     let mut bytes = vec![request.job.index() as u8, dialect.len() as u8];
-    for short in [request.table.len(), request.names.len(), room] {
+    let names = names_of(request);
+    for short in [request.table.len(), names.len(), room] {
         bytes.extend((short as u16).to_le_bytes());
     }
     bytes.extend((node as u32).to_le_bytes());
@@ -98,11 +100,19 @@ fn written(request: &Request, answer: &Answer, judge: usize, asked: &Asked) -> V
     bytes.extend([answer.words.len() as u8, judge as u8]);
     bytes.extend((second as u16).to_le_bytes());
     bytes.extend(request.table);
-    bytes.extend(request.names);
+    bytes.extend(names);
     bytes.extend(dialect);
     bytes.extend(answer.words.iter().flat_map(|word| word.to_le_bytes()));
     bytes.extend(buffers_after(&request.job, asked, answer));
     bytes
+}
+
+/// The names, or the words of parts.
+fn names_of(request: &Request) -> Vec<u8> {
+    match request.job {
+        Job::FstringWrite { parts, .. } => parts.iter().flat_map(|word| word.to_le_bytes()).collect(),
+        _ => request.names.to_vec(),
+    }
 }
 
 /// A job's dialect, node and room; and the Def's node of a binding, or how long the second buffer of the reader is.
@@ -128,8 +138,14 @@ impl<'a> Asked<'a> {
             Job::CheckFile { errors } => asked(&[], 0, errors),
             Job::Bind { call, def, list } => Asked { second: def, ..asked(&[], call, list) },
             Job::Read { table, names } => Asked { second: names, second_room: names, ..asked(&[], 0, table) },
+            Job::FstringWrite { dialect, text, .. } => asked(dialect, 0, text),
+            Job::FstringRead { parts, texts } => Asked { second: texts, second_room: texts, ..asked(&[], 0, parts) },
         }
     }
+}
+
+fn is_format(job: &Job) -> bool {
+    matches!(job, Job::FstringWrite { .. })
 }
 
 fn takes_file(job: &Job) -> bool {
@@ -145,6 +161,12 @@ fn buffers_after(job: &Job, asked: &Asked, answer: &Answer) -> Vec<u8> {
         let mut words = vec![FILL_WORD; asked.room];
         answer.write_list(&mut words);
         return words.iter().flat_map(|word| word.to_le_bytes()).collect();
+    }
+    if let Job::FstringRead { .. } = job {
+        let (mut words, mut texts) = (vec![FILL_WORD; asked.room], vec![FILL; asked.second_room]);
+        answer.write_list(&mut words);
+        answer.write_names(&mut texts);
+        return [words.iter().flat_map(|word| word.to_le_bytes()).collect(), texts].concat();
     }
     let (mut bytes, mut names) = (vec![FILL; asked.room], vec![FILL; asked.second_room]);
     answer.write_bytes(&mut bytes);

@@ -13,7 +13,8 @@ use crate::port::NAMES;
 /// What the whole comparison must run of each job at the least, in the order of `NAMES`: about 99 of 100 of what the quick run has at
 /// any seed.
 const LEAST: [u64; JOBS] = [
-    1_436_000, 2_761_000, 701_000, 2_781_000, 779_000, 3_357_000, 1_640_000, 433_000, 1_420_000, 180_000, 844_000, 121_800, 97_000, 3_400,
+    1_436_000, 2_761_000, 701_000, 2_781_000, 779_000, 3_357_000, 1_640_000, 433_000, 1_420_000, 180_000, 844_000, 121_800, 97_000, 505_000,
+    890_000, 3_400,
 ];
 
 /// What the whole comparison must put to Python at the least, where there is one.
@@ -117,6 +118,8 @@ fn numbers_of_jobs() -> [Vec<usize>; JOBS] {
         with(&[5..=5, 10..=19, 20..=24, 30..=33, 40..=45, 50..=61]),
         of_file(&[7..=7]),
         of_file(&[10..=19, 50..=61]),
+        vec![0, 5, 7, 62, 64],
+        vec![0, 7, 63],
         of_file(&[]),
     ]
 }

@@ -321,3 +321,47 @@ fn store_half_error<const WIDTH: usize>(errors: &[[u32; WIDTH]], list: &mut [u32
         *place = error[0];
     }
 }
+
+#[no_mangle]
+pub unsafe extern "C" fn starlark_fstring_write(
+    parts: *const u32,
+    parts_len: usize,
+    texts: *const u8,
+    texts_len: usize,
+    dialect: *const u8,
+    dialect_len: usize,
+    text: *mut u8,
+    text_len: usize,
+    out: Out,
+) -> u32 {
+    let (parts, texts) = (lent(parts, parts_len), lent(texts, texts_len));
+    let answer = jobs::fstring_write(parts, texts, lent(dialect, dialect_len), text_len);
+    let buffer = lent_mut(text, text_len);
+    if planted(Fault::RefusedFormatWrites) && answer.number != 0 && !buffer.is_empty() {
+        buffer[0] = 0;
+    }
+    if planted(Fault::BytePastFormatWritten) && answer.number == 0 && answer.file.len() < buffer.len() {
+        buffer[answer.file.len()] = 0;
+    }
+    give_bytes(answer, buffer, out)
+}
+
+#[no_mangle]
+pub unsafe extern "C" fn starlark_fstring_read(
+    text: *const u8,
+    text_len: usize,
+    parts: *mut u32,
+    parts_len: usize,
+    texts: *mut u8,
+    texts_len: usize,
+    out: Out,
+) -> u32 {
+    let answer = jobs::fstring_read(lent(text, text_len), parts_len, texts_len);
+    let (list, texts) = (lent_mut(parts, parts_len), lent_mut(texts, texts_len));
+    if planted(Fault::WordPastPartsWritten) && answer.number == 0 && answer.list.len() < list.len() {
+        list[answer.list.len()] = 0;
+    }
+    answer.write_list(list);
+    answer.write_names(texts);
+    give(answer, out)
+}

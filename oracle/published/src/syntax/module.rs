@@ -7,6 +7,7 @@ use crate::codemap::Spanned;
 use crate::dialect::Dialect;
 use crate::eval_exception::EvalException;
 use crate::syntax::ast::AstExpr;
+use crate::syntax::ast::AstFString;
 use crate::syntax::ast::AstStmt;
 use crate::syntax::ast::TypeExpr;
 use crate::syntax::grammar_util;
@@ -33,4 +34,18 @@ pub fn dialect_check_type(
     let checked = grammar_util::dialect_check_type(&state, expr);
     assert!(errors.is_empty(), "dialect_check_type answers its error, it adds none");
     checked
+}
+
+/// The format text of parts, and the errors that `fstring_from_parts` adds.
+pub fn fstring_from_parts(
+    parts: Vec<grammar_util::FStringElement>,
+    begin: usize,
+    end: usize,
+    dialect: &Dialect,
+    codemap: &CodeMap,
+) -> (AstFString, Vec<EvalException>) {
+    let mut errors = Vec::new();
+    let mut state = ParserState { dialect, codemap, errors: &mut errors };
+    let built = grammar_util::fstring_from_parts(parts, begin, end, &mut state);
+    (built, errors)
 }

@@ -6,6 +6,7 @@ pub mod boundaries;
 pub mod dialects;
 pub mod examples;
 pub mod files;
+pub mod formats;
 pub mod largest;
 pub mod lists;
 pub mod modules;
@@ -98,11 +99,14 @@ const RESCUE: u32 = 1 << 9;
 const AUDIT: u32 = 1 << 10;
 const READ: u32 = 1 << 11;
 const CHECK_FILE: u32 = 1 << 12;
-const FILE: u32 = 1 << 13;
+const FSTRING_WRITE: u32 = 1 << 13;
+const FSTRING_READ: u32 = 1 << 14;
+const FILE: u32 = 1 << 15;
 /// Those that take a table.
 const ARCHIVE: u32 = (RESCUE - 1) | AUDIT;
 /// Those that take a file and read it.
 const READERS: u32 = READ | CHECK_FILE;
+const FORMATS: u32 = FSTRING_WRITE | FSTRING_READ;
 
 pub const ALL: &[Family] = &[
     family("document 01's examples", 1, ARCHIVE | FILE, examples::rows, [17, 17, 20]),
@@ -160,6 +164,10 @@ pub const ALL: &[Family] = &[
     family("largest, trees", 2, ARCHIVE & !WRITE, largest::trees, [3_010, 1_580, 284]),
     family("largest, error lists", 2, MODULE | AUDIT | CHECK_FILE, largest::errors, [342, 342, 22]),
     family("largest, files", 2, WRITE | READERS | RESCUE, largest::files, [10_650, 460, 28]),
+    family("format texts, corner cases", 1, FORMATS, formats::corners, [236, 5, 39]),
+    family("format texts, every short one", 2, FORMATS, formats::texts, [725_570, 48_430, 48_430]),
+    family("format texts, every list", 2, FORMATS, formats::lists, [462_180, 74_200, 109_990]),
+    family("format texts, random", 2, FORMATS, formats::random, [212_000, 31_000, 30_700]),
     family("files, through the program", 1, FILE, files::files, [1_700, 0, 0]),
 ];
 

@@ -1,0 +1,8 @@
+-- Numbers written into a buffer from a place on, for buffers of any length. This is a definition.
+use mathlib.Core.List.{List, _++_}
+use Prim.Native.Nat.{ℕ, _+_}
+use lib.ListN.{length, take, drop}
+
+-- bytes or words laid over a buffer from a place on; what stands before and behind them stays
+unfoldable pub over : ℕ → List ℕ → List ℕ → List ℕ
+over at bs buffer = take at buffer ++ (bs ++ drop (at + length bs) buffer)

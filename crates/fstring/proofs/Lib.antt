@@ -1,0 +1,17 @@
+pub mod Sizes
+pub mod Counting
+pub mod Laying
+pub mod Jobs
+pub mod Forms
+pub mod Joining
+pub mod Tallying
+pub mod Storing
+pub mod ReadJob
+pub mod Normal
+pub mod RoundTrips
+pub mod Fronts
+pub mod Theorems
+pub mod StrayPlaces
+pub mod Examples
+pub mod Promises
+pub mod OverTheJobs
