@@ -15,7 +15,6 @@ use Rattle.table.specs.Numbers.{slashFirst}
 use Rattle.table.specs.Answer.{accepted}
 use Rattle.table.specs.Check.{nodeFits, stretchOf}
 use Rattle.table.specs.declared.Wanted.the-variants.{Parameters, Call, Assignment}
-use Rattle.deflist.specs.Written.{rootIn}
 use Rattle.parameters.specs.Params.{listOf, paramsOf}
 use Rattle.arguments.specs.Job.{callOf}
 use Rattle.targets.specs.Jobs.{targetOf, assignmentOf}
@@ -26,6 +25,7 @@ use Rattle.audit.specs.declared.Role.the-variants.{AsTarget, AsType}
 use Rattle.audit.specs.declared.Roles.the-variants.{Nowhere}
 use Rattle.audit.specs.Roles.{placed}
 use Rattle.audit.specs.Job.{allErrors, auditOf}
+use Rattle.deflist.specs.Written.{rootIn}
 use Rattle.audited.specs.Said.{All, rootsIn, isAccepted, Accepts}
 use Rattle.audited.specs.Checked.{targetsOf, typesOf, everywhere, Each, Fitting}
 use Rattle.audited.proofs.Everywhere.{all-map}
