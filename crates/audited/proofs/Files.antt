@@ -25,10 +25,11 @@ use Rattle.table.specs.Check.{mostBytes, wants, Handing, inDialect, turnedAway,
 use Rattle.table.specs.declared.Wanted.the-variants.{Parameters, Call, Assignment}
 use Rattle.table.proofs.Entering.{given-known}
 use Rattle.table.proofs.Filed.{All, Told, all-tree, all-row}
-use Rattle.deflist.specs.Written.{Param, nodeIn, kindIn as kindOfParam, paramsIn, writtenIn}
+use Rattle.deflist.specs.Written.{Param, nodeIn, kindIn as kindOfParam, paramsIn, rootIn, writtenIn}
 use Rattle.deflist.specs.Unpack as def
+use Rattle.deflist.specs.Limited.{limited}
 use Rattle.deflist.specs.Told.{told}
-use Rattle.parameters.proofs.Files.{AllOf, OutcomeAt, unpack-at, written-all}
+use Rattle.parameters.proofs.Files.{AllOf, OutcomeAt, limited-at, written-all}
 use Rattle.arguments.specs.Written.{argumentsOf}
 use Rattle.arguments.specs.Job.{callAnswer}
 use Rattle.arguments.proofs.Files as call
@@ -89,25 +90,26 @@ module _ (t : List ℕ) where
       go true = tt
       go false = every-mark m ps h
 
-  unpack-one : (o : def.Outcome) → OutcomeAt Here o → Errs (unpackError (told o))
-  unpack-one (def.accepted c) h = tt
-  unpack-one (def.refused n r) h = (λ late. h, tt)
-  unpack-one (def.repeated i r) h = (λ late. h, tt)
-  unpack-one (def.internal e r) h = (λ late. h, tt)
+  list-one : (o : def.Outcome) → OutcomeAt Here o → Errs (unpackError (told o))
+  list-one (def.accepted c) h = tt
+  list-one (def.refused n r) h = (λ late. h, tt)
+  list-one (def.repeated i r) h = (λ late. h, tt)
+  list-one (def.internal e r) h = (λ late. h, tt)
 
-  params-at : (d : Dialect) (ps : List Param) → AllOf Here ps → Errs («validate_params» d ps)
+  params-at : (d : Dialect) (owner : Node) (ps : List Param) → Here owner × AllOf Here ps
+      → Errs («validate_params» d owner ps)
   unfolding «validate_params»
-  params-at d ps h =
-      both (marks d Star ps ++ marks d SlashMark ps) (unpackError (told (def.unpack ps)))
-      (both (marks d Star ps) (marks d SlashMark ps) (marks-at d Star ps h) (marks-at d SlashMark ps h))
-      (unpack-one (def.unpack ps) (unpack-at Here ps h))
+  params-at d owner ps h =
+      both (marks d Star ps ++ marks d SlashMark ps) (unpackError (told (limited owner ps)))
+      (both (marks d Star ps) (marks d SlashMark ps) (marks-at d Star ps (h .1)) (marks-at d SlashMark ps (h .1)))
+      (list-one (limited owner ps) (limited-at Here owner ps (h .0) (h .1)))
 
   with-at : (d : Dialect) (names : List ℕ) (b : Bool) (n : ℕ) (r : Node) (ks : Forest) → All Here (nodesOf (node r ks))
       → Errs (withParams d names b n r ks)
   unfolding withParams
   with-at d names b n r ks h =
-      both (unless b n r) («validate_params» d (paramsIn names ks)) (unless-at b n r (all-tree Here r ks h .0))
-      (params-at d (paramsIn names ks) (written-all Here names (node r ks) h))
+      both (unless b n r) («validate_params» d r (paramsIn names ks)) (unless-at b n r (all-tree Here r ks h .0))
+      (params-at d r (paramsIn names ks) (written-all Here names (node r ks) h))
 
   module _ (d : Dialect) (names : List ℕ) where
     -- the statements
@@ -182,11 +184,13 @@ module _ (t : List ℕ) where
     unfolding kindErrors callAnswer
     kind-at u h = go (wants Parameters (kindIn u)) (wants Call (kindIn u)) (wants Assignment (kindIn u))
       where
-        go : (a b c : Bool) → Errs (if' a (λ _. unpackError (told (def.unpack (writtenIn names u)))) (λ _.
+        go : (a b c : Bool) → Errs (if' a (λ _. unpackError (told (limited (rootIn u) (writtenIn names u)))) (λ _.
             if' b (λ _. answerErrors (callAnswer names u)) (λ _.
             if' c (λ _. answerErrors («check_assignment» u)) (λ _. []))))
-        go true b c = unpack-one (def.unpack (writtenIn names u))
-            (unpack-at Here (writtenIn names u) (written-all Here names u h))
+        go true b c =
+            let both-there = written-all Here names u h in
+            list-one (limited (rootIn u) (writtenIn names u))
+            (limited-at Here (rootIn u) (writtenIn names u) (both-there .0) (both-there .1))
         go false true c = answer-at (callAnswer names u)
             (call.told-call Here (argumentsOf names u) (call.written-all Here names u h))
         go false false true = answer-at («check_assignment» u) (told-assignment Here u h)
