@@ -117,6 +117,12 @@ static void run_audit_off(void) {
 /* The whole file, into buffers of their own. */
 static uint8_t read_table[STARLARK_NODES * STARLARK_NODE_BYTES], read_names[STARLARK_NAME_BYTES];
 static void run_read(void) { number = starlark_read(damaged, damaged_bytes + 1, read_table, sizeof read_table, read_names, sizeof read_names, out); }
+static uint8_t zone_book[51200], line_book[51200];
+static void run_book_lookup(void) { number = starlark_book_lookup(zone_book, sizeof zone_book, line_book, sizeof line_book, 7, 4, out); }
+static void run_book_add(void) {
+    number = starlark_book_add(zone_book, sizeof zone_book, line_book, sizeof line_book, 7, 1, all_on, 9, out);
+}
+static void run_book_remove(void) { number = starlark_book_remove(zone_book, sizeof zone_book, line_book, sizeof line_book, 7, 1, out); }
 static void run_check_file(void) { number = starlark_check_file(damaged, damaged_bytes + 1, errors, 3 * STARLARK_ERRORS, out); }
 
 struct job {
@@ -126,6 +132,7 @@ struct job {
 } jobs[] = {{"table", run_table, 0}, {"params", run_params, 0}, {"call", run_call, 0}, {"target", run_target, 0}, {"assignment", run_assignment, 0}, {"type", run_type, 0},
           {"module", run_module, 0}, {"module with all switches off", run_refusing, 0}, {"write", run_write, 0}, {"bind", run_bind, 0},
           {"rescue of a cut file", run_rescue, 0}, {"rescue of a whole file", run_rescue_whole, 0}, {"read of a file", run_read, 0},
+          {"lookup in books", run_book_lookup, 0}, {"addition to a book", run_book_add, 0}, {"removal from a book", run_book_remove, 0},
           {"check of a file", run_check_file, 0}, {"audit", run_audit, 0}, {"audit with all switches off", run_audit_off, 0}};
 enum { JOBS = sizeof jobs / sizeof *jobs };
 
@@ -372,6 +379,8 @@ static void assignment_of_many(void) {
 }
 
 int main(void) {
+    starlark_book_blank(zone_book, sizeof zone_book, out);
+    starlark_book_blank(line_book, sizeof line_book, out);
     many_statements();
     siblings("a tuple of 2,097 names", TUPLE, IDENTIFIER);
     siblings("a list of 2,097 names", LIST, IDENTIFIER);
