@@ -23,7 +23,7 @@ static const uint8_t shape[9][3] = {{STARLARK_KIND_STATEMENTS, 9, 0}, {STARLARK_
                                     {STARLARK_KIND_CALL, 3, 0},       {STARLARK_KIND_IDENTIFIER, 1, 1}, {STARLARK_KIND_POSITIONAL, 1, 0}};
 enum { NODES = 10, DEF = 1, ASSIGN = 4, TARGET = 5, CALL = 6 };
 static uint8_t table[NODES * STARLARK_NODE_BYTES], names[1] = {'a'}, file[BUFFER];
-static uint8_t dialect[9] = {1, 1, 1, 1, 0, 2, 1, 1, 0};
+static uint8_t dialect[9] = {1, 1, 1, 1, 0, 2, 1, 1, 0}, zones[512], line[512];
 static size_t file_length;
 /* a format text, and its parts: a text of one byte and an expression */
 static uint8_t text[3] = {'a', '{', '}'};
@@ -57,6 +57,10 @@ static uint32_t run_fstring_write(const struct part *part, uint32_t *out) {
     return starlark_fstring_write(PART(0), PART(1), PART(2), PART(3), out);
 }
 static uint32_t run_fstring_read(const struct part *part, uint32_t *out) { return starlark_fstring_read(PART(0), PART(1), PART(2), out); }
+static uint32_t run_book_lookup(const struct part *part, uint32_t *out) { return starlark_book_lookup(PART(0), PART(1), 7, 1, out); }
+static uint32_t run_book_add(const struct part *part, uint32_t *out) { return starlark_book_add(PART(0), PART(1), 7, 2, PART(2), out); }
+static uint32_t run_book_remove(const struct part *part, uint32_t *out) { return starlark_book_remove(PART(0), PART(1), 7, 1, out); }
+static uint32_t run_book_blank(const struct part *part, uint32_t *out) { return starlark_book_blank(PART(0), out); }
 
 /* what a part is: a buffer that is read, one of bytes that is written, or one of words; a job's parts in the order of its arguments */
 static const struct job {
@@ -66,7 +70,9 @@ static const struct job {
             {"bind", "tnw", run_bind},    {"target", "tn", run_target},  {"assignment", "tn", run_assignment},
             {"type", "tndb", run_type},   {"module", "tndw", run_module}, {"write", "tndb", run_write},
             {"rescue", "fb", run_rescue}, {"read", "fbb", run_read},     {"check_file", "fw", run_check_file},
-            {"audit", "tndw", run_audit}, {"fstring_write", "pndb", run_fstring_write}, {"fstring_read", "xwb", run_fstring_read}};
+            {"audit", "tndw", run_audit}, {"fstring_write", "pndb", run_fstring_write}, {"fstring_read", "xwb", run_fstring_read},
+            {"book_lookup", "zl", run_book_lookup}, {"book_add", "ZLd", run_book_add}, {"book_remove", "ZL", run_book_remove},
+            {"book_blank", "b", run_book_blank}};
 enum { JOBS = sizeof jobs / sizeof *jobs };
 
 /* What a run leaves: its number, its words, and the buffers that it writes. */
@@ -86,6 +92,10 @@ static void run(const struct job *job, unsigned empty, void *nowhere, struct lef
         case 'x': part[i] = (struct part){text, sizeof text}; break;
         case 'f': part[i] = (struct part){file, file_length}; break;
         case 'b': part[i] = (struct part){left->buffers[i], BUFFER}; break;
+        case 'z': part[i] = (struct part){zones, sizeof zones}; break;
+        case 'l': part[i] = (struct part){line, sizeof line}; break;
+        case 'Z': part[i] = (struct part){memcpy(left->buffers[i], zones, sizeof zones), sizeof zones}; break;
+        case 'L': part[i] = (struct part){memcpy(left->buffers[i], line, sizeof line), sizeof line}; break;
         default: part[i] = (struct part){left->buffers[i], BUFFER / 4};
         }
         if (empty >> i & 1) part[i] = (struct part){nowhere, 0};
@@ -105,6 +115,11 @@ int main(void) {
         return 1;
     }
     file_length = out[0];
+    if (starlark_book_blank(zones, sizeof zones, out) != STARLARK_ACCEPTED || starlark_book_blank(line, sizeof line, out) != STARLARK_ACCEPTED ||
+        starlark_book_add(zones, sizeof zones, line, sizeof line, 7, 1, dialect, 9, out) != STARLARK_ACCEPTED) {
+        printf("null: the books are not made\n");
+        return 1;
+    }
     for (size_t j = 0; j < JOBS; j++) {
         for (unsigned empty = 0; empty < 1u << strlen(jobs[j].parts); empty++) {
             run(&jobs[j], empty, &touched, &here);

@@ -142,6 +142,14 @@ static void make_format(void) {
     part_bytes = out[2];
 }
 
+/* Two books of 100 blocks. */
+static uint8_t zone_book[51200], line_book[51200];
+static void run_book_lookup(void) { number = starlark_book_lookup(zone_book, sizeof zone_book, line_book, sizeof line_book, 7, 4, out); }
+static void run_book_add(void) {
+    number = starlark_book_add(zone_book, sizeof zone_book, line_book, sizeof line_book, 7, 1, all_on, 9, out);
+}
+static void run_book_remove(void) { number = starlark_book_remove(zone_book, sizeof zone_book, line_book, sizeof line_book, 7, 1, out); }
+
 struct job {
     const char *name;
     void (*run)(void);
@@ -150,7 +158,8 @@ struct job {
           {"module", run_module, 0}, {"module with all switches off", run_refusing, 0}, {"write", run_write, 0}, {"bind", run_bind, 0},
           {"rescue of a cut file", run_rescue, 0}, {"rescue of a whole file", run_rescue_whole, 0}, {"read of a file", run_read, 0},
           {"check of a file", run_check_file, 0}, {"audit", run_audit, 0}, {"audit with all switches off", run_audit_off, 0},
-          {"fstring_read", run_fstring_read, 0}, {"fstring_write", run_fstring_write, 0}};
+          {"fstring_read", run_fstring_read, 0}, {"fstring_write", run_fstring_write, 0},
+          {"lookup in books", run_book_lookup, 0}, {"addition to a book", run_book_add, 0}, {"removal from a book", run_book_remove, 0}};
 enum { JOBS = sizeof jobs / sizeof *jobs };
 
 /* Whether a job ends on a stack of so many bytes. */
@@ -399,6 +408,8 @@ static void assignment_of_many(void) {
 
 int main(void) {
     make_format();
+    starlark_book_blank(zone_book, sizeof zone_book, out);
+    starlark_book_blank(line_book, sizeof line_book, out);
     many_statements();
     siblings("a tuple of 2,097 names", TUPLE, IDENTIFIER);
     siblings("a list of 2,097 names", LIST, IDENTIFIER);
