@@ -1,6 +1,5 @@
 -- `starlark_checks::starlark_book_lookup` meets its contract: the answer of the lookup, arm by arm. Assumes nothing.
 use borrow.Author.Needs.{needs}
-use Rattle.books.specs.declared.Looked.the-variants.{Zone, Line, Refused, Nothing}
 use Rattle.starlark_checks.proofs.Places.{zone-fits, line-fits, look-number, look-words}
 use Rattle.starlark_checks.proofs.starlark_book_lookup.Statement.{statement}
 use Rattle.starlark_checks.proofs.starlark_book_lookup.Tie as tie
