@@ -10,7 +10,7 @@ import struct
 from . import dialects, files, inputs
 from .against import SWITCHES
 from .library import BookRefusal
-from .output import Failed, say, visible
+from .output import Failed, digest, named, say, visible
 
 BLOCK, CONTENT, ENTRY, PLACES, MOST_BLOCKS = 512, 504, 24, 21, 100
 MOST = MOST_BLOCKS * BLOCK + 1  # one byte more than the largest book has
@@ -110,12 +110,15 @@ class Asked:
     def __init__(self, books, names, entry=None):
         self.books, self.names, self.entry = books, names, entry
 
+    def wrong(self, refusal):
+        """What is wrong with the book that a refusal names."""
+        book, line = self.books[refusal.book], refusal.book == 1
+        return (unsound(book, line) if refusal.number == 95 else twice(book)) or self.entry
+
     def why(self, refusal):
         if refusal.book is None:
             return ""
-        book, line = self.books[refusal.book], refusal.book == 1
-        found = unsound(book, line) if refusal.number == 95 else twice(book)
-        return f", {BOOKS[refusal.book]} book {visible(self.names[refusal.book])}: {found or self.entry}"
+        return f", {BOOKS[refusal.book]} book {visible(self.names[refusal.book])}: {self.wrong(refusal)}"
 
 
 def refused(out, refusal, asked, explain):
@@ -127,6 +130,10 @@ def refused(out, refusal, asked, explain):
         out.lines([f"refused {refusal.number}"])
         out.flush()
         say(said)
+    return status_of(refusal)
+
+
+def status_of(refusal):
     return 1 if refusal.number in (97, 98) else 2
 
 
@@ -348,11 +355,37 @@ def parser_of(command, make_parser):
 
 # ---- ducat check --books
 
-def dialect_for_check(library, options, out):
-    """The dialect that the books give for a check, or None and the exit status where the lookup refuses."""
-    names = tuple(options.books)
-    books = [read(name) for name in names]
-    found = library.book_lookup(*books, options.zone, options.setting)
-    if type(found) is BookRefusal:
-        return None, refused(out, found, Asked(books, names), options.explain)
-    return found.dialect, 0
+class ForCheck:
+    """The books of a check: the dialect that they give for a zone and a setting, or why they give none."""
+
+    def __init__(self, library, options):
+        self.zone, self.setting = options.zone, options.setting
+        self.asked = Asked([read(name) for name in options.books], options.books)
+        found = library.book_lookup(*self.asked.books, self.zone, self.setting)
+        self.refusal, self.dialect = (found, None) if type(found) is BookRefusal else (None, found.dialect)
+
+    def book_json(self, book):
+        data = self.asked.books[book]
+        return {**named(self.asked.names[book]), "sha256": digest(data), "bytes": len(data), "whole": len(data) < MOST}
+
+    def in_json(self):
+        return {"zone": self.zone, "setting": self.setting, "zone_book": self.book_json(0), "line_book": self.book_json(1)}
+
+    def refused(self, options, out, front):
+        """Prints why nothing is checked. Returns the exit status. 97 is told of the line book, which is looked at last."""
+        refusal, status = self.refusal, status_of(self.refusal)
+        if options.quiet:
+            say(f"refused {refusal.number}: {refusal.words}{self.asked.why(refusal)}")
+        elif front is None:
+            refused(out, refusal, self.asked, options.explain)
+        else:
+            from . import check, formats, scripts
+            book = 1 if refusal.book is None else refusal.book
+            told = {"number": refusal.number, "words": refusal.words}
+            if refusal.book is not None:
+                told.update(book=BOOKS[book], reason=visible(self.asked.wrong(refusal)))
+            entry = {**self.book_json(book), "kind": "book", "verdict": "refused", "refused": told}
+            report = formats.report(options.format, out, front)
+            report.add(formats.rendered(options.format, entry, self.asked.names[book], scripts.NONE))
+            report.end(totals=check.Totals().in_json(), status=status)
+        return status

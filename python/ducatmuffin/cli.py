@@ -544,16 +544,17 @@ def check(words, out):
         raise Failed("--script is for table files: a script that is checked is its own")
     scripts = scripts_named(options.script, not options.quiet)
     library = open_library()
+    json, books = machine(options.format), {}
     if options.books:
         from . import book
-        configured.dialect, status = book.dialect_for_check(library, options, out)
-        if configured.dialect is None:
-            return status
+        given = book.ForCheck(library, options)
+        configured.dialect, books = given.dialect, {"books": given.in_json()}
+        if given.refusal:
+            return given.refused(options, out, head("check", library, module=options.module, **books) if json else None)
     configured.say()
     for path, excluded in search.empty:
         say(f"{path}: no table file and no script is found in this folder" + (f"; {excluded:,} excluded" if excluded else ""))
     from . import check as job
-    json = machine(options.format)
     many = len(search.found) > 1 or bool(search.empty) or any(one.path not in options.paths for one in search.found if one.path is not None)
     how = job.Options(options.module, options.explain and not json, options.quiet, options.bad_only, json, many, configured.dialect, scripts,
                       options.format, paint_of(options.color, out.terminal))
@@ -563,7 +564,7 @@ def check(words, out):
         status = against.run(library, how, options.against, search.found, options.jobs, out,
                              against.front(library, configured.in_json(), options.against) if json else None)
     else:
-        front = head("check", library, configured.in_json(), module=options.module) if json else None
+        front = head("check", library, configured.in_json(), module=options.module, **books) if json else None
         status = job.run(library, how, search.found, options.jobs, out, front)
     return max(status, 2 if search.empty else 0)
 
@@ -576,7 +577,7 @@ def books_fit(options):
     if options.books and (options.dialect is not None or options.against is not None):
         raise Failed("--books gives the dialect: --dialect and --against are not for it")
     if options.books:
-        once(*options.books, *options.paths)
+        once(*options.books, *options.paths, *([options.files_from] if options.files_from is not None else []))
 
 
 def could_be_script(path, stdin_filename, as_script):

@@ -11,6 +11,7 @@ from .output import Report, digest, dumps, encoded, visible
 
 MACHINE = ("json", "gcc", "github", "sarif")
 SYNTAX, UNREADABLE, NO_TABLE, NO_OPENING, NOT_JUDGED = "syntax", "unreadable", "no-table", "no-opening", "not-judged"
+FAILED = {"no table": NO_TABLE, "other dialect": "other-dialect"}  # by verdict; every other one is unreadable
 REPEATED = {11: "parameter", 22: "argument"}
 SCHEMA = "https://docs.oasis-open.org/sarif/sarif/v2.1.0/errata01/os/schemas/sarif-schema-2.1.0.json"
 SAFE = frozenset(b"ABCDEFGHIJKLMNOPQRSTUVWXYZabcdefghijklmnopqrstuvwxyz0123456789-._~/")
@@ -89,8 +90,8 @@ def of_pair(entry, pair, name, scripts):
 
 
 def of_failure(entry, name):
-    """Why an input is not read or has no table; of scripts that are joined that of each."""
-    rule = NO_TABLE if entry["verdict"] == "no table" else UNREADABLE
+    """Why an input is not read, has no table or another dialect than the books'; of scripts that are joined that of each."""
+    rule = FAILED.get(entry["verdict"], UNREADABLE)
     parts = [part for part in entry.get("scripts", ()) if "failed" in part] or [{"failed": entry["failed"], **{
         key: entry[key] for key in ("line", "column") if key in entry}}]
     for part in parts:

@@ -1,4 +1,5 @@
 """ducat book and ducat check --books: each command, its refusals and words, what is written, KILL at any moment, and two writers at once."""
+import json
 import os
 import random
 import signal
@@ -171,6 +172,61 @@ class Checked(BookTest):
         self.assertEqual((ran.status, ran.out), (1, "refused 97\n"))
         ran = self.run_ducat("check", "--books", "samples/damaged.book", LINE, "--zone", "7", "--setting", "4", "samples/clean.star")
         self.assertEqual((ran.status, ran.out), (2, "refused 95\n"))
+
+    def told(self, status, setting, *words):
+        """The JSON of a check of zone 7 at a setting."""
+        ran = self.run_ducat("check", "--json", "--books", ZONES, LINE, "--zone", "7", "--setting", setting, *words)
+        self.assertEqual((ran.status, ran.err), (status, ""))
+        return json.loads(ran.out)
+
+    def test_json(self):
+        told = self.told(2, "5", "samples/clean.table", "samples/toplevel.table")
+        other, checked = told["inputs"]
+        self.assertEqual((other["verdict"], other["failed"]), ("other dialect", "its dialect is standard, and the books give extended: it is not checked"))
+        self.assertEqual((other["bytes"], "errors" in other), (len(support.sample("clean.table")), False))
+        self.assertEqual((checked["verdict"], checked["dialect"]["name"], checked["dialect"]["given"]), ("accepted", "extended", True))
+        self.assertEqual((told["totals"]["not_read"], told["totals"]["files"]), (1, 2))
+        books = told["books"]
+        self.assertEqual((books["zone"], books["setting"], books["zone_book"]["name"], books["line_book"]["name"]), (7, 5, ZONES, LINE))
+        self.assertEqual(books["zone_book"]["bytes"], len(support.sample("zones.book")))
+
+    def test_a_refused_lookup_in_json(self):
+        book, = self.told(1, "0", "samples/clean.star")["inputs"]
+        self.assertEqual((book["kind"], book["name"], book["refused"]["number"]), ("book", LINE, 97))
+        ran = self.run_ducat("check", "--json", "--books", "samples/damaged.book", LINE, "--zone", "7", "--setting", "4", "samples/clean.star")
+        told = json.loads(ran.out)
+        book, = told["inputs"]
+        self.assertEqual((ran.status, told["status"], book["name"], book["refused"]["number"], book["refused"]["book"]), (2, 2, "samples/damaged.book", 95, "zone"))
+        self.assertIn("its sum is", book["refused"]["reason"])
+
+    def test_formats_of_other_tools(self):
+        books = ("--books", ZONES, LINE, "--zone", "7", "--setting")
+        self.says(2, "samples/clean.table: error: its dialect is standard, and the books give extended: it is not checked [other-dialect]\n", "",
+                  "check", "--format", "gcc", *books, "5", "samples/clean.table")
+        ran = self.run_ducat("check", "--format", "sarif", *books, "5", "samples/clean.table")
+        note, = json.loads(ran.out)["runs"][0]["invocations"][0]["toolExecutionNotifications"]
+        self.assertEqual((ran.status, note["descriptor"]["id"]), (2, "other-dialect"))
+        ran = self.run_ducat("check", "--format", "sarif", *books, "0", "samples/clean.table")
+        result, = json.loads(ran.out)["runs"][0]["results"]
+        self.assertEqual((ran.status, result["ruleId"]), (1, "97"))
+        ran = self.run_ducat("check", "--format", "gcc", *books, "0", "samples/clean.table")
+        self.assertEqual((ran.status, ran.out.startswith(f"{LINE}: error: "), ran.out[-6:]), (1, True, " [97]\n"))
+
+    def test_explained_and_quiet(self):
+        books = ("--books", ZONES, LINE, "--zone", "7", "--setting")
+        ran = self.run_ducat("check", "--explain", *books, "5", "samples/clean.table")
+        self.assertEqual((ran.status, ran.out), (2, ""))
+        self.assertIn("the books give extended", ran.err)
+        self.assertIn("dialect standard", self.run_ducat("check", "--explain", *books, "4", "samples/clean.star").out)
+        for setting, status in (("5", 2), ("0", 1)):
+            ran = self.run_ducat("check", "--quiet", *books, setting, "samples/clean.table")
+            self.assertEqual((ran.status, ran.out, len(ran.err.splitlines())), (status, "", 1))
+
+    def test_joined_scripts(self):
+        pair = ("--join", "samples/toplevel.star", "samples/clean.star")
+        self.assertEqual(self.told(1, "4", *pair)["inputs"][0]["dialect"]["name"], "standard")
+        joined, = self.told(0, "5", *pair)["inputs"]
+        self.assertEqual((joined["kind"], joined["dialect"]["name"], joined["errors"]), ("joined", "extended", []))
 
     def test_the_options_go_together(self):
         for words in (("--books", ZONES, LINE), ("--zone", "7"), ("--books", ZONES, LINE, "--zone", "7"),
