@@ -86,5 +86,35 @@ class Dump(CommandTest):
         self.assertNotIn("f_strings", entry)
 
 
+class Check(CommandTest):
+    """62 for each f-string of a script where the dialect has none."""
+
+    def numbers(self, status, *words):
+        ran = self.says(status, None, STEP, "check", *words)
+        return [line.split(": ")[0].rsplit("/", 1)[-1] for line in ran.out.splitlines() if ": 62 " in line]
+
+    def test_where_the_dialect_has_none(self):
+        path = self.put("f.star", 'x = f"{a}"\ny = [f"b", f"{c!r}"]\n')
+        for words in ((), ("--dialect", "extended"), ("--dialect", "standard")):
+            with self.subTest(words):
+                self.assertEqual(self.numbers(1, *words, path)[:3], ["f.star:1:5", "f.star:2:6", "f.star:2:12"])
+        self.assertEqual(self.numbers(0, "--dialect", "all", path), [])
+        self.says(0, None, STEP, "check", "--module", path)
+
+    def test_of_joined_scripts(self):
+        paths = [self.put("a.star", 'x = f"{a}"\n'), self.put("b.star", 'y = 1\nz = f"{b}"\n')]
+        self.assertEqual(self.numbers(1, "--join", *paths), ["a.star:1:5", "b.star:2:5"])
+
+    def test_of_a_script_in_several_tables(self):
+        path = self.put("large.star", "x = [1, 2, 3]\n" * 600 + 'y = f"{b}"\n')
+        self.assertEqual(self.numbers(1, path), ["large.star:601:5"])
+
+    def test_a_table_does_not_mark_them(self):
+        path = self.put("f.star", 'x = f"{a}"\n')
+        self.says(0, None, STEP, "table", path, "-o", self.at("f.table"))
+        ran = self.says(0, None, "", "check", self.at("f.table"))
+        self.assertNotIn("62", ran.out.split("nodes")[1].splitlines()[1:])
+
+
 if __name__ == "__main__":
     unittest.main()
