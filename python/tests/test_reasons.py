@@ -99,7 +99,7 @@ class Reasons(unittest.TestCase):
             sys.settrace(None)
         with open(reasons.__file__, encoding="utf-8") as file:
             lines = file.read().splitlines()
-        part = range(lines.index("def source_file(records, node):"), lines.index("# ---- table files"))
+        part = range(lines.index("def source_file(records, node):"), lines.index("# ---- parameter lists"))
         giving = [at + 1 for at in part if lines[at].lstrip().startswith(("return f\"", "return \"", "return OLD", "return None if"))]
         self.assertGreater(len(giving), 15)
         self.assertEqual([lines[at - 1] for at in giving if at not in reached], [])
