@@ -115,6 +115,10 @@ impl Calls<'_> {
         checker.check(&Request { table, names, job });
         if self.script.is_some() && checker.wants(&job) {
             let answer = jobs::bind(table, names, nodes.call, nodes.def, pair.needed());
+            // Python has no limit of parameters.
+            if answer.number == number::TOO_MANY_PARAMETERS {
+                return;
+            }
             let expected = expected(&self.encoded, nodes, &answer);
             self.waiting.push(Put { line: line(pair), expected });
             if self.waiting.len() == AT_ONCE {
