@@ -301,8 +301,8 @@ same-place a b lb zone asked sa oa sb ob sl ol to back =
     zone asked record { kept = to } record { kept = back }
 
 -- "after an addition the lookup at that zone and setting gives the bytes added" In words: after an addition that is
--- accepted at place p, where both books pass, the part that the lookup at that zone and setting gives is the dialect
--- added.
+-- accepted at place p, where both books pass, the lookup at that zone and setting tells the entry's book and where its
+-- dialect begins at place p, and the part that it gives is the dialect added.
 pub added-is-told : (zb lb : List ℕ) (zone setting : ℕ) (dialect : List ℕ) (b p : ℕ)
     → addOf zb lb zone setting dialect ≡ Placed b p
     → setting < 4294967296
@@ -312,12 +312,14 @@ pub added-is-told : (zb lb : List ℕ) (zone setting : ℕ) (dialect : List ℕ)
     → twiceIn zb (placesOf zb) ≡ false
     → soundBook true lb ≡ true
     → twiceIn lb (placesOf lb) ≡ false
-    → partOf
+    → (lookupOf (zoneAdded zb lb zone setting dialect) (lineAdded zb lb zone setting dialect) zone setting
+    ≡ if' (isLine zone) (λ _. Line (placeAt p + 6)) (λ _. Zone (placeAt p + 6)))
+    × (partOf
     (lookupOf (zoneAdded zb lb zone setting dialect) (lineAdded zb lb zone setting dialect) zone setting)
-    (zoneAdded zb lb zone setting dialect) (lineAdded zb lb zone setting dialect) ≡ dialect
+    (zoneAdded zb lb zone setting dialect) (lineAdded zb lb zone setting dialect) ≡ dialect)
 added-is-told zb lb zone setting dialect b p e small x y sz oz sl ol =
     theorem-both.added-found zb lb zone setting dialect b p e small x y
-    record { zone = record { sound = sz; once = oz }; line = record { sound = sl; once = ol } } .1
+    record { zone = record { sound = sz; once = oz }; line = record { sound = sl; once = ol } }
 
 -- "every lookup that does not reach it is as before"
 -- In words: a lookup whose best place, in the book of the entry afterwards, is not the new one is as before.
