@@ -89,7 +89,7 @@ fn read(text: &str) -> Result<Vec<Part>, usize> {
     Ok(parts)
 }
 
-/// Parts of a shape whose format text has at least so many bytes; neighbouring texts are one part.
+/// Parts of a shape, until their format text has at least `bytes` bytes; neighbouring texts are one part.
 pub fn parts(shape: fn(usize) -> Vec<Part>, bytes: usize) -> Vec<Part> {
     let mut found: Vec<Part> = Vec::new();
     for number in 0.. {

@@ -39,7 +39,7 @@ pub fn parameters(entries: usize) -> Input {
     input(tables, 0)
 }
 
-/// `def f(a, b, c)` with so many short names, and `pass`. The Def is node 0.
+/// `def f(a, b, c)` with `entries` short names, and `pass`. The Def is node 0.
 pub fn plain_parameters(entries: usize) -> Input {
     named_parameters(Family::Short, entries)
 }

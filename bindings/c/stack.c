@@ -355,7 +355,7 @@ static void nested_statements(const char *shape, int kind, size_t limit) {
     measure(shape, 0);
 }
 
-/* A def with so many parameters: as many as a list may have, or more, which are refused (19). */
+/* A def with `parameters` parameters. A list may have 48; a longer one is refused (19). */
 static void many_parameters(const char *shape, size_t parameters) {
     size_t root = open_node(STATEMENTS, 0), def = open_node(DEF, 0);
     for (size_t i = 0; i < parameters; i++) leaf(NORMAL);
