@@ -1,0 +1,74 @@
+-- A script of two statements whose errors come in another order in two tables than in one: the hypothesis of the
+-- theorems holds of it, and "up to order" is needed. Everything is computed. Assumes nothing.
+use mathlib.Core.Path.{_≡_, refl}
+use mathlib.Core.List.{List, [], _∷_}
+use Prim.Native.Nat.{ℕ}
+use Rattle.dialect.specs.declared.Name.the-variants.{Extended}
+use Rattle.dialect.specs.declared.Dialect.{Dialect}
+use Rattle.dialect.specs.Rows.{recordOf, rowNamed}
+use Rattle.forest.specs.Names.{nameOf, same}
+use Rattle.soundness.specs.KindNumbers.{kindOtherSimple, kindLambda, kindNormal, kindInt, kindBreak}
+use Rattle.soundness.specs.Kinds.{kindIn, kindOf}
+use Rattle.deflist.specs.Written.{kindAt, paramOf, paramsIn}
+use Rattle.deflist.specs.Unpack.{hasName, firstSame, repeats, advance, step, finish, run, slashFrom, start, unpack}
+use Rattle.deflist.specs.Limited.{limited}
+use Rattle.validate.specs.Params.{everyMark, «validate_params», withParams}
+use Rattle.validate.specs.Module.{armOf, f, exprErrors, expr, «validate_module»}
+use Rattle.parts.specs.Parts.{_beside_, SameRecord, SameTree, joined, Kept, under, read, readInTurn}
+use Rattle.parts.specs.Example.{recordAt, rootAt, wholeNames, inTwo, twice, misplaced}
+
+-- a record at two places of two tables says the same if its name does
+same-record : {names others : List ℕ} (i j kind len start there begin stop size : ℕ)
+    → nameOf names (recordAt i kind len start begin stop size) ≡ nameOf others (recordAt j kind len there begin stop size)
+    → SameRecord names others (recordAt i kind len start begin stop size) (recordAt j kind len there begin stop size)
+same-record i j kind len start there begin stop size h = record {
+  kind = refl;
+  detail = refl;
+  begin = refl;
+  stop = refl;
+  file = refl;
+  source = refl;
+  nameLen = refl;
+  name = h;
+}
+
+-- EXAMPLE: the hypothesis holds: the name stands at 1 among `xa` and at 0 among `a`, and `break` is node 6, then node 1
+pub kept : Kept wholeNames inTwo
+unfolding Kept SameTree nameOf
+kept =
+    let parameter : (i begin stop : ℕ) → SameRecord wholeNames (97 ∷ []) (recordAt i kindNormal 1 1 begin stop 1)
+    (recordAt i kindNormal 1 0 begin stop 1)
+    = λ i begin stop. same-record i i kindNormal 1 1 0 begin stop 1 refl in (
+      refl,
+      (
+        (
+          (
+            same-record 1 1 kindOtherSimple 0 0 0 0 14 5 refl,
+            (
+              (
+                same-record 2 2 kindLambda 0 0 0 0 14 4 refl,
+                ((parameter 3 7 8, tt), ((parameter 4 10 11, tt), ((same-record 5 5 kindInt 0 0 0 13 14 1 refl, tt), tt))),
+              ),
+              tt,
+            ),
+          ),
+          tt,
+        ),
+        (refl, (((same-record 6 1 kindBreak 0 0 0 15 20 1 refl, tt), tt), tt)),
+      ),
+    )
+
+-- EXAMPLE: what is read of the whole, and of the parts in turn
+abbrev extended : Dialect
+extended = recordOf (rowNamed Extended)
+
+pub whole-reads : read («validate_module» extended wholeNames (under (rootAt 0 20 7) (joined inTwo)))
+    ≡ misplaced ∷ twice ∷ []
+unfolding joined _beside_ read f armOf expr exprErrors withParams «validate_params» everyMark limited unpack paramsIn
+    paramOf kindAt nameOf hasName firstSame repeats advance step finish run slashFrom start same kindIn kindOf recordOf
+whole-reads = refl
+
+pub parts-read : readInTurn («validate_module» extended) inTwo ≡ twice ∷ misplaced ∷ []
+unfolding readInTurn read f armOf expr exprErrors withParams «validate_params» everyMark limited unpack paramsIn
+    paramOf kindAt nameOf hasName firstSame repeats advance step finish run slashFrom start same kindIn kindOf recordOf
+parts-read = refl

@@ -1,0 +1,10 @@
+pub mod Read
+pub mod Targets
+pub mod Types
+pub mod Lists
+pub mod Calls
+pub mod Walk
+pub mod Audits
+pub mod Order
+pub mod Theorems
+pub mod Example
