@@ -7,3 +7,4 @@ pub mod Whole
 pub mod Back
 pub mod Fresh
 pub mod Booked
+pub mod Example

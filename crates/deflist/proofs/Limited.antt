@@ -82,21 +82,21 @@ module _ (owner : Node) (l : List Param) where
       go false e = absurd (omega (arith, refused-low l (rw e at h)))
 
 -- what code says of the list of a node: b is whether its children have more than may be
-module _ (ns t : List ℕ) (node : ℕ) {kids : List ℕ} (kids-are : kids ≡ kidsOf t) {b : Bool} (b-is : Exceeds kids b)
-  where
-    list-long : b ≡ ltb mostParameters (length (written ns node t))
-    unfolding written
-    list-long = rw kids-are at (b-is .says ns (node + 1))
+module _ (ns t : List ℕ) (node : ℕ) {kids : List ℕ} (kids-are : kids ≡ kidsOf t) {b : Bool}
+    (b-is : Exceeds mostParameters kids b) where
+  list-long : b ≡ ltb mostParameters (length (written ns node t))
+  unfolding written
+  list-long = rw kids-are at (b-is .says ns (node + 1))
 
-    pub judge-long : b ≡ true → {f : Fault} → f ≡ fault tooManyParameters (nodeOf node t) Nothing
-        → Refused f ≡ told (limited (nodeOf node t) (written ns node t))
-    unfolding limited
-    judge-long long f-is = rw (sym list-long ∙ long, f-is) refl
+  pub judge-long : b ≡ true → {f : Fault} → f ≡ fault tooManyParameters (nodeOf node t) Nothing
+      → Refused f ≡ told (limited (nodeOf node t) (written ns node t))
+  unfolding limited
+  judge-long long f-is = rw (sym list-long ∙ long, f-is) refl
 
-    pub judge-short : b ≡ false → {m : ℕ} {r : Judged} → Says (unpack (written ns node t)) m r
-        → r ≡ told (limited (nodeOf node t) (written ns node t))
-    unfolding limited
-    judge-short short says = rw (sym list-long ∙ short) (says .same)
+  pub judge-short : b ≡ false → {m : ℕ} {r : Judged} → Says (unpack (written ns node t)) m r
+      → r ≡ told (limited (nodeOf node t) (written ns node t))
+  unfolding limited
+  judge-short short says = rw (sym list-long ∙ short) (says .same)
 
 pub fault-inside : (t : List ℕ) (node m : ℕ) {f : Fault} → f ≡ fault tooManyParameters (nodeOf node t) Nothing
     → node ≤ m → Inside m (Refused f)

@@ -10,7 +10,7 @@ use Rattle.deflist.specs.Written.{written}
 use Rattle.deflist.specs.Unpack.{nextState, isSlash, firstState}
 use Rattle.deflist.specs.Limited.{limited}
 use Rattle.deflist.specs.Told.{told}
-use Rattle.deflist.specs.Reading.{isListed, kindHere, Inside}
+use Rattle.deflist.specs.Reading.{isListed, kindHere, Inside, isOver, Exceeds}
 use Rattle.deflist.specs.declared.Kind.{Kind}
 use Rattle.deflist.specs.declared.State.{State}
 use Rattle.deflist.specs.declared.Flat.{Flat}
@@ -32,6 +32,11 @@ listed-one t = coincide
 
 pub kind-of-one : (t : List ℕ) {r s : Kind} → r ≡ kindHere t → s ≡ kindHere t → r ≡ s
 kind-of-one t = coincide
+
+-- of `list::has_more`; its second promise says the same whatever the names and the index
+pub has-more-one : (kids : List ℕ) (most : ℕ) {r s : Bool} → r ≡ isOver most kids → Exceeds most kids r
+    → s ≡ isOver most kids → Exceeds most kids s → r ≡ s
+has-more-one kids most p _ q _ = coincide p q
 
 -- of `states::first_state`, `states::next_state`
 pub first-state-one : (only : Flat) {r s : State} → r ≡ firstState only → s ≡ firstState only → r ≡ s

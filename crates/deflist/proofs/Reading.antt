@@ -16,8 +16,7 @@ use Rattle.forest.proofs.Stretch.{forest-none, forest-tree, rest-part, record-o
 use Rattle.soundness.specs.Kinds.{parameter, classOf}
 use Rattle.deflist.specs.Written.{Param, nodeIn, kindIn, param, paramOf, paramsIn, kindAt}
 use Rattle.deflist.specs.Unpack.{isSlash, slashFrom, firstSlash, writtenAt}
-use Rattle.deflist.specs.Limited.{mostParameters}
-use Rattle.deflist.specs.Reading.{isListed, kindHere, SlashAt, Exceeds, Skips}
+use Rattle.deflist.specs.Reading.{isListed, kindHere, SlashAt, isOver, Exceeds, Skips}
 use Rattle.deflist.specs.declared.Written.{Written}
 use Rattle.deflist.specs.declared.Kind.{Kind}
 use Rattle.deflist.specs.declared.Kind.the-variants.{Normal, NoArgs, Slash, Args, KwArgs}
@@ -205,32 +204,59 @@ module _ {kids left : List ℕ} {n : ℕ} (s : Counting kids left n) {l : Bool} 
       let none-left = read-end (s .reads ns i) (sym l-is ∙ l-no) in
       omega (arith, s .reads ns i .upto, length-drop n (paramsIn ns (forest i kids)), ap length none-left)
 
--- The same up to the limit: as long as the list goes on, one more than n stand in it
-pub record Limiting (kids left : List ℕ) (n : ℕ) : Type 0 where
+-- The same up to a limit: as long as the list goes on, one more than n stand in it
+pub record Limiting (most : ℕ) (kids left : List ℕ) (n : ℕ) : Type 0 where
   pub counts : Counting kids left n
-  pub few : n ≤ mostParameters
+  pub few : n ≤ most
 
-pub limit-start : (kids : List ℕ) → Limiting kids kids 0
-limit-start kids = record { counts = count-start kids; few = omega arith }
+pub limit-start : (most : ℕ) (kids : List ℕ) → Limiting most kids kids 0
+limit-start most kids = record { counts = count-start kids; few = omega arith }
 
-module _ {kids left : List ℕ} {n : ℕ} (s : Limiting kids left n) {l : Bool} (l-is : l ≡ isListed left) where
-  pub limit-over : l ≡ true → mostParameters ≤ n → Exceeds kids true
-  limit-over l-yes full = record {
-    says = λ ns i.
-        let here = read-here (s .counts .reads ns i) (sym l-is ∙ l-yes) refl in
-        sym (lt-ltb mostParameters (length (paramsIn ns (forest i kids))) (omega (arith, full, here .within)));
-  }
+-- of the two promises of `has_more` the second says the first
+pub is-over : {most : ℕ} {kids : List ℕ} {b : Bool} → Exceeds most kids b → b ≡ isOver most kids
+unfolding isOver
+is-over b-is = b-is .says [] 0
 
-  pub limit-on : l ≡ true → n < mostParameters → {e : ℕ} → e ≡ spanOf left
-      → Limiting kids (take (length left - e) (drop e left)) (n + 1)
-  limit-on l-yes more e-is = record { counts = count-on (s .counts) l-is l-yes e-is; few = omega (arith, more) }
+-- what follows a node of one record, and of any size
+pub after-one : (t : List ℕ) {s : ℕ} → s ≡ sizeOf t → s ≡ 1 → 24 ≤ length t
+    → take (length t - 24) (drop 24 t) ≡ drop (spanOf t) t
+after-one t s-is one long =
+    let span : spanOf t ≡ 24 = omega (arith, s-is) in
+    tail-part 24 t ∙ ap (λ (e : ℕ). drop e t) (sym span)
 
-  pub limit-end : l ≡ false → Exceeds kids false
-  limit-end l-no = record {
-    says = λ ns i.
-        sym (le-ltb mostParameters (length (paramsIn ns (forest i kids)))
-        (omega (arith, s .few, count-all (s .counts) l-is l-no ns i)));
-  }
+pub after-any : (t : List ℕ) {e : ℕ} → e ≡ spanOf t → take (length t - e) (drop e t) ≡ drop (spanOf t) t
+after-any t {e} e-is = tail-part e t ∙ ap (λ (k : ℕ). drop k t) e-is
+
+module _ {most : ℕ} {kids left : List ℕ} {n : ℕ} (s : Limiting most kids left n) {l : Bool} (l-is : l ≡ isListed left)
+  where
+    pub limit-over : l ≡ true → most ≤ n → Exceeds most kids true
+    limit-over l-yes full = record {
+      says = λ ns i.
+          let here = read-here (s .counts .reads ns i) (sym l-is ∙ l-yes) refl in
+          sym (lt-ltb most (length (paramsIn ns (forest i kids))) (omega (arith, full, here .within)));
+    }
+
+    pub limit-on : l ≡ true → n < most → {next : List ℕ} → next ≡ drop (spanOf left) left
+        → Limiting most kids next (n + 1)
+    limit-on l-yes more next-is = record {
+      counts = rw (next-is ∙ sym (after-any left refl)) (count-on (s .counts) l-is l-yes refl);
+      few = omega (arith, more);
+    }
+
+    pub limit-end : l ≡ false → Exceeds most kids false
+    limit-end l-no = record {
+      says = λ ns i.
+          sym (le-ltb most (length (paramsIn ns (forest i kids)))
+          (omega (arith, s .few, count-all (s .counts) l-is l-no ns i)));
+    }
+
+-- what follows a parameter is shorter
+pub after-less : (t : List ℕ) {l : Bool} {next : List ℕ} → l ≡ isListed t → l ≡ true → next ≡ drop (spanOf t) t
+    → length next < length t
+after-less t l-is l-yes next-is = rw (next-is, length-drop) (omega (arith, listed-long t (sym l-is ∙ l-yes)))
+
+pub after-long : (t : List ℕ) {l : Bool} → l ≡ isListed t → l ≡ true → 24 ≤ length t
+after-long t l-is l-yes = listed-long t (sym l-is ∙ l-yes)
 
 -- Stepping over n parameters: i are stepped over, and they take at bytes
 pub record Skipping (kids : List ℕ) (n at i : ℕ) : Type 0 where

@@ -7,7 +7,7 @@ use mathlib.Core.List.{List, [], _∷_, _++_}
 use Prim.Native.Nat.{ℕ, suc, _+_, _-_, _*_, _/_, _<_, _≤_}
 use native.Mathlib.Omega.{arith}
 use lib.ListN.{length, drop, length-append}
-use borrow.Author.Tests.{lt-leb}
+use borrow.Author.Tests.{lt-leb, le-ltb}
 use Rattle.fields.proofs.Basics.{never}
 use Rattle.fields.specs.Choice.{if'}
 use Rattle.forest.specs.Forest.{Node, spanOf, kidsOf, restOf, forest}
@@ -18,7 +18,7 @@ use Rattle.deflist.specs.Unpack.{writtenAt, flatAt, check, nextState, co
 use Rattle.deflist.specs.Unpack.{start, isSlash, slashFrom, firstSlash, positionalOnly, fromStar}
 use Rattle.deflist.specs.Unpack.{finish, Internal, Outcome, accepted, refused, repeated, internal, run, unpack}
 use Rattle.deflist.specs.Told.{told}
-use Rattle.deflist.specs.Reading.{isListed, Bounded}
+use Rattle.deflist.specs.Reading.{isListed, Bounded, Exceeds}
 use Rattle.deflist.specs.declared.Kind.{Kind}
 use Rattle.deflist.specs.declared.Kind.the-variants.{Normal, NoArgs, Slash, Args, KwArgs}
 use Rattle.deflist.specs.declared.State.{State}
@@ -183,6 +183,12 @@ list-short ns =
 pub written-short : (ns : List ℕ) (i : ℕ) (t : List ℕ) → 24 * length (written ns i t) ≤ length t - 24
 unfolding written
 written-short ns i t = omega (arith, list-short ns (i + 1) (kidsOf t), length-kids t)
+
+-- a list of no more records than `most` has no more parameters
+pub records-few : (most : ℕ) (kids : List ℕ) → length kids / 24 ≤ most → Exceeds most kids false
+records-few most kids h = record {
+  says = λ ns i. sym (le-ltb most (length (paramsIn ns (forest i kids))) (omega (arith, list-short ns i kids)));
+}
 
 -- what was told to be accepted is
 pub told-accepted : (o : Outcome) {c : Counts} → told o ≡ Accepted c → o ≡ accepted c

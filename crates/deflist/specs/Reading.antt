@@ -12,7 +12,6 @@ use Rattle.forest.specs.declared.Found.the-variants.{At, Nothing}
 use Rattle.soundness.specs.Kinds.{parameter, classOf}
 use Rattle.deflist.specs.Written.{Name, Param, kindAt, paramOf, paramsIn}
 use Rattle.deflist.specs.Unpack.{isSlash, firstSame, repeats, firstSlash, finish, Outcome}
-use Rattle.deflist.specs.Limited.{mostParameters}
 use Rattle.deflist.specs.Told.{told}
 use Rattle.deflist.specs.declared.Kind.{Kind}
 use Rattle.deflist.specs.declared.Kind.the-variants.{Normal, NoArgs, Slash, Args, KwArgs}
@@ -74,9 +73,12 @@ pub record Says (o : Outcome) (m : ℕ) (r : Judged) : Type 0 where
 pub record SlashAt (kids : List ℕ) (s : WrittenPlace) : Type 0 where
   pub first : (names : List ℕ) (i : ℕ) → s ≡ firstSlash (paramsIn names (forest i kids))
 
--- a stretch has more parameters than a list may have, whatever the names and the index
-pub record Exceeds (kids : List ℕ) (b : Bool) : Type 0 where
-  pub says : (names : List ℕ) (i : ℕ) → b ≡ ltb mostParameters (length (paramsIn names (forest i kids)))
+-- the list that a stretch begins with has more than `most` parameters; and so it is whatever the names and the index
+unfoldable pub isOver : ℕ → List ℕ → Bool
+isOver most kids = ltb most (length (paramsIn [] (forest 0 kids)))
+
+pub record Exceeds (most : ℕ) (kids : List ℕ) (b : Bool) : Type 0 where
+  pub says : (names : List ℕ) (i : ℕ) → b ≡ ltb most (length (paramsIn names (forest i kids)))
 
 -- the first n parameters of a stretch take r bytes, whatever the names and the index
 pub record Skips (kids : List ℕ) (n r : ℕ) : Type 0 where

@@ -5,7 +5,7 @@
 // Copyright 2018 The Starlark in Rust Authors. Copyright (c) Facebook, Inc. and its affiliates.
 // Licensed under Apache-2.0.
 pub mod entry;
-mod list;
+pub mod list;
 mod rules;
 pub mod states;
 mod walk;
@@ -124,7 +124,7 @@ pub fn judge(names: &[u8], t: &[u8], node: u32) -> Judged
         told (limited (nodeOf node (now (t .entry))) (written (now (names .entry)) node (now (t .entry)))) ⌝ }
     ensures { λ r. ⌜ Inside (node + 1 + length (now (t .entry)) / recordBytes) r ⌝ }
 {
-    if list::is_long(children(t)) {
+    if list::has_more(children(t), MOST_PARAMETERS) {
         return Judged::Refused(walk::fault(
             numbers::TOO_MANY_PARAMETERS,
             node as usize,

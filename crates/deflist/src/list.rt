@@ -1,13 +1,15 @@
 // The written list, read from the children of a def or lambda: each next parameter is found by stepping over the one
 // before it.
-use crate::MOST_PARAMETERS;
 use crate::Written;
 use crate::WrittenPlace;
 use crate::entry;
+use forest::RECORD;
 ghost use mathlib.Core.Path.{_≡_};
-ghost use Prim.Native.Nat.{_+_, _<_, _^_};
+ghost use Prim.Native.Nat.{_+_, _<_, _≤_, _^_};
+ghost use lib.ListN.{length, drop};
+ghost use Rattle.forest.specs.Forest.{recordBytes, spanOf};
 ghost use Rattle.deflist.specs.Unpack.{writtenAt};
-ghost use Rattle.deflist.specs.Reading.{SlashAt, Exceeds, Skips};
+ghost use Rattle.deflist.specs.Reading.{SlashAt, isOver, Exceeds, Skips};
 
 // The next position in the written list.
 pub(crate) fn next(n: Written) -> Written
@@ -34,19 +36,36 @@ pub(crate) fn first_slash(kids: &[u8]) -> WrittenPlace
     WrittenPlace::NoWritten
 }
 
-// Whether a list has more than MOST_PARAMETERS entries, marks counted. The entries after the first one too many are
-// not read.
-pub(crate) fn is_long(kids: &[u8]) -> bool
-    ensures { λ r. ⌜ Exceeds (now (kids .entry)) r ⌝ }
+// What follows the node that a stretch begins with. Most parameters are one record; compiled code foresees it, and need
+// not wait for a size before it reads the next record.
+fn after(t: &[u8]) -> &[u8]
+    requires { ⌜ recordBytes ≤ length (now t) ⌝ }
+    ensures { λ r. ⌜ now r ≡ drop (spanOf (now (t .entry))) (now (t .entry)) ⌝ }
 {
+    if forest::size(t) == 1 {
+        return &t[RECORD..];
+    }
+    let e = forest::span(t);
+    &t[e..]
+}
+
+// Whether the list that a stretch begins with has more than `most` entries, marks counted. A stretch of no more records
+// is not read, nor are the entries after the first one too many.
+pub fn has_more(kids: &[u8], most: usize) -> bool
+    ensures { λ r. ⌜ r ≡ isOver most (now (kids .entry)) ⌝ }
+    ensures { λ r. ⌜ Exceeds most (now (kids .entry)) r ⌝ }
+{
+    if kids.len() / RECORD <= most {
+        return false;
+    }
     let mut left = kids;
     let mut n = 0;
     while entry::listed(left) {
-        if MOST_PARAMETERS <= n {
+        if most <= n {
             return true;
         }
-        let e = forest::span(left);
-        left = &left[e..];
+        let next = after(left);
+        left = next;
         n += 1;
     }
     false

@@ -1,10 +1,11 @@
 -- What demand 3 supposes can be met, and not only trivially: `def f(a, /, b=1, *args, c, **k)` in a table of its own.
 -- The table is sound, the list is the one that is written, and it has a good cut, so that every theorem of Demand3.antt
--- speaks of it. All by computation. Assumes nothing.
+-- speaks of it. The other side of the limit is a def with 49 parameters: its table is sound too, and the answer is 19 at
+-- the def. All by computation. Assumes nothing.
 use mathlib.Core.Path.{_≡_, refl}
 use mathlib.Core.Logic.{inl}
 use mathlib.Core.List.{[], _∷_, _++_}
-use Prim.Native.Nat.{_≤_}
+use Prim.Native.Nat.{_<_, _≤_}
 use native.Mathlib.Omega.{arith}
 use lib.ListN.{length}
 use Rattle.fields.specs.Field.{field}
@@ -15,7 +16,9 @@ use Rattle.soundness.specs.Files.{fileSound, endsBy, topOf, filesOf}
 use Rattle.soundness.specs.Sound.{nameSound, spanSound, sourceSound, fieldsSound, wholeTrees, classes, permitted}
 use Rattle.soundness.specs.Sound.{wanted, permits, kidsSound, soundNode, soundAt, rootSound, contextOf, recordSound}
 use Rattle.soundness.specs.Sound.{firstFalse, firstUnsound}
-use Rattle.table.specs.Answer.{accepted}
+use Rattle.soundness.specs.KindNumbers.{kindDef}
+use Rattle.table.specs.Numbers.{tooManyParameters}
+use Rattle.table.specs.Answer.{accepted, refusedAt}
 use Rattle.table.specs.Check.{lengthSound, checkOf, stretchOf}
 use Rattle.table.specs.Depth.{classWeight, weight, firstDeep, deepIn}
 use Rattle.deflist.specs.Written.{kindAt, paramOf, paramsIn, written}
@@ -25,9 +28,9 @@ use Rattle.deflist.specs.Limited.{mostParameters}
 use Rattle.parameters.specs.Params.{listOf, paramsOf, modesAfter}
 use Rattle.demand3.specs.Cut.{join, firsts, Good}
 use Rattle.demand3.specs.Given.{parametersIn, allParameters, Given, CutOf}
-use Rattle.demand3.specs.Example.{table, names, buffer, cut}
+use Rattle.demand3.specs.Example.{table, names, buffer, cut, recordAt, longTable, longBuffer}
 use Rattle.demand3.proofs.Names.{fresh-iff, defaults-iff}
-use Rattle.demand3.proofs.Demand3.{ranges-are-the-cuts}
+use Rattle.demand3.proofs.Demand3.{ranges-are-the-cuts, nineteen-iff-long}
 
 -- the table is sound
 pub sound : checkOf table names ≡ accepted []
@@ -77,3 +80,27 @@ pub filled : modesAfter table names 0 buffer
 unfolding modesAfter modes modesFrom slashFrom listOf written paramsIn paramOf kindAt stretchOf field sizeOf kidsOf
     restOf forestIn forest kindIn kindOf nameOf
 filled = rw answer refl
+
+-- a def with 49 parameters: its table is sound
+pub long-sound : checkOf longTable names ≡ accepted []
+unfolding checkOf lengthSound field sizeOf kidsOf restOf forestIn forest count countTree same kindIn kindOf nameSound
+    spanSound sourceSound fieldsSound wholeTrees classes permitted wanted permits kidsSound soundNode soundAt rootSound
+    fileSound endsBy topOf filesOf contextOf recordSound firstFalse firstUnsound classWeight weight firstDeep deepIn
+long-sound = refl
+
+-- what is given holds of it, with a byte in the buffer for each parameter
+pub long-given : Given longTable names 0 longBuffer
+unfolding listOf written paramsIn paramOf kindAt stretchOf field sizeOf kidsOf restOf forestIn forest kindIn kindOf
+    nameOf
+long-given = record { sound = long-sound; within = omega arith; defOrLambda = inl refl; room = omega arith }
+
+-- it is over the limit
+pub over : mostParameters < length (allParameters longTable names 0)
+unfolding parametersIn paramOf kindAt stretchOf field sizeOf kidsOf restOf forestIn forest kindIn kindOf nameOf
+over = omega arith
+
+-- so the answer is 19 at the def, though its parameters all have one name, which alone would be 11
+pub long-answer : paramsOf longTable names 0 (length longBuffer)
+    ≡ refusedAt tooManyParameters (recordAt 0 kindDef 0 0 0 0 37 51 1)
+unfolding field sizeOf
+long-answer = nineteen-iff-long longTable names 0 longBuffer long-given .1 over

@@ -1,7 +1,8 @@
--- A table that demand 3 speaks of: `def f(a, /, b=1, *args, c, **k): pass`, record by record. These are definitions.
+-- Two tables that demand 3 speaks of, record by record: `def f(a, /, b=1, *args, c, **k): pass`, and a def with 49
+-- parameters, one more than a list may have. These are definitions.
 use mathlib.Core.Bool.{true, false}
 use mathlib.Core.List.{List, [], _∷_, _++_}
-use Prim.Native.Nat.{ℕ}
+use Prim.Native.Nat.{ℕ, zero, suc}
 use lib.ListN.{replicate}
 use Rattle.forest.specs.Forest.{Node}
 use Rattle.soundness.specs.KindNumbers.{kindDef, kindInt, kindOtherSimple, kindNormal, kindSlash, kindArgsParam}
@@ -62,3 +63,22 @@ cut = record {
       (record { node = recordAt 6 kindNormal 0 1 6 24 25 1 1; name = 99 ∷ []; default = false } ∷ []);
   last = withKwargs (recordAt 7 kindKwArgsParam 0 1 7 27 30 1 1) (107 ∷ []);
 }
+
+-- some bytes so many times over
+abbrev pub copies : ℕ → List ℕ → List ℕ
+copies zero bs = []
+copies (suc n) bs = bs ++ copies n bs
+
+-- a def with n parameters, each called `a`, and its body
+abbrev pub defOf : ℕ → ℕ → List ℕ
+defOf n records =
+    bytesOf kindDef 0 0 0 0 37 records 1
+    ++ (copies n (bytesOf kindNormal 0 1 0 6 7 1 1) ++ bytesOf kindOtherSimple 0 0 0 33 37 1 1)
+
+-- the one with 49: 51 records
+abbrev pub longTable : List ℕ
+longTable = defOf 49 51
+
+-- a byte for each of them
+abbrev pub longBuffer : List ℕ
+longBuffer = replicate 49 255

@@ -7,7 +7,8 @@ use native.Mathlib.Nat.{zero-add}
 use native.Mathlib.Omega.{arith}
 use lib.ListN.{length, drop}
 use lib.Seq.{sets, sets-eq}
-use borrow.Author.Tests.{le-leb, lt-leb}
+use lib.Dec.{ltb}
+use borrow.Author.Tests.{le-leb, lt-leb, ltb-true, ltb-false}
 use Rattle.fields.proofs.Basics.{clash}
 use Rattle.forest.specs.Forest.{nodeOf, kidsOf, forest}
 use Rattle.table.specs.Numbers.{shortBuffer}
@@ -27,7 +28,7 @@ use Rattle.deflist.specs.Unpack as def
 use Rattle.deflist.specs.Unpack.{modes}
 use Rattle.deflist.specs.Limited.{limited}
 use Rattle.deflist.specs.Told.{told}
-use Rattle.deflist.specs.Reading.{NotPast, Inside, PlaceBelow, Bounded}
+use Rattle.deflist.specs.Reading.{NotPast, Inside, PlaceBelow, Bounded, Exceeds}
 use Rattle.deflist.specs.declared.State.{State}
 use Rattle.deflist.specs.declared.FlatPlace.{FlatPlace}
 use Rattle.deflist.specs.declared.FlatPlace.the-variants.{AtFlat, NoFlat}
@@ -40,7 +41,7 @@ use Rattle.parameters.specs.declared.Counted.{Counted}
 use Rattle.deflist.specs.declared.Fault.{Fault}
 use Rattle.parameters.specs.Indices.{valuesOf, countedOf}
 use Rattle.parameters.specs.Params.{answerOf, listAnswer, listOf, paramsOf, afterwards, modesAfter}
-use Rattle.parameters.specs.Writing.{isRefused, firstOf, judgedAnswer, Small, Listed, AtMost, Modes, Kept}
+use Rattle.parameters.specs.Writing.{isRefused, firstOf, judgedAnswer, Small, AtMost, Modes, Kept}
 use Rattle.parameters.specs.Writing.{Leaves, earlierPlace, faultAnswer, SmallFault}
 
 -- wider bounds
@@ -108,8 +109,10 @@ module _ (kids ms : List ℕ) {j : Judged} {b : Bool} (b-is : b ≡ isRefused j)
   kept-wrote h s-is w = record { left = λ e. clash e (sym b-is ∙ h); wrote = λ e. rw (← s-is) w }
 
 -- room for as many as are listed
-pub listed-most : {kids : List ℕ} {m n : ℕ} → Listed kids m → m ≤ n → AtMost kids n
-listed-most l h = record { most = λ names i. omega (arith, l .many names i) }
+pub listed-most : {kids : List ℕ} {n : ℕ} {b : Bool} → Exceeds n kids b → b ≡ false → AtMost kids n
+listed-most {kids} {n} b-is b-no = record {
+  most = λ names i. ltb-false n (length (paramsIn names (forest i kids))) (sym (b-is .says names i) ∙ b-no);
+}
 
 -- the outcome of a node's list, and what follows for unpack's where it is accepted
 abbrev outcome : List ℕ → List ℕ → ℕ → def.Outcome
@@ -130,49 +133,53 @@ told-small ns t node (Accepted c) j-is h short =
 told-small ns t node (Refused f) j-is h short =
     (omega (arith, h .0), not-past-wider (f .earlier) (h .1) (omega arith))
 
--- the list of a node: m parameters stand in its children
-module _ (ns t ms : List ℕ) (node : ℕ) {kids : List ℕ} (kids-are : kids ≡ kidsOf t) {m : ℕ} (m-is : Listed kids m)
-  where
-    list-long : m ≡ length (written ns node t)
-    unfolding written
-    list-long = rw kids-are at (m-is .many ns (node + 1))
+-- the list of a node: b is whether it is longer than the buffer
+module _ (ns t ms : List ℕ) (node : ℕ) {kids : List ℕ} (kids-are : kids ≡ kidsOf t) {b : Bool}
+    (b-is : Exceeds (length ms) kids b) where
+  list-long : b ≡ ltb (length ms) (length (written ns node t))
+  unfolding written
+  list-long = rw kids-are at (b-is .says ns (node + 1))
 
-    pub into-short : length ms < m → Leaves (nodeOf node t) (written ns node t) ms (refused shortBuffer []) ms
+  pub into-short : b ≡ true → Leaves (nodeOf node t) (written ns node t) ms (refused shortBuffer []) ms
+  unfolding listAnswer
+  into-short h =
+      let more = ltb-true (length ms) (length (written ns node t)) (sym list-long ∙ h) in
+      let short = lt-leb (length (written ns node t)) (length ms) more in
+      record { answer = rw short refl; buffer = rw short refl }
+
+  same-modes : {c : Counts} → def.unpack (written ns node t) ≡ def.accepted c
+      → def.modesFrom (def.firstState (c .«num_positional_only»)) (paramsIn ns (forest (node + 1) kids))
+      ≡ modes (written ns node t)
+  unfolding modes written
+  same-modes outcome = rw (accepted-only (written ns node t) outcome, kids-are) refl
+
+  module _ (b-no : b ≡ false) where
+    room : length (written ns node t) ≤ length ms
+    room = ltb-false (length ms) (length (written ns node t)) (sym list-long ∙ b-no)
+
+    stored : sets ms 0 (modes (written ns node t))
+        ≡ modes (written ns node t) ++ drop (length (modes (written ns node t))) ms
+    stored =
+        rw zero-add at (sets-eq (modes (written ns node t)) ms 0
+        (omega (arith, modes-short (written ns node t), room)))
+
+    pub into-told : {j : Judged} → j ≡ told (limited (nodeOf node t) (written ns node t)) → {ms′ : List ℕ}
+        → Kept kids j ms ms′ → {u : Answer} → u ≡ judgedAnswer j
+        → Leaves (nodeOf node t) (written ns node t) ms u ms′
     unfolding listAnswer
-    into-short h =
-        let short = lt-leb (length (written ns node t)) (length ms) (omega (arith, list-long)) in
-        record { answer = rw short refl; buffer = rw short refl }
-
-    same-modes : {c : Counts} → def.unpack (written ns node t) ≡ def.accepted c
-        → def.modesFrom (def.firstState (c .«num_positional_only»)) (paramsIn ns (forest (node + 1) kids))
-        ≡ modes (written ns node t)
-    unfolding modes written
-    same-modes outcome = rw (accepted-only (written ns node t) outcome, kids-are) refl
-
-    module _ (room : m ≤ length ms) where
-      stored : sets ms 0 (modes (written ns node t))
-          ≡ modes (written ns node t) ++ drop (length (modes (written ns node t))) ms
-      stored =
-          rw zero-add at (sets-eq (modes (written ns node t)) ms 0
-          (omega (arith, modes-short (written ns node t), list-long)))
-
-      pub into-told : {j : Judged} → j ≡ told (limited (nodeOf node t) (written ns node t)) → {ms′ : List ℕ}
-          → Kept kids j ms ms′ → {u : Answer} → u ≡ judgedAnswer j
-          → Leaves (nodeOf node t) (written ns node t) ms u ms′
-      unfolding listAnswer
-      into-told {j} j-is {ms′} k u-is =
-          let enough = le-leb (length (written ns node t)) (length ms) (omega (arith, list-long)) in
-          let answer-is = ap judgedAnswer j-is ∙ judged-answer (outcome ns t node) in
-          record {
-            answer = rw enough (u-is ∙ answer-is);
-            buffer = rw (enough, ← answer-is) (go j j-is k);
-          }
-        where
-          go : (x : Judged) → x ≡ told (outcome ns t node) → Kept kids x ms ms′
-              → ms′ ≡ afterwards (judgedAnswer x) (modes (written ns node t)) ms
-          go (Accepted c) e k = k .wrote refl .wrote ns (node + 1)
-              ∙ ap (sets ms 0) (same-modes (told-counts ns t node e)) ∙ stored
-          go (Refused f) e k = k .left refl
+    into-told {j} j-is {ms′} k u-is =
+        let enough = le-leb (length (written ns node t)) (length ms) room in
+        let answer-is = ap judgedAnswer j-is ∙ judged-answer (outcome ns t node) in
+        record {
+          answer = rw enough (u-is ∙ answer-is);
+          buffer = rw (enough, ← answer-is) (go j j-is k);
+        }
+      where
+        go : (x : Judged) → x ≡ told (outcome ns t node) → Kept kids x ms ms′
+            → ms′ ≡ afterwards (judgedAnswer x) (modes (written ns node t)) ms
+        go (Accepted c) e k = k .wrote refl .wrote ns (node + 1)
+            ∙ ap (sets ms 0) (same-modes (told-counts ns t node e)) ∙ stored
+        go (Refused f) e k = k .left refl
 
 -- 1 to 4, 6, then the list
 module _ (t ns : List ℕ) (node : ℕ) {e : Checked} (e-is : checked e ≡ entryCheck Parameters t ns node) where

@@ -1,4 +1,4 @@
--- Counting a list and writing its modes, step by step, whatever the names and the index. Assumes nothing.
+-- Writing the modes of a list, step by step, whatever the names and the index. Assumes nothing.
 use mathlib.Core.Path.{_≡_, refl, sym, ap, _∙_}
 use mathlib.Core.Bool.{Bool, true, false}
 use mathlib.Core.List.{List, [], _∷_, _++_}
@@ -15,13 +15,7 @@ use Rattle.deflist.specs.declared.Kind.the-variants.{Normal, NoArgs, Slash, Arg
 use Rattle.deflist.specs.declared.State.{State}
 use Rattle.deflist.specs.declared.State.the-variants.{Normal as BeforeSlash, SeenSlash, SeenStar, SeenStarStar}
 use Rattle.deflist.proofs.Reading.{kind-in, Reading, read-start, read-here, read-on, read-end, list-on}
-use Rattle.deflist.proofs.Reading.{Counting, count-all}
-use Rattle.parameters.specs.Writing.{modeByte, modeIn, Listed, AtMost, Modes}
-
--- at the end all parameters are counted
-pub count-end : {kids left : List ℕ} {n : ℕ} → Counting kids left n → {l : Bool} → l ≡ isListed left → l ≡ false
-    → Listed kids n
-count-end s l-is l-no = record { many = count-all s l-is l-no }
+use Rattle.parameters.specs.Writing.{modeByte, modeIn, AtMost, Modes}
 
 -- the mode byte is the mode
 mode-in : (s : State) (k : Kind) → modeIn (modeByte s k) ≡ modeOf s k

@@ -67,11 +67,8 @@ abbrev pub modeIn : ℕ → List ℕ
 modeIn zero = []
 modeIn (suc m) = suc m ∷ []
 
--- the list at the front of a stretch, whatever the names and the index: it has m parameters; it has at most n; the
--- buffer ms has become ms′ where its modes, from a state on, are written at the front
-pub record Listed (kids : List ℕ) (m : ℕ) : Type 0 where
-  pub many : (names : List ℕ) (i : ℕ) → m ≡ length (paramsIn names (forest i kids))
-
+-- the list at the front of a stretch, whatever the names and the index: it has at most n parameters; the buffer ms has
+-- become ms′ where its modes, from a state on, are written at the front
 pub record AtMost (kids : List ℕ) (n : ℕ) : Type 0 where
   pub most : (names : List ℕ) (i : ℕ) → length (paramsIn names (forest i kids)) ≤ n
 

@@ -15,6 +15,7 @@ use deflist::Judged;
 use deflist::Kind;
 use deflist::State;
 use deflist::entry;
+use deflist::list;
 use deflist::states;
 use forest::Found;
 use table::Checked;
@@ -38,7 +39,7 @@ ghost use Rattle.parameters.specs.Params.{unpacked, paramsOf, modesAfter
 ghost use Rattle.parameters.specs.Writing.{isRefused, firstOf, earlierPlace, faultAnswer, SmallFault};
 ghost use Rattle.parameters.specs.Writing.{judgedAnswer, Small};
 ghost use Rattle.parameters.specs.Writing.{modeByte, modeIn};
-ghost use Rattle.parameters.specs.Writing.{Listed, AtMost, Modes, Kept, Leaves};
+ghost use Rattle.parameters.specs.Writing.{AtMost, Modes, Kept, Leaves};
 
 // The sizes and indices that split the flat list into its parts, as the crate has them.
 pub struct DefParamIndices {
@@ -89,7 +90,7 @@ fn unpack_into(names: &[u8], t: &[u8], node: u32, modes: &mut [u8]) -> Unpacked
         (now (modes .entry)) (unpacked r) (now (modes .exit)) ⌝ }
 {
     let kids = deflist::children(t);
-    if modes.len() < list_length(kids) {
+    if list::has_more(kids, modes.len()) {
         return Unpacked::Refused(Refusal::Bare(numbers::SHORT_BUFFER));
     }
     let judged = deflist::judge(names, t, node);
@@ -140,20 +141,6 @@ fn answer(judged: Judged) -> Unpacked
         Judged::Accepted(c) => Unpacked::Accepted(numbered(c)),
         Judged::Refused(f) => Unpacked::Refused(refusal(f)),
     }
-}
-
-// How many parameters a list has, marks counted.
-fn list_length(kids: &[u8]) -> usize
-    ensures { λ r. ⌜ Listed (now (kids .entry)) r ⌝ }
-{
-    let mut left = kids;
-    let mut n = 0;
-    while entry::listed(left) {
-        let e = forest::span(left);
-        left = &left[e..];
-        n += 1;
-    }
-    n
 }
 
 // The mode of an ordinary parameter: 1 PosOnly, 2 PosOrName, 3 NameOnly.

@@ -1,33 +1,35 @@
 -- Laws of the rule of a record with its children, in the terms of code. Children are counted and judged one by one, and
 -- those that are left decide (`Counting`, `Fitting`). A record is judged by its fields, its size and its children
--- (`record-fields`, `record-size`, `record-kids`), wherever it stands (`sound-index`). The loop over a table keeps the
--- top-level statement of the record before (`Going`, with Tops), the loop over a statement the numbers that the next
--- record may have (`Judging`); in both the records that are left decide. Assumes nothing.
+-- (`record-fields`, `record-size`, `record-kids`), wherever it stands (`sound-index`). The loop over the records keeps
+-- the top-level statement of the record before: of a table (`Going`, with Tops), or of one statement, which does not end
+-- (`Judging`); in both the records that are left decide (`Searching`). Assumes nothing.
 use mathlib.Core.Path.{_≡_, refl, sym, ap, _∙_}
 use mathlib.Core.Bool.{Bool, true, false, _&&_, and-false}
 use mathlib.Core.List.{List, [], _∷_}
-use Prim.Native.Nat.{ℕ, _+_, _-_, _*_, _/_, _<_, _≤_}
+use Prim.Native.Nat.{ℕ, _+_, _-_, _*_, _/_, _<_, _≤_, max}
 use native.Mathlib.Numerals.{add-one}
 use native.Mathlib.Omega.{arith}
 use lib.ListN.{length, getD, take, drop, length-take, length-drop, drop-of-length-le}
 use lib.Seq.{drop-cons}
 use lib.Dec.{eqb, leb}
-use borrow.Author.Tests.{eq-eqb, ne-eqb, eqb-true, leb-true, leb-false}
+use borrow.Author.Tests.{eq-eqb, ne-eqb, eqb-true, eqb-false, leb-true, leb-false}
 use Rattle.fields.proofs.Basics.{and-left, and-right, never}
 use Rattle.fields.specs.Choice.{if'}
 use Rattle.forest.specs.Forest.{Node, sizeOf, nodeOf, spanOf, kidsOf, restOf, forest, count}
 use Rattle.forest.specs.Names.{same}
+use Rattle.forest.specs.declared.Found.{Found}
 use Rattle.forest.specs.declared.Found.the-variants.{At, Nothing}
 use Rattle.fields.proofs.Fields.{tail-part}
 use Rattle.forest.proofs.Stretch.{forest-none, forest-tree, forest-induction, count-forest, length-kids}
 use Rattle.forest.proofs.Stretch.{length-rest, kids-part, rest-part, node-take, size-take}
 use Rattle.forest.proofs.Named.{same-length}
-use Rattle.soundness.specs.Files.{range}
+use Rattle.soundness.specs.Files.{range, fileNumbers}
 use Rattle.soundness.specs.Kinds.{statement, Children, kindOf, classOf}
 use Rattle.soundness.specs.Sound.{Context, fieldsSound, wholeTrees, classes, permitted, fixed, between}
 use Rattle.soundness.specs.Sound.{wanted, permits, kidsSound, soundNode, soundAt, context, contextOf}
-use Rattle.soundness.specs.Sound.{contextIn, rootSound, recordSound, firstFalse, firstUnsound, soundIn}
+use Rattle.soundness.specs.Sound.{contextIn, rootSound, recordSound, firstFalse, firstUnsound, soundIn, unsoundIn}
 use Rattle.soundness.specs.Packed.{ruleOf, numberSound, LastFrom, childSound, childOf, rootEnd, Turned}
+use Rattle.soundness.specs.Packed.{Searched}
 use Rattle.soundness.proofs.Packing.{length-wanted}
 use Rattle.soundness.proofs.Search.{Looking, look-start, look-here, look-on, look-end}
 use Rattle.soundness.proofs.Tops.{Placed, place-start, Turns, turn-files}
@@ -412,31 +414,118 @@ module _ (t names : List ℕ) {b : Bool} (b-is : b ≡ rootSound t) (b-yes : b �
   unfolding Placed
   record-on e = record { looking = look-on (s .looking) h (tested ∙ e); placed = rw add-one (turns .after) }
 
--- record i of a top-level statement, as code tests it: the numbers that it may have are those that the loop keeps
-pub record Judging (names : ℕ) (bs : List ℕ) (n i least most : ℕ) : Type 0 where
+-- the same of a top-level statement, which does not end before the stretch does
+pub record Judging (names : ℕ) (bs : List ℕ) (n i end file : ℕ) : Type 0 where
   pub looking : Looking (soundIn (contextIn names bs) bs) n i
-  pub numbers : contextIn names bs i ≡ context names (range least most)
+  pub opens : i ≡ 0 → end ≡ 0
+  pub under : 1 ≤ i → (n ≤ end) × (file ≡ nodeOf 0 bs .file)
 
-pub judge-start : (names : ℕ) (bs : List ℕ) (n : ℕ) → Judging names bs n 0 1 999
-unfolding contextIn
-judge-start names bs n = record { looking = look-start (soundIn (contextIn names bs) bs) n; numbers = refl }
+judge-start : (names : ℕ) (bs : List ℕ) (n : ℕ) {end : ℕ} → end ≡ 0 → Judging names bs n 0 end 0
+judge-start names bs n end-is = record {
+  looking = look-start (soundIn (contextIn names bs) bs) n;
+  opens = λ z. end-is;
+  under = λ z. absurd (omega arith);
+}
 
-module _ {names : ℕ} {bs : List ℕ} {n i least most : ℕ} (s : Judging names bs n i least most) where
-  pub judge-end : n ≤ i → Nothing ≡ firstFalse (soundIn (contextIn names bs) bs) 0 n
-  judge-end h = look-end (s .looking) h
+module _ {names : ℕ} {bs : List ℕ} {n i end file : ℕ} (s : Judging names bs n i end file) (h : i < n)
+    {later own least most : ℕ} (turned : Turned (lent bs i) i end file later own least most) where
+  judge-file : own ≡ nodeOf 0 bs .file
+  judge-file = go (eqb i 0) refl
+    where
+      go : (z : Bool) → eqb i 0 ≡ z → own ≡ nodeOf 0 bs .file
+      go true e =
+          let none : i ≡ 0 = eqb-true i 0 e in
+          let here : lent bs i ≡ bs = tail-part (24 * i) bs ∙ ap (λ (k : ℕ). drop (24 * k) bs) none in
+          turned .opens (omega (arith, s .opens none)) .1 .0 ∙ ap (λ (x : List ℕ). nodeOf 0 x .file) here
+      go false e =
+          let some : i ≡ 0 → ⊥ = eqb-false i 0 e in
+          let kept = s .under (omega arith) in
+          turned .inside (omega (arith, kept .0)) .1 .0 ∙ kept .1
 
-  module _ (h : i < n) {r : Bool} (r-is : r ≡ soundAt (context names (range least most)) 0 (lent bs i)) where
+  judge-numbers : contextIn names bs i ≡ context names (range least most)
+  unfolding contextIn
+  judge-numbers = go (eqb i 0) refl
+    where
+      go : (z : Bool) → eqb i 0 ≡ z → context names (if' z (λ _. fileNumbers)
+          (λ _. range (nodeOf 0 bs .file) (nodeOf 0 bs .file))) ≡ context names (range least most)
+      go true e =
+          let none : i ≡ 0 = eqb-true i 0 e in
+          let told = turned .opens (omega (arith, s .opens none)) .1 .1 in
+          rw (told .0, told .1) refl
+      go false e =
+          let some : i ≡ 0 → ⊥ = eqb-false i 0 e in
+          let kept = s .under (omega arith) in
+          let told = turned .inside (omega (arith, kept .0)) .1 .1 in
+          rw (told .0, told .1, kept .1) refl
+
+  module _ {r : Bool} (r-is : r ≡ soundAt (context names (range least most)) 0 (lent bs i)) where
     judge-test : soundIn (contextIn names bs) bs i ≡ r
     unfolding soundIn
-    judge-test = rw (s .numbers) (sound-index (context names (range least most)) (drop (24 * i) bs) i
+    judge-test = rw judge-numbers (sound-index (context names (range least most)) (drop (24 * i) bs) i
         ∙ ap (soundAt (context names (range least most)) 0) (sym (tail-part (24 * i) bs)) ∙ sym r-is)
 
-    pub judge-here : r ≡ false → At i ≡ firstFalse (soundIn (contextIn names bs) bs) 0 n
+    judge-here : r ≡ false → At i ≡ firstFalse (soundIn (contextIn names bs) bs) 0 n
     judge-here e = look-here (s .looking) h (judge-test ∙ e)
 
-    pub judge-on : r ≡ true → {file : ℕ} → file ≡ nodeOf 0 bs .file → Judging names bs n (i + 1) file file
-    unfolding contextIn
-    judge-on e file-is = record {
+    judge-on : r ≡ true → {next : ℕ} → next ≡ max later n → Judging names bs n (i + 1) next own
+    judge-on e next-is = record {
       looking = look-on (s .looking) h (judge-test ∙ e);
-      numbers = rw (ne-eqb (i + 1) 0 (λ z. omega arith), file-is) refl;
+      opens = λ z. absurd (omega arith);
+      under = λ z. (omega (arith, next-is), judge-file);
     }
+
+-- the loop, whichever of the two it goes through
+pub record Searching (t : List ℕ) (names first whole n i end file : ℕ) : Type 0 where
+  pub alone : first ≡ 0 → whole ≡ n → Judging names t n i end file
+  pub table : first ≡ rootEnd t → whole ≡ 0 → rootSound t ≡ true → (ns : List ℕ) → names ≡ length ns
+      → Going t ns n i end file
+
+pub search-start : (t : List ℕ) (names first whole n : ℕ) → Searching t names first whole n 0 first 0
+search-start t names first whole n = record {
+  alone = λ first-is whole-is. judge-start names t n first-is;
+  table = λ first-is whole-is root ns names-are. going-start t ns n first-is;
+}
+
+module _ {t : List ℕ} {names first whole i end file : ℕ}
+    (s : Searching t names first whole (length t / 24) i end file) where
+  pub search-end : length t / 24 ≤ i → Searched t names first whole Nothing
+  unfolding unsoundIn firstUnsound
+  search-end h = record {
+    alone = λ first-is whole-is. look-end (s .alone first-is whole-is .looking) h;
+    table = λ first-is whole-is root ns names-are. going-end (s .table first-is whole-is root ns names-are) h;
+  }
+
+  module _ (h : i < length t / 24) {later own least most : ℕ}
+      (turned : Turned (lent t i) i end file later own least most) {r : Bool}
+      (r-is : r ≡ soundAt (context names (range least most)) 0 (lent t i)) where
+    told-of : (ns : List ℕ) → names ≡ length ns
+        → r ≡ soundAt (context (length ns) (range least most)) 0 (lent t i)
+    told-of ns names-are = rw names-are at r-is
+
+    pub search-here : r ≡ false → Searched t names first whole (At i)
+    unfolding unsoundIn firstUnsound
+    search-here e = record {
+      alone = λ first-is whole-is. judge-here (s .alone first-is whole-is) h turned r-is e;
+      table = λ first-is whole-is root ns names-are.
+          record-here t ns refl root (s .table first-is whole-is root ns names-are) h turned (told-of ns names-are) e;
+    }
+
+    pub search-on : r ≡ true → {next : ℕ} → next ≡ max later whole
+        → Searching t names first whole (length t / 24) (i + 1) next own
+    search-on e {next} next-is = record {
+      alone = λ first-is whole-is.
+          judge-on (s .alone first-is whole-is) h turned r-is e (rw whole-is at next-is);
+      table = λ first-is whole-is root ns names-are.
+          let same : next ≡ later = omega (arith, next-is, whole-is) in
+          rw same
+          (record-on t ns refl root (s .table first-is whole-is root ns names-are) h turned (told-of ns names-are) e);
+    }
+
+-- what the two searches find
+pub table-found : (t ns : List ℕ) {first : ℕ} {b : Bool} {r : Found} → Searched t (length ns) first 0 r
+    → first ≡ rootEnd t → b ≡ rootSound t → b ≡ true → r ≡ firstUnsound t ns
+table-found t ns s first-is b-is b-yes = s .table first-is refl (sym b-is ∙ b-yes) ns refl
+
+pub statement-found : (bs : List ℕ) (names : ℕ) {r : Found} → Searched bs names 0 (length bs / 24) r
+    → r ≡ unsoundIn names bs
+statement-found bs names s = s .alone refl refl

@@ -1,18 +1,19 @@
 -- How code's packed rows are read. That they say what Kinds says is proved, so no one needs to believe them. These are
 -- definitions.
-use mathlib.Core.Bool.{Bool, _&&_}
+use mathlib.Core.Bool.{Bool, true, _&&_}
 use mathlib.Core.List.{List, [], _∷_}
 use mathlib.Core.Path.{_≡_}
 use Prim.Native.Nat.{ℕ, _+_, _-_, _/_, _%_, _<_, _≤_, min}
-use lib.ListN.{getD, take}
+use lib.ListN.{length, getD, take}
 use lib.Dec.{eqb, ltb, leb}
 use Rattle.fields.specs.Choice.{if'}
 use Rattle.soundness.specs.Kinds.{statement, expression, parameter, argument, one, two, three, Times, anyNumber}
 use Rattle.soundness.specs.Kinds.{evenNumber, atMost, Children, children, exactly, any, evenly, upTo, thenAny}
 use Rattle.soundness.specs.Kinds.{thenUpTo, anyThen, kindOf, classOf}
 use Rattle.forest.specs.Forest.{recordBytes, sizeOf, nodeOf, spanOf}
+use Rattle.forest.specs.declared.Found.{Found}
 use Rattle.soundness.specs.Files.{lastFile, rootStatements}
-use Rattle.soundness.specs.Sound.{permitted, fixed, between}
+use Rattle.soundness.specs.Sound.{permitted, fixed, between, rootSound, firstUnsound, unsoundIn}
 
 -- the parts of a packed rule: how many come first and the classes of up to three, how many then come and their class,
 -- how many come last and the classes of up to three
@@ -108,3 +109,10 @@ pub record Turned (bs : List ℕ) (i end file later own least most : ℕ) : Type
   pub inside : i < end → (later ≡ end) × ((own ≡ file) × ((least ≡ file) × (most ≡ file)))
   pub opens : end ≤ i
       → (later ≡ i + sizeOf bs) × ((own ≡ nodeOf 0 bs .file) × ((least ≡ 1) × (most ≡ lastFile)))
+
+-- what a search for the first unsound record finds, where `first` ends the loop's first statement and none ends before
+-- `whole`: of a top-level statement, and of a table whose root is sound
+pub record Searched (t : List ℕ) (names first whole : ℕ) (r : Found) : Type 0 where
+  pub alone : first ≡ 0 → whole ≡ length t / recordBytes → r ≡ unsoundIn names t
+  pub table : first ≡ rootEnd t → whole ≡ 0 → rootSound t ≡ true → (ns : List ℕ) → names ≡ length ns
+      → r ≡ firstUnsound t ns

@@ -6,7 +6,7 @@ use forest::Found;
 use forest::RECORD;
 ghost use mathlib.Core.Path.{_≡_};
 ghost use mathlib.Core.Bool.{_&&_};
-ghost use Prim.Native.Nat.{_*_, _≤_};
+ghost use Prim.Native.Nat.{_*_, _≤_, max};
 ghost use lib.Dec.{leb};
 ghost use lib.ListN.{length};
 ghost use Rattle.forest.specs.Forest.{recordBytes, nodeOf, forest};
@@ -14,7 +14,7 @@ ghost use Rattle.soundness.specs.Files.{range, fileSound};
 ghost use Rattle.soundness.specs.Sound.{context, nameSound, spanSound, sourceSound, fieldsSound, classes};
 ghost use Rattle.soundness.specs.Sound.{kidsSound, soundAt, rootSound, firstUnsound, unsoundIn};
 ghost use Rattle.soundness.specs.Packed.{backsIn, childrenOf, ruleOf, numberSound, LastFrom, classAt, childOf};
-ghost use Rattle.soundness.specs.Packed.{rootEnd, Turned};
+ghost use Rattle.soundness.specs.Packed.{rootEnd, Turned, Searched};
 
 // The largest number of a source file.
 const LAST_FILE: u16 = 999;
@@ -254,28 +254,33 @@ fn turn(t: &[u8], i: usize, end: usize, file: u16) -> Within
     }
 }
 
-// The first unsound record in index order. The loop keeps where the top-level statement ends that it is in, and the
-// number of that one.
-pub(crate) fn first_unsound(table: &[u8], names: &[u8]) -> Found
-    ensures { λ r. ⌜ r ≡ firstUnsound (now (table .entry)) (now (names .entry)) ⌝ }
+// The larger of two numbers.
+fn later(a: usize, b: usize) -> usize
+    ensures { λ r. ⌜ r ≡ max a b ⌝ }
 {
-    let n = table.len() / RECORD;
-    let m = names.len();
-    if n == 0 {
-        return Found::Nothing;
+    if a < b {
+        return b;
     }
-    if !root_sound(table) {
-        return Found::At(0);
-    }
-    let mut end = root_end(table);
+    a
+}
+
+// The first unsound record in index order, of a table where `first` is its root's end and `whole` is 0; of a top-level
+// statement where `first` is 0 and `whole` its number of records, since that statement does not end before. The loop
+// keeps where the top-level statement ends that it is in, and the number of that one. It is one loop for both, so that
+// `record_sound` is called in one place: compiled code then has no call for each record.
+fn first_from(t: &[u8], names: usize, first: usize, whole: usize) -> Found
+    ensures { λ r. ⌜ Searched (now (t .entry)) names first whole r ⌝ }
+{
+    let n = t.len() / RECORD;
+    let mut end = first;
     let mut file = 0;
     let mut i = 0;
     while i < n {
         let a = RECORD * i;
-        let within = turn(&table[a..], i, end, file);
-        end = within.end;
+        let within = turn(&t[a..], i, end, file);
+        end = later(within.end, whole);
         file = within.file;
-        if !record_sound(&table[a..], m, within.least, within.most) {
+        if !record_sound(&t[a..], names, within.least, within.most) {
             return Found::At(i);
         }
         i += 1;
@@ -283,23 +288,22 @@ pub(crate) fn first_unsound(table: &[u8], names: &[u8]) -> Found
     Found::Nothing
 }
 
+// The first unsound record in index order.
+pub(crate) fn first_unsound(table: &[u8], names: &[u8]) -> Found
+    ensures { λ r. ⌜ r ≡ firstUnsound (now (table .entry)) (now (names .entry)) ⌝ }
+{
+    if table.len() / RECORD == 0 {
+        return Found::Nothing;
+    }
+    if !root_sound(table) {
+        return Found::At(0);
+    }
+    first_from(table, names.len(), root_end(table), 0)
+}
+
 // The first unsound record of a top-level statement, in a table that has `names` name bytes.
 pub(crate) fn first_unsound_in(statement: &[u8], names: usize) -> Found
     ensures { λ r. ⌜ r ≡ unsoundIn names (now (statement .entry)) ⌝ }
 {
-    let n = statement.len() / RECORD;
-    let file = forest::file(statement);
-    let mut least = 1;
-    let mut most = LAST_FILE;
-    let mut k = 0;
-    while k < n {
-        let a = RECORD * k;
-        if !record_sound(&statement[a..], names, least, most) {
-            return Found::At(k);
-        }
-        least = file;
-        most = file;
-        k += 1;
-    }
-    Found::Nothing
+    first_from(statement, names, 0, statement.len() / RECORD)
 }

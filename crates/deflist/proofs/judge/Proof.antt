@@ -1,7 +1,6 @@
 -- `deflist::judge` meets its contract: 19 for a list that is too long, otherwise unpack's outcome, whatever the marks.
 -- Assumes nothing.
 use borrow.Author.Needs.{needs}
-use borrow.Author.Tests.{not-false}
 use Rattle.deflist.proofs.Limited.{judge-long, judge-short, fault-inside, node-inside}
 use Rattle.deflist.proofs.judge.Statement.{statement}
 use Rattle.deflist.proofs.judge.Tie as tie
@@ -16,9 +15,9 @@ judge-spec =
     (λ c. search (judge-long, fault-inside, node-inside))  -- returns
     (λ c κs. search needs)
     (λ c κs. search needs)
-    (λ c. search (judge-short, not-false))  -- returns-2
+    (λ c. search judge-short)  -- returns-2
     (λ c. search needs)
     (λ c. search needs)
     (λ c. search needs)
     (λ c κs. search needs)
-    (λ c. search (judge-short, not-false)))  -- returns-3
+    (λ c. search judge-short))  -- returns-3
