@@ -328,7 +328,7 @@ class Loading(unittest.TestCase):
                 loaded.checksum
 
     def test_version_numbers(self):
-        self.assertEqual(library.version_number("0.3.0"), 768)
+        self.assertEqual(library.version_number("0.4.0"), 1024)
         self.assertEqual(library.version_text(library.version_number("1.20.3")), "1.20.3")
 
 

@@ -53,7 +53,7 @@ ghost use Rattle.starlark_checks.specs.FormatWords.{twoWords, textWords,
 // The version of the library.
 const MAJOR: u32 = 0;
 
-const MINOR: u32 = 3;
+const MINOR: u32 = 4;
 
 const PATCH: u32 = 0;
 
