@@ -226,7 +226,7 @@ fn say_targeted(t: Targeted) {
 
 // The type job, and the shape buffer afterwards.
 fn say_type(table: &[u8], names: &[u8], dialect: &[u8], node: usize, shapes: &mut [u8]) {
-    let s = shapes::type_shape(table, names, dialect, node, shapes);
+    let s = shapes::type_shape(table, names, dialect, 1, node, shapes);
     match s {
         Shaped::Accepted => say(b"accepted"),
         Shaped::Refused(r) => say_refusal(r),
@@ -309,7 +309,7 @@ fn say_audit(table: &[u8], names: &[u8], dialect: &[u8], room: usize) {
         return;
     }
     let list = &mut lent[0..room];
-    let l = audit::audit(table, names, dialect, list);
+    let l = audit::audit(table, names, dialect, 1, list);
     say_listed(l);
     say(b", words");
     say_words(list);
