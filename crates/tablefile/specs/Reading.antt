@@ -78,8 +78,8 @@ abbrev pub frontCheck : List ℕ → Answer
 frontCheck bs = blocksCheck (headerAt bs) bs
 
 -- the edition that holds: the first where none is stated
-abbrev pub editionOf : Content → EditionRead
-editionOf c = editionHeld (c .dialect) (statedBytes (c .edition))
+abbrev pub editionRead : Content → EditionRead
+editionRead c = editionHeld (c .dialect) (statedBytes (c .edition))
 
 -- its number
 abbrev pub numberHeld : Stated → ℕ
@@ -88,7 +88,7 @@ numberHeld Nothing = 1
 
 -- 1 to 5, of what a file holds
 abbrev pub soundCheck : Content → Answer
-soundCheck c = rulesCheck (c .table) (c .names) (c .dialect) (editionOf c)
+soundCheck c = rulesCheck (c .table) (c .names) (c .dialect) (editionRead c)
 
 -- the whole file: the file at the front, then 75 for bytes left over, then 1 to 5
 unfoldable pub readCheck : List ℕ → Answer
