@@ -65,7 +65,7 @@ enum starlark_number {
     STARLARK_NUMBER_NAME_BYTES = 2, /* there are more than 8,064 name bytes */
     STARLARK_NUMBER_UNSOUND_RECORD = 3, /* a record of the table is unsound */
     STARLARK_NUMBER_TOO_DEEP = 4, /* a statement or expression is more than 64 deep */
-    STARLARK_NUMBER_BAD_DIALECT = 5, /* the dialect bytes give no dialect, the edition of the type rules is neither 1 nor 2, or a file would have an edition and no dialect */
+    STARLARK_NUMBER_BAD_DIALECT = 5, /* the dialect bytes give no dialect, or the edition is neither 1 nor 2, or stands without a dialect */
     STARLARK_NUMBER_WRONG_NODE = 6, /* the node asked for is beyond the table, or of the wrong kind */
     STARLARK_NUMBER_SHORT_BUFFER = 7, /* the buffer for modes, shapes, words of a binding, a file, what a file holds, a format text or its parts is too short */
     STARLARK_NUMBER_SLASH_FIRST = 10, /* `/` is the first parameter */
@@ -91,7 +91,7 @@ enum starlark_number {
     STARLARK_NUMBER_EMPTY_LIST_IN_TYPE = 41, /* an empty list stands in a type */
     STARLARK_NUMBER_DOT_IN_TYPE = 42, /* a dot in a type stands on something other than a path */
     STARLARK_NUMBER_EXPECTING_PATH = 43, /* a path is expected before the brackets of a type */
-    STARLARK_NUMBER_DOT_TYPE_BAN = 44, /* a path in a type ends in `.type`, which edition 2 of the type rules allows */
+    STARLARK_NUMBER_DOT_TYPE_BAN = 44, /* a path in a type ends in `.type`, which edition 2 allows */
     STARLARK_NUMBER_TYPES_DISABLED = 45, /* the dialect has no types */
     STARLARK_NUMBER_STAR_NOT_PERMITTED = 50, /* the dialect has no `*` in parameter lists */
     STARLARK_NUMBER_SLASH_NOT_PERMITTED = 51, /* the dialect has no `/` in parameter lists */
