@@ -60,15 +60,21 @@ abbrev pub statedWord : Stated → ℕ
 statedWord (Number n) = n
 statedWord Nothing = noPlace
 
--- what is told of a file that is read: its nodes and name bytes, 1 where it has a dialect, the dialect's nine bytes,
--- four a word, the low one first, where none are zeros; the edition as it stands, and the one that holds
-abbrev pub heldValues : List ℕ → List ℕ
-heldValues file =
+-- what is told of a file before its edition: its nodes and name bytes, 1 where it has a dialect, and the dialect's nine
+-- bytes, four a word, the low one first; none are zeros
+abbrev pub frontValues : List ℕ → List ℕ
+frontValues file =
     let h = headerAt file in
-    let c = contentAt file in
-    h .nodes ∷ h .names ∷ (h .dialect / 9)
-    ∷ field 4 (c .dialect) 0 ∷ field 4 (c .dialect) 4 ∷ field 4 (c .dialect) 8
-    ∷ statedWord (c .edition) ∷ numberHeld (c .edition) ∷ []
+    let d = contentAt file .dialect in
+    h .nodes ∷ h .names ∷ (h .dialect / 9) ∷ field 4 d 0 ∷ field 4 d 4 ∷ field 4 d 8 ∷ []
+
+-- and of its edition: as it stands, and the one that holds
+abbrev pub editionValues : Stated → List ℕ
+editionValues edition = statedWord edition ∷ numberHeld edition ∷ []
+
+-- what is told of a file that is read
+abbrev pub heldValues : List ℕ → List ℕ
+heldValues file = frontValues file ++ editionValues (contentAt file .edition)
 
 -- reading a file into buffers of so many bytes
 unfoldable pub readOf : List ℕ → ℕ → ℕ → Answer

@@ -36,7 +36,7 @@ ghost use Rattle.types.specs.Jobs.{typeShapeOf};
 ghost use Rattle.shapes.specs.Jobs.{shapesAfter};
 ghost use Rattle.validate.specs.Job.{moduleOf, errorsAfter};
 ghost use Rattle.audit.specs.Job.{auditOf, auditAfter};
-ghost use Rattle.tablefile.specs.Reading.{headerAt, contentAt, numberHeld};
+ghost use Rattle.tablefile.specs.Reading.{headerAt, contentAt};
 ghost use Rattle.tablefile.specs.Lending.{intoCheck, handed};
 ghost use Rattle.filepass.specs.Passing.{answerOf, wordsAfter};
 ghost use Rattle.writer.specs.Writing.{holding, writeOf, fileAfter};
@@ -45,7 +45,8 @@ ghost use Rattle.books.specs.Lookup.{lookupOf, looked};
 ghost use Rattle.books.specs.Change.{addOf, zoneAdded, lineAdded, removeOf, zoneRemoved, lineRemoved, changed};
 ghost use Rattle.books.specs.Change.{blankOf, blankAfter};
 ghost use Rattle.starlark_checks.specs.Words.{number, words, callWords, rescueWords, laid, Fit, placeIn};
-ghost use Rattle.starlark_checks.specs.Words.{statedOf, statedWord, heldValues, readOf, passWords};
+ghost use Rattle.starlark_checks.specs.Words.{statedOf, statedWord, frontValues, editionValues};
+ghost use Rattle.starlark_checks.specs.Words.{heldValues, readOf, passWords};
 ghost use Rattle.starlark_checks.specs.Version.{version};
 ghost use Rattle.fstring.specs.Writing.{writeOf as textOf, textAfter, notice};
 ghost use Rattle.fstring.specs.Reading.{readOf as partsRead, wordsAfter as partsAfter, textsAfter};
@@ -189,20 +190,17 @@ fn stated_word(edition: Stated) -> u32
 
 // The edition as it stands in a file, or the word for none, and the edition that holds.
 fn put_edition(edition: Stated, out: &mut [u32; 12])
-    ensures { λ u. ⌜ now (out .exit) ≡
-        laid (statedWord edition ∷ numberHeld edition ∷ []) 6 (now (out .entry)) ⌝ }
+    ensures { λ u. ⌜ now (out .exit) ≡ laid (editionValues edition) 6 (now (out .entry)) ⌝ }
 {
     out[6] = stated_word(edition);
     out[7] = tablefile::edition_number(edition);
 }
 
-// What a file holds: its nodes and name bytes, whether it has a dialect, the dialect's bytes, four a word, the edition
-// as it stands, and the one that holds.
-fn put_held(file: &[u8], out: &mut [u32; 12]) -> u32
+// What a file holds before its edition: its nodes and name bytes, whether it has a dialect, and the dialect's bytes, four
+// a word.
+fn put_front(file: &[u8], out: &mut [u32; 12])
     requires { ⌜ Fit (headerAt (now file) .nodes ∷ headerAt (now file) .names ∷ []) ⌝ }
-    ensures { λ r. ⌜ r ≡ number (accepted (heldValues (now (file .entry)))) ⌝ }
-    ensures { λ r. ⌜ now (out .exit) ≡
-        laid (words (accepted (heldValues (now (file .entry))))) 0 (now (out .entry)) ⌝ }
+    ensures { λ u. ⌜ now (out .exit) ≡ laid (frontValues (now (file .entry))) 0 (now (out .entry)) ⌝ }
 {
     let h = tablefile::header(file);
     let dialect = tablefile::dialect_bytes(file);
@@ -212,6 +210,16 @@ fn put_held(file: &[u8], out: &mut [u32; 12]) -> u32
     out[3] = fields::word(dialect, 0);
     out[4] = fields::word(dialect, 4);
     out[5] = fields::word(dialect, 8);
+}
+
+// What a file holds.
+fn put_held(file: &[u8], out: &mut [u32; 12]) -> u32
+    requires { ⌜ Fit (headerAt (now file) .nodes ∷ headerAt (now file) .names ∷ []) ⌝ }
+    ensures { λ r. ⌜ r ≡ number (accepted (heldValues (now (file .entry)))) ⌝ }
+    ensures { λ r. ⌜ now (out .exit) ≡
+        laid (words (accepted (heldValues (now (file .entry))))) 0 (now (out .entry)) ⌝ }
+{
+    put_front(file, out);
     put_edition(tablefile::stated_edition(file), out);
     0
 }
@@ -415,6 +423,32 @@ pub extern "C" fn starlark_audit(
     }
 }
 
+// A file with an edition or none: how many bytes are written, and the file at the front of the buffer.
+fn write_stated(
+    table: &[u8],
+    names: &[u8],
+    dialect: &[u8],
+    edition: Stated,
+    file: &mut [u8],
+    out: &mut [u32; 12],
+) -> u32
+    ensures { λ r. ⌜ r ≡
+        number (writeOf (holding (now (table .entry)) (now (names .entry)) (now (dialect .entry)) edition)
+        (length (now (file .entry)))) ⌝ }
+    ensures { λ r. ⌜ now (out .exit) ≡
+        laid (words (writeOf (holding (now (table .entry)) (now (names .entry)) (now (dialect .entry)) edition)
+        (length (now (file .entry))))) 0 (now (out .entry)) ⌝ }
+    ensures { λ r. ⌜ now (file .exit) ≡
+        fileAfter (holding (now (table .entry)) (now (names .entry)) (now (dialect .entry)) edition)
+        (now (file .entry)) ⌝ }
+{
+    let answer = writer::write(table, names, dialect, edition, file);
+    match answer {
+        Written::Accepted(n) => put_count(n, out),
+        Written::Refused(r) => put_refused(r, out),
+    }
+}
+
 // The writer: how many bytes are written, and the file at the front of the buffer. 0xFFFFFFFF is no edition.
 #[no_mangle]
 pub extern "C" fn starlark_write(
@@ -435,12 +469,7 @@ pub extern "C" fn starlark_write(
         fileAfter (holding (now (table .entry)) (now (names .entry)) (now (dialect .entry)) (statedOf edition))
         (now (file .entry)) ⌝ }
 {
-    let stated = stated_of(edition);
-    let answer = writer::write(table, names, dialect, stated, file);
-    match answer {
-        Written::Accepted(n) => put_count(n, out),
-        Written::Refused(r) => put_refused(r, out),
-    }
+    write_stated(table, names, dialect, stated_of(edition), file, out)
 }
 
 // The rescue: the bytes written, the statements and the nodes kept, the nodes dropped, and the bytes after the last
