@@ -11,7 +11,7 @@ use Rattle.dialect.specs.declared.Edition.{Edition}
 use Rattle.dialect.specs.declared.EditionRead.{EditionRead}
 use Rattle.dialect.specs.declared.EditionRead.the-variants.{Known, Unknown}
 use Rattle.table.specs.Numbers.{badDialect}
-use Rattle.table.specs.Answer.{Answer, accepted, refused, andThen, numberOf, carried}
+use Rattle.table.specs.Answer.{accepted, refused, andThen, numberOf, carried}
 use Rattle.table.specs.Check.{Handing, inDialect, turnedAway, given, givenOf, inGiven, givenCheck}
 use Rattle.table.specs.Check.{Ruling, byRules, unruled, ruled, ruling, rulesOf, inRules, rulesCheck}
 use Rattle.table.specs.declared.Refusal.{Refusal}
