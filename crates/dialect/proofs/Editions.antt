@@ -1,6 +1,6 @@
 -- Which numbers are editions, and which edition holds in a file. A number is 1, 2 or no edition (`edition-one`,
--- `edition-two`, `edition-none`), and an edition comes from its own number alone (`edition-back`). Each law computes from
--- the tests of `editionOf`. Assumes nothing.
+-- `edition-two`, `edition-none`), and an edition comes from its own number alone (`edition-back`). Each law computes
+-- from the tests of `editionOf`. Assumes nothing.
 use mathlib.Core.Path.{_≡_, refl}
 use mathlib.Core.Bool.{Bool, true, false}
 use mathlib.Core.List.{List, [], _∷_}

@@ -40,7 +40,8 @@ module _ (i : ℕ) (t : L.List ℕ) {e : ℕ} (e-is : e ≡ spanOf t) {k : L.Lis
     index2-none edition names short = rw (kids, forest-none (i + 1) k short) refl
 
     module _ (big : 24 ≤ length k) where
-      pub index2-path : (edition : Edition) (names : L.List ℕ) {r : Answer} → r ≡ «unpack_path» edition names (treeOf (i + 1) k)
+      pub index2-path : (edition : Edition) (names : L.List ℕ) {r : Answer}
+          → r ≡ «unpack_path» edition names (treeOf (i + 1) k)
           → r ≡ index2Base edition names (forest (i + 1) (kidsOf t))
       unfolding index2Base
       index2-path edition names r-is = r-is ∙ rw (kids, forest-tree (i + 1) k big) refl
@@ -70,6 +71,7 @@ module _ (i : ℕ) (t : L.List ℕ) {e : ℕ} (e-is : e ≡ spanOf t) {k : L.Lis
             rw (kids, forest-tree (i + 1) k big, forest-tree (i + 1 + spanOf k / 24) (restOf k) more) refl
 
 -- a node of a form
-pub at-form : (edition : Edition) (names : L.List ℕ) (k d : ℕ) (n : Node) (ks : Forest) {f g : Form} {r : Answer} → f ≡ formOf k d
+pub at-form : (edition : Edition) (names : L.List ℕ) (k d : ℕ) (n : Node) (ks : Forest) {f g : Form} {r : Answer}
+    → f ≡ formOf k d
     → f ≡ g → r ≡ atNode edition names g n ks → r ≡ atNode edition names (formOf k d) n ks
 at-form edition names k d n ks f-is h r-is = r-is ∙ ap (λ (x : Form). atNode edition names x n ks) (sym h ∙ f-is)

@@ -1,9 +1,9 @@
 -- What the second edition changes (W-212): it lifts 44 and nothing else. An answer of the second edition follows one of
--- the first (`Lifted`): it is never 44, and it is the same wherever the first does not answer 44. The ban alone looks at
--- the edition, so the first differs from the second at the Identifier of a banned path alone, and there it answers 44
--- (`lifted-base`). Everything above puts answers in order, and order keeps `Lifted` (`lifted-then`): if the whole is not
--- 44, no part that was looked at is. The induction is on the tree. Cite `job-lifted`, `job-accepted` and `job-never`.
--- Assumes nothing.
+-- the first (`Lifted`): it is never 44, and it is the same wherever the first does not answer 44. The ban alone looks
+-- at the edition, so the first differs from the second at the Identifier of a banned path alone, and there it answers
+-- 44 (`lifted-base`). Everything above puts answers in order, and order keeps `Lifted` (`lifted-then`): if the whole is
+-- not 44, no part that was looked at is. The induction is on the tree. Cite `job-lifted`, `job-accepted` and
+-- `job-never`. Assumes nothing.
 use mathlib.Core.Path.{_≡_, refl, sym, ap, _∙_}
 use mathlib.Core.Bool.{Bool, true, false}
 use mathlib.Core.List as L
@@ -22,7 +22,8 @@ use Rattle.dialect.specs.Editions.{editionOf}
 use Rattle.table.specs.Numbers.{dotInType, expectingPath, dotTypeBan, invalidType, typesDisabled}
 use Rattle.table.specs.Numbers.{shortBuffer, wrongNode}
 use Rattle.table.specs.Answer.{Answer, accepted, refused, andThen, refusedAt}
-use Rattle.table.specs.Check.{Handing, inDialect, turnedAway, givenOf, inGiven, ruling, rulesOf, inRules, nodeFits, nodeCheck}
+use Rattle.table.specs.Check.{Handing, inDialect, turnedAway, givenOf, inGiven, ruling, rulesOf, inRules, nodeFits}
+use Rattle.table.specs.Check.{nodeCheck}
 use Rattle.table.specs.Check.{stretchOf}
 use Rattle.table.specs.declared.Wanted.the-variants.{Expression}
 use Rattle.table.proofs.Answers.{never-passed}

@@ -117,7 +117,8 @@ module _ (P : Node → Type 0) (edition : Edition) where
     told-argument names (node r ks) h =
         let below = all-tree P r ks h .1 in
         told-if P (eqb (r .kind) kindList) (λ _. unpackEach argumentsOnly edition names ks) (λ _.
-        typeRule edition names r ks (λ reads. unpackEach reads edition names ks)) (told-each argumentsOnly names ks below)
+        typeRule edition names r ks (λ reads. unpackEach reads edition names ks))
+        (told-each argumentsOnly names ks below)
         (told-then P (atNode edition names (formOf (r .kind) (r .detail)) r ks) (λ _.
         unpackEach (readsOf (formOf (r .kind) (r .detail))) edition names ks)
         (told-node names (formOf (r .kind) (r .detail)) r ks h)
@@ -128,9 +129,12 @@ module _ (P : Node → Type 0) (edition : Edition) where
     told-each reads names none h = tt
     told-each reads names (t then ts) h =
         let both = all-row P t ts h in
-        told-then P (ofChild (reads .first) (accepted L.[]) (λ _. «unpack» edition names t) (λ _. «unpack_argument» edition names t))
+        told-then P
+        (ofChild (reads .first) (accepted L.[]) (λ _. «unpack» edition names t)
+        (λ _. «unpack_argument» edition names t))
         (λ _. unpackEach (readsAs (reads .others) (reads .others)) edition names ts)
-        (told-child (reads .first) («unpack» edition names t) («unpack_argument» edition names t) (told-unpack names t (both .0))
+        (told-child (reads .first) («unpack» edition names t) («unpack_argument» edition names t)
+        (told-unpack names t (both .0))
         (told-argument names t (both .0)))
         (told-each (readsAs (reads .others) (reads .others)) names ts (both .1))
 
@@ -144,7 +148,8 @@ module _ (P : Node → Type 0) (edition : Edition) where
 
 -- THEOREM: every refusal from 10 on of the type job carries the number of the node that it names
 module _ (t names bytes : L.List ℕ) (n i room : ℕ) where
-  in-dialect : (d : Dialect) (edition : Edition) → Clean t names → Told (Filed t i) (typeAt edition t names (d .«enable_types») i room)
+  in-dialect : (d : Dialect) (edition : Edition) → Clean t names
+      → Told (Filed t i) (typeAt edition t names (d .«enable_types») i room)
   unfolding typeAt
   in-dialect d edition c = go (nodeFits t i Expression) refl
     where
@@ -157,7 +162,8 @@ module _ (t names bytes : L.List ℕ) (n i room : ℕ) where
           «dialect_check_type» edition names (d .«enable_types») (treeOf i (stretchOf t i)))
           (told-before (Filed t i) (roomCheck room (stretchOf t i))
           (before-test 10 (leb (length (stretchOf t i) / 24) room) shortBuffer (omega arith)))
-          (told-type (Filed t i) edition names (d .«enable_types») (treeOf i (stretchOf t i)) (fits-filed c Expression i fits))
+          (told-type (Filed t i) edition names (d .«enable_types») (treeOf i (stretchOf t i))
+          (fits-filed c Expression i fits))
 
   pub type-files : CarriesFile t i (typeShapeOf t names bytes n i room)
   unfolding typeShapeOf

@@ -37,19 +37,22 @@ abbrev pub noType : DialectTypes → Node → Answer
 noType types r = andThen (typesCheck types r) (λ _. refusedAt invalidType r)
 
 -- a type in a dialect
-module _ (edition : Edition) (names : List ℕ) (types : DialectTypes) (i : ℕ) (t : List ℕ) {p : Bool} (p-is : p ≡ permitsTypes types)
+module _ (edition : Edition) (names : List ℕ) (types : DialectTypes) (i : ℕ) (t : List ℕ) {p : Bool}
+    (p-is : p ≡ permitsTypes types)
     {r : Answer} where
   pub check-disabled : p ≡ false → r ≡ refusedAt typesDisabled (nodeOf i t)
       → r ≡ «dialect_check_type» edition names types (treeOf i t)
   unfolding «dialect_check_type»
   check-disabled h r-is = r-is ∙ rw (← p-is, h) refl
 
-  pub check-type : p ≡ true → r ≡ «unpack» edition names (treeOf i t) → r ≡ «dialect_check_type» edition names types (treeOf i t)
+  pub check-type : p ≡ true → r ≡ «unpack» edition names (treeOf i t)
+      → r ≡ «dialect_check_type» edition names types (treeOf i t)
   unfolding «dialect_check_type»
   check-type h r-is = r-is ∙ rw (← p-is, h) refl
 
 -- the job on a node of a sound table
-module _ (edition : Edition) (t names : List ℕ) (types : DialectTypes) (i room : ℕ) {b : Bool} (b-is : b ≡ nodeFits t i Expression)
+module _ (edition : Edition) (t names : List ℕ) (types : DialectTypes) (i room : ℕ) {b : Bool}
+    (b-is : b ≡ nodeFits t i Expression)
   where
     pub at-no-node : b ≡ false → refused wrongNode [] ≡ typeAt edition t names types i room
     unfolding typeAt
@@ -117,12 +120,14 @@ unfolding «dialect_check_type» «unpack» atNode formOf
 leaf-none edition names types i = refl
 
 -- the type that a stretch of any bytes begins with, in the terms of code: b is what `is_headed` answered
-module _ (edition : Edition) (names : List ℕ) (types : DialectTypes) (i : ℕ) (t : List ℕ) {b : Bool} (b-is : b ≡ isHeaded i t)
+module _ (edition : Edition) (names : List ℕ) (types : DialectTypes) (i : ℕ) (t : List ℕ) {b : Bool}
+    (b-is : b ≡ isHeaded i t)
     {r : Answer} where
   pub judge-none : b ≡ false → r ≡ noType types (nodeOf i [])
       → r ≡ «dialect_check_type» edition names types (treeOf i (headedOf i t))
   judge-none h r-is =
-      r-is ∙ sym (ap («dialect_check_type» edition names types) (headed-leaf i t b-is h) ∙ leaf-none edition names types i)
+      r-is
+      ∙ sym (ap («dialect_check_type» edition names types) (headed-leaf i t b-is h) ∙ leaf-none edition names types i)
 
   pub judge-here : b ≡ true → r ≡ «dialect_check_type» edition names types (treeOf i t)
       → r ≡ «dialect_check_type» edition names types (treeOf i (headedOf i t))

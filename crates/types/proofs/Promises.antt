@@ -26,7 +26,8 @@ shaped-injective (Refused q) (Refused r) e = ap Refused (refusal-injective q r e
 
 -- of `judge`
 pub judge-one : (table names dialect : List ℕ) (edition node room : ℕ) {r s : Shaped}
-    → shaped r ≡ typeShapeOf table names dialect edition node room → shaped s ≡ typeShapeOf table names dialect edition node room
+    → shaped r ≡ typeShapeOf table names dialect edition node room
+    → shaped s ≡ typeShapeOf table names dialect edition node room
     → r ≡ s
 judge-one table names dialect edition node room = coincide-by shaped shaped-injective
 

@@ -79,10 +79,12 @@ falls t left h = omega arith
 
 -- a child as it is read
 abbrev pub unpackChild : How → Edition → List ℕ → Tree → Answer
-unpackChild how edition names t = ofChild how (accepted []) (λ _. «unpack» edition names t) (λ _. «unpack_argument» edition names t)
+unpackChild how edition names t =
+    ofChild how (accepted []) (λ _. «unpack» edition names t) (λ _. «unpack_argument» edition names t)
 
 -- a child, by the rule that its caller chooses
-module _ (edition : Edition) (names : List ℕ) (i : ℕ) (t : List ℕ) (how : How) {rule : How} {k : ℕ} (k-is : k ≡ nodeOf 0 t .kind)
+module _ (edition : Edition) (names : List ℕ) (i : ℕ) (t : List ℕ) (how : How) {rule : How} {k : ℕ}
+    (k-is : k ≡ nodeOf 0 t .kind)
     (rule-is : rule ≡ ruleOf how k) where
   chosen : unpackChild rule edition names (treeOf i t) ≡ unpackChild how edition names (treeOf i t)
   unfolding «unpack»
@@ -95,7 +97,8 @@ module _ (edition : Edition) (names : List ℕ) (i : ℕ) (t : List ℕ) (how : 
   child-unread h = ap (λ (x : How). unpackChild x edition names (treeOf i t)) (sym h) ∙ chosen
 
   module _ {r : Answer} where
-    pub child-type : rule ≡ AsType → r ≡ «unpack» edition names (treeOf i t) → r ≡ unpackChild how edition names (treeOf i t)
+    pub child-type : rule ≡ AsType → r ≡ «unpack» edition names (treeOf i t)
+        → r ≡ unpackChild how edition names (treeOf i t)
     child-type h r-is = r-is ∙ ap (λ (x : How). unpackChild x edition names (treeOf i t)) (sym h) ∙ chosen
 
     pub child-list : rule ≡ AsArgument → r ≡ «unpack_argument» edition names (treeOf i t)
@@ -104,7 +107,8 @@ module _ (edition : Edition) (names : List ℕ) (i : ℕ) (t : List ℕ) (how : 
 
 -- the children of a node side by side: at each turn what is left is a proper part of the node's subtree, and gives the
 -- whole answer
-pub record Judging (edition : Edition) (names : List ℕ) (others : How) (t : List ℕ) (whole : Answer) (left : List ℕ) (at : ℕ) (how : How)
+pub record Judging (edition : Edition) (names : List ℕ) (others : How) (t : List ℕ) (whole : Answer) (left : List ℕ)
+    (at : ℕ) (how : How)
     : Type 0 where
   pub within : 24 * at + length left ≤ 50400
   pub part : length left + 24 ≤ spanOf t
@@ -121,7 +125,8 @@ module _ (edition : Edition) (names : List ℕ) (i : ℕ) (t : List ℕ) (here :
   pub unpack-start : 24 ≤ length t → 24 * i + length t ≤ 50400 → here ≡ Accepted
       → {f : Form} → f ≡ formOf (nodeOf 0 t .kind) (nodeOf 0 t .detail) → {reads : Reads} → reads ≡ readsOf f
       → {e : ℕ} → e ≡ spanOf t
-      → Judging edition names (reads .others) t («unpack» edition names (treeOf i t)) (take (e - 24) (drop 24 t)) (i + 1) (reads .first)
+      → Judging edition names (reads .others) t («unpack» edition names (treeOf i t)) (take (e - 24) (drop 24 t))
+      (i + 1) (reads .first)
   unfolding «unpack»
   unpack-start long fits h f-is reads-is {e} e-is = record {
     within = rw (kids-part e t e-is) (omega (arith, length-kids t));
@@ -132,7 +137,8 @@ module _ (edition : Edition) (names : List ℕ) (i : ℕ) (t : List ℕ) (here :
 -- the List of arguments that a stretch begins with
 module _ (edition : Edition) (names : List ℕ) (i : ℕ) (t : List ℕ) where
   pub argument-start : 24 ≤ length t → 24 * i + length t ≤ 50400 → nodeOf 0 t .kind ≡ kindList → {e : ℕ} → e ≡ spanOf t
-      → Judging edition names AsArgument t («unpack_argument» edition names (treeOf i t)) (take (e - 24) (drop 24 t)) (i + 1) AsArgument
+      → Judging edition names AsArgument t («unpack_argument» edition names (treeOf i t)) (take (e - 24) (drop 24 t))
+      (i + 1) AsArgument
   unfolding «unpack»
   argument-start long fits list {e} e-is = record {
     within = rw (kids-part e t e-is) (omega (arith, length-kids t));
@@ -140,12 +146,14 @@ module _ (edition : Edition) (names : List ℕ) (i : ℕ) (t : List ℕ) where
     same = rw (kids-part e t e-is, eq-eqb (nodeOf 0 t .kind) kindList list) refl;
   }
 
-  pub item-type : {k : ℕ} → k ≡ nodeOf 0 t .kind → (k ≡ kindList → ⊥) → {r : Answer} → r ≡ «unpack» edition names (treeOf i t)
+  pub item-type : {k : ℕ} → k ≡ nodeOf 0 t .kind → (k ≡ kindList → ⊥) → {r : Answer}
+      → r ≡ «unpack» edition names (treeOf i t)
       → r ≡ unpackChild AsArgument edition names (treeOf i t)
   unfolding «unpack»
   item-type {k} k-is other r-is = r-is ∙ rw (← k-is, ne-eqb k kindList other) refl
 
-module _ {edition : Edition} {names : List ℕ} {others : How} {t : List ℕ} {whole : Answer} {left : List ℕ} {at : ℕ} {how : How}
+module _ {edition : Edition} {names : List ℕ} {others : How} {t : List ℕ} {whole : Answer} {left : List ℕ} {at : ℕ}
+    {how : How}
     (j : Judging edition names others t whole left at how) where
   pub each-end : length left < 24 → accepted [] ≡ whole
   unfolding «unpack»

@@ -1,5 +1,5 @@
--- `types::paths::is_banned` meets its contract: by the first edition the field's bytes are those of `type`, by the second
--- nothing is banned. Assumes nothing.
+-- `types::paths::is_banned` meets its contract: by the first edition the field's bytes are those of `type`, by the
+-- second nothing is banned. Assumes nothing.
 use mathlib.Core.Path.{_≡_, refl, _∙_}
 use mathlib.Core.Bool.{Bool}
 use mathlib.Core.List.{List}
