@@ -17,7 +17,7 @@ use Rattle.shapes.specs.Jobs.{shapesAfter}
 
 module _ (t names bytes : List ℕ) (i : ℕ) (buffer : List ℕ) where
   -- the buffer after an answer
-  after : Answer → List ℕ
+  abbrev after : Answer → List ℕ
   after a = afterAnswer a (shapesOf (treeOf 0 (stretchOf t i))) buffer
 
   -- THEOREM: where edition 1 answers anything but 44, edition 2 leaves the same buffer
