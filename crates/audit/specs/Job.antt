@@ -23,7 +23,8 @@ refusalsIn d edition names ts = refusals d edition names (placed Nowhere ts)
 -- the errors of any bytes in a dialect and by an edition, unchecked: the module pass's without 10 to 19, then what the
 -- jobs refuse, of as many records as a table has at most
 unfoldable pub auditErrors : Dialect → Edition → List ℕ → List ℕ → List Err
-auditErrors d edition names t = kept Own (passErrors d names t) ++ refusalsIn d edition names (forest 0 (take mostBytes t))
+auditErrors d edition names t = kept Own (passErrors d names t) ++ refusalsIn d edition names
+    (forest 0 (take mostBytes t))
 
 -- the errors in the dialect and by the edition that the job is given; a job that is turned away has none
 abbrev pub auditIn : Ruling → List ℕ → List ℕ → List Err

@@ -173,7 +173,8 @@ pub(crate) fn check_there(
 ) -> usize
     requires { ⌜ Headed at (now t) ⌝ }
     ensures { λ r. ⌜ StoresFew Audit 2
-        (refusedThere d edition (now (names .entry)) (placedAs role (treeOf at (now (t .entry))))) (now (errors .entry)) r
+        (refusedThere d edition (now (names .entry)) (placedAs role (treeOf at (now (t .entry)))))
+        (now (errors .entry)) r
         (now (errors .exit)) ⌝ }
 {
     let first = push_refusal(by_kind(names, t, at), errors);

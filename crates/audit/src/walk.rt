@@ -31,8 +31,9 @@ fn check_record(
 ) -> usize
     requires { ⌜ Headed at (now t) ⌝ }
     requires { ⌜ e ≡ spanOf (now t) ⌝ }
-    ensures { λ r. ⌜ Stores Audit (refusals d edition (now (names .entry)) (placedTree role (treeOf at (now (t .entry)))))
-        (now (errors .entry)) r (now (errors .exit)) ⌝ }
+    ensures { λ r. ⌜ Stores Audit
+        (refusals d edition (now (names .entry)) (placedTree role (treeOf at (now (t .entry))))) (now (errors .entry)) r
+        (now (errors .exit)) ⌝ }
 {
     let own = records::check_there(d, edition, names, role, t, at as u32, errors);
     if e <= RECORD {

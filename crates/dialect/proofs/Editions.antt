@@ -1,19 +1,18 @@
 -- Which numbers are editions, and which edition holds in a file. A number is 1, 2 or no edition (`edition-one`,
--- `edition-two`, `edition-none`), and an edition comes from its own number alone (`edition-back`). Each law computes from
--- the tests of `editionOf`. Assumes nothing.
-use mathlib.Core.Path.{_≡_, refl, sym, _∙_}
+-- `edition-two`, `edition-none`), and an edition comes from its own number alone (`edition-back`). Each law computes
+-- from the tests of `editionOf`. Assumes nothing.
+use mathlib.Core.Path.{_≡_, refl}
 use mathlib.Core.Bool.{Bool, true, false}
 use mathlib.Core.List.{List, [], _∷_}
 use Prim.Native.Nat.{ℕ}
 use native.Mathlib.Omega.{arith}
 use lib.Dec.{eqb}
 use lib.ListN.{length}
-use borrow.Author.Tests.{eq-eqb, ne-eqb, eqb-true}
+use borrow.Author.Tests.{ne-eqb, eqb-true}
 use Rattle.fields.proofs.Basics.{never}
 use Rattle.fields.specs.Choice.{if'}
 use Rattle.dialect.specs.declared.Edition.{Edition}
 use Rattle.dialect.specs.declared.Edition.the-variants.{One, Two}
-use Rattle.dialect.specs.declared.EditionRead.{EditionRead}
 use Rattle.dialect.specs.declared.EditionRead.the-variants.{Known, Unknown}
 use Rattle.dialect.specs.Editions.{editionOf, editionHeld}
 

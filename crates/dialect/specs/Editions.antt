@@ -3,7 +3,6 @@
 use mathlib.Core.List.{List, [], _∷_}
 use Prim.Native.Nat.{ℕ}
 use lib.Dec.{eqb}
-use Rattle.dialect.specs.declared.Edition.{Edition}
 use Rattle.dialect.specs.declared.Edition.the-variants.{One, Two}
 use Rattle.dialect.specs.declared.EditionRead.{EditionRead}
 use Rattle.dialect.specs.declared.EditionRead.the-variants.{Known, Unknown}

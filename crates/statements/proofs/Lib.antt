@@ -16,6 +16,7 @@ pub mod Opening
 pub mod AuditList
 pub mod Audit
 pub mod OpeningAudit
+pub mod Editions
 pub mod TableFile
 pub mod Writer
 pub mod Rescue

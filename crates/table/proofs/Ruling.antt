@@ -1,6 +1,6 @@
--- How a job that reads types is let in: 1 to 5 for the dialect bytes, then 5 for the edition. What was read of an edition
--- is looked at last, so a known edition adds nothing to 1 to 5 (`rules-given`), and who is let in was given the dialect
--- and has a known edition (`rules-known`). Each law splits on the two answers. Assumes nothing.
+-- How a job that reads types is let in: 1 to 5 for the dialect bytes, then 5 for the edition. What was read of an
+-- edition is looked at last, so a known edition adds nothing to 1 to 5 (`rules-given`), and who is let in was given the
+-- dialect and has a known edition (`rules-known`). Each law splits on the two answers. Assumes nothing.
 use mathlib.Core.Path.{_≡_, refl, sym, ap, _∙_}
 use mathlib.Core.List.{List, []}
 use Prim.Native.Nat.{ℕ, _<_}
@@ -11,7 +11,7 @@ use Rattle.dialect.specs.declared.Edition.{Edition}
 use Rattle.dialect.specs.declared.EditionRead.{EditionRead}
 use Rattle.dialect.specs.declared.EditionRead.the-variants.{Known, Unknown}
 use Rattle.table.specs.Numbers.{badDialect}
-use Rattle.table.specs.Answer.{Answer, accepted, refused, andThen, numberOf, carried}
+use Rattle.table.specs.Answer.{accepted, refused, andThen, numberOf, carried}
 use Rattle.table.specs.Check.{Handing, inDialect, turnedAway, given, givenOf, inGiven, givenCheck}
 use Rattle.table.specs.Check.{Ruling, byRules, unruled, ruled, ruling, rulesOf, inRules, rulesCheck}
 use Rattle.table.specs.declared.Refusal.{Refusal}

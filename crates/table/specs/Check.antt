@@ -1,4 +1,5 @@
--- The table check, 1 to 4 in this order, a job's dialect and its edition, 5, and a job's node, 6. These are definitions.
+-- The table check, 1 to 4 in this order, a job's dialect and its edition, 5, and a job's node, 6. These are
+-- definitions.
 use mathlib.Core.Bool.{Bool, _&&_, _||_}
 use mathlib.Core.List.{List, [], _∷_}
 use Prim.Native.Nat.{ℕ, _+_, _*_, _/_, _%_, _≤_}

@@ -25,8 +25,8 @@ shaped (Refused r) = refusal r
 abbrev pub roomCheck : ℕ → List ℕ → Answer
 roomCheck room t = if' (leb (length t / recordBytes) room) (λ _. accepted []) (λ _. refused shortBuffer [])
 
--- the type job on node i of the table t, for a buffer of so many bytes, where the table is sound, and the dialect and the
--- edition are known: 6, 7, then the type
+-- the type job on node i of the table t, for a buffer of so many bytes, where the table is sound, and the dialect and
+-- the edition are known: 6, 7, then the type
 unfoldable pub typeAt : Edition → List ℕ → List ℕ → DialectTypes → ℕ → ℕ → Answer
 typeAt edition t names types i room =
     andThen (nodeCheck t i Expression) (λ _.

@@ -18,8 +18,8 @@ use Rattle.table.specs.Answer.{Answer, accepted, refusedAt}
 abbrev pub typeField : List ℕ
 typeField = 116 ∷ 121 ∷ 112 ∷ 101 ∷ []
 
--- whether a path that ends in the field of this Dot is banned: by the first edition if it is `type`, by the second never
--- (W-212). The ban on `type` stands here alone, and so does the edition
+-- whether a path that ends in the field of this Dot is banned: by the first edition if it is `type`, by the second
+-- never (W-212). The ban on `type` stands here alone, and so does the edition
 abbrev pub banned : Edition → List ℕ → Node → Bool
 banned One names dot = same (nameOf names dot) typeField
 banned Two names dot = false

@@ -44,7 +44,8 @@ fn index_base(t: &[u8], node: usize) -> Shaped
 // The base of the Index2 that a stretch begins with.
 fn index2_base(edition: Edition, names: &[u8], t: &[u8], node: usize) -> Shaped
     requires { ⌜ Headed node (now t) ⌝ }
-    ensures { λ r. ⌜ shaped r ≡ index2Base edition (now (names .entry)) (forest (node + 1) (kidsOf (now (t .entry)))) ⌝ }
+    ensures { λ r. ⌜ shaped r ≡
+        index2Base edition (now (names .entry)) (forest (node + 1) (kidsOf (now (t .entry)))) ⌝ }
 {
     let e = forest::span(t);
     let k = &t[RECORD..e];
@@ -76,7 +77,8 @@ fn list_length(t: &[u8], node: usize) -> Shaped
 fn at_node(edition: Edition, names: &[u8], t: &[u8], node: usize) -> Shaped
     requires { ⌜ Headed node (now t) ⌝ }
     ensures { λ r. ⌜ shaped r ≡
-        atNode edition (now (names .entry)) (formOf (nodeOf 0 (now (t .entry)) .kind) (nodeOf 0 (now (t .entry)) .detail))
+        atNode edition (now (names .entry))
+        (formOf (nodeOf 0 (now (t .entry)) .kind) (nodeOf 0 (now (t .entry)) .detail))
         (nodeOf node (now (t .entry))) (forest (node + 1) (kidsOf (now (t .entry)))) ⌝ }
 {
     let form = forms::form(t);

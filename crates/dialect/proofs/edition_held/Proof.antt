@@ -1,6 +1,6 @@
 -- `dialect::edition_held` meets its contract: no edition, one without dialect bytes, and one behind them are the cases
 -- of `editionHeld`. Assumes nothing.
-use mathlib.Core.Path.{_≡_, sym, ap, _∙_}
+use mathlib.Core.Path.{_≡_, sym, _∙_}
 use mathlib.Core.List.{List}
 use Prim.Native.Nat.{ℕ}
 use lib.ListN.{length}
