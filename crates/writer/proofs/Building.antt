@@ -7,11 +7,11 @@
 use mathlib.Core.Path.{_≡_, refl, sym, ap, _∙_}
 use mathlib.Core.Bool.{true}
 use mathlib.Core.Logic.{⊎-elim}
-use mathlib.Core.List.{List, [], _++_, append-assoc}
+use mathlib.Core.List.{List, [], _∷_, _++_, append-assoc}
 use Prim.Native.Nat.{ℕ, zero, suc, _+_, _*_, _-_, _/_, _<_, _≤_, min}
 use native.Mathlib.Nat.{add-zero}
 use native.Mathlib.Omega.{arith}
-use lib.ListN.{length, getD, take, drop, replicate, length-append, length-take, length-drop, length-replicate}
+use lib.ListN.{length, getD, take, drop, set, replicate, length-append, length-take, length-drop, length-replicate}
 use lib.ListN.{getD-replicate, List·getD-append, replicate-append-replicate, drop-of-length-le}
 use lib.Seq.{take-length, drop-length, take-at, drop-at, drop-append-le, getD-append-add}
 use borrow.Author.Tests.{ltb-true}
@@ -23,7 +23,7 @@ use Rattle.fields.proofs.Basics.{le-or-lt}
 use Rattle.fields.proofs.Fields.{tail-part}
 use Rattle.fields.specs.Field.{bytesOf}
 use Rattle.fields.specs.Over.{over}
-use Rattle.fields.proofs.Over.{over-none, over-front, length-over, over-next, over-part}
+use Rattle.fields.proofs.Over.{over-none, over-front, length-over, over-sets, over-next, over-part}
 use Rattle.fields.proofs.Spelling.{length-bytes}
 use Rattle.blocks.specs.Block.{weighed, sumOf, beforeSum, blockOf}
 use Rattle.blocks.specs.Run.{blocksFor, blocksOf, runOf}
@@ -209,7 +209,7 @@ stated-few Nothing = omega arith
 -- the edition, put at its place
 pub edition-put : (edition : Stated) {n : ℕ} (at : ℕ) (out : List ℕ) → edition ≡ Number n → at < length out
     → set out at n ≡ over at (statedBytes edition) out
-edition-put edition {n} at out e h = rw e (set-over at n out h)
+edition-put edition {n} at out e h = rw e (over-sets at (n ∷ []) out (omega arith))
 
 pub edition-kept : (edition : Stated) (at : ℕ) (out : List ℕ) → edition ≡ Nothing
     → out ≡ over at (statedBytes edition) out
