@@ -14,6 +14,7 @@ use native.Mathlib.Omega.{arith}
 use lib.ListN.{length, getD, take, drop, set, replicate, length-append, length-take, length-drop, length-replicate}
 use lib.ListN.{getD-replicate, List·getD-append, replicate-append-replicate, drop-of-length-le}
 use lib.Seq.{take-length, drop-length, take-at, drop-at, drop-append-le, getD-append-add}
+use lib.Dec.{ltb}
 use borrow.Author.Tests.{ltb-true}
 use borrow.Rule.Slice.PartMut.{putMid}
 use Rattle.dialect.specs.Editions.{statedBytes}
@@ -149,25 +150,16 @@ next-over d a b n long =
     let at : n ≡ 0 + length a = omega arith in
     ap (λ (m : ℕ). over m b (over 0 a d)) at ∙ over-next 0 a d b
 
+-- an edition takes a byte at most
+pub stated-few : (edition : Stated) → length (statedBytes edition) ≤ 1
+stated-few (Number n) = omega arith
+stated-few Nothing = omega arith
+
 -- block 0: the counts, then the dialect, then the edition
-module _ (t names ds : List ℕ) (edition : Stated) {counts : List ℕ}
+module _ (t names ds : List ℕ) {counts : List ℕ}
     (counts-is : counts ≡ bytesOf 2 (length t / 24) ++ bytesOf 2 (length names)) where
-  abbrev es : List ℕ
-  es = statedBytes edition
-
-  abbrev whole : List ℕ
-  whole = (counts ++ ds) ++ es
-
-  begun-long : length (counts ++ ds) ≡ 4 + length ds
-  begun-long = simp length-append (omega (arith, pair-four (length t / 24) (length names) counts-is))
-
-  whole-long : length whole ≡ 4 + length ds + length es
-  whole-long = length-append (counts ++ ds) es ∙ ap (λ (n : ℕ). n + length es) begun-long
-
-  whole-is : whole ≡ headerOf (holding t names ds edition)
-  unfolding headerOf
-  whole-is = append-assoc counts ds es ∙ ap (λ (x : List ℕ). x ++ (ds ++ es)) counts-is
-      ∙ append-assoc (bytesOf 2 (length t / 24)) (bytesOf 2 (length names)) (ds ++ es)
+  counts-then : length (counts ++ ds) ≡ 4 + length ds
+  counts-then = simp length-append (omega (arith, pair-four (length t / 24) (length names) counts-is))
 
   module _ (few : length ds ≤ 9) {o₁ o₂ : List ℕ} (o₁-is : o₁ ≡ laidAt 0 counts (replicate 14 0))
       (o₂-is : o₂ ≡ laidAt 4 ds o₁) where
@@ -184,16 +176,39 @@ module _ (t names ds : List ℕ) (edition : Stated) {counts : List ℕ}
     header-room =
         let zeros : length (replicate {A = ℕ} 14 0) ≡ 14 = length-replicate {A = ℕ} 14 0 in
         let long : length o₂ ≡ 14 = ap length header-begun
-        ∙ length-over 0 (counts ++ ds) (replicate 14 0) (omega (arith, begun-long)) ∙ zeros in
+        ∙ length-over 0 (counts ++ ds) (replicate 14 0) (omega (arith, counts-then)) ∙ zeros in
         omega arith
 
-    module _ {o₃ : List ℕ} {used : ℕ} (o₃-is : o₃ ≡ over (4 + length ds) (statedBytes edition) o₂)
+    module _ (edition : Stated) {o₃ : List ℕ} {used : ℕ}
+        (o₃-is : o₃ ≡ over (4 + length ds) (statedBytes edition) o₂)
         (used-is : used ≡ 4 + length ds + length (statedBytes edition)) where
+      pub header-used : used ≤ length o₃
+      header-used =
+          let fits : 4 + length ds + length (statedBytes edition) ≤ length o₂ =
+          omega (arith, header-room, stated-few edition) in
+          let long : length o₃ ≡ length o₂ = ap length o₃-is
+          ∙ length-over (4 + length ds) (statedBytes edition) o₂ fits in
+          omega arith
+
+      pub header-small : length (take (used - 0) (drop 0 o₃)) ≤ 504
+      header-small = simp length-take (omega (arith, stated-few edition))
+
+      abbrev es : List ℕ
+      es = statedBytes edition
+
+      abbrev whole : List ℕ
+      whole = (counts ++ ds) ++ es
+
+      whole-is : whole ≡ headerOf (holding t names ds edition)
+      unfolding headerOf
+      whole-is = append-assoc counts ds es ∙ ap (λ (x : List ℕ). x ++ (ds ++ es)) counts-is
+          ∙ append-assoc (bytesOf 2 (length t / 24)) (bytesOf 2 (length names)) (ds ++ es)
+
       header-laid : take (used - 0) (drop 0 o₃) ≡ headerOf (holding t names ds edition)
       header-laid =
           let o₃-so : o₃ ≡ over 0 whole (replicate 14 0) = o₃-is ∙ ap (over (4 + length ds) es) header-begun
-          ∙ next-over (replicate 14 0) (counts ++ ds) es (4 + length ds) begun-long in
-          let long : length whole ≡ used - 0 = omega (arith, whole-long) in
+          ∙ next-over (replicate 14 0) (counts ++ ds) es (4 + length ds) counts-then in
+          let long : length whole ≡ used - 0 = omega (arith, length-append (counts ++ ds) es, counts-then) in
           ap (take (used - 0)) (o₃-so ∙ over-front whole (replicate 14 0))
           ∙ take-at whole (drop (length whole) (replicate 14 0)) (used - 0) long ∙ whole-is
 
@@ -201,29 +216,27 @@ module _ (t names ds : List ℕ) (edition : Stated) {counts : List ℕ}
           → out ≡ over 0 (blockOf 0 (headerOf (holding t names ds edition))) d
       header-whole d out-is = rw header-laid at out-is
 
--- an edition takes a byte at most
-pub stated-few : (edition : Stated) → length (statedBytes edition) ≤ 1
-stated-few (Number n) = omega arith
-stated-few Nothing = omega arith
+-- the edition, put at its place, or none: e is what code found it to be
+module _ (edition : Stated) where
+  module _ {n : ℕ} (e : edition ≡ Number n) where
+    pub byte-number : ltb n 256 ≡ isByte edition
+    byte-number = rw e refl
 
--- the edition, put at its place
-pub edition-put : (edition : Stated) {n : ℕ} (at : ℕ) (out : List ℕ) → edition ≡ Number n → at < length out
-    → set out at n ≡ over at (statedBytes edition) out
-edition-put edition {n} at out e h = rw e (over-sets at (n ∷ []) out (omega arith))
+    pub byte-small : isByte edition ≡ true → n < 256
+    byte-small h = ltb-true n 256 (rw e at h)
 
-pub edition-kept : (edition : Stated) (at : ℕ) (out : List ℕ) → edition ≡ Nothing
-    → out ≡ over at (statedBytes edition) out
-edition-kept edition at out e = rw e (sym (over-none at out))
+    pub edition-put : (at : ℕ) (out : List ℕ) → at < length out → set out at n ≡ over at (statedBytes edition) out
+    edition-put at out h = rw e (over-sets at (n ∷ []) out (omega arith))
 
-pub edition-behind : (edition : Stated) {n : ℕ} (at : ℕ) → edition ≡ Number n
-    → at + 1 ≡ at + length (statedBytes edition)
-edition-behind edition at e = rw e refl
+    pub edition-behind : (at : ℕ) → at + 1 ≡ at + length (statedBytes edition)
+    edition-behind at = rw e refl
 
-pub edition-here : (edition : Stated) (at : ℕ) → edition ≡ Nothing → at ≡ at + length (statedBytes edition)
-edition-here edition at e = rw e (sym (add-zero at))
+  module _ (e : edition ≡ Nothing) where
+    pub edition-kept : (at : ℕ) (out : List ℕ) → out ≡ over at (statedBytes edition) out
+    edition-kept at out = rw e (sym (over-none at out))
 
-pub edition-byte : (edition : Stated) {n : ℕ} → edition ≡ Number n → isByte edition ≡ true → n < 256
-edition-byte edition {n} e h = ltb-true n 256 (rw e at h)
+    pub edition-here : (at : ℕ) → at ≡ at + length (statedBytes edition)
+    edition-here at = rw e (sym (add-zero at))
 
 -- a run: its first block, and the others
 run-first : (number : ℕ) (left : List ℕ) → 0 < length left

@@ -64,7 +64,7 @@ sound-few c sound =
 
 -- the judgement: x is what `edition_held` read, and g what `enter_rules` answered
 module _ (t names ds : List ℕ) (edition : Stated) {x : EditionRead} (x-is : x ≡ editionHeld ds (statedBytes edition))
-    {g : Ruled} (g-is : ruled g ≡ rulesOf t names ds x) where
+    (g : Ruled) (g-is : ruled g ≡ rulesOf t names ds x) where
   rules-are : ruled g ≡ rulesOf t names ds (editionHeld ds (statedBytes edition))
   rules-are = rw x-is at g-is
 
