@@ -137,7 +137,7 @@ sound-headed c known = ⊎-elim
     lengths = dialect-lengths (c .dialect) (known .decoded)
 
 -- its edition is a byte
-sound-byte : (c : Content) → Knows c → Bytes (statedBytes (c .edition))
+pub sound-byte : (c : Content) → Knows c → Bytes (statedBytes (c .edition))
 sound-byte c known = ⊎-elim
     (λ (e : c .edition ≡ Nothing). rw e (λ i. omega arith))
     (λ (e : (length (c .dialect) ≡ 0 → ⊥) × (c .edition ≡ Number (editionNumber (known .edition)))). rw (e .1)

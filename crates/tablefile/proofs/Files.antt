@@ -36,22 +36,25 @@ use Rattle.tablefile.proofs.Fronts.{names-length}
 
 -- ---- a file at the front whose blocks pass is the file of what it holds
 module _ (bs : List ℕ) (small : Bytes bs) (f : Fronted bs) where
+  nodes-spelled : bytesOf 2 (headerAt bs .nodes) ≡ take 2 (drop 4 bs)
+  unfolding headerAt
+  nodes-spelled = bytes-field 2 bs 4 small (omega (arith, f .header .long))
+
+  names-spelled : bytesOf 2 (headerAt bs .names) ≡ take 2 (drop 6 bs)
+  unfolding headerAt
+  names-spelled = bytes-field 2 bs 6 small (omega (arith, f .header .long))
+
   header-is : take (usedOf (headerAt bs)) (drop 4 bs) ≡ headerOf (contentAt bs)
   unfolding headerOf
   header-is =
       let d : ℕ = headerAt bs .dialect + headerAt bs .edition in
-      let nodes : length (contentAt bs .table) / 24 ≡ field 2 bs 4 = omega (arith, table-length bs f) in
-      let names : length (contentAt bs .names) ≡ field 2 bs 6 = names-length bs f in
-      let spelled : bytesOf 2 (field 2 bs 4)
-      ≡ take 2 (drop 4 bs) = bytes-field 2 bs 4 small (omega (arith, f .header .long)) in
-      let spelled′ : bytesOf 2 (field 2 bs 6)
-      ≡ take 2 (drop 6 bs) = bytes-field 2 bs 6 small (omega (arith, f .header .long)) in
+      let nodes : length (contentAt bs .table) / 24 ≡ headerAt bs .nodes = omega (arith, table-length bs f) in
       let cut : usedOf (headerAt bs) ≡ 2 + (2 + d) = omega arith in
       rw (
         nodes,
-        names,
-        spelled,
-        spelled′,
+        names-length bs f,
+        nodes-spelled,
+        names-spelled,
         cut,
         take-add 2 (2 + d) (drop 4 bs),
         drop-drop 2 4 bs,

@@ -39,22 +39,21 @@ use Rattle.tablefile.specs.declared.Heading.{Heading}
 use Rattle.tablefile.proofs.Copies.{dialect-long}
 
 -- how many dialect bytes block 0 has, and how many edition bytes
-module _ {u : ℕ} where
-  pub dialect-nine : (eqb u 13 || eqb u 14) ≡ true → (9 ≡ dialectIn u) × (9 ≤ 9)
-  unfolding dialectIn
-  dialect-nine e = (rw e refl, omega arith)
+pub dialect-nine : (u : ℕ) → (eqb u 13 || eqb u 14) ≡ true → (9 ≡ dialectIn u) × (9 ≤ 9)
+unfolding dialectIn
+dialect-nine u e = (rw e refl, omega arith)
 
-  pub dialect-none : (eqb u 13 || eqb u 14) ≡ false → (0 ≡ dialectIn u) × (0 ≤ 9)
-  unfolding dialectIn
-  dialect-none e = (rw e refl, omega arith)
+pub dialect-none : (u : ℕ) → (eqb u 13 || eqb u 14) ≡ false → (0 ≡ dialectIn u) × (0 ≤ 9)
+unfolding dialectIn
+dialect-none u e = (rw e refl, omega arith)
 
-  pub edition-one : u ≡ 14 → (1 ≡ editionIn u) × (1 ≤ 1)
-  unfolding editionIn
-  edition-one e = (rw (eq-eqb u 14 e) refl, omega arith)
+pub edition-one : {u : ℕ} → u ≡ 14 → (1 ≡ editionIn u) × (1 ≤ 1)
+unfolding editionIn
+edition-one {u} e = (rw (eq-eqb u 14 e) refl, omega arith)
 
-  pub edition-none : (u ≡ 14 → ⊥) → (0 ≡ editionIn u) × (0 ≤ 1)
-  unfolding editionIn
-  edition-none e = (rw (ne-eqb u 14 e) refl, omega arith)
+pub edition-none : {u : ℕ} → (u ≡ 14 → ⊥) → (0 ≡ editionIn u) × (0 ≤ 1)
+unfolding editionIn
+edition-none {u} e = (rw (ne-eqb u 14 e) refl, omega arith)
 
 -- what block 0 says, in the terms of code
 pub header-is : (bs : List ℕ) {nodes names used d e k m : ℕ} → nodes ≡ field 2 bs 4 → names ≡ field 2 bs 6
@@ -134,12 +133,15 @@ module _ (bs : List ℕ) where
       one (suc zero) (x ∷ l) h = refl
       one (suc (suc n)) l h = absurd (omega arith)
 
+  dialect-is : contentAt bs .dialect ≡ take (headerAt bs .dialect) (drop 8 bs)
+  unfolding contentAt
+  dialect-is = refl
+
   -- LAW: what block 0 holds behind its counts is the dialect and the edition
   pub tail-is : take (headerAt bs .dialect + headerAt bs .edition) (drop 8 bs)
       ≡ contentAt bs .dialect ++ statedBytes (contentAt bs .edition)
-  unfolding contentAt
   tail-is = take-add (headerAt bs .dialect) (headerAt bs .edition) (drop 8 bs)
-      ∙ rw (drop-drop (headerAt bs .dialect) 8 bs, edition-behind, ← stated-is) refl
+      ∙ rw (drop-drop (headerAt bs .dialect) 8 bs, edition-behind, stated-is, dialect-is) refl
 
 -- counts that fit
 pub counts-small : (nodes names : ℕ) → countsFit nodes names ≡ true → (1 ≤ nodes) × (nodes ≤ 2100) × (names ≤ 8064)

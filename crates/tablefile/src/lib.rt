@@ -97,6 +97,7 @@ pub fn read(file: &[u8]) -> Loaded
     let table = l.table;
     let names = l.names;
     let dialect = l.dialect;
+    let edition = l.edition;
     let sound = check(
         &table,
         l.table_len,
@@ -104,7 +105,7 @@ pub fn read(file: &[u8]) -> Loaded
         l.names_len,
         &dialect,
         l.dialect_len,
-        l.edition,
+        edition,
     );
     if let Verdict::Refused(r) = sound {
         return refused(r);

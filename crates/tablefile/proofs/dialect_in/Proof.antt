@@ -7,5 +7,5 @@ pub dialect-in-spec : {M : Type 1} → statement M
 dialect-in-spec =
     tie.close
     (tie.spec
-    (λ c. dialect-nine (c .if1 .taken))  -- returns
-    (λ c. dialect-none (c .if1 .left)))  -- returns-2
+    (λ c. dialect-nine _ (c .if1 .taken))  -- returns
+    (λ c. dialect-none _ (c .if1 .left)))  -- returns-2
