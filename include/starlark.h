@@ -50,11 +50,11 @@
 extern "C" {
 #endif
 
-/* The version of this interface. */
+/* The version of this interface. In 0.4 starlark_type, starlark_audit and starlark_write take an edition, which a C linker does not see. */
 #define STARLARK_VERSION_MAJOR 0
-#define STARLARK_VERSION_MINOR 3
+#define STARLARK_VERSION_MINOR 4
 #define STARLARK_VERSION_PATCH 0
-#define STARLARK_VERSION "0.3.0"
+#define STARLARK_VERSION "0.4.0"
 
 /* What a function returns that accepts. */
 #define STARLARK_ACCEPTED 0
@@ -65,7 +65,7 @@ enum starlark_number {
     STARLARK_NUMBER_NAME_BYTES = 2, /* there are more than 8,064 name bytes */
     STARLARK_NUMBER_UNSOUND_RECORD = 3, /* a record of the table is unsound */
     STARLARK_NUMBER_TOO_DEEP = 4, /* a statement or expression is more than 64 deep */
-    STARLARK_NUMBER_BAD_DIALECT = 5, /* the dialect bytes give no dialect */
+    STARLARK_NUMBER_BAD_DIALECT = 5, /* the dialect bytes give no dialect, or the edition is neither 1 nor 2, or stands without a dialect */
     STARLARK_NUMBER_WRONG_NODE = 6, /* the node asked for is beyond the table, or of the wrong kind */
     STARLARK_NUMBER_SHORT_BUFFER = 7, /* the buffer for modes, shapes, words of a binding, a file, what a file holds, a format text or its parts is too short */
     STARLARK_NUMBER_SLASH_FIRST = 10, /* `/` is the first parameter */
@@ -91,7 +91,7 @@ enum starlark_number {
     STARLARK_NUMBER_EMPTY_LIST_IN_TYPE = 41, /* an empty list stands in a type */
     STARLARK_NUMBER_DOT_IN_TYPE = 42, /* a dot in a type stands on something other than a path */
     STARLARK_NUMBER_EXPECTING_PATH = 43, /* a path is expected before the brackets of a type */
-    STARLARK_NUMBER_DOT_TYPE_BAN = 44, /* a path in a type ends in `.type` */
+    STARLARK_NUMBER_DOT_TYPE_BAN = 44, /* a path in a type ends in `.type`, which edition 2 allows */
     STARLARK_NUMBER_TYPES_DISABLED = 45, /* the dialect has no types */
     STARLARK_NUMBER_STAR_NOT_PERMITTED = 50, /* the dialect has no `*` in parameter lists */
     STARLARK_NUMBER_SLASH_NOT_PERMITTED = 51, /* the dialect has no `/` in parameter lists */
@@ -196,6 +196,13 @@ enum starlark_shape {
     STARLARK_SHAPE_TUPLE = 7,
 };
 
+/* The editions of the type rules: what starlark_type and starlark_audit take, and what a table file may hold. Edition 2 reads a path that ends in
+ * `type` as a path; edition 1 refuses it with 44. Nothing else differs. */
+enum starlark_edition {
+    STARLARK_EDITION_1 = 1,
+    STARLARK_EDITION_2 = 2,
+};
+
 /* The first words of the parts of a format text: what starlark_fstring_write takes and starlark_fstring_read gives. */
 enum starlark_part {
     STARLARK_PART_TEXT = 0, /* the second word is the number of its bytes; with the others it is 0 */
@@ -213,7 +220,7 @@ enum starlark_part {
 /* How many words `out` has. */
 #define STARLARK_WORDS 12
 
-/* The word for "no place", and for "no earlier node". */
+/* The word for "no place", for "no earlier node", and for "no edition" in a table file. */
 #define STARLARK_NONE UINT32_C(0xFFFFFFFF)
 
 /* The limits of a table: nodes, and so bytes of a mode or shape buffer that is never too short; name bytes; depth: statements
@@ -288,11 +295,12 @@ uint32_t starlark_target(const uint8_t *table, size_t table_len, const uint8_t *
 uint32_t starlark_assignment(const uint8_t *table, size_t table_len, const uint8_t *names, size_t names_len, size_t node,
                              uint32_t *out);
 
-/* Whether the expression at `node` is a type in a dialect (nine bytes, or none for Extended): 1 to 7, 45, 40 to 44. Accepted: nothing.
+/* Whether the expression at `node` is a type in a dialect (nine bytes, or none for Extended) and an edition of the type rules: 1 to 7, 45, 40 to 44.
+ * Accepted: nothing. An edition other than 1 and 2 is 5, STARLARK_NONE too; that of a file is out[7] of starlark_read. Edition 2 does not give 44.
  * shapes[i] is then the shape of the node i places behind `node`, where it is read as a type or argument (enum starlark_shape);
  * the other bytes stay. The buffer needs a byte for each node of the type (else 7). 40 to 45 have the source file number in out[4]. */
 uint32_t starlark_type(const uint8_t *table, size_t table_len, const uint8_t *names, size_t names_len, const uint8_t *dialect,
-                       size_t dialect_len, size_t node, uint8_t *shapes, size_t shapes_len, uint32_t *out);
+                       size_t dialect_len, uint32_t edition, size_t node, uint8_t *shapes, size_t shapes_len, uint32_t *out);
 
 /* The module pass under a dialect (nine bytes, or none for Extended): 1 to 5. Accepted: out[0] how many errors the module has, at most
  * STARLARK_ERRORS. STARLARK_ERROR_WORDS words of `errors` for each: number (10 to 19, 50 to 61), source file number, begin and end of the span.
@@ -300,34 +308,38 @@ uint32_t starlark_type(const uint8_t *table, size_t table_len, const uint8_t *na
 uint32_t starlark_module(const uint8_t *table, size_t table_len, const uint8_t *names, size_t names_len, const uint8_t *dialect,
                          size_t dialect_len, uint32_t *errors, size_t errors_len, uint32_t *out);
 
-/* The audit under a dialect (nine bytes, or none for Extended), every job on every node that it fits: 1 to 5. Accepted: out[0] how many errors there
- * are, at most STARLARK_AUDIT_ERRORS; 0 says that the module pass and every job accept. STARLARK_AUDIT_WORDS words of `errors` for each:
+/* The audit under a dialect (nine bytes, or none for Extended) and an edition of the type rules, every job on every node that it fits: 1 to 5.
+ * Accepted: out[0] how many errors there are, at most STARLARK_AUDIT_ERRORS; 0 says that the module pass and every job accept. An edition other than
+ * 1 and 2 is 5, STARLARK_NONE too; that of a file is out[7] of starlark_read. STARLARK_AUDIT_WORDS words of `errors` for each:
  * number (10 to 19, 20 to 24, 30 to 33, 40 to 45, 50 to 61), source file number, begin and end of the span, node. First the module pass's without
  * 10 to 19; then, node by node, what is refused there: the parameter list of a Def or Lambda, the arguments of a Call, an Assign or AssignModify, the
  * target of a For, a type (of a return, a parameter or an assignment). The first errors that fit whole are stored, the other words stay; a list that
  * is too short is no refusal. */
 uint32_t starlark_audit(const uint8_t *table, size_t table_len, const uint8_t *names, size_t names_len, const uint8_t *dialect,
-                        size_t dialect_len, uint32_t *errors, size_t errors_len, uint32_t *out);
+                        size_t dialect_len, uint32_t edition, uint32_t *errors, size_t errors_len, uint32_t *out);
 
-/* The table file of a table, its names and a dialect (nine bytes, or none, which stays none), into `file`: 1 to 5, 7. Accepted: out[0] how
- * many bytes are written, at most STARLARK_FILE_BYTES; bytes past them stay. 7 exactly where `file_len` is less than 512 for block 0, for each
- * 504 name bytes and for each 21 nodes that are begun. What is written reads back as the same table, names and dialect. */
+/* The table file of a table, its names, a dialect (nine bytes, or none, which stays none) and an edition of the type rules (1, 2, or STARLARK_NONE for
+ * a file without an edition byte), into `file`: 1 to 5, 7. Accepted: out[0] how many bytes are written, at most STARLARK_FILE_BYTES; bytes past them
+ * stay. An edition without a dialect is 5, and so is any other number. 7 exactly where `file_len` is less than 512 for block 0, for each 504 name
+ * bytes and for each 21 nodes that are begun. What is written reads back as the same table, names, dialect and edition. */
 uint32_t starlark_write(const uint8_t *table, size_t table_len, const uint8_t *names, size_t names_len, const uint8_t *dialect,
-                        size_t dialect_len, uint8_t *file, size_t file_len, uint32_t *out);
+                        size_t dialect_len, uint32_t edition, uint8_t *file, size_t file_len, uint32_t *out);
 
 /* What can be kept of a damaged table file of `input_len` bytes, as a sound table file in `file`: 90, 91, 7.
  * Accepted: out[0] how many bytes are written, at most STARLARK_FILE_BYTES; bytes past them stay. out[1] the statements and out[2] the nodes that
  * are kept, out[3] the nodes dropped by the header's count, out[4] and out[5] the bytes after the header's last block, low and high word.
  * A file that passes is given back block for block; else the most of the root's first children that stand whole in good blocks and pass are kept,
- * with names and dialect whole. 90 is a bad block 0 or name block; 91 says that the blocks do not pass and no child of the root can be kept; 7 comes
- * exactly where `file_len` is less than what would be written. */
+ * with names, dialect and edition whole. 90 is a bad block 0 (a bad edition too) or name block; 91 says that the blocks do not pass and no child of
+ * the root can be kept; 7 comes exactly where `file_len` is less than what would be written. */
 uint32_t starlark_rescue(const uint8_t *input, size_t input_len, uint8_t *file, size_t file_len, uint32_t *out);
 
 /* What a table file of `file_len` bytes holds: its table at the front of `table`, its names at the front of `names`: 70 to 75, 3 to 5, 7.
  * Accepted: out[0] the nodes, 24 bytes each, out[1] the name bytes, out[2] 1 if there is a dialect, else 0, out[3] to out[5] the dialect's nine
- * bytes, four a word, the low one first, or zeros. Bytes past table and names stay. 7 exactly where `table_len` is less than 24 for each node or
- * `names_len` less than the name bytes; STARLARK_NODES * STARLARK_NODE_BYTES and STARLARK_NAME_BYTES are never too few. A file's counts are
- * judged by 74, so 1 and 2 do not arise. What starlark_write has written gives back the same table, names and dialect. */
+ * bytes, four a word, the low one first, or zeros. out[6] the edition byte as it stands in the file, or STARLARK_NONE: the edition for starlark_write.
+ * out[7] the edition that holds, 1 or 2, and 1 where there is no byte: the edition for starlark_type and starlark_audit. Bytes past table and names
+ * stay. 7 exactly where `table_len` is less than 24 for each node or `names_len` less than the name bytes; STARLARK_NODES * STARLARK_NODE_BYTES and
+ * STARLARK_NAME_BYTES are never too few. A file's counts are judged by 74, so 1 and 2 do not arise. What starlark_write has written gives back the
+ * same table, names, dialect and edition. */
 uint32_t starlark_read(const uint8_t *file, size_t file_len, uint8_t *table, size_t table_len, uint8_t *names, size_t names_len,
                        uint32_t *out);
 

@@ -85,7 +85,7 @@ static inline const char *starlark_number_words(uint32_t number) {
     case STARLARK_NUMBER_NAME_BYTES: return "there are more than 8,064 name bytes";
     case STARLARK_NUMBER_UNSOUND_RECORD: return "a record of the table is unsound";
     case STARLARK_NUMBER_TOO_DEEP: return "a statement or expression is more than 64 deep";
-    case STARLARK_NUMBER_BAD_DIALECT: return "the dialect bytes give no dialect";
+    case STARLARK_NUMBER_BAD_DIALECT: return "the dialect bytes give no dialect, or the edition is neither 1 nor 2, or stands without a dialect";
     case STARLARK_NUMBER_WRONG_NODE: return "the node asked for is beyond the table, or of the wrong kind";
     case STARLARK_NUMBER_SHORT_BUFFER: return "the buffer for modes, shapes, words of a binding, a file, what a file holds, a format text or its parts is too short";
     case STARLARK_NUMBER_SLASH_FIRST: return "`/` is the first parameter";
@@ -111,7 +111,7 @@ static inline const char *starlark_number_words(uint32_t number) {
     case STARLARK_NUMBER_EMPTY_LIST_IN_TYPE: return "an empty list stands in a type";
     case STARLARK_NUMBER_DOT_IN_TYPE: return "a dot in a type stands on something other than a path";
     case STARLARK_NUMBER_EXPECTING_PATH: return "a path is expected before the brackets of a type";
-    case STARLARK_NUMBER_DOT_TYPE_BAN: return "a path in a type ends in `.type`";
+    case STARLARK_NUMBER_DOT_TYPE_BAN: return "a path in a type ends in `.type`, which edition 2 allows";
     case STARLARK_NUMBER_TYPES_DISABLED: return "the dialect has no types";
     case STARLARK_NUMBER_STAR_NOT_PERMITTED: return "the dialect has no `*` in parameter lists";
     case STARLARK_NUMBER_SLASH_NOT_PERMITTED: return "the dialect has no `/` in parameter lists";

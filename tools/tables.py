@@ -9,9 +9,10 @@ Each with --check behind it: only say whether the file is what its text gives (e
 with its line and kind, and nothing is written.
 
 A line of cases is 'label | what is asked | tree'. In cases names, details, positions and source file numbers may be anything: they want tables
-that are not sound. A record has the source file number 1, a root Statements 0; file=N gives one record another.
-Cases of files have, between label and tree: bits= the dialect's numbers, names= so many name bytes, byte=P:V byte P becomes V and its
-block's sum is made anew, damage=P:V the same without a new sum, more= so many zeros after the file, cut= so many bytes of it.
+that are not sound. A record has the source file number 1, a root Statements 0; file=N gives one record another. Types are read by edition 1, or
+by edition=N.
+Cases of files have, between label and tree: bits= the dialect's numbers, edition= the edition's byte, names= so many name bytes, byte=P:V byte P
+becomes V and its block's sum is made anew, damage=P:V the same without a new sum, more= so many zeros after the file, cut= so many bytes of it.
 """
 import os
 import pathlib
@@ -54,7 +55,7 @@ def request(line, number):
     if job in ("format", "parts"):
         return format_case(job, label, words, tree[0] if tree else "")
     table, names = table_of(trees(tree[0] if tree else "", number))
-    dialect, wanted, node, room, owner = b"", 0, 0, 0, 0
+    dialect, wanted, node, room, owner = b"", 0, 0, 0, int(job in ("type", "audit"))
     for word in words:
         key, mark, value = word.partition("=")
         if key == "names":
@@ -65,7 +66,7 @@ def request(line, number):
             dialect = digits(value)
         elif key == "room":
             room = count(value)
-        elif key == "def":
+        elif key == "def" or key == "edition" and job in ("type", "audit"):
             owner = count(value)
         elif word.isdigit():
             node, = numbers(word, None, [2 ** 32 - 1])
@@ -117,9 +118,10 @@ def file_case(line, number):
     label, done, tree = parts
     said = [word.partition("=")[::2] for word in done.split()]
     for key, _ in said:
-        demand(key in ("names", "bits", "byte", "damage", "more", "cut"), f"there is no {key} to be done to a file")
+        demand(key in ("names", "bits", "edition", "byte", "damage", "more", "cut"), f"there is no {key} to be done to a file")
     (table, names), once = table_of(trees(tree, number)), dict(said)
-    made = bytearray(file_of(table, names.ljust(count(once.get("names", "0")), b"a"), digits(once.get("bits", ""))))
+    edition = numbers(once["edition"], None, [255])[0] if "edition" in once else None
+    made = bytearray(file_of(table, names.ljust(count(once.get("names", "0")), b"a"), digits(once.get("bits", "")), edition))
     for key, value in said:
         if key in ("byte", "damage"):
             at, byte = numbers(value, ":", [len(made) - 1, 255])

@@ -221,7 +221,7 @@ pub fn audit(input: &'static Input, dialect: &'static [u8]) -> Routes {
     let (table, names) = (&input.table, &input.names);
     let mut port = Port::new();
     let number = port.audit(table, names, dialect);
-    let answer = jobs::audit(table, names, dialect);
+    let answer = jobs::audit(table, names, dialect, 1);
     must_agree(&port, number, &answer);
     assert_eq!(port.errors[..AUDIT_WORDS * answer.audited.len()], answer.audited.concat()[..]);
     let judged = run::Audit::of(checked(input)).judged(&dialects::from_bytes(dialect)).expect("a tree");
@@ -254,7 +254,7 @@ pub fn jobs_at_once(input: &Input) -> usize {
 /// A file to its errors, and the parts of the Rust route.
 pub fn file(input: &'static Input, dialect: &'static [u8]) -> Routes {
     let contents =
-        Contents { table: input.table.clone(), names: input.names.clone(), dialect: dialect.to_vec() };
+        Contents { table: input.table.clone(), names: input.names.clone(), dialect: dialect.to_vec(), edition: None };
     let bytes: &'static [u8] = Vec::leak(file::write(&contents));
     let table = checked(input);
     let mut port = Port::new();
@@ -278,7 +278,7 @@ pub fn file(input: &'static Input, dialect: &'static [u8]) -> Routes {
 pub fn write(input: &'static Input, dialect: &'static [u8]) -> Routes {
     let mut port = Port::new();
     let number = port.write(&input.table, &input.names, dialect);
-    let answer = jobs::write(&input.table, &input.names, dialect, port.file.len());
+    let answer = jobs::write(&input.table, &input.names, dialect, u32::MAX, port.file.len());
     must_agree(&port, number, &answer);
     let size = answer.file.len();
     assert_eq!(port.file[..size], answer.file[..], "port and oracle agree on what is measured");
@@ -301,7 +301,7 @@ pub fn write(input: &'static Input, dialect: &'static [u8]) -> Routes {
 /// A rescue, and the port's reading of the whole file that was damaged, both from the file to an answer.
 pub fn rescue(input: &'static Input, damage: fn(&mut Vec<u8>)) -> Routes {
     let dialect = model::dialect::STANDARD.to_vec();
-    let contents = Contents { table: input.table.clone(), names: input.names.clone(), dialect };
+    let contents = Contents { table: input.table.clone(), names: input.names.clone(), dialect, edition: None };
     let whole: &'static [u8] = Vec::leak(file::write(&contents));
     let mut damaged = whole.to_vec();
     damage(&mut damaged);

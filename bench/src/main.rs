@@ -163,7 +163,7 @@ fn audit_cases() -> Vec<Case> {
     for (dialect, bytes) in &DIALECTS {
         for nodes in MODULES {
             let input = scripts::module(nodes);
-            let errors = model::jobs::audit(&input.table, &input.names, bytes).audited.len();
+            let errors = model::jobs::audit(&input.table, &input.names, bytes, 1).audited.len();
             let jobs = cases::jobs_at_once(&input);
             let name = format!("audit, {nodes} nodes, {dialect}, {jobs} jobs, {errors} errors");
             all.push(case(name, Kind::Audit, move || cases::audit(kept(scripts::module(nodes)), bytes)));

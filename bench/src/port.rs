@@ -21,6 +21,10 @@ extern "C" {
     fn bench_file(file: *const u8, file_len: usize, errors: *mut u32, errors_len: usize, out: *mut Words) -> u32;
 }
 
+/// The edition of the type rules that types are read by, and the word for a file without one.
+const EDITION: u32 = 1;
+const NO_EDITION: u32 = u32::MAX;
+
 /// Memory for any job: no job needs more.
 pub struct Port {
     pub out: Words,
@@ -101,6 +105,7 @@ impl Port {
                 names.len(),
                 dialect.as_ptr(),
                 dialect.len(),
+                EDITION,
                 node,
                 shapes,
                 shapes_len,
@@ -138,6 +143,7 @@ impl Port {
                 names.len(),
                 dialect.as_ptr(),
                 dialect.len(),
+                EDITION,
                 errors,
                 errors_len,
                 &mut self.out,
@@ -156,6 +162,7 @@ impl Port {
                 names.len(),
                 dialect.as_ptr(),
                 dialect.len(),
+                NO_EDITION,
                 file,
                 file_len,
                 &mut self.out,

@@ -140,11 +140,11 @@ static void assignment(const char *words, size_t at) {
 }
 
 /* Shapes in a buffer of `length` bytes, which hold 9. */
-static void type(const char *words, const uint8_t *dialect, size_t dialect_length, size_t at, size_t length) {
+static void type(const char *words, const uint8_t *dialect, size_t dialect_length, uint32_t edition, size_t at, size_t length) {
     uint32_t out[STARLARK_WORDS];
     uint8_t shapes[8];
     memset(shapes, 9, sizeof shapes);
-    if (accepted(words, starlark_type(TABLE, dialect, dialect_length, at, shapes, length, out), out)) printf("a type");
+    if (accepted(words, starlark_type(TABLE, dialect, dialect_length, edition, at, shapes, length, out), out)) printf("a type");
     bytes("shapes", shapes, length);
 }
 
@@ -171,11 +171,11 @@ static void in_words(const uint8_t *dialect, size_t dialect_length) {
 }
 
 /* The audit in a list of `length` words, which hold 9. */
-static void audit(const char *words, const uint8_t *dialect, size_t dialect_length, size_t length) {
+static void audit(const char *words, const uint8_t *dialect, size_t dialect_length, uint32_t edition, size_t length) {
     uint32_t out[STARLARK_WORDS];
     uint32_t errors[10 * STARLARK_AUDIT_WORDS];
     for (size_t i = 0; i < length; i++) errors[i] = 9;
-    if (accepted(words, starlark_audit(TABLE, dialect, dialect_length, errors, length, out), out)) printf("%u errors", out[0]);
+    if (accepted(words, starlark_audit(TABLE, dialect, dialect_length, edition, errors, length, out), out)) printf("%u errors", out[0]);
     printf(", list");
     for (size_t i = 0; i < length; i++) printf(" %u", errors[i]);
     printf("\n");
@@ -183,12 +183,12 @@ static void audit(const char *words, const uint8_t *dialect, size_t dialect_leng
 
 /* The file in a buffer of `length` bytes, which hold 9: its first bytes, and how many are no longer so. An accepted one is put under the name
  * `path`, where there is one. */
-static void write_file(const char *words, const uint8_t *dialect, size_t dialect_length, size_t length, const char *path) {
+static void write_file(const char *words, const uint8_t *dialect, size_t dialect_length, uint32_t edition, size_t length, const char *path) {
     uint32_t out[STARLARK_WORDS];
     static uint8_t file[STARLARK_FILE_BYTES];
     size_t changed = STARLARK_FILE_BYTES;
     memset(file, 9, sizeof file);
-    if (accepted(words, starlark_write(TABLE, dialect, dialect_length, file, length, out), out)) {
+    if (accepted(words, starlark_write(TABLE, dialect, dialect_length, edition, file, length, out), out)) {
         printf("%u bytes", out[0]);
         FILE *kept = path ? fopen(path, "wb") : NULL;
         if (kept && (fwrite(file, 1, out[0], kept) != out[0] || fclose(kept) != 0)) printf(", not kept");
@@ -206,7 +206,7 @@ static void rescue(const char *words, size_t input_length, size_t damaged, size_
     size_t changed = STARLARK_FILE_BYTES;
     memset(input, 0, sizeof input);
     memset(file, 9, sizeof file);
-    starlark_write(TABLE, extended, 9, input, sizeof input, out);
+    starlark_write(TABLE, extended, 9, STARLARK_NONE, input, sizeof input, out);
     if (damaged < sizeof input) input[damaged] ^= 1;
     if (accepted(words, starlark_rescue(input, input_length, file, length, out), out)) {
         printf("%u bytes, %u statements, %u nodes, %u dropped, %u and %u after", out[0], out[1], out[2], out[3], out[4], out[5]);
@@ -216,25 +216,28 @@ static void rescue(const char *words, size_t input_length, size_t damaged, size_
 }
 
 /* The script's file with the byte at `damaged` changed, where there is one; its length. */
-static size_t script_file(uint8_t *file, const uint8_t *dialect, size_t dialect_length, size_t damaged) {
+static size_t script_file(uint8_t *file, const uint8_t *dialect, size_t dialect_length, uint32_t edition, size_t damaged) {
     uint32_t out[STARLARK_WORDS];
-    starlark_write(TABLE, dialect, dialect_length, file, STARLARK_FILE_BYTES, out);
+    starlark_write(TABLE, dialect, dialect_length, edition, file, STARLARK_FILE_BYTES, out);
     if (damaged < STARLARK_FILE_BYTES) file[damaged] ^= 1;
     return out[0];
 }
 
 /* What the script's file holds, in buffers of `table_length` and `names_length` bytes, which hold 9: whether it is the script's table and names,
  * and how many bytes are no longer 9. */
-static void read_file(const char *words, const uint8_t *dialect, size_t dialect_length, size_t damaged, size_t table_length, size_t names_length) {
+static void read_file(const char *words, const uint8_t *dialect, size_t dialect_length, uint32_t edition, size_t damaged, size_t table_length,
+                      size_t names_length) {
     uint32_t out[STARLARK_WORDS];
     static uint8_t file[STARLARK_FILE_BYTES], read[STARLARK_NODES * STARLARK_NODE_BYTES], read_names[STARLARK_NAME_BYTES];
-    size_t length = script_file(file, dialect, dialect_length, damaged), changed = sizeof read, named = sizeof read_names;
+    size_t length = script_file(file, dialect, dialect_length, edition, damaged), changed = sizeof read, named = sizeof read_names;
     memset(read, 9, sizeof read);
     memset(read_names, 9, sizeof read_names);
     if (accepted(words, starlark_read(file, length, read, table_length, read_names, names_length, out), out)) {
         int same = memcmp(read, table, STARLARK_NODE_BYTES * nodes) == 0 && memcmp(read_names, names, strlen(names)) == 0;
         printf("%u nodes, %u name bytes, %s, dialect %u", out[0], out[1], same ? "the same" : "others", out[2]);
         for (int i = 0; i < 9; i++) printf(" %u", out[3 + i / 4] >> 8 * (i % 4) & 255);
+        if (out[6] != STARLARK_NONE) printf(", edition byte %u", out[6]);
+        printf(", edition %u holds", out[7]);
     }
     while (changed > 0 && read[changed - 1] == 9) changed--;
     while (named > 0 && read_names[named - 1] == 9) named--;
@@ -246,7 +249,7 @@ static void check_file(const char *words, const uint8_t *dialect, size_t dialect
     uint32_t out[STARLARK_WORDS];
     uint32_t errors[8 * STARLARK_ERROR_WORDS];
     static uint8_t file[STARLARK_FILE_BYTES];
-    size_t bytes_there = script_file(file, dialect, dialect_length, damaged);
+    size_t bytes_there = script_file(file, dialect, dialect_length, STARLARK_NONE, damaged);
     for (size_t i = 0; i < length; i++) errors[i] = 9;
     if (accepted(words, starlark_check_file(file, bytes_there, errors, length, out), out)) printf("%u errors, %u nodes", out[0], out[1]);
     printf(", list");
@@ -373,27 +376,35 @@ int main(int count, char **words) {
     assignment("a, b.c = 1", assign);
     assignment("a, 1 += 1", modify);
     assignment("no assignment", 0);
-    type("x[int]", extended, 9, good_type, 4);
-    type("x[int] with no dialect, so in Extended", extended, 0, good_type, 4);
-    type("x[int] in the Standard dialect", standard, 9, good_type, 4);
-    type("three bytes for three nodes", extended, 9, good_type, 3);
-    type("two bytes for three nodes", extended, 9, good_type, 2);
-    type("x.type", extended, 9, bad_type, 4);
-    type("eight bytes of dialect", extended, 8, good_type, 4);
+    type("x[int]", extended, 9, STARLARK_EDITION_1, good_type, 4);
+    type("x[int] with no dialect, so in Extended", extended, 0, STARLARK_EDITION_1, good_type, 4);
+    type("x[int] in the Standard dialect", standard, 9, STARLARK_EDITION_1, good_type, 4);
+    type("three bytes for three nodes", extended, 9, STARLARK_EDITION_1, good_type, 3);
+    type("two bytes for three nodes", extended, 9, STARLARK_EDITION_1, good_type, 2);
+    type("x.type", extended, 9, STARLARK_EDITION_1, bad_type, 4);
+    type("x.type in edition 2", extended, 9, STARLARK_EDITION_2, bad_type, 4);
+    type("x[int] in edition 0", extended, 9, 0, good_type, 4);
+    type("x[int] with the word for no edition", extended, 9, STARLARK_NONE, good_type, 4);
+    type("eight bytes of dialect", extended, 8, STARLARK_EDITION_1, good_type, 4);
     module("the module in the Standard dialect", standard, 9, 21);
     module("a list of seven words", standard, 9, 7);
     module("in the Extended dialect", extended, 9, 21);
     module("with no dialect, so in Extended", extended, 0, 21);
     module("eight bytes of dialect", extended, 8, 4);
     in_words(extended, 9);
-    audit("the audit in the Extended dialect", extended, 9, 48);
-    audit("a list of nine words", extended, 9, 9);
-    audit("eight bytes of dialect", extended, 8, 4);
-    write_file("the file in the Extended dialect", extended, 9, STARLARK_FILE_BYTES, count > 1 ? words[1] : NULL);
-    write_file("with no dialect", extended, 0, STARLARK_FILE_BYTES, NULL);
-    write_file("2,560 bytes for five blocks", extended, 0, 2560, NULL);
-    write_file("2,559 bytes for five blocks", extended, 0, 2559, NULL);
-    write_file("eight bytes of dialect", extended, 8, STARLARK_FILE_BYTES, NULL);
+    audit("the audit in the Extended dialect", extended, 9, STARLARK_EDITION_1, 48);
+    audit("a list of nine words", extended, 9, STARLARK_EDITION_1, 9);
+    audit("eight bytes of dialect", extended, 8, STARLARK_EDITION_1, 4);
+    audit("in edition 2", extended, 9, STARLARK_EDITION_2, 9);
+    audit("with the word for no edition", extended, 9, STARLARK_NONE, 4);
+    write_file("the file in the Extended dialect", extended, 9, STARLARK_NONE, STARLARK_FILE_BYTES, count > 1 ? words[1] : NULL);
+    write_file("with no dialect", extended, 0, STARLARK_NONE, STARLARK_FILE_BYTES, NULL);
+    write_file("2,560 bytes for five blocks", extended, 0, STARLARK_NONE, 2560, NULL);
+    write_file("2,559 bytes for five blocks", extended, 0, STARLARK_NONE, 2559, NULL);
+    write_file("eight bytes of dialect", extended, 8, STARLARK_NONE, STARLARK_FILE_BYTES, NULL);
+    write_file("in edition 2", extended, 9, STARLARK_EDITION_2, STARLARK_FILE_BYTES, NULL);
+    write_file("in edition 3", extended, 9, 3, STARLARK_FILE_BYTES, NULL);
+    write_file("in edition 1 with no dialect", extended, 0, STARLARK_EDITION_1, STARLARK_FILE_BYTES, NULL);
     size_t none = STARLARK_FILE_BYTES;
     rescue("the file, rescued", 2560, none, STARLARK_FILE_BYTES);
     rescue("with seven bytes behind it", 2567, none, STARLARK_FILE_BYTES);
@@ -403,11 +414,13 @@ int main(int count, char **words) {
     rescue("1,535 bytes for three blocks", 2560, 1600, 1535);
     rescue("with a changed byte in its first node block", 2560, 1100, STARLARK_FILE_BYTES);
     rescue("with a changed byte in its names", 2560, 600, STARLARK_FILE_BYTES);
-    read_file("the file in the Extended dialect, read", extended, 9, none, STARLARK_NODES * STARLARK_NODE_BYTES, STARLARK_NAME_BYTES);
-    read_file("with no dialect, 1,512 bytes for 63 nodes", extended, 0, none, 1512, 13);
-    read_file("1,511 bytes", extended, 0, none, 1511, 13);
-    read_file("12 bytes for 13 of names", extended, 0, none, 1512, 12);
-    read_file("with a changed byte", extended, 9, 1600, 1512, 13);
+    read_file("the file in the Extended dialect, read", extended, 9, STARLARK_NONE, none, STARLARK_NODES * STARLARK_NODE_BYTES, STARLARK_NAME_BYTES);
+    read_file("with no dialect, 1,512 bytes for 63 nodes", extended, 0, STARLARK_NONE, none, 1512, 13);
+    read_file("1,511 bytes", extended, 0, STARLARK_NONE, none, 1511, 13);
+    read_file("12 bytes for 13 of names", extended, 0, STARLARK_NONE, none, 1512, 12);
+    read_file("in edition 1", extended, 9, STARLARK_EDITION_1, none, 1512, 13);
+    read_file("in edition 2", extended, 9, STARLARK_EDITION_2, none, 1512, 13);
+    read_file("with a changed byte", extended, 9, STARLARK_NONE, 1600, 1512, 13);
     check_file("the file in the Extended dialect, checked", extended, 9, none, 26);
     check_file("with no dialect, a list of seven words", extended, 0, none, 7);
     check_file("with a changed byte", extended, 9, 600, 4);

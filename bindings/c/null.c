@@ -46,10 +46,10 @@ static uint32_t run_call(const struct part *part, uint32_t *out) { return starla
 static uint32_t run_bind(const struct part *part, uint32_t *out) { return starlark_bind(PART(0), PART(1), CALL, DEF, PART(2), out); }
 static uint32_t run_target(const struct part *part, uint32_t *out) { return starlark_target(PART(0), PART(1), TARGET, out); }
 static uint32_t run_assignment(const struct part *part, uint32_t *out) { return starlark_assignment(PART(0), PART(1), ASSIGN, out); }
-static uint32_t run_type(const struct part *part, uint32_t *out) { return starlark_type(PART(0), PART(1), PART(2), TARGET, PART(3), out); }
+static uint32_t run_type(const struct part *part, uint32_t *out) { return starlark_type(PART(0), PART(1), PART(2), STARLARK_EDITION_1, TARGET, PART(3), out); }
 static uint32_t run_module(const struct part *part, uint32_t *out) { return starlark_module(PART(0), PART(1), PART(2), PART(3), out); }
-static uint32_t run_audit(const struct part *part, uint32_t *out) { return starlark_audit(PART(0), PART(1), PART(2), PART(3), out); }
-static uint32_t run_write(const struct part *part, uint32_t *out) { return starlark_write(PART(0), PART(1), PART(2), PART(3), out); }
+static uint32_t run_audit(const struct part *part, uint32_t *out) { return starlark_audit(PART(0), PART(1), PART(2), STARLARK_EDITION_1, PART(3), out); }
+static uint32_t run_write(const struct part *part, uint32_t *out) { return starlark_write(PART(0), PART(1), PART(2), STARLARK_NONE, PART(3), out); }
 static uint32_t run_rescue(const struct part *part, uint32_t *out) { return starlark_rescue(PART(0), PART(1), out); }
 static uint32_t run_read(const struct part *part, uint32_t *out) { return starlark_read(PART(0), PART(1), PART(2), out); }
 static uint32_t run_check_file(const struct part *part, uint32_t *out) { return starlark_check_file(PART(0), PART(1), out); }
@@ -110,7 +110,7 @@ int main(void) {
     void *forbidden = mmap(0, PAGE, PROT_NONE, MAP_PRIVATE | MAP_ANONYMOUS, -1, 0);
     int runs = 0, accepted = 0, faults = 0;
     make_table();
-    if (forbidden == MAP_FAILED || starlark_write(table, sizeof table, names, 1, dialect, 9, file, sizeof file, out) != STARLARK_ACCEPTED) {
+    if (forbidden == MAP_FAILED || starlark_write(table, sizeof table, names, 1, dialect, 9, STARLARK_NONE, file, sizeof file, out) != STARLARK_ACCEPTED) {
         printf("null: the table is not written\n");
         return 1;
     }

@@ -80,7 +80,7 @@ static void run_call(void) { number = starlark_call(table, STARLARK_NODE_BYTES *
 static void run_target(void) { number = starlark_target(table, STARLARK_NODE_BYTES * nodes, names, sizeof names, job_node, out); }
 static void run_assignment(void) { number = starlark_assignment(table, STARLARK_NODE_BYTES * nodes, names, sizeof names, job_node, out); }
 static void run_type(void) {
-    number = starlark_type(table, STARLARK_NODE_BYTES * nodes, names, sizeof names, all_on, 9, job_node, buffer, sizeof buffer, out);
+    number = starlark_type(table, STARLARK_NODE_BYTES * nodes, names, sizeof names, all_on, 9, STARLARK_EDITION_1, job_node, buffer, sizeof buffer, out);
 }
 static void run_module(void) {
     number = starlark_module(table, STARLARK_NODE_BYTES * nodes, names, sizeof names, all_on, 9, errors, STARLARK_ERROR_WORDS * STARLARK_ERRORS, out);
@@ -90,7 +90,7 @@ static void run_refusing(void) {
 }
 
 static void run_write(void) {
-    number = starlark_write(table, STARLARK_NODE_BYTES * nodes, names, sizeof names, all_on, 9, file, sizeof file, out);
+    number = starlark_write(table, STARLARK_NODE_BYTES * nodes, names, sizeof names, all_on, 9, STARLARK_EDITION_2, file, sizeof file, out);
 }
 
 static void run_bind(void) {
@@ -103,17 +103,17 @@ static size_t damaged_bytes;
 static void damage(void) {
     uint32_t words[STARLARK_WORDS];
     damaged_bytes = 0;
-    if (starlark_write(table, STARLARK_NODE_BYTES * nodes, names, sizeof names, all_on, 9, damaged, sizeof damaged, words) == 0) {
+    if (starlark_write(table, STARLARK_NODE_BYTES * nodes, names, sizeof names, all_on, 9, STARLARK_EDITION_2, damaged, sizeof damaged, words) == 0) {
         damaged_bytes = words[0] - 1;
     }
 }
 static void run_rescue(void) { number = starlark_rescue(damaged, damaged_bytes, file, sizeof file, out); }
 static void run_rescue_whole(void) { number = starlark_rescue(damaged, damaged_bytes + 1, file, sizeof file, out); }
 static void run_audit(void) {
-    number = starlark_audit(table, STARLARK_NODE_BYTES * nodes, names, sizeof names, all_on, 9, errors, STARLARK_AUDIT_WORDS * STARLARK_AUDIT_ERRORS, out);
+    number = starlark_audit(table, STARLARK_NODE_BYTES * nodes, names, sizeof names, all_on, 9, STARLARK_EDITION_1, errors, STARLARK_AUDIT_WORDS * STARLARK_AUDIT_ERRORS, out);
 }
 static void run_audit_off(void) {
-    number = starlark_audit(table, STARLARK_NODE_BYTES * nodes, names, sizeof names, all_off, 9, errors, STARLARK_AUDIT_WORDS * STARLARK_AUDIT_ERRORS, out);
+    number = starlark_audit(table, STARLARK_NODE_BYTES * nodes, names, sizeof names, all_off, 9, STARLARK_EDITION_1, errors, STARLARK_AUDIT_WORDS * STARLARK_AUDIT_ERRORS, out);
 }
 /* The whole file, into buffers of their own. */
 static uint8_t read_table[STARLARK_NODES * STARLARK_NODE_BYTES], read_names[STARLARK_NAME_BYTES];

@@ -36,9 +36,9 @@ uint32_t starlark_params(TABLE, size_t node, uint8_t *modes, size_t modes_len, u
     return inner_params(SLICE(t, tl), SLICE(n, nl), node, SLICE(modes, modes_len), out);
 }
 
-uint32_t inner_type(struct slice *, struct slice *, struct slice *, size_t, struct slice *, uint32_t *);
-uint32_t starlark_type(TABLE, const uint8_t *d, size_t dl, size_t node, uint8_t *shapes, size_t shapes_len, uint32_t *out) {
-    return inner_type(SLICE(t, tl), SLICE(n, nl), SLICE(d, dl), node, SLICE(shapes, shapes_len), out);
+uint32_t inner_type(struct slice *, struct slice *, struct slice *, uint32_t, size_t, struct slice *, uint32_t *);
+uint32_t starlark_type(TABLE, const uint8_t *d, size_t dl, uint32_t edition, size_t node, uint8_t *shapes, size_t shapes_len, uint32_t *out) {
+    return inner_type(SLICE(t, tl), SLICE(n, nl), SLICE(d, dl), edition, node, SLICE(shapes, shapes_len), out);
 }
 
 uint32_t inner_module(struct slice *, struct slice *, struct slice *, struct slice *, uint32_t *);
@@ -51,9 +51,9 @@ uint32_t starlark_bind(TABLE, size_t call, size_t def, uint32_t *list, size_t li
     return inner_bind(SLICE(t, tl), SLICE(n, nl), call, def, SLICE(list, list_len), out);
 }
 
-uint32_t inner_write(struct slice *, struct slice *, struct slice *, struct slice *, uint32_t *);
-uint32_t starlark_write(TABLE, const uint8_t *d, size_t dl, uint8_t *file, size_t file_len, uint32_t *out) {
-    return inner_write(SLICE(t, tl), SLICE(n, nl), SLICE(d, dl), SLICE(file, file_len), out);
+uint32_t inner_write(struct slice *, struct slice *, struct slice *, uint32_t, struct slice *, uint32_t *);
+uint32_t starlark_write(TABLE, const uint8_t *d, size_t dl, uint32_t edition, uint8_t *file, size_t file_len, uint32_t *out) {
+    return inner_write(SLICE(t, tl), SLICE(n, nl), SLICE(d, dl), edition, SLICE(file, file_len), out);
 }
 
 uint32_t inner_rescue(struct slice *, struct slice *, uint32_t *);
@@ -61,9 +61,9 @@ uint32_t starlark_rescue(const uint8_t *i, size_t il, uint8_t *file, size_t file
     return inner_rescue(SLICE(i, il), SLICE(file, file_len), out);
 }
 
-uint32_t inner_audit(struct slice *, struct slice *, struct slice *, struct slice *, uint32_t *);
-uint32_t starlark_audit(TABLE, const uint8_t *d, size_t dl, uint32_t *errors, size_t errors_len, uint32_t *out) {
-    return inner_audit(SLICE(t, tl), SLICE(n, nl), SLICE(d, dl), SLICE(errors, errors_len), out);
+uint32_t inner_audit(struct slice *, struct slice *, struct slice *, uint32_t, struct slice *, uint32_t *);
+uint32_t starlark_audit(TABLE, const uint8_t *d, size_t dl, uint32_t edition, uint32_t *errors, size_t errors_len, uint32_t *out) {
+    return inner_audit(SLICE(t, tl), SLICE(n, nl), SLICE(d, dl), edition, SLICE(errors, errors_len), out);
 }
 
 uint32_t inner_read(struct slice *, struct slice *, struct slice *, uint32_t *);

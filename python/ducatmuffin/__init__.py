@@ -6,4 +6,4 @@ export    a table of a Starlark script, or of several (this step is not proved)
 numbers   numbers, kinds, limits, dialects, modes and shapes
 build     how the library is proved and compiled
 """
-__version__ = "0.3.0"
+__version__ = "0.4.0"

@@ -91,7 +91,7 @@ class Comparer(check.Checker):
         after = self.in_pieces(found, self.library.module, self.against)
         if type(after) is Refusal:
             return
-        audit = self.in_pieces(found, self.library.audit, self.against)
+        audit = self.audit(found, self.against)
         found.nodes, found.move = check.nodes_of(found), Move(row(own), row(self.against))
         if found.move.closes:
             found.verdict = check.NO_OPENING
@@ -108,7 +108,9 @@ class Comparer(check.Checker):
         if found.verdict in (check.UNREADABLE, check.NO_TABLE, check.SYNTAX, check.REFUSED):
             return super().lines(found)
         move, script = found.move, found.one.script
-        said = f", from {dialects.told(found.from_, script)} to {dialects.name_of(row(self.against))}" if self.options.explain else ""
+        said = ""
+        if self.options.explain:
+            said = f", from {dialects.told(found.from_, script)} to {dialects.name_of(row(self.against))}{dialects.edition_told(found.edition)}"
         lines = [check.counted(found) + said]
         if found.verdict == check.NO_OPENING:
             return joined([*lines, f"no opening, closes {', '.join(move.closes)}"])

@@ -287,6 +287,7 @@ class Run:
             self.refused(found, answer)
             return False
         found.table, found.names, found.dialect, found.scripts = answer.table, answer.names, answer.dialect, self.options.scripts
+        found.edition = answer.edition
         return True
 
     def parsed(self, found):
@@ -369,7 +370,7 @@ class Run:
 
     def told(self, found, **more):
         table = {"table": MADE} if found.one.script else {}
-        self.add(found, {**start(found), **evidence_of(found), **table, "dialect": dialects.in_json(found.dialect), **more})
+        self.add(found, {**start(found), **evidence_of(found), **table, **dialects.both_json(found.dialect, found.edition), **more})
 
     def pair(self, found, tree):
         """A call and a def by their nodes."""

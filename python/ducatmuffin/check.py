@@ -23,10 +23,11 @@ class Options:
     """How a run checks and prints. `json` is whether an input's JSON is made, for whatever `format` but text; `paint` colours the text."""
 
     def __init__(self, module=False, explain=False, quiet=False, bad_only=False, json=False, many=False, dialect=None, scripts=None, format=None,
-                 paint=PLAIN):
+                 paint=PLAIN, edition=None):
         self.module, self.explain, self.quiet, self.bad_only = module, explain, quiet, bad_only
         self.format = format or ("json" if json else "text")
         self.json, self.many, self.dialect, self.scripts, self.paint = self.format != "text", many, dialect, scripts, paint
+        self.edition = edition  # of scripts; None where none is given, and then edition 1 holds
         self.by_books = False  # the dialect is the books', also of table files
 
 
@@ -55,6 +56,7 @@ class Found:
         self.one, self.verdict, self.nodes, self.errors, self.total, self.pieces = one, ACCEPTED, None, (), 0, ()
         self.parts = [Part(file, script) for file, script in inputs.scripts_of(one)] if one.script else []
         self.refusal = self.why = self.message = self.data = self.dialect = self.table = self.names = self.scripts = self.statements = None
+        self.edition, self.effective_edition = None, dialects.EDITION  # what the file has or is given for a script, and what holds
 
     def hold(self, table, names, targets=(), fstrings=()):
         """One table, and what a script has besides: the targets of comprehensions and the f-strings, as export.Exported has them."""
@@ -175,6 +177,8 @@ class Checker:
 
     def check_scripts(self, found):
         found.dialect = self.options.dialect
+        if self.options.edition is not None:
+            found.edition = found.effective_edition = self.options.edition
         if read_parts(found) and parsed(found) and (in_one_table(found) or in_tables(found)):
             self.judge(found)
 
@@ -189,7 +193,7 @@ class Checker:
             self.refused(found, answer)
             return
         found.hold(answer.table, answer.names)
-        found.dialect = answer.dialect
+        found.dialect, found.edition, found.effective_edition = answer.dialect, answer.edition, answer.effective_edition
         if self.options.by_books and not self.of_the_books(found):
             return
         self.judge(found)
@@ -204,8 +208,7 @@ class Checker:
         return True
 
     def judge(self, found):
-        job = self.library.module if self.options.module else self.library.audit
-        answer = self.in_pieces(found, job, found.dialect)
+        answer = self.in_pieces(found, self.library.module, found.dialect) if self.options.module else self.audit(found, found.dialect)
         if type(answer) is Refusal:
             return
         found.nodes, found.total, found.errors = nodes_of(found), answer.total, answer.errors
@@ -215,11 +218,15 @@ class Checker:
             found.errors = sorted([*found.errors, *more], key=order)
         found.verdict = ERRORS if found.total else ACCEPTED
 
-    def in_pieces(self, found, job, dialect):
+    def audit(self, found, dialect):
+        """The errors of every job in a dialect, with types read by the input's edition."""
+        return self.in_pieces(found, self.library.audit, dialect, found.effective_edition)
+
+    def in_pieces(self, found, job, dialect, *edition):
         """The errors of a job in all tables of an input, or its refusal of one, which is noted."""
         total, errors = 0, []
         for piece in found.pieces:
-            answer = job(piece.table, piece.names, dialect or b"")
+            answer = job(piece.table, piece.names, dialect or b"", *edition)
             if type(answer) is Refusal:
                 found.table, found.names = piece[:2]
                 self.refused(found, answer)
@@ -249,7 +256,7 @@ class Checker:
         if found.table is None:
             found.why = reasons.why_file(self.library, found.data, refusal, len(found.data) < inputs.TABLE_MOST)
         else:
-            found.why = reasons.why_table(found.table, found.names, found.dialect, refusal)
+            found.why = reasons.why_table(found.table, found.names, found.dialect, refusal, found.edition)
 
     def earlier(self, found, error):
         """The span of the first parameter or argument of the name that stands twice, and its node."""
@@ -319,7 +326,7 @@ class Checker:
                 return encoded(paint(f"refused {found.refusal.number}") + "\n")
             hint = hint_of(found)
             return encoded(paint(self.refusal(found)) + "\n" + (f"hint: {hint}\n" if hint else ""))
-        lines = [counted(found) + (f", dialect {dialects.told(found.dialect, found.one.script)}" if explain else "")]
+        lines = [counted(found) + (f", dialect {dialects.told(found.dialect, found.one.script)}{dialects.edition_told(found.edition)}" if explain else "")]
         for error in found.errors:
             lines += self.error(found, error)
         covered = f": {MODULE if self.options.module else ALL}" if explain and not found.total else ""
@@ -362,7 +369,7 @@ class Checker:
             return {**entry, "errors": syntax_errors(found)}
         if one.script:
             entry["table"] = MADE
-        entry["dialect"] = dialects.in_json(found.dialect) if found.table is not None else None
+        entry.update(dialects.both_json(found.dialect, found.edition) if found.table is not None else {"dialect": None, "edition": None})
         if found.verdict == REFUSED:
             hint = hint_of(found)
             entry["refused"] = {"number": found.refusal.number, "words": found.refusal.words, **found.why.in_json(),

@@ -15,7 +15,7 @@ Checks Starlark scripts and their node tables with a proved library.
   ducat check PATH...                          check table files, scripts and folders
   ducat bind FILE...                           which argument of a call reaches which parameter of a def
   ducat rescue IN -o OUT                       keep what can be kept of a damaged table file
-  ducat write TABLE NAMES [--dialect D] -o OUT
+  ducat write TABLE NAMES [--dialect D [--edition N]] -o OUT
                                                a table file from raw bytes
   ducat table INPUT... -o OUT                  a table file from scripts, or from the text form of a table
   ducat table SCRIPT... --compare FILE         whether a table file is the table of scripts
@@ -41,7 +41,8 @@ folders are skipped.
 
 Every job is run on every node that it fits, so `errors 0` means that the whole checker accepts: parameter
 lists (10 to 19), call arguments (20 to 24), targets and assignments (30 to 33), types (40 to 45), and the
-module pass (50 to 61). Not covered: whether a name is defined, what a value is, which def a call reaches (see
+module pass (50 to 61). Types are read by the edition of a table file, 1 where it has none, or by --edition
+for scripts; edition 2 does not give 44. Not covered: whether a name is defined, what a value is, which def a call reaches (see
 `ducat bind`), what load names, and whether the dialect has f-strings; in a table file also the targets of
 comprehensions, which a table does not mark. Nothing can be switched off: there is no option and no comment
 that leaves out a rule.
@@ -139,8 +140,9 @@ With --compare FILE nothing is written. This prints
   differs, node N: ...            the first record that differs, and the fields in which it does
   differs, nodes N and M          one of them has more nodes
   differs, dialect D and E        all records are equal
+  differs, edition N and M        all records and the dialect are equal
 Equal names may have their bytes at other places in FILE. The dialect is compared where --dialect or a
-configuration gives one.
+configuration gives one, the edition where --edition does.
 
 Exit status: 0 OUT is written, or FILE is the same; 1 a script is not Starlark, or FILE differs; 2 an INPUT or
 FILE is refused or cannot be read, a script is larger than a table may be, OUT cannot be written, or wrong usage."""
@@ -243,6 +245,11 @@ def add_dialect(parser, whose):
     parser.add_argument("--dialect", metavar="D", help=f"the dialect {whose}: standard, extended, all, none (then Extended is meant) or nine digits")
 
 
+def add_edition(parser, words):
+    parser.add_argument("--edition", metavar="N", type=edition, help=f"the edition of the type rules {words}: 1, or 2, which allows a path that ends in "
+                        "`.type` (44)")
+
+
 def add_config(parser):
     parser.add_argument("--config", metavar="FILE", help="the configuration, in place of ducat.ini in the current folder")
 
@@ -290,6 +297,7 @@ def check_parser():
     add_join(parser)
     add_script(parser, "the script of the table files, for lines and columns")
     add_dialect(parser, "of scripts; a table file has its own")
+    add_edition(parser, "for scripts (default: 1); a table file has its own")
     parser.add_argument("--against", metavar="DIALECT", help="say what the move to DIALECT, which must permit all that the input's own does, does to its "
                         "errors; a name or nine digits as for --dialect")
     add_books(parser)
@@ -309,6 +317,14 @@ def positive(text):
     import argparse
     if not (text.isascii() and text.isdigit()) or not 1 <= int(text[:6]) <= 1024:
         raise argparse.ArgumentTypeError("a number from 1 to 1024 is needed")
+    return int(text)
+
+
+def edition(text):
+    import argparse
+    from .table import EDITIONS
+    if text not in map(str, EDITIONS):
+        raise argparse.ArgumentTypeError("an edition is 1 or 2")
     return int(text)
 
 
@@ -360,6 +376,7 @@ def write_parser():
     parser.add_argument("table", metavar="TABLE")
     parser.add_argument("names", metavar="NAMES")
     add_dialect(parser, "that the file has; without it the file has none")
+    add_edition(parser, "that the file has, which needs a dialect; without it the file has none, and edition 1 holds")
     add_output(parser)
     add_format(parser)
     return parser
@@ -374,6 +391,7 @@ def table_parser():
     parser.add_argument("--parts", action="store_true",
                         help="OUT is a folder, new or empty: a table file of each top-level statement, 0001.table and so on")
     add_dialect(parser, "of a script; a text has its own")
+    add_edition(parser, "that the file of a script has, which needs a dialect; a text has its own")
     add_as_script(parser)
     add_stdin_filename(parser)
     add_config(parser)
@@ -540,6 +558,7 @@ def check(words, out):
         search.found = joined(options, search.found)
     if configured.given and options.files_from is None and not any(could_be_script(path, options.stdin_filename, configured.as_script) for path in options.paths):
         raise Failed("--dialect is for scripts: a table file has its own dialect")
+    edition_fits(options, configured)
     if options.script and any(one.script for one in search.found):
         raise Failed("--script is for table files: a script that is checked is its own")
     scripts = scripts_named(options.script, not options.quiet)
@@ -557,7 +576,7 @@ def check(words, out):
     from . import check as job
     many = len(search.found) > 1 or bool(search.empty) or any(one.path not in options.paths for one in search.found if one.path is not None)
     how = job.Options(options.module, options.explain and not json, options.quiet, options.bad_only, json, many, configured.dialect, scripts,
-                      options.format, paint_of(options.color, out.terminal))
+                      options.format, paint_of(options.color, out.terminal), options.edition)
     how.by_books = bool(options.books)
     if options.against is not None:
         from . import against
@@ -567,6 +586,22 @@ def check(words, out):
         front = head("check", library, configured.in_json(), module=options.module, **books) if json else None
         status = job.run(library, how, search.found, options.jobs, out, front)
     return max(status, 2 if search.empty else 0)
+
+
+def edition_fits(options, configured):
+    """--edition is for scripts, and for the jobs that read types."""
+    if options.edition is None:
+        return
+    if options.module:
+        raise Failed("--edition is for types, which the module pass does not read: --module is not for it")
+    if options.files_from is None and not any(could_be_script(path, options.stdin_filename, configured.as_script) for path in options.paths):
+        raise Failed("--edition is for scripts: a table file has its own edition")
+
+
+def needs_dialect(edition, dialect):
+    """Only a file with a dialect has an edition."""
+    if edition is not None and not dialect:
+        raise Failed("--edition needs a dialect: a file without a dialect has no edition (--dialect gives one)")
 
 
 def books_fit(options):
@@ -638,6 +673,7 @@ def write(words, out):
     from . import write as job
     finished(options, table=input_of(options.table), names=input_of(options.names),
              dialect=dialect_word(options.dialect) if options.dialect is not None else None)
+    needs_dialect(options.edition, options.dialect)
     library = open_library()
     return job.run(library, options, out, head("write", library) if options.json else None)
 
@@ -670,9 +706,11 @@ def table(words, out):
         named_out(options.out, configured.as_script)
     found = [input_of(name, options.stdin_filename, configured.as_script) for name in options.inputs]
     texts = [one for one in found if not one.script]
-    if texts and (configured.given or options.number is not None):
+    if texts and (configured.given or options.edition is not None or options.number is not None):
         raise Failed("--dialect is for scripts: a text has its own dialect" if configured.given else
+                     "--edition is for scripts: a text has its own edition" if options.edition is not None else
                      "--number is for scripts: a text has its own source file numbers")
+    needs_dialect(options.edition, configured.dialect)
     if texts and len(found) > 1:
         raise Failed(f"several INPUTs must be scripts, and {texts[0].name} is taken as the text form of a table")
     if options.compare is not None and (texts or options.parts):

@@ -16,8 +16,8 @@ FIELDS = ("kind", "detail", "name", "file", "begin", "end", "name_position")
 class Side:
     """One of the two tables."""
 
-    def __init__(self, records, names, dialect):
-        self.records, self.names, self.dialect = table.decode(records), names, dialect
+    def __init__(self, records, names, dialect, edition):
+        self.records, self.names, self.dialect, self.edition = table.decode(records), names, dialect, edition
 
     def fields(self, node):
         record = self.records[node]
@@ -36,8 +36,8 @@ class Difference:
         return {**told, "fields": {name: {"script": in_json(name, ours), "file": in_json(name, theirs)} for name, (ours, theirs) in self.fields.items()}}
 
 
-def difference(ours, theirs, dialect):
-    """The first difference of two tables, or None. The dialect is compared where `dialect` is true."""
+def difference(ours, theirs, dialect, edition):
+    """The first difference of two tables, or None. The dialect is compared where `dialect` is true, the edition where `edition` is."""
     both = min(len(ours.records), len(theirs.records))
     for node in range(both):
         pairs = zip(FIELDS, ours.fields(node), theirs.fields(node))
@@ -52,6 +52,8 @@ def difference(ours, theirs, dialect):
             return Difference(node, size=sizes)
     if dialect and ours.dialect != theirs.dialect:
         return Difference(None, dialect=(ours.dialect, theirs.dialect))
+    if edition and ours.edition != theirs.edition:
+        return Difference(None, edition=(ours.edition, theirs.edition))
     return None
 
 
@@ -63,12 +65,14 @@ def words_of(name, value):
         return "beyond the name bytes" if value is None else shown(value) or "none"
     if name == "dialect":
         return dialects.name_of(value) if value else "none"
-    return str(value)
+    return "none" if value is None else str(int(value))
 
 
 def in_json(name, value):
     if name == "name":
         return None if value is None else shown(value)
+    if name == "edition":
+        return dialects.edition_json(value)
     return dialects.in_json(value) if name == "dialect" else value
 
 
@@ -92,7 +96,7 @@ def read(library, options):
         raise Failed(f"{options.compare}: {inputs.reason(error)}") from None
     told, answer = {**named(options.compare), **evidence(data, False)}, library.read(data)
     if type(answer) is not Refusal:
-        return Side(answer.table, answer.names, answer.dialect), told, None
+        return Side(answer.table, answer.names, answer.dialect, answer.edition), told, None
     if answer.number in (3, 4, 5):
         return Side(*table.parts_of(data)), told, None
     return None, told, (answer, reasons.why_file(library, data, answer, len(data) < inputs.TABLE_MOST))
@@ -104,8 +108,8 @@ def run(library, options, out, front, datas, made, entries):
     theirs, told, refused = read(library, options)
     if refused:
         return write.refused(options, out, front, entries, *refused)
-    ours = Side(*made, options.dialect)
-    found = difference(ours, theirs, options.given or options.dialect is not None)
+    ours = Side(*made, options.dialect, options.edition)
+    found = difference(ours, theirs, options.given or options.dialect is not None, options.edition is not None)
     sources = {file: Source(one.name, data) for file, (one, data) in enumerate(zip(options.inputs, datas), options.number)}
     if options.json:
         more = {"difference": found.in_json()} if found else {"nodes": len(ours.records)}

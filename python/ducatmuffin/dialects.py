@@ -1,9 +1,10 @@
-"""Dialects by their names: what --dialect takes, and how a dialect is named in what is printed."""
+"""Dialects by their names: what --dialect takes, and how a dialect and an edition of the type rules are named in what is printed."""
 import re
 
 from .numbers import DIALECT_BYTES, DIALECTS
 
 MEANT = "extended"  # where there is none
+EDITION = 1  # the edition of the type rules that holds where there is none
 FORM = "standard, extended, all, none or nine digits"
 
 
@@ -31,6 +32,21 @@ def told(dialect, script=False):
     return name_of(dialect) if dialect else f"{MEANT} ({'none is given' if script else 'the file has none'})"
 
 
+def edition_told(edition):
+    """What stands behind a dialect where an edition of the type rules is given."""
+    return "" if edition is None else f", edition {int(edition)}"
+
+
+def edition_json(edition):
+    """Where none is given, edition 1 holds."""
+    return {"number": int(edition or EDITION), "given": edition is not None}
+
+
 def in_json(dialect):
     return {"name": name_of(dialect), "bytes": list(dialect), "given": True} if dialect else \
         {"name": MEANT, "bytes": list(DIALECTS[MEANT]), "given": False}
+
+
+def both_json(dialect, edition):
+    """A dialect and an edition, as the keys of an input have them."""
+    return {"dialect": in_json(dialect), "edition": edition_json(edition)}

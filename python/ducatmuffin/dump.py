@@ -27,7 +27,7 @@ def of_file(library, options, data):
     """A table that is not sound is shown too; a file whose blocks are bad is not."""
     answer = library.read(data)
     if type(answer) is not Refusal:
-        return None, None, (answer.table, answer.names, answer.dialect)
+        return None, None, (answer.table, answer.names, answer.dialect, answer.edition)
     why = reasons.why_file(library, data, answer, len(data) < inputs.TABLE_MOST)
     return answer, why, table.parts_of(data) if answer.number in (3, 4, 5) else None
 
@@ -40,7 +40,7 @@ def of_script(library, options, data):
     try:
         made = export.exported(data)
         texts = [(node, library.fstring_write(parts, None).data.decode()) for node, parts in made.fstrings]
-        return None, None, (made.table, made.names, options.dialect, texts)
+        return None, None, (made.table, made.names, options.dialect, None, texts)
     except export.ScriptError as error:
         raise no_table(options.input, error) from None
 
@@ -69,9 +69,9 @@ def comments(fstrings):
     return "".join(f"# node {node}, the format text of an f-string: {json.dumps(text)}\n" for node, text in fstrings)
 
 
-def printed(options, out, front, data, records, names, dialect, fstrings=()):
+def printed(options, out, front, data, records, names, dialect, edition, fstrings=()):
     try:
-        text = comments(fstrings) + table.print_text(records, names, dialect)
+        text = comments(fstrings) + table.print_text(records, names, dialect, edition)
     except table.TextError as error:
         raise Failed(f"{options.input.name}: {error}") from None
     if options.out:
@@ -82,7 +82,7 @@ def printed(options, out, front, data, records, names, dialect, fstrings=()):
     if options.json:
         report = Report(out, front)
         told = {"f_strings": [{"node": node, "format": text} for node, text in fstrings]} if options.input.script else {}
-        report.add(dumps({**start(options.input, data), "verdict": "dumped", "dialect": dialects.in_json(dialect), "text": text, **told,
+        report.add(dumps({**start(options.input, data), "verdict": "dumped", **dialects.both_json(dialect, edition), "text": text, **told,
                           "records": [record_json(node, record, names) for node, record in enumerate(table.decode(records))]}))
         report.end(status=0)
     elif not options.out:

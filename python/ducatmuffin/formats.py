@@ -56,9 +56,14 @@ def placed(told, words, place):
     return words
 
 
+def ruled(entry):
+    """The dialect and the edition that an input was judged by."""
+    return {key: entry[key] for key in ("dialect", "edition") if entry.get(key)}
+
+
 def properties(entry, told):
     more = {key: told[key] for key in ("file", "begin", "end", "node", "kind") if key in told}
-    return {**more, "dialect": entry["dialect"]} if entry.get("dialect") else more
+    return {**more, **ruled(entry)}
 
 
 def note(told, words, name, scripts):
@@ -111,7 +116,7 @@ def findings(entry, name, scripts):
         told = entry["refused"]
         words = told["words"] + "".join(f", {key} {told[key]}" for key in ("block", "node") if key in told)
         words += f": {told['reason']}" if "reason" in told else ""
-        return [Finding(told["number"], words, Place(name), **({"dialect": entry["dialect"]} if entry.get("dialect") else {}))]
+        return [Finding(told["number"], words, Place(name), **ruled(entry))]
     if entry["verdict"] == "no opening":
         return [Finding(NO_OPENING, f"no opening, closes {', '.join(entry['closes'])}", Place(name))]
     found = [of_error(entry, told, name, scripts) for told in entry.get("errors", ())]

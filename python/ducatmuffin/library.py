@@ -11,6 +11,7 @@ threads may call at the same time: each has buffers of its own, and ctypes relea
 the parts of a format text. Without it the buffer is never too short.
 """
 import ctypes
+import enum
 import operator
 import os
 import threading
@@ -40,10 +41,10 @@ FUNCTIONS = {
     "bind": READ * 2 + [LENGTH] * 2 + LENT + OUT,
     "target": READ * 2 + [LENGTH] + OUT,
     "assignment": READ * 2 + [LENGTH] + OUT,
-    "type": READ * 3 + [LENGTH] + LENT + OUT,
+    "type": READ * 3 + [WORD, LENGTH] + LENT + OUT,
     "module": READ * 3 + LENT + OUT,
-    "audit": READ * 3 + LENT + OUT,
-    "write": READ * 3 + LENT + OUT,
+    "audit": READ * 3 + [WORD] + LENT + OUT,
+    "write": READ * 3 + [WORD] + LENT + OUT,
     "rescue": READ + LENT + OUT,
     "read": READ + LENT * 2 + OUT,
     "check_file": READ + LENT + OUT,
@@ -69,6 +70,12 @@ class LibraryMissing(LibraryError):
 
 class LibraryMismatch(LibraryError):
     """There is a file, and it is not a library of this version for this machine."""
+
+
+class Edition(enum.IntEnum):
+    """An edition of the type rules. Edition 2 reads a path that ends in `type` as a path, which edition 1 refuses with 44."""
+    ONE = 1
+    TWO = 2
 
 
 @dataclass(frozen=True)
@@ -176,10 +183,12 @@ class Rescued:
 
 @dataclass(frozen=True)
 class Loaded:
-    """What a table file holds."""
+    """What a table file holds. `edition` is the edition byte as it stands, for `write`; `effective_edition` the one that holds, for `type` and `audit`."""
     table: bytes
     names: bytes
     dialect: Optional[bytes]
+    edition: Optional[Edition] = None
+    effective_edition: Edition = Edition.ONE
     accepted: ClassVar[bool] = True
 
 
@@ -307,6 +316,14 @@ def _word(number, what):
     if not 0 <= number < 2 ** 32:
         raise ValueError(f"a {what} is from 0 to 4294967295: {number}")
     return number
+
+
+def _edition(edition):
+    """An edition of 32 bits. Which are editions the library says (5). The word for none is no edition here: a job that would take it has None for it."""
+    edition = _word(edition, "edition")
+    if edition == NONE:
+        raise ValueError(f"{NONE} is the C interface's word for no edition, which is None here")
+    return edition
 
 
 def _book_refusal(number, out):
@@ -440,41 +457,44 @@ class Library:
         number = self._assignment(table, len(table), names, len(names), _node(node), own.out_at)
         return _refusal(number, own.out) if number else Targeted(own.out[0])
 
-    def type(self, table: Bytes, names: Bytes, dialect: Optional[Bytes], node: int, room: Optional[int] = None) -> Union[Shaped, Refusal]:
-        """Whether the expression at a node is a type in a dialect (None is no dialect, by which Extended is meant)."""
+    def type(self, table: Bytes, names: Bytes, dialect: Optional[Bytes], edition: int, node: int, room: Optional[int] = None) -> Union[Shaped, Refusal]:
+        """Whether the expression at a node is a type in a dialect (None is no dialect, by which Extended is meant) and an edition of the type rules."""
         table, names, dialect, own = _bytes(table), _bytes(names), _bytes(dialect or b""), self._buffers
+        edition = _edition(edition)
         room, buffer = _room(room, numbers.NODES, 1)
         lent = own.file_at if buffer is None else ctypes.addressof(buffer)
         node = _node(node)
         size = int.from_bytes(table[24 * node + 16:24 * node + 18], "little")
         ctypes.memset(lent, 0, min(room, size))
-        number = self._type(table, len(table), names, len(names), dialect, len(dialect), node, lent, room, own.out_at)
+        number = self._type(table, len(table), names, len(names), dialect, len(dialect), edition, node, lent, room, own.out_at)
         return _refusal(number, own.out) if number else Shaped(ctypes.string_at(lent, size))
 
     def module(self, table: Bytes, names: Bytes, dialect: Optional[Bytes], room: Optional[int] = None) -> Union[Errors, Refusal]:
         """The module pass under a dialect (None is no dialect, by which Extended is meant)."""
-        return self._listed(self._module, table, names, dialect, room, numbers.ERROR_WORDS)
+        return self._listed(self._module, table, names, dialect, (), room, numbers.ERROR_WORDS)
 
-    def audit(self, table: Bytes, names: Bytes, dialect: Optional[Bytes], room: Optional[int] = None) -> Union[Errors, Refusal]:
-        """Every job on every node that it fits, under a dialect (None is no dialect, by which Extended is meant)."""
-        return self._listed(self._audit, table, names, dialect, room, numbers.AUDIT_WORDS)
+    def audit(self, table: Bytes, names: Bytes, dialect: Optional[Bytes], edition: int, room: Optional[int] = None) -> Union[Errors, Refusal]:
+        """Every job on every node that it fits, under a dialect (None is no dialect, by which Extended is meant) and an edition of the type rules."""
+        return self._listed(self._audit, table, names, dialect, (_edition(edition),), room, numbers.AUDIT_WORDS)
 
-    def _listed(self, job, table, names, dialect, room, width):
+    def _listed(self, job, table, names, dialect, edition, room, width):
         table, names, dialect, own = _bytes(table), _bytes(names), _bytes(dialect or b""), self._buffers
         room, buffer = _room(room, LIST_WORDS, 4)
         lent = own.words_at if buffer is None else ctypes.addressof(buffer)
-        number = job(table, len(table), names, len(names), dialect, len(dialect), lent, room, own.out_at)
+        number = job(table, len(table), names, len(names), dialect, len(dialect), *edition, lent, room, own.out_at)
         if number:
             return _refusal(number, own.out)
         words = own.words if buffer is None else (WORD * room).from_buffer(buffer)
         return Errors(*_errors(own.out, words, room, width))
 
-    def write(self, table: Bytes, names: Bytes, dialect: Optional[Bytes], room: Optional[int] = None) -> Union[Written, Refusal]:
-        """The table file of a table, its names and a dialect; None is a file without a dialect."""
+    def write(self, table: Bytes, names: Bytes, dialect: Optional[Bytes], edition: Optional[int],
+              room: Optional[int] = None) -> Union[Written, Refusal]:
+        """The table file of a table, its names, a dialect and an edition of the type rules. None is a file without a dialect, or without an edition."""
         table, names, dialect, own = _bytes(table), _bytes(names), _bytes(dialect or b""), self._buffers
+        edition = NONE if edition is None else _edition(edition)
         room, buffer = _room(room, numbers.FILE_BYTES, 1)
         lent = own.file_at if buffer is None else ctypes.addressof(buffer)
-        number = self._write(table, len(table), names, len(names), dialect, len(dialect), lent, room, own.out_at)
+        number = self._write(table, len(table), names, len(names), dialect, len(dialect), edition, lent, room, own.out_at)
         return _refusal(number, own.out) if number else Written(ctypes.string_at(lent, own.out[0]))
 
     def rescue(self, data: Bytes, room: Optional[int] = None) -> Union[Rescued, Refusal]:
@@ -500,7 +520,8 @@ class Library:
             return _refusal(number, own.out)
         nodes, names, has_dialect = own.out[:3]
         dialect = bytes(own.out)[12:21] if has_dialect else None
-        return Loaded(ctypes.string_at(lent, numbers.NODE_BYTES * nodes), ctypes.string_at(names_lent, names), dialect)
+        edition = None if own.out[6] == NONE else Edition(own.out[6])
+        return Loaded(ctypes.string_at(lent, numbers.NODE_BYTES * nodes), ctypes.string_at(names_lent, names), dialect, edition, Edition(own.out[7]))
 
     def check_file(self, data: Bytes, room: Optional[int] = None) -> Union[Errors, Refusal]:
         """The module pass over a table file, under the dialect that it holds."""

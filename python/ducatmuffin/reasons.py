@@ -5,10 +5,11 @@ library is asked about the first blocks: it answers 70 until the bad one is amon
 """
 import struct
 
-from .numbers import KINDS, NAME_BYTES, NODE_BYTES, NODES, PARAMETERS
-from .table import BLOCK, CONTENT, LAST_FILE, LAST_POSITION, MOST_DETAIL, NAMED, RECORD, parts_of
+from .numbers import KINDS, NAME_BYTES, NODE_BYTES, NODES, PARAMETERS, SWITCHES
+from .table import BLOCK, CONTENT, EDITIONS, LAST_FILE, LAST_POSITION, MOST_DETAIL, NAMED, RECORD, parts_of
 
 COUNTS = 4  # where block 0 has its two counts
+USED = (4, 13, 14)  # how many bytes block 0 uses: the counts, then a dialect, then an edition
 MOST_NAME = 255
 NAMED_ARGUMENT = 61
 STATEMENTS = 1
@@ -239,7 +240,7 @@ def why_file(library, data, refusal, whole=True):
     number = refusal.number
     if number in (70, 71, 72, 73):
         block = bad_block(library, data, number)
-        return Why(short(data, block) if number == 70 else None, block)
+        return Why(short(data, block) if number == 70 else used(data, block) if number == 73 else None, block)
     if number == 74:
         nodes, names = struct.unpack_from("<HH", data, COUNTS)
         return Why(f"it counts {counted(nodes, 'node', 'nodes')} and {counted(names, 'name byte', 'name bytes')}; "
@@ -247,8 +248,8 @@ def why_file(library, data, refusal, whole=True):
     if number == 75:
         return Why(left_over(data, whole))
     if number in (3, 4, 5):
-        table, names, dialect = parts_of(data)
-        return why_table(table, names, dialect, refusal)
+        table, names, dialect, edition = parts_of(data)
+        return why_table(table, names, dialect, refusal, edition)
     return Why()
 
 
@@ -259,6 +260,12 @@ def short(data, block):
     return f"the file ends after {len(data)} bytes, " + (f"{left} bytes into this block" if left else "before this block")
 
 
+def used(data, block):
+    """What is wrong with the used bytes of block 0; those of other blocks depend on its counts."""
+    many, = struct.unpack_from("<H", data, 2)
+    return None if block or many in USED else f"it says {counted(many, 'used byte', 'used bytes')}, and must say {USED[0]}, {USED[1]} or {USED[2]}"
+
+
 def left_over(data, whole):
     nodes, names = struct.unpack_from("<HH", data, COUNTS)
     blocks = 1 + -(-names // CONTENT) + -(-nodes * NODE_BYTES // CONTENT)
@@ -266,13 +273,21 @@ def left_over(data, whole):
     return f"{counted(many, 'byte', 'bytes')}{'' if whole else ' or more'} after block {blocks - 1}"
 
 
-def why_table(table, names, dialect, refusal):
-    """Why a table, or its dialect, is refused."""
+def bad_dialect(dialect, edition):
+    """What is wrong with a dialect's bytes or, where nothing is, with the edition."""
+    valid = len(dialect) in (0, len(SWITCHES)) and all(byte <= (2 if name == "enable_types" else 1) for name, byte in zip(SWITCHES, dialect))
+    if not valid or edition is None:
+        return f"the bytes are {' '.join(map(str, dialect))}"
+    return f"the edition is {edition}, and must be 1 or 2" if edition not in EDITIONS else "an edition, and no dialect"
+
+
+def why_table(table, names, dialect, refusal, edition=None):
+    """Why a table, its dialect or its edition is refused."""
     if refusal.number in (3, 4) and refusal.node is not None:
         kind = table[NODE_BYTES * refusal.node]
         return Why(unsound(table, names, refusal.node) if refusal.number == 3 else None, node=refusal.node, kind=kind)
     if refusal.number == 5:
-        return Why(f"the bytes are {' '.join(map(str, dialect or b''))}")
+        return Why(bad_dialect(dialect or b"", edition))
     if refusal.number == 1:
         return Why(f"it has {counted(len(table), 'byte', 'bytes')}{' or more' if len(table) > NODES * NODE_BYTES else ''}, "
                    f"{NODE_BYTES} for each record")

@@ -11,9 +11,10 @@ Above the tree there may be such lines:
   # a comment
   script: FILE          the script that the tree stands for; then each node quotes its part of it: (Break `break`)
   dialect: none         or Standard, Extended, AllOptionsInternal (all), or nine digits: 111000100
+  edition: 2            the edition of the type rules, 1 or 2, where the file has that byte; there must be a dialect
   names: shared         equal names share their bytes
   names: "ab\\x00"       the name bytes as they are; each name is then given as name=START+LENGTH, and a word before it must be the same name
-  rules: off            names, details and positions may be anything: the text form of a table that is not sound
+  rules: off            names, details, positions and the edition may be anything: the text form of a table that is not sound
   change: 600 7         byte 600 of the file is changed to 7
   cut: 700              only 700 bytes of the file are kept
 Above the tree and between its top-level statements there may also be lines
@@ -35,6 +36,7 @@ BLOCK, CONTENT = 512, 504
 KIND = numbers.KIND
 LAST_POSITION = 2 ** 31 - 1
 LAST_FILE = 999  # the largest source file number
+EDITIONS = (1, 2)  # of the type rules
 NAMED = frozenset(KIND[word] for word in ("Dot", "Identifier", "Normal", "ArgsParam", "KwArgsParam", "Named"))
 MOST_DETAIL = {KIND["Normal"]: 3, **{KIND[word]: 1 for word in ("Def", "Assign", "AssignModify", "Op", "ArgsParam", "KwArgsParam")}}
 DIALECTS = {"none": b"", **numbers.DIALECTS, "alloptionsinternal": numbers.DIALECTS["all"]}
@@ -43,7 +45,7 @@ DIALECT_NAMES = {numbers.DIALECTS["standard"]: "Standard", numbers.DIALECTS["ext
 # the fields that may be given as words, each with the mark between its numbers and the most that they may be
 FIELDS = {"size": (None, [65535]), "span": ("-", [2 ** 32 - 1] * 2), "file": (None, [65535]), "pos": (None, [2 ** 32 - 1]),
           "name": ("+", [2 ** 32 - 1, 65535]), "kind": (None, [255])}
-LINES = ("script", "dialect", "change", "cut", "names", "rules")
+LINES = ("script", "dialect", "edition", "change", "cut", "names", "rules")
 TOKEN = re.compile(r"\n|[()]|`[^`]*`|[^\s()]+")
 # a name that can be written as a word; others are given by their place in the name bytes
 WORD = re.compile(rb"[A-Za-z_][A-Za-z0-9_]*")
@@ -132,16 +134,16 @@ def _block(number, content):
     return front + struct.pack("<I", sum(at * byte for at, byte in enumerate(front, 1)))
 
 
-def file_of(table, names, dialect: Optional[bytes] = None) -> bytes:
+def file_of(table, names, dialect: Optional[bytes] = None, edition: Optional[int] = None) -> bytes:
     """The table file of any table, sound or not; starlark_write writes the same for a sound one, and is proved."""
-    parts = [struct.pack("<HH", len(table) // RECORD.size, len(names)) + (dialect or b"")]
+    parts = [struct.pack("<HH", len(table) // RECORD.size, len(names)) + (dialect or b"") + (b"" if edition is None else bytes([edition]))]
     for content in (bytes(names), bytes(table)):
         parts += [content[at:at + CONTENT] for at in range(0, len(content), CONTENT)]
     return b"".join(_block(number, content) for number, content in enumerate(parts))
 
 
-def parts_of(data) -> Tuple[bytes, bytes, Optional[bytes]]:
-    """Table, names and dialect of a file that is long enough for its counts. Nothing is checked: the library judges blocks and tables."""
+def parts_of(data) -> Tuple[bytes, bytes, Optional[bytes], Optional[int]]:
+    """Table, names, dialect and edition of a file that is long enough for its counts. Nothing is checked: the library judges blocks and tables."""
     data = bytes(data)
     if len(data) < BLOCK:
         raise FileError("the file has no whole block")
@@ -151,7 +153,7 @@ def parts_of(data) -> Tuple[bytes, bytes, Optional[bytes]]:
     names, table = b"".join(blocks[:first])[:count], b"".join(blocks[first:])[:RECORD.size * nodes]
     if len(names) < count or len(table) < RECORD.size * nodes:
         raise FileError("the file ends before what its first block counts")
-    return table, names, data[8:17] if used == 13 else None
+    return table, names, data[8:17] if used in (13, 14) else None, data[17] if used == 14 else None
 
 
 # ---- the text form, read
@@ -166,16 +168,17 @@ class Node:
 
 
 class Text(NamedTuple):
-    """What a text says: its table, names and dialect, and what is then done to the file."""
+    """What a text says: its table, names, dialect and edition, and what is then done to the file."""
     table: bytes
     names: bytes
     dialect: Optional[bytes]
+    edition: Optional[int]
     change: Optional[Tuple[str, int]]
     cut: Optional[Tuple[str, int]]
 
     def file(self) -> bytes:
         """The table file, changed and cut as the text says."""
-        made = file_of(self.table, self.names, self.dialect)
+        made = file_of(self.table, self.names, self.dialect, self.edition)
         if self.change:
             made = _at_line(lambda text: _changed(made, text), *self.change)
         if self.cut:
@@ -452,6 +455,14 @@ def dialect_name(dialect: Optional[bytes]) -> str:
     return digits if re.fullmatch("[01]{5}[012][01]{3}", digits) else f"x{bytes(dialect).hex()}"
 
 
+def _edition(word, dialect, off):
+    """An edition, or where the rules are off any byte."""
+    edition, = _numbers(word, None, [255])
+    demand(off or edition in EDITIONS, f"{edition} is no edition: 1 or 2")
+    demand(dialect, "an edition, and no dialect: a file without a dialect has none")
+    return edition
+
+
 def _given_names(word):
     """The name bytes that a line gives: None for `shared`, else what stands in quotes."""
     if word == "shared":
@@ -503,12 +514,13 @@ def read_text(text: str, script: Optional[Callable[[str], bytes]] = None) -> Tex
     names = _at_line(_given_names, *said["names"]) if "names" in said else None
     table, names = table_of(roots, "names" in said, names, files)
     dialect = _at_line(_any_dialect if off else dialect_of, *said.get("dialect", ("none", 0)))
-    return Text(table, names, dialect, said.get("change"), said.get("cut"))
+    edition = _at_line(lambda word: _edition(word, dialect, off), *said["edition"]) if "edition" in said else None
+    return Text(table, names, dialect, edition, said.get("change"), said.get("cut"))
 
 
-def parse_text(text: str, script: Optional[Callable[[str], bytes]] = None) -> Tuple[bytes, bytes, Optional[bytes]]:
-    """Table, names and dialect of a text. Raises TextError."""
-    return tuple(read_text(text, script)[:3])
+def parse_text(text: str, script: Optional[Callable[[str], bytes]] = None) -> Tuple[bytes, bytes, Optional[bytes], Optional[int]]:
+    """Table, names, dialect and edition of a text. Raises TextError."""
+    return tuple(read_text(text, script)[:4])
 
 
 # ---- the text form, printed
@@ -541,8 +553,8 @@ def _node_text(record, size, names, placed, file):
     return " ".join(words + [f"{key}={value}" for key, value, usual in others if value != usual])
 
 
-def _printed(records, names, dialect, lines, placed):
-    parts, file = [f"dialect: {dialect_name(dialect)}", *lines], 1
+def _printed(records, names, lines, placed):
+    parts, file = list(lines), 1
     several = bool(records) and records[0].kind == KIND["Statements"]
     for at, record, level, size, closed in _nested(records):
         if level == several and record.file != file:
@@ -553,15 +565,16 @@ def _printed(records, names, dialect, lines, placed):
     return "\n".join(parts) + "\n"
 
 
-def print_text(table, names, dialect: Optional[bytes] = None) -> str:
-    """The text form of a table of whole records: parse_text gives the same table, names and dialect back. The first form is taken that does."""
+def print_text(table, names, dialect: Optional[bytes] = None, edition: Optional[int] = None) -> str:
+    """The text form of a table of whole records: parse_text gives the same table, names, dialect and edition back. The first form is taken that does."""
     table, names = bytes(table), bytes(names)
     if len(table) % RECORD.size:
         raise TextError(0, f"{len(table)} bytes are not whole records of {RECORD.size}")
-    records, wanted = decode(table), (table, names, dialect or None)
+    records, wanted = decode(table), (table, names, dialect or None, edition)
     given = f'names: "{_escaped(names)}"'
+    first = [f"dialect: {dialect_name(dialect)}"] + ([] if edition is None else [f"edition: {int(edition)}"])
     for lines, placed in (([], False), (["names: shared"], False), ([given], True), ([given, "rules: off"], True)):
-        text = _printed(records, names, dialect, lines, placed)
+        text = _printed(records, names, first + lines, placed)
         try:
             if parse_text(text) == wanted:
                 return text

@@ -20,10 +20,10 @@ def run(library, options, out, front):
     if options.compare is not None:
         from . import comparing
         return comparing.run(library, options, out, front, datas, table_of(options, datas), entries(options, datas))
-    made, dialect = of_scripts(library, options, datas) if found[0].script else of_text(library, options, datas[0])
+    made, given = of_scripts(library, options, datas) if found[0].script else of_text(library, options, datas[0])
     if isinstance(made, tuple):
         return write.refused(options, out, front, entries(options, datas), *made)
-    return write.written(options, out, front, entries(options, datas), made, {"dialect": dialects.in_json(dialect)})
+    return write.written(options, out, front, entries(options, datas), made, dialects.both_json(*given))
 
 
 def entries(options, datas):
@@ -51,11 +51,12 @@ def table_of(options, datas):
 
 
 def of_scripts(library, options, datas):
-    made = table_of(options, datas)
-    answer = library.write(*made, options.dialect or b"")
+    """The table file, or why there is none; and its dialect and edition."""
+    made, given = table_of(options, datas), (options.dialect, options.edition)
+    answer = library.write(*made, options.dialect or b"", options.edition)
     if type(answer) is Refusal:
-        return (answer, reasons.why_table(*made, options.dialect, answer)), options.dialect
-    return answer.data, options.dialect
+        return (answer, reasons.why_table(*made, options.dialect, answer, options.edition)), given
+    return answer.data, given
 
 
 def run_parts(library, options, out, front, datas):
@@ -73,14 +74,15 @@ def run_parts(library, options, out, front, datas):
             raise no_table(one, error) from None
     contents = []
     for made in tables:
-        answer = library.write(*made, options.dialect or b"")
+        answer = library.write(*made, options.dialect or b"", options.edition)
         if type(answer) is Refusal:
-            return write.refused(options, out, front, entries(options, datas), answer, reasons.why_table(*made, options.dialect, answer))
+            return write.refused(options, out, front, entries(options, datas), answer, reasons.why_table(*made, options.dialect, answer, options.edition))
         contents.append(answer.data)
     names = written_parts(options.out, contents)
     if options.json:
         outputs = [{**named(name), "sha256": digest(content), "bytes": len(content)} for name, content in zip(names, contents)]
-        write.finish(out, front, entries(options, datas), verdict="written", dialect=dialects.in_json(options.dialect), outputs=outputs, status=0)
+        write.finish(out, front, entries(options, datas), verdict="written", **dialects.both_json(options.dialect, options.edition),
+                     outputs=outputs, status=0)
     else:
         out.lines([f"files {len(names)}"])
     return 0
@@ -116,9 +118,11 @@ def of_text(library, options, data):
         raise Failed(f"{name}: nested too deeply") from None
     except OSError as error:
         raise Failed(f"{error.filename or name}: {inputs.reason(error)}") from None
+    given = text.dialect, text.edition
     if not text.change and not text.cut:
-        answer = library.write(text.table, text.names, text.dialect or b"")
+        answer = library.write(text.table, text.names, text.dialect or b"", text.edition)
         if type(answer) is not Refusal:
-            return answer.data, text.dialect
-        say(f"{name}: this table is not sound: {answer.number} {answer.words}{reasons.why_table(text.table, text.names, text.dialect, answer)}")
-    return made, text.dialect
+            return answer.data, given
+        why = reasons.why_table(text.table, text.names, text.dialect, answer, text.edition)
+        say(f"{name}: this table is not sound: {answer.number} {answer.words}{why}")
+    return made, given

@@ -1,4 +1,4 @@
-"""ducat write: a table file from the raw bytes of a table, of its names, and a dialect."""
+"""ducat write: a table file from the raw bytes of a table, of its names, a dialect and an edition."""
 from . import dialects, files, inputs, reasons
 from .library import Refusal
 from .output import Failed, Report, digest, dumps, named, say
@@ -14,13 +14,13 @@ def content(one, most):
 def run(library, options, out, front):
     """Writes the file. Returns the exit status: 0 it is written, 2 it is refused."""
     table, names = content(options.table, inputs.RECORDS_MOST), content(options.names, inputs.NAMES_MOST)
-    answer = library.write(table, names, options.dialect or b"")
+    answer = library.write(table, names, options.dialect or b"", options.edition)
     entries = [{**named(one.name), "kind": kind, "sha256": digest(data), "bytes": len(data), "whole": len(data) < most}
                for one, kind, data, most in ((options.table, "records", table, inputs.RECORDS_MOST),
                                              (options.names, "names", names, inputs.NAMES_MOST))] if options.json else []
     if type(answer) is Refusal:
-        return refused(options, out, front, entries, answer, reasons.why_table(table, names, options.dialect, answer))
-    return written(options, out, front, entries, answer.data, {"dialect": dialects.in_json(options.dialect)})
+        return refused(options, out, front, entries, answer, reasons.why_table(table, names, options.dialect, answer, options.edition))
+    return written(options, out, front, entries, answer.data, dialects.both_json(options.dialect, options.edition))
 
 
 def refused(options, out, front, entries, refusal, why):

@@ -8,8 +8,8 @@ import support
 from command import CommandTest
 from ducatmuffin import numbers, table
 
-STATUS = {"clean": 0, "cut": 2, "damaged": 2, "example": 1, "example-none": 1, "joined": 1, "lambda": 1, "lost": 2, "parameters": 1, "placement": 1,
-          "statements": 1, "take": 0, "toplevel": 0, "toplevel-standard": 1, "unsound": 2, "whole": 1}
+STATUS = {"clean": 0, "cut": 2, "damaged": 2, "edition": 1, "edition-bad": 2, "example": 1, "example-none": 1, "joined": 1, "lambda": 1, "lost": 2,
+          "parameters": 1, "placement": 1, "statements": 1, "take": 0, "toplevel": 0, "toplevel-standard": 1, "unsound": 2, "whole": 1}
 ALL = "the whole checker accepts: the module pass, and every job on every node that it fits"
 MODULE = "none of 10 to 19 and 50 to 61; 20 to 45 (calls, targets, types) are not looked for with --module"
 LOOKS = "hint: this looks like a script; `ducat check` takes it under a name that ends in .star, with --as-script, or with --stdin-filename\n"

@@ -315,7 +315,7 @@ class Judged(unittest.TestCase):
 
     def test_numbers(self):
         for source, number in JUDGED:
-            self.assertEqual([error.number for error in support.library().audit(*answered(source)[0], b"").errors], [number], source)
+            self.assertEqual([error.number for error in support.library().audit(*answered(source)[0], b"", 1).errors], [number], source)
 
 
 class Samples(unittest.TestCase):

@@ -145,7 +145,7 @@ errors 2
         self.says(2, "", "ducat: --dialect: no dialect is called basic: standard, extended, all, none or nine digits\n",
                   "check", "--dialect", "basic", path)
         self.says(2, "", "ducat: --dialect is for scripts: a table file has its own dialect\n", "check", "--dialect", "all", "samples/clean.table")
-        self.says(2, "refused 5\n", f"{STEP}ducat: {path}: refused 5: the dialect bytes give no dialect: the bytes are 1 1 1 0 0 3 1 0 0\n",
+        self.says(2, "refused 5\n", f"{STEP}ducat: {path}: refused 5: the dialect bytes give no dialect, or the edition is neither 1 nor 2, or stands without a dialect: the bytes are 1 1 1 0 0 3 1 0 0\n",
                   "check", "--dialect", "111003100", path)
         for word, name in (("none", "extended (none is given)"), ("STANDARD", "standard"), ("111112111", "all"), ("111000000", "111000000")):
             self.assertIn(f"nodes 14, dialect {name}\n", self.run_ducat("check", "--explain", "--dialect", word, path).out)

@@ -12,7 +12,7 @@ import unittest.mock
 
 import support
 from ducatmuffin import __version__, library, numbers, table
-from ducatmuffin.library import Bound, Called, Checked, Error, Errors, Loaded, Params, Refusal, Rescued, Shaped, Targeted, Written
+from ducatmuffin.library import Bound, Called, Checked, Edition, Error, Errors, Loaded, Params, Refusal, Rescued, Shaped, Targeted, Written
 
 
 def made(text):
@@ -30,6 +30,12 @@ CALL = made("(OtherSimple (Call (Identifier f) (Positional (Int)) (Named b (Int)
 BOTH = made("(Statements (Def (Normal a) (Normal:2 b (Int)) (KwArgsParam k) (Break))"
             " (OtherSimple (Call (Identifier f) (Named c (Int)) (Named a (Int)))))")
 TYPE = made("(Def:1 (Op:1 (Identifier a) (Index (Identifier list) (Identifier b))) (Break))")
+
+
+def summed(data):
+    """A file with the sum of block 0 made right."""
+    data[508:512] = sum(at * byte for at, byte in enumerate(data[:508], 1)).to_bytes(4, "little")
+    return bytes(data)
 
 
 def refusal(number, *carried, file=None):
@@ -88,18 +94,18 @@ class Jobs(unittest.TestCase):
         self.assertEqual(job("assignment", *made("(AssignModify (List) (Int))"), 0), refusal(31, 1, 1, 2))
 
     def test_type(self):
-        self.assertEqual(job("type", *TYPE, None, 1), Shaped(bytes([6, 2, 3, 0, 2])))
-        self.assertEqual(job("type", *TYPE, numbers.DIALECTS["all"], 2), Shaped(bytes([2])))
-        self.assertEqual(job("type", *TYPE, numbers.DIALECTS["standard"], 1), refusal(45, 1, 1, 2))
-        self.assertEqual(job("type", *TYPE, bytes(8), 1), refusal(5))
+        self.assertEqual(job("type", *TYPE, None, 1, 1), Shaped(bytes([6, 2, 3, 0, 2])))
+        self.assertEqual(job("type", *TYPE, numbers.DIALECTS["all"], 1, 2), Shaped(bytes([2])))
+        self.assertEqual(job("type", *TYPE, numbers.DIALECTS["standard"], 1, 1), refusal(45, 1, 1, 2))
+        self.assertEqual(job("type", *TYPE, bytes(8), 1, 1), refusal(5))
         for room in range(5):
-            self.assertEqual(job("type", *TYPE, None, 1, room=room), refusal(7))
+            self.assertEqual(job("type", *TYPE, None, 1, 1, room=room), refusal(7))
         for room in (5, 6, 3000):
-            self.assertEqual(job("type", *TYPE, None, 1, room=room), job("type", *TYPE, None, 1))
+            self.assertEqual(job("type", *TYPE, None, 1, 1, room=room), job("type", *TYPE, None, 1, 1))
 
     def test_type_leaves_nothing_of_an_earlier_one(self):
-        job("type", *made("(Def:1 (Tuple (Identifier a) (Identifier a) (Identifier a) (Identifier a)) (Break))"), None, 1)
-        self.assertEqual(job("type", *TYPE, None, 1).shapes, bytes([6, 2, 3, 0, 2]))
+        job("type", *made("(Def:1 (Tuple (Identifier a) (Identifier a) (Identifier a) (Identifier a)) (Break))"), None, 1, 1)
+        self.assertEqual(job("type", *TYPE, None, 1, 1).shapes, bytes([6, 2, 3, 0, 2]))
 
     def test_module(self):
         held = job("read", support.sample("example.table"))
@@ -111,19 +117,19 @@ class Jobs(unittest.TestCase):
 
     def test_audit(self):
         held = job("read", support.sample("whole.table"))
-        answer = job("audit", held.table, held.names, held.dialect)
+        answer = job("audit", held.table, held.names, held.dialect, held.effective_edition)
         lines = support.sample("whole.all").decode().split("\n")
         self.assertEqual(answer.total, len(answer.errors))
         self.assertEqual(sorted(f"{error.number} {error.file} {error.begin} {error.end}" for error in answer.errors), sorted(lines[1:-2]))
         self.assertTrue(all(error.node is not None for error in answer.errors))
         for room, stored in ((0, 0), (4, 0), (5, 1), (9, 1), (10, 2)):
-            self.assertEqual(job("audit", held.table, held.names, held.dialect, room=room).errors, answer.errors[:stored])
+            self.assertEqual(job("audit", held.table, held.names, held.dialect, 1, room=room).errors, answer.errors[:stored])
 
     def test_the_most_errors(self):
         held = made("(Statements ^2099<(Break)>)")
         answer = job("module", *held, None)
         self.assertEqual((answer.total, len(answer.errors), answer.errors[-1]), (2099, 2099, Error(55, 1, 2099, 2100)))
-        self.assertEqual(job("audit", *held, None).errors[-1], Error(55, 1, 2099, 2100, 2099))
+        self.assertEqual(job("audit", *held, None, 1).errors[-1], Error(55, 1, 2099, 2100, 2099))
 
     def test_write_and_read(self):
         for name in support.samples(".table"):
@@ -131,9 +137,72 @@ class Jobs(unittest.TestCase):
             held = job("read", data)
             if held.accepted:
                 with self.subTest(name):
-                    self.assertEqual(job("write", held.table, held.names, held.dialect), Written(data))
-                    self.assertEqual(job("write", held.table, held.names, held.dialect, room=len(data) - 1), refusal(7))
-                    self.assertEqual(job("write", held.table, held.names, held.dialect, room=len(data)), Written(data))
+                    self.assertEqual(job("write", held.table, held.names, held.dialect, held.edition), Written(data))
+                    self.assertEqual(job("write", held.table, held.names, held.dialect, held.edition, room=len(data) - 1), refusal(7))
+                    self.assertEqual(job("write", held.table, held.names, held.dialect, held.edition, room=len(data)), Written(data))
+
+    def test_editions_of_types(self):
+        """Edition 2 reads a path that ends in `type` as a Path; anything but 1 and 2 is 5, and nothing is taken for 1."""
+        held = made("(Assign:1 (Identifier a) (Dot type (Identifier x)) (Int))")
+        self.assertEqual(job("type", *held, None, 1, 2).number, 44)
+        self.assertEqual(job("type", *held, None, Edition.TWO, 2), Shaped(bytes([2, 0])))
+        self.assertEqual([error.number for error in job("audit", *held, None, Edition.ONE).errors], [44])
+        self.assertEqual(job("audit", *held, None, 2), Errors(0, ()))
+        for edition in (0, 3, 255, 256, 257, 258, 65537, 2 ** 32 - 2):
+            self.assertEqual(job("type", *held, None, edition, 2), refusal(5))
+            self.assertEqual(job("type", *held, None, edition, 400), refusal(5))
+            self.assertEqual(job("audit", *held, None, edition), refusal(5))
+            self.assertEqual(job("write", *held, numbers.DIALECTS["all"], edition), refusal(5))
+        for edition in (-1, 2 ** 32 - 1, 2 ** 32, 2 ** 32 + 1):
+            for words in (("type", *held, None, edition, 2), ("audit", *held, None, edition), ("write", *held, numbers.DIALECTS["all"], edition)):
+                with self.assertRaises(ValueError):
+                    job(*words)
+        for words in (("type", *held, None, None, 2), ("audit", *held, None, None), ("audit", *held, None), ("write", *held, None)):
+            with self.assertRaises(TypeError):
+                job(*words)
+
+    def test_the_word_for_no_edition(self):
+        """By the C interface itself: 5 for the type job and the audit, and no byte for the writer."""
+        library, held, row = support.library(), made("(Break)"), numbers.DIALECTS["all"]
+        lent = (held[0], len(held[0]), held[1], len(held[1]), row, len(row), numbers.NONE)
+        own = library._buffers
+        self.assertEqual(library._type(*lent, 0, own.file_at, 9, own.out_at), 5)
+        self.assertEqual(library._audit(*lent, own.words_at, 9, own.out_at), 5)
+        self.assertEqual(library._write(*lent, own.file_at, 1024, own.out_at), 0)
+        self.assertEqual(own.file[2:4], b"\x0d\0")
+
+    def test_editions_of_files(self):
+        """13 used bytes and 14 used bytes with edition 1 are different files, and each is written back as it was."""
+        held, row, files = made("(Break)"), numbers.DIALECTS["standard"], set()
+        for edition, effective in ((None, 1), (1, 1), (2, 2)):
+            data = job("write", *held, row, edition).data
+            answer = job("read", data)
+            self.assertEqual(answer, Loaded(*held, row, edition, effective))
+            self.assertIs(type(answer.effective_edition), Edition)
+            self.assertEqual(job("write", answer.table, answer.names, answer.dialect, answer.edition), Written(data))
+            self.assertEqual(job("rescue", data).data, data)
+            files.add(data)
+        self.assertEqual(len(files), 3)
+        for edition in (1, 2):
+            self.assertEqual(job("write", *held, None, edition), refusal(5))
+            self.assertEqual(job("write", *held, b"", edition), refusal(5))
+
+    def test_every_used_count_and_every_edition_byte(self):
+        held, row = made("(Break)"), numbers.DIALECTS["standard"]
+        for used in range(21):
+            content = (row + b"\2" + b"\1" * 10)[:max(0, used - 4)]
+            data = bytearray(table.file_of(*held))
+            data[2:4], data[8:8 + len(content)] = used.to_bytes(2, "little"), content
+            answer = job("read", summed(data))
+            self.assertEqual(answer.accepted, used in (4, 13, 14), used)
+            self.assertEqual(getattr(answer, "number", 73), 73)
+            self.assertEqual(job("check_file", bytes(data)).accepted, answer.accepted)
+        for byte in range(256):
+            data = table.file_of(*held, row, byte)
+            good = byte in (1, 2)
+            self.assertEqual(job("read", data), Loaded(*held, row, byte, byte) if good else refusal(5))
+            self.assertEqual(job("check_file", data), Errors(1, (Error(55, 1, 0, 1),), 1) if good else refusal(5))
+            self.assertEqual(job("rescue", data), Rescued(data, 1, 1, 0, 0) if good else refusal(90))
 
     def test_read(self):
         data = support.sample("example-none.table")
@@ -185,10 +254,10 @@ class Files(unittest.TestCase):
                 held = made(f"(Statements\nfile: 5\n(OtherSimple)\nfile: {file}\n{text})")
                 answer = job(name, *held, node)
                 self.assertEqual((answer.number, answer.file), (number, file))
-                error, = [error for error in job("audit", *held, None).errors if error.number == number]
+                error, = [error for error in job("audit", *held, None, 1).errors if error.number == number]
                 self.assertEqual((error.file, error.begin, error.end, error.node), (file, answer.begin, answer.end, answer.node))
         held = made("(Statements\nfile: 7\n(Assign:1 (Identifier a) (Int) (Int)))")
-        self.assertEqual(job("type", *held, None, 3), refusal(40, 3, 3, 4, file=7))
+        self.assertEqual(job("type", *held, None, 1, 3), refusal(40, 3, 3, 4, file=7))
 
     def test_a_binding_across_files(self):
         """The Def's number for what is wrong in it or left empty, the Call's for its arguments."""
@@ -203,8 +272,8 @@ class Files(unittest.TestCase):
     def test_lists_in_their_order(self):
         held = made("(Statements\nfile: 2\n(Break)\nfile: 1\n(Break)\nfile: 999\n(Break))")
         self.assertEqual(job("module", *held, None).errors, (Error(55, 2, 1, 2), Error(55, 1, 2, 3), Error(55, 999, 3, 4)))
-        self.assertEqual(job("audit", *held, None).errors, (Error(55, 2, 1, 2, 1), Error(55, 1, 2, 3, 2), Error(55, 999, 3, 4, 3)))
-        data = job("write", *held, None).data
+        self.assertEqual(job("audit", *held, None, 1).errors, (Error(55, 2, 1, 2, 1), Error(55, 1, 2, 3, 2), Error(55, 999, 3, 4, 3)))
+        data = job("write", *held, None, None).data
         self.assertEqual(job("check_file", data).errors, job("module", *held, None).errors)
         self.assertEqual((job("read", data).table, job("rescue", data).data), (held[0], data))
 
@@ -238,7 +307,7 @@ class Inputs(unittest.TestCase):
         for node in (2, 2 ** 32, 2 ** 64 - 1, 2 ** 64, 2 ** 64 + 1, 2 ** 80):
             self.assertEqual(job("call", *CALL, node).number, 6)
             self.assertEqual(job("bind", *BOTH, node, node).number, 6)
-            self.assertEqual(job("type", *TYPE, None, node + 10).number, 6)
+            self.assertEqual(job("type", *TYPE, None, 1, node + 10).number, 6)
         for bad in (-1, -2 ** 70):
             with self.assertRaises(ValueError):
                 job("call", *CALL, bad)
@@ -260,7 +329,7 @@ class Inputs(unittest.TestCase):
             self.assertEqual(answer.accepted, job("read", data).accepted)
             held, names = data[512:512 + 24 * (turn % 60)], data[:turn % 50]
             for name in ("table", "module", "audit", "write"):
-                job(name, held, names, *([] if name == "table" else [None]))
+                job(name, held, names, *([] if name == "table" else [None]), *([turn % 4] if name in ("audit", "write") else []))
             for name in ("params", "call", "target", "assignment"):
                 job(name, held, names, turn % 7)
             job("rescue", data)
@@ -328,7 +397,7 @@ class Loading(unittest.TestCase):
                 loaded.checksum
 
     def test_version_numbers(self):
-        self.assertEqual(library.version_number("0.3.0"), 768)
+        self.assertEqual(library.version_number("0.4.0"), 1024)
         self.assertEqual(library.version_text(library.version_number("1.20.3")), "1.20.3")
 
 

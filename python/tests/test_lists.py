@@ -113,8 +113,8 @@ class Lists(unittest.TestCase):
             expected = table_of([write(writer, forms, chosen)], shared=True)
             found = export.export(writer.text.encode())
             self.assertEqual(found, expected, writer.text)
-            errors = library.audit(*found, ALL).errors
-            self.assertEqual(errors, library.audit(*expected, ALL).errors, writer.text)
+            errors = library.audit(*found, ALL, 1).errors
+            self.assertEqual(errors, library.audit(*expected, ALL, 1).errors, writer.text)
             seen.update(error.number for error in errors)
             count += 1
         self.assertEqual(seen, wanted)
@@ -177,7 +177,7 @@ class Targets(unittest.TestCase):
                 expected = table_of([root], shared=True)
                 found = export.export(source.encode())
                 self.assertEqual(found, expected, source)
-                told = [error.number for error in library.audit(*found, ALL).errors]
+                told = [error.number for error in library.audit(*found, ALL, 1).errors]
                 seen.update(told)
                 if sign != "=" and several:
                     self.assertEqual(told[0], 31, source)

@@ -48,7 +48,7 @@ class Kept(RescueTest):
         text = table.read_text(support.sample("lost.txt").decode(), lambda name: support.sample(name))
         records = table.decode(text.table)[:16]
         kept = table.encode([records[0]._replace(size=16), *records[1:]])
-        self.assertEqual(support.library().write(kept, text.names, text.dialect).data, support.sample("lost.rescued"))
+        self.assertEqual(support.library().write(kept, text.names, text.dialect, text.edition).data, support.sample("lost.rescued"))
         self.says(0, None, "", "check", "samples/lost.rescued")
 
     def test_nothing_is_lost_of_what_is_whole(self):

@@ -172,7 +172,7 @@ class Compare(CommandTest):
         script = self.put("plan.star", "def f(a, b=1):\n    return a\nf(b=2)\n")
         out = self.at("plan.table")
         self.says(0, None, STEP, "table", script, "-o", out)
-        records, names, dialect = table.parts_of(self.read("plan.table"))
+        records, names, dialect, _ = table.parts_of(self.read("plan.table"))
         found = table.decode(records)
         wanted = {"kind": "kind", "detail": "detail", "name_length": "name", "begin": "begin", "end": "end", "file": "file", "source": "name position"}
         for node, record in enumerate(found):

@@ -82,6 +82,14 @@ WRONG = [
     ("dialect: normal\n(Break)", ":1: normal is no dialect: a name, or nine numbers, 0 or 1 and the sixth up to 2"),
     ("(Break)\ndialect: 11100010", ":2: 11100010 is no dialect: a name, or nine numbers, 0 or 1 and the sixth up to 2"),
     ("dialect: 111003100\n(Break)", ":1: 111003100 is no dialect: a name, or nine numbers, 0 or 1 and the sixth up to 2"),
+    ("edition: 1\n(Break)", ":1: an edition, and no dialect: a file without a dialect has none"),
+    ("dialect: none\nedition: 2\n(Break)", ":2: an edition, and no dialect: a file without a dialect has none"),
+    ("rules: off\nedition: 2\n(Break)", ":2: an edition, and no dialect: a file without a dialect has none"),
+    ("dialect: all\nedition: 0\n(Break)", ":2: 0 is no edition: 1 or 2"),
+    ("dialect: all\nedition: 3\n(Break)", ":2: 3 is no edition: 1 or 2"),
+    ("dialect: all\nedition: one\n(Break)", ":2: one is not a number"),
+    ("dialect: all\nedition: 1\nedition: 1\n(Break)", ":3: a second line edition:"),
+    ("rules: off\ndialect: all\nedition: 256\n(Break)", ":3: 256 is more than 255"),
     ("dialect: none\ndialect: none\n(Break)", ":2: a second line dialect:"),
     ("change: 600\n(Break)", ":1: 600 is not 2 numbers"),
     ("change: 600 256\n(Break)", ":1: 256 is more than 255"),
@@ -145,7 +153,7 @@ class Records(unittest.TestCase):
         self.assertEqual(table.decode(held)[2], table.Record(50, 2, 1, 1, 9, 12, 2, 1, 0))
 
     def test_names_and_children(self):
-        held, names, dialect = table.parts_of(support.sample("example.table"))
+        held, names, dialect, _ = table.parts_of(support.sample("example.table"))
         records = table.decode(held)
         self.assertEqual([table.name_of(record, names) for record in records], [b"", b"a", b"b", b"", b"c", b""])
         self.assertEqual(list(table.children(records, 0)), [1, 2, 4, 5])
@@ -169,15 +177,15 @@ class Files(unittest.TestCase):
             held = support.library().read(data)
             if held.accepted:
                 with self.subTest(name):
-                    self.assertEqual(table.parts_of(data), (held.table, held.names, held.dialect))
-                    self.assertEqual(table.file_of(held.table, held.names, held.dialect), data)
+                    self.assertEqual(table.parts_of(data), (held.table, held.names, held.dialect, held.edition))
+                    self.assertEqual(table.file_of(held.table, held.names, held.dialect, held.edition), data)
 
     def test_every_length_of_names(self):
         for count in (0, 1, 503, 504, 505, 8064):
             held, names = table.encode([table.Record(6, 0, 0, 0, 0, 1, 1, 1)]), b"n" * count
-            data = support.library().write(held, names, None).data
+            data = support.library().write(held, names, None, None).data
             self.assertEqual(table.file_of(held, names, None), data)
-            self.assertEqual(table.parts_of(data), (held, names, None))
+            self.assertEqual(table.parts_of(data), (held, names, None, None))
 
     def test_a_file_that_is_cut(self):
         for size in (0, 1, 511, 512, 1535):
@@ -186,9 +194,9 @@ class Files(unittest.TestCase):
 
 
 class Texts(unittest.TestCase):
-    def same(self, held, names, dialect):
-        text = table.print_text(held, names, dialect)
-        self.assertEqual(table.parse_text(text), (bytes(held), bytes(names), dialect))
+    def same(self, held, names, dialect, edition=None):
+        text = table.print_text(held, names, dialect, edition)
+        self.assertEqual(table.parse_text(text), (bytes(held), bytes(names), dialect, edition))
         return text
 
     def test_samples_give_their_files(self):
@@ -196,7 +204,7 @@ class Texts(unittest.TestCase):
             with self.subTest(name):
                 text = table.read_text(table.decoded(support.sample(f"{name}.txt")), support.sample)
                 self.assertEqual(text.file(), support.sample(f"{name}.table"))
-                self.same(*text[:3])
+                self.same(*text[:4])
 
     def test_a_printed_text(self):
         self.assertEqual(table.print_text(*table.parts_of(support.sample("example.table"))), """dialect: Standard
@@ -222,7 +230,7 @@ names: shared
         whole = bytes(range(256))
         for start, length in ((0, 1), (10, 1), (32, 1), (34, 1), (40, 2), (92, 1), (96, 1), (61, 1), (200, 56), (1, 255)):
             held = table.encode([table.Record(10, 0, 0, 0, 0, 1, 2, 1), table.Record(26, 0, length, start, 0, 1, 1, 1)])
-            self.assertTrue(support.library().write(held, whole, None).accepted)
+            self.assertTrue(support.library().write(held, whole, None, None).accepted)
             self.same(held, whole, None)
 
     def test_names_shared_overlapping_and_unused(self):
@@ -231,7 +239,7 @@ names: shared
             for start, length in places:
                 records += [table.Record(10, 0, 0, 0, 0, 1, 2, 1), table.Record(26, 0, length, start, 0, 1, 1, 1)]
             held = table.encode(records)
-            self.assertTrue(support.library().write(held, b"aaab", None).accepted)
+            self.assertTrue(support.library().write(held, b"aaab", None, None).accepted)
             self.same(held, b"aaab", None)
 
     def test_every_dialect(self):
@@ -240,9 +248,18 @@ names: shared
             digits = [number >> at & 1 for at in range(8)]
             self.same(held, b"", bytes(digits[:5] + [number >> 8] + digits[5:]))
 
+    def test_every_edition(self):
+        """Any byte of an edition has a text, one that is no edition with `rules: off`."""
+        held, row = table.encode([table.Record(6, 0, 0, 0, 0, 1, 1, 1)]), numbers.DIALECTS["standard"]
+        for edition in range(256):
+            text = self.same(held, b"", row, edition)
+            self.assertEqual(text.split("\n")[1], f"edition: {edition}")
+            self.assertEqual("rules: off" in text, edition not in (1, 2))
+        self.assertNotIn("edition", self.same(held, b"", row))
+
     def test_tables_that_are_not_sound(self):
         known = random.Random(2)
-        sound, names, dialect = table.parts_of(support.sample("whole.table"))
+        sound, names, dialect, _ = table.parts_of(support.sample("whole.table"))
         for turn in range(400):
             held = bytearray(sound)
             for _ in range(known.randrange(1, 6)):
@@ -250,7 +267,8 @@ names: shared
             if turn % 4 == 0:
                 held = bytearray(known.getrandbits(8) for _ in range(24 * known.randrange(40)))
             of_names = bytes(known.getrandbits(8) for _ in range(known.randrange(30))) if turn % 2 else names
-            self.same(held, of_names, bytes(known.getrandbits(8) for _ in range(9)) if turn % 3 == 0 else dialect)
+            self.same(held, of_names, bytes(known.getrandbits(8) for _ in range(9)) if turn % 3 == 0 else dialect,
+                      known.randrange(256) if turn % 5 == 0 else None)
 
     def test_the_largest_tables(self):
         deep = [table.Record(1, 0, 0, 0, 0, 1, numbers.NODES - at) for at in range(numbers.NODES)]
@@ -270,7 +288,7 @@ names: shared
                              ("(Statements\nfile: 3\n(Break)\n(If (Int)\n(Break))\nfile: 1000\nfile: 4\n(Break) (Break)\nfile: 3\n(Break))",
                               [0, 3, 3, 3, 3, 4, 4, 3]), ("(Break kind=1)", [0]), ("(Statements kind=13)", [1])):
             with self.subTest(text):
-                held, names, dialect = table.parse_text(text)
+                held, names, dialect, _ = table.parse_text(text)
                 self.assertEqual([record.file for record in table.decode(held)], wanted)
                 self.same(held, names, dialect)
 
@@ -287,7 +305,7 @@ file: 2
 
     def test_a_printed_text_of_zeros(self):
         """A table that is older than source file numbers."""
-        held, names, dialect = table.parts_of(support.sample("example.table"))
+        held, names, dialect, _ = table.parts_of(support.sample("example.table"))
         zeros = table.encode(record._replace(file=0) for record in table.decode(held))
         self.assertTrue(self.same(zeros, names, dialect).startswith("dialect: Standard\nfile: 0\n(Def span=0-25\n  (Normal a span=6-7)\n"))
 

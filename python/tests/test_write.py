@@ -34,7 +34,11 @@ class Write(CommandTest):
             if name == "unsound":
                 self.assertIn("it has 1 child, and Assign takes 2", self.refused(3, *parts, *dialect))
                 continue
-            whole = table.file_of(text.table, text.names, text.dialect)
+            if name == "edition-bad":
+                self.assertIn("an edition is 1 or 2", self.refused(0, *parts, *dialect, "--edition", str(text.edition)))
+                continue
+            dialect += ["--edition", str(text.edition)] if text.edition else []
+            whole = table.file_of(text.table, text.names, text.dialect, text.edition)
             self.says(0, f"written {len(whole)}\n", "", "write", *parts, *dialect, "-o", self.at("out"))
             self.assertEqual(self.read("out"), whole)
             self.alone()
@@ -59,6 +63,26 @@ class Write(CommandTest):
             self.says(0, "written 1536\n", "", "write", *parts, "--dialect", word, "-o", self.at("out"))
             self.assertEqual(self.read("out"), support.sample("example.table"))
         self.assertIn("no dialect is called basic", self.refused(0, *parts, "--dialect", "basic"))
+
+    def test_editions(self):
+        """An edition is the 14th used byte; without --edition there is none. It needs a dialect."""
+        text = table.read_text(support.sample("example.txt").decode(), support.sample)
+        parts, row = self.parts(text), ("--dialect", "standard")
+        for edition in (1, 2):
+            self.says(0, "written 1536\n", "", "write", *parts, *row, "--edition", str(edition), "-o", self.at("out"))
+            data = self.read("out")
+            self.assertEqual((data[2:4], data[17]), (b"\x0e\0", edition))
+            self.assertEqual(data, table.file_of(text.table, text.names, text.dialect, edition))
+            told = json.loads(self.run_ducat("write", *parts, *row, "--edition", str(edition), "--json", "-o", self.at("out")).out)
+            self.assertEqual(told["edition"], {"number": edition, "given": True})
+        told = json.loads(self.run_ducat("write", *parts, *row, "--json", "-o", self.at("out")).out)
+        self.assertEqual(told["edition"], {"number": 1, "given": False})
+        needs = "--edition needs a dialect: a file without a dialect has no edition"
+        self.assertIn(needs, self.refused(0, *parts, "--edition", "1"))
+        self.assertIn(needs, self.refused(0, *parts, "--edition", "2", "--dialect", "none"))
+        for word in ("0", "3", "01", "one", "", "257"):
+            self.assertIn("an edition is 1 or 2", self.refused(0, *parts, *row, "--edition", word))
+        self.assertIn("the bytes are 1 1 1 0 0 3 1 0 0", self.refused(5, *parts, "--dialect", "111003100", "--edition", "2"))
 
     def test_standard_input(self):
         text = table.read_text(support.sample("example.txt").decode(), support.sample)
@@ -89,7 +113,7 @@ class Table(CommandTest):
             ran = self.run_ducat("table", f"samples/{name}.txt", "-o", self.at("out"))
             self.assertEqual((ran.status, ran.out), (0, f"written {len(support.sample(f'{name}.table'))}\n"))
             self.assertEqual(self.read("out"), support.sample(f"{name}.table"), name)
-            self.assertEqual(bool(ran.err), name == "unsound")
+            self.assertEqual(bool(ran.err), name in ("edition-bad", "unsound"))
 
     def test_a_script(self):
         self.says(0, "written 2048\n", STEP, "table", "--dialect", "standard", "samples/clean.star", "-o", self.at("out"))
@@ -167,6 +191,8 @@ class Dump(CommandTest):
                 changed[draw.randrange(len(changed))] = draw.randrange(256)
             self.again(table.file_of(bytes(changed), take.names, take.dialect))
         self.again(table.file_of(take.table, take.names, bytes([9] * 9)))
+        for edition in (0, 1, 2, 3, 255):
+            self.again(table.file_of(take.table, take.names, take.dialect, edition))
         ran = self.run_ducat("dump", "samples/unsound.table")
         self.assertIn("this table is not sound: 3 ", ran.err)
 

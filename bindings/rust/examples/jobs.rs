@@ -10,6 +10,7 @@ use starlark_checks::fstring_write;
 use starlark_checks::fstring_write_words;
 use starlark_checks::read;
 use starlark_checks::rescue;
+use starlark_checks::Edition;
 use starlark_checks::Kind;
 use starlark_checks::Part;
 use starlark_checks::Table;
@@ -213,10 +214,13 @@ fn assignments() {
 fn types() {
     let generic = simple(tree(INDEX2, vec![Tree(DOT, 0, "b", vec![x("a")]), x("int"), x("str")]));
     let banned = simple(Tree(DOT, 0, "type", vec![x("x")]));
-    let show = |words: &str, script: &Script, dialect: &[u8], node: usize, room: usize| {
+    let show_in = |words: &str, script: &Script, dialect: &[u8], edition: Edition, node: usize, room: usize| {
         let mut shapes = vec![BEFORE; room];
-        let answer = script.table().type_shape(dialect, node, &mut shapes);
+        let answer = script.table().type_shape(dialect, edition, node, &mut shapes);
         println!("{words}: {answer:?}, shapes {shapes:?}");
+    };
+    let show = |words: &str, script: &Script, dialect: &[u8], node: usize, room: usize| {
+        show_in(words, script, dialect, Edition::One, node, room);
     };
     show("a.b[int, str] as a type", &generic, &EXTENDED, 1, 6);
     show("with no dialect, so in Extended", &generic, &[], 1, 6);
@@ -226,6 +230,8 @@ fn types() {
     show("eight bytes of dialect", &generic, &EXTENDED[..8], 1, 6);
     show("no expression", &generic, &EXTENDED, 0, 6);
     show("x.type as a type", &banned, &EXTENDED, 1, 6);
+    show_in("in edition 2", &banned, &EXTENDED, Edition::Two, 1, 6);
+    show_in("eight bytes of dialect", &banned, &EXTENDED[..8], Edition::Two, 1, 6);
 }
 
 fn modules() {
@@ -252,21 +258,28 @@ fn audits() {
     let script = Script::of(tree(STATEMENTS, vec![tree(SIMPLE, vec![call]), leaf(BREAK, "")]));
     let show = |words: &str, dialect: &[u8], room: usize| {
         let mut errors = vec![u32::from(BEFORE); room];
-        let answer = script.table().audit(dialect, &mut errors).map(|errors| errors.total);
+        let answer = script.table().audit(dialect, Edition::One, &mut errors).map(|errors| errors.total);
         println!("{words}: {answer:?}, errors {errors:?}");
     };
     show("f(b=a, a) in file 1 and break in file 2, audited", &[], 2 * AUDIT_WORDS + 1);
     show("a list one word short of two", &[], 2 * AUDIT_WORDS - 1);
     show("eight bytes of dialect", &EXTENDED[..8], 2 * AUDIT_WORDS + 1);
-    for error in script.table().audit(&[], &mut [0; 2 * AUDIT_WORDS]).expect("the table is sound") {
+    for error in script.table().audit(&[], Edition::One, &mut [0; 2 * AUDIT_WORDS]).expect("the table is sound") {
         println!("as a value: {error:?}");
+    }
+    let typed = Tree(ASSIGN, 1, "", vec![x("a"), Tree(DOT, 0, "type", vec![x("b")]), leaf(INT, "")]);
+    let script = Script::of(typed);
+    for edition in [Edition::One, Edition::Two] {
+        let mut errors = [0; AUDIT_WORDS];
+        let errors = script.table().audit(&EXTENDED, edition, &mut errors).expect("the table is sound");
+        println!("a: b.type = 1 in edition {}: {} errors", u32::from(edition), errors.total);
     }
 }
 
 /// The file in `room` bytes: its first bytes, and how many are no longer what they were. An accepted one is put under the name `path`.
-fn show_file(words: &str, script: &Script, dialect: &[u8], room: usize, path: Option<String>) {
+fn show_file(words: &str, script: &Script, dialect: &[u8], edition: Option<Edition>, room: usize, path: Option<String>) {
     let mut file = vec![BEFORE; room];
-    let answer = script.table().write(dialect, &mut file);
+    let answer = script.table().write(dialect, edition, &mut file);
     let changed = file.iter().rposition(|&byte| byte != BEFORE).map_or(0, |last| last + 1);
     println!("{words}: {answer:?}, {changed} changed, the first {:?}", &file[..18]);
     if let (Ok(size), Some(path)) = (answer, path) {
@@ -276,11 +289,13 @@ fn show_file(words: &str, script: &Script, dialect: &[u8], room: usize, path: Op
 
 fn files() {
     let script = def(vec![leaf(NORMAL, "a"), leaf(NO_ARGS, ""), leaf(NORMAL, "b")]);
-    show_file("the file of def f(a, *, b): break, with no dialect", &script, &[], FILE_BYTES, std::env::args().nth(1));
-    show_file("in the Extended dialect", &script, &EXTENDED, FILE_BYTES, None);
-    show_file("1,536 bytes for three blocks", &script, &[], 1536, None);
-    show_file("1,535 bytes for three blocks", &script, &[], 1535, None);
-    show_file("eight bytes of dialect", &script, &EXTENDED[..8], FILE_BYTES, None);
+    show_file("the file of def f(a, *, b): break, with no dialect", &script, &[], None, FILE_BYTES, std::env::args().nth(1));
+    show_file("in the Extended dialect", &script, &EXTENDED, None, FILE_BYTES, None);
+    show_file("1,536 bytes for three blocks", &script, &[], None, 1536, None);
+    show_file("1,535 bytes for three blocks", &script, &[], None, 1535, None);
+    show_file("eight bytes of dialect", &script, &EXTENDED[..8], None, FILE_BYTES, None);
+    show_file("with edition 2", &script, &EXTENDED, Some(Edition::Two), FILE_BYTES, None);
+    show_file("with edition 1 and no dialect", &script, &[], Some(Edition::One), FILE_BYTES, None);
 }
 
 /// What is kept of a file in `room` bytes, and how many of them are no longer what they were.
@@ -294,7 +309,7 @@ fn show_rescue(words: &str, input: &[u8], room: usize) {
 fn rescues() {
     let script = Script::of(tree(STATEMENTS, (0..30).map(|_| tree(SIMPLE, vec![x("a")])).collect()));
     let mut file = vec![BEFORE; FILE_BYTES];
-    let size = script.table().write(&[], &mut file).expect("the file is written");
+    let size = script.table().write(&[], None, &mut file).expect("the file is written");
     file.truncate(size);
     show_rescue("a file of 61 nodes, rescued", &file, FILE_BYTES);
     show_rescue("with seven bytes behind it", &[&file[..], &[0; 7]].concat(), FILE_BYTES);
@@ -321,15 +336,17 @@ fn show_checked(words: &str, file: &[u8], room: usize) {
 
 fn reads() {
     let script = def(vec![leaf(NORMAL, "a"), leaf(NO_ARGS, ""), leaf(NORMAL, "b")]);
-    let file = |dialect: &[u8]| {
+    let file = |dialect: &[u8], edition: Option<Edition>| {
         let mut file = vec![BEFORE; FILE_BYTES];
-        let size = script.table().write(dialect, &mut file).expect("the file is written");
+        let size = script.table().write(dialect, edition, &mut file).expect("the file is written");
         file.truncate(size);
         file
     };
-    let (none, standard, extended) = (file(&[]), file(&STANDARD), file(&EXTENDED));
+    let (none, standard, extended) = (file(&[], None), file(&STANDARD, None), file(&EXTENDED, None));
     show_read("a file of five nodes, read", &none, 120, 2);
     show_read("in the Extended dialect", &extended, 120, 2);
+    show_read("with edition 1", &file(&EXTENDED, Some(Edition::One)), 120, 2);
+    show_read("with edition 2", &file(&EXTENDED, Some(Edition::Two)), 120, 2);
     show_read("119 bytes for five nodes", &none, 119, 2);
     show_read("one byte for two of names", &none, 120, 1);
     show_read("a file cut short", &none[..1535], 120, 2);

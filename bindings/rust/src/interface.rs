@@ -62,11 +62,11 @@ pub fn assignment(table: Table, node: usize, out: &mut Words) -> u32 {
     unsafe { starlark_assignment(nodes.as_ptr(), nodes.len(), names.as_ptr(), names.len(), node, out) }
 }
 
-pub fn type_shape(table: Table, dialect: &[u8], node: usize, shapes: &mut [u8], out: &mut Words) -> u32 {
+pub fn type_shape(table: Table, dialect: &[u8], edition: u32, node: usize, shapes: &mut [u8], out: &mut Words) -> u32 {
     let Table { nodes, names } = table;
     let (t, tl, n, nl) = (nodes.as_ptr(), nodes.len(), names.as_ptr(), names.len());
     let (start, length) = (shapes.as_mut_ptr(), shapes.len());
-    unsafe { starlark_type(t, tl, n, nl, dialect.as_ptr(), dialect.len(), node, start, length, out) }
+    unsafe { starlark_type(t, tl, n, nl, dialect.as_ptr(), dialect.len(), edition, node, start, length, out) }
 }
 
 pub fn module(table: Table, dialect: &[u8], errors: &mut [u32], out: &mut Words) -> u32 {
@@ -76,18 +76,18 @@ pub fn module(table: Table, dialect: &[u8], errors: &mut [u32], out: &mut Words)
     unsafe { starlark_module(t, tl, n, nl, dialect.as_ptr(), dialect.len(), start, length, out) }
 }
 
-pub fn audit(table: Table, dialect: &[u8], errors: &mut [u32], out: &mut Words) -> u32 {
+pub fn audit(table: Table, dialect: &[u8], edition: u32, errors: &mut [u32], out: &mut Words) -> u32 {
     let Table { nodes, names } = table;
     let (t, tl, n, nl) = (nodes.as_ptr(), nodes.len(), names.as_ptr(), names.len());
     let (start, length) = (errors.as_mut_ptr(), errors.len());
-    unsafe { starlark_audit(t, tl, n, nl, dialect.as_ptr(), dialect.len(), start, length, out) }
+    unsafe { starlark_audit(t, tl, n, nl, dialect.as_ptr(), dialect.len(), edition, start, length, out) }
 }
 
-pub fn write(table: Table, dialect: &[u8], file: &mut [u8], out: &mut Words) -> u32 {
+pub fn write(table: Table, dialect: &[u8], edition: u32, file: &mut [u8], out: &mut Words) -> u32 {
     let Table { nodes, names } = table;
     let (t, tl, n, nl) = (nodes.as_ptr(), nodes.len(), names.as_ptr(), names.len());
     let (start, length) = (file.as_mut_ptr(), file.len());
-    unsafe { starlark_write(t, tl, n, nl, dialect.as_ptr(), dialect.len(), start, length, out) }
+    unsafe { starlark_write(t, tl, n, nl, dialect.as_ptr(), dialect.len(), edition, start, length, out) }
 }
 
 pub fn rescue(input: &[u8], file: &mut [u8], out: &mut Words) -> u32 {

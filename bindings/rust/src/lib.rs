@@ -48,6 +48,7 @@ pub use made::Mode;
 pub use made::Number;
 pub use made::Shape;
 pub use words::Class;
+pub use words::UnknownEdition;
 pub use words::UnknownKind;
 pub use words::UnknownMode;
 pub use words::UnknownNumber;
@@ -179,12 +180,31 @@ pub struct Rescued {
     pub after: u64,
 }
 
-/// What a table file holds: so many nodes, `NODE_BYTES` each, so many name bytes, and the dialect, if it has one.
+/// An edition of the type rules. The second reads a path that ends in `type` as a path, which the first refuses with 44. Nothing else differs.
+///
+/// ```
+/// use starlark_checks::Edition;
+/// assert_eq!(Edition::try_from(2), Ok(Edition::Two));
+/// assert_eq!(u32::from(Edition::Two), 2);
+/// assert!(Edition::try_from(0).is_err());
+/// ```
+#[derive(Clone, Copy, Debug, PartialEq, Eq, PartialOrd, Ord, Hash)]
+#[repr(u32)]
+pub enum Edition {
+    One = 1,
+    Two = 2,
+}
+
+/// What a table file holds: so many nodes, `NODE_BYTES` each, so many name bytes, the dialect, if it has one, and the edition of the type rules, if it
+/// has that byte. `edition` is for [`Table::write`]; `effective_edition`, which is [`Edition::One`] where there is no byte, is for
+/// [`Table::type_shape`] and [`Table::audit`].
 #[derive(Clone, Copy, Debug, PartialEq, Eq)]
 pub struct Held {
     pub nodes: usize,
     pub name_bytes: usize,
     pub dialect: Option<[u8; 9]>,
+    pub edition: Option<Edition>,
+    pub effective_edition: Edition,
 }
 
 /// The answer to a table file: the errors of its module, and how many nodes it has.
@@ -268,10 +288,10 @@ impl Table<'_> {
         accepted(|out| interface::assignment(self, node, out)).map(|out| out[0])
     }
 
-    /// Whether a node is a type in a dialect (nine bytes, or none for Extended). `shapes` gets the shape of each node that is read
-    /// ([`Shape`] as a byte), and needs a byte for each node of the type.
-    pub fn type_shape(self, dialect: &[u8], node: usize, shapes: &mut [u8]) -> Result<(), Refused> {
-        accepted(|out| interface::type_shape(self, dialect, node, shapes, out)).map(|_| ())
+    /// Whether a node is a type in a dialect (nine bytes, or none for Extended) and an edition of the type rules. `shapes` gets the shape of each
+    /// node that is read ([`Shape`] as a byte), and needs a byte for each node of the type.
+    pub fn type_shape(self, dialect: &[u8], edition: Edition, node: usize, shapes: &mut [u8]) -> Result<(), Refused> {
+        accepted(|out| interface::type_shape(self, dialect, edition.into(), node, shapes, out)).map(|_| ())
     }
 
     /// The errors that the module has under a dialect (nine bytes, or none for Extended). `errors` is lent [`ERROR_WORDS`] words for each; the
@@ -293,17 +313,18 @@ impl Table<'_> {
         Ok(Errors::of_module(out[0], errors))
     }
 
-    /// The errors that every job on every node that it fits has under a dialect (nine bytes, or none for Extended). `errors` is lent
-    /// [`AUDIT_WORDS`] words for each; the first that fit whole are stored.
-    pub fn audit<'a>(self, dialect: &[u8], errors: &'a mut [u32]) -> Result<Errors<'a>, Refused> {
-        let out = accepted(|out| interface::audit(self, dialect, errors, out))?;
+    /// The errors that every job on every node that it fits has under a dialect (nine bytes, or none for Extended) and an edition of the type rules.
+    /// `errors` is lent [`AUDIT_WORDS`] words for each; the first that fit whole are stored.
+    pub fn audit<'a>(self, dialect: &[u8], edition: Edition, errors: &'a mut [u32]) -> Result<Errors<'a>, Refused> {
+        let out = accepted(|out| interface::audit(self, dialect, edition.into(), errors, out))?;
         Ok(Errors::of_audit(out[0], errors))
     }
 
-    /// The table file of the table, its names and a dialect (nine bytes, or none, which stays none), at the front of `file`: how many bytes
-    /// it takes. `FILE_BYTES` are never too few.
-    pub fn write(self, dialect: &[u8], file: &mut [u8]) -> Result<usize, Refused> {
-        accepted(|out| interface::write(self, dialect, file, out)).map(|out| out[0] as usize)
+    /// The table file of the table, its names, a dialect (nine bytes, or none, which stays none) and an edition of the type rules, or none, at the
+    /// front of `file`: how many bytes it takes. `FILE_BYTES` are never too few. An edition without a dialect is refused with 5.
+    pub fn write(self, dialect: &[u8], edition: Option<Edition>, file: &mut [u8]) -> Result<usize, Refused> {
+        let edition = edition.map_or(NONE, u32::from);
+        accepted(|out| interface::write(self, dialect, edition, file, out)).map(|out| out[0] as usize)
     }
 }
 
@@ -320,7 +341,9 @@ pub fn read(file: &[u8], table: &mut [u8], names: &mut [u8]) -> Result<Held, Ref
     let out = accepted(|out| interface::read(file, table, names, out))?;
     let byte = |at: usize| out[3 + at / 4].to_le_bytes()[at % 4];
     let dialect = (out[2] == 1).then(|| std::array::from_fn(byte));
-    Ok(Held { nodes: out[0] as usize, name_bytes: out[1] as usize, dialect })
+    let edition = |word: u32| Edition::try_from(word).expect("a file that is read has no other edition");
+    let (stands, holds) = (place(out[6]).map(edition), edition(out[7]));
+    Ok(Held { nodes: out[0] as usize, name_bytes: out[1] as usize, dialect, edition: stands, effective_edition: holds })
 }
 
 /// The errors of the module of a table file, under the dialect that it holds: 70 to 75, 3 to 5. `errors` is lent as by [`Table::module`].

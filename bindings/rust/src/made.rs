@@ -15,7 +15,7 @@ pub enum Number {
     UnsoundRecord = 3,
     /// a statement or expression is more than 64 deep
     TooDeep = 4,
-    /// the dialect bytes give no dialect
+    /// the dialect bytes give no dialect, or the edition is neither 1 nor 2, or stands without a dialect
     BadDialect = 5,
     /// the node asked for is beyond the table, or of the wrong kind
     WrongNode = 6,
@@ -67,7 +67,7 @@ pub enum Number {
     DotInType = 42,
     /// a path is expected before the brackets of a type
     ExpectingPath = 43,
-    /// a path in a type ends in `.type`
+    /// a path in a type ends in `.type`, which edition 2 allows
     DotTypeBan = 44,
     /// the dialect has no types
     TypesDisabled = 45,
@@ -294,7 +294,7 @@ pub const NUMBERS: [(Number, &str, &str); 64] = [
     (Number::NameBytes, "NAME_BYTES", "there are more than 8,064 name bytes"),
     (Number::UnsoundRecord, "UNSOUND_RECORD", "a record of the table is unsound"),
     (Number::TooDeep, "TOO_DEEP", "a statement or expression is more than 64 deep"),
-    (Number::BadDialect, "BAD_DIALECT", "the dialect bytes give no dialect"),
+    (Number::BadDialect, "BAD_DIALECT", "the dialect bytes give no dialect, or the edition is neither 1 nor 2, or stands without a dialect"),
     (Number::WrongNode, "WRONG_NODE", "the node asked for is beyond the table, or of the wrong kind"),
     (Number::ShortBuffer, "SHORT_BUFFER", "the buffer for modes, shapes, words of a binding, a file, what a file holds, a format text or its parts is too short"),
     (Number::SlashFirst, "SLASH_FIRST", "`/` is the first parameter"),
@@ -320,7 +320,7 @@ pub const NUMBERS: [(Number, &str, &str); 64] = [
     (Number::EmptyListInType, "EMPTY_LIST_IN_TYPE", "an empty list stands in a type"),
     (Number::DotInType, "DOT_IN_TYPE", "a dot in a type stands on something other than a path"),
     (Number::ExpectingPath, "EXPECTING_PATH", "a path is expected before the brackets of a type"),
-    (Number::DotTypeBan, "DOT_TYPE_BAN", "a path in a type ends in `.type`"),
+    (Number::DotTypeBan, "DOT_TYPE_BAN", "a path in a type ends in `.type`, which edition 2 allows"),
     (Number::TypesDisabled, "TYPES_DISABLED", "the dialect has no types"),
     (Number::StarNotPermitted, "STAR_NOT_PERMITTED", "the dialect has no `*` in parameter lists"),
     (Number::SlashNotPermitted, "SLASH_NOT_PERMITTED", "the dialect has no `/` in parameter lists"),

@@ -8,6 +8,7 @@ use crate::made::MODES;
 use crate::made::NUMBERS;
 use crate::made::SHAPES;
 use crate::At;
+use crate::Edition;
 use crate::Kind;
 use crate::Mode;
 use crate::Number;
@@ -34,6 +35,10 @@ pub struct UnknownKind(pub u8);
 /// A byte that is no mode of a parameter.
 #[derive(Clone, Copy, Debug, PartialEq, Eq)]
 pub struct UnknownMode(pub u8);
+
+/// A number that is no edition of the type rules.
+#[derive(Clone, Copy, Debug, PartialEq, Eq)]
+pub struct UnknownEdition(pub u32);
 
 /// A byte that is no shape of a type.
 #[derive(Clone, Copy, Debug, PartialEq, Eq)]
@@ -161,6 +166,27 @@ impl TryFrom<u8> for Shape {
     }
 }
 
+impl From<Edition> for u32 {
+    fn from(edition: Edition) -> u32 {
+        edition as u32
+    }
+}
+
+/// A word of the C interface, or the byte of a table file.
+impl TryFrom<u32> for Edition {
+    type Error = UnknownEdition;
+
+    fn try_from(word: u32) -> Result<Edition, UnknownEdition> {
+        [Edition::One, Edition::Two].into_iter().find(|&edition| edition as u32 == word).ok_or(UnknownEdition(word))
+    }
+}
+
+impl fmt::Display for UnknownEdition {
+    fn fmt(&self, f: &mut fmt::Formatter) -> fmt::Result {
+        write!(f, "{} is no edition of the type rules", self.0)
+    }
+}
+
 impl fmt::Display for UnknownMode {
     fn fmt(&self, f: &mut fmt::Formatter) -> fmt::Result {
         write!(f, "{} is no mode of a parameter", self.0)
@@ -206,6 +232,8 @@ impl Error for Refused {}
 impl Error for UnknownNumber {}
 
 impl Error for UnknownKind {}
+
+impl Error for UnknownEdition {}
 
 impl Error for UnknownMode {}
 

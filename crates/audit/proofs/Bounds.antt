@@ -8,6 +8,7 @@ use native.Mathlib.Omega.{arith}
 use lib.ListN.{length, length-append}
 use Rattle.fields.specs.Choice.{if'}
 use Rattle.dialect.specs.declared.Dialect.{Dialect}
+use Rattle.dialect.specs.declared.Edition.{Edition}
 use Rattle.forest.specs.Forest.{kidsOf, Tree, node, Forest, none, _then_, forest, treeOf, count, countTree}
 use Rattle.forest.proofs.Stretch.{count-forest, length-kids}
 use Rattle.table.specs.Answer.{Answer, accepted, refused}
@@ -49,36 +50,37 @@ kind-few names t =
     (choice-few (wants Call (kindIn t)) _ _ (answer-few (callAnswer names t))
     (choice-few (wants Assignment (kindIn t)) _ _ (answer-few («check_assignment» t)) (omega arith)))
 
-pub role-few : (d : Dialect) (names : List ℕ) (role : Role) (t : Tree) → length (roleErrors d names role t) ≤ 1
+pub role-few : (d : Dialect) (edition : Edition) (names : List ℕ) (role : Role) (t : Tree)
+    → length (roleErrors d edition names role t) ≤ 1
 unfolding roleErrors
-role-few d names AsTarget t = answer-few (counted 0 t)
-role-few d names AsType t = answer-few («dialect_check_type» names (d .«enable_types») t)
-role-few d names Plain t = omega arith
+role-few d edition names AsTarget t = answer-few (counted 0 t)
+role-few d edition names AsType t = answer-few («dialect_check_type» edition names (d .«enable_types») t)
+role-few d edition names Plain t = omega arith
 
-module _ (d : Dialect) (names : List ℕ) where
-  pub there-few : (p : Placed) → length (refusedThere d names p) ≤ 2
+module _ (d : Dialect) (edition : Edition) (names : List ℕ) where
+  pub there-few : (p : Placed) → length (refusedThere d edition names p) ≤ 2
   unfolding refusedThere
   there-few p = omega (
     arith,
-    length-append (kindErrors names (p .tree)) (roleErrors d names (p .role) (p .tree)),
+    length-append (kindErrors names (p .tree)) (roleErrors d edition names (p .role) (p .tree)),
     kind-few names (p .tree),
-    role-few d names (p .role) (p .tree),
+    role-few d edition names (p .role) (p .tree),
   )
 
   -- LAW: refusals of trees, and of others: those of each, and no more than two at a tree
   pub refusals-append : (ps qs : List Placed)
-      → refusals d names (ps ++ qs) ≡ refusals d names ps ++ refusals d names qs
+      → refusals d edition names (ps ++ qs) ≡ refusals d edition names ps ++ refusals d edition names qs
   unfolding refusals
   refusals-append [] qs = refl
   refusals-append (p ∷ ps) qs = rw (refusals-append ps qs)
-      (sym (append-assoc (refusedThere d names p) (refusals d names ps) (refusals d names qs)))
+      (sym (append-assoc (refusedThere d edition names p) (refusals d edition names ps) (refusals d edition names qs)))
 
-  pub refusals-few : (ps : List Placed) → length (refusals d names ps) ≤ 2 * length ps
+  pub refusals-few : (ps : List Placed) → length (refusals d edition names ps) ≤ 2 * length ps
   unfolding refusals
   refusals-few [] = omega arith
   refusals-few (p ∷ ps) = omega (
     arith,
-    length-append (refusedThere d names p) (refusals d names ps),
+    length-append (refusedThere d edition names p) (refusals d edition names ps),
     there-few p,
     refusals-few ps,
   )
@@ -100,20 +102,20 @@ mutual
   )
 
 -- the same for what code walks: a stretch, and its first tree
-module _ (d : Dialect) (names : List ℕ) (i : ℕ) (t : List ℕ) where
-  pub each-few : (roles : Roles) → 12 * length (refusals d names (placed roles (forest i t))) ≤ length t
+module _ (d : Dialect) (edition : Edition) (names : List ℕ) (i : ℕ) (t : List ℕ) where
+  pub each-few : (roles : Roles) → 12 * length (refusals d edition names (placed roles (forest i t))) ≤ length t
   each-few roles = omega (
     arith,
-    refusals-few d names (placed roles (forest i t)),
+    refusals-few d edition names (placed roles (forest i t)),
     count-placed roles (forest i t),
     count-forest i t,
   )
 
-  pub tree-few : (role : Role) → 12 * length (refusals d names (placedTree role (treeOf i t))) ≤ 24 + length t
+  pub tree-few : (role : Role) → 12 * length (refusals d edition names (placedTree role (treeOf i t))) ≤ 24 + length t
   unfolding count
   tree-few role = omega (
     arith,
-    refusals-few d names (placedTree role (treeOf i t)),
+    refusals-few d edition names (placedTree role (treeOf i t)),
     count-tree role (treeOf i t),
     count-forest (i + 1) (kidsOf t),
     length-kids t,

@@ -5,14 +5,17 @@ use Prim.Native.Nat.{ℕ, _+_, _≤_}
 use native.Mathlib.Omega.{arith}
 use lib.ListN.{length, take, drop, length-take}
 use Rattle.dialect.specs.declared.Dialect.{Dialect}
+use Rattle.dialect.specs.declared.Edition.{Edition}
+use Rattle.dialect.specs.declared.EditionRead.{EditionRead}
+use Rattle.dialect.specs.Editions.{editionOf}
 use Rattle.forest.specs.Forest.{forest, count}
 use Rattle.forest.proofs.Stretch.{count-forest}
 use Rattle.table.specs.Answer.{Answer, accepted, refusal}
-use Rattle.table.specs.Check.{given, givenOf}
+use Rattle.table.specs.Check.{ruled, rulesOf}
 use Rattle.table.specs.declared.Refusal.{Refusal}
-use Rattle.table.specs.declared.Given.{Given}
-use Rattle.table.specs.declared.Given.the-variants.{In, Refused as Away}
-use Rattle.table.proofs.Entering.{away-is, in-is}
+use Rattle.table.specs.declared.Ruled.{Ruled}
+use Rattle.table.specs.declared.Ruled.the-variants.{By, Refused as Unruled}
+use Rattle.table.proofs.Ruling.{unruled-is, by-is}
 use Rattle.errors.specs.declared.Err.{Err}
 use Rattle.errors.specs.declared.Listing.the-variants.{Own, Audit}
 use Rattle.errors.specs.Errors.{kept, width, stored, Stores}
@@ -47,24 +50,33 @@ module _ (d : Dialect) (names t : List ℕ) {m : ℕ} (m-is : m ≡ length (kept
   )
 
   -- and then what the jobs refuse, over as much as a table has at most
-  pub pass-all : (xs : List ℕ) {ys : List ℕ} → ys ≡ stored Own (kept Own (passErrors d names t)) xs → {at : ℕ}
-      → at ≡ freeAt Audit m ys → {w : List ℕ} → w ≡ take 50400 t → {n : ℕ} {zs : List ℕ}
-      → Stores Audit (refusals d names (placed Nowhere (forest 0 w))) (after at ys) n zs
-      → (m + n ≡ length (auditErrors d names t)) × (back at ys zs ≡ stored Audit (auditErrors d names t) xs)
+  pub pass-all : (edition : Edition) (xs : List ℕ) {ys : List ℕ} → ys ≡ stored Own (kept Own (passErrors d names t)) xs
+      → {at : ℕ} → at ≡ freeAt Audit m ys → {w : List ℕ} → w ≡ take 50400 t → {n : ℕ} {zs : List ℕ}
+      → Stores Audit (refusals d edition names (placed Nowhere (forest 0 w))) (after at ys) n zs
+      → (m + n ≡ length (auditErrors d edition names t))
+      × (back at ys zs ≡ stored Audit (auditErrors d edition names t) xs)
   unfolding auditErrors
-  pass-all xs words at-is w-is rest =
+  pass-all edition xs words at-is w-is rest =
       let both = stores-both _ _ (own-stores xs words) at-is (rw w-is at rest) in (both .count, both .words)
 
 -- what the promises say where the job refuses, and where it does not
-abbrev pub Promised : List ℕ → List ℕ → List ℕ → List ℕ → Answer → List ℕ → Type 0
-Promised t names bytes xs r ys = (r ≡ auditOf t names bytes) × (ys ≡ auditAfter t names bytes xs)
+abbrev pub Promised : List ℕ → List ℕ → List ℕ → ℕ → List ℕ → Answer → List ℕ → Type 0
+Promised t names bytes n xs r ys = (r ≡ auditOf t names bytes n) × (ys ≡ auditAfter t names bytes n xs)
 
-module _ (t names bytes xs : List ℕ) {g : Given} (g-is : given g ≡ givenOf t names bytes) where
-  pub job-refused : {why : Refusal} → g ≡ Away why → Promised t names bytes xs (refusal why) xs
-  unfolding allErrors
-  job-refused h = let told = away-is t names bytes g-is h in (rw told refl, rw told (sym (stored-none Audit xs)))
+module _ (t names bytes : List ℕ) (n : ℕ) (xs : List ℕ) {x : EditionRead} (x-is : x ≡ editionOf n) {g : Ruled}
+    (g-is : ruled g ≡ rulesOf t names bytes x) where
+  here : rulesOf t names bytes (editionOf n) ≡ ruled g
+  here = rw (← x-is) (sym g-is)
 
-  pub job-total : {d : Dialect} {n : ℕ} {ys : List ℕ} → g ≡ In d → n ≡ length (auditErrors d names t)
-      → ys ≡ stored Audit (auditErrors d names t) xs → Promised t names bytes xs (accepted (n ∷ [])) ys
+  pub job-refused : {why : Refusal} → g ≡ Unruled why → Promised t names bytes n xs (refusal why) xs
   unfolding allErrors
-  job-total {d} h total words = let told = in-is t names bytes g-is h in (rw (told, total) refl, rw told words)
+  job-refused h =
+      let told = unruled-is t names bytes (editionOf n) (sym here) h in
+      (rw told refl, rw told (sym (stored-none Audit xs)))
+
+  pub job-total : {d : Dialect} {edition : Edition} {m : ℕ} {ys : List ℕ} → g ≡ By d edition
+      → m ≡ length (auditErrors d edition names t) → ys ≡ stored Audit (auditErrors d edition names t) xs
+      → Promised t names bytes n xs (accepted (m ∷ [])) ys
+  unfolding allErrors
+  job-total h total words =
+      let told = by-is t names bytes (editionOf n) (sym here) h in (rw (told, total) refl, rw told words)

@@ -7,6 +7,7 @@ use native.Mathlib.Omega.{arith}
 use lib.Dec.{eqb}
 use borrow.Author.Tests.{eq-eqb, ne-eqb}
 use Rattle.dialect.specs.declared.Dialect.{Dialect}
+use Rattle.dialect.specs.declared.Edition.{Edition}
 use Rattle.forest.specs.Forest.{nodeOf, treeOf}
 use Rattle.soundness.specs.KindNumbers.{kindDef, kindLambda, kindCall, kindAssign, kindAssignModify}
 use Rattle.table.specs.Answer.{accepted, refusal, checked, numberOf, carried}
@@ -138,32 +139,33 @@ module _ (names : List ℕ) (i : ℕ) (t : List ℕ) {k : ℕ} (k-is : k ≡ nod
     kind-modify h = told-assign ∙ rw (← k-is, h) refl
 
 -- the job of its role
-module _ (d : Dialect) (names : List ℕ) (i : ℕ) (t : List ℕ) {role : Role} where
-  pub role-plain : role ≡ Plain → answerErrors (accepted []) ≡ roleErrors d names role (treeOf i t)
+module _ (d : Dialect) (edition : Edition) (names : List ℕ) (i : ℕ) (t : List ℕ) {role : Role} where
+  pub role-plain : role ≡ Plain → answerErrors (accepted []) ≡ roleErrors d edition names role (treeOf i t)
   unfolding roleErrors
   role-plain h = rw h refl
 
   pub role-target : Headed i t → role ≡ AsTarget → (c : Targeted)
       → targeted c ≡ counted 0 (treeOf i (headedOf i t)) → {es : List Err} → es ≡ answerErrors (targeted c)
-      → es ≡ roleErrors d names role (treeOf i t)
+      → es ≡ roleErrors d edition names role (treeOf i t)
   unfolding roleErrors
   role-target here h c c-is es-is = es-is ∙ ap answerErrors (rw (headed-all i t here) at c-is) ∙ rw h refl
 
   pub role-type : Headed i t → role ≡ AsType → (c : Shaped)
-      → shaped c ≡ «dialect_check_type» names (d .«enable_types») (treeOf i (headedOf i t)) → {es : List Err}
-      → es ≡ answerErrors (shaped c) → es ≡ roleErrors d names role (treeOf i t)
+      → shaped c ≡ «dialect_check_type» edition names (d .«enable_types») (treeOf i (headedOf i t)) → {es : List Err}
+      → es ≡ answerErrors (shaped c) → es ≡ roleErrors d edition names role (treeOf i t)
   unfolding roleErrors
   role-type here h c c-is es-is = es-is ∙ ap answerErrors (rw (headed-all i t here) at c-is) ∙ rw h refl
 
 -- both
-pub there-both : (d : Dialect) (names : List ℕ) (role : Role) (i : ℕ) (t : List ℕ) {es fs : List Err}
-    → es ≡ kindErrors names (treeOf i t) → fs ≡ roleErrors d names role (treeOf i t) → {xs ys zs : List ℕ} {m n at : ℕ}
-    → Stores Audit es xs m ys → at ≡ freeAt Audit m ys → Stores Audit fs (after at ys) n zs
-    → StoresFew Audit 2 (refusedThere d names (placedAs role (treeOf i t))) xs (m + n) (back at ys zs)
+pub there-both : (d : Dialect) (edition : Edition) (names : List ℕ) (role : Role) (i : ℕ) (t : List ℕ)
+    {es fs : List Err} → es ≡ kindErrors names (treeOf i t) → fs ≡ roleErrors d edition names role (treeOf i t)
+    → {xs ys zs : List ℕ} {m n at : ℕ} → Stores Audit es xs m ys → at ≡ freeAt Audit m ys
+    → Stores Audit fs (after at ys) n zs
+    → StoresFew Audit 2 (refusedThere d edition names (placedAs role (treeOf i t))) xs (m + n) (back at ys zs)
 unfolding refusedThere
-there-both d names role i t {es} {fs} es-is fs-is {xs} {ys} {zs} {m} {n} {at} s at-is q =
+there-both d edition names role i t {es} {fs} es-is fs-is {xs} {ys} {zs} {m} {n} {at} s at-is q =
     let both : Stores Audit (es ++ fs) xs (m + n) (back at ys zs) = stores-both es fs s at-is q in
-    let few = there-few d names (placedAs role (treeOf i t)) in
+    let few = there-few d edition names (placedAs role (treeOf i t)) in
     record {
       few = omega (arith, stores-few (es ++ fs) both, rw (← es-is, ← fs-is) at few);
       stores = rw (← es-is, ← fs-is) both;

@@ -8,6 +8,7 @@ use lib.ListN.{length, take, drop}
 use lib.Dec.{eqb}
 use borrow.Author.Tests.{ne-eqb}
 use Rattle.dialect.specs.declared.Dialect.{Dialect}
+use Rattle.dialect.specs.declared.Edition.{Edition}
 use Rattle.forest.specs.Forest.{nodeOf, spanOf, kidsOf, restOf, Forest, forest, treeOf}
 use Rattle.forest.proofs.Stretch.{forest-none, forest-tree, kids-part, rest-part, length-kids, length-rest}
 use Rattle.soundness.specs.KindNumbers.{kindDef, kindFor, kindAssign, kindAssignModify, kindNormal, kindArgsParam}
@@ -88,63 +89,67 @@ abbrev made : ℕ → List ℕ → List ℕ
 made e t = take (e - 24) (drop 24 t)
 
 -- a record by itself, and then all below it, if there is any
-module _ (d : Dialect) (names : List ℕ) (role : Role) (i : ℕ) (t : List ℕ) {e : ℕ} (e-is : e ≡ spanOf t) {m : ℕ}
-    {xs ys : List ℕ} (own : Stores Audit (refusedThere d names (placedAs role (treeOf i t))) xs m ys) where
-  pub record-leaf : e ≤ 24 → Stores Audit (refusals d names (placedTree role (treeOf i t))) xs m ys
+module _ (d : Dialect) (edition : Edition) (names : List ℕ) (role : Role) (i : ℕ) (t : List ℕ) {e : ℕ}
+    (e-is : e ≡ spanOf t) {m : ℕ}
+    {xs ys : List ℕ} (own : Stores Audit (refusedThere d edition names (placedAs role (treeOf i t))) xs m ys) where
+  pub record-leaf : e ≤ 24 → Stores Audit (refusals d edition names (placedTree role (treeOf i t))) xs m ys
   unfolding refusals placed
   record-leaf h =
       let no : length (kidsOf t) < 24 = omega (arith, length-kids t) in
       let roles : Roles = rolesOf (nodeOf 0 t .kind) (nodeOf 0 t .detail) in
-      let nothing : refusals d names (placed roles (forest (i + 1) (kidsOf t))) ≡ [] = rw
+      let nothing : refusals d edition names (placed roles (forest (i + 1) (kidsOf t))) ≡ [] = rw
       (forest-none (i + 1) (kidsOf t) no) refl in
       rw (nothing, append-nil) own
 
   pub record-on : {roles : Roles} → roles ≡ rolesOf (nodeOf 0 t .kind) (nodeOf 0 t .detail) → {n at : ℕ} {zs : List ℕ}
       → at ≡ freeAt Audit m ys
-      → Stores Audit (refusals d names (placed roles (forest (i + 1) (made e t)))) (after at ys) n zs
-      → Stores Audit (refusals d names (placedTree role (treeOf i t))) xs (m + n) (back at ys zs)
+      → Stores Audit (refusals d edition names (placed roles (forest (i + 1) (made e t)))) (after at ys) n zs
+      → Stores Audit (refusals d edition names (placedTree role (treeOf i t))) xs (m + n) (back at ys zs)
   unfolding refusals placed
   record-on roles-are at-is z = stores-both _ _ own at-is (rw (kids-part e t e-is, roles-are) at z)
 
 -- a tree is told little
-pub tree-short : (d : Dialect) (names : List ℕ) (role : Role) (i : ℕ) (t : List ℕ) {xs ys : List ℕ} {n : ℕ}
-    → Stores Audit (refusals d names (placedTree role (treeOf i t))) xs n ys → 12 * n ≤ 24 + length t
-tree-short d names role i t q = omega (arith, stores-few _ q, tree-few d names i t role)
+pub tree-short : (d : Dialect) (edition : Edition) (names : List ℕ) (role : Role) (i : ℕ) (t : List ℕ) {xs ys : List ℕ}
+    {n : ℕ}
+    → Stores Audit (refusals d edition names (placedTree role (treeOf i t))) xs n ys → 12 * n ≤ 24 + length t
+tree-short d edition names role i t q = omega (arith, stores-few _ q, tree-few d edition names i t role)
 
 -- records side by side in a loop: of the whole, those of what is left of t come next, in the roles that are left
-pub record Auditing (d : Dialect) (names : List ℕ) (whole : List Err) (t xs₀ left : List ℕ) (place : ℕ) (roles : Roles)
+pub record Auditing (d : Dialect) (edition : Edition) (names : List ℕ) (whole : List Err) (t xs₀ left : List ℕ)
+    (place : ℕ) (roles : Roles)
     (total : ℕ) (xs : List ℕ) : Type 0 where
   pub within : 24 * place + length left ≤ 50400
   pub part : length left ≤ length t
   pub most : length whole ≤ 4200
   pub few : total ≤ 4200
-  pub turns : Turns Audit whole xs₀ (refusals d names (placed roles (forest place left))) total xs
+  pub turns : Turns Audit whole xs₀ (refusals d edition names (placed roles (forest place left))) total xs
 
 -- LAW: those of a stretch are those of its first tree, and of what follows it
-each-cut : (d : Dialect) (names : List ℕ) (roles : Roles) (i e : ℕ) (t : List ℕ) → 24 ≤ length t → e ≡ spanOf t
-    → refusals d names (placed roles (forest i t))
-    ≡ refusals d names (placedTree (roleOf roles (nodeOf 0 t .kind)) (treeOf i t))
-    ++ refusals d names (placed (rolesAfter roles) (forest (i + e / 24) (after e t)))
+each-cut : (d : Dialect) (edition : Edition) (names : List ℕ) (roles : Roles) (i e : ℕ) (t : List ℕ) → 24 ≤ length t
+    → e ≡ spanOf t
+    → refusals d edition names (placed roles (forest i t))
+    ≡ refusals d edition names (placedTree (roleOf roles (nodeOf 0 t .kind)) (treeOf i t))
+    ++ refusals d edition names (placed (rolesAfter roles) (forest (i + e / 24) (after e t)))
 unfolding placed
-each-cut d names roles i e t big e-is =
-    ap (λ (ts : Forest). refusals d names (placed roles ts)) (forest-tree i t big)
-    ∙ refusals-append d names (placedTree (roleOf roles (nodeOf 0 t .kind)) (treeOf i t))
+each-cut d edition names roles i e t big e-is =
+    ap (λ (ts : Forest). refusals d edition names (placed roles ts)) (forest-tree i t big)
+    ∙ refusals-append d edition names (placedTree (roleOf roles (nodeOf 0 t .kind)) (treeOf i t))
     (placed (rolesAfter roles) (forest (i + spanOf t / 24) (restOf t)))
     ∙ rw (rest-part e t e-is, e-is) refl
 
-module _ {d : Dialect} {names : List ℕ} where
+module _ {d : Dialect} {edition : Edition} {names : List ℕ} where
   pub each-start : {roles : Roles} {at : ℕ} {t xs : List ℕ} → 24 * at + length t ≤ 50400
-      → Auditing d names (refusals d names (placed roles (forest at t))) t xs t at roles 0 xs
+      → Auditing d edition names (refusals d edition names (placed roles (forest at t))) t xs t at roles 0 xs
   each-start {roles} {at} {t} {xs} h = record {
     within = h;
     part = omega arith;
-    most = omega (arith, each-few d names at t roles);
+    most = omega (arith, each-few d edition names at t roles);
     few = omega arith;
     turns = turns-start _ xs;
   }
 
   module _ {whole : List Err} {t xs₀ left : List ℕ} {place : ℕ} {roles : Roles} {total : ℕ} {xs : List ℕ}
-      (v : Auditing d names whole t xs₀ left place roles total xs) where
+      (v : Auditing d edition names whole t xs₀ left place roles total xs) where
     pub each-long : length xs ≡ length xs₀
     each-long = turns-long (v .turns)
 
@@ -154,12 +159,12 @@ module _ {d : Dialect} {names : List ℕ} where
 
     pub each-on : 24 ≤ length left → {role : Role} → role ≡ roleOf roles (nodeOf 0 left .kind)
         → {n free : ℕ} {zs : List ℕ} → free ≡ freeAt Audit total xs
-        → Stores Audit (refusals d names (placedTree role (treeOf place left))) (after free xs) n zs → {e : ℕ}
+        → Stores Audit (refusals d edition names (placedTree role (treeOf place left))) (after free xs) n zs → {e : ℕ}
         → e ≡ spanOf left → {next : Roles} → next ≡ rolesAfter roles
-        → Auditing d names whole t xs₀ (after e left) (place + e / 24) next (total + n) (back free xs zs)
+        → Auditing d edition names whole t xs₀ (after e left) (place + e / 24) next (total + n) (back free xs zs)
     each-on big role-is free-is s {e} e-is next-is =
         let first = rw role-is at s in
-        let next = turns-on (v .turns) (each-cut d names roles place e left big e-is) free-is first in
+        let next = turns-on (v .turns) (each-cut d edition names roles place e left big e-is) free-is first in
         record {
           within = rw (rest-part e left e-is) (omega (arith, length-rest left, v .within));
           part = rw (rest-part e left e-is) (omega (arith, length-rest left, v .part));

@@ -4,6 +4,7 @@ use Prim.Native.Nat.{ℕ}
 use lib.ListN.{getD}
 use Rattle.fields.specs.Choice.{if'}
 use Rattle.dialect.specs.declared.Dialect.{Dialect}
+use Rattle.dialect.specs.declared.Edition.{Edition}
 use Rattle.forest.specs.Forest.{Tree}
 use Rattle.table.specs.Answer.{Answer, accepted, refused}
 use Rattle.table.specs.Check.{wants}
@@ -36,16 +37,16 @@ kindErrors names t =
     if' (wants Call (kindIn t)) (λ _. answerErrors (callAnswer names t)) (λ _.
     if' (wants Assignment (kindIn t)) (λ _. answerErrors («check_assignment» t)) (λ _. [])))
 
--- the job of its role: a target; a type, in the dialect
-unfoldable pub roleErrors : Dialect → List ℕ → Role → Tree → List Err
-roleErrors d names AsTarget t = answerErrors (counted 0 t)
-roleErrors d names AsType t = answerErrors («dialect_check_type» names (d .«enable_types») t)
-roleErrors d names Plain t = []
+-- the job of its role: a target; a type, in the dialect and by the edition
+unfoldable pub roleErrors : Dialect → Edition → List ℕ → Role → Tree → List Err
+roleErrors d edition names AsTarget t = answerErrors (counted 0 t)
+roleErrors d edition names AsType t = answerErrors («dialect_check_type» edition names (d .«enable_types») t)
+roleErrors d edition names Plain t = []
 
 -- both, in this order; and those of trees in turn
-unfoldable pub refusedThere : Dialect → List ℕ → Placed → List Err
-refusedThere d names p = kindErrors names (p .tree) ++ roleErrors d names (p .role) (p .tree)
+unfoldable pub refusedThere : Dialect → Edition → List ℕ → Placed → List Err
+refusedThere d edition names p = kindErrors names (p .tree) ++ roleErrors d edition names (p .role) (p .tree)
 
-unfoldable pub refusals : Dialect → List ℕ → List Placed → List Err
-refusals d names [] = []
-refusals d names (p ∷ ps) = refusedThere d names p ++ refusals d names ps
+unfoldable pub refusals : Dialect → Edition → List ℕ → List Placed → List Err
+refusals d edition names [] = []
+refusals d edition names (p ∷ ps) = refusedThere d edition names p ++ refusals d edition names ps

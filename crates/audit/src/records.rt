@@ -4,6 +4,7 @@ use arguments::Called;
 use deflist::Fault;
 use deflist::Judged;
 use dialect::Dialect;
+use dialect::Edition;
 use errors::Err;
 use errors::Listing;
 use soundness::kinds;
@@ -148,14 +149,14 @@ fn by_kind(names: &[u8], t: &[u8], at: u32) -> Checked
 }
 
 // The job of its role.
-fn by_role(d: Dialect, names: &[u8], role: Role, t: &[u8], at: u32) -> Checked
+fn by_role(d: Dialect, edition: Edition, names: &[u8], role: Role, t: &[u8], at: u32) -> Checked
     requires { ⌜ Headed at (now t) ⌝ }
     ensures { λ r. ⌜ answerErrors (checked r) ≡
-        roleErrors d (now (names .entry)) role (treeOf at (now (t .entry))) ⌝ }
+        roleErrors d edition (now (names .entry)) role (treeOf at (now (t .entry))) ⌝ }
 {
     match role {
         Role::AsTarget => of_target(targets::judge_target(t, at)),
-        Role::AsType => of_type(types::judge_type(names, d, t, at)),
+        Role::AsType => of_type(types::judge_type(names, d, edition, t, at)),
         Role::Plain => Checked::Sound,
     }
 }
@@ -163,6 +164,7 @@ fn by_role(d: Dialect, names: &[u8], role: Role, t: &[u8], at: u32) -> Checked
 // Both, in this order.
 pub(crate) fn check_there(
     d: Dialect,
+    edition: Edition,
     names: &[u8],
     role: Role,
     t: &[u8],
@@ -171,11 +173,12 @@ pub(crate) fn check_there(
 ) -> usize
     requires { ⌜ Headed at (now t) ⌝ }
     ensures { λ r. ⌜ StoresFew Audit 2
-        (refusedThere d (now (names .entry)) (placedAs role (treeOf at (now (t .entry))))) (now (errors .entry)) r
+        (refusedThere d edition (now (names .entry)) (placedAs role (treeOf at (now (t .entry)))))
+        (now (errors .entry)) r
         (now (errors .exit)) ⌝ }
 {
     let first = push_refusal(by_kind(names, t, at), errors);
     let free = errors::free(Listing::Audit, errors.len(), first);
-    let rest = push_refusal(by_role(d, names, role, t, at), &mut errors[free..]);
+    let rest = push_refusal(by_role(d, edition, names, role, t, at), &mut errors[free..]);
     first + rest
 }

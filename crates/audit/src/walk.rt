@@ -5,6 +5,7 @@ use crate::Roles;
 use crate::places;
 use crate::records;
 use dialect::Dialect;
+use dialect::Edition;
 use errors::Listing;
 use forest::RECORD;
 ghost use mathlib.Core.Path.{_≡_};
@@ -20,6 +21,7 @@ ghost use Rattle.audit.specs.Refusals.{refusals};
 // The record that a stretch begins with, in its role, and then all below it. Its tree takes e bytes.
 fn check_record(
     d: Dialect,
+    edition: Edition,
     names: &[u8],
     role: Role,
     t: &[u8],
@@ -29,22 +31,32 @@ fn check_record(
 ) -> usize
     requires { ⌜ Headed at (now t) ⌝ }
     requires { ⌜ e ≡ spanOf (now t) ⌝ }
-    ensures { λ r. ⌜ Stores Audit (refusals d (now (names .entry)) (placedTree role (treeOf at (now (t .entry)))))
-        (now (errors .entry)) r (now (errors .exit)) ⌝ }
+    ensures { λ r. ⌜ Stores Audit
+        (refusals d edition (now (names .entry)) (placedTree role (treeOf at (now (t .entry))))) (now (errors .entry)) r
+        (now (errors .exit)) ⌝ }
 {
-    let own = records::check_there(d, names, role, t, at as u32, errors);
+    let own = records::check_there(d, edition, names, role, t, at as u32, errors);
     if e <= RECORD {
         return own;
     }
     let free = errors::free(Listing::Audit, errors.len(), own);
     let roles = places::roles_of(t);
-    let below = check_each(d, names, roles, &t[RECORD..e], at + 1, &mut errors[free..]);
+    let below = check_each(
+        d,
+        edition,
+        names,
+        roles,
+        &t[RECORD..e],
+        at + 1,
+        &mut errors[free..],
+    );
     own + below
 }
 
 // The records side by side in a stretch whose first record has the index at, in turn.
 pub(crate) fn check_each(
     d: Dialect,
+    edition: Edition,
     names: &[u8],
     first: Roles,
     t: &[u8],
@@ -53,7 +65,7 @@ pub(crate) fn check_each(
 ) -> usize
     requires { ⌜ Within at (now t) ⌝ }
     ensures { λ r. ⌜ StoresFew Audit (2 * mostNodes)
-        (refusals d (now (names .entry)) (placed first (forest at (now (t .entry))))) (now (errors .entry)) r
+        (refusals d edition (now (names .entry)) (placed first (forest at (now (t .entry))))) (now (errors .entry)) r
         (now (errors .exit)) ⌝ }
 {
     let mut left = t;
@@ -64,7 +76,7 @@ pub(crate) fn check_each(
         let free = errors::free(Listing::Audit, errors.len(), total);
         let e = forest::span(left);
         let role = places::role_of(roles, left);
-        total += check_record(d, names, role, left, e, place, &mut errors[free..]);
+        total += check_record(d, edition, names, role, left, e, place, &mut errors[free..]);
         left = &left[e..];
         place += e / RECORD;
         roles = places::roles_after(roles);

@@ -1,6 +1,6 @@
 -- "`errors 0` means that the whole checker passes": the list of the audit is empty exactly where the module pass has no
--- error and every job accepts every node that it fits. Over every table and every dialect that pass 1 to 5. Assumes
--- nothing.
+-- error and every job accepts every node that it fits. Over every table, every dialect and every edition that pass 1 to
+-- 5. Assumes nothing.
 use mathlib.Core.Path.{_≡_, refl, sym, ap, _∙_}
 use mathlib.Core.List.{List, [], _∷_, _++_}
 use Prim.Native.Nat.{ℕ, _/_}
@@ -8,13 +8,19 @@ use native.Mathlib.Omega.{arith}
 use lib.ListN.{length}
 use Rattle.fields.proofs.Basics.{never}
 use Rattle.dialect.specs.declared.Dialect.{Dialect}
+use Rattle.dialect.specs.declared.Edition.{Edition}
+use Rattle.dialect.specs.declared.EditionRead.the-variants.{Known}
+use Rattle.dialect.specs.Editions.{editionOf}
 use Rattle.forest.specs.Forest.{forest}
 use Rattle.forest.proofs.Stretch.{records, nodes-records}
 use Rattle.table.specs.Answer.{accepted}
 use Rattle.table.specs.Check.{Handing, inDialect, turnedAway, givenOf, inGiven}
+use Rattle.table.specs.Check.{Ruling, byRules, unruled, rulesOf, inRules}
+use Rattle.table.proofs.Answers.{never-passed}
 use Rattle.table.proofs.Heads.{all-within}
 use Rattle.table.proofs.Checking.{Clean}
 use Rattle.table.proofs.Entering.{given-known}
+use Rattle.table.proofs.Ruling.{rules-known, known-rules}
 use Rattle.errors.specs.declared.Listing.the-variants.{Own}
 use Rattle.errors.specs.Errors.{kept}
 use Rattle.errors.proofs.Storing.{kept-none}
@@ -38,90 +44,111 @@ use Rattle.audited.proofs.Jobs.{refused-accepts, accepts-refused, kind-
 pub every-node : (t : List ℕ) → rootsIn (placed Nowhere (forest 0 t)) ≡ records (length t / 24) 0 t
 every-node t = placed-roots Nowhere (forest 0 t) ∙ nodes-records 0 t
 
-module _ (t names bytes : List ℕ) {d : Dialect} (g : givenOf t names bytes ≡ inDialect d) where
+module _ (t names bytes : List ℕ) (n : ℕ) {d : Dialect} {edition : Edition}
+    (g : rulesOf t names bytes (editionOf n) ≡ byRules d edition) where
   clean : Clean t names
-  clean = given-known t names bytes g .0
+  clean = given-known t names bytes (rules-known t names bytes g .0) .0
 
   abbrev trees : List Placed
   trees = placed Nowhere (forest 0 t)
 
   -- the list in its two parts
-  parts : allErrors t names bytes ≡ kept Own («validate_module» d names (forest 0 t)) ++ refusals d names trees
+  parts : allErrors t names bytes n
+      ≡ kept Own («validate_module» d names (forest 0 t)) ++ refusals d edition names trees
   unfolding allErrors auditErrors
   parts = rw (g, pass-is d names t (clean .most), ← all-within t (clean .most)) refl
 
   module-is : errorsOf t names bytes ≡ «validate_module» d names (forest 0 t)
   unfolding errorsOf
-  module-is = rw g refl
+  module-is = rw (rules-known t names bytes g .0) refl
 
-  both-empty : allErrors t names bytes ≡ []
-      → (kept Own («validate_module» d names (forest 0 t)) ≡ []) × (refusals d names trees ≡ [])
+  both-empty : allErrors t names bytes n ≡ []
+      → (kept Own («validate_module» d names (forest 0 t)) ≡ []) × (refusals d edition names trees ≡ [])
   both-empty e =
-      none-both (kept Own («validate_module» d names (forest 0 t))) (refusals d names trees) (sym parts ∙ e)
+      none-both (kept Own («validate_module» d names (forest 0 t))) (refusals d edition names trees) (sym parts ∙ e)
 
   -- what is known of every tree: it is a node's, and its class fits its role
-  abbrev Known : Placed → Type 0
-  Known p = Here t p × Roled p
+  abbrev Seen : Placed → Type 0
+  Seen p = Here t p × Roled p
 
-  known-all : All Known trees
-  known-all =
-      all-join {P = Here t} {Q = Roled} {R = Known} (λ p here fit. (here, fit)) trees (all-here clean Nowhere)
+  seen-all : All Seen trees
+  seen-all =
+      all-join {P = Here t} {Q = Roled} {R = Seen} (λ p here fit. (here, fit)) trees (all-here clean Nowhere)
       (all-roled clean)
 
   -- THEOREM: where the list is empty, the module pass has no error
-  pub empty-module : allErrors t names bytes ≡ [] → errorsOf t names bytes ≡ []
+  pub empty-module : allErrors t names bytes n ≡ [] → errorsOf t names bytes ≡ []
   empty-module e =
       let two = both-empty e in
-      let quiet = all-map (kind-none d names) trees (none-refused d names trees (two .1)) in
+      let quiet = all-map (kind-none d edition names) trees (none-refused d edition names trees (two .1)) in
       module-is ∙ sym (own-module d names (forest 0 t) (forest-passes names Nowhere (forest 0 t) quiet)) ∙ two .0
 
   -- THEOREM: and every job accepts every node
-  pub empty-accepts : allErrors t names bytes ≡ [] → AllAccept t names bytes
+  pub empty-accepts : allErrors t names bytes n ≡ [] → AllAccept t names bytes n
   empty-accepts e =
       let two = both-empty e in
-      all-join (λ p both none. refused-accepts t names bytes g p (both .0) (both .1) none) trees known-all
-      (none-refused d names trees (two .1))
+      all-join (λ p both none. refused-accepts t names bytes n g p (both .0) (both .1) none) trees seen-all
+      (none-refused d edition names trees (two .1))
 
   -- THEOREM: where the module pass has no error and every job accepts every node, the list is empty
-  pub accepts-empty : errorsOf t names bytes ≡ [] → AllAccept t names bytes → allErrors t names bytes ≡ []
+  pub accepts-empty : errorsOf t names bytes ≡ [] → AllAccept t names bytes n → allErrors t names bytes n ≡ []
   accepts-empty none accepts =
-      let quiet = all-join (λ p both a. accepts-refused t names bytes g p (both .0) (both .1) a) trees known-all
+      let quiet = all-join (λ p both a. accepts-refused t names bytes n g p (both .0) (both .1) a) trees seen-all
       accepts in
       let own : kept Own («validate_module» d names (forest 0 t)) ≡ [] = ap (kept Own) (sym module-is ∙ none)
       ∙ kept-none Own in
-      parts ∙ both-none own (refused-none d names trees quiet)
+      parts ∙ both-none own (refused-none d edition names trees quiet)
 
 -- a list of no entries is empty
 no-entries : {A : Type 0} (xs : List A) → length xs ≡ 0 → xs ≡ []
 no-entries [] e = refl
 no-entries (x ∷ xs) e = absurd (omega (arith, e))
 
--- the same over the answers of the two jobs
-module _ (t names bytes : List ℕ) where
-  -- THEOREM: where the audit answers 0 errors, the module job does, and every job accepts every node
-  pub zero-passes : auditOf t names bytes ≡ accepted (0 ∷ [])
-      → (moduleOf t names bytes ≡ accepted (0 ∷ [])) × AllAccept t names bytes
-  zero-passes e = go (givenOf t names bytes) refl e
-    where
-      go : (h : Handing) → givenOf t names bytes ≡ h
-          → inGiven h (λ _. accepted (length (allErrors t names bytes) ∷ [])) ≡ accepted (0 ∷ [])
-          → (moduleOf t names bytes ≡ accepted (0 ∷ [])) × AllAccept t names bytes
-      go (inDialect d) g e =
-          let zero : length (allErrors t names bytes) ≡ 0 = cc in
-          let empty = no-entries (allErrors t names bytes) zero in
-          (rw (g, empty-module t names bytes g empty) refl, empty-accepts t names bytes g empty)
-      go (turnedAway n vs) g e = never (cc)
+-- an audit that is not refused has a dialect and an edition
+let-in : (t names bytes : List ℕ) (n : ℕ) {vs : List ℕ} → auditOf t names bytes n ≡ accepted vs
+    → (d : Dialect) × (edition : Edition) × (rulesOf t names bytes (editionOf n) ≡ byRules d edition)
+let-in t names bytes n {vs} e = go (rulesOf t names bytes (editionOf n)) refl e
+  where
+    go : (r : Ruling) → rulesOf t names bytes (editionOf n) ≡ r
+        → inRules r (λ _ _. accepted (length (allErrors t names bytes n) ∷ [])) ≡ accepted vs
+        → (d : Dialect) × (edition : Edition) × (rulesOf t names bytes (editionOf n) ≡ byRules d edition)
+    go (byRules d edition) g e = (d, edition, g)
+    go (unruled m ws) g e = never-passed e
 
-  -- THEOREM: and only there
-  pub passes-zero : moduleOf t names bytes ≡ accepted (0 ∷ []) → AllAccept t names bytes
-      → auditOf t names bytes ≡ accepted (0 ∷ [])
-  passes-zero e accepts = go (givenOf t names bytes) refl e
+-- LAW: so its number is an edition
+pub audit-known : (t names bytes : List ℕ) (n : ℕ) {vs : List ℕ} → auditOf t names bytes n ≡ accepted vs
+    → (edition : Edition) × (editionOf n ≡ Known edition)
+audit-known t names bytes n e = let k = let-in t names bytes n e in
+    (k .1, rules-known t names bytes (k .2) .1)
+
+-- the same over the answers of the two jobs
+module _ (t names bytes : List ℕ) (n : ℕ) where
+  -- THEOREM: where the audit answers 0 errors, the module job does, and every job accepts every node
+  pub zero-passes : auditOf t names bytes n ≡ accepted (0 ∷ [])
+      → (moduleOf t names bytes ≡ accepted (0 ∷ [])) × AllAccept t names bytes n
+  zero-passes e =
+      let k = let-in t names bytes n e in
+      let g : rulesOf t names bytes (editionOf n) ≡ byRules (k .0) (k .1) = k .2 in
+      let total : accepted (length (allErrors t names bytes n) ∷ []) ≡ accepted (0 ∷ []) = rw g at e in
+      let zero : length (allErrors t names bytes n) ≡ 0 = cc in
+      let empty = no-entries (allErrors t names bytes n) zero in (
+        rw (rules-known t names bytes g .0, empty-module t names bytes n g empty) refl,
+        empty-accepts t names bytes n g empty,
+      )
+
+  -- THEOREM: and only there, for a number that is an edition
+  pub passes-zero : {edition : Edition} → editionOf n ≡ Known edition → moduleOf t names bytes ≡ accepted (0 ∷ [])
+      → AllAccept t names bytes n → auditOf t names bytes n ≡ accepted (0 ∷ [])
+  passes-zero {edition} known e accepts = go (givenOf t names bytes) refl e
     where
       go : (h : Handing) → givenOf t names bytes ≡ h
           → inGiven h (λ _. accepted (length (errorsOf t names bytes) ∷ [])) ≡ accepted (0 ∷ [])
-          → auditOf t names bytes ≡ accepted (0 ∷ [])
-      go (inDialect d) g e =
+          → auditOf t names bytes n ≡ accepted (0 ∷ [])
+      go (inDialect d) h e =
+          let g : rulesOf t names bytes (editionOf n)
+          ≡ byRules d edition = rw known (known-rules t names bytes edition h)
+          in
           let zero : length (errorsOf t names bytes) ≡ 0 = cc in
           let none = no-entries (errorsOf t names bytes) zero in
-          rw (g, accepts-empty t names bytes g none accepts) refl
-      go (turnedAway n vs) g e = never (cc)
+          rw (g, accepts-empty t names bytes n g none accepts) refl
+      go (turnedAway m vs) h e = never (cc)

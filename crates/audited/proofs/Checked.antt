@@ -15,6 +15,9 @@ use lib.Dec.{eqb}
 use borrow.Author.Tests.{eqb-true}
 use Rattle.fields.proofs.Basics.{never}
 use Rattle.fields.specs.Choice.{if'}
+use Rattle.dialect.specs.declared.Edition.{Edition}
+use Rattle.dialect.specs.declared.EditionRead.the-variants.{Known}
+use Rattle.dialect.specs.Editions.{editionOf}
 use Rattle.forest.specs.Forest.{recordBytes, Node, Tree, node, Forest, none, _then_, forest}
 use Rattle.forest.proofs.Stretch.{records}
 use Rattle.soundness.specs.KindNumbers.{kindDef, kindFor, kindAssign, kindAssignModify, kindNormal, kindArgsParam}
@@ -270,7 +273,7 @@ types-are k d ks = by-for (eqb k kindFor) refl
     by-for false h = rw h (others (eqb k kindDef) (eqb k kindAssign || eqb k kindAssignModify) (eqb k kindNormal)
         (eqb k kindArgsParam || eqb k kindKwArgsParam))
 
-module _ (t names bytes : List ℕ) where
+module _ (t names bytes : List ℕ) (n : ℕ) where
   abbrev trees : List Placed
   trees = placed Nowhere (forest 0 t)
 
@@ -279,10 +282,10 @@ module _ (t names bytes : List ℕ) where
 
   abbrev Typed : Tree → Type 0
   Typed u = (room : ℕ) → length (stretchOf t (rootIn u .at)) / recordBytes ≤ room
-      → isAccepted (typeShapeOf t names bytes (rootIn u .at) room) ≡ true
+      → isAccepted (typeShapeOf t names bytes n (rootIn u .at) room) ≡ true
 
   abbrev There : Placed → Type 0
-  There p = Accepts t names bytes (rootIn (p .tree) .at) (p .role)
+  There p = Accepts t names bytes n (rootIn (p .tree) .at) (p .role)
 
   -- a tree in its place is accepted as a target where it is one, and as a type where it is one
   abbrev AsTargets : Placed → Type 0
@@ -293,14 +296,14 @@ module _ (t names bytes : List ℕ) where
 
   -- THEOREM: where the audit answers 0 errors, the module job does, every node is accepted by the jobs that fit its
   -- kind, and every target and every type is accepted as one
-  pub zero-checks-all : auditOf t names bytes ≡ accepted (0 ∷ [])
+  pub zero-checks-all : auditOf t names bytes n ≡ accepted (0 ∷ [])
       → (moduleOf t names bytes ≡ accepted (0 ∷ []))
       × Each (λ r. Fitting t names (r .at)) (records (length t / 24) 0 t)
       × Each (λ u. isAccepted (targetOf t names (rootIn u .at)) ≡ true) (everywhere targetsOf (forest 0 t))
       × Each (λ u. (room : ℕ) → length (stretchOf t (rootIn u .at)) / recordBytes ≤ room
-      → isAccepted (typeShapeOf t names bytes (rootIn u .at) room) ≡ true) (everywhere typesOf (forest 0 t))
+      → isAccepted (typeShapeOf t names bytes n (rootIn u .at) room) ≡ true) (everywhere typesOf (forest 0 t))
   zero-checks-all e =
-      let z = zero-passes t names bytes e in
+      let z = zero-passes t names bytes n e in
       let nodes : Each (λ (r : Node). Fitting t names (r .at)) (rootsIn trees) =
       roots-all (λ (r : Node). Fitting t names (r .at)) trees
       (all-map (λ p (a : There p). record { params = a .params; call = a .call; assignment = a .assignment })
@@ -311,14 +314,14 @@ module _ (t names bytes : List ℕ) where
       (all-map {P = There} {Q = AsTypes} (λ p a h. a .type (type-role (p .role) h)) trees (z .1)) in
       (z .0, rw (every-node t) at nodes, targets .1, types .1)
 
-  -- THEOREM: and only there
-  pub checks-all-zero : moduleOf t names bytes ≡ accepted (0 ∷ [])
+  -- THEOREM: and only there, for a number that is an edition
+  pub checks-all-zero : {edition : Edition} → editionOf n ≡ Known edition → moduleOf t names bytes ≡ accepted (0 ∷ [])
       → Each (λ r. Fitting t names (r .at)) (records (length t / 24) 0 t)
       → Each (λ u. isAccepted (targetOf t names (rootIn u .at)) ≡ true) (everywhere targetsOf (forest 0 t))
       → Each (λ u. (room : ℕ) → length (stretchOf t (rootIn u .at)) / recordBytes ≤ room
-      → isAccepted (typeShapeOf t names bytes (rootIn u .at) room) ≡ true) (everywhere typesOf (forest 0 t))
-      → auditOf t names bytes ≡ accepted (0 ∷ [])
-  checks-all-zero e fit targets types =
+      → isAccepted (typeShapeOf t names bytes n (rootIn u .at) room) ≡ true) (everywhere typesOf (forest 0 t))
+      → auditOf t names bytes n ≡ accepted (0 ∷ [])
+  checks-all-zero known e fit targets types =
       let these : Each (λ (r : Node). Fitting t names (r .at)) (rootsIn trees) = rw (every-node t) fit in
       let nodes = all-roots (λ (r : Node). Fitting t names (r .at)) trees these in
       let as-target = back isTarget targetsOf targets-are Target Nowhere (forest 0 t)
@@ -327,7 +330,7 @@ module _ (t names bytes : List ℕ) where
       (rw (no-type-after (forest 0 t)) tt) types in
       let roles = all-join {P = AsTargets} {Q = AsTypes} {R = λ p. AsTargets p × AsTypes p} (λ p a b. (a, b)) trees
       as-target as-type in
-      passes-zero t names bytes e (all-join {Q = λ p. AsTargets p × AsTypes p}
+      passes-zero t names bytes n known e (all-join {Q = λ p. AsTargets p × AsTypes p}
       (λ p (f : Fitting t names (rootIn (p .tree) .at)) both. record {
         params = f .params;
         call = f .call;

@@ -5,6 +5,7 @@ use mathlib.Core.List.{List, [], _∷_, _++_}
 use Prim.Native.Nat.{ℕ}
 use Rattle.fields.proofs.Basics.{never}
 use Rattle.dialect.specs.declared.Dialect.{Dialect}
+use Rattle.dialect.specs.declared.Edition.{Edition}
 use Rattle.forest.specs.Forest.{Node, Tree, node, Forest, none, _then_, nodes, nodesOf}
 use Rattle.audit.specs.declared.Role.{Role}
 use Rattle.audit.specs.declared.Roles.{Roles}
@@ -50,14 +51,16 @@ pub both-none : {A : Type 0} {xs ys : List A} → xs ≡ [] → ys ≡ [] → xs
 both-none x-is y-is = rw (x-is, y-is) refl
 
 -- LAW: there are no refusals exactly where there is none at any tree
-module _ (d : Dialect) (names : List ℕ) where
-  pub none-refused : (ps : List Placed) → refusals d names ps ≡ [] → All (λ p. refusedThere d names p ≡ []) ps
+module _ (d : Dialect) (edition : Edition) (names : List ℕ) where
+  pub none-refused : (ps : List Placed) → refusals d edition names ps ≡ []
+      → All (λ p. refusedThere d edition names p ≡ []) ps
   unfolding refusals
   none-refused [] e = tt
-  none-refused (p ∷ ps) e = let two = none-both (refusedThere d names p) (refusals d names ps) e in
+  none-refused (p ∷ ps) e = let two = none-both (refusedThere d edition names p) (refusals d edition names ps) e in
       (two .0, none-refused ps (two .1))
 
-  pub refused-none : (ps : List Placed) → All (λ p. refusedThere d names p ≡ []) ps → refusals d names ps ≡ []
+  pub refused-none : (ps : List Placed) → All (λ p. refusedThere d edition names p ≡ []) ps
+      → refusals d edition names ps ≡ []
   unfolding refusals
   refused-none [] a = refl
   refused-none (p ∷ ps) a = both-none (a .0) (refused-none ps (a .1))

@@ -12,6 +12,8 @@ use lib.Seq.{drop-drop, take-all}
 use lib.Dec.{eqb}
 use Rattle.fields.specs.Choice.{if'}
 use Rattle.dialect.specs.declared.Dialect.{Dialect}
+use Rattle.dialect.specs.declared.Edition.{Edition}
+use Rattle.dialect.specs.Editions.{editionOf}
 use Rattle.dialect.specs.Rows.{permitsTypes}
 use Rattle.forest.specs.Forest.{Node, Tree, node, Forest, none, _then_, forest, nodes, nodesOf}
 use Rattle.forest.proofs.Stretch.{records, nodes-records}
@@ -22,8 +24,10 @@ use Rattle.table.specs.Numbers.{loadNotPermitted}
 use Rattle.table.specs.Answer.{Answer, accepted, refused}
 use Rattle.table.specs.Carrying.{fileAt}
 use Rattle.table.specs.Check.{mostBytes, wants, Handing, inDialect, turnedAway, givenOf}
+use Rattle.table.specs.Check.{Ruling, byRules, unruled, rulesOf}
 use Rattle.table.specs.declared.Wanted.the-variants.{Parameters, Call, Assignment}
 use Rattle.table.proofs.Entering.{given-known}
+use Rattle.table.proofs.Ruling.{rules-known}
 use Rattle.table.proofs.Filed.{All, Told, all-tree, all-row}
 use Rattle.deflist.specs.Written.{Param, nodeIn, kindIn as kindOfParam, paramsIn, rootIn, writtenIn}
 use Rattle.deflist.specs.Unpack as def
@@ -196,12 +200,13 @@ module _ (t : List ℕ) where
         go false false true = answer-at («check_assignment» u) (told-assignment Here u h)
         go false false false = tt
 
-    role-at : (role : Role) (u : Tree) → All Here (nodesOf u) → Errs (roleErrors d names role u)
+    role-at : (edition : Edition) (role : Role) (u : Tree) → All Here (nodesOf u)
+        → Errs (roleErrors d edition names role u)
     unfolding roleErrors
-    role-at AsTarget u h = answer-at (counted 0 u) (told-counted Here 0 u h)
-    role-at AsType u h = answer-at («dialect_check_type» names (d .«enable_types») u)
-        (told-type Here names (d .«enable_types») u h)
-    role-at Plain u h = tt
+    role-at edition AsTarget u h = answer-at (counted 0 u) (told-counted Here 0 u h)
+    role-at edition AsType u h = answer-at («dialect_check_type» edition names (d .«enable_types») u)
+        (told-type Here edition names (d .«enable_types») u h)
+    role-at edition Plain u h = tt
 
     -- every tree in its place has such nodes
     abbrev Trees : List Placed → Type 0
@@ -225,13 +230,14 @@ module _ (t : List ℕ) where
           trees-both (placedTree (roleOf roles (kindIn u)) u) (placed (rolesAfter roles) us)
           (tree-placed (roleOf roles (kindIn u)) u (row .0)) (row-placed (rolesAfter roles) us (row .1))
 
-    refusals-at : (ps : List Placed) → Trees ps → Errs (refusals d names ps)
+    refusals-at : (edition : Edition) (ps : List Placed) → Trees ps → Errs (refusals d edition names ps)
     unfolding refusals refusedThere
-    refusals-at [] h = tt
-    refusals-at (p ∷ ps) h =
-        both (kindErrors names (p .tree) ++ roleErrors d names (p .role) (p .tree)) (refusals d names ps)
-        (both (kindErrors names (p .tree)) (roleErrors d names (p .role) (p .tree)) (kind-at (p .tree) (h .0))
-        (role-at (p .role) (p .tree) (h .0))) (refusals-at ps (h .1))
+    refusals-at edition [] h = tt
+    refusals-at edition (p ∷ ps) h =
+        both (kindErrors names (p .tree) ++ roleErrors d edition names (p .role) (p .tree))
+        (refusals d edition names ps)
+        (both (kindErrors names (p .tree)) (roleErrors d edition names (p .role) (p .tree)) (kind-at (p .tree) (h .0))
+        (role-at edition (p .role) (p .tree) (h .0))) (refusals-at edition ps (h .1))
 
   without-at : (es : List Err) → Errs es → Errs (withoutLists es)
   unfolding withoutLists
@@ -263,16 +269,18 @@ module _ (t : List ℕ) where
       go (inDialect d) = module-at d names (forest 0 t) forest-here
       go (turnedAway n vs) = tt
 
-  pub audit-filed : (names bytes : List ℕ) → Errs (allErrors t names bytes)
+  pub audit-filed : (names bytes : List ℕ) (n : ℕ) → Errs (allErrors t names bytes n)
   unfolding allErrors auditErrors passErrors
-  audit-filed names bytes = go (givenOf t names bytes) refl
+  audit-filed names bytes n = go (rulesOf t names bytes (editionOf n)) refl
     where
-      go : (h : Handing) → givenOf t names bytes ≡ h → Errs (auditIn h names t)
-      go (inDialect d) e =
-          let whole : take mostBytes t ≡ t = take-all mostBytes t (given-known t names bytes e .0 .most) in
+      go : (r : Ruling) → rulesOf t names bytes (editionOf n) ≡ r → Errs (auditIn r names t)
+      go (byRules d edition) e =
+          let clean = given-known t names bytes (rules-known t names bytes e .0) .0 in
+          let whole : take mostBytes t ≡ t = take-all mostBytes t (clean .most) in
           rw whole
           (both (withoutLists («validate_module» d names (forest 0 t)))
-          (refusals d names (placed Nowhere (forest 0 t)))
+          (refusals d edition names (placed Nowhere (forest 0 t)))
           (without-at («validate_module» d names (forest 0 t)) (module-at d names (forest 0 t) forest-here))
-          (refusals-at d names (placed Nowhere (forest 0 t)) (row-placed d names Nowhere (forest 0 t) forest-here)))
-      go (turnedAway n vs) e = tt
+          (refusals-at d names edition (placed Nowhere (forest 0 t))
+          (row-placed d names Nowhere (forest 0 t) forest-here)))
+      go (unruled m vs) e = tt

@@ -10,16 +10,19 @@ use borrow.Author.Tests.{le-leb, lt-ltb, eqb-true, eq-eqb}
 use Rattle.fields.proofs.Basics.{never}
 use Rattle.fields.specs.Choice.{if'}
 use Rattle.dialect.specs.declared.Dialect.{Dialect}
+use Rattle.dialect.specs.declared.Edition.{Edition}
+use Rattle.dialect.specs.Editions.{editionOf}
 use Rattle.forest.specs.Forest.{Node, sizeOf, nodeOf, Tree, treeOf}
 use Rattle.forest.proofs.Stretch.{node-take}
 use Rattle.soundness.specs.KindNumbers.{kindCall, kindAssign, kindAssignModify}
 use Rattle.soundness.specs.Kinds.{expression, classOf}
 use Rattle.table.specs.Answer.{Answer, accepted, refused}
-use Rattle.table.specs.Check.{inDialect, givenOf, wants, nodeFits, stretchOf, onNode}
+use Rattle.table.specs.Check.{byRules, rulesOf, wants, nodeFits, stretchOf, onNode}
 use Rattle.table.specs.declared.Wanted.{Wanted}
 use Rattle.table.specs.declared.Wanted.the-variants.{Parameters, Call, Assignment, Expression}
 use Rattle.table.proofs.Checking.{Clean, stretch-is, stretch-size}
 use Rattle.table.proofs.Entering.{given-known, sound-entry}
+use Rattle.table.proofs.Ruling.{rules-known}
 use Rattle.table.proofs.Theorems.{clean-accepted}
 use Rattle.deflist.specs.Written.{rootIn, writtenIn, written}
 use Rattle.deflist.specs.Unpack as def
@@ -110,10 +113,11 @@ module _ (names : List ℕ) (tree : Tree) where
       go false false false x y z = refl
 
 -- the jobs on a node of a sound table, which read its tree
-module _ (t names bytes : List ℕ) {d : Dialect} (g : givenOf t names bytes ≡ inDialect d) (i : ℕ)
+module _ (t names bytes : List ℕ) (n : ℕ) {d : Dialect} {edition : Edition}
+    (g : rulesOf t names bytes (editionOf n) ≡ byRules d edition) (i : ℕ)
     (inside : i < length t / 24) where
   clean : Clean t names
-  clean = given-known t names bytes g .0
+  clean = given-known t names bytes (rules-known t names bytes g .0) .0
 
   abbrev tree : Tree
   tree = treeOf i (stretchOf t i)
@@ -140,7 +144,7 @@ module _ (t names bytes : List ℕ) {d : Dialect} (g : givenOf t names bytes ≡
       ∙ rw (le-leb (length (writtenIn names tree)) room enough) refl
 
   type-is : wants Expression (kindIn tree) ≡ true → (room : ℕ) → length (stretchOf t i) / 24 ≤ room
-      → typeShapeOf t names bytes i room ≡ «dialect_check_type» names (d .«enable_types») tree
+      → typeShapeOf t names bytes n i room ≡ «dialect_check_type» edition names (d .«enable_types») tree
   unfolding typeShapeOf typeAt
   type-is h room enough = rw (g, fits-is Expression ∙ h, le-leb (length (stretchOf t i) / 24) room enough) refl
 
@@ -149,35 +153,38 @@ module _ (t names bytes : List ℕ) {d : Dialect} (g : givenOf t names bytes ≡
   expression-is h = eq-eqb (classOf (kindIn tree)) expression h
 
   -- what is told of a role
-  target-told : roleErrors d names AsTarget tree ≡ answerErrors (counted 0 tree)
+  target-told : roleErrors d edition names AsTarget tree ≡ answerErrors (counted 0 tree)
   unfolding roleErrors
   target-told = refl
 
-  type-told : roleErrors d names AsType tree ≡ answerErrors («dialect_check_type» names (d .«enable_types») tree)
+  type-told : roleErrors d edition names AsType tree
+      ≡ answerErrors («dialect_check_type» edition names (d .«enable_types») tree)
   unfolding roleErrors
   type-told = refl
 
-  plain-told : roleErrors d names Plain tree ≡ []
+  plain-told : roleErrors d edition names Plain tree ≡ []
   unfolding roleErrors
   plain-told = refl
 
-  as-target : (role : Role) → role ≡ AsTarget → Fits role (classOf (kindIn tree)) → roleErrors d names role tree ≡ []
+  as-target : (role : Role) → role ≡ AsTarget → Fits role (classOf (kindIn tree))
+      → roleErrors d edition names role tree ≡ []
       → isAccepted (targetOf t names i) ≡ true
   as-target AsTarget is fit e = ap isAccepted (on-node Expression (counted 0) (expression-is fit))
       ∙ quiet-accepted (counted 0 tree) (sym target-told ∙ e)
   as-target AsType is fit e = never (cc)
   as-target Plain is fit e = never (cc)
 
-  as-type : (role : Role) → role ≡ AsType → Fits role (classOf (kindIn tree)) → roleErrors d names role tree ≡ []
-      → (room : ℕ) → length (stretchOf t i) / 24 ≤ room → isAccepted (typeShapeOf t names bytes i room) ≡ true
+  as-type : (role : Role) → role ≡ AsType → Fits role (classOf (kindIn tree)) → roleErrors d edition names role tree
+      ≡ []
+      → (room : ℕ) → length (stretchOf t i) / 24 ≤ room → isAccepted (typeShapeOf t names bytes n i room) ≡ true
   as-type AsTarget is fit e room enough = never (cc)
   as-type AsType is fit e room enough = ap isAccepted (type-is (expression-is fit) room enough)
-      ∙ quiet-accepted («dialect_check_type» names (d .«enable_types») tree) (sym type-told ∙ e)
+      ∙ quiet-accepted («dialect_check_type» edition names (d .«enable_types») tree) (sym type-told ∙ e)
   as-type Plain is fit e room enough = never (cc)
 
   -- LAW: where nothing is told of the node's tree, every job accepts the node
   tree-accepts : (role : Role) → Fits role (classOf (kindIn tree)) → kindErrors names tree ≡ []
-      → roleErrors d names role tree ≡ [] → Accepts t names bytes i role
+      → roleErrors d edition names role tree ≡ [] → Accepts t names bytes n i role
   tree-accepts role fit kind-none role-none = record {
     params = λ fits room enough.
         let h : wants Parameters (kindIn tree) ≡ true = sym (fits-is Parameters) ∙ fits in
@@ -196,8 +203,8 @@ module _ (t names bytes : List ℕ) {d : Dialect} (g : givenOf t names bytes ≡
   }
 
   -- LAW: and where every job accepts it, nothing is told
-  role-quiet : (role : Role) → Fits role (classOf (kindIn tree)) → Accepts t names bytes i role
-      → roleErrors d names role tree ≡ []
+  role-quiet : (role : Role) → Fits role (classOf (kindIn tree)) → Accepts t names bytes n i role
+      → roleErrors d edition names role tree ≡ []
   role-quiet AsTarget fit a =
       target-told
       ∙ accepted-quiet (counted 0 tree)
@@ -205,11 +212,11 @@ module _ (t names bytes : List ℕ) {d : Dialect} (g : givenOf t names bytes ≡
   role-quiet AsType fit a =
       let room : ℕ = length (stretchOf t i) / 24 in
       type-told
-      ∙ accepted-quiet («dialect_check_type» names (d .«enable_types») tree)
+      ∙ accepted-quiet («dialect_check_type» edition names (d .«enable_types») tree)
       (sym (ap isAccepted (type-is (expression-is fit) room (omega arith))) ∙ a .type refl room (omega arith))
   role-quiet Plain fit a = plain-told
 
-  accepts-kind : {role : Role} → Accepts t names bytes i role → kindErrors names tree ≡ []
+  accepts-kind : {role : Role} → Accepts t names bytes n i role → kindErrors names tree ≡ []
   accepts-kind a =
       let room : ℕ = length (listOf t names i) in
       kind-quiet names tree
@@ -221,7 +228,8 @@ module _ (t names bytes : List ℕ) {d : Dialect} (g : givenOf t names bytes ≡
       (sym (ap isAccepted (on-node Assignment «check_assignment» h)) ∙ a .assignment (fits-is Assignment ∙ h)))
 
 -- LAWS: a tree in its place is refused nothing exactly where every job accepts its node
-module _ (t names bytes : List ℕ) {d : Dialect} (g : givenOf t names bytes ≡ inDialect d) (p : Placed) (here : Here t p)
+module _ (t names bytes : List ℕ) (n : ℕ) {d : Dialect} {edition : Edition}
+    (g : rulesOf t names bytes (editionOf n) ≡ byRules d edition) (p : Placed) (here : Here t p)
     (fit : Roled p) where
   abbrev at : ℕ
   at = rootIn (p .tree) .at
@@ -235,24 +243,26 @@ module _ (t names bytes : List ℕ) {d : Dialect} (g : givenOf t names bytes ≡
   told-same : kindErrors names (p .tree) ≡ kindErrors names (treeOf at (stretchOf t at))
   told-same = ap (kindErrors names) (here .same)
 
-  role-same : roleErrors d names (p .role) (p .tree) ≡ roleErrors d names (p .role) (treeOf at (stretchOf t at))
-  role-same = ap (roleErrors d names (p .role)) (here .same)
+  role-same : roleErrors d edition names (p .role) (p .tree)
+      ≡ roleErrors d edition names (p .role) (treeOf at (stretchOf t at))
+  role-same = ap (roleErrors d edition names (p .role)) (here .same)
 
-  pub refused-accepts : refusedThere d names p ≡ [] → Accepts t names bytes (rootIn (p .tree) .at) (p .role)
+  pub refused-accepts : refusedThere d edition names p ≡ [] → Accepts t names bytes n (rootIn (p .tree) .at) (p .role)
   unfolding refusedThere
   refused-accepts e =
-      let two = none-both (kindErrors names (p .tree)) (roleErrors d names (p .role) (p .tree)) e in
-      tree-accepts t names bytes g at (here .inside) (p .role) fit-there (sym told-same ∙ two .0)
+      let two = none-both (kindErrors names (p .tree)) (roleErrors d edition names (p .role) (p .tree)) e in
+      tree-accepts t names bytes n g at (here .inside) (p .role) fit-there (sym told-same ∙ two .0)
       (sym role-same ∙ two .1)
 
-  pub accepts-refused : Accepts t names bytes (rootIn (p .tree) .at) (p .role) → refusedThere d names p ≡ []
+  pub accepts-refused : Accepts t names bytes n (rootIn (p .tree) .at) (p .role) → refusedThere d edition names p ≡ []
   unfolding refusedThere
   accepts-refused a =
-      both-none (told-same ∙ accepts-kind t names bytes g at (here .inside) a)
-      (role-same ∙ role-quiet t names bytes g at (here .inside) (p .role) fit-there a)
+      both-none (told-same ∙ accepts-kind t names bytes n g at (here .inside) a)
+      (role-same ∙ role-quiet t names bytes n g at (here .inside) (p .role) fit-there a)
 
 -- what is refused there by its kind alone
-pub kind-none : (d : Dialect) (names : List ℕ) (p : Placed) → refusedThere d names p ≡ []
+pub kind-none : (d : Dialect) (edition : Edition) (names : List ℕ) (p : Placed) → refusedThere d edition names p ≡ []
     → kindErrors names (p .tree) ≡ []
 unfolding refusedThere
-kind-none d names p e = none-both (kindErrors names (p .tree)) (roleErrors d names (p .role) (p .tree)) e .0
+kind-none d edition names p e = none-both (kindErrors names (p .tree))
+    (roleErrors d edition names (p .role) (p .tree)) e .0

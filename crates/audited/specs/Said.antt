@@ -33,19 +33,19 @@ unfoldable pub rootsIn : List Placed → List Node
 rootsIn [] = []
 rootsIn (p ∷ ps) = rootIn (p .tree) ∷ rootsIn ps
 
--- every job that fits node i of a table accepts it, where a job with a buffer has room, and i has this role: its
--- parameters if it is a Def or Lambda, its arguments if it is a Call, its target and type if it is an Assign or
--- AssignModify; as a target if it is one, and as a type if it is one
-pub record Accepts (t names bytes : List ℕ) (i : ℕ) (role : Role) : Type 0 where
+-- every job that fits node i of a table accepts it, where a job with a buffer has room, types are read by the edition
+-- of the number n, and i has this role: its parameters if it is a Def or Lambda, its arguments if it is a Call, its
+-- target and type if it is an Assign or AssignModify; as a target if it is one, and as a type if it is one
+pub record Accepts (t names bytes : List ℕ) (n i : ℕ) (role : Role) : Type 0 where
   pub params : nodeFits t i Parameters ≡ true → (room : ℕ) → length (listOf t names i) ≤ room
       → isAccepted (paramsOf t names i room) ≡ true
   pub call : nodeFits t i Call ≡ true → isAccepted (callOf t names i) ≡ true
   pub assignment : nodeFits t i Assignment ≡ true → isAccepted (assignmentOf t names i) ≡ true
   pub target : role ≡ AsTarget → isAccepted (targetOf t names i) ≡ true
   pub type : role ≡ AsType → (room : ℕ) → length (stretchOf t i) / recordBytes ≤ room
-      → isAccepted (typeShapeOf t names bytes i room) ≡ true
+      → isAccepted (typeShapeOf t names bytes n i room) ≡ true
 
 -- every node of a table is accepted so, in the role that it has where it stands
-abbrev pub AllAccept : List ℕ → List ℕ → List ℕ → Type 0
-AllAccept t names bytes =
-    All (λ p. Accepts t names bytes (rootIn (p .tree) .at) (p .role)) (placed Nowhere (forest 0 t))
+abbrev pub AllAccept : List ℕ → List ℕ → List ℕ → ℕ → Type 0
+AllAccept t names bytes n =
+    All (λ p. Accepts t names bytes n (rootIn (p .tree) .at) (p .role)) (placed Nowhere (forest 0 t))

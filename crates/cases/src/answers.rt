@@ -19,7 +19,8 @@ use targets::Targeted;
 use types::Shaped;
 use validate::Listed;
 
-// What a request asks: its job, how long its parts are, and the job's node; of a binding the Def's beside the Call's.
+// What a request asks: its job, how long its parts are, and the job's node; of a binding the Def's beside the Call's. The
+// edition of the type rules stands where the Def's node does.
 pub struct Asked {
     pub job: u16,
     pub label: usize,
@@ -29,6 +30,7 @@ pub struct Asked {
     pub wanted: u16,
     pub room: usize,
     pub def: usize,
+    pub edition: u32,
     pub node: usize,
 }
 
@@ -225,8 +227,8 @@ fn say_targeted(t: Targeted) {
 }
 
 // The type job, and the shape buffer afterwards.
-fn say_type(table: &[u8], names: &[u8], dialect: &[u8], node: usize, shapes: &mut [u8]) {
-    let s = shapes::type_shape(table, names, dialect, node, shapes);
+fn say_type(a: Asked, table: &[u8], names: &[u8], dialect: &[u8], shapes: &mut [u8]) {
+    let s = shapes::type_shape(table, names, dialect, a.edition, a.node, shapes);
     match s {
         Shaped::Accepted => say(b"accepted"),
         Shaped::Refused(r) => say_refusal(r),
@@ -247,7 +249,7 @@ fn say_lent(a: Asked, table: &[u8], names: &[u8], dialect: &[u8]) {
         say_params(table, names, a.node, &mut lent[0..room]);
         return;
     }
-    say_type(table, names, dialect, a.node, &mut lent[0..room]);
+    say_type(a, table, names, dialect, &mut lent[0..room]);
 }
 
 fn say_word(w: u32) {
@@ -302,14 +304,14 @@ fn say_bound(b: Bound) {
 }
 
 // The audit, and its list of words afterwards, in the same way.
-fn say_audit(table: &[u8], names: &[u8], dialect: &[u8], room: usize) {
+fn say_audit(table: &[u8], names: &[u8], dialect: &[u8], edition: u32, room: usize) {
     let mut space = [9u32; 64];
     let lent: &mut [u32] = &mut space;
     if lent.len() < room {
         return;
     }
     let list = &mut lent[0..room];
-    let l = audit::audit(table, names, dialect, list);
+    let l = audit::audit(table, names, dialect, edition, list);
     say_listed(l);
     say(b", words");
     say_words(list);
@@ -431,7 +433,7 @@ pub(crate) fn answer(a: Asked, table: &[u8], names: &[u8], dialect: &[u8]) {
         7 => say_targeted(targets::assignment(table, names, a.node)),
         9 => say_module(table, names, dialect, a.room),
         10 => say_bind(table, names, a.node, a.def, a.room),
-        11 => say_audit(table, names, dialect, a.room),
+        11 => say_audit(table, names, dialect, a.edition, a.room),
         12 => say_format(table, names, dialect, a.room),
         13 => say_parts(table, a.room, a.def),
         _ => say(b""),

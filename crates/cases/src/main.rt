@@ -18,6 +18,7 @@ fn head_of(head: &[u8]) -> Asked {
         wanted: fields::half(head, 10),
         room: fields::half(head, 12) as usize,
         def: fields::half(head, 14) as usize,
+        edition: fields::half(head, 14) as u32,
         node: fields::word(head, 16) as usize,
     }
 }

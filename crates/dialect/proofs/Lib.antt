@@ -1,3 +1,4 @@
 pub mod Within
 pub mod Laws
+pub mod Editions
 pub mod Promises

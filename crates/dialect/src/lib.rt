@@ -1,5 +1,5 @@
 // The dialect of a module: which language features are permitted. A dialect comes by its name, or from the nine bytes
-// of a table file.
+// of a table file. And the editions of the type rules (W-212), which come by a number.
 //
 // Ported from src/dialect.rs of starlark_syntax 0.14.2, and changed: the named dialects are rows of numbers, and bytes
 // are read.
@@ -9,6 +9,7 @@ ghost use mathlib.Core.Path.{_≡_};
 ghost use lib.ListN.{length};
 ghost use Rattle.dialect.specs.Rows.{rowNamed, typesOf, permitsTypes, recordOf, dialectNamed};
 ghost use Rattle.dialect.specs.Bytes.{validBytes, fromBytes};
+ghost use Rattle.dialect.specs.Editions.{editionOf, statedBytes, editionHeld};
 
 // How type annotations are handled.
 pub enum DialectTypes {
@@ -41,6 +42,24 @@ pub enum Name {
 pub enum Decoded {
     Valid(Dialect),
     Invalid,
+}
+
+// The editions of the type rules. The second reads a path that ends in `type`, which the first bans.
+pub enum Edition {
+    One,
+    Two,
+}
+
+// What a number of an edition gives: the edition, or none for a number other than 1 and 2.
+pub enum EditionRead {
+    Known(Edition),
+    Unknown,
+}
+
+// The edition that a file states by its number, which need be no edition, or nothing.
+pub enum Stated {
+    Number(u32),
+    Nothing,
 }
 
 // A row for each name, in the order of Name: nine numbers in the order of the fields of Dialect.
@@ -82,6 +101,35 @@ pub fn permits_types(types: DialectTypes) -> bool
         DialectTypes::Disable => false,
         DialectTypes::ParseOnly => true,
         DialectTypes::Enable => true,
+    }
+}
+
+// The edition of a number: 1 and 2 are editions.
+pub fn edition_of(number: u32) -> EditionRead
+    ensures { λ r. ⌜ r ≡ editionOf number ⌝ }
+{
+    if number == 1 {
+        return EditionRead::Known(Edition::One);
+    }
+    if number == 2 {
+        return EditionRead::Known(Edition::Two);
+    }
+    EditionRead::Unknown
+}
+
+// The edition that holds in a file with these dialect bytes: the first where it states none. One that is stated needs
+// dialect bytes before it.
+pub fn edition_held(bytes: &[u8], stated: Stated) -> EditionRead
+    ensures { λ r. ⌜ r ≡ editionHeld (now (bytes .entry)) (statedBytes stated) ⌝ }
+{
+    match stated {
+        Stated::Number(number) => {
+            if bytes.len() == 0 {
+                return EditionRead::Unknown;
+            }
+            edition_of(number)
+        }
+        Stated::Nothing => EditionRead::Known(Edition::One),
     }
 }
 

@@ -1,4 +1,5 @@
--- Document 01's table of proved examples, all its rows in one statement. Assumes nothing.
+-- Document 01's table of proved examples, all its rows in one statement; and the table of the second edition of the
+-- type rules. Assumes nothing.
 use mathlib.Core.Path.{_≡_, refl}
 use mathlib.Core.List.{map}
 use lib.ListN.{length}
@@ -12,7 +13,7 @@ use Rattle.arguments.specs.Call.{unpack as callUnpack}
 use Rattle.types.specs.Forms.{formOf}
 use Rattle.types.specs.Paths.{objectPath, «unpack_path»}
 use Rattle.types.specs.Types.{indexBase, index2Base, listLength, atNode, «unpack» as typeUnpack}
-use Rattle.examples.specs.Table.{Row, answer, table}
+use Rattle.examples.specs.Table.{Row, answer, table, secondEdition}
 
 -- THEOREM: every row of the table is what the definitions answer, whatever the record of the def
 pub examples : (def : Node) → map (λ (r : Row). answer def (r .asked)) table ≡ map (λ (r : Row). r .shown) table
@@ -24,3 +25,9 @@ examples def = refl
 -- THEOREM: the number of rows
 pub how-many : length table ≡ 14
 how-many = refl
+
+-- THEOREM: the rows of the second edition
+pub second-edition : (def : Node)
+    → map (λ (r : Row). answer def (r .asked)) secondEdition ≡ map (λ (r : Row). r .shown) secondEdition
+unfolding nameOf same formOf objectPath «unpack_path» indexBase index2Base listLength atNode typeUnpack
+second-edition def = refl

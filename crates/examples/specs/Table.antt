@@ -1,10 +1,13 @@
--- Document 01's table of proved examples: a row for each, on the definitions that the promises cite. These are
--- definitions.
+-- Document 01's table of proved examples: a row for each, on the definitions that the promises cite; and a second
+-- table, of what the second edition of the type rules reads otherwise (W-212). These are definitions.
 use mathlib.Core.Bool.{true, false}
 use mathlib.Core.List.{List, [], _∷_}
 use Prim.Native.Nat.{ℕ}
+use Rattle.dialect.specs.declared.Edition.{Edition}
+use Rattle.dialect.specs.declared.Edition.the-variants.{One, Two}
 use Rattle.forest.specs.Forest.{Node, Tree, node, none, _then_}
 use Rattle.soundness.specs.KindNumbers.{kindIdentifier, kindDot, kindIndex, kindIndex2, kindNormal, kindNoArgs}
+use Rattle.soundness.specs.KindNumbers.{kindInt}
 use Rattle.soundness.specs.KindNumbers.{kindSlash, kindArgsParam, kindKwArgsParam, kindNamed, kindArgsArg}
 use Rattle.table.specs.Numbers.{duplicatedParameter}
 use Rattle.table.specs.Answer.{Answer, accepted, refused}
@@ -107,11 +110,14 @@ str = identifier 12 3
 abbrev pub xDotType : Tree
 xDotType = dot (identifier 7 1) 0 4
 
--- what is asked: a parameter list, the arguments of a call, a type
+abbrev pub oneDotType : Tree
+oneDotType = dot (node (plain kindInt) none) 0 4
+
+-- what is asked: a parameter list, the arguments of a call, a type by an edition
 pub data Asked : Type 0 where
   parameters : List Param → Asked
   arguments : List written.Argument → Asked
-  aType : Tree → Asked
+  aType : Edition → Tree → Asked
 
 -- what is shown of an answer: the numbers of a list with its named-only range; a refusal's number; nothing else
 pub data Shown : Type 0 where
@@ -137,7 +143,7 @@ ofAnswer (refused n vs) = number n
 abbrev pub answer : Node → Asked → Shown
 answer owner (parameters l) = ofOutcome (limited owner l)
 answer owner (arguments l) = ofAnswer (outcomeAnswer (call.unpack l))
-answer owner (aType t) = ofAnswer («unpack» names t)
+answer owner (aType edition t) = ofAnswer («unpack» edition names t)
 
 pub record Row : Type 0 where
   pub asked : Asked
@@ -160,8 +166,17 @@ table =
     row (parameters (star ∷ starStar k ∷ [])) (number 18) ∷  -- (*, **k)
     row (parameters (starStar k ∷ parameter k ∷ [])) (number 11) ∷  -- (**k, k)
     row (arguments (starArgument ∷ namedArgument a ∷ [])) (number 21) ∷  -- f(*x, a=1)
-    row (aType (index aDotB int)) (number 40) ∷  -- a.b[int]
-    row (aType (index2 aDotB int str)) fine ∷  -- a.b[int, str]
-    row (aType xDotType) (number 44) ∷  -- x.type
-    row (aType (dot xDotType 8 1)) fine ∷  -- x.type.y
+    row (aType One (index aDotB int)) (number 40) ∷  -- a.b[int]
+    row (aType One (index2 aDotB int str)) fine ∷  -- a.b[int, str]
+    row (aType One xDotType) (number 44) ∷  -- x.type
+    row (aType One (dot xDotType 8 1)) fine ∷  -- x.type.y
+    []
+
+-- the same by the second edition
+abbrev pub secondEdition : List Row
+secondEdition =
+    row (aType Two xDotType) fine ∷  -- x.type
+    row (aType Two (index2 xDotType int str)) fine ∷  -- x.type[int, str]
+    row (aType Two (index xDotType int)) (number 40) ∷  -- x.type[int]
+    row (aType Two oneDotType) (number 42) ∷  -- 1.type
     []

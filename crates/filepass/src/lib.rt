@@ -1,17 +1,24 @@
 // A table file to its answer: it is unpacked, then the module job runs on what it holds, with the errors in a lent
-// list.
+// list. The job reads no types, so the file's edition decides nothing, unless it is bad.
 use blocks::BLOCK_BYTES;
+use dialect::EditionRead;
 use errors::WIDTH;
 use forest::RECORD;
+use table::Checked;
 use table::MOST_BYTES;
 use table::MOST_NAMES;
 use table::MOST_NODES;
 use table::Refusal;
+use table::numbers;
 use tablefile::MOST_BLOCKS;
 use tablefile::Verdict;
 use validate::Listed;
 ghost use mathlib.Core.Path.{_≡_};
+ghost use mathlib.Core.List.{[]};
 ghost use lib.ListN.{length, take};
+ghost use Rattle.table.specs.Numbers.{badDialect};
+ghost use Rattle.table.specs.Answer.{refused, andThen, refusal};
+ghost use Rattle.table.specs.Check.{checkOf};
 ghost use Rattle.validate.specs.Job.{listed};
 ghost use Rattle.filepass.specs.Sizes.{enoughBytes, enoughWords};
 ghost use Rattle.filepass.specs.Passing.{passed, behind, answerOf, wordsAfter};
@@ -40,12 +47,14 @@ pub fn check_file(file: &[u8], errors: &mut [u32]) -> Passed
         return Passed::Refused(why);
     }
     let h = tablefile::header(file);
-    let found = validate::module(
-        front(&table, RECORD * h.nodes),
-        front(&names, h.names),
-        tablefile::dialect_bytes(file),
-        errors,
-    );
+    let t = front(&table, RECORD * h.nodes);
+    let n = front(&names, h.names);
+    let bytes = tablefile::dialect_bytes(file);
+    let edition = dialect::edition_held(bytes, tablefile::stated_edition(file));
+    if let EditionRead::Unknown = edition {
+        return Passed::Refused(edition_refused(t, n));
+    }
+    let found = validate::module(t, n, bytes, errors);
     told(h.nodes as u32, found)
 }
 
@@ -61,6 +70,18 @@ pub fn check_read(
     ensures { λ r. ⌜ length (now (errors .entry)) ≡ enoughWords ⌝ }
 {
     check_file(front(buffer, len), errors)
+}
+
+// Why a file with a bad edition is refused: 1 to 4, else 5.
+fn edition_refused(table: &[u8], names: &[u8]) -> Refusal
+    ensures { λ r. ⌜ refusal r ≡
+        andThen (checkOf (now (table .entry)) (now (names .entry))) (λ _. refused badDialect []) ⌝ }
+{
+    let found = table::check(table, names);
+    match found {
+        Checked::Sound => Refusal::Bare(numbers::BAD_DIALECT),
+        Checked::Refused(why) => why,
+    }
 }
 
 // The answer for a file: its number of nodes, and what the module job answered.

@@ -3,6 +3,7 @@ use crate::lent;
 use crate::say;
 use crate::say_number;
 use blocks::BLOCK_BYTES;
+use dialect::Stated;
 use forest::RECORD;
 use table::Place;
 use table::Refusal;
@@ -90,8 +91,20 @@ fn say_held(l: Loaded) {
     say_number(l.names_len as u64);
     say(b", dialect bytes ");
     say_number(l.dialect_len as u64);
+    say_edition(l.edition);
     say(b", taken ");
     say_number(l.taken as u64);
+}
+
+// The edition byte, where there is one.
+fn say_edition(edition: Stated) {
+    match edition {
+        Stated::Number(n) => {
+            say(b", edition ");
+            say_number(n as u64);
+        }
+        Stated::Nothing => {}
+    }
 }
 
 fn say_refused(r: Refusal) {
@@ -122,6 +135,7 @@ fn say_written(l: Loaded, file: &[u8]) {
         front(&table, l.table_len),
         front(&names, l.names_len),
         front(&dialect, l.dialect_len),
+        l.edition,
         &mut again,
     );
     match written {

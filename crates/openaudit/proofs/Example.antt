@@ -8,6 +8,7 @@ use Prim.Native.Nat.{ℕ}
 use native.Mathlib.Omega.{arith}
 use Rattle.fields.specs.Field.{field}
 use Rattle.dialect.specs.Rows.{recordOf}
+use Rattle.dialect.specs.Editions.{editionOf}
 use Rattle.dialect.specs.Bytes.{within, validBytes, fromBytes}
 use Rattle.forest.specs.Forest.{sizeOf, kidsOf, restOf, forestIn, forest, count}
 use Rattle.forest.specs.Names.{same}
@@ -18,7 +19,7 @@ use Rattle.soundness.specs.Sound.{wanted, permits, kidsSound, soundNode, soundA
 use Rattle.soundness.specs.Sound.{firstFalse, firstUnsound}
 use Rattle.table.specs.Depth.{classWeight, weight, firstDeep}
 use Rattle.table.specs.Answer.{accepted}
-use Rattle.table.specs.Check.{lengthSound, checkOf, givenOf, wants}
+use Rattle.table.specs.Check.{lengthSound, checkOf, givenOf, rulesOf, wants}
 use Rattle.targets.specs.Targets.{«check_assign», leaves, typeCheck, «check_assignment»}
 use Rattle.types.specs.Forms.{formOf}
 use Rattle.types.specs.Types.{atNode, «unpack», «dialect_check_type»}
@@ -41,14 +42,16 @@ unfolding checkOf lengthSound firstUnsound firstFalse recordSound rootSound soun
 sound = refl
 
 -- EXAMPLE: the two lists
-pub list-before : allErrors badType badNames closed ≡ before
-unfolding allErrors auditErrors passErrors givenOf fromBytes validBytes within recordOf forestIn forest kidsOf restOf
+pub list-before : allErrors badType badNames closed 1 ≡ before
+unfolding allErrors auditErrors passErrors editionOf rulesOf givenOf fromBytes validBytes within recordOf forestIn
+forest kidsOf restOf
     sizeOf field kindIn kindOf armOf f exprErrors expr withoutLists rolesOf placed wants kindErrors roleErrors
     refusedThere refusals «check_assign» leaves typeCheck «check_assignment» «dialect_check_type»
 list-before = rw sound refl
 
-pub list-after : allErrors badType badNames typesOpen ≡ after
-unfolding allErrors auditErrors passErrors givenOf fromBytes validBytes within recordOf forestIn forest kidsOf restOf
+pub list-after : allErrors badType badNames typesOpen 1 ≡ after
+unfolding allErrors auditErrors passErrors editionOf rulesOf givenOf fromBytes validBytes within recordOf forestIn
+forest kidsOf restOf
     sizeOf field kindIn kindOf armOf f exprErrors expr withoutLists rolesOf placed wants kindErrors roleErrors
     refusedThere refusals «check_assign» leaves typeCheck «check_assignment» «dialect_check_type» formOf atNode «unpack»
 list-after = rw sound refl
@@ -58,6 +61,7 @@ pub opens : permitsAll (recordOf closed) (recordOf typesOpen) ≡ true
 unfolding permitsAll recordOf
 opens = refl
 
-pub not-tied : (out : ℕ → Bool) → allErrors badType badNames typesOpen ≡ without out (allErrors badType badNames closed)
+pub not-tied : (out : ℕ → Bool) → allErrors badType badNames typesOpen 1
+    ≡ without out (allErrors badType badNames closed 1)
     → ⊥
 not-tied out h = not-left out _ _ (λ same. absurd (omega (arith, same))) (rw (list-before, list-after) at h)

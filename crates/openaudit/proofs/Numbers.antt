@@ -11,6 +11,7 @@ use lib.Dec.{eqb, ltb}
 use lib.ListN.{length}
 use Rattle.fields.specs.Choice.{if'}
 use Rattle.dialect.specs.declared.DialectTypes.{DialectTypes}
+use Rattle.dialect.specs.declared.Edition.{Edition}
 use Rattle.dialect.specs.Rows.{permitsTypes}
 use Rattle.forest.specs.Forest.{Node, Tree, node, Forest, none, _then_}
 use Rattle.forest.specs.declared.Found.{Found}
@@ -146,32 +147,33 @@ mutual
   object-small ban none = refl
   object-small ban (t then ts) = base-small ban t
 
-path-small : (names : List ℕ) (t : Tree) → small («unpack_path» names t) ≡ true
+path-small : (edition : Edition) (names : List ℕ) (t : Tree) → small («unpack_path» edition names t) ≡ true
 unfolding «unpack_path»
-path-small names (node r ks) =
+path-small edition names (node r ks) =
     if-small (eqb (r .kind) kindIdentifier) _ _ refl
-    (if-small (eqb (r .kind) kindDot) _ _ (object-small (banned names r) ks) refl)
+    (if-small (eqb (r .kind) kindDot) _ _ (object-small (banned edition names r) ks) refl)
 
-node-small : (names : List ℕ) (form : Form) (r : Node) (ks : Forest) → small (atNode names form r ks) ≡ true
+node-small : (edition : Edition) (names : List ℕ) (form : Form) (r : Node) (ks : Forest)
+    → small (atNode edition names form r ks) ≡ true
 unfolding atNode indexBase index2Base listLength
-node-small names Ellipsis r ks = refl
-node-small names Path r ks = path-small names (node r ks)
-node-small names Index r none = refl
-node-small names Index r (node b bs then ts) = if-small (eqb (b .kind) kindIdentifier) _ _ refl refl
-node-small names Index2 r none = refl
-node-small names Index2 r (b then ts) = path-small names b
-node-small names ListForm r none = refl
-node-small names ListForm r (t then none) = refl
-node-small names ListForm r (t then (u then ts)) = refl
-node-small names Union r ks = refl
-node-small names Tuple r ks = refl
-node-small names Other r ks = refl
+node-small edition names Ellipsis r ks = refl
+node-small edition names Path r ks = path-small edition names (node r ks)
+node-small edition names Index r none = refl
+node-small edition names Index r (node b bs then ts) = if-small (eqb (b .kind) kindIdentifier) _ _ refl refl
+node-small edition names Index2 r none = refl
+node-small edition names Index2 r (b then ts) = path-small edition names b
+node-small edition names ListForm r none = refl
+node-small edition names ListForm r (t then none) = refl
+node-small edition names ListForm r (t then (u then ts)) = refl
+node-small edition names Union r ks = refl
+node-small edition names Tuple r ks = refl
+node-small edition names Other r ks = refl
 
-rule-type : (names : List ℕ) (r : Node) (ks : Forest) (children : Reads → Answer)
-    → ((reads : Reads) → small (children reads) ≡ true) → small (typeRule names r ks children) ≡ true
-rule-type names r ks children below =
-    then-small (atNode names (formOf (r .kind) (r .detail)) r ks) _
-    (node-small names (formOf (r .kind) (r .detail)) r ks) (below (readsOf (formOf (r .kind) (r .detail))))
+rule-type : (edition : Edition) (names : List ℕ) (r : Node) (ks : Forest) (children : Reads → Answer)
+    → ((reads : Reads) → small (children reads) ≡ true) → small (typeRule edition names r ks children) ≡ true
+rule-type edition names r ks children below =
+    then-small (atNode edition names (formOf (r .kind) (r .detail)) r ks) _
+    (node-small edition names (formOf (r .kind) (r .detail)) r ks) (below (readsOf (formOf (r .kind) (r .detail))))
 
 child-small : (how : How) (x y : Unit {0} → Answer) → small (x tt) ≡ true → small (y tt) ≡ true
     → small (ofChild how (accepted []) x y) ≡ true
@@ -182,23 +184,29 @@ child-small AsArgument x y p q = q
 mutual
   unfolding «unpack»
 
-  unpack-small : (names : List ℕ) (t : Tree) → small («unpack» names t) ≡ true
-  unpack-small names (node r ks) =
-      rule-type names r ks (λ reads. unpackEach reads names ks) (λ reads. types-small reads names ks)
+  unpack-small : (edition : Edition) (names : List ℕ) (t : Tree) → small («unpack» edition names t) ≡ true
+  unpack-small edition names (node r ks) =
+      rule-type edition names r ks (λ reads. unpackEach reads edition names ks)
+      (λ reads. types-small reads edition names ks)
 
-  argument-small : (names : List ℕ) (t : Tree) → small («unpack_argument» names t) ≡ true
-  argument-small names (node r ks) =
-      if-small (eqb (r .kind) kindList) _ _ (types-small argumentsOnly names ks)
-      (rule-type names r ks (λ reads. unpackEach reads names ks) (λ reads. types-small reads names ks))
+  argument-small : (edition : Edition) (names : List ℕ) (t : Tree) → small («unpack_argument» edition names t) ≡ true
+  argument-small edition names (node r ks) =
+      if-small (eqb (r .kind) kindList) _ _ (types-small argumentsOnly edition names ks)
+      (rule-type edition names r ks (λ reads. unpackEach reads edition names ks)
+      (λ reads. types-small reads edition names ks))
 
-  types-small : (reads : Reads) (names : List ℕ) (ts : Forest) → small (unpackEach reads names ts) ≡ true
-  types-small reads names none = refl
-  types-small reads names (t then ts) =
-      then-small (ofChild (reads .first) (accepted []) (λ _. «unpack» names t) (λ _. «unpack_argument» names t)) _
-      (child-small (reads .first) _ _ (unpack-small names t) (argument-small names t))
-      (types-small (readsAs (reads .others) (reads .others)) names ts)
+  types-small : (reads : Reads) (edition : Edition) (names : List ℕ) (ts : Forest)
+      → small (unpackEach reads edition names ts) ≡ true
+  types-small reads edition names none = refl
+  types-small reads edition names (t then ts) =
+      then-small
+      (ofChild (reads .first) (accepted []) (λ _. «unpack» edition names t) (λ _. «unpack_argument» edition names t)) _
+      (child-small (reads .first) _ _ (unpack-small edition names t) (argument-small edition names t))
+      (types-small (readsAs (reads .others) (reads .others)) edition names ts)
 
-pub type-small : (names : List ℕ) (types : DialectTypes) (t : Tree) → small («dialect_check_type» names types t) ≡ true
+pub type-small : (edition : Edition) (names : List ℕ) (types : DialectTypes) (t : Tree)
+    → small («dialect_check_type» edition names types t) ≡ true
 unfolding «dialect_check_type»
-type-small names types (node r ks) =
-    then-small (typesCheck types r) _ (if-small (permitsTypes types) _ _ refl refl) (unpack-small names (node r ks))
+type-small edition names types (node r ks) =
+    then-small (typesCheck types r) _ (if-small (permitsTypes types) _ _ refl refl)
+    (unpack-small edition names (node r ks))

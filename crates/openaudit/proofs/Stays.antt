@@ -10,6 +10,7 @@ use Prim.Native.Nat.{ℕ}
 use borrow.Author.Tests.{ltb-true}
 use Rattle.fields.specs.Choice.{if'}
 use Rattle.dialect.specs.declared.Dialect.{Dialect}
+use Rattle.dialect.specs.declared.Edition.{Edition}
 use Rattle.dialect.specs.Rows.{permitsTypes}
 use Rattle.forest.specs.Forest.{Tree, node}
 use Rattle.table.specs.Answer.{Answer, accepted, refused}
@@ -74,30 +75,36 @@ module _ (d e : Dialect) where
       (stay-if (wants Call (kindIn t)) _ _ (stay-answer (callAnswer names t) (call-small names t))
       (stay-if (wants Assignment (kindIn t)) _ _ (stay-answer («check_assignment» t) (assignment-small t)) stay-none))
 
-  stay-role : (x : Dialect) (names : List ℕ) (role : Role) (t : Tree) → Stay (roleErrors x names role t)
+  stay-role : (x : Dialect) (edition : Edition) (names : List ℕ) (role : Role) (t : Tree)
+      → Stay (roleErrors x edition names role t)
   unfolding roleErrors
-  stay-role x names AsTarget t = stay-answer (counted 0 t) (target-small 0 t)
-  stay-role x names AsType t = stay-answer («dialect_check_type» names (x .«enable_types») t) (type-small names _ t)
-  stay-role x names Plain t = stay-none
+  stay-role x edition names AsTarget t = stay-answer (counted 0 t) (target-small 0 t)
+  stay-role x edition names AsType t = stay-answer («dialect_check_type» edition names (x .«enable_types») t)
+      (type-small edition names _ t)
+  stay-role x edition names Plain t = stay-none
 
   -- LAW: nothing of what the jobs refuse is taken out
-  pub refusals-stay : (x : Dialect) (names : List ℕ) (ps : List Placed) → Stay (refusals x names ps)
+  pub refusals-stay : (x : Dialect) (edition : Edition) (names : List ℕ) (ps : List Placed)
+      → Stay (refusals x edition names ps)
   unfolding refusals refusedThere
-  refusals-stay x names [] = stay-none
-  refusals-stay x names (p ∷ ps) =
-      stay-both (kindErrors names (p .tree) ++ roleErrors x names (p .role) (p .tree)) (refusals x names ps)
-      (stay-both (kindErrors names (p .tree)) (roleErrors x names (p .role) (p .tree)) (stay-kind names (p .tree))
-      (stay-role x names (p .role) (p .tree))) (refusals-stay x names ps)
+  refusals-stay x edition names [] = stay-none
+  refusals-stay x edition names (p ∷ ps) =
+      stay-both (kindErrors names (p .tree) ++ roleErrors x edition names (p .role) (p .tree))
+      (refusals x edition names ps)
+      (stay-both (kindErrors names (p .tree)) (roleErrors x edition names (p .role) (p .tree))
+      (stay-kind names (p .tree))
+      (stay-role x edition names (p .role) (p .tree))) (refusals-stay x edition names ps)
 
   -- LAW: and it is the same in both dialects, where both have types or neither has
-  module _ (agree : permitsTypes (d .«enable_types») ≡ permitsTypes (e .«enable_types»)) (names : List ℕ) where
-    same-role : (role : Role) (t : Tree) → roleErrors e names role t ≡ roleErrors d names role t
+  module _ (agree : permitsTypes (d .«enable_types») ≡ permitsTypes (e .«enable_types»))
+      (edition : Edition) (names : List ℕ) where
+    same-role : (role : Role) (t : Tree) → roleErrors e edition names role t ≡ roleErrors d edition names role t
     unfolding roleErrors «dialect_check_type»
     same-role AsTarget t = refl
     same-role AsType (node r ks) = rw agree refl
     same-role Plain t = refl
 
-    pub refusals-same : (ps : List Placed) → refusals e names ps ≡ refusals d names ps
+    pub refusals-same : (ps : List Placed) → refusals e edition names ps ≡ refusals d edition names ps
     unfolding refusals refusedThere
     refusals-same [] = refl
     refusals-same (p ∷ ps) = rw (same-role (p .role) (p .tree), refusals-same ps) refl

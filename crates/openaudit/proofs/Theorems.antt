@@ -1,4 +1,5 @@
--- W-209 over the audit, for any bytes that give two dialects of which the second permits all that the first does.
+-- W-209 over the audit, by each edition, for any bytes that give two dialects of which the second permits all that the
+-- first does.
 -- `errors 0` stays `errors 0`: by audited, 0 means that the module pass has no error and every job accepts every node;
 -- the first is `zero-stays` of opening, and of the jobs only that of types reads the dialect, which accepts no less
 -- where types are open (`type-stays`). The whole list is the first without the opened numbers, where types are not
@@ -11,13 +12,17 @@ use lib.ListN.{length, take}
 use Rattle.fields.specs.Choice.{if'}
 use Rattle.fields.proofs.Basics.{never}
 use Rattle.dialect.specs.declared.Dialect.{Dialect}
+use Rattle.dialect.specs.declared.Edition.{Edition}
+use Rattle.dialect.specs.declared.EditionRead.{EditionRead}
+use Rattle.dialect.specs.declared.EditionRead.the-variants.{Known, Unknown}
+use Rattle.dialect.specs.Editions.{editionOf}
 use Rattle.dialect.specs.declared.DialectTypes.{DialectTypes}
 use Rattle.dialect.specs.declared.Decoded.the-variants.{Valid}
 use Rattle.dialect.specs.Rows.{permitsTypes}
 use Rattle.dialect.specs.Bytes.{fromBytes}
 use Rattle.forest.specs.Forest.{Tree, node, Forest, forest, treeOf}
 use Rattle.table.specs.Answer.{Answer, accepted, refused, andThen, refusedAt}
-use Rattle.table.specs.Check.{checkOf, handing, givenOf, inGiven, nodeCheck, stretchOf, mostBytes}
+use Rattle.table.specs.Check.{checkOf, handing, givenOf, ruling, rulesOf, inRules, nodeCheck, stretchOf, mostBytes}
 use Rattle.table.specs.declared.Wanted.the-variants.{Expression}
 use Rattle.table.specs.Numbers.{typesDisabled}
 use Rattle.types.specs.Types.{«unpack», «dialect_check_type»}
@@ -39,7 +44,7 @@ use Rattle.audit.specs.Job.{auditErrors, auditIn, allErrors, auditOf}
 use Rattle.deflist.specs.Written.{rootIn}
 use Rattle.audited.specs.Said.{isAccepted, Accepts}
 use Rattle.audited.proofs.Everywhere.{all-map}
-use Rattle.audited.proofs.Audited.{zero-passes, passes-zero}
+use Rattle.audited.proofs.Audited.{audit-known, zero-passes, passes-zero}
 use Rattle.openaudit.proofs.Stays.{own-swaps, refusals-stay, refusals-same}
 
 -- what is accepted after a check stays so, where what follows does
@@ -49,39 +54,44 @@ then-stays (accepted vs) f g on h = on h
 then-stays (refused n vs) f g on h = h
 
 -- a type that is accepted stays accepted
-tree-stays : (names : List ℕ) (x y : DialectTypes) (t : Tree) → atLeast (permitsTypes x) (permitsTypes y) ≡ true
-    → isAccepted («dialect_check_type» names x t) ≡ true → isAccepted («dialect_check_type» names y t) ≡ true
+tree-stays : (edition : Edition) (names : List ℕ) (x y : DialectTypes) (t : Tree)
+    → atLeast (permitsTypes x) (permitsTypes y) ≡ true
+    → isAccepted («dialect_check_type» edition names x t) ≡ true → isAccepted («dialect_check_type» edition names y t)
+    ≡ true
 unfolding «dialect_check_type»
-tree-stays names x y (node r ks) least h = go (permitsTypes x) (permitsTypes y) least h
+tree-stays edition names x y (node r ks) least h = go (permitsTypes x) (permitsTypes y) least h
   where
     asked : Bool → Answer
     asked b =
-        andThen (if' b (λ _. accepted []) (λ _. refusedAt typesDisabled r)) (λ _. «unpack» names (node r ks))
+        andThen (if' b (λ _. accepted []) (λ _. refusedAt typesDisabled r)) (λ _. «unpack» edition names (node r ks))
 
     go : (a b : Bool) → atLeast a b ≡ true → isAccepted (asked a) ≡ true → isAccepted (asked b) ≡ true
     go true true least h = h
     go true false least h = never (cc)
     go false b least h = never (cc)
 
-module _ (t names first second : List ℕ) {d e : Dialect} (one : fromBytes first ≡ Valid d)
+module _ (t names first second : List ℕ) (n : ℕ) {d e : Dialect} (one : fromBytes first ≡ Valid d)
     (two : fromBytes second ≡ Valid e) (all : permitsAll d e ≡ true) where
-  type-stays : (i room : ℕ) → isAccepted (typeShapeOf t names first i room) ≡ true
-      → isAccepted (typeShapeOf t names second i room) ≡ true
-  unfolding typeShapeOf givenOf typeAt
-  type-stays i room h = rw two (go (checkOf t names) (rw one at h))
+  type-stays : (i room : ℕ) → isAccepted (typeShapeOf t names first n i room) ≡ true
+      → isAccepted (typeShapeOf t names second n i room) ≡ true
+  unfolding typeShapeOf rulesOf givenOf typeAt
+  type-stays i room h = rw two (go (checkOf t names) (editionOf n) (rw one at h))
     where
-      asked : Answer → Dialect → Answer
-      asked a x = inGiven (handing a (Valid x)) (λ y. typeAt t names (y .«enable_types») i room)
+      asked : Answer → EditionRead → Dialect → Answer
+      asked a read x = inRules (ruling (handing a (Valid x)) read)
+          (λ y edition. typeAt edition t names (y .«enable_types») i room)
 
-      go : (a : Answer) → isAccepted (asked a d) ≡ true → isAccepted (asked a e) ≡ true
-      go (refused n vs) h = never (cc)
-      go (accepted vs) h =
+      go : (a : Answer) (read : EditionRead) → isAccepted (asked a read d) ≡ true → isAccepted (asked a read e) ≡ true
+      go (refused m vs) read h = never (cc)
+      go (accepted vs) Unknown h = never (cc)
+      go (accepted vs) (Known edition) h =
           then-stays (nodeCheck t i Expression) _ _ (then-stays (roomCheck room (stretchOf t i)) _ _
-          (tree-stays names (d .«enable_types») (e .«enable_types») (treeOf i (stretchOf t i)) (permits all .types))) h
+          (tree-stays edition names (d .«enable_types») (e .«enable_types») (treeOf i (stretchOf t i))
+          (permits all .types))) h
 
   -- every job that accepts a node still does
-  accepts-stay : (p : Placed) → Accepts t names first (rootIn (p .tree) .at) (p .role)
-      → Accepts t names second (rootIn (p .tree) .at) (p .role)
+  accepts-stay : (p : Placed) → Accepts t names first n (rootIn (p .tree) .at) (p .role)
+      → Accepts t names second n (rootIn (p .tree) .at) (p .role)
   accepts-stay p a = record {
     params = a .params;
     call = a .call;
@@ -91,49 +101,54 @@ module _ (t names first second : List ℕ) {d e : Dialect} (one : fromBytes firs
   }
 
   -- THEOREM: `errors 0` stays `errors 0`, also where types or top-level statements open
-  pub audit-zero-stays : auditOf t names first ≡ accepted (0 ∷ []) → auditOf t names second ≡ accepted (0 ∷ [])
+  pub audit-zero-stays : auditOf t names first n ≡ accepted (0 ∷ []) → auditOf t names second n ≡ accepted (0 ∷ [])
   audit-zero-stays h =
-      let passed = zero-passes t names first h in
-      passes-zero t names second (zero-stays t names first second one two all (passed .0))
+      let passed = zero-passes t names first n h in
+      let known = audit-known t names first n h in
+      passes-zero t names second n (known .1) (zero-stays t names first second one two all (passed .0))
       (all-map accepts-stay (placed Nowhere (forest 0 t)) (passed .1))
 
   module _ (top : d .«enable_top_level_stmt» ≡ e .«enable_top_level_stmt»)
       (types : permitsTypes (d .«enable_types») ≡ permitsTypes (e .«enable_types»)) where
     -- the two parts of the list
-    parts-opened : auditErrors e names t ≡ without (opened d e) (auditErrors d names t)
+    parts-opened : (edition : Edition)
+        → auditErrors e edition names t ≡ without (opened d e) (auditErrors d edition names t)
     unfolding auditErrors passErrors
-    parts-opened =
+    parts-opened edition =
         let ts : Forest = forest 0 (take mostBytes t) in
         let told : List Err = «validate_module» d names ts in
-        let refused' : List Err = refusals d names (placed Nowhere ts) in
+        let refused' : List Err = refusals d edition names (placed Nowhere ts) in
         rw (
           second-clause d e all top names ts,
           own-swaps (opened d e) told,
-          refusals-same d e types names (placed Nowhere ts),
+          refusals-same d e types edition names (placed Nowhere ts),
         ) (sym (without-append (opened d e) (kept Own told) refused'
-        ∙ rw (refusals-stay d e d names (placed Nowhere ts)) refl))
+        ∙ rw (refusals-stay d e d edition names (placed Nowhere ts)) refl))
 
     -- the errors that are left
     abbrev pub left : List Err
-    left = without (opened d e) (allErrors t names first)
+    left = without (opened d e) (allErrors t names first n)
 
     -- THEOREM: where types are not newly opened, the list of the audit is the first without the opened numbers
-    pub audit-opened : allErrors t names second ≡ left
-    unfolding allErrors givenOf without
-    audit-opened = rw (one, two) (go (checkOf t names))
+    pub audit-opened : allErrors t names second n ≡ left
+    unfolding allErrors rulesOf givenOf without
+    audit-opened = rw (one, two) (go (checkOf t names) (editionOf n))
       where
-        go : (a : Answer) → auditIn (handing a (Valid e)) names t
-            ≡ without (opened d e) (auditIn (handing a (Valid d)) names t)
-        go (refused n vs) = refl
-        go (accepted vs) = parts-opened
+        go : (a : Answer) (read : EditionRead) → auditIn (ruling (handing a (Valid e)) read) names t
+            ≡ without (opened d e) (auditIn (ruling (handing a (Valid d)) read) names t)
+        go (refused m vs) read = refl
+        go (accepted vs) Unknown = refl
+        go (accepted vs) (Known edition) = parts-opened edition
 
     -- THEOREM: and the answer is their number, or the same refusal
-    pub audit-total-opened : auditOf t names second
-        ≡ inGiven (givenOf t names first) (λ _. accepted (length left ∷ []))
-    unfolding givenOf
-    audit-total-opened = rw (audit-opened, one, two) (go (checkOf t names))
+    pub audit-total-opened : auditOf t names second n
+        ≡ inRules (rulesOf t names first (editionOf n)) (λ _ _. accepted (length left ∷ []))
+    unfolding rulesOf givenOf
+    audit-total-opened = rw (audit-opened, one, two) (go (checkOf t names) (editionOf n))
       where
-        go : (a : Answer) → inGiven (handing a (Valid e)) (λ _. accepted (length left ∷ []))
-            ≡ inGiven (handing a (Valid d)) (λ _. accepted (length left ∷ []))
-        go (refused n vs) = refl
-        go (accepted vs) = refl
+        go : (a : Answer) (read : EditionRead)
+            → inRules (ruling (handing a (Valid e)) read) (λ _ _. accepted (length left ∷ []))
+            ≡ inRules (ruling (handing a (Valid d)) read) (λ _ _. accepted (length left ∷ []))
+        go (refused m vs) read = refl
+        go (accepted vs) Unknown = refl
+        go (accepted vs) (Known edition) = refl

@@ -9,6 +9,7 @@ use Prim.Native.Nat.{ℕ}
 use lib.ListN.{getD}
 use Rattle.fields.specs.Choice.{if'}
 use Rattle.dialect.specs.declared.Dialect.{Dialect}
+use Rattle.dialect.specs.declared.Edition.{Edition}
 use Rattle.forest.specs.Forest.{Tree, node, Forest, none, _then_}
 use Rattle.table.specs.Check.{wants}
 use Rattle.table.specs.declared.Wanted.the-variants.{Parameters, Call, Assignment}
@@ -27,7 +28,7 @@ use Rattle.parts.proofs.Calls.{call-same}
 use Rattle.parts.proofs.Targets.{counted-same, assignment-same}
 use Rattle.parts.proofs.Types.{check-same}
 
-module _ (d : Dialect) (names others : List ℕ) where
+module _ (d : Dialect) (edition : Edition) (names others : List ℕ) where
   kind-same : (t u : Tree) → SameTree names others t u → Reads (kindErrors names t) (kindErrors others u)
   unfolding kindErrors SameTree
   kind-same (node r ks) (node s ls) (h, below) =
@@ -37,27 +38,27 @@ module _ (d : Dialect) (names others : List ℕ) where
       (assignment-same names others (node r ks) (node s ls) (h, below)) refl))
 
   role-same : (role : Role) (t u : Tree) → SameTree names others t u
-      → Reads (roleErrors d names role t) (roleErrors d others role u)
+      → Reads (roleErrors d edition names role t) (roleErrors d edition others role u)
   unfolding roleErrors
   role-same AsTarget t u h = counted-same names others 0 t u h
-  role-same AsType t u h = check-same names others (d .«enable_types») t u h
+  role-same AsType t u h = check-same edition names others (d .«enable_types») t u h
   role-same Plain t u h = refl
 
   as-role : (role like : Role) → role ≡ like → (t u : Tree) → SameTree names others t u
-      → Reads (roleErrors d names role t) (roleErrors d others like u)
+      → Reads (roleErrors d edition names role t) (roleErrors d edition others like u)
   as-role role like e t u h = rw e (role-same like t u h)
 
   there-same : (role like : Role) → role ≡ like → (t u : Tree) → SameTree names others t u
-      → Reads (refusedThere d names (placedAs role t)) (refusedThere d others (placedAs like u))
+      → Reads (refusedThere d edition names (placedAs role t)) (refusedThere d edition others (placedAs like u))
   unfolding refusedThere
   there-same role like e t u h = reads-both _ _ _ _ (kind-same t u h) (as-role role like e t u h)
 
   -- trees joined, and the kind of a tree's first record
-  joined-same : (ps qs xs ys : List Placed) → Reads (refusals d names ps) (refusals d others qs)
-      → Reads (refusals d names xs) (refusals d others ys)
-      → Reads (refusals d names (ps ++ xs)) (refusals d others (qs ++ ys))
+  joined-same : (ps qs xs ys : List Placed) → Reads (refusals d edition names ps) (refusals d edition others qs)
+      → Reads (refusals d edition names xs) (refusals d edition others ys)
+      → Reads (refusals d edition names (ps ++ xs)) (refusals d edition others (qs ++ ys))
   joined-same ps qs xs ys h k =
-      rw (refusals-append d names ps xs, refusals-append d others qs ys) (reads-both _ _ _ _ h k)
+      rw (refusals-append d edition names ps xs, refusals-append d edition others qs ys) (reads-both _ _ _ _ h k)
 
   first-kind : (t u : Tree) → SameTree names others t u → kindIn t ≡ kindIn u
   unfolding SameTree
@@ -73,13 +74,13 @@ module _ (d : Dialect) (names others : List ℕ) where
     unfolding placedTree SameTree refusals
 
     placed-tree-same : (t u : Tree) (role like : Role) → role ≡ like → SameTree names others t u
-        → Reads (refusals d names (placedTree role t)) (refusals d others (placedTree like u))
+        → Reads (refusals d edition names (placedTree role t)) (refusals d edition others (placedTree like u))
     placed-tree-same (node r ks) (node s ls) role like e (h, below) =
         reads-both _ _ _ _ (there-same role like e (node r ks) (node s ls) (h, below))
         (placed-same ks ls _ _ (roles-below (r .kind) (s .kind) (h .kind) (r .detail) (s .detail) (h .detail)) below)
 
     placed-same : (ts us : Forest) (roles likes : Roles) → roles ≡ likes → SameTrees names others ts us
-        → Reads (refusals d names (placed roles ts)) (refusals d others (placed likes us))
+        → Reads (refusals d edition names (placed roles ts)) (refusals d edition others (placed likes us))
     placed-same none none roles likes e h = refl
     placed-same none (u then us) roles likes e h = absurd h
     placed-same (t then ts) none roles likes e h = absurd h
@@ -91,7 +92,7 @@ module _ (d : Dialect) (names others : List ℕ) where
 
   -- LAW: what the jobs refuse
   pub refusals-same : (roles : Roles) (ts us : Forest) → SameTrees names others ts us
-      → Reads (refusals d names (placed roles ts)) (refusals d others (placed roles us))
+      → Reads (refusals d edition names (placed roles ts)) (refusals d edition others (placed roles us))
   refusals-same roles ts us h = placed-same ts us roles roles refl h
 
 -- LAW: without the errors of parameter lists

@@ -10,6 +10,7 @@ use native.Mathlib.Omega.{arith}
 use lib.ListN.{take}
 use Rattle.fields.specs.Choice.{if'}
 use Rattle.dialect.specs.declared.Dialect.{Dialect}
+use Rattle.dialect.specs.declared.Edition.{Edition}
 use Rattle.forest.specs.Forest.{Node, Tree, node, Forest, none, _then_, forest}
 use Rattle.soundness.specs.KindNumbers.{kindStatements}
 use Rattle.soundness.specs.Kinds.{kindIn, kindOf}
@@ -67,10 +68,10 @@ module _ (d : Dialect) (names : List ℕ) where
       rw (placed-beside ts us)
       (sym (append-assoc (placedTree Plain t) (placed Nowhere ts) (placed Nowhere us)))
 
-  refusals-beside : (ts us : Forest)
-      → refusalsIn d names (ts beside us) ≡ refusalsIn d names ts ++ refusalsIn d names us
-  refusals-beside ts us =
-      rw (placed-beside ts us) (refusals-append d names (placed Nowhere ts) (placed Nowhere us))
+  refusals-beside : (edition : Edition) (ts us : Forest)
+      → refusalsIn d edition names (ts beside us) ≡ refusalsIn d edition names ts ++ refusalsIn d edition names us
+  refusals-beside edition ts us =
+      rw (placed-beside ts us) (refusals-append d edition names (placed Nowhere ts) (placed Nowhere us))
 
   -- a root Statements: the module pass and the audit report nothing at it
   module _ (r : Node) (ts : Forest) (is : r .kind ≡ kindStatements) where
@@ -94,9 +95,9 @@ module _ (d : Dialect) (names : List ℕ) where
     unfolding kindErrors
     root-quiet = no-job (r .kind) is _ _ _
 
-    refusals-under : refusalsIn d names (under r ts) ≡ refusalsIn d names ts
+    refusals-under : (edition : Edition) → refusalsIn d edition names (under r ts) ≡ refusalsIn d edition names ts
     unfolding refusals refusedThere roleErrors
-    refusals-under = rw (placed-under, root-quiet) refl
+    refusals-under edition = rw (placed-under, root-quiet) refl
 
 -- a list of errors that is that of the statements under the root, up to order that of statements side by side, and of
 -- which the same is read where the statements say the same
@@ -187,43 +188,44 @@ module _ (d : Dialect) where
     same-body = module-same;
   }
 
-  -- the audit
-  abbrev auditBody : List ℕ → Forest → List Err
-  auditBody names ts = withoutLists (moduleBody names ts) ++ refusalsIn d names ts
-
-  audit-beside : (test : List ℕ → Bool) (names : List ℕ) (ts us : Forest)
-      → tally test (auditBody names (ts beside us)) ≡ tally test (auditBody names ts) + tally test (auditBody names us)
-  audit-beside test names ts us =
-      rw (stmts-beside d names atTop ts us, exprs-beside d names ts us, refusals-beside d names ts us)
-      (six test («visit_stmt» d names atTop ts) («visit_stmt» d names atTop us) («visit_expr» d names ts)
-      («visit_expr» d names us) (refusalsIn d names ts) (refusalsIn d names us))
-
-  audit-splits : Splits («audit_module» d)
-  unfolding «audit_module» withoutLists «visit_stmt» «visit_expr» placed refusals
-  audit-splits = record {
-    body = auditBody;
-    none-body = λ names. refl;
-    root-body = λ names r ts is.
-        rw (stmts-under d names r ts is, exprs-under d names r ts is, refusals-under d names r ts is) refl;
-    beside-body = audit-beside;
-    same-body = λ names others ts us h. reads-both _ _ _ _
-        (own-same _ _ (module-same names others ts us h)) (refusals-same d names others Nowhere ts us h);
-  }
-
   -- THEOREM: the errors of a root Statements are, up to order, those of its parts in their own tables: the module pass
   pub module-in-parts : (names : List ℕ) (r : Node) (ps : List Part) → r .kind ≡ kindStatements → Kept names ps
       → SameUpToOrder (read («validate_module» d names (under r (joined ps)))) (readInTurn («validate_module» d) ps)
   module-in-parts names r ps is kept-all test =
       ap (tally test) (module-splits .root-body names r (joined ps) is) ∙ split-body module-splits names test ps kept-all
 
+module _ (d : Dialect) (edition : Edition) where
+  -- the audit
+  abbrev auditBody : List ℕ → Forest → List Err
+  auditBody names ts = withoutLists (moduleBody d names ts) ++ refusalsIn d edition names ts
+
+  audit-beside : (test : List ℕ → Bool) (names : List ℕ) (ts us : Forest)
+      → tally test (auditBody names (ts beside us)) ≡ tally test (auditBody names ts) + tally test (auditBody names us)
+  audit-beside test names ts us =
+      rw (stmts-beside d names atTop ts us, exprs-beside d names ts us, refusals-beside d names edition ts us)
+      (six test («visit_stmt» d names atTop ts) («visit_stmt» d names atTop us) («visit_expr» d names ts)
+      («visit_expr» d names us) (refusalsIn d edition names ts) (refusalsIn d edition names us))
+
+  audit-splits : Splits («audit_module» d edition)
+  unfolding «audit_module» withoutLists «visit_stmt» «visit_expr» placed refusals
+  audit-splits = record {
+    body = auditBody;
+    none-body = λ names. refl;
+    root-body = λ names r ts is.
+        rw (stmts-under d names r ts is, exprs-under d names r ts is, refusals-under d names r ts is edition) refl;
+    beside-body = audit-beside;
+    same-body = λ names others ts us h. reads-both _ _ _ _
+        (own-same _ _ (module-same d names others ts us h)) (refusals-same d edition names others Nowhere ts us h);
+  }
+
   -- THEOREM: and the audit
   pub audit-in-parts : (names : List ℕ) (r : Node) (ps : List Part) → r .kind ≡ kindStatements → Kept names ps
-      → SameUpToOrder (read («audit_module» d names (under r (joined ps)))) (readInTurn («audit_module» d) ps)
+      → SameUpToOrder (read («audit_module» d edition names (under r (joined ps)))) (readInTurn («audit_module» d edition) ps)
   audit-in-parts names r ps is kept-all test =
       ap (tally test) (audit-splits .root-body names r (joined ps) is) ∙ split-body audit-splits names test ps kept-all
 
 -- LAW: what the audit makes of any bytes is that list, of their trees
-pub audit-of-bytes : (d : Dialect) (names t : List ℕ)
-    → auditErrors d names t ≡ «audit_module» d names (forest 0 (take mostBytes t))
+pub audit-of-bytes : (d : Dialect) (edition : Edition) (names t : List ℕ)
+    → auditErrors d edition names t ≡ «audit_module» d edition names (forest 0 (take mostBytes t))
 unfolding auditErrors passErrors «audit_module»
-audit-of-bytes d names t = refl
+audit-of-bytes d edition names t = refl

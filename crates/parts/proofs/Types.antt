@@ -8,6 +8,8 @@ use mathlib.Core.List as L
 use Prim.Native.Nat.{ℕ}
 use lib.Dec.{eqb}
 use Rattle.dialect.specs.declared.DialectTypes.{DialectTypes}
+use Rattle.dialect.specs.declared.Edition.{Edition}
+use Rattle.dialect.specs.declared.Edition.the-variants.{One, Two}
 use Rattle.dialect.specs.Rows.{permitsTypes}
 use Rattle.forest.specs.Forest.{Node, Tree, node, Forest, none, _then_}
 use Rattle.forest.specs.Names.{same}
@@ -15,7 +17,7 @@ use Rattle.soundness.specs.KindNumbers.{kindDot, kindIdentifier, kindList}
 use Rattle.table.specs.Numbers.{dotInType, expectingPath, dotTypeBan, invalidType, emptyListInType, typesDisabled}
 use Rattle.table.specs.Answer.{Answer, accepted, andThen}
 use Rattle.types.specs.Forms.{formOf, readsAs, readsOf, argumentsOnly, ofChild}
-use Rattle.types.specs.Paths.{typeField, objectPath, basePath, «unpack_path»}
+use Rattle.types.specs.Paths.{typeField, banned, objectPath, basePath, «unpack_path»}
 use Rattle.types.specs.Types.{indexBase, index2Base, listLength, atNode, typeRule, «unpack», «unpack_argument»}
 use Rattle.types.specs.Types.{unpackEach, typesCheck, «dialect_check_type»}
 use Rattle.types.specs.declared.How.{How}
@@ -27,10 +29,10 @@ use Rattle.parts.specs.Parts.{SameRecord, SameTree, SameTrees}
 use Rattle.parts.proofs.Read.{Answers, answers-then, answers-if, answers-at}
 
 -- a child, by how it is read
-abbrev child : L.List ℕ → How → Tree → Answer
-child names how t = ofChild how (accepted L.[]) (λ _. «unpack» names t) (λ _. «unpack_argument» names t)
+abbrev child : Edition → L.List ℕ → How → Tree → Answer
+child edition names how t = ofChild how (accepted L.[]) (λ _. «unpack» edition names t) (λ _. «unpack_argument» edition names t)
 
-module _ (names others : L.List ℕ) where
+module _ (edition : Edition) (names others : L.List ℕ) where
   -- paths
   mutual
     unfolding objectPath SameTree
@@ -49,13 +51,17 @@ module _ (names others : L.List ℕ) where
         (answers-if _ _ (ap (λ (k : ℕ). eqb k kindDot) (h .kind)) _ _ _ _ (object-same ban ks ls below)
         (answers-at h dotInType))
 
-  path-same : (t u : Tree) → SameTree names others t u → Answers («unpack_path» names t) («unpack_path» others u)
+  path-same : (t u : Tree) → SameTree names others t u → Answers («unpack_path» edition names t) («unpack_path» edition others u)
   unfolding «unpack_path» SameTree
   path-same (node r ks) (node s ls) (h, below) =
       answers-if _ _ (ap (λ (k : ℕ). eqb k kindIdentifier) (h .kind)) _ _ _ _ refl
-      (answers-if _ _ (ap (λ (k : ℕ). eqb k kindDot) (h .kind)) _ _ _ _ (ban-same _ _ (ap (λ (n : L.List ℕ). same n typeField) (h .name)))
+      (answers-if _ _ (ap (λ (k : ℕ). eqb k kindDot) (h .kind)) _ _ _ _ (ban-same _ _ (banned-same edition))
       (answers-at h expectingPath))
     where
+      banned-same : (e : Edition) → banned e names r ≡ banned e others s
+      banned-same One = ap (λ (n : L.List ℕ). same n typeField) (h .name)
+      banned-same Two = refl
+
       ban-same : (a b : Bool) → a ≡ b → Answers (objectPath a ks) (objectPath b ls)
       ban-same a b e = rw e (object-same b ks ls below)
 
@@ -69,7 +75,7 @@ module _ (names others : L.List ℕ) where
   index-same r s (node b bs then ts) (node c cs then us) h ((b-is, _), _) =
       answers-if _ _ (ap (λ (k : ℕ). eqb k kindIdentifier) (b-is .kind)) _ _ _ _ refl (answers-at h invalidType)
 
-  index2-same : (ks ls : Forest) → SameTrees names others ks ls → Answers (index2Base names ks) (index2Base others ls)
+  index2-same : (ks ls : Forest) → SameTrees names others ks ls → Answers (index2Base edition names ks) (index2Base edition others ls)
   unfolding index2Base SameTrees
   index2-same none none below = refl
   index2-same none (u then us) below = absurd below
@@ -88,7 +94,7 @@ module _ (names others : L.List ℕ) where
   length-same r s (t then (w then ts)) (u then (v then us)) h below = refl
 
   node-same : (form : Form) (r s : Node) (ks ls : Forest) → SameRecord names others r s → SameTrees names others ks ls
-      → Answers (atNode names form r ks) (atNode others form s ls)
+      → Answers (atNode edition names form r ks) (atNode edition others form s ls)
   unfolding atNode SameTree
   node-same Ellipsis r s ks ls h below = refl
   node-same Path r s ks ls h below = path-same (node r ks) (node s ls) (h, below)
@@ -101,19 +107,19 @@ module _ (names others : L.List ℕ) where
 
   -- a node as a type, where the same is read of its children however they are read
   module _ {r s : Node} (h : SameRecord names others r s) (ks ls : Forest) (below : SameTrees names others ks ls)
-      (inside : (reads : Reading) → Answers (unpackEach reads names ks) (unpackEach reads others ls)) where
-    rule-same : Answers (typeRule names r ks (λ reads. unpackEach reads names ks))
-        (typeRule others s ls (λ reads. unpackEach reads others ls))
+      (inside : (reads : Reading) → Answers (unpackEach reads edition names ks) (unpackEach reads edition others ls)) where
+    rule-same : Answers (typeRule edition names r ks (λ reads. unpackEach reads edition names ks))
+        (typeRule edition others s ls (λ reads. unpackEach reads edition others ls))
     rule-same = go _ _ (formed (r .kind) (s .kind) (h .kind) (r .detail) (s .detail) (h .detail))
       where
         formed : (k m : ℕ) → k ≡ m → (d e : ℕ) → d ≡ e → formOf k d ≡ formOf m e
         formed k m p d e q = rw (p, q) refl
 
         go : (a b : Form) → a ≡ b
-            → Answers (andThen (atNode names a r ks) (λ _. unpackEach (readsOf a) names ks))
-            (andThen (atNode others b s ls) (λ _. unpackEach (readsOf b) others ls))
+            → Answers (andThen (atNode edition names a r ks) (λ _. unpackEach (readsOf a) edition names ks))
+            (andThen (atNode edition others b s ls) (λ _. unpackEach (readsOf b) edition others ls))
         go a b e =
-            rw e (answers-then (atNode names b r ks) (atNode others b s ls) _ _ (node-same b r s ks ls h below)
+            rw e (answers-then (atNode edition names b r ks) (atNode edition others b s ls) _ _ (node-same b r s ks ls h below)
             (inside (readsOf b)))
 
   -- a child, by how it is read
@@ -127,30 +133,30 @@ module _ (names others : L.List ℕ) where
   mutual
     unfolding «unpack» SameTree
 
-    type-same : (t u : Tree) → SameTree names others t u → Answers («unpack» names t) («unpack» others u)
+    type-same : (t u : Tree) → SameTree names others t u → Answers («unpack» edition names t) («unpack» edition others u)
     type-same (node r ks) (node s ls) (h, below) =
         rule-same h ks ls below (λ reads. unpack-each-same ks ls reads below)
 
     argument-same : (t u : Tree) → SameTree names others t u
-        → Answers («unpack_argument» names t) («unpack_argument» others u)
+        → Answers («unpack_argument» edition names t) («unpack_argument» edition others u)
     argument-same (node r ks) (node s ls) (h, below) =
         answers-if _ _ (ap (λ (k : ℕ). eqb k kindList) (h .kind)) _ _ _ _ (unpack-each-same ks ls argumentsOnly below)
         (rule-same h ks ls below (λ reads. unpack-each-same ks ls reads below))
 
     unpack-each-same : (ts us : Forest) (reads : Reading) → SameTrees names others ts us
-        → Answers (unpackEach reads names ts) (unpackEach reads others us)
+        → Answers (unpackEach reads edition names ts) (unpackEach reads edition others us)
     unpack-each-same none none reads h = refl
     unpack-each-same none (u then us) reads h = absurd h
     unpack-each-same (t then ts) none reads h = absurd h
     unpack-each-same (t then ts) (u then us) reads (here, rest) =
-        answers-then (child names (reads .first) t) (child others (reads .first) u) _ _
-        (child-same (reads .first) («unpack» names t) («unpack» others u) («unpack_argument» names t)
-        («unpack_argument» others u) (type-same t u here) (argument-same t u here))
+        answers-then (child edition names (reads .first) t) (child edition others (reads .first) u) _ _
+        (child-same (reads .first) («unpack» edition names t) («unpack» edition others u) («unpack_argument» edition names t)
+        («unpack_argument» edition others u) (type-same t u here) (argument-same t u here))
         (unpack-each-same ts us (readsAs (reads .others) (reads .others)) rest)
 
   -- LAW: a type in a dialect
   pub check-same : (types : DialectTypes) (t u : Tree) → SameTree names others t u
-      → Answers («dialect_check_type» names types t) («dialect_check_type» others types u)
+      → Answers («dialect_check_type» edition names types t) («dialect_check_type» edition others types u)
   unfolding «dialect_check_type» SameTree
   check-same types (node r ks) (node s ls) (h, below) =
       answers-then (typesCheck types r) (typesCheck types s) _ _ (answers-if (permitsTypes types) _ refl _ _ _ _ refl (answers-at h typesDisabled))

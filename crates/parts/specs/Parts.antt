@@ -6,6 +6,7 @@ use mathlib.Core.List.{List, [], _∷_, _++_}
 use Prim.Native.Nat.{ℕ, _+_}
 use Rattle.fields.specs.Choice.{if'}
 use Rattle.dialect.specs.declared.Dialect.{Dialect}
+use Rattle.dialect.specs.declared.Edition.{Edition}
 use Rattle.forest.specs.Forest.{Node, Tree, node, Forest, none, _then_}
 use Rattle.forest.specs.Names.{nameOf}
 use Rattle.soundness.specs.KindNumbers.{kindStatements}
@@ -67,8 +68,8 @@ abbrev pub under : Node → Forest → Forest
 under r ts = node r ts then none
 
 -- the list of the audit, over trees: as audit has it for the trees of a table
-unfoldable pub «audit_module» : Dialect → List ℕ → Forest → List Err
-«audit_module» d names ts = kept Own («validate_module» d names ts) ++ refusalsIn d names ts
+unfoldable pub «audit_module» : Dialect → Edition → List ℕ → Forest → List Err
+«audit_module» d edition names ts = kept Own («validate_module» d names ts) ++ refusalsIn d edition names ts
 
 -- what is read of errors: number, source file, begin and end of each
 unfoldable pub read : List Err → List (List ℕ)

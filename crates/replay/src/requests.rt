@@ -11,8 +11,8 @@ pub(crate) enum Replayed {
 }
 
 // The head of a request: the job, how long its parts are, the job's node, the number that it answers, how many words,
-// and whether the crate (1) or the model alone (0) has given the answer. `second` is the Def's node of a binding, and
-// how long the second buffer of a reader is.
+// and whether the crate (1) or the model alone (0) has given the answer. `second` is the Def's node of a binding, how
+// long the second buffer of a reader is, and the edition of a type job, an audit or a file that is written.
 struct Asked {
     job: usize,
     dialect: usize,
@@ -119,6 +119,14 @@ fn behind(s: &[u8], len: usize) -> &[u8] {
     &s[0..0]
 }
 
+// A recorded edition: 65,535 stands for the word for none.
+fn edition_of(recorded: usize) -> u32 {
+    if recorded == 65535 {
+        return 0xFFFF_FFFF;
+    }
+    (recorded % 65536) as u32
+}
+
 // A request's job, but for the reader and those with a buffer of words: the number that it answers. A file stands where
 // a table does.
 fn run(
@@ -136,9 +144,24 @@ fn run(
         2 => starlark_checks::starlark_call(table, names, a.node, out),
         3 => starlark_checks::starlark_target(table, names, a.node, out),
         4 => starlark_checks::starlark_assignment(table, names, a.node, out),
-        7 => starlark_checks::starlark_write(table, names, dialect, buffer, out),
+        7 => starlark_checks::starlark_write(
+            table,
+            names,
+            dialect,
+            edition_of(a.second),
+            buffer,
+            out,
+        ),
         9 => starlark_checks::starlark_rescue(table, buffer, out),
-        _ => starlark_checks::starlark_type(table, names, dialect, a.node, buffer, out),
+        _ => starlark_checks::starlark_type(
+            table,
+            names,
+            dialect,
+            edition_of(a.second),
+            a.node,
+            buffer,
+            out,
+        ),
     }
 }
 
@@ -228,7 +251,14 @@ fn run_listed(
     match job {
         MODULE => starlark_checks::starlark_module(table, names, dialect, list, out),
         BIND => starlark_checks::starlark_bind(table, names, a.node, a.second, list, out),
-        AUDIT => starlark_checks::starlark_audit(table, names, dialect, list, out),
+        AUDIT => starlark_checks::starlark_audit(
+            table,
+            names,
+            dialect,
+            edition_of(a.second),
+            list,
+            out,
+        ),
         _ => starlark_checks::starlark_check_file(table, list, out),
     }
 }

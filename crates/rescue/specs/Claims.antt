@@ -66,7 +66,8 @@ abbrev pub NothingKept : Type 0
 NothingKept = (bs buffer : List ℕ) (r : Rescued) (after : List ℕ) → Rescue bs buffer r after
     → (Nothing bs → r ≡ Refused (Bare nothingKept)) × (r ≡ Refused (Bare nothingKept) → Nothing bs)
 
--- 4: the reader accepts the output, which holds the table that is kept, and names and dialect of the header whole
+-- 4: the reader accepts the output, which holds the table that is kept, and names, dialect and edition of the header
+-- whole
 abbrev pub ReadBack : Type 0
 ReadBack = Answered (λ bs k after. Bytes bs → (s : Loaded) → Read (take (k .bytes) after) s
     → s ≡ loadedOf verdicts.Accepted (kept bs) (k .bytes))

@@ -23,9 +23,9 @@ unfoldable pub tableKept : List ℕ → List ℕ
 tableKept bs =
     if' (blocksPass bs) (λ _. contentAt bs .table) (λ _. largestCut (goodTable bs) (contentAt bs .names))
 
--- what is kept: names and dialect whole
+-- what is kept: names, dialect and edition whole
 abbrev pub kept : List ℕ → Content
-kept bs = holding (tableKept bs) (contentAt bs .names) (contentAt bs .dialect)
+kept bs = holding (tableKept bs) (contentAt bs .names) (contentAt bs .dialect) (contentAt bs .edition)
 
 -- the statements of a table: the root's children, 1 for any other root
 unfoldable pub statementsOf : List ℕ → ℕ

@@ -1,8 +1,9 @@
 // The rescue of a damaged table file: the blocks that the header speaks of where they pass, else the largest number of
-// the root's first children that stand in good blocks, with names and dialect whole.
+// the root's first children that stand in good blocks, with names, dialect and edition whole.
 use blocks::BLOCK_BYTES;
 use blocks::Judged;
 use dialect::Decoded;
+use dialect::EditionRead;
 use forest::Found;
 use forest::RECORD;
 use soundness::classes;
@@ -91,20 +92,25 @@ fn rescue_good(input: &[u8], h: Heading, names: &[u8], table: &mut [u8], file: &
     finish(input, h, names, &table[0..kept], whole, file)
 }
 
-// The header: block 0, its counts and its dialect, and every name block.
+// The header: block 0, its counts, its dialect and its edition, and every name block.
 fn head_good(input: &[u8], h: Heading) -> bool
     requires { ⌜ h ≡ headerAt (now input) ⌝ }
     ensures { λ r. ⌜ r ≡ headGood (now (input .entry)) ⌝ }
 {
-    let zero = blocks::judge(input, 0, 4 + h.dialect);
+    let zero = blocks::judge(input, 0, 4 + h.dialect + h.edition);
     if let Judged::Refused(_) = zero {
         return false;
     }
     if !tablefile::counts_fit(h.nodes, h.names) {
         return false;
     }
-    let read = dialect::from_bytes(tablefile::dialect_bytes(input));
+    let bytes = tablefile::dialect_bytes(input);
+    let read = dialect::from_bytes(bytes);
     if let Decoded::Invalid = read {
+        return false;
+    }
+    let edition = dialect::edition_held(bytes, tablefile::stated_edition(input));
+    if let EditionRead::Unknown = edition {
         return false;
     }
     let names = blocks::judge_run(&input[BLOCK_BYTES..], 1, h.names);
@@ -240,7 +246,7 @@ fn resize(table: &mut [u8], m: usize)
     table[17] = (m / 256) as u8;
 }
 
-// Writes the file of the table that is kept, with names and dialect: 7, or the counts of what is kept.
+// Writes the file of the table that is kept, with names, dialect and edition: 7, or the counts of what is kept.
 fn finish(
     input: &[u8],
     h: Heading,
@@ -273,7 +279,13 @@ fn put_kept(input: &[u8], h: Heading, names: &[u8], table: &[u8], whole: bool, f
         put(input, h.taken, file);
         return;
     }
-    writer::write_unchecked(table, names, tablefile::dialect_bytes(input), file)
+    writer::write_unchecked(
+        table,
+        names,
+        tablefile::dialect_bytes(input),
+        tablefile::stated_edition(input),
+        file,
+    )
 }
 
 // Puts the first len of some bytes at the front of out.

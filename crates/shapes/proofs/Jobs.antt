@@ -7,11 +7,14 @@ use native.Mathlib.Omega.{arith}
 use lib.ListN.{length}
 use borrow.Author.Tests.{leb-true}
 use Rattle.fields.specs.Choice.{if'}
+use Rattle.dialect.specs.declared.Edition.{Edition}
+use Rattle.dialect.specs.Editions.{editionOf}
 use Rattle.forest.specs.Forest.{nodeOf, treeOf}
 use Rattle.table.specs.Answer.{Answer, accepted, refused, andThen}
-use Rattle.table.specs.Check.{Handing, inDialect, turnedAway, givenOf, inGiven, nodeFits, nodeCheck, stretchOf}
+use Rattle.table.specs.Check.{Ruling, byRules, unruled, rulesOf, inRules, nodeFits, nodeCheck, stretchOf}
 use Rattle.table.specs.declared.Wanted.the-variants.{Expression}
 use Rattle.table.proofs.Handed.{passed, stretch-within}
+use Rattle.table.proofs.Ruling.{rules-known}
 use Rattle.types.specs.Types.{typesCheck, «unpack», «dialect_check_type»}
 use Rattle.types.specs.Jobs.{roomCheck, typeAt, typeShapeOf}
 use Rattle.types.proofs.Jobs.{given-sound}
@@ -36,43 +39,46 @@ test-passes : (b : Bool) (n : ℕ) → Passes (if' b (λ _. accepted []) (λ _. 
 test-passes true n p = refl
 test-passes false n p = absurd p
 
--- LAW: what acceptance says: the node has a stretch, the buffer has room, and the node's tree passes the type rule
+-- LAW: what acceptance says: the node has a stretch, the buffer has room, and the node's tree passes the type rule of
+-- the edition
 pub record Says (t names : List ℕ) (i room : ℕ) : Type 0 where
   pub long : 24 ≤ length (stretchOf t i)
   pub fits : length (stretchOf t i) / 24 ≤ room
-  pub passes : Passes («unpack» names (treeOf i (stretchOf t i)))
+  pub edition : Edition
+  pub passes : Passes («unpack» edition names (treeOf i (stretchOf t i)))
 
-module _ (t names bytes : List ℕ) (i room : ℕ) where
-  passing-says : Passes (typeShapeOf t names bytes i room) → Says t names i room
+module _ (t names bytes : List ℕ) (n i room : ℕ) where
+  passing-says : Passes (typeShapeOf t names bytes n i room) → Says t names i room
   unfolding typeShapeOf typeAt «dialect_check_type»
-  passing-says p = go (givenOf t names bytes) refl p
+  passing-says p = go (rulesOf t names bytes (editionOf n)) refl p
     where
-      go : (h : Handing) → h ≡ givenOf t names bytes
-          → Passes (inGiven h (λ d. typeAt t names (d .«enable_types») i room)) → Says t names i room
-      go (turnedAway n vs) h-is p = absurd p
-      go (inDialect d) h-is p =
+      go : (r : Ruling) → rulesOf t names bytes (editionOf n) ≡ r
+          → Passes (inRules r (λ d edition. typeAt edition t names (d .«enable_types») i room)) → Says t names i room
+      go (unruled m vs) r-is p = absurd p
+      go (byRules d edition) r-is p =
           let node = both-pass (nodeCheck t i Expression) _ p in
           let buffer = both-pass (roomCheck room (stretchOf t i)) _ (node .1) in
           let types = both-pass (typesCheck (d .«enable_types») (nodeOf i (stretchOf t i))) _ (buffer .1) in
-          let clean = passed t names (given-sound t names bytes h-is) in
+          let clean = passed t names (given-sound t names bytes (sym (rules-known t names bytes r-is .0))) in
           record {
             long = stretch-within t names i Expression clean (test-passes (nodeFits t i Expression) _ (node .0)) .0;
             fits = leb-true (length (stretchOf t i) / 24) room (test-passes _ _ (buffer .0));
+            edition = edition;
             passes = types .1;
           }
 
-  pub accepted-says : {vs : List ℕ} → accepted vs ≡ typeShapeOf t names bytes i room → Says t names i room
+  pub accepted-says : {vs : List ℕ} → accepted vs ≡ typeShapeOf t names bytes n i room → Says t names i room
   accepted-says e = passing-says (rw (← e) tt)
 
 -- the job, by its judgement a and whether that is a refusal
-module _ (t names bytes : List ℕ) (i : ℕ) (s : List ℕ) {a : Answer}
-    (a-is : a ≡ typeShapeOf t names bytes i (length s)) {q : Bool} (q-is : q ≡ isRefused a) where
-  pub job-refused : q ≡ true → s ≡ shapesAfter t names bytes i s
+module _ (t names bytes : List ℕ) (n i : ℕ) (s : List ℕ) {a : Answer}
+    (a-is : a ≡ typeShapeOf t names bytes n i (length s)) {q : Bool} (q-is : q ≡ isRefused a) where
+  pub job-refused : q ≡ true → s ≡ shapesAfter t names bytes n i s
   job-refused h = rw (← a-is, ← q-is, h) refl
 
   module _ (no : q ≡ false) {u : List ℕ} (u-is : u ≡ stretchOf t i) where
     says : Says t names i (length s)
-    says = passing-says t names bytes i (length s) (rw (← a-is) (not-refused a (sym q-is ∙ no)))
+    says = passing-says t names bytes n i (length s) (rw (← a-is) (not-refused a (sym q-is ∙ no)))
 
     pub job-long : 24 ≤ length u
     job-long = rw u-is (says .long)
@@ -80,5 +86,5 @@ module _ (t names bytes : List ℕ) (i : ℕ) (s : List ℕ) {a : Answer}
     pub job-room : 0 + length u / 24 ≤ length s
     job-room = rw u-is (omega (arith, says .fits))
 
-    pub job-written : {v : List ℕ} → v ≡ written (shapesOf (treeOf 0 u)) s → v ≡ shapesAfter t names bytes i s
+    pub job-written : {v : List ℕ} → v ≡ written (shapesOf (treeOf 0 u)) s → v ≡ shapesAfter t names bytes n i s
     job-written v-is = rw (← a-is, ← q-is, no, ← u-is) v-is

@@ -4,3 +4,4 @@ pub mod Promises
 pub mod Places
 pub mod Proper
 pub mod Buffer
+pub mod Editions

@@ -1,5 +1,5 @@
 -- Two answers that meet the promise of a public function coincide, and so do the buffers that they leave, for every
--- table, names, dialect bytes, node and buffer. Assumes nothing.
+-- table, names, dialect bytes, edition, node and buffer. Assumes nothing.
 use mathlib.Core.Path.{_≡_}
 use mathlib.Core.List.{List}
 use Prim.Native.Nat.{ℕ}
@@ -11,10 +11,10 @@ use Rattle.types.proofs.Promises.{shaped-injective}
 use Rattle.shapes.specs.Jobs.{shapesAfter}
 
 -- of `type_shape`: the answer and the buffer at exit
-pub type-shape-one : (table names dialect : List ℕ) (node : ℕ) (shapes : List ℕ) {r s : Shaped}
-    {shapes-r shapes-s : List ℕ} → shaped r ≡ typeShapeOf table names dialect node (length shapes)
-    → shapes-r ≡ shapesAfter table names dialect node shapes
-    → shaped s ≡ typeShapeOf table names dialect node (length shapes)
-    → shapes-s ≡ shapesAfter table names dialect node shapes → (r ≡ s) × (shapes-r ≡ shapes-s)
-type-shape-one table names dialect node shapes r-is shapes-is s-is shapes-are =
+pub type-shape-one : (table names dialect : List ℕ) (edition node : ℕ) (shapes : List ℕ) {r s : Shaped}
+    {shapes-r shapes-s : List ℕ} → shaped r ≡ typeShapeOf table names dialect edition node (length shapes)
+    → shapes-r ≡ shapesAfter table names dialect edition node shapes
+    → shaped s ≡ typeShapeOf table names dialect edition node (length shapes)
+    → shapes-s ≡ shapesAfter table names dialect edition node shapes → (r ≡ s) × (shapes-r ≡ shapes-s)
+type-shape-one table names dialect edition node shapes r-is shapes-is s-is shapes-are =
     (coincide-by shaped shaped-injective r-is s-is, coincide shapes-is shapes-are)

@@ -8,6 +8,7 @@ use native.Mathlib.Omega.{arith}
 use lib.ListN.{length}
 use lib.Dec.{eqb}
 use Rattle.fields.specs.Choice.{if'}
+use Rattle.dialect.specs.declared.Edition.{Edition}
 use Rattle.forest.specs.Forest.{Node, nodeOf, kidsOf, restOf, spanOf, Forest, forest, treeOf}
 use Rattle.forest.proofs.Stretch.{forest-none, forest-tree, forest-induction}
 use Rattle.soundness.specs.KindNumbers.{kindList}
@@ -37,57 +38,62 @@ proper-append L.[] us p q = q
 proper-append (x ∷ ss) us p q = (p .0, (p .1 .0, proper-append ss us (p .1 .1) q))
 
 -- a form that is not refused at its node has a shape
-shape-known : (names : L.List ℕ) (f : Form) (r : Node) (ks : Forest) → Passes (atNode names f r ks)
+shape-known : (edition : Edition) (names : L.List ℕ) (f : Form) (r : Node) (ks : Forest)
+    → Passes (atNode edition names f r ks)
     → (1 ≤ shapeOf f) × (shapeOf f ≤ 7)
 unfolding atNode
-shape-known names Ellipsis r ks p = omega arith
-shape-known names Path r ks p = omega arith
-shape-known names Index r ks p = omega arith
-shape-known names Index2 r ks p = omega arith
-shape-known names List r ks p = omega arith
-shape-known names Union r ks p = omega arith
-shape-known names Tuple r ks p = omega arith
-shape-known names Other r ks p = absurd p
+shape-known edition names Ellipsis r ks p = omega arith
+shape-known edition names Path r ks p = omega arith
+shape-known edition names Index r ks p = omega arith
+shape-known edition names Index2 r ks p = omega arith
+shape-known edition names List r ks p = omega arith
+shape-known edition names Union r ks p = omega arith
+shape-known edition names Tuple r ks p = omega arith
+shape-known edition names Other r ks p = absurd p
 
 -- children that pass from one index have proper shapes from any
-abbrev pub ProperFrom : L.List ℕ → ℕ → L.List ℕ → Type 0
-ProperFrom names i bs =
-    (reads : Reads) (j : ℕ) → Passes (unpackEach reads names (forest i bs)) → Proper (shapesEach reads (forest j bs))
+abbrev pub ProperFrom : Edition → L.List ℕ → ℕ → L.List ℕ → Type 0
+ProperFrom edition names i bs =
+    (reads : Reads) (j : ℕ) → Passes (unpackEach reads edition names (forest i bs))
+    → Proper (shapesEach reads (forest j bs))
 
-module _ (names : L.List ℕ) (i j : ℕ) (bs : L.List ℕ) (ks : ProperFrom names (i + 1) (kidsOf bs)) where
-  pub type-proper : Passes («unpack» names (treeOf i bs)) → Proper (shapesOf (treeOf j bs))
+module _ (edition : Edition) (names : L.List ℕ) (i j : ℕ) (bs : L.List ℕ)
+    (ks : ProperFrom edition names (i + 1) (kidsOf bs)) where
+  pub type-proper : Passes («unpack» edition names (treeOf i bs)) → Proper (shapesOf (treeOf j bs))
   unfolding «unpack» shapesOf
   type-proper p =
       let form : Form = formOf (nodeOf i bs .kind) (nodeOf i bs .detail) in
-      let both = both-pass (atNode names form (nodeOf i bs) (forest (i + 1) (kidsOf bs))) _ p in
-      proper-one (nodeOf j bs) (shapeOf form) _ (shape-known names form _ _ (both .0))
+      let both = both-pass (atNode edition names form (nodeOf i bs) (forest (i + 1) (kidsOf bs))) _ p in
+      proper-one (nodeOf j bs) (shapeOf form) _ (shape-known edition names form _ _ (both .0))
       (ks (readsOf form) (j + 1) (both .1))
 
-  child-proper : (how : How) → Passes (unpackChild how names (treeOf i bs)) → Proper (shapesChild how (treeOf j bs))
+  child-proper : (how : How) → Passes (unpackChild how edition names (treeOf i bs))
+      → Proper (shapesChild how (treeOf j bs))
   unfolding «unpack» shapesOf
   child-proper Unread p = proper-none
   child-proper AsType p = type-proper p
   child-proper AsArgument p = go (eqb (nodeOf i bs .kind) kindList) p
     where
-      go : (b : Bool) → Passes (if' b (λ _. unpackEach argumentsOnly names (forest (i + 1) (kidsOf bs)))
-          (λ _. «unpack» names (treeOf i bs)))
+      go : (b : Bool) → Passes (if' b (λ _. unpackEach argumentsOnly edition names (forest (i + 1) (kidsOf bs)))
+          (λ _. «unpack» edition names (treeOf i bs)))
           → Proper (if' b (λ _. shapeAt (nodeOf j bs) listShape ∷ shapesEach argumentsOnly (forest (j + 1) (kidsOf bs)))
           (λ _. shapesOf (treeOf j bs)))
       go true q = proper-one (nodeOf j bs) listShape _ (omega arith) (ks argumentsOnly (j + 1) q)
       go false q = type-proper q
 
 -- LAW: what passes the type rule has proper shapes
-pub each-proper : (names : L.List ℕ) (i : ℕ) (bs : L.List ℕ) → ProperFrom names i bs
+pub each-proper : (edition : Edition) (names : L.List ℕ) (i : ℕ) (bs : L.List ℕ) → ProperFrom edition names i bs
 unfolding «unpack» shapesOf
-each-proper names = forest-induction (ProperFrom names) few more
+each-proper edition names = forest-induction (ProperFrom edition names) few more
   where
-    few : (i : ℕ) (bs : L.List ℕ) → length bs < 24 → ProperFrom names i bs
+    few : (i : ℕ) (bs : L.List ℕ) → length bs < 24 → ProperFrom edition names i bs
     few i bs short reads j p = rw (forest-none j bs short) proper-none
 
-    more : (i : ℕ) (bs : L.List ℕ) → 24 ≤ length bs → ProperFrom names (i + 1) (kidsOf bs)
-        → ProperFrom names (i + spanOf bs / 24) (restOf bs) → ProperFrom names i bs
+    more : (i : ℕ) (bs : L.List ℕ) → 24 ≤ length bs → ProperFrom edition names (i + 1) (kidsOf bs)
+        → ProperFrom edition names (i + spanOf bs / 24) (restOf bs) → ProperFrom edition names i bs
     more i bs big ks rs reads j p =
-        let both = both-pass (unpackChild (reads .first) names (treeOf i bs)) _ (rw (forest-tree i bs big) at p) in
+        let both = both-pass (unpackChild (reads .first) edition names (treeOf i bs)) _
+        (rw (forest-tree i bs big) at p) in
         rw (forest-tree j bs big) (proper-append (shapesChild (reads .first) (treeOf j bs)) _
-        (child-proper names i j bs ks (reads .first) (both .0))
+        (child-proper edition names i j bs ks (reads .first) (both .0))
         (rs (readsAs (reads .others) (reads .others)) (j + spanOf bs / 24) (both .1)))

@@ -8,22 +8,24 @@ ghost use Rattle.types.specs.Jobs.{shaped, typeShapeOf};
 ghost use Rattle.shapes.specs.Jobs.{shapesAfter};
 ghost use Rattle.shapes.specs.Shapes.{isRefused};
 
-// The type job: whether a node is a type in a dialect. Then the buffer gets the shape of each node that is read as a
-// type or argument; a refusal changes nothing.
+// The type job: whether a node is a type in a dialect, by the edition of a number. Then the buffer gets the shape of
+// each node that is read as a type or argument; a refusal changes nothing.
 pub fn type_shape(
     table: &[u8],
     names: &[u8],
     dialect: &[u8],
+    edition: u32,
     node: usize,
     shapes: &mut [u8],
 ) -> Shaped
     ensures { λ r. ⌜ shaped r ≡
-        typeShapeOf (now (table .entry)) (now (names .entry)) (now (dialect .entry)) node
+        typeShapeOf (now (table .entry)) (now (names .entry)) (now (dialect .entry)) edition node
         (length (now (shapes .entry))) ⌝ }
     ensures { λ r. ⌜ now (shapes .exit) ≡
-        shapesAfter (now (table .entry)) (now (names .entry)) (now (dialect .entry)) node (now (shapes .entry)) ⌝ }
+        shapesAfter (now (table .entry)) (now (names .entry)) (now (dialect .entry)) edition node
+        (now (shapes .entry)) ⌝ }
 {
-    let judged = types::judge(table, names, dialect, node, shapes.len());
+    let judged = types::judge(table, names, dialect, edition, node, shapes.len());
     if is_refused(judged) {
         return judged;
     }

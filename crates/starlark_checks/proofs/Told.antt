@@ -5,6 +5,7 @@ use Prim.Native.Nat.{ℕ, _/_, _^_, _<_, _≤_}
 use native.Mathlib.Omega.{arith}
 use lib.ListN.{set}
 use Rattle.fields.specs.Field.{field}
+use Rattle.dialect.specs.declared.Stated.{Stated}
 use Rattle.table.specs.Answer.{Answer, accepted, andThen, refusal}
 use Rattle.table.specs.declared.Refusal.{Refusal}
 use Rattle.table.specs.declared.Refusal.the-variants.{Spanned}
@@ -25,7 +26,7 @@ use Rattle.tablefile.specs.declared.Verdict.the-variants.{Accepted}
 use Rattle.tablefile.proofs.Fronts.{dialect-few}
 use Rattle.tablefile.proofs.Lends.{into-fronted}
 use Rattle.starlark_checks.specs.Words.{number, words, placeIn, callWords, rescueWords, laid, Fit}
-use Rattle.starlark_checks.specs.Words.{heldValues, readOf, passWords}
+use Rattle.starlark_checks.specs.Words.{frontValues, editionValues, heldValues, readOf, passWords}
 
 -- a number and words put for an answer
 abbrev pub Put : (Answer → List ℕ) → Answer → ℕ → List ℕ → List ℕ → Type 0
@@ -88,12 +89,18 @@ module _ (file : List ℕ) {h : Heading} (h-is : h ≡ headerAt file) where
     names-fit = rw h-is (omega (arith, fit .1 .0))
 
 -- LAW: six words, laid one after the other
-pub held-laid : (file : List ℕ) {h : Heading} (xs : List ℕ) {d : List ℕ} {x y z : ℕ} → h ≡ headerAt file
+pub front-laid : (file : List ℕ) {h : Heading} (xs : List ℕ) {d : List ℕ} {x y z : ℕ} → h ≡ headerAt file
     → d ≡ contentAt file .dialect → x ≡ field 4 d 0 → y ≡ field 4 d 4 → z ≡ field 4 d 8
-    → (0 ≡ number (accepted (heldValues file)))
-    × (set (set (set (set (set (set xs 0 (h .nodes)) 1 (h .names)) 2 (h .dialect / 9)) 3 x) 4 y) 5 z
-    ≡ laid (words (accepted (heldValues file))) 0 xs)
-held-laid file xs h-is d-is x-is y-is z-is = (refl, rw (x-is, y-is, z-is, d-is, h-is) refl)
+    → set (set (set (set (set (set xs 0 (h .nodes)) 1 (h .names)) 2 (h .dialect / 9)) 3 x) 4 y) 5 z
+    ≡ laid (frontValues file) 0 xs
+front-laid file xs h-is d-is x-is y-is z-is = rw (x-is, y-is, z-is, d-is, h-is) refl
+
+-- LAW: two words more, behind these
+pub held-laid : (file : List ℕ) (xs : List ℕ) {ys zs : List ℕ} {e : Stated} → ys ≡ laid (frontValues file) 0 xs
+    → e ≡ contentAt file .edition → zs ≡ laid (editionValues e) 6 ys
+    → (0 ≡ number (accepted (heldValues file))) × (zs ≡ laid (words (accepted (heldValues file))) 0 xs)
+held-laid file xs ys-is e-is zs-is =
+    (refl, zs-is ∙ ap (λ (s : Stated). laid (editionValues s) 6 _) e-is ∙ ap (laid (editionValues _) 6) ys-is)
 
 -- LAW: a refusal with a span has five words
 module _ (r : Refusal) {n k : ℕ} {s : Span} {p : Place} (h : r ≡ Spanned n k s p) where

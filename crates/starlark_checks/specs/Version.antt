@@ -7,4 +7,4 @@ versionOf major minor patch = major * 65536 + minor * 256 + patch
 
 -- the version of this library
 abbrev pub version : ℕ
-version = versionOf 0 3 0
+version = versionOf 0 4 0

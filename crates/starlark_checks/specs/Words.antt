@@ -6,8 +6,10 @@ use lib.Dec.{eqb}
 use lib.ListN.{set, getD, take, drop}
 use Rattle.fields.specs.Choice.{if'}
 use Rattle.fields.specs.Field.{field}
+use Rattle.dialect.specs.declared.Stated.{Stated}
+use Rattle.dialect.specs.declared.Stated.the-variants.{Number, Nothing}
 use Rattle.table.specs.Answer.{Answer, accepted, refused, andThen}
-use Rattle.tablefile.specs.Reading.{headerAt, contentAt}
+use Rattle.tablefile.specs.Reading.{headerAt, contentAt, numberHeld}
 use Rattle.tablefile.specs.Lending.{intoCheck}
 
 -- the number that is returned: 0 for accepted
@@ -49,13 +51,30 @@ abbrev pub rescueWords : Answer → List ℕ
 rescueWords (accepted vs) = take 4 vs ++ (getD vs 4 0 % 4294967296) ∷ (getD vs 4 0 / 4294967296) ∷ []
 rescueWords (refused n vs) = carriedWords vs
 
--- what is told of a file that is read: its nodes and name bytes, 1 where it has a dialect, and the dialect's nine
+-- the edition that a word of the writer's caller states: the word for no place is nothing
+abbrev pub statedOf : ℕ → Stated
+statedOf n = if' (eqb n noPlace) (λ _. Nothing) (λ _. Number n)
+
+-- the word of an edition that a file states
+abbrev pub statedWord : Stated → ℕ
+statedWord (Number n) = n
+statedWord Nothing = noPlace
+
+-- what is told of a file before its edition: its nodes and name bytes, 1 where it has a dialect, and the dialect's nine
 -- bytes, four a word, the low one first; none are zeros
-abbrev pub heldValues : List ℕ → List ℕ
-heldValues file =
+abbrev pub frontValues : List ℕ → List ℕ
+frontValues file =
     let h = headerAt file in
     let d = contentAt file .dialect in
     h .nodes ∷ h .names ∷ (h .dialect / 9) ∷ field 4 d 0 ∷ field 4 d 4 ∷ field 4 d 8 ∷ []
+
+-- and of its edition: as it stands, and the one that holds
+abbrev pub editionValues : Stated → List ℕ
+editionValues edition = statedWord edition ∷ numberHeld edition ∷ []
+
+-- what is told of a file that is read
+abbrev pub heldValues : List ℕ → List ℕ
+heldValues file = frontValues file ++ editionValues (contentAt file .edition)
 
 -- reading a file into buffers of so many bytes
 unfoldable pub readOf : List ℕ → ℕ → ℕ → Answer

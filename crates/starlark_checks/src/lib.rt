@@ -4,6 +4,7 @@ use arguments::Called;
 use bind::Bound;
 use books::Changed;
 use books::Looked;
+use dialect::Stated;
 use filepass::Passed;
 use parameters::Counted;
 use parameters::Range;
@@ -38,12 +39,13 @@ ghost use Rattle.audit.specs.Job.{auditOf, auditAfter};
 ghost use Rattle.tablefile.specs.Reading.{headerAt, contentAt};
 ghost use Rattle.tablefile.specs.Lending.{intoCheck, handed};
 ghost use Rattle.filepass.specs.Passing.{answerOf, wordsAfter};
-ghost use Rattle.writer.specs.Writing.{writeOf, fileAfter};
+ghost use Rattle.writer.specs.Writing.{holding, writeOf, fileAfter};
 ghost use Rattle.rescue.specs.Job.{rescueOf, fileAfter as rescuedAfter, told};
 ghost use Rattle.books.specs.Lookup.{lookupOf, looked};
 ghost use Rattle.books.specs.Change.{addOf, zoneAdded, lineAdded, removeOf, zoneRemoved, lineRemoved, changed};
 ghost use Rattle.books.specs.Change.{blankOf, blankAfter};
 ghost use Rattle.starlark_checks.specs.Words.{number, words, callWords, rescueWords, laid, Fit, placeIn};
+ghost use Rattle.starlark_checks.specs.Words.{statedOf, statedWord, frontValues, editionValues};
 ghost use Rattle.starlark_checks.specs.Words.{heldValues, readOf, passWords};
 ghost use Rattle.starlark_checks.specs.Version.{version};
 ghost use Rattle.fstring.specs.Writing.{writeOf as textOf, textAfter, notice};
@@ -53,7 +55,7 @@ ghost use Rattle.starlark_checks.specs.FormatWords.{twoWords, textWords,
 // The version of the library.
 const MAJOR: u32 = 0;
 
-const MINOR: u32 = 3;
+const MINOR: u32 = 4;
 
 const PATCH: u32 = 0;
 
@@ -166,12 +168,39 @@ fn put_kept(k: Kept, out: &mut [u32; 12])
     out[5] = (k.after / 4_294_967_296) as u32;
 }
 
-// What a file holds: its nodes and name bytes, whether it has a dialect, and the dialect's bytes, four a word.
-fn put_held(file: &[u8], out: &mut [u32; 12]) -> u32
+// The edition that a caller states: the word for none is nothing.
+fn stated_of(edition: u32) -> Stated
+    ensures { λ r. ⌜ r ≡ statedOf edition ⌝ }
+{
+    if edition == 0xFFFF_FFFF {
+        return Stated::Nothing;
+    }
+    Stated::Number(edition)
+}
+
+// A stated edition in one word.
+fn stated_word(edition: Stated) -> u32
+    ensures { λ r. ⌜ r ≡ statedWord edition ⌝ }
+{
+    match edition {
+        Stated::Number(n) => n,
+        Stated::Nothing => 0xFFFF_FFFF,
+    }
+}
+
+// The edition as it stands in a file, or the word for none, and the edition that holds.
+fn put_edition(edition: Stated, out: &mut [u32; 12])
+    ensures { λ u. ⌜ now (out .exit) ≡ laid (editionValues edition) 6 (now (out .entry)) ⌝ }
+{
+    out[6] = stated_word(edition);
+    out[7] = tablefile::edition_number(edition);
+}
+
+// What a file holds before its edition: its nodes and name bytes, whether it has a dialect, and the dialect's bytes, four
+// a word.
+fn put_front(file: &[u8], out: &mut [u32; 12])
     requires { ⌜ Fit (headerAt (now file) .nodes ∷ headerAt (now file) .names ∷ []) ⌝ }
-    ensures { λ r. ⌜ r ≡ number (accepted (heldValues (now (file .entry)))) ⌝ }
-    ensures { λ r. ⌜ now (out .exit) ≡
-        laid (words (accepted (heldValues (now (file .entry))))) 0 (now (out .entry)) ⌝ }
+    ensures { λ u. ⌜ now (out .exit) ≡ laid (frontValues (now (file .entry))) 0 (now (out .entry)) ⌝ }
 {
     let h = tablefile::header(file);
     let dialect = tablefile::dialect_bytes(file);
@@ -181,6 +210,17 @@ fn put_held(file: &[u8], out: &mut [u32; 12]) -> u32
     out[3] = fields::word(dialect, 0);
     out[4] = fields::word(dialect, 4);
     out[5] = fields::word(dialect, 8);
+}
+
+// What a file holds.
+fn put_held(file: &[u8], out: &mut [u32; 12]) -> u32
+    requires { ⌜ Fit (headerAt (now file) .nodes ∷ headerAt (now file) .names ∷ []) ⌝ }
+    ensures { λ r. ⌜ r ≡ number (accepted (heldValues (now (file .entry)))) ⌝ }
+    ensures { λ r. ⌜ now (out .exit) ≡
+        laid (words (accepted (heldValues (now (file .entry))))) 0 (now (out .entry)) ⌝ }
+{
+    put_front(file, out);
+    put_edition(tablefile::stated_edition(file), out);
     0
 }
 
@@ -307,26 +347,28 @@ pub extern "C" fn starlark_assignment(
     }
 }
 
-// The type job: nothing but the shapes.
+// The type job, by the edition of a number: nothing but the shapes.
 #[no_mangle]
 pub extern "C" fn starlark_type(
     table: &[u8],
     names: &[u8],
     dialect: &[u8],
+    edition: u32,
     node: usize,
     shapes: &mut [u8],
     out: &mut [u32; 12],
 ) -> u32
     ensures { λ r. ⌜ r ≡
-        number (typeShapeOf (now (table .entry)) (now (names .entry)) (now (dialect .entry)) node
+        number (typeShapeOf (now (table .entry)) (now (names .entry)) (now (dialect .entry)) edition node
         (length (now (shapes .entry)))) ⌝ }
     ensures { λ r. ⌜ now (out .exit) ≡
-        laid (words (typeShapeOf (now (table .entry)) (now (names .entry)) (now (dialect .entry)) node
+        laid (words (typeShapeOf (now (table .entry)) (now (names .entry)) (now (dialect .entry)) edition node
         (length (now (shapes .entry))))) 0 (now (out .entry)) ⌝ }
     ensures { λ r. ⌜ now (shapes .exit) ≡
-        shapesAfter (now (table .entry)) (now (names .entry)) (now (dialect .entry)) node (now (shapes .entry)) ⌝ }
+        shapesAfter (now (table .entry)) (now (names .entry)) (now (dialect .entry)) edition node
+        (now (shapes .entry)) ⌝ }
 {
-    let answer = shapes::type_shape(table, names, dialect, node, shapes);
+    let answer = shapes::type_shape(table, names, dialect, edition, node, shapes);
     match answer {
         Shaped::Accepted => 0,
         Shaped::Refused(r) => put_refused(r, out),
@@ -356,52 +398,78 @@ pub extern "C" fn starlark_module(
     }
 }
 
-// The audit: the total of what every job refuses on every node that it fits, and the first errors that fit the list.
+// The audit, types by the edition of a number: the total of what every job refuses on every node that it fits, and the
+// first errors that fit the list.
 #[no_mangle]
 pub extern "C" fn starlark_audit(
     table: &[u8],
     names: &[u8],
     dialect: &[u8],
+    edition: u32,
     errors: &mut [u32],
     out: &mut [u32; 12],
 ) -> u32
-    ensures { λ r. ⌜ r ≡ number (auditOf (now (table .entry)) (now (names .entry)) (now (dialect .entry))) ⌝ }
+    ensures { λ r. ⌜ r ≡ number (auditOf (now (table .entry)) (now (names .entry)) (now (dialect .entry)) edition) ⌝ }
     ensures { λ r. ⌜ now (out .exit) ≡
-        laid (words (auditOf (now (table .entry)) (now (names .entry)) (now (dialect .entry)))) 0
+        laid (words (auditOf (now (table .entry)) (now (names .entry)) (now (dialect .entry)) edition)) 0
         (now (out .entry)) ⌝ }
     ensures { λ r. ⌜ now (errors .exit) ≡
-        auditAfter (now (table .entry)) (now (names .entry)) (now (dialect .entry)) (now (errors .entry)) ⌝ }
+        auditAfter (now (table .entry)) (now (names .entry)) (now (dialect .entry)) edition (now (errors .entry)) ⌝ }
 {
-    let answer = audit::audit(table, names, dialect, errors);
+    let answer = audit::audit(table, names, dialect, edition, errors);
     match answer {
         Listed::Total(n) => put_count(n, out),
         Listed::Refused(r) => put_refused(r, out),
     }
 }
 
-// The writer: how many bytes are written, and the file at the front of the buffer.
+// A file with an edition or none: how many bytes are written, and the file at the front of the buffer.
+fn write_stated(
+    table: &[u8],
+    names: &[u8],
+    dialect: &[u8],
+    edition: Stated,
+    file: &mut [u8],
+    out: &mut [u32; 12],
+) -> u32
+    ensures { λ r. ⌜ r ≡
+        number (writeOf (holding (now (table .entry)) (now (names .entry)) (now (dialect .entry)) edition)
+        (length (now (file .entry)))) ⌝ }
+    ensures { λ r. ⌜ now (out .exit) ≡
+        laid (words (writeOf (holding (now (table .entry)) (now (names .entry)) (now (dialect .entry)) edition)
+        (length (now (file .entry))))) 0 (now (out .entry)) ⌝ }
+    ensures { λ r. ⌜ now (file .exit) ≡
+        fileAfter (holding (now (table .entry)) (now (names .entry)) (now (dialect .entry)) edition)
+        (now (file .entry)) ⌝ }
+{
+    let answer = writer::write(table, names, dialect, edition, file);
+    match answer {
+        Written::Accepted(n) => put_count(n, out),
+        Written::Refused(r) => put_refused(r, out),
+    }
+}
+
+// The writer: how many bytes are written, and the file at the front of the buffer. 0xFFFFFFFF is no edition.
 #[no_mangle]
 pub extern "C" fn starlark_write(
     table: &[u8],
     names: &[u8],
     dialect: &[u8],
+    edition: u32,
     file: &mut [u8],
     out: &mut [u32; 12],
 ) -> u32
     ensures { λ r. ⌜ r ≡
-        number (writeOf (now (table .entry)) (now (names .entry)) (now (dialect .entry))
+        number (writeOf (holding (now (table .entry)) (now (names .entry)) (now (dialect .entry)) (statedOf edition))
         (length (now (file .entry)))) ⌝ }
     ensures { λ r. ⌜ now (out .exit) ≡
-        laid (words (writeOf (now (table .entry)) (now (names .entry)) (now (dialect .entry))
-        (length (now (file .entry))))) 0 (now (out .entry)) ⌝ }
+        laid (words (writeOf (holding (now (table .entry)) (now (names .entry)) (now (dialect .entry))
+        (statedOf edition)) (length (now (file .entry))))) 0 (now (out .entry)) ⌝ }
     ensures { λ r. ⌜ now (file .exit) ≡
-        fileAfter (now (table .entry)) (now (names .entry)) (now (dialect .entry)) (now (file .entry)) ⌝ }
+        fileAfter (holding (now (table .entry)) (now (names .entry)) (now (dialect .entry)) (statedOf edition))
+        (now (file .entry)) ⌝ }
 {
-    let answer = writer::write(table, names, dialect, file);
-    match answer {
-        Written::Accepted(n) => put_count(n, out),
-        Written::Refused(r) => put_refused(r, out),
-    }
+    write_stated(table, names, dialect, stated_of(edition), file, out)
 }
 
 // The rescue: the bytes written, the statements and the nodes kept, the nodes dropped, and the bytes after the last
@@ -423,8 +491,8 @@ pub extern "C" fn starlark_rescue(input: &[u8], file: &mut [u8], out: &mut [u32;
     }
 }
 
-// The reader: table and names at the fronts of two buffers; nodes, name bytes, whether there is a dialect, and its
-// nine bytes, four a word, the low one first.
+// The reader: table and names at the fronts of two buffers; nodes, name bytes, whether there is a dialect, its nine
+// bytes, four a word, the low one first, the edition as it stands, or 0xFFFFFFFF, and the edition that holds.
 #[no_mangle]
 pub extern "C" fn starlark_read(
     file: &[u8],

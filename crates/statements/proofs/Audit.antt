@@ -1,6 +1,7 @@
 -- THE AUDIT: `ERRORS 0` MEANS THAT THE WHOLE CHECKER PASSES
 --
--- The theorems of crate `audited`, over the answers of `audit::audit` and `validate::module`. What the record `Accepts`
+-- The theorems of crate `audited`, over the answers of `audit::audit`, by the edition of any number, and
+-- `validate::module`. What the record `Accepts`
 -- holds of each node, and what `Fitting` holds, stands field by field. Each is proved by citing the theorem. Assumes
 -- nothing.
 use mathlib.Core.Path.{_≡_}
@@ -9,6 +10,9 @@ use mathlib.Core.List.{List, [], _∷_}
 use Prim.Native.Nat.{ℕ, _*_, _/_, _≤_}
 use lib.ListN.{length, drop}
 use Rattle.fields.specs.Field.{field}
+use Rattle.dialect.specs.declared.Edition.{Edition}
+use Rattle.dialect.specs.declared.EditionRead.the-variants.{Known}
+use Rattle.dialect.specs.Editions.{editionOf}
 use Rattle.forest.specs.Forest.{recordBytes, forest}
 use Rattle.forest.proofs.Stretch.{records}
 use Rattle.table.specs.Numbers.{slashFirst}
@@ -42,8 +46,8 @@ every-node = theorem.every-node
 -- "`errors 0` means that the whole checker passes"
 -- In words: where the audit answers 0 errors, the module job answers 0 errors, and each node is accepted by every job
 -- that fits it: as parameters, as a call, as an assignment; and as a target or as a type, where it has that role.
-pub zero-passes : (t names bytes : List ℕ)
-    → auditOf t names bytes ≡ accepted (0 ∷ [])
+pub zero-passes : (t names bytes : List ℕ) (n : ℕ)
+    → auditOf t names bytes n ≡ accepted (0 ∷ [])
     → (moduleOf t names bytes ≡ accepted (0 ∷ []))
     × All (λ p.
     (nodeFits t (rootIn (p .tree) .at) Parameters ≡ true → (room : ℕ)
@@ -56,18 +60,19 @@ pub zero-passes : (t names bytes : List ℕ)
     × (p .role ≡ AsTarget → isAccepted (targetOf t names (rootIn (p .tree) .at)) ≡ true)
     × (p .role ≡ AsType → (room : ℕ)
     → length (stretchOf t (rootIn (p .tree) .at)) / recordBytes ≤ room
-    → isAccepted (typeShapeOf t names bytes (rootIn (p .tree) .at) room) ≡ true))
+    → isAccepted (typeShapeOf t names bytes n (rootIn (p .tree) .at) room) ≡ true))
     (placed Nowhere (forest 0 t))
-zero-passes t names bytes e =
-    let x = theorem.zero-passes t names bytes e in (
+zero-passes t names bytes n e =
+    let x = theorem.zero-passes t names bytes n e in (
       x .0,
-      all-map (λ p (a : Accepts t names bytes (rootIn (p .tree) .at) (p .role)).
+      all-map (λ p (a : Accepts t names bytes n (rootIn (p .tree) .at) (p .role)).
           (a .params, a .call, a .assignment, a .target, a .type)) (placed Nowhere (forest 0 t)) (x .1),
     )
 
--- "exactly": and only there
--- In words: where the module job answers 0 errors and each node is accepted so, the audit answers 0 errors.
-pub passes-zero : (t names bytes : List ℕ)
+-- "exactly": and only there In words: where the module job answers 0 errors and each node is accepted so, the audit
+-- answers 0 errors, if its number is an edition.
+pub passes-zero : (t names bytes : List ℕ) (n : ℕ) {edition : Edition}
+    → editionOf n ≡ Known edition
     → moduleOf t names bytes ≡ accepted (0 ∷ [])
     → All (λ p.
     (nodeFits t (rootIn (p .tree) .at) Parameters ≡ true → (room : ℕ)
@@ -80,10 +85,10 @@ pub passes-zero : (t names bytes : List ℕ)
     × (p .role ≡ AsTarget → isAccepted (targetOf t names (rootIn (p .tree) .at)) ≡ true)
     × (p .role ≡ AsType → (room : ℕ)
     → length (stretchOf t (rootIn (p .tree) .at)) / recordBytes ≤ room
-    → isAccepted (typeShapeOf t names bytes (rootIn (p .tree) .at) room) ≡ true))
+    → isAccepted (typeShapeOf t names bytes n (rootIn (p .tree) .at) room) ≡ true))
     (placed Nowhere (forest 0 t))
-    → auditOf t names bytes ≡ accepted (0 ∷ [])
-passes-zero t names bytes e a = theorem.passes-zero t names bytes e
+    → auditOf t names bytes n ≡ accepted (0 ∷ [])
+passes-zero t names bytes n known e a = theorem.passes-zero t names bytes n known e
     (all-map (λ p x. record { params = x .0; call = x .1; assignment = x .2; target = x .3; type = x .4 })
     (placed Nowhere (forest 0 t)) a)
 
@@ -92,8 +97,8 @@ passes-zero t names bytes e a = theorem.passes-zero t names bytes e
 -- parameters, as a call and as an assignment, where it fits; the first child of every For is accepted as a target; and
 -- as a type the return type of every Def that has one, the type of every Assign, AssignModify and parameter that has
 -- one.
-pub zero-checks-all : (t names bytes : List ℕ)
-    → auditOf t names bytes ≡ accepted (0 ∷ [])
+pub zero-checks-all : (t names bytes : List ℕ) (n : ℕ)
+    → auditOf t names bytes n ≡ accepted (0 ∷ [])
     → (moduleOf t names bytes ≡ accepted (0 ∷ []))
     × Each (λ r.
     (nodeFits t (r .at) Parameters ≡ true → (room : ℕ)
@@ -105,9 +110,9 @@ pub zero-checks-all : (t names bytes : List ℕ)
     × Each (λ u. isAccepted (targetOf t names (rootIn u .at)) ≡ true) (everywhere targetsOf (forest 0 t))
     × Each (λ u. (room : ℕ)
     → length (stretchOf t (rootIn u .at)) / recordBytes ≤ room
-    → isAccepted (typeShapeOf t names bytes (rootIn u .at) room) ≡ true) (everywhere typesOf (forest 0 t))
-zero-checks-all t names bytes e =
-    let x = theorem-checked.zero-checks-all t names bytes e in (
+    → isAccepted (typeShapeOf t names bytes n (rootIn u .at) room) ≡ true) (everywhere typesOf (forest 0 t))
+zero-checks-all t names bytes n e =
+    let x = theorem-checked.zero-checks-all t names bytes n e in (
       x .0,
       each-map (λ r (f : Fitting t names (r .at)). (f .params, f .call, f .assignment)) (records (length t / 24) 0 t)
           (x .1),
@@ -117,8 +122,9 @@ zero-checks-all t names bytes e =
 
 -- "exactly": and only there
 -- In words: where the module job answers 0 errors, and each record, each target and each type is accepted so, the audit
--- answers 0 errors.
-pub checks-all-zero : (t names bytes : List ℕ)
+-- answers 0 errors, if its number is an edition.
+pub checks-all-zero : (t names bytes : List ℕ) (n : ℕ) {edition : Edition}
+    → editionOf n ≡ Known edition
     → moduleOf t names bytes ≡ accepted (0 ∷ [])
     → Each (λ r.
     (nodeFits t (r .at) Parameters ≡ true → (room : ℕ)
@@ -130,9 +136,9 @@ pub checks-all-zero : (t names bytes : List ℕ)
     → Each (λ u. isAccepted (targetOf t names (rootIn u .at)) ≡ true) (everywhere targetsOf (forest 0 t))
     → Each (λ u. (room : ℕ)
     → length (stretchOf t (rootIn u .at)) / recordBytes ≤ room
-    → isAccepted (typeShapeOf t names bytes (rootIn u .at) room) ≡ true) (everywhere typesOf (forest 0 t))
-    → auditOf t names bytes ≡ accepted (0 ∷ [])
-checks-all-zero t names bytes e nodes = theorem-checked.checks-all-zero t names bytes e
+    → isAccepted (typeShapeOf t names bytes n (rootIn u .at) room) ≡ true) (everywhere typesOf (forest 0 t))
+    → auditOf t names bytes n ≡ accepted (0 ∷ [])
+checks-all-zero t names bytes n known e nodes = theorem-checked.checks-all-zero t names bytes n known e
     (each-map (λ r x. record { params = x .0; call = x .1; assignment = x .2 }) (records (length t / 24) 0 t) nodes)
 
 -- W-208: "Errors become four words: number, file, begin, end": the module pass's list
@@ -144,7 +150,7 @@ module-file = theorem-files.module-filed
 
 -- W-208: "all answers with a span carry the file number": the audit's list
 -- In words: the same of the audit's list.
-pub audit-file : (t names bytes : List ℕ)
+pub audit-file : (t names bytes : List ℕ) (n : ℕ)
     → Each (λ (e : Err). slashFirst ≤ e .number → e .span .file ≡ field 2 (drop (24 * e .node) t) 18)
-    (allErrors t names bytes)
+    (allErrors t names bytes n)
 audit-file = theorem-files.audit-filed

@@ -17,36 +17,39 @@ use Rattle.audit.proofs.Theorems as theorem
 
 -- "No refusal changes a buffer": the audit's errors
 -- In words: where the audit refuses, the list of words at exit is the list at entry.
-pub refusal-keeps : (t names bytes : List ℕ) {n : ℕ} {vs : List ℕ} (xs : List ℕ)
-    → auditOf t names bytes ≡ refused n vs
-    → auditAfter t names bytes xs ≡ xs
+pub refusal-keeps : (t names bytes : List ℕ) (edition : ℕ) {n : ℕ} {vs : List ℕ} (xs : List ℕ)
+    → auditOf t names bytes edition ≡ refused n vs
+    → auditAfter t names bytes edition xs ≡ xs
 refusal-keeps = theorem.refusal-keeps
 
 -- the number of errors has a limit
 -- In words: the audit of a table has at most four times as many errors as nodes.
-pub errors-few : (t names bytes : List ℕ) → length (allErrors t names bytes) ≤ 4 * (length t / 24)
+pub errors-few : (t names bytes : List ℕ) (edition : ℕ)
+    → length (allErrors t names bytes edition) ≤ 4 * (length t / 24)
 errors-few = theorem.errors-few
 
 -- the same of the total that is answered
 -- In words: a total that the audit answers is at most four times the node count.
-pub total-few : (t names bytes : List ℕ) (n : ℕ)
-    → listed (Total n) ≡ auditOf t names bytes
+pub total-few : (t names bytes : List ℕ) (edition n : ℕ)
+    → listed (Total n) ≡ auditOf t names bytes edition
     → n ≤ 4 * (length t / 24)
 total-few = theorem.total-few
 
 -- a list that is large enough holds every error
 -- In words: a list of words with room for four times the node count holds all errors in order, and its other words are
 -- as they were.
-pub list-holds-all : (t names bytes xs : List ℕ)
+pub list-holds-all : (t names bytes : List ℕ) (edition : ℕ) (xs : List ℕ)
     → width Audit * (4 * (length t / 24)) ≤ length xs
-    → auditAfter t names bytes xs
-    ≡ allWords Audit (allErrors t names bytes) ++ drop (width Audit * length (allErrors t names bytes)) xs
+    → auditAfter t names bytes edition xs
+    ≡ allWords Audit (allErrors t names bytes edition)
+    ++ drop (width Audit * length (allErrors t names bytes edition)) xs
 list-holds-all = theorem.list-holds-all
 
 -- 42,000 words are enough for every table
 -- In words: a list of `enoughWords` words holds all errors of any table in order, and its other words are as they were.
-pub list-has-room : (t names bytes xs : List ℕ)
+pub list-has-room : (t names bytes : List ℕ) (edition : ℕ) (xs : List ℕ)
     → length xs ≡ enoughWords
-    → auditAfter t names bytes xs
-    ≡ allWords Audit (allErrors t names bytes) ++ drop (width Audit * length (allErrors t names bytes)) xs
+    → auditAfter t names bytes edition xs
+    ≡ allWords Audit (allErrors t names bytes edition)
+    ++ drop (width Audit * length (allErrors t names bytes edition)) xs
 list-has-room = theorem.list-has-room

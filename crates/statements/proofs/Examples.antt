@@ -5,7 +5,7 @@ use mathlib.Core.Path.{_≡_}
 use mathlib.Core.List.{map}
 use lib.ListN.{length}
 use Rattle.forest.specs.Forest.{Node}
-use Rattle.examples.specs.Table.{Row, answer, table}
+use Rattle.examples.specs.Table.{Row, answer, table, secondEdition}
 use Rattle.examples.proofs.Examples as theorem
 
 -- document 01's table of proved examples
@@ -17,3 +17,10 @@ examples = theorem.examples
 -- In words: the table has fourteen rows.
 pub how-many : length table ≡ 14
 how-many = theorem.how-many
+
+-- W-212: "Edition 2 reads a path that ends in `type` as a Path": `x.type`, `x.type[int, str]`, `x.type[int]`, `1.type`
+-- In words: by the second edition the definitions accept the first two, and answer the others 40 and 42, as the first
+-- does.
+pub second-edition : (def : Node)
+    → map (λ (r : Row). answer def (r .asked)) secondEdition ≡ map (λ (r : Row). r .shown) secondEdition
+second-edition = theorem.second-edition

@@ -17,6 +17,7 @@ pub mod AuditList
 pub mod Audit
 pub mod OpeningAudit
 pub mod Parts
+pub mod Editions
 pub mod TableFile
 pub mod Writer
 pub mod Rescue

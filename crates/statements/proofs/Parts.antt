@@ -9,6 +9,7 @@ use mathlib.Core.List.{List, [], _∷_}
 use Prim.Native.Nat.{ℕ}
 use lib.ListN.{take}
 use Rattle.dialect.specs.declared.Dialect.{Dialect}
+use Rattle.dialect.specs.declared.Edition.{Edition}
 use Rattle.dialect.specs.declared.Name.the-variants.{Extended}
 use Rattle.dialect.specs.Rows.{recordOf, rowNamed}
 use Rattle.forest.specs.Forest.{Node, forest}
@@ -33,19 +34,19 @@ pub module-in-parts : (d : Dialect) (names : List ℕ) (r : Node) (ps : List Par
 module-in-parts = theorem.module-in-parts
 
 -- "the errors of a root Statements are, up to order, those of its parts": the audit
--- In words: the same of the list of all jobs.
-pub audit-in-parts : (d : Dialect) (names : List ℕ) (r : Node) (ps : List Part)
+-- In words: the same of the list of all jobs, in either edition.
+pub audit-in-parts : (d : Dialect) (edition : Edition) (names : List ℕ) (r : Node) (ps : List Part)
     → r .kind ≡ kindStatements
     → Kept names ps
     → (test : List ℕ → Bool)
-    → howMany test (read («audit_module» d names (under r (joined ps))))
-    ≡ howMany test (readInTurn («audit_module» d) ps)
+    → howMany test (read («audit_module» d edition names (under r (joined ps))))
+    ≡ howMany test (readInTurn («audit_module» d edition) ps)
 audit-in-parts = theorem.audit-in-parts
 
 -- the audit's list, over trees
--- In words: the audit's errors of any bytes in a dialect are this list, of their trees.
-pub audit-of-bytes : (d : Dialect) (names t : List ℕ)
-    → auditErrors d names t ≡ «audit_module» d names (forest 0 (take mostBytes t))
+-- In words: the audit's errors of any bytes in a dialect and an edition are this list, of their trees.
+pub audit-of-bytes : (d : Dialect) (edition : Edition) (names t : List ℕ)
+    → auditErrors d edition names t ≡ «audit_module» d edition names (forest 0 (take mostBytes t))
 audit-of-bytes = theorem.audit-of-bytes
 
 -- an instance: `lambda a, a: 1` and `break`, in two tables

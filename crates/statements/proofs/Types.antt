@@ -16,13 +16,13 @@ use Rattle.types.proofs.Files as theorem
 -- W-208: "all answers with a span carry the file number": the type job
 -- In words: a refusal from 10 on carries, as its fourth number, the source file number of the record that it names,
 -- bytes 18 and 19, and that is the number of the node that the job is asked of.
-pub type-file : (t names bytes : List ℕ) (i room : ℕ) {n : ℕ} {vs : List ℕ}
-    → typeShapeOf t names bytes i room ≡ refused n vs
+pub type-file : (t names bytes : List ℕ) (edition i room : ℕ) {n : ℕ} {vs : List ℕ}
+    → typeShapeOf t names bytes edition i room ≡ refused n vs
     → slashFirst ≤ n
     → (4 ≤ length vs)
     × (getD vs 3 0 ≡ field 2 (drop (24 * getD vs 0 0) t) 18)
     × (getD vs 3 0 ≡ field 2 (drop (24 * i) t) 18)
-type-file t names bytes i room {n} {vs} e late =
-    let told : CarriesFile t i (refused n vs) = rw e at (theorem.type-files t names bytes i room) in
+type-file t names bytes edition i room {n} {vs} e late =
+    let told : CarriesFile t i (refused n vs) = rw e at (theorem.type-files t names bytes edition i room) in
     let f = told late in
     (f .there, f .named, f .same)

@@ -9,6 +9,7 @@ pub mod Numbered
 pub mod Handed
 pub mod Entering
 pub mod Carried
+pub mod Ruling
 pub mod Filed
 pub mod Naming
 pub mod Heads

@@ -5,6 +5,7 @@ use mathlib.Core.List.{List, _∷_, _++_}
 use Prim.Native.Nat.{ℕ}
 use Rattle.fields.proofs.Coincide.{coincide, coincide-by}
 use lib.ListN.{take}
+use Rattle.dialect.specs.declared.EditionRead.{EditionRead}
 use Rattle.forest.specs.Forest.{nodeOf, forest, roots}
 use Rattle.forest.specs.declared.Found.{Found}
 use Rattle.soundness.specs.Kinds.{classOf}
@@ -14,15 +15,17 @@ use Rattle.table.specs.Naming.{bearsName, firstNamed}
 use Rattle.table.specs.Depth.{firstDeep}
 use Rattle.table.specs.declared.Entries.{Entries}
 use Rattle.table.specs.Check.{checkOf, given, givenOf, nodeFits, stretchOf, entryCheck}
-use Rattle.table.specs.Check.{mostBytes, isHeaded}
+use Rattle.table.specs.Check.{mostBytes, isHeaded, ruled, rulesOf}
 use Rattle.table.specs.declared.Span.{Span}
 use Rattle.table.specs.declared.Given.{Given}
 use Rattle.table.specs.declared.Refusal.{Refusal}
+use Rattle.table.specs.declared.Ruled.{Ruled}
 use Rattle.table.specs.declared.Place.{Place}
 use Rattle.table.specs.declared.Extent.{Extent}
 use Rattle.table.specs.declared.Checked.{Checked}
 use Rattle.table.specs.declared.Wanted.{Wanted}
 use Rattle.table.proofs.Answers.{refusal-injective, checked-injective, given-injective}
+use Rattle.table.proofs.Ruling.{ruled-injective}
 
 -- of `check`
 pub check-one : (table names : List ℕ) {r s : Checked} → checked r ≡ checkOf table names
@@ -107,3 +110,8 @@ enter-one table names node wanted = coincide-by checked checked-injective
 pub enter-dialect-one : (table names bytes : List ℕ) {r s : Given} → given r ≡ givenOf table names bytes
     → given s ≡ givenOf table names bytes → r ≡ s
 enter-dialect-one table names bytes = coincide-by given given-injective
+
+-- of `enter_rules`
+pub enter-rules-one : (table names bytes : List ℕ) (read : EditionRead) {r s : Ruled}
+    → ruled r ≡ rulesOf table names bytes read → ruled s ≡ rulesOf table names bytes read → r ≡ s
+enter-rules-one table names bytes read = coincide-by ruled ruled-injective

@@ -1,4 +1,5 @@
--- The table check, 1 to 4 in this order, a job's dialect, 5, and a job's node, 6. These are definitions.
+-- The table check, 1 to 4 in this order, a job's dialect and its edition, 5, and a job's node, 6. These are
+-- definitions.
 use mathlib.Core.Bool.{Bool, _&&_, _||_}
 use mathlib.Core.List.{List, [], _∷_}
 use Prim.Native.Nat.{ℕ, _+_, _*_, _/_, _%_, _≤_}
@@ -9,6 +10,9 @@ use Rattle.dialect.specs.Bytes.{fromBytes}
 use Rattle.dialect.specs.declared.Dialect.{Dialect}
 use Rattle.dialect.specs.declared.Decoded.{Decoded}
 use Rattle.dialect.specs.declared.Decoded.the-variants.{Valid, Invalid}
+use Rattle.dialect.specs.declared.Edition.{Edition}
+use Rattle.dialect.specs.declared.EditionRead.{EditionRead}
+use Rattle.dialect.specs.declared.EditionRead.the-variants.{Known, Unknown}
 use Rattle.forest.specs.Forest.{recordBytes, sizeOf, nodeOf, Tree, treeOf, forest}
 use Rattle.forest.specs.declared.Found.{Found}
 use Rattle.forest.specs.declared.Found.the-variants.{At, Nothing}
@@ -20,6 +24,8 @@ use Rattle.table.specs.Depth.{firstDeep}
 use Rattle.table.specs.Answer.{Answer, accepted, refused, andThen, numberOf, carried}
 use Rattle.table.specs.declared.Given.{Given}
 use Rattle.table.specs.declared.Given.the-variants.{In, Refused}
+use Rattle.table.specs.declared.Ruled.{Ruled}
+use Rattle.table.specs.declared.Ruled.the-variants.{By, Refused as Unruled}
 use Rattle.table.specs.declared.Wanted.{Wanted}
 use Rattle.table.specs.declared.Wanted.the-variants.{Parameters, Call, Assignment, Expression}
 
@@ -109,6 +115,33 @@ inGiven (turnedAway n vs) rule = refused n vs
 -- 1 to 5 alone
 abbrev pub givenCheck : List ℕ → List ℕ → List ℕ → Answer
 givenCheck t names bytes = inGiven (givenOf t names bytes) (λ _. accepted [])
+
+-- what a job that reads types is given: the dialect and the edition, or the refusal that turns it away
+pub data Ruling : Type 0 where
+  byRules : Dialect → Edition → Ruling
+  unruled : ℕ → List ℕ → Ruling
+
+abbrev pub ruled : Ruled → Ruling
+ruled (By d e) = byRules d e
+ruled (Unruled r) = unruled (numberOf r) (carried r)
+
+-- 5 again, after the dialect bytes: what was read is no edition
+abbrev pub ruling : Handing → EditionRead → Ruling
+ruling (turnedAway n vs) x = unruled n vs
+ruling (inDialect d) (Known e) = byRules d e
+ruling (inDialect d) Unknown = unruled badDialect []
+
+unfoldable pub rulesOf : List ℕ → List ℕ → List ℕ → EditionRead → Ruling
+rulesOf t names bytes edition = ruling (givenOf t names bytes) edition
+
+-- a job that reads types: 1 to 5, then what a rule says in the dialect and by the edition
+abbrev pub inRules : Ruling → (Dialect → Edition → Answer) → Answer
+inRules (byRules d e) rule = rule d e
+inRules (unruled n vs) rule = refused n vs
+
+-- 1 to 5 alone, the edition included
+abbrev pub rulesCheck : List ℕ → List ℕ → List ℕ → EditionRead → Answer
+rulesCheck t names bytes edition = inRules (rulesOf t names bytes edition) (λ _ _. accepted [])
 
 -- the kinds that a job wants: parameters 2 or 27, a call 22, an assignment 11 or 12, a target or a type an expression
 unfoldable pub wants : Wanted → ℕ → Bool

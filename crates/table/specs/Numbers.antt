@@ -18,7 +18,7 @@ unsoundRecord = 3
 abbrev pub tooDeep : ℕ
 tooDeep = 4
 
--- no dialect
+-- no dialect, or no edition
 abbrev pub badDialect : ℕ
 badDialect = 5
 

@@ -6,6 +6,8 @@ pub mod numbers;
 
 use dialect::Decoded;
 use dialect::Dialect;
+use dialect::Edition;
+use dialect::EditionRead;
 use forest::Found;
 use forest::RECORD;
 use soundness::classes;
@@ -19,7 +21,7 @@ ghost use lib.ListN.{take};
 ghost use Rattle.table.specs.Answer.{refused, refusedAt, numberOf, nodeIn, extentIn, refusal, checked, spanAt};
 ghost use Rattle.table.specs.Answer.{spanValues, earlierIn, earlierValues};
 ghost use Rattle.table.specs.Check.{lengthSound, checkOf, given, givenOf, wants, nodeFits, stretchOf, entryCheck};
-ghost use Rattle.table.specs.Check.{mostBytes, isHeaded};
+ghost use Rattle.table.specs.Check.{mostBytes, isHeaded, ruled, rulesOf};
 
 // Where something stands: from begin up to, but not with, end, in the source file of this number.
 pub struct Span {
@@ -72,6 +74,12 @@ pub enum Checked {
 // What a job in a dialect is given: the dialect, or why it is refused.
 pub enum Given {
     In(Dialect),
+    Refused(Refusal),
+}
+
+// What a job that reads types is given: the dialect and the edition, or why it is refused.
+pub enum Ruled {
+    By { dialect: Dialect, edition: Edition },
     Refused(Refusal),
 }
 
@@ -317,5 +325,22 @@ pub fn enter_dialect(table: &[u8], names: &[u8], bytes: &[u8]) -> Given
     match read {
         Decoded::Valid(d) => Given::In(d),
         Decoded::Invalid => Given::Refused(Refusal::Bare(numbers::BAD_DIALECT)),
+    }
+}
+
+// Lets a job that reads types in: 1 to 4, 5 for the dialect bytes, then 5 for what was read of an edition.
+pub fn enter_rules(table: &[u8], names: &[u8], bytes: &[u8], read: EditionRead) -> Ruled
+    ensures { λ r. ⌜ ruled r ≡ rulesOf (now (table .entry)) (now (names .entry)) (now (bytes .entry)) read ⌝ }
+{
+    let entered = enter_dialect(table, names, bytes);
+    match entered {
+        Given::In(d) => match read {
+            EditionRead::Known(e) => Ruled::By {
+                dialect: d,
+                edition: e,
+            },
+            EditionRead::Unknown => Ruled::Refused(Refusal::Bare(numbers::BAD_DIALECT)),
+        },
+        Given::Refused(why) => Ruled::Refused(why),
     }
 }

@@ -7,7 +7,7 @@ pub const UNSOUND_RECORD: u32 = 3; // the first unsound record
 
 pub const TOO_DEEP: u32 = 4; // the first node that is too deep
 
-pub const BAD_DIALECT: u32 = 5; // no dialect
+pub const BAD_DIALECT: u32 = 5; // no dialect, or no edition
 
 pub const WRONG_NODE: u32 = 6; // no node, or one of the wrong kind
 

@@ -1,9 +1,9 @@
 -- What acceptance says: the blocks pass, nothing is left over, and what the file holds is sound. Assumes nothing.
 use mathlib.Core.Path.{_≡_, refl, sym, ap, _∙_}
 use mathlib.Core.Bool.{Bool, true, false}
-use mathlib.Core.Logic.{_⊎_, inl, inr}
-use mathlib.Core.List.{List, [], append-nil}
-use Prim.Native.Nat.{ℕ, _<_}
+use mathlib.Core.Logic.{_⊎_, inl, inr, ⊎-elim}
+use mathlib.Core.List.{List, [], _∷_, append-nil}
+use Prim.Native.Nat.{ℕ, zero, suc, _<_}
 use native.Mathlib.Omega.{arith}
 use lib.ListN.{length, getD, set}
 use lib.Seq.{take-all}
@@ -11,22 +11,32 @@ use lib.Dec.{eqb, leb}
 use borrow.Author.Tests.{leb-true, le-leb, eqb-true, eqb-false}
 use Rattle.fields.proofs.Basics.{never}
 use Rattle.dialect.specs.Bytes.{fromBytes}
+use Rattle.dialect.specs.Editions.{statedBytes, editionHeld}
 use Rattle.dialect.specs.declared.Dialect.{Dialect}
 use Rattle.dialect.specs.declared.Decoded.the-variants.{Valid, Invalid}
+use Rattle.dialect.specs.declared.Edition.{Edition}
+use Rattle.dialect.specs.declared.Edition.the-variants.{One, Two}
+use Rattle.dialect.specs.declared.EditionRead.the-variants.{Known, Unknown}
+use Rattle.dialect.specs.declared.Stated.{Stated}
+use Rattle.dialect.specs.declared.Stated.the-variants.{Number, Nothing}
 use Rattle.dialect.proofs.Laws.{other-length}
+use Rattle.dialect.proofs.Editions.{editionNumber, edition-back, held-none, held-alone, held-number}
 use Rattle.table.specs.Numbers.{blockCheck, bytesLeftOver}
 use Rattle.table.specs.Answer.{Answer, accepted, refused, andThen}
 use Rattle.table.proofs.Answers.{refusal-injective, never-accepted}
-use Rattle.table.proofs.Entering.{given-known, given-passed}
+use Rattle.table.proofs.Entering.{given-known}
+use Rattle.table.proofs.Checking.{Clean}
+use Rattle.table.proofs.Ruling.{rules-known, rules-passed}
 use Rattle.blocks.specs.Block.{demand}
 use Rattle.fields.proofs.Spelling.{Bytes}
 use Rattle.tablefile.specs.File.{Content, fileOf}
-use Rattle.tablefile.specs.Reading.{headerAt, contentAt, frontCheck, soundCheck, readCheck}
+use Rattle.tablefile.specs.Reading.{headerAt, contentAt, editionRead, numberHeld, frontCheck, soundCheck}
+use Rattle.tablefile.specs.Reading.{readCheck}
 use Rattle.tablefile.specs.Loading.{verdict}
 use Rattle.tablefile.specs.declared.Verdict.{Verdict}
 use Rattle.tablefile.specs.declared.Verdict.the-variants.{Accepted, Refused}
 use Rattle.tablefile.proofs.Fronts.{Fronted, demand-then, fronted-then, taken-there}
-use Rattle.tablefile.proofs.Files.{Fits, front-is-file, front-changed, file-passes, file-holds, file-taken}
+use Rattle.tablefile.proofs.Files.{Headed, bare, inDialect, byEdition, Fits, front-is-file, front-changed, file-passes, file-holds, file-taken}
 
 -- no two verdicts mean the same
 pub verdict-injective : (r s : Verdict) → verdict r ≡ verdict s → r ≡ s
@@ -76,6 +86,36 @@ dialect-lengths ds {d} e = go (eqb (length ds) 0) (eqb (length ds) 9) refl refl
         let no : Invalid ≡ Valid d = sym bad ∙ e in
         never (cc)
 
+-- an edition that holds: none is stated, or it stands behind a dialect and its number is the edition's
+pub held-cases : (ds : List ℕ) (s : Stated) {e : Edition} → editionHeld ds (statedBytes s) ≡ Known e
+    → (s ≡ Nothing) ⊎ ((length ds ≡ 0 → ⊥) × (s ≡ Number (editionNumber e)))
+held-cases ds Nothing h = inl refl
+held-cases ds (Number n) {e} h = go (eqb (length ds) 0) refl
+  where
+    go : (b : Bool) → eqb (length ds) 0 ≡ b
+        → (Number n ≡ Nothing) ⊎ ((length ds ≡ 0 → ⊥) × (Number n ≡ Number (editionNumber e)))
+    go true p =
+        let no : Unknown ≡ Known e = sym (held-alone ds n (eqb-true (length ds) 0 p)) ∙ h in
+        never (cc)
+    go false p =
+        let some = eqb-false (length ds) 0 p in
+        inr (some, ap Number (edition-back n (sym (held-number ds n some) ∙ h)))
+
+-- what 1 to 5 say of what a file holds: the table is clean, the bytes are a dialect, and an edition holds
+pub record Knows (c : Content) : Type 0 where
+  pub clean : Clean (c .table) (c .names)
+  pub dialect : Dialect
+  pub decoded : fromBytes (c .dialect) ≡ Valid dialect
+  pub edition : Edition
+  pub held : editionRead c ≡ Known edition
+
+pub sound-known : (c : Content) → soundCheck c ≡ accepted [] → Knows c
+sound-known c sound =
+    let (d, e, rules) = rules-passed (c .table) (c .names) (c .dialect) (editionRead c) sound in
+    let known = rules-known (c .table) (c .names) (c .dialect) rules in
+    let given = given-known (c .table) (c .names) (c .dialect) (known .0) in
+    record { clean = given .0; dialect = d; decoded = given .1; edition = e; held = known .1 }
+
 -- a content that is sound: it passes 1 to 5, and all are bytes
 pub record SoundContent (c : Content) : Type 0 where
   pub sound : soundCheck c ≡ accepted []
@@ -83,21 +123,47 @@ pub record SoundContent (c : Content) : Type 0 where
   pub names-bytes : Bytes (c .names)
   pub dialect-bytes : Bytes (c .dialect)
 
+-- LAW: what passes 1 to 5 has one of the three headers
+pub sound-headed : (c : Content) → Knows c → Headed (length (c .dialect)) (length (statedBytes (c .edition)))
+sound-headed c known = ⊎-elim
+    (λ (e : c .edition ≡ Nothing). rw e (⊎-elim (λ (n : length (c .dialect) ≡ 0). bare n refl)
+    (λ (n : length (c .dialect) ≡ 9). inDialect n refl) lengths))
+    (λ (e : (length (c .dialect) ≡ 0 → ⊥) × (c .edition ≡ Number (editionNumber (known .edition)))). rw (e .1)
+    (⊎-elim (λ (n : length (c .dialect) ≡ 0). absurd (e .0 n)) (λ (n : length (c .dialect) ≡ 9). byEdition n refl)
+    lengths))
+    (held-cases (c .dialect) (c .edition) (known .held))
+  where
+    lengths : (length (c .dialect) ≡ 0) ⊎ (length (c .dialect) ≡ 9)
+    lengths = dialect-lengths (c .dialect) (known .decoded)
+
+-- its edition is a byte
+pub sound-byte : (c : Content) → Knows c → Bytes (statedBytes (c .edition))
+sound-byte c known = ⊎-elim
+    (λ (e : c .edition ≡ Nothing). rw e (λ i. omega arith))
+    (λ (e : (length (c .dialect) ≡ 0 → ⊥) × (c .edition ≡ Number (editionNumber (known .edition)))). rw (e .1)
+    (one (known .edition)))
+    (held-cases (c .dialect) (c .edition) (known .held))
+  where
+    one : (e : Edition) → Bytes (editionNumber e ∷ [])
+    one One zero = omega arith
+    one One (suc i) = omega arith
+    one Two zero = omega arith
+    one Two (suc i) = omega arith
+
 module _ (c : Content) (s : SoundContent c) where
   pub sound-fits : Fits c
   sound-fits =
-      let known = given-known (c .table) (c .names) (c .dialect)
-      (given-passed (c .table) (c .names) (c .dialect) (s .sound) .1) in
-      let clean = known .0 in
+      let known = sound-known c (s .sound) in
       record {
-        whole = clean .whole;
-        some = clean .least;
-        few = clean .most;
-        names = clean .few;
-        dialect = dialect-lengths (c .dialect) (known .1);
+        whole = known .clean .whole;
+        some = known .clean .least;
+        few = known .clean .most;
+        names = known .clean .few;
+        headed = sound-headed c known;
         table-bytes = s .table-bytes;
         names-bytes = s .names-bytes;
         dialect-bytes = s .dialect-bytes;
+        edition-bytes = sound-byte c known;
       }
 
   pub back-holds : contentAt (fileOf c) ≡ c

@@ -1,5 +1,5 @@
 -- What the theorems on files suppose can be met, and not only trivially: the file of `x = 1`, a table of four records
--- with a name and Standard's nine bytes. That its content is sound is computed; that its file is then accepted, and
+-- with a name, Standard's nine bytes and edition 1. That its content is sound is computed; that its file is then accepted, and
 -- read as this content, is `file-read-back`. Assumes nothing.
 use mathlib.Core.Path.{_≡_, refl, sym}
 use mathlib.Core.Bool.{Bool, true, _&&_}
@@ -13,6 +13,8 @@ use Rattle.fields.specs.Field.{field}
 use Rattle.fields.proofs.Basics.{and-left, and-right}
 use Rattle.fields.proofs.Spelling.{Bytes}
 use Rattle.dialect.specs.Bytes.{within, validBytes, fromBytes}
+use Rattle.dialect.specs.Editions.{editionOf, editionHeld}
+use Rattle.dialect.specs.declared.Stated.the-variants.{Number}
 use Rattle.forest.specs.Forest.{sizeOf, kidsOf, restOf, forestIn, forest, count, countTree}
 use Rattle.forest.specs.Names.{same}
 use Rattle.soundness.specs.KindNumbers.{kindStatements, kindAssign, kindIdentifier, kindInt}
@@ -22,7 +24,7 @@ use Rattle.soundness.specs.Sound.{nameSound, spanSound, sourceSound, fieldsSoun
 use Rattle.soundness.specs.Sound.{wanted, permits, kidsSound, soundNode, soundAt, rootSound, contextOf, recordSound}
 use Rattle.soundness.specs.Sound.{firstFalse, firstUnsound}
 use Rattle.table.specs.Answer.{accepted}
-use Rattle.table.specs.Check.{lengthSound, checkOf, givenOf}
+use Rattle.table.specs.Check.{lengthSound, checkOf, givenOf, rulesOf}
 use Rattle.table.specs.Depth.{classWeight, weight, firstDeep, deepIn}
 use Rattle.tablefile.specs.File.{Content, fileOf}
 use Rattle.tablefile.specs.Reading.{soundCheck}
@@ -43,6 +45,7 @@ content = record {
       ++ (bytesOf kindAssign 0 0 5 3 1 ++ (bytesOf kindIdentifier 1 0 1 1 1 ++ bytesOf kindInt 0 4 5 1 1));
   names = 120 ∷ [];
   dialect = 1 ∷ 1 ∷ 1 ∷ 0 ∷ 0 ∷ 0 ∷ 1 ∷ 0 ∷ 0 ∷ [];
+  edition = Number 1;
 }
 
 -- numbers that are bytes, by a test
@@ -57,7 +60,7 @@ small-bytes (x ∷ l) e (suc i) = small-bytes l (and-right (ltb x 256) (small l)
 
 -- it passes 1 to 5
 pub sound : soundCheck content ≡ accepted []
-unfolding givenOf fromBytes validBytes within checkOf lengthSound field sizeOf kidsOf restOf forestIn forest count
+unfolding rulesOf editionOf editionHeld givenOf fromBytes validBytes within checkOf lengthSound field sizeOf kidsOf restOf forestIn forest count
     countTree same kindIn kindOf nameSound spanSound sourceSound fieldsSound wholeTrees classes permitted wanted permits
     kidsSound soundNode soundAt rootSound fileSound endsBy topOf filesOf contextOf recordSound firstFalse firstUnsound
     classWeight weight firstDeep deepIn

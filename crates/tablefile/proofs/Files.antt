@@ -1,5 +1,6 @@
--- The file at the front and the file of a content: each is the other's inverse, and one changed byte is told. Assumes
--- nothing.
+-- The file at the front and the file of a content: each is the other's inverse, and one changed byte is told. There are
+-- three headers (`Headed`): without a dialect, with one, and with a dialect and an edition. What block 0 holds behind its
+-- counts, dialect and edition, is one list in these laws (`tail-is`, `tail-there`). Assumes nothing.
 use mathlib.Core.Path.{_≡_, refl, sym, ap, _∙_}
 use mathlib.Core.Bool.{true}
 use mathlib.Core.Logic.{_⊎_, ⊎-elim}
@@ -11,6 +12,9 @@ use lib.ListN.{length, getD, take, drop, set, replicate, length-append}
 use lib.Seq.{take-at, drop-at, take-take, take-add, drop-drop, take-set-le}
 use borrow.Author.Tests.{le-leb}
 use Rattle.fields.proofs.Basics.{drop-take, le-or-lt}
+use Rattle.dialect.specs.Editions.{statedBytes}
+use Rattle.dialect.specs.declared.Stated.{Stated}
+use Rattle.dialect.specs.declared.Stated.the-variants.{Number, Nothing}
 use Rattle.fields.specs.Field.{field}
 use Rattle.fields.proofs.Fields.{field-drop, field-take}
 use Rattle.table.specs.Numbers.{blockCheck}
@@ -25,32 +29,38 @@ use Rattle.blocks.proofs.Blocks.{passed-is-block, changed-block, judge-outside}
 use Rattle.blocks.proofs.Runs.{drop-set, getD-behind, length-run, passed-is-run, run-passes, run-holds, run-outside}
 use Rattle.blocks.proofs.Runs.{changed-run}
 use Rattle.tablefile.specs.File.{Content, headerOf, fileOf}
-use Rattle.tablefile.specs.Reading.{dialectIn, headerAt, contentAt, countsFit, blocksCheck, frontCheck}
-use Rattle.tablefile.proofs.Fronts.{first-is, taken-is, dialect-few, Fronted, table-length, names-length}
+use Rattle.tablefile.specs.Reading.{dialectIn, editionIn, headerAt, usedOf, statedIn, contentAt, countsFit}
+use Rattle.tablefile.specs.Reading.{blocksCheck, frontCheck}
+use Rattle.tablefile.proofs.Fronts.{first-is, taken-is, used-small, tail-is, Fronted, table-length}
+use Rattle.tablefile.proofs.Fronts.{names-length}
 
 -- ---- a file at the front whose blocks pass is the file of what it holds
 module _ (bs : List ℕ) (small : Bytes bs) (f : Fronted bs) where
-  header-is : take (4 + headerAt bs .dialect) (drop 4 bs) ≡ headerOf (contentAt bs)
-  unfolding headerOf contentAt headerAt
+  nodes-spelled : bytesOf 2 (headerAt bs .nodes) ≡ take 2 (drop 4 bs)
+  unfolding headerAt
+  nodes-spelled = bytes-field 2 bs 4 small (omega (arith, f .header .long))
+
+  names-spelled : bytesOf 2 (headerAt bs .names) ≡ take 2 (drop 6 bs)
+  unfolding headerAt
+  names-spelled = bytes-field 2 bs 6 small (omega (arith, f .header .long))
+
+  header-is : take (usedOf (headerAt bs)) (drop 4 bs) ≡ headerOf (contentAt bs)
+  unfolding headerOf
   header-is =
-      let d : ℕ = headerAt bs .dialect in
-      let nodes : length (contentAt bs .table) / 24 ≡ field 2 bs 4 = omega (arith, table-length bs f) in
-      let names : length (contentAt bs .names) ≡ field 2 bs 6 = names-length bs f in
-      let spelled : bytesOf 2 (field 2 bs 4)
-      ≡ take 2 (drop 4 bs) = bytes-field 2 bs 4 small (omega (arith, f .header .long)) in
-      let spelled′ : bytesOf 2 (field 2 bs 6)
-      ≡ take 2 (drop 6 bs) = bytes-field 2 bs 6 small (omega (arith, f .header .long)) in
-      let cut : 4 + d ≡ 2 + (2 + d) = omega arith in
+      let d : ℕ = headerAt bs .dialect + headerAt bs .edition in
+      let nodes : length (contentAt bs .table) / 24 ≡ headerAt bs .nodes = omega (arith, table-length bs f) in
+      let cut : usedOf (headerAt bs) ≡ 2 + (2 + d) = omega arith in
       rw (
         nodes,
-        names,
-        spelled,
-        spelled′,
+        names-length bs f,
+        nodes-spelled,
+        names-spelled,
         cut,
         take-add 2 (2 + d) (drop 4 bs),
         drop-drop 2 4 bs,
         take-add 2 d (drop 6 bs),
         drop-drop 2 6 bs,
+        tail-is bs,
       )
       refl
 
@@ -72,8 +82,8 @@ module _ (bs : List ℕ) (small : Bytes bs) (f : Fronted bs) where
       let m : ℕ = blocksFor (24 * headerAt bs .nodes) in
       let cut : headerAt bs .taken ≡ 512 + (512 * a + 512 * m) = omega (arith, taken-is bs, first-is bs) in
       let at : 512 * headerAt bs .first ≡ 512 + 512 * a = omega (arith, first-is bs) in
-      let block : take 512 bs ≡ blockOf 0 (headerOf (contentAt bs)) = passed-is-block 0 (4 + headerAt bs .dialect) bs
-      (omega (arith, dialect-few bs)) small (f .header) ∙ ap (blockOf 0) header-is in
+      let block : take 512 bs ≡ blockOf 0 (headerOf (contentAt bs)) = passed-is-block 0 (usedOf (headerAt bs)) bs
+      (omega (arith, used-small bs refl)) small (f .header) ∙ ap (blockOf 0) header-is in
       let names : take (512 * a) (drop 512 bs) ≡ runOf 1 (contentAt bs .names) = names-are in
       let nodes : take (512 * m) (drop (512 + 512 * a) bs)
       ≡ runOf (1 + a) (contentAt bs .table) = ap (λ (x : ℕ). take (512 * m) (drop x bs)) (sym at) ∙ nodes-are
@@ -94,8 +104,8 @@ module _ (bs : List ℕ) (small : Bytes bs) (f : Fronted bs) where
 module _ (bs : List ℕ) (f : Fronted bs) (i v : ℕ) (other : v ≡ getD bs i 0 → ⊥) where
   header-changed : i < 512 → frontCheck (set bs i v) ≡ refused blockCheck []
   unfolding blocksCheck
-  header-changed h = rw (changed-block 0 (4 + headerAt bs .dialect) bs i v (f .header) h other 0
-      (4 + headerAt (set bs i v) .dialect)) refl
+  header-changed h = rw (changed-block 0 (usedOf (headerAt bs)) bs i v (f .header) h other 0
+      (usedOf (headerAt (set bs i v)))) refl
 
   -- behind block 0 it is read as before
   module _ (h : 512 ≤ i) where
@@ -121,8 +131,8 @@ module _ (bs : List ℕ) (f : Fronted bs) (i v : ℕ) (other : v ≡ getD bs i 0
     later =
         rw (
           same-header,
-          judge-outside 0 (4 + headerAt bs .dialect) bs i v h,
-          passes 0 (4 + headerAt bs .dialect) bs (f .header),
+          judge-outside 0 (usedOf (headerAt bs)) bs i v h,
+          passes 0 (usedOf (headerAt bs)) bs (f .header),
           fits,
           drop-set 512 bs i v h,
         )
@@ -158,17 +168,60 @@ module _ (bs : List ℕ) (f : Fronted bs) (i v : ℕ) (other : v ≡ getD bs i 0
       (le-or-lt 512 i)
 
 -- ---- the file of a content, and anything behind it, reads as that content
+
+-- the three headers: how many dialect bytes and edition bytes there are
+pub data Headed (d e : ℕ) : Type 0 where
+  bare : d ≡ 0 → e ≡ 0 → Headed d e
+  inDialect : d ≡ 9 → e ≡ 0 → Headed d e
+  byEdition : d ≡ 9 → e ≡ 1 → Headed d e
+
 pub record Fits (c : Content) : Type 0 where
   pub whole : 24 * (length (c .table) / 24) ≡ length (c .table)
   pub some : 24 ≤ length (c .table)
   pub few : length (c .table) ≤ 50400
   pub names : length (c .names) ≤ 8064
-  pub dialect : (length (c .dialect) ≡ 0) ⊎ (length (c .dialect) ≡ 9)
+  pub headed : Headed (length (c .dialect)) (length (statedBytes (c .edition)))
   pub table-bytes : Bytes (c .table)
   pub names-bytes : Bytes (c .names)
   pub dialect-bytes : Bytes (c .dialect)
+  pub edition-bytes : Bytes (statedBytes (c .edition))
+
+-- such a header has at most ten bytes behind its counts; what it says it has is what it has; and its edition byte stands
+-- at place 17
+headed-few : {d e : ℕ} → Headed d e → d + e ≤ 10
+headed-few (bare p q) = omega arith
+headed-few (inDialect p q) = omega arith
+headed-few (byEdition p q) = omega arith
+
+headed-dialect : {d e : ℕ} → Headed d e → dialectIn (4 + (d + e)) ≡ d
+unfolding dialectIn
+headed-dialect (bare p q) = rw (p, q) refl
+headed-dialect (inDialect p q) = rw (p, q) refl
+headed-dialect (byEdition p q) = rw (p, q) refl
+
+headed-edition : {d e : ℕ} → Headed d e → editionIn (4 + (d + e)) ≡ e
+unfolding editionIn
+headed-edition (bare p q) = rw (p, q) refl
+headed-edition (inDialect p q) = rw (p, q) refl
+headed-edition (byEdition p q) = rw (p, q) refl
+
+headed-place : {d e : ℕ} → Headed d e → (bs : List ℕ) → take e (drop 17 bs) ≡ take e (drop (8 + d) bs)
+headed-place (bare p q) bs = rw q refl
+headed-place (inDialect p q) bs = rw q refl
+headed-place (byEdition p q) bs = rw p refl
+
+-- an edition, by its bytes
+stated-back : (e : Stated) → statedIn (statedBytes e) ≡ e
+stated-back (Number n) = refl
+stated-back Nothing = refl
 
 module _ (c : Content) (fit : Fits c) (rest : List ℕ) where
+  abbrev edition : List ℕ
+  edition = statedBytes (c .edition)
+
+  abbrev tail : List ℕ
+  tail = c .dialect ++ edition
+
   abbrev bs : List ℕ
   bs = fileOf c ++ rest
 
@@ -191,49 +244,54 @@ module _ (c : Content) (fit : Fits c) (rest : List ℕ) where
       ∙ ap (λ (x : List ℕ). blockOf 0 (headerOf c) ++ x)
       (append-assoc (runOf 1 (c .names)) (runOf first (c .table)) rest)
 
-  dialect-small : length (c .dialect) ≤ 9
-  dialect-small = ⊎-elim (λ (e : length (c .dialect) ≡ 0). omega arith)
-      (λ (e : length (c .dialect) ≡ 9). omega arith) (fit .dialect)
+  tail-length : length tail ≡ length (c .dialect) + length edition
+  tail-length = length-append (c .dialect) edition
 
-  header-length : length (headerOf c) ≡ 4 + length (c .dialect)
+  tail-small : length tail ≤ 10
+  tail-small = omega (arith, tail-length, headed-few (fit .headed))
+
+  header-length : length (headerOf c) ≡ 4 + length tail
   unfolding headerOf
   header-length = simp (length-append, length-bytes) (omega arith)
 
   header-fits : length (headerOf c) ≤ 504
-  header-fits = omega (arith, header-length, dialect-small)
+  header-fits = omega (arith, header-length, tail-small)
 
   header-bytes : Bytes (headerOf c)
   unfolding headerOf
   header-bytes = bytes-append (bytesOf 2 nodes) _ (bytes-spelled 2 nodes)
-      (bytes-append (bytesOf 2 (length (c .names))) _ (bytes-spelled 2 (length (c .names))) (fit .dialect-bytes))
+      (bytes-append (bytesOf 2 (length (c .names))) _ (bytes-spelled 2 (length (c .names)))
+      (bytes-append (c .dialect) _ (fit .dialect-bytes) (fit .edition-bytes)))
 
   header-passes : judge 0 (length (headerOf c)) bs ≡ accepted []
   header-passes = rw parts (block-passes 0 (headerOf c) header-fits header-bytes (omega arith) name-part)
 
-  dialect-so : headerAt bs .dialect ≡ length (c .dialect)
-  unfolding headerAt dialectIn
-  dialect-so =
+  used-so : field 2 bs 2 ≡ 4 + (length (c .dialect) + length edition)
+  used-so =
       let p : Passing 0 (length (headerOf c)) bs = passing 0 (length (headerOf c)) bs header-passes in
-      let said : field 2 bs 2 ≡ 4 + length (c .dialect) = sym (field-take 2 bs 512 2 (omega arith)) ∙ p .said
-      ∙ header-length in
-      ⊎-elim
-      (λ (e : length (c .dialect) ≡ 0). rw (said, e) refl)
-      (λ (e : length (c .dialect) ≡ 9). rw (said, e) refl)
-      (fit .dialect)
+      sym (field-take 2 bs 512 2 (omega arith)) ∙ p .said ∙ omega (arith, header-length, tail-length)
+
+  dialect-so : headerAt bs .dialect ≡ length (c .dialect)
+  unfolding headerAt
+  dialect-so = rw used-so (headed-dialect (fit .headed))
+
+  edition-so : headerAt bs .edition ≡ length edition
+  unfolding headerAt
+  edition-so = rw used-so (headed-edition (fit .headed))
 
   abbrev zeros : List ℕ
   zeros = replicate (504 - length (headerOf c)) 0
 
-  header-there : take 504 (drop 4 bs) ≡ bytesOf 2 nodes ++ (bytesOf 2 (length (c .names)) ++ (c .dialect ++ zeros))
+  header-there : take 504 (drop 4 bs) ≡ bytesOf 2 nodes ++ (bytesOf 2 (length (c .names)) ++ (tail ++ zeros))
   unfolding headerOf
   header-there =
       ap (λ (x : List ℕ). take 504 (drop 4 x)) parts
       ∙ content-there 0 (headerOf c) header-fits name-part
-      ∙ append-assoc (bytesOf 2 nodes) (bytesOf 2 (length (c .names)) ++ c .dialect) zeros
-      ∙ ap (λ (x : List ℕ). bytesOf 2 nodes ++ x) (append-assoc (bytesOf 2 (length (c .names))) (c .dialect) zeros)
+      ∙ append-assoc (bytesOf 2 nodes) (bytesOf 2 (length (c .names)) ++ tail) zeros
+      ∙ ap (λ (x : List ℕ). bytesOf 2 nodes ++ x) (append-assoc (bytesOf 2 (length (c .names))) tail zeros)
 
   field-there : (at : ℕ) → at + 2 ≤ 504 → field 2 bs (4 + at)
-      ≡ field 2 (bytesOf 2 nodes ++ (bytesOf 2 (length (c .names)) ++ (c .dialect ++ zeros))) at
+      ≡ field 2 (bytesOf 2 nodes ++ (bytesOf 2 (length (c .names)) ++ (tail ++ zeros))) at
   field-there at h = sym (field-drop 2 bs 4 at) ∙ sym (field-take 2 (drop 4 bs) 504 at h)
       ∙ ap (λ (x : List ℕ). field 2 x at) header-there
 
@@ -244,24 +302,42 @@ module _ (c : Content) (fit : Fits c) (rest : List ℕ) where
   names-so : headerAt bs .names ≡ length (c .names)
   unfolding headerAt
   names-so =
-      let tail : List ℕ = bytesOf 2 (length (c .names)) ++ (c .dialect ++ zeros) in
-      let behind : field 2 (bytesOf 2 nodes ++ tail) (length (bytesOf 2 nodes) + 0) ≡ length (c .names) =
-      field-behind 2 (bytesOf 2 nodes) tail 0
-      ∙ field-bytes 2 (length (c .names)) (c .dialect ++ zeros) (omega (arith, fit .names)) in
+      let more : List ℕ = bytesOf 2 (length (c .names)) ++ (tail ++ zeros) in
+      let behind : field 2 (bytesOf 2 nodes ++ more) (length (bytesOf 2 nodes) + 0) ≡ length (c .names) =
+      field-behind 2 (bytesOf 2 nodes) more 0
+      ∙ field-bytes 2 (length (c .names)) (tail ++ zeros) (omega (arith, fit .names)) in
       field-there 2 (omega arith) ∙ (rw (length-bytes 2 nodes, add-zero 2) at behind)
+
+  -- what stands behind the counts
+  tail-there : take 500 (drop 8 bs) ≡ tail ++ zeros
+  tail-there =
+      let more : List ℕ = bytesOf 2 (length (c .names)) ++ (tail ++ zeros) in
+      let behind : drop 4 (bytesOf 2 nodes ++ more) ≡ tail ++ zeros =
+      sym (drop-drop 2 2 (bytesOf 2 nodes ++ more))
+      ∙ ap (drop 2) (drop-at (bytesOf 2 nodes) more 2 (length-bytes 2 nodes))
+      ∙ drop-at (bytesOf 2 (length (c .names))) (tail ++ zeros) 2 (length-bytes 2 (length (c .names))) in
+      ap (take 500) (sym (drop-drop 4 4 bs)) ∙ sym (drop-take 4 504 (drop 4 bs)) ∙ ap (drop 4) header-there
+      ∙ behind
+
+  split-there : take 500 (drop 8 bs) ≡ c .dialect ++ (edition ++ zeros)
+  split-there = tail-there ∙ append-assoc (c .dialect) edition zeros
 
   dialect-there : take (length (c .dialect)) (drop 8 bs) ≡ c .dialect
   dialect-there =
-      let tail : List ℕ = bytesOf 2 (length (c .names)) ++ (c .dialect ++ zeros) in
-      let behind : drop 4 (bytesOf 2 nodes ++ tail) ≡ c .dialect ++ zeros =
-      sym (drop-drop 2 2 (bytesOf 2 nodes ++ tail))
-      ∙ ap (drop 2) (drop-at (bytesOf 2 nodes) tail 2 (length-bytes 2 nodes))
-      ∙ drop-at (bytesOf 2 (length (c .names))) (c .dialect ++ zeros) 2 (length-bytes 2 (length (c .names))) in
-      let inside : take 500 (drop 8 bs) ≡ c .dialect ++ zeros =
-      ap (take 500) (sym (drop-drop 4 4 bs)) ∙ sym (drop-take 4 504 (drop 4 bs)) ∙ ap (drop 4) header-there
-      ∙ behind in
-      sym (take-take (length (c .dialect)) 500 (drop 8 bs) (omega (arith, dialect-small)))
-      ∙ ap (take (length (c .dialect))) inside ∙ take-at (c .dialect) zeros (length (c .dialect)) refl
+      sym (take-take (length (c .dialect)) 500 (drop 8 bs) (omega (arith, tail-length, tail-small)))
+      ∙ ap (take (length (c .dialect))) split-there
+      ∙ take-at (c .dialect) (edition ++ zeros) (length (c .dialect)) refl
+
+  edition-there : take (length edition) (drop 17 bs) ≡ edition
+  edition-there =
+      let d : ℕ = length (c .dialect) in
+      let e : ℕ = length edition in
+      let inside : take (500 - d) (drop (8 + d) bs) ≡ edition ++ zeros =
+      ap (take (500 - d)) (sym (drop-drop d 8 bs)) ∙ sym (drop-take d 500 (drop 8 bs)) ∙ ap (drop d) split-there
+      ∙ drop-at (c .dialect) (edition ++ zeros) d refl in
+      headed-place (fit .headed) bs
+      ∙ sym (take-take e (500 - d) (drop (8 + d) bs) (omega (arith, tail-length, tail-small)))
+      ∙ ap (take e) inside ∙ take-at edition zeros e refl
 
   names-behind : drop 512 bs ≡ name-part
   names-behind = ap (drop 512) parts ∙ drop-at (blockOf 0 (headerOf c)) name-part 512
@@ -314,7 +390,8 @@ module _ (c : Content) (fit : Fits c) (rest : List ℕ) where
   pub file-passes : frontCheck (fileOf c ++ rest) ≡ accepted []
   unfolding blocksCheck
   file-passes =
-      let used : 4 + headerAt bs .dialect ≡ length (headerOf c) = omega (arith, dialect-so, header-length) in
+      let used : usedOf (headerAt bs) ≡ length (headerOf c) =
+      omega (arith, dialect-so, edition-so, header-length, tail-length) in
       rw (used, header-passes, counts-so, names-pass) nodes-pass
 
   pub file-holds : contentAt (fileOf c ++ rest) ≡ c
@@ -323,6 +400,9 @@ module _ (c : Content) (fit : Fits c) (rest : List ℕ) where
       rw (
         dialect-so,
         dialect-there,
+        edition-so,
+        edition-there,
+        stated-back (c .edition),
         names-so,
         names-behind,
         run-holds 1 (c .names) node-part,

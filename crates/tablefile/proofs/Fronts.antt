@@ -1,25 +1,31 @@
 -- Laws of the file at the front, in the terms of code. Assumes nothing.
 use mathlib.Core.Path.{_≡_, refl, sym, ap, _∙_}
-use mathlib.Core.Bool.{Bool, true, false, _&&_}
-use mathlib.Core.List.{List, []}
-use Prim.Native.Nat.{ℕ, _+_, _*_, _-_, _^_, _≤_, _<_}
+use mathlib.Core.Bool.{Bool, true, false, _&&_, _||_}
+use mathlib.Core.List.{List, [], _∷_, _++_}
+use Prim.Native.Nat.{ℕ, zero, suc, _+_, _*_, _-_, _^_, _≤_, _<_}
 use native.Mathlib.Omega.{arith}
 use lib.ListN.{length, take, drop, length-drop}
+use lib.Seq.{take-add, drop-drop}
 use lib.Dec.{eqb, leb}
 use borrow.Author.Tests.{eq-eqb, ne-eqb, leb-true}
 use Rattle.fields.specs.Choice.{if'}
 use Rattle.fields.specs.Field.{field}
 use Rattle.fields.proofs.Fields.{field-take, tail-part}
 use Rattle.fields.proofs.Basics.{and-left, and-right}
+use Rattle.dialect.specs.Editions.{statedBytes, editionHeld}
 use Rattle.dialect.specs.declared.Dialect.{Dialect}
+use Rattle.dialect.specs.declared.Edition.{Edition}
+use Rattle.dialect.specs.declared.EditionRead.{EditionRead}
+use Rattle.dialect.specs.declared.Stated.{Stated}
+use Rattle.dialect.specs.declared.Stated.the-variants.{Number, Nothing}
 use Rattle.table.specs.Numbers.{blockCounts}
 use Rattle.table.specs.Answer.{Answer, accepted, refused, andThen, refusal}
-use Rattle.table.specs.Check.{given, givenOf}
+use Rattle.table.specs.Check.{ruled, rulesOf}
 use Rattle.table.specs.declared.Refusal.{Refusal}
-use Rattle.table.specs.declared.Given.{Given}
-use Rattle.table.specs.declared.Given.the-variants.{In, Refused as Away}
+use Rattle.table.specs.declared.Ruled.{Ruled}
+use Rattle.table.specs.declared.Ruled.the-variants.{By, Refused as Away}
 use Rattle.table.proofs.Answers.{after-both, never-passed}
-use Rattle.table.proofs.Entering.{away-is, in-is}
+use Rattle.table.proofs.Ruling.{unruled-is, by-is}
 use Rattle.blocks.specs.Block.{demand, judge, judged}
 use Rattle.blocks.specs.Run.{blocksFor, judgeRun}
 use Rattle.blocks.specs.declared.Judged.{Judged}
@@ -27,28 +33,45 @@ use Rattle.blocks.specs.declared.Judged.the-variants.{Passed}
 use Rattle.blocks.specs.declared.Judged.the-variants as judgements
 use Rattle.blocks.proofs.Blocks.{Passing, passing, passing-then}
 use Rattle.blocks.proofs.Runs.{run-long, run-then, content-long}
-use Rattle.tablefile.specs.Reading.{dialectIn, headerAt, contentAt, countsFit, blocksCheck, frontCheck}
-use Rattle.tablefile.specs.Reading.{soundCheck}
+use Rattle.tablefile.specs.Reading.{dialectIn, editionIn, headerAt, usedOf, statedIn, contentAt, countsFit}
+use Rattle.tablefile.specs.Reading.{blocksCheck, frontCheck, soundCheck}
 use Rattle.tablefile.specs.declared.Heading.{Heading}
 use Rattle.tablefile.proofs.Copies.{dialect-long}
 
--- how many dialect bytes block 0 has
-pub dialect-nine : {u : ℕ} → u ≡ 13 → (9 ≡ dialectIn u) × (9 ≤ 9)
+-- how many dialect bytes block 0 has, and how many edition bytes
+pub dialect-nine : (u : ℕ) → (eqb u 13 || eqb u 14) ≡ true → (9 ≡ dialectIn u) × (9 ≤ 9)
 unfolding dialectIn
-dialect-nine {u} e = (rw (eq-eqb u 13 e) refl, omega arith)
+dialect-nine u e = (rw e refl, omega arith)
 
-pub dialect-none : {u : ℕ} → (u ≡ 13 → ⊥) → (0 ≡ dialectIn u) × (0 ≤ 9)
+pub dialect-none : (u : ℕ) → (eqb u 13 || eqb u 14) ≡ false → (0 ≡ dialectIn u) × (0 ≤ 9)
 unfolding dialectIn
-dialect-none {u} e = (rw (ne-eqb u 13 e) refl, omega arith)
+dialect-none u e = (rw e refl, omega arith)
+
+pub edition-one : {u : ℕ} → u ≡ 14 → (1 ≡ editionIn u) × (1 ≤ 1)
+unfolding editionIn
+edition-one {u} e = (rw (eq-eqb u 14 e) refl, omega arith)
+
+pub edition-none : {u : ℕ} → (u ≡ 14 → ⊥) → (0 ≡ editionIn u) × (0 ≤ 1)
+unfolding editionIn
+edition-none {u} e = (rw (ne-eqb u 14 e) refl, omega arith)
 
 -- what block 0 says, in the terms of code
-pub header-is : (bs : List ℕ) {nodes names used d k m : ℕ} → nodes ≡ field 2 bs 4 → names ≡ field 2 bs 6
-    → used ≡ field 2 bs 2 → d ≡ dialectIn used → k ≡ blocksFor names → m ≡ blocksFor (24 * nodes)
+pub header-is : (bs : List ℕ) {nodes names used d e k m : ℕ} → nodes ≡ field 2 bs 4 → names ≡ field 2 bs 6
+    → used ≡ field 2 bs 2 → d ≡ dialectIn used → e ≡ editionIn used → k ≡ blocksFor names
+    → m ≡ blocksFor (24 * nodes)
     → _≡_ {A = Heading}
-    (record { nodes = nodes; names = names; dialect = d; first = 1 + k; taken = 512 * (1 + k + m) }) (headerAt bs)
+    (record {
+      nodes = nodes;
+      names = names;
+      dialect = d;
+      edition = e;
+      first = 1 + k;
+      taken = 512 * (1 + k + m);
+    })
+    (headerAt bs)
 unfolding headerAt
-header-is bs nodes-is names-is used-is d-is k-is m-is =
-    rw (m-is, k-is, d-is, used-is, names-is, nodes-is) refl
+header-is bs nodes-is names-is used-is d-is e-is k-is m-is =
+    rw (m-is, k-is, d-is, e-is, used-is, names-is, nodes-is) refl
 
 -- a part that holds block 0's counts says the same
 pub header-front : (n : ℕ) (bs : List ℕ) → 8 ≤ n → headerAt (take n bs) ≡ headerAt bs
@@ -71,11 +94,54 @@ module _ (bs : List ℕ) where
 
   pub dialect-few : headerAt bs .dialect ≤ 9
   unfolding headerAt dialectIn
-  dialect-few = few (eqb (field 2 bs 2) 13)
+  dialect-few = few (eqb (field 2 bs 2) 13 || eqb (field 2 bs 2) 14)
     where
       few : (b : Bool) → if' b (λ _. 9) (λ _. 0) ≤ 9
       few true = omega arith
       few false = omega arith
+
+  pub edition-few : headerAt bs .edition ≤ 1
+  unfolding headerAt editionIn
+  edition-few = few (eqb (field 2 bs 2) 14)
+    where
+      few : (b : Bool) → if' b (λ _. 1) (λ _. 0) ≤ 1
+      few true = omega arith
+      few false = omega arith
+
+  -- an edition byte stands behind nine dialect bytes
+  edition-behind : take (headerAt bs .edition) (drop (8 + headerAt bs .dialect) bs)
+      ≡ take (headerAt bs .edition) (drop 17 bs)
+  unfolding headerAt editionIn dialectIn
+  edition-behind = go (eqb (field 2 bs 2) 13) (eqb (field 2 bs 2) 14)
+    where
+      go : (a b : Bool)
+          → take (if' b (λ _. 1) (λ _. 0)) (drop (8 + if' (a || b) (λ _. 9) (λ _. 0)) bs)
+          ≡ take (if' b (λ _. 1) (λ _. 0)) (drop 17 bs)
+      go true true = refl
+      go false true = refl
+      go true false = refl
+      go false false = refl
+
+  -- LAW: the edition that is stated is the byte behind them
+  pub stated-is : statedBytes (contentAt bs .edition) ≡ take (headerAt bs .edition) (drop 17 bs)
+  unfolding contentAt
+  stated-is = one (headerAt bs .edition) (drop 17 bs) edition-few
+    where
+      one : (n : ℕ) (l : List ℕ) → n ≤ 1 → statedBytes (statedIn (take n l)) ≡ take n l
+      one zero l h = refl
+      one (suc zero) [] h = refl
+      one (suc zero) (x ∷ l) h = refl
+      one (suc (suc n)) l h = absurd (omega arith)
+
+  dialect-is : contentAt bs .dialect ≡ take (headerAt bs .dialect) (drop 8 bs)
+  unfolding contentAt
+  dialect-is = refl
+
+  -- LAW: what block 0 holds behind its counts is the dialect and the edition
+  pub tail-is : take (headerAt bs .dialect + headerAt bs .edition) (drop 8 bs)
+      ≡ contentAt bs .dialect ++ statedBytes (contentAt bs .edition)
+  tail-is = take-add (headerAt bs .dialect) (headerAt bs .edition) (drop 8 bs)
+      ∙ rw (drop-drop (headerAt bs .dialect) 8 bs, edition-behind, stated-is, dialect-is) refl
 
 -- counts that fit
 pub counts-small : (nodes names : ℕ) → countsFit nodes names ≡ true → (1 ≤ nodes) × (nodes ≤ 2100) × (names ≤ 8064)
@@ -87,18 +153,18 @@ counts-small nodes names e =
       leb-true names 8064 (and-right (leb nodes 2100) (leb names 8064) rest),
     )
 
-pub dialect-small : (bs : List ℕ) {h : Heading} → h ≡ headerAt bs → h .dialect ≤ 9
-dialect-small bs h-is = rw h-is (dialect-few bs)
+pub used-small : (bs : List ℕ) {h : Heading} → h ≡ headerAt bs → usedOf h ≤ 14
+used-small bs h-is = rw h-is (omega (arith, dialect-few bs, edition-few bs))
 
 -- the blocks of the file at the front, step by step; h is what block 0 says
-module _ (bs : List ℕ) (h : Heading) (z : Judged) (z-is : judged z ≡ judge 0 (4 + h .dialect) bs) where
+module _ (bs : List ℕ) (h : Heading) (z : Judged) (z-is : judged z ≡ judge 0 (usedOf h) bs) where
   pub front-zero : {n : ℕ} → z ≡ judgements.Refused n → refused n [] ≡ blocksCheck h bs
   unfolding blocksCheck
   front-zero e = rw (← z-is, e) refl
 
   module _ (z-good : z ≡ Passed) where
     pub zero-long : 512 ≤ length bs
-    zero-long = passing 0 (4 + h .dialect) bs (sym (rw z-good at z-is)) .long
+    zero-long = passing 0 (usedOf h) bs (sym (rw z-good at z-is)) .long
 
     module _ {f : Bool} (f-is : f ≡ countsFit (h .nodes) (h .names)) where
       pub front-counts : f ≡ false → refused blockCounts [] ≡ blocksCheck h bs
@@ -152,7 +218,7 @@ module _ (bs : List ℕ) {h : Heading} (h-is : h ≡ headerAt bs) {f : Bool}
 
 -- what the blocks of a file say once they pass
 pub record Fronted (bs : List ℕ) : Type 0 where
-  pub header : Passing 0 (4 + headerAt bs .dialect) bs
+  pub header : Passing 0 (usedOf (headerAt bs)) bs
   pub counts : (1 ≤ headerAt bs .nodes) × (headerAt bs .nodes ≤ 2100) × (headerAt bs .names ≤ 8064)
   pub names : judgeRun 1 (headerAt bs .names) (drop 512 bs) ≡ accepted []
   pub nodes : judgeRun (headerAt bs .first) (24 * headerAt bs .nodes) (drop (512 * headerAt bs .first) bs) ≡ accepted []
@@ -174,8 +240,8 @@ module _ (bs : List ℕ) where
       let names : Unit {0} → Answer = λ _. andThen (judgeRun 1 (headerAt bs .names) (drop 512 bs)) nodes in
       let fit : Bool = countsFit (headerAt bs .nodes) (headerAt bs .names) in
       let counts : Unit {0} → Answer = λ _. andThen (demand fit blockCounts) names in
-      let one = passing-then 0 (4 + headerAt bs .dialect) bs (λ _. andThen (counts tt) next)
-      (sym (after-both (judge 0 (4 + headerAt bs .dialect) bs) counts next) ∙ e) in
+      let one = passing-then 0 (usedOf (headerAt bs)) bs (λ _. andThen (counts tt) next)
+      (sym (after-both (judge 0 (usedOf (headerAt bs)) bs) counts next) ∙ e) in
       let two = demand-then fit blockCounts (λ _. andThen (names tt) next)
       (sym (after-both (demand fit blockCounts) names next) ∙ one .1) in
       let three = run-then 1 (headerAt bs .names) (drop 512 bs) (λ _. andThen (nodes tt) next)
@@ -222,20 +288,24 @@ module _ (bs : List ℕ) where
     unfolding contentAt
     dialect-length = dialect-long bs (headerAt bs .dialect) (f .header .long) (dialect-few bs)
 
--- 1 to 5, of the parts as code cuts them
-module _ (t : List ℕ) (a : ℕ) (ns : List ℕ) (b : ℕ) (ds : List ℕ) (d : ℕ) (g : Given)
-    (g-is : given g ≡ givenOf (take (a - 0) t) (take (b - 0) ns) (take (d - 0) ds)) where
-  cut : given g ≡ givenOf (take a t) (take b ns) (take d ds)
+-- 1 to 5, of the parts as code cuts them: x is what `edition_held` read, and g what `enter_rules` answered
+module _ (t : List ℕ) (a : ℕ) (ns : List ℕ) (b : ℕ) (ds : List ℕ) (d : ℕ) (edition : Stated) {x : EditionRead}
+    (x-is : x ≡ editionHeld (take (d - 0) ds) (statedBytes edition)) (g : Ruled)
+    (g-is : ruled g ≡ rulesOf (take (a - 0) t) (take (b - 0) ns) (take (d - 0) ds) x) where
+  abbrev held : EditionRead
+  held = editionHeld (take d ds) (statedBytes edition)
+
+  cut : ruled g ≡ rulesOf (take a t) (take b ns) (take d ds) held
   cut =
       let p : a - 0 ≡ a = omega arith in
       let q : b - 0 ≡ b = omega arith in
       let r : d - 0 ≡ d = omega arith in
-      rw (p, q, r) at g-is
+      rw (x-is, p, q, r) at g-is
 
-  pub sound-refused : {why : Refusal} → g ≡ Away why
-      → refusal why ≡ soundCheck (record { table = take a t; names = take b ns; dialect = take d ds })
-  sound-refused e = rw (away-is (take a t) (take b ns) (take d ds) cut e) refl
+  pub sound-refused : {why : Refusal} → g ≡ Away why → refusal why
+      ≡ soundCheck (record { table = take a t; names = take b ns; dialect = take d ds; edition = edition })
+  sound-refused e = rw (unruled-is (take a t) (take b ns) (take d ds) held cut e) refl
 
-  pub sound-passed : {x : Dialect} → g ≡ In x
-      → accepted [] ≡ soundCheck (record { table = take a t; names = take b ns; dialect = take d ds })
-  sound-passed e = rw (in-is (take a t) (take b ns) (take d ds) cut e) refl
+  pub sound-passed : {f : Dialect} {n : Edition} → g ≡ By f n → accepted []
+      ≡ soundCheck (record { table = take a t; names = take b ns; dialect = take d ds; edition = edition })
+  sound-passed e = rw (by-is (take a t) (take b ns) (take d ds) held cut e) refl

@@ -6,17 +6,19 @@
 -- `into-table-done`, `into-names-done`). Assumes nothing.
 use mathlib.Core.Path.{_≡_, refl, sym, ap, _∙_}
 use mathlib.Core.Bool.{Bool, true, false, _&&_}
-use mathlib.Core.List.{List, [], _++_}
+use mathlib.Core.List.{List, [], _∷_, _++_}
 use Prim.Native.Nat.{ℕ, _+_, _*_, _-_, _^_, _<_, _≤_}
 use native.Mathlib.Omega.{arith}
-use lib.ListN.{length, take, drop, replicate, length-append, length-take, length-drop, length-replicate}
+use lib.ListN.{length, getD, take, drop, replicate, length-append, length-take, length-drop, length-replicate}
 use lib.ListN.{drop-of-length-le}
-use lib.Seq.{take-all, take-at}
+use lib.Seq.{take-all, take-at, drop-cons, take-nil}
 use lib.Dec.{leb}
 use borrow.Author.Tests.{le-leb, lt-leb, leb-true}
 use Rattle.fields.specs.Field.{field}
 use Rattle.fields.proofs.Basics.{clash, and-left, and-right}
 use Rattle.fields.proofs.Fields.{tail-part}
+use Rattle.dialect.specs.declared.Stated.{Stated}
+use Rattle.dialect.specs.declared.Stated.the-variants.{Number, Nothing}
 use Rattle.table.specs.Numbers.{shortBuffer, bytesLeftOver}
 use Rattle.table.specs.Answer.{Answer, accepted, refused, andThen, isRefused}
 use Rattle.table.proofs.Answers.{after-both, passed-both, test-passed}
@@ -25,8 +27,8 @@ use Rattle.blocks.specs.Run.{blocksFor, contentOf}
 use Rattle.blocks.specs.declared.Judged.{Judged}
 use Rattle.blocks.specs.declared.Judged.the-variants.{Passed}
 use Rattle.blocks.specs.declared.Judged.the-variants as judgements
-use Rattle.tablefile.specs.Reading.{dialectIn, headerAt, contentAt, blocksCheck, frontCheck, soundCheck}
-use Rattle.tablefile.specs.Reading.{readCheck}
+use Rattle.tablefile.specs.Reading.{dialectIn, editionIn, headerAt, statedIn, contentAt, blocksCheck}
+use Rattle.tablefile.specs.Reading.{frontCheck, soundCheck, readCheck}
 use Rattle.tablefile.specs.Loading.{verdict}
 use Rattle.tablefile.specs.Lending.{fileCheck, intoCheck, handed, Holds}
 use Rattle.tablefile.specs.declared.Heading.{Heading}
@@ -59,6 +61,27 @@ module _ (bs : List ℕ) where
     pub dialect-there : take (len - 0) (take (length bs - 8) (drop 8 bs)) ≡ contentAt bs .dialect
     unfolding contentAt
     dialect-there = let e : len - 0 ≡ len = omega arith in rw (tail-part 8 bs, ← so-many, e) refl
+
+-- the edition byte, as code reads it
+module _ (bs : List ℕ) where
+  pub edition-away : length bs < 18 → Nothing ≡ contentAt bs .edition
+  unfolding contentAt
+  edition-away h = rw (drop-of-length-le bs {i = 17} (omega arith), take-nil {A = ℕ} (headerAt bs .edition)) refl
+
+  module _ {used n : ℕ} (used-is : used ≡ field 2 bs 2) (n-is : (n ≡ editionIn used) × (n ≤ 1)) where
+    so-many-editions : headerAt bs .edition ≡ n
+    unfolding headerAt
+    so-many-editions = rw (n-is .0, used-is) refl
+
+    pub edition-absent : n ≡ 0 → Nothing ≡ contentAt bs .edition
+    unfolding contentAt
+    edition-absent e = rw (so-many-editions, e) refl
+
+    pub edition-there : (n ≡ 0 → ⊥) → 18 ≤ length bs → Number (getD bs 17 0) ≡ contentAt bs .edition
+    unfolding contentAt
+    edition-there e h =
+        let one : headerAt bs .edition ≡ 1 = omega (arith, so-many-editions, n-is .1) in
+        rw (one, drop-cons bs 17 0 (omega arith)) refl
 
 -- an answer y that is x, and whether it is a refusal
 module _ {x y : Answer} (y-is : y ≡ x) {q : Bool} (q-is : q ≡ isRefused y) where
@@ -315,17 +338,19 @@ module _ {bs wt wn : List ℕ} (holds : Holds bs wt wn) {h : Heading} (h-is : h 
   into-names-within = omega (arith, length-take (h .names) wn, ap length its-names, ns-long bs (holds .passed) h-is)
 
   -- s is what 1 to 5 say of them, j the same with 7 for buffers of a and b bytes, and q whether that is a refusal
-  module _ {d : List ℕ} (d-is : d ≡ contentAt bs .dialect) {s : Answer}
+  module _ {d : List ℕ} (d-is : d ≡ contentAt bs .dialect) {edition : Stated}
+      (edition-is : edition ≡ contentAt bs .edition) {s : Answer}
       (s-is : s ≡ soundCheck (record {
         table = take (24 * h .nodes) wt;
         names = take (h .names) wn;
         dialect = take (length d) d;
+        edition = edition;
       })) (a b : ℕ) {j : Answer}
       (j-is : j ≡ andThen s (λ _. demand (leb (24 * h .nodes) a && leb (h .names) b) shortBuffer)) where
     sound-so : s ≡ soundCheck (contentAt bs)
     sound-so =
         let dialect : take (length d) d ≡ contentAt bs .dialect = take-all (length d) d (omega arith) ∙ d-is in
-        rw (its-table, its-names, dialect) at s-is
+        rw (its-table, its-names, dialect, edition-is) at s-is
 
     pub into-so : j ≡ intoCheck bs a b
     into-so = j-is ∙ rw (sound-so, h-is) (sym (into-steps bs a b ∙ rw (holds .passed) refl))

@@ -6,6 +6,7 @@ use native.Mathlib.Omega.{arith}
 use lib.ListN.{length, take, drop, replicate, length-append}
 use lib.Seq.{take-append-seam}
 use borrow.Author.Tests.{le-leb, lt-leb}
+use Rattle.dialect.specs.declared.Stated.{Stated}
 use Rattle.table.specs.Numbers.{bytesLeftOver}
 use Rattle.table.specs.Answer.{Answer, accepted, refused, refusal}
 use Rattle.table.specs.declared.Refusal.{Refusal}
@@ -41,8 +42,9 @@ module _ (bs : List ℕ) {h : Heading} (h-is : h ≡ headerAt bs) (passed : fron
   pub load-dialect : (512 ≤ length bs) × (h .dialect ≤ 9)
   load-dialect = (f .header .long, rw h-is (dialect-few bs))
 
-  pub load-is : {ts ns ds : List ℕ} → ts ≡ laid 50400 (contentOf (24 * h .nodes) (drop (512 * h .first) bs))
+  pub load-is : {ts ns ds : List ℕ} {edition : Stated} → ts ≡ laid 50400 (contentOf (24 * h .nodes) (drop (512 * h .first) bs))
       → ns ≡ laid 8064 (contentOf (h .names) (drop 512 bs)) → ds ≡ laid 9 (take (h .dialect) (drop 8 bs))
+      → edition ≡ contentAt bs .edition
       → _≡_ {A = Loaded}
       (record {
         verdict = Accepted;
@@ -53,11 +55,12 @@ module _ (bs : List ℕ) {h : Heading} (h-is : h ≡ headerAt bs) (passed : fron
         «names_len» = h .names;
         dialect = ds;
         «dialect_len» = h .dialect;
+        edition = edition;
       })
       (loadedOf Accepted (contentAt bs) (headerAt bs .taken))
   unfolding loadedOf contentAt
-  load-is ts-is ns-is ds-is =
-      rw (ts-is, ns-is, ds-is, h-is, table-length bs f, names-length bs f, dialect-length bs f) refl
+  load-is ts-is ns-is ds-is edition-is =
+      rw (ts-is, ns-is, ds-is, edition-is, h-is, table-length bs f, names-length bs f, dialect-length bs f) refl
 
 -- what an answer holds
 module _ (c : Content) (taken : ℕ) where
@@ -121,6 +124,7 @@ module _ (bs : List ℕ) {h : Heading} (h-is : h ≡ headerAt bs) (j : Judged) (
           table = take (l .«table_len») (l .table);
           names = take (l .«names_len») (l .names);
           dialect = take (l .«dialect_len») (l .dialect);
+          edition = l .edition;
         })) where
       sound-is : soundCheck (contentAt bs) ≡ verdict s
       unfolding held

@@ -5,9 +5,10 @@ use mathlib.Core.List.{List}
 use Prim.Native.Nat.{ℕ}
 use lib.ListN.{length}
 use Rattle.fields.proofs.Coincide.{coincide, coincide-by}
+use Rattle.dialect.specs.declared.Stated.{Stated}
 use Rattle.table.specs.Answer.{Answer}
 use Rattle.tablefile.specs.File.{Content}
-use Rattle.tablefile.specs.Reading.{headerAt, contentAt, countsFit, readCheck}
+use Rattle.tablefile.specs.Reading.{headerAt, contentAt, numberHeld, countsFit, readCheck}
 use Rattle.tablefile.specs.Loading.{verdict, loadedOf}
 use Rattle.tablefile.specs.Lending.{fileCheck, intoCheck, handed, copied}
 use Rattle.tablefile.specs.declared.Verdict.{Verdict}
@@ -57,6 +58,15 @@ read-into-one file table names r-is t-is n-is s-is t-are n-are =
 pub dialect-bytes-one : (file : List ℕ) {r s : List ℕ} → r ≡ contentAt file .dialect → s ≡ contentAt file .dialect
     → r ≡ s
 dialect-bytes-one file = coincide
+
+-- of `stated_edition`, the file as lent
+pub stated-edition-one : (file : List ℕ) {r s : Stated} → r ≡ contentAt file .edition → s ≡ contentAt file .edition
+    → r ≡ s
+stated-edition-one file = coincide
+
+-- of `edition_number`
+pub edition-number-one : (stated : Stated) {r s : ℕ} → r ≡ numberHeld stated → s ≡ numberHeld stated → r ≡ s
+edition-number-one stated = coincide
 
 -- of `copy_content`, the bytes and the buffer as lent
 pub copy-content-one : (bytes : List ℕ) (first len : ℕ) (out : List ℕ) {out-r out-s : List ℕ}

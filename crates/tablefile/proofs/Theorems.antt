@@ -1,16 +1,27 @@
 -- The table file, as document 01 asks for it, over the reader's promises:
 -- an accepted file is the file of its answer; the file of a sound table is read as that table; and
--- any one changed byte in a block of an accepted file is refused with 72. Assumes nothing.
+-- any one changed byte in a block of an accepted file is refused with 72. A header has 4, 13 or 14 used bytes; files of
+-- different contents differ, so that one with 13 used bytes and one with 14 and edition 1 do. Assumes nothing.
 use mathlib.Core.Path.{_≡_, refl, sym, ap, _∙_}
 use mathlib.Core.List.{List, [], _++_}
+use mathlib.Core.Logic.{⊎-elim}
 use Prim.Native.Nat.{ℕ, _<_}
 use lib.ListN.{length, getD, take, set}
+use Rattle.dialect.specs.Editions.{statedBytes, editionHeld}
+use Rattle.dialect.specs.declared.Edition.{Edition}
+use Rattle.dialect.specs.declared.Edition.the-variants.{One}
+use Rattle.dialect.specs.declared.EditionRead.the-variants.{Known}
+use Rattle.dialect.specs.declared.Stated.{Stated}
+use Rattle.dialect.specs.declared.Stated.the-variants.{Number, Nothing}
+use Rattle.dialect.proofs.Editions.{editionNumber, held-none}
+use Rattle.fields.proofs.Basics.{never}
 use Rattle.table.specs.Numbers.{blockCheck}
 use Rattle.table.specs.Answer.{accepted, refused}
 use Rattle.table.specs.declared.Refusal.the-variants.{Bare}
 use Rattle.fields.proofs.Spelling.{Bytes}
 use Rattle.tablefile.specs.File.{Content, fileOf}
-use Rattle.tablefile.specs.Reading.{headerAt, contentAt, frontCheck, soundCheck, readCheck}
+use Rattle.tablefile.specs.Reading.{headerAt, contentAt, editionRead, numberHeld, frontCheck, soundCheck}
+use Rattle.tablefile.specs.Reading.{readCheck}
 use Rattle.tablefile.specs.Loading.{verdict, loadedOf, none, held}
 use Rattle.tablefile.specs.declared.Verdict.{Verdict}
 use Rattle.tablefile.specs.declared.Verdict.the-variants.{Accepted, Refused}
@@ -19,7 +30,8 @@ use Rattle.tablefile.proofs.Fronts.{fronted}
 use Rattle.tablefile.proofs.Files.{Fits, front-is-file, front-changed, file-passes, file-holds, file-taken}
 use Rattle.tablefile.proofs.Loads.{held-is}
 use Rattle.tablefile.proofs.Accepted.{verdict-injective, read-is-sound, read-is-file, read-changed}
-use Rattle.tablefile.proofs.Accepted.{SoundContent, back-holds, back-taken, back-accepted}
+use Rattle.tablefile.proofs.Accepted.{held-cases, sound-known, SoundContent, back-holds, back-taken}
+use Rattle.tablefile.proofs.Accepted.{back-accepted}
 
 -- the promise of `read`
 abbrev pub Read : List ℕ → Loaded → Type 0
@@ -50,6 +62,37 @@ pub file-read-back : (c : Content) (r : Loaded) → SoundContent c → Read (fil
 file-read-back c r s p =
     let good : r .verdict ≡ Accepted = verdict-injective (r .verdict) Accepted (p .0 ∙ back-accepted c s) in
     p .1 ∙ rw (good, back-holds c s, back-taken c s) refl
+
+-- the number that holds is that of the edition that holds
+number-held : (ds : List ℕ) (s : Stated) {e : Edition} → editionHeld ds (statedBytes s) ≡ Known e
+    → numberHeld s ≡ editionNumber e
+number-held ds Nothing {e} h =
+    let known : Known One ≡ Known e = sym (held-none ds) ∙ h in
+    let same : One ≡ e = cc in
+    rw (← same) refl
+number-held ds (Number n) {e} h = ⊎-elim
+    (λ (none : Number n ≡ Nothing). never (cc))
+    (λ (told : (length ds ≡ 0 → ⊥) × (Number n ≡ Number (editionNumber e))). ap numberHeld (told .1))
+    (held-cases ds (Number n) h)
+
+-- an edition holds in a content that passes 1 to 5, and its number, 1 or 2, is the number that holds
+pub sound-edition : (c : Content) → soundCheck c ≡ accepted []
+    → (e : Edition) × (editionRead c ≡ Known e) × (numberHeld (c .edition) ≡ editionNumber e)
+sound-edition c sound =
+    let known = sound-known c sound in
+    (known .edition, known .held, number-held (c .dialect) (c .edition) (known .held))
+
+-- files of different contents differ
+pub file-injective : (c d : Content) → SoundContent c → SoundContent d → fileOf c ≡ fileOf d → c ≡ d
+file-injective c d s t e = sym (back-holds c s) ∙ ap contentAt e ∙ back-holds d t
+
+-- so the file that states edition 1 is not the file that states none
+pub first-is-seen : (c d : Content) → SoundContent c → SoundContent d → c .edition ≡ Nothing → d .edition ≡ Number 1
+    → fileOf c ≡ fileOf d → ⊥
+first-is-seen c d s t none first e =
+    let same : c .edition ≡ d .edition = ap (λ (x : Content). x .edition) (file-injective c d s t e) in
+    let no : Nothing ≡ Number 1 = sym none ∙ same ∙ first in
+    never (cc)
 
 -- any one byte of an accepted file changed to any other value is refused with 72, and the answer is all zero
 pub changed-byte : (file : List ℕ) (r : Loaded) (i v : ℕ) (s : Loaded) → Read file r → r .verdict ≡ Accepted

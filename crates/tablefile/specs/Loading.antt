@@ -1,8 +1,9 @@
--- What the reader answers by value: table, names and dialect with their lengths, zero past them, and all zero when
--- refused. These are definitions.
+-- What the reader answers by value: table, names and dialect with their lengths, zero past them, and the edition; all
+-- zero and no edition when refused. These are definitions.
 use mathlib.Core.List.{List, [], _++_}
 use Prim.Native.Nat.{ℕ, _-_}
 use lib.ListN.{length, take, replicate}
+use Rattle.dialect.specs.declared.Stated.the-variants.{Nothing}
 use Rattle.table.specs.Answer.{Answer, accepted, refusal}
 use Rattle.table.specs.Check.{mostBytes, mostNames}
 use Rattle.tablefile.specs.File.{Content}
@@ -30,6 +31,7 @@ loadedOf Accepted c taken = record {
   «names_len» = length (c .names);
   dialect = laid 9 (c .dialect);
   «dialect_len» = length (c .dialect);
+  edition = c .edition;
 }
 loadedOf (Refused r) c taken = record {
   verdict = Refused r;
@@ -40,11 +42,12 @@ loadedOf (Refused r) c taken = record {
   «names_len» = 0;
   dialect = replicate 9 0;
   «dialect_len» = 0;
+  edition = Nothing;
 }
 
 -- nothing held
 abbrev pub none : Content
-none = record { table = []; names = []; dialect = [] }
+none = record { table = []; names = []; dialect = []; edition = Nothing }
 
 -- what an answer holds: the bytes within its lengths
 unfoldable pub held : Loaded → Content
@@ -52,4 +55,5 @@ held r = record {
   table = take (r .«table_len») (r .table);
   names = take (r .«names_len») (r .names);
   dialect = take (r .«dialect_len») (r .dialect);
+  edition = r .edition;
 }

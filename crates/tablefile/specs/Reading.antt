@@ -1,26 +1,34 @@
 -- Reading: the one file at the front of some bytes, and a file that is all there is. These are definitions.
-use mathlib.Core.Bool.{Bool, _&&_}
-use mathlib.Core.List.{List}
+use mathlib.Core.Bool.{Bool, _&&_, _||_}
+use mathlib.Core.List.{List, [], _∷_}
 use Prim.Native.Nat.{ℕ, _+_, _*_}
 use lib.ListN.{length, take, drop}
 use lib.Dec.{eqb, leb}
+use Rattle.dialect.specs.Editions.{statedBytes, editionHeld}
+use Rattle.dialect.specs.declared.EditionRead.{EditionRead}
+use Rattle.dialect.specs.declared.Stated.{Stated}
+use Rattle.dialect.specs.declared.Stated.the-variants.{Number, Nothing}
 use Rattle.forest.specs.Forest.{recordBytes}
 use Rattle.fields.specs.Choice.{if'}
 use Rattle.fields.specs.Field.{field}
 use Rattle.table.specs.Numbers.{blockCounts, bytesLeftOver}
 use Rattle.table.specs.Answer.{Answer, andThen}
-use Rattle.table.specs.Check.{mostNodes, mostNames, givenCheck}
+use Rattle.table.specs.Check.{mostNodes, mostNames, rulesCheck}
 use Rattle.blocks.specs.Block.{blockBytes, demand, judge}
 use Rattle.blocks.specs.Run.{blocksFor, judgeRun, contentOf}
 use Rattle.tablefile.specs.File.{Content}
 use Rattle.tablefile.specs.declared.Heading.{Heading}
 
--- how many dialect bytes block 0 has: nine if it uses 13, else none, so that any used bytes but 4 and 13 are 73
+-- how many dialect bytes block 0 has: nine if it uses 13 or 14, else none
 unfoldable pub dialectIn : ℕ → ℕ
-dialectIn used = if' (eqb used 13) (λ _. 9) (λ _. 0)
+dialectIn used = if' (eqb used 13 || eqb used 14) (λ _. 9) (λ _. 0)
 
--- what block 0 says: node count, name byte count, dialect bytes; and where that puts the blocks: the names from block 1
--- on, then the nodes
+-- how many edition bytes: one if it uses 14, else none, so that any used bytes but 4, 13 and 14 are 73
+unfoldable pub editionIn : ℕ → ℕ
+editionIn used = if' (eqb used 14) (λ _. 1) (λ _. 0)
+
+-- what block 0 says: node count, name byte count, dialect bytes, edition bytes; and where that puts the blocks: the
+-- names from block 1 on, then the nodes
 unfoldable pub headerAt : List ℕ → Heading
 headerAt bs =
     let nodes = field 2 bs 4 in
@@ -29,11 +37,21 @@ headerAt bs =
       nodes = nodes;
       names = names;
       dialect = dialectIn (field 2 bs 2);
+      edition = editionIn (field 2 bs 2);
       first = 1 + blocksFor names;
       taken = blockBytes * (1 + blocksFor names + blocksFor (recordBytes * nodes));
     }
 
--- what it holds
+-- the used bytes of block 0 that fit what it says: the two counts, the dialect and the edition
+abbrev pub usedOf : Heading → ℕ
+usedOf h = 4 + h .dialect + h .edition
+
+-- the edition that such bytes state
+abbrev pub statedIn : List ℕ → Stated
+statedIn [] = Nothing
+statedIn (n ∷ ns) = Number n
+
+-- what it holds: the dialect stands behind the counts, and the edition behind nine dialect bytes
 unfoldable pub contentAt : List ℕ → Content
 contentAt bs =
     let h = headerAt bs in
@@ -41,6 +59,7 @@ contentAt bs =
       table = contentOf (recordBytes * h .nodes) (drop (blockBytes * h .first) bs);
       names = contentOf (h .names) (drop blockBytes bs);
       dialect = take (h .dialect) (drop 8 bs);
+      edition = statedIn (take (h .edition) (drop 17 bs));
     }
 
 -- 1 to 2,100 nodes and at most 8,064 name bytes
@@ -50,7 +69,7 @@ countsFit nodes names = leb 1 nodes && (leb nodes mostNodes && leb names mostNam
 -- the file at the front: block 0, then 74 for its counts, then the blocks of the names, then those of the nodes
 unfoldable pub blocksCheck : Heading → List ℕ → Answer
 blocksCheck h bs =
-    andThen (judge 0 (4 + h .dialect) bs) (λ _.
+    andThen (judge 0 (usedOf h) bs) (λ _.
     andThen (demand (countsFit (h .nodes) (h .names)) blockCounts) (λ _.
     andThen (judgeRun 1 (h .names) (drop blockBytes bs)) (λ _.
     judgeRun (h .first) (recordBytes * h .nodes) (drop (blockBytes * h .first) bs))))
@@ -58,9 +77,18 @@ blocksCheck h bs =
 abbrev pub frontCheck : List ℕ → Answer
 frontCheck bs = blocksCheck (headerAt bs) bs
 
+-- the edition that holds: the first where none is stated
+abbrev pub editionRead : Content → EditionRead
+editionRead c = editionHeld (c .dialect) (statedBytes (c .edition))
+
+-- its number
+abbrev pub numberHeld : Stated → ℕ
+numberHeld (Number n) = n
+numberHeld Nothing = 1
+
 -- 1 to 5, of what a file holds
 abbrev pub soundCheck : Content → Answer
-soundCheck c = givenCheck (c .table) (c .names) (c .dialect)
+soundCheck c = rulesCheck (c .table) (c .names) (c .dialect) (editionRead c)
 
 -- the whole file: the file at the front, then 75 for bytes left over, then 1 to 5
 unfoldable pub readCheck : List ℕ → Answer

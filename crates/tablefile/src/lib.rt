@@ -1,12 +1,13 @@
 // The reader of table files: the one file at the front of some bytes, or a file that is all there is.
 use blocks::BLOCK_BYTES;
 use blocks::Judged;
+use dialect::Stated;
 use forest::RECORD;
-use table::Given;
 use table::MOST_BYTES;
 use table::MOST_NAMES;
 use table::MOST_NODES;
 use table::Refusal;
+use table::Ruled;
 use table::numbers;
 ghost use mathlib.Core.Path.{_≡_};
 ghost use mathlib.Core.List.{[], _++_};
@@ -19,8 +20,8 @@ ghost use Rattle.table.specs.Answer.{accepted, andThen, isRefused};
 ghost use Rattle.table.specs.Check.{mostBytes, mostNames};
 ghost use Rattle.blocks.specs.Block.{blockBytes, demand, judged};
 ghost use Rattle.blocks.specs.Run.{blocksFor, contentOf};
-ghost use Rattle.tablefile.specs.Reading.{dialectIn, headerAt, contentAt, countsFit, blocksCheck, frontCheck};
-ghost use Rattle.tablefile.specs.Reading.{soundCheck, readCheck};
+ghost use Rattle.tablefile.specs.Reading.{dialectIn, editionIn, headerAt, contentAt, numberHeld, countsFit};
+ghost use Rattle.tablefile.specs.Reading.{blocksCheck, frontCheck, soundCheck, readCheck};
 ghost use Rattle.tablefile.specs.Loading.{verdict, laid, loadedOf, none};
 ghost use Rattle.tablefile.specs.Lending.{fileCheck, intoCheck, handed, copied, Holds};
 ghost use Rattle.tablefile.specs.declared.Verdict.the-variants.{Accepted, Refused};
@@ -34,8 +35,8 @@ pub enum Verdict {
     Refused(Refusal),
 }
 
-// What a file holds, by value, and how many bytes it takes. Where it has no dialect, dialect_len is 0. All is zero when
-// refused, and past the lengths.
+// What a file holds, by value, and how many bytes it takes. Where it has no dialect, dialect_len is 0. When refused, and
+// past the lengths, all is zero, and there is no edition.
 pub struct Loaded {
     pub verdict: Verdict,
     pub taken: usize,
@@ -45,14 +46,16 @@ pub struct Loaded {
     pub names_len: usize,
     pub dialect: [u8; 9],
     pub dialect_len: usize,
+    pub edition: Stated,
 }
 
-// What block 0 says of a file, and where that puts its blocks: how many nodes, name bytes and dialect bytes there are,
-// the number of the first node block, and how many bytes the file takes.
+// What block 0 says of a file, and where that puts its blocks: how many nodes, name bytes, dialect bytes and edition
+// bytes there are, the number of the first node block, and how many bytes the file takes.
 pub struct Heading {
     pub nodes: usize,
     pub names: usize,
     pub dialect: usize,
+    pub edition: usize,
     pub first: usize,
     pub taken: usize,
 }
@@ -64,12 +67,14 @@ pub fn header(bytes: &[u8]) -> Heading
 {
     let nodes = fields::half(bytes, 4) as usize;
     let names = fields::half(bytes, 6) as usize;
+    let used = fields::half(bytes, 2);
     let first = 1 + blocks::blocks_for(names);
     let last = blocks::blocks_for(RECORD * nodes);
     Heading {
         nodes: nodes,
         names: names,
-        dialect: dialect_in(fields::half(bytes, 2)),
+        dialect: dialect_in(used),
+        edition: edition_in(used),
         first: first,
         taken: BLOCK_BYTES * (first + last),
     }
@@ -92,6 +97,7 @@ pub fn read(file: &[u8]) -> Loaded
     let table = l.table;
     let names = l.names;
     let dialect = l.dialect;
+    let edition = l.edition;
     let sound = check(
         &table,
         l.table_len,
@@ -99,6 +105,7 @@ pub fn read(file: &[u8]) -> Loaded
         l.names_len,
         &dialect,
         l.dialect_len,
+        edition,
     );
     if let Verdict::Refused(r) = sound {
         return refused(r);
@@ -179,6 +186,29 @@ pub fn dialect_bytes(file: &[u8]) -> &[u8]
     &rest[0..len]
 }
 
+// The edition that a file states, were its first bytes its block 0: the byte behind the dialect bytes, or nothing.
+pub fn stated_edition(file: &[u8]) -> Stated
+    ensures { λ r. ⌜ r ≡ contentAt (now (file .entry)) .edition ⌝ }
+{
+    if file.len() < 18 {
+        return Stated::Nothing;
+    }
+    if edition_in(fields::half(file, 2)) == 0 {
+        return Stated::Nothing;
+    }
+    Stated::Number(file[17] as u32)
+}
+
+// The number of the edition that holds in a file: the one that it states, or 1. In an accepted file it is 1 or 2.
+pub fn edition_number(stated: Stated) -> u32
+    ensures { λ r. ⌜ r ≡ numberHeld stated ⌝ }
+{
+    match stated {
+        Stated::Number(number) => number,
+        Stated::Nothing => 1,
+    }
+}
+
 // 70 to 75: the blocks of the file at the front, then bytes left over.
 fn judge_file(file: &[u8], h: Heading) -> Verdict
     requires { ⌜ h ≡ headerAt (now file) ⌝ }
@@ -209,7 +239,8 @@ fn hand_over(file: &[u8], t: &[u8], n: &[u8], table: &mut [u8], names: &mut [u8]
     let h = header(file);
     let len = RECORD * h.nodes;
     let dialect = dialect_bytes(file);
-    let sound = check(t, len, n, h.names, dialect, dialect.len());
+    let edition = stated_edition(file);
+    let sound = check(t, len, n, h.names, dialect, dialect.len(), edition);
     let answer = judge_room(sound, len, table.len(), h.names, names.len());
     if is_refused(answer) {
         return answer;
@@ -247,7 +278,7 @@ fn judge_front(bytes: &[u8], h: Heading) -> Judged
     requires { ⌜ h ≡ headerAt (now bytes) ⌝ }
     ensures { λ r. ⌜ judged r ≡ blocksCheck h (now (bytes .entry)) ⌝ }
 {
-    let zero = blocks::judge(bytes, 0, 4 + h.dialect);
+    let zero = blocks::judge(bytes, 0, 4 + h.dialect + h.edition);
     if let Judged::Refused(n) = zero {
         return Judged::Refused(n);
     }
@@ -277,23 +308,37 @@ fn load(bytes: &[u8], h: Heading) -> Loaded
         names_len: h.names,
         dialect: dialect_of(bytes, h.dialect),
         dialect_len: h.dialect,
+        edition: stated_edition(bytes),
     }
 }
 
 // 1 to 5, of what a file holds: each array up to its length.
-fn check(table: &[u8], t: usize, names: &[u8], n: usize, dialect: &[u8], d: usize) -> Verdict
+fn check(
+    table: &[u8],
+    t: usize,
+    names: &[u8],
+    n: usize,
+    dialect: &[u8],
+    d: usize,
+    edition: Stated,
+) -> Verdict
     requires { ⌜ (t ≤ length (now table)) × (n ≤ length (now names)) × (d ≤ length (now dialect)) ⌝ }
     ensures { λ r. ⌜ verdict r ≡
         soundCheck (record {
           table = take t (now (table .entry));
           names = take n (now (names .entry));
           dialect = take d (now (dialect .entry));
+          edition = edition;
         }) ⌝ }
 {
-    let entered = table::enter_dialect(&table[0..t], &names[0..n], &dialect[0..d]);
+    let read = dialect::edition_held(&dialect[0..d], edition);
+    let entered = table::enter_rules(&table[0..t], &names[0..n], &dialect[0..d], read);
     match entered {
-        Given::In(d) => Verdict::Accepted,
-        Given::Refused(why) => Verdict::Refused(why),
+        Ruled::By {
+            dialect: _,
+            edition: _,
+        } => Verdict::Accepted,
+        Ruled::Refused(why) => Verdict::Refused(why),
     }
 }
 
@@ -310,6 +355,7 @@ fn refused(why: Refusal) -> Loaded
         names_len: 0,
         dialect: [0u8; 9],
         dialect_len: 0,
+        edition: Stated::Nothing,
     }
 }
 
@@ -317,7 +363,14 @@ fn refused(why: Refusal) -> Loaded
 fn dialect_in(used: u16) -> usize
     ensures { λ r. ⌜ (r ≡ dialectIn used) × (r ≤ 9) ⌝ }
 {
-    if used == 13 { 9 } else { 0 }
+    if (used == 13) | (used == 14) { 9 } else { 0 }
+}
+
+// How many edition bytes block 0 has, of so many used bytes.
+fn edition_in(used: u16) -> usize
+    ensures { λ r. ⌜ (r ≡ editionIn used) × (r ≤ 1) ⌝ }
+{
+    if used == 14 { 1 } else { 0 }
 }
 
 // Whether counts are within the limits.

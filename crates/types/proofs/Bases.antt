@@ -6,6 +6,7 @@ use Prim.Native.Nat.{ℕ, _+_, _-_, _/_, _<_, _≤_}
 use native.Mathlib.Omega.{arith}
 use lib.ListN.{length, take, drop}
 use borrow.Author.Tests.{eq-eqb, ne-eqb}
+use Rattle.dialect.specs.declared.Edition.{Edition}
 use Rattle.forest.specs.Forest.{Node, nodeOf, spanOf, kidsOf, restOf, Forest, forest, treeOf}
 use Rattle.forest.proofs.Stretch.{forest-none, forest-tree, kids-part, length-rest}
 use Rattle.soundness.specs.KindNumbers.{kindIdentifier}
@@ -33,16 +34,17 @@ module _ (i : ℕ) (t : L.List ℕ) {e : ℕ} (e-is : e ≡ spanOf t) {k : L.Lis
       unfolding listLength
       list-none r-is = r-is ∙ rw (kids, forest-none (i + 1) k short) refl
 
-    pub index2-none : (names : L.List ℕ) → length k < 24
-        → accepted L.[] ≡ index2Base names (forest (i + 1) (kidsOf t))
+    pub index2-none : (edition : Edition) (names : L.List ℕ) → length k < 24
+        → accepted L.[] ≡ index2Base edition names (forest (i + 1) (kidsOf t))
     unfolding index2Base
-    index2-none names short = rw (kids, forest-none (i + 1) k short) refl
+    index2-none edition names short = rw (kids, forest-none (i + 1) k short) refl
 
     module _ (big : 24 ≤ length k) where
-      pub index2-path : (names : L.List ℕ) {r : Answer} → r ≡ «unpack_path» names (treeOf (i + 1) k)
-          → r ≡ index2Base names (forest (i + 1) (kidsOf t))
+      pub index2-path : (edition : Edition) (names : L.List ℕ) {r : Answer}
+          → r ≡ «unpack_path» edition names (treeOf (i + 1) k)
+          → r ≡ index2Base edition names (forest (i + 1) (kidsOf t))
       unfolding index2Base
-      index2-path names r-is = r-is ∙ rw (kids, forest-tree (i + 1) k big) refl
+      index2-path edition names r-is = r-is ∙ rw (kids, forest-tree (i + 1) k big) refl
 
       module _ {b : ℕ} (b-is : b ≡ nodeOf 0 k .kind) where
         pub index-other : (b ≡ kindIdentifier → ⊥) → {r : Answer} → r ≡ refusedAt invalidType (nodeOf i t)
@@ -69,6 +71,7 @@ module _ (i : ℕ) (t : L.List ℕ) {e : ℕ} (e-is : e ≡ spanOf t) {k : L.Lis
             rw (kids, forest-tree (i + 1) k big, forest-tree (i + 1 + spanOf k / 24) (restOf k) more) refl
 
 -- a node of a form
-pub at-form : (names : L.List ℕ) (k d : ℕ) (n : Node) (ks : Forest) {f g : Form} {r : Answer} → f ≡ formOf k d
-    → f ≡ g → r ≡ atNode names g n ks → r ≡ atNode names (formOf k d) n ks
-at-form names k d n ks f-is h r-is = r-is ∙ ap (λ (x : Form). atNode names x n ks) (sym h ∙ f-is)
+pub at-form : (edition : Edition) (names : L.List ℕ) (k d : ℕ) (n : Node) (ks : Forest) {f g : Form} {r : Answer}
+    → f ≡ formOf k d
+    → f ≡ g → r ≡ atNode edition names g n ks → r ≡ atNode edition names (formOf k d) n ks
+at-form edition names k d n ks f-is h r-is = r-is ∙ ap (λ (x : Form). atNode edition names x n ks) (sym h ∙ f-is)

@@ -5,6 +5,8 @@ use mathlib.Core.List.{List, []}
 use Prim.Native.Nat.{ℕ, _+_, _-_, _<_, _≤_}
 use lib.ListN.{length, take, drop}
 use borrow.Author.Tests.{eq-eqb, ne-eqb}
+use Rattle.dialect.specs.declared.Edition.{Edition}
+use Rattle.dialect.specs.declared.Edition.the-variants.{One, Two}
 use Rattle.forest.specs.Forest.{nodeOf, spanOf, forest, treeOf}
 use Rattle.forest.specs.Names.{nameOf}
 use Rattle.forest.proofs.Stretch.{forest-none, forest-tree, kids-part}
@@ -41,20 +43,33 @@ module _ (ban : Bool) (i : ℕ) (t : List ℕ) where
       object-dot h {e} e-is r-is = r-is ∙ rw
           (kids-part e t e-is, forest-tree i t big, ← k-is, ne-eqb k kindIdentifier no, eq-eqb k kindDot h) refl
 
+-- the ban looks at the name of a record, and not at its index
+banned-there : (edition : Edition) (names : List ℕ) (i : ℕ) (t : List ℕ)
+    → banned edition names (nodeOf i t) ≡ banned edition names (nodeOf 0 t)
+unfolding nameOf
+banned-there One names i t = refl
+banned-there Two names i t = refl
+
 -- a path
-module _ (names : List ℕ) (i : ℕ) (t : List ℕ) {k : ℕ} (k-is : k ≡ nodeOf 0 t .kind) where
-  pub path-identifier : k ≡ kindIdentifier → accepted [] ≡ «unpack_path» names (treeOf i t)
+module _ (edition : Edition) (names : List ℕ) (i : ℕ) (t : List ℕ) {k : ℕ} (k-is : k ≡ nodeOf 0 t .kind) where
+  pub path-identifier : k ≡ kindIdentifier → accepted [] ≡ «unpack_path» edition names (treeOf i t)
   unfolding «unpack_path»
   path-identifier h = rw (← k-is, eq-eqb k kindIdentifier h) refl
 
   module _ (no : k ≡ kindIdentifier → ⊥) where
     pub path-other : (k ≡ kindDot → ⊥) → {r : Answer} → r ≡ refusedAt expectingPath (nodeOf i t)
-        → r ≡ «unpack_path» names (treeOf i t)
+        → r ≡ «unpack_path» edition names (treeOf i t)
     unfolding «unpack_path»
     path-other h r-is = r-is ∙ rw (← k-is, ne-eqb k kindIdentifier no, ne-eqb k kindDot h) refl
 
-    pub path-dot : k ≡ kindDot → {e : ℕ} {b : Bool} {r : Answer} → e ≡ spanOf t → b ≡ banned names (nodeOf 0 t)
-        → r ≡ objectPath b (forest (i + 1) (take (e - 24) (drop 24 t))) → r ≡ «unpack_path» names (treeOf i t)
-    unfolding «unpack_path» nameOf
-    path-dot h {e} e-is b-is r-is = r-is ∙ rw
-        (kids-part e t e-is, b-is, ← k-is, ne-eqb k kindIdentifier no, eq-eqb k kindDot h) refl
+    pub path-dot : k ≡ kindDot → {e : ℕ} {b : Bool} {r : Answer} → e ≡ spanOf t → b ≡ banned edition names (nodeOf 0 t)
+        → r ≡ objectPath b (forest (i + 1) (take (e - 24) (drop 24 t))) → r ≡ «unpack_path» edition names (treeOf i t)
+    unfolding «unpack_path»
+    path-dot h {e} e-is b-is r-is = r-is ∙ rw (
+      kids-part e t e-is,
+      b-is,
+      ← banned-there edition names i t,
+      ← k-is,
+      ne-eqb k kindIdentifier no,
+      eq-eqb k kindDot h,
+    ) refl

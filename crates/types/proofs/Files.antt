@@ -13,14 +13,17 @@ use Rattle.forest.specs.Forest.{Node, Tree, node, Forest, none, _then_, treeOf,
 use Rattle.soundness.specs.KindNumbers.{kindIdentifier, kindDot, kindList}
 use Rattle.dialect.specs.declared.Dialect.{Dialect}
 use Rattle.dialect.specs.declared.DialectTypes.{DialectTypes}
+use Rattle.dialect.specs.declared.Edition.{Edition}
+use Rattle.dialect.specs.Editions.{editionOf}
 use Rattle.dialect.specs.Rows.{permitsTypes}
 use Rattle.table.specs.Numbers.{dotInType, expectingPath, dotTypeBan, invalidType, emptyListInType, typesDisabled}
 use Rattle.table.specs.Numbers.{shortBuffer, wrongNode}
 use Rattle.table.specs.Answer.{Answer, accepted, refused, andThen, refusedAt}
-use Rattle.table.specs.Check.{Handing, inDialect, turnedAway, givenOf, inGiven, nodeFits, stretchOf}
+use Rattle.table.specs.Check.{Ruling, byRules, unruled, rulesOf, inRules, nodeFits, stretchOf}
 use Rattle.table.specs.Carrying.{CarriesFile}
 use Rattle.table.specs.declared.Wanted.the-variants.{Expression}
-use Rattle.table.proofs.Carried.{Before, before-test, given-before}
+use Rattle.table.proofs.Carried.{Before, before-test}
+use Rattle.table.proofs.Ruling.{rules-known, rules-before}
 use Rattle.table.proofs.Checking.{Clean}
 use Rattle.table.proofs.Entering.{given-known}
 use Rattle.table.proofs.Filed.{All, Told, Filed, all-tree, all-row, told-at, told-then, told-if, told-before}
@@ -37,7 +40,7 @@ use Rattle.types.specs.declared.Reads.{Reads}
 use Rattle.types.specs.declared.Form.{Form}
 use Rattle.types.specs.declared.Form.the-variants.{Ellipsis, Path, Index, Index2, List, Union, Tuple, Other}
 
-module _ (P : Node → Type 0) where
+module _ (P : Node → Type 0) (edition : Edition) where
   mutual
     unfolding objectPath
 
@@ -54,14 +57,14 @@ module _ (P : Node → Type 0) where
         (told-if P (eqb (r .kind) kindDot) (λ _. objectPath ban ks) (λ _. refusedAt dotInType r)
         (told-object ban ks (here .1)) (told-at P dotInType r (here .0)))
 
-  told-path : (names : L.List ℕ) (t : Tree) → All P (nodesOf t) → Told P («unpack_path» names t)
+  told-path : (names : L.List ℕ) (t : Tree) → All P (nodesOf t) → Told P («unpack_path» edition names t)
   unfolding «unpack_path»
   told-path names (node r ks) h =
       let here = all-tree P r ks h in
       told-if P (eqb (r .kind) kindIdentifier) (λ _. accepted L.[]) (λ _.
-      if' (eqb (r .kind) kindDot) (λ _. objectPath (banned names r) ks) (λ _. refusedAt expectingPath r)) tt
-      (told-if P (eqb (r .kind) kindDot) (λ _. objectPath (banned names r) ks) (λ _. refusedAt expectingPath r)
-      (told-object (banned names r) ks (here .1)) (told-at P expectingPath r (here .0)))
+      if' (eqb (r .kind) kindDot) (λ _. objectPath (banned edition names r) ks) (λ _. refusedAt expectingPath r)) tt
+      (told-if P (eqb (r .kind) kindDot) (λ _. objectPath (banned edition names r) ks) (λ _. refusedAt expectingPath r)
+      (told-object (banned edition names r) ks (here .1)) (told-at P expectingPath r (here .0)))
 
   told-index : (r : Node) (ks : Forest) → P r → Told P (indexBase r ks)
   unfolding indexBase
@@ -70,7 +73,7 @@ module _ (P : Node → Type 0) where
       told-if P (eqb (b .kind) kindIdentifier) (λ _. accepted L.[]) (λ _. refusedAt invalidType r) tt
       (told-at P invalidType r p)
 
-  told-index2 : (names : L.List ℕ) (ks : Forest) → All P (nodes ks) → Told P (index2Base names ks)
+  told-index2 : (names : L.List ℕ) (ks : Forest) → All P (nodes ks) → Told P (index2Base edition names ks)
   unfolding index2Base
   told-index2 names none h = tt
   told-index2 names (b then ts) h = told-path names b (all-row P b ts h .0)
@@ -82,7 +85,7 @@ module _ (P : Node → Type 0) where
   told-list r (t then (u then ts)) p = tt
 
   told-node : (names : L.List ℕ) (f : Form) (r : Node) (ks : Forest) → All P (nodesOf (node r ks))
-      → Told P (atNode names f r ks)
+      → Told P (atNode edition names f r ks)
   unfolding atNode
   told-node names Ellipsis r ks h = tt
   told-node names Path r ks h = told-path names (node r ks) h
@@ -103,65 +106,75 @@ module _ (P : Node → Type 0) where
   mutual
     unfolding «unpack»
 
-    told-unpack : (names : L.List ℕ) (t : Tree) → All P (nodesOf t) → Told P («unpack» names t)
+    told-unpack : (names : L.List ℕ) (t : Tree) → All P (nodesOf t) → Told P («unpack» edition names t)
     told-unpack names (node r ks) h =
-        told-then P (atNode names (formOf (r .kind) (r .detail)) r ks) (λ _.
-        unpackEach (readsOf (formOf (r .kind) (r .detail))) names ks)
+        told-then P (atNode edition names (formOf (r .kind) (r .detail)) r ks) (λ _.
+        unpackEach (readsOf (formOf (r .kind) (r .detail))) edition names ks)
         (told-node names (formOf (r .kind) (r .detail)) r ks h)
         (told-each (readsOf (formOf (r .kind) (r .detail))) names ks (all-tree P r ks h .1))
 
-    told-argument : (names : L.List ℕ) (t : Tree) → All P (nodesOf t) → Told P («unpack_argument» names t)
+    told-argument : (names : L.List ℕ) (t : Tree) → All P (nodesOf t) → Told P («unpack_argument» edition names t)
     told-argument names (node r ks) h =
         let below = all-tree P r ks h .1 in
-        told-if P (eqb (r .kind) kindList) (λ _. unpackEach argumentsOnly names ks) (λ _.
-        typeRule names r ks (λ reads. unpackEach reads names ks)) (told-each argumentsOnly names ks below)
-        (told-then P (atNode names (formOf (r .kind) (r .detail)) r ks) (λ _.
-        unpackEach (readsOf (formOf (r .kind) (r .detail))) names ks)
+        told-if P (eqb (r .kind) kindList) (λ _. unpackEach argumentsOnly edition names ks) (λ _.
+        typeRule edition names r ks (λ reads. unpackEach reads edition names ks))
+        (told-each argumentsOnly names ks below)
+        (told-then P (atNode edition names (formOf (r .kind) (r .detail)) r ks) (λ _.
+        unpackEach (readsOf (formOf (r .kind) (r .detail))) edition names ks)
         (told-node names (formOf (r .kind) (r .detail)) r ks h)
         (told-each (readsOf (formOf (r .kind) (r .detail))) names ks below))
 
     told-each : (reads : Reads) (names : L.List ℕ) (ts : Forest) → All P (nodes ts)
-        → Told P (unpackEach reads names ts)
+        → Told P (unpackEach reads edition names ts)
     told-each reads names none h = tt
     told-each reads names (t then ts) h =
         let both = all-row P t ts h in
-        told-then P (ofChild (reads .first) (accepted L.[]) (λ _. «unpack» names t) (λ _. «unpack_argument» names t))
-        (λ _. unpackEach (readsAs (reads .others) (reads .others)) names ts)
-        (told-child (reads .first) («unpack» names t) («unpack_argument» names t) (told-unpack names t (both .0))
+        told-then P
+        (ofChild (reads .first) (accepted L.[]) (λ _. «unpack» edition names t)
+        (λ _. «unpack_argument» edition names t))
+        (λ _. unpackEach (readsAs (reads .others) (reads .others)) edition names ts)
+        (told-child (reads .first) («unpack» edition names t) («unpack_argument» edition names t)
+        (told-unpack names t (both .0))
         (told-argument names t (both .0)))
         (told-each (readsAs (reads .others) (reads .others)) names ts (both .1))
 
   pub told-type : (names : L.List ℕ) (types : DialectTypes) (t : Tree) → All P (nodesOf t)
-      → Told P («dialect_check_type» names types t)
+      → Told P («dialect_check_type» edition names types t)
   unfolding «dialect_check_type»
   told-type names types (node r ks) h =
-      told-then P (typesCheck types r) (λ _. «unpack» names (node r ks))
+      told-then P (typesCheck types r) (λ _. «unpack» edition names (node r ks))
       (told-if P (permitsTypes types) (λ _. accepted L.[]) (λ _. refusedAt typesDisabled r) tt
       (told-at P typesDisabled r (all-tree P r ks h .0))) (told-unpack names (node r ks) h)
 
 -- THEOREM: every refusal from 10 on of the type job carries the number of the node that it names
-module _ (t names bytes : L.List ℕ) (i room : ℕ) where
-  in-dialect : (d : Dialect) → Clean t names → Told (Filed t i) (typeAt t names (d .«enable_types») i room)
+module _ (t names bytes : L.List ℕ) (n i room : ℕ) where
+  in-dialect : (d : Dialect) (edition : Edition) → Clean t names
+      → Told (Filed t i) (typeAt edition t names (d .«enable_types») i room)
   unfolding typeAt
-  in-dialect d c = go (nodeFits t i Expression) refl
+  in-dialect d edition c = go (nodeFits t i Expression) refl
     where
       go : (b : Bool) → nodeFits t i Expression ≡ b
           → Told (Filed t i) (andThen (if' b (λ _. accepted L.[]) (λ _. refused wrongNode L.[])) (λ _.
           andThen (roomCheck room (stretchOf t i)) (λ _.
-          «dialect_check_type» names (d .«enable_types») (treeOf i (stretchOf t i)))))
+          «dialect_check_type» edition names (d .«enable_types») (treeOf i (stretchOf t i)))))
       go false fits = λ late. absurd (omega arith)
       go true fits = told-then (Filed t i) (roomCheck room (stretchOf t i)) (λ _.
-          «dialect_check_type» names (d .«enable_types») (treeOf i (stretchOf t i)))
+          «dialect_check_type» edition names (d .«enable_types») (treeOf i (stretchOf t i)))
           (told-before (Filed t i) (roomCheck room (stretchOf t i))
           (before-test 10 (leb (length (stretchOf t i) / 24) room) shortBuffer (omega arith)))
-          (told-type (Filed t i) names (d .«enable_types») (treeOf i (stretchOf t i)) (fits-filed c Expression i fits))
+          (told-type (Filed t i) edition names (d .«enable_types») (treeOf i (stretchOf t i))
+          (fits-filed c Expression i fits))
 
-  pub type-files : CarriesFile t i (typeShapeOf t names bytes i room)
+  pub type-files : CarriesFile t i (typeShapeOf t names bytes n i room)
   unfolding typeShapeOf
-  type-files = files-told t i (inGiven (givenOf t names bytes) (λ d. typeAt t names (d .«enable_types») i room))
-      (go (givenOf t names bytes) refl (given-before 10 t names bytes (omega arith)))
+  type-files = files-told t i (inRules (rulesOf t names bytes (editionOf n)) answer)
+      (go (rulesOf t names bytes (editionOf n)) refl (rules-before t names bytes 10 (editionOf n) (omega arith)))
     where
-      go : (h : Handing) → givenOf t names bytes ≡ h → Before 10 (inGiven h (λ d. accepted L.[]))
-          → Told (Filed t i) (inGiven h (λ d. typeAt t names (d .«enable_types») i room))
-      go (inDialect d) known b = in-dialect d (given-known t names bytes known .0)
-      go (turnedAway n vs) known b = λ late. absurd (omega (arith, b .0))
+      answer : Dialect → Edition → Answer
+      answer d edition = typeAt edition t names (d .«enable_types») i room
+
+      go : (r : Ruling) → rulesOf t names bytes (editionOf n) ≡ r → Before 10 (inRules r (λ _ _. accepted L.[]))
+          → Told (Filed t i) (inRules r (λ d edition. typeAt edition t names (d .«enable_types») i room))
+      go (byRules d edition) known b =
+          in-dialect d edition (given-known t names bytes (rules-known t names bytes known .0) .0)
+      go (unruled m vs) known b = λ late. absurd (omega (arith, b .0))

@@ -11,19 +11,23 @@ use Rattle.dialect.specs.Rows.{permitsTypes}
 use Rattle.dialect.specs.Bytes.{fromBytes}
 use Rattle.dialect.specs.declared.Dialect.{Dialect}
 use Rattle.dialect.specs.declared.DialectTypes.{DialectTypes}
+use Rattle.dialect.specs.declared.Edition.{Edition}
+use Rattle.dialect.specs.declared.EditionRead.{EditionRead}
+use Rattle.dialect.specs.Editions.{editionOf}
 use Rattle.dialect.specs.declared.Decoded.{Decoded}
 use Rattle.dialect.specs.declared.Decoded.the-variants.{Valid, Invalid}
 use Rattle.table.specs.Numbers.{wrongNode, shortBuffer, invalidType, typesDisabled}
 use Rattle.table.specs.Answer.{Answer, accepted, refused, andThen, refusedAt, refusal}
-use Rattle.table.specs.Check.{checkOf, inDialect, given, handing, givenOf, nodeFits, stretchOf}
+use Rattle.table.specs.Check.{checkOf, inDialect, handing, givenOf, ruled, rulesOf, nodeFits, stretchOf}
 use Rattle.table.specs.Check.{isHeaded, headedOf}
 use Rattle.table.proofs.Heads.{headed-leaf, headed-is}
 use Rattle.table.specs.declared.Refusal.{Refusal}
-use Rattle.table.specs.declared.Given.{Given}
-use Rattle.table.specs.declared.Given.the-variants.{In, Refused}
+use Rattle.table.specs.declared.Ruled.{Ruled}
+use Rattle.table.specs.declared.Ruled.the-variants.{By, Refused}
 use Rattle.table.specs.declared.Wanted.the-variants.{Expression}
 use Rattle.table.proofs.Checking.{check-values}
 use Rattle.table.proofs.Handed.{passed, stretch-within}
+use Rattle.table.proofs.Ruling.{rules-known}
 use Rattle.types.specs.Forms.{formOf}
 use Rattle.types.specs.Types.{atNode, «unpack», typesCheck, «dialect_check_type»}
 use Rattle.types.specs.Jobs.{typeAt, typeShapeOf}
@@ -33,31 +37,34 @@ abbrev pub noType : DialectTypes → Node → Answer
 noType types r = andThen (typesCheck types r) (λ _. refusedAt invalidType r)
 
 -- a type in a dialect
-module _ (names : List ℕ) (types : DialectTypes) (i : ℕ) (t : List ℕ) {p : Bool} (p-is : p ≡ permitsTypes types)
+module _ (edition : Edition) (names : List ℕ) (types : DialectTypes) (i : ℕ) (t : List ℕ) {p : Bool}
+    (p-is : p ≡ permitsTypes types)
     {r : Answer} where
   pub check-disabled : p ≡ false → r ≡ refusedAt typesDisabled (nodeOf i t)
-      → r ≡ «dialect_check_type» names types (treeOf i t)
+      → r ≡ «dialect_check_type» edition names types (treeOf i t)
   unfolding «dialect_check_type»
   check-disabled h r-is = r-is ∙ rw (← p-is, h) refl
 
-  pub check-type : p ≡ true → r ≡ «unpack» names (treeOf i t) → r ≡ «dialect_check_type» names types (treeOf i t)
+  pub check-type : p ≡ true → r ≡ «unpack» edition names (treeOf i t)
+      → r ≡ «dialect_check_type» edition names types (treeOf i t)
   unfolding «dialect_check_type»
   check-type h r-is = r-is ∙ rw (← p-is, h) refl
 
 -- the job on a node of a sound table
-module _ (t names : List ℕ) (types : DialectTypes) (i room : ℕ) {b : Bool} (b-is : b ≡ nodeFits t i Expression)
+module _ (edition : Edition) (t names : List ℕ) (types : DialectTypes) (i room : ℕ) {b : Bool}
+    (b-is : b ≡ nodeFits t i Expression)
   where
-    pub at-no-node : b ≡ false → refused wrongNode [] ≡ typeAt t names types i room
+    pub at-no-node : b ≡ false → refused wrongNode [] ≡ typeAt edition t names types i room
     unfolding typeAt
     at-no-node h = rw (← b-is, h) refl
 
     module _ (fits : b ≡ true) {u : List ℕ} (u-is : u ≡ stretchOf t i) where
-      pub at-short : room < length u / 24 → refused shortBuffer [] ≡ typeAt t names types i room
+      pub at-short : room < length u / 24 → refused shortBuffer [] ≡ typeAt edition t names types i room
       unfolding typeAt
       at-short h = rw (← b-is, fits, ← u-is, lt-leb (length u / 24) room h) refl
 
-      pub at-type : length u / 24 ≤ room → {r : Answer} → r ≡ «dialect_check_type» names types (treeOf i u)
-          → r ≡ typeAt t names types i room
+      pub at-type : length u / 24 ≤ room → {r : Answer} → r ≡ «dialect_check_type» edition names types (treeOf i u)
+          → r ≡ typeAt edition t names types i room
       unfolding typeAt
       at-type h r-is = r-is ∙ rw (← b-is, fits, ← u-is, le-leb (length u / 24) room h) refl
 
@@ -84,19 +91,20 @@ given-sound t names bytes {d} e = go (checkOf t names) (fromBytes bytes) refl e
     go (refused n vs) x a-is e = never (cc)
 
 -- the whole job, by what it is given
-module _ (t names bytes : List ℕ) {g : Given} (g-is : given g ≡ givenOf t names bytes) where
-  pub job-refused : (i room : ℕ) {why : Refusal} → g ≡ Refused why → refusal why ≡ typeShapeOf t names bytes i room
+module _ (t names bytes : List ℕ) (n : ℕ) {x : EditionRead} (x-is : x ≡ editionOf n) {g : Ruled}
+    (g-is : ruled g ≡ rulesOf t names bytes x) where
+  pub job-refused : (i room : ℕ) {why : Refusal} → g ≡ Refused why → refusal why ≡ typeShapeOf t names bytes n i room
   unfolding typeShapeOf
-  job-refused i room h = rw (← g-is, h) refl
+  job-refused i room h = rw (← x-is, ← g-is, h) refl
 
-  module _ {d : Dialect} (h : g ≡ In d) where
-    pub job-type : (i room : ℕ) {r : Answer} → r ≡ typeAt t names (d .«enable_types») i room
-        → r ≡ typeShapeOf t names bytes i room
+  module _ {d : Dialect} {edition : Edition} (h : g ≡ By d edition) where
+    pub job-type : (i room : ℕ) {r : Answer} → r ≡ typeAt edition t names (d .«enable_types») i room
+        → r ≡ typeShapeOf t names bytes n i room
     unfolding typeShapeOf
-    job-type i room r-is = r-is ∙ rw (← g-is, h) refl
+    job-type i room r-is = r-is ∙ rw (← x-is, ← g-is, h) refl
 
     pub job-sound : accepted [] ≡ checkOf t names
-    job-sound = given-sound t names bytes (sym (ap given h) ∙ g-is)
+    job-sound = given-sound t names bytes (sym (rules-known t names bytes (sym g-is ∙ ap ruled h) .0))
 
 -- no type: 45, else 40
 module _ (types : DialectTypes) (r : Node) {p : Bool} (p-is : p ≡ permitsTypes types) {a : Answer} where
@@ -106,20 +114,22 @@ module _ (types : DialectTypes) (r : Node) {p : Bool} (p-is : p ≡ permitsTypes
   pub none-invalid : p ≡ true → a ≡ refusedAt invalidType r → a ≡ noType types r
   none-invalid h a-is = a-is ∙ rw (← p-is, h) refl
 
-leaf-none : (names : List ℕ) (types : DialectTypes) (i : ℕ)
-    → «dialect_check_type» names types (node (nodeOf i []) none) ≡ noType types (nodeOf i [])
+leaf-none : (edition : Edition) (names : List ℕ) (types : DialectTypes) (i : ℕ)
+    → «dialect_check_type» edition names types (node (nodeOf i []) none) ≡ noType types (nodeOf i [])
 unfolding «dialect_check_type» «unpack» atNode formOf
-leaf-none names types i = refl
+leaf-none edition names types i = refl
 
 -- the type that a stretch of any bytes begins with, in the terms of code: b is what `is_headed` answered
-module _ (names : List ℕ) (types : DialectTypes) (i : ℕ) (t : List ℕ) {b : Bool} (b-is : b ≡ isHeaded i t)
+module _ (edition : Edition) (names : List ℕ) (types : DialectTypes) (i : ℕ) (t : List ℕ) {b : Bool}
+    (b-is : b ≡ isHeaded i t)
     {r : Answer} where
   pub judge-none : b ≡ false → r ≡ noType types (nodeOf i [])
-      → r ≡ «dialect_check_type» names types (treeOf i (headedOf i t))
+      → r ≡ «dialect_check_type» edition names types (treeOf i (headedOf i t))
   judge-none h r-is =
-      r-is ∙ sym (ap («dialect_check_type» names types) (headed-leaf i t b-is h) ∙ leaf-none names types i)
+      r-is
+      ∙ sym (ap («dialect_check_type» edition names types) (headed-leaf i t b-is h) ∙ leaf-none edition names types i)
 
-  pub judge-here : b ≡ true → r ≡ «dialect_check_type» names types (treeOf i t)
-      → r ≡ «dialect_check_type» names types (treeOf i (headedOf i t))
+  pub judge-here : b ≡ true → r ≡ «dialect_check_type» edition names types (treeOf i t)
+      → r ≡ «dialect_check_type» edition names types (treeOf i (headedOf i t))
   judge-here h r-is =
-      r-is ∙ ap (λ (l : List ℕ). «dialect_check_type» names types (treeOf i l)) (sym (headed-is i t b-is h))
+      r-is ∙ ap (λ (l : List ℕ). «dialect_check_type» edition names types (treeOf i l)) (sym (headed-is i t b-is h))

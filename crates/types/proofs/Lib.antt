@@ -4,4 +4,5 @@ pub mod Bases
 pub mod Reading
 pub mod Jobs
 pub mod Files
+pub mod Editions
 pub mod Promises

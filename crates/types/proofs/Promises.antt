@@ -5,6 +5,7 @@ use Prim.Native.Nat.{ℕ}
 use Rattle.fields.proofs.Coincide.{coincide, coincide-by}
 use Rattle.forest.specs.Forest.{nodeOf, treeOf}
 use Rattle.dialect.specs.declared.Dialect.{Dialect}
+use Rattle.dialect.specs.declared.Edition.{Edition}
 use Rattle.table.specs.Check.{headedOf}
 use Rattle.table.proofs.Answers.{refusal-injective, never-accepted}
 use Rattle.types.specs.Forms.{formOf, shapeOf, readsOf, ruleOf}
@@ -24,16 +25,17 @@ shaped-injective (Refused q) Accepted e = never-accepted q e
 shaped-injective (Refused q) (Refused r) e = ap Refused (refusal-injective q r e)
 
 -- of `judge`
-pub judge-one : (table names dialect : List ℕ) (node room : ℕ) {r s : Shaped}
-    → shaped r ≡ typeShapeOf table names dialect node room → shaped s ≡ typeShapeOf table names dialect node room
+pub judge-one : (table names dialect : List ℕ) (edition node room : ℕ) {r s : Shaped}
+    → shaped r ≡ typeShapeOf table names dialect edition node room
+    → shaped s ≡ typeShapeOf table names dialect edition node room
     → r ≡ s
-judge-one table names dialect node room = coincide-by shaped shaped-injective
+judge-one table names dialect edition node room = coincide-by shaped shaped-injective
 
 -- of `judge_type`
-pub judge-type-one : (names : List ℕ) (d : Dialect) (t : List ℕ) (node : ℕ) {r s : Shaped}
-    → shaped r ≡ «dialect_check_type» names (d .«enable_types») (treeOf node (headedOf node t))
-    → shaped s ≡ «dialect_check_type» names (d .«enable_types») (treeOf node (headedOf node t)) → r ≡ s
-judge-type-one names d t node = coincide-by shaped shaped-injective
+pub judge-type-one : (names : List ℕ) (d : Dialect) (edition : Edition) (t : List ℕ) (node : ℕ) {r s : Shaped}
+    → shaped r ≡ «dialect_check_type» edition names (d .«enable_types») (treeOf node (headedOf node t))
+    → shaped s ≡ «dialect_check_type» edition names (d .«enable_types») (treeOf node (headedOf node t)) → r ≡ s
+judge-type-one names d edition t node = coincide-by shaped shaped-injective
 
 -- of `forms::form`, `forms::shape_of`, `forms::reads_of` and `forms::rule_of`
 pub form-one : (t : List ℕ) {r s : Form} → r ≡ formOf (nodeOf 0 t .kind) (nodeOf 0 t .detail)

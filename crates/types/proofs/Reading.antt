@@ -14,6 +14,7 @@ use lib.Dec.{eqb}
 use borrow.Author.Tests.{eq-eqb, ne-eqb, eqb-true}
 use Rattle.fields.proofs.Basics.{never}
 use Rattle.fields.specs.Choice.{if'}
+use Rattle.dialect.specs.declared.Edition.{Edition}
 use Rattle.forest.specs.Forest.{nodeOf, spanOf, kidsOf, restOf, Tree, Forest, _then_, forest, treeOf}
 use Rattle.forest.proofs.Stretch.{forest-none, forest-tree, kids-part, rest-part, length-kids, length-rest}
 use Rattle.soundness.specs.KindNumbers.{kindList}
@@ -77,50 +78,55 @@ pub falls : (t left : List ℕ) → length left + 24 ≤ spanOf t → spanOf lef
 falls t left h = omega arith
 
 -- a child as it is read
-abbrev pub unpackChild : How → List ℕ → Tree → Answer
-unpackChild how names t = ofChild how (accepted []) (λ _. «unpack» names t) (λ _. «unpack_argument» names t)
+abbrev pub unpackChild : How → Edition → List ℕ → Tree → Answer
+unpackChild how edition names t =
+    ofChild how (accepted []) (λ _. «unpack» edition names t) (λ _. «unpack_argument» edition names t)
 
 -- a child, by the rule that its caller chooses
-module _ (names : List ℕ) (i : ℕ) (t : List ℕ) (how : How) {rule : How} {k : ℕ} (k-is : k ≡ nodeOf 0 t .kind)
+module _ (edition : Edition) (names : List ℕ) (i : ℕ) (t : List ℕ) (how : How) {rule : How} {k : ℕ}
+    (k-is : k ≡ nodeOf 0 t .kind)
     (rule-is : rule ≡ ruleOf how k) where
-  chosen : unpackChild rule names (treeOf i t) ≡ unpackChild how names (treeOf i t)
+  chosen : unpackChild rule edition names (treeOf i t) ≡ unpackChild how edition names (treeOf i t)
   unfolding «unpack»
   chosen = rw (rule-is, k-is) (by-rule (nodeOf 0 t .kind) (accepted []) _ _ how)
 
   pub child-is-list : rule ≡ AsArgument → nodeOf 0 t .kind ≡ kindList
   child-is-list h = sym k-is ∙ argument-list how k (sym rule-is ∙ h)
 
-  pub child-unread : rule ≡ Unread → accepted [] ≡ unpackChild how names (treeOf i t)
-  child-unread h = ap (λ (x : How). unpackChild x names (treeOf i t)) (sym h) ∙ chosen
+  pub child-unread : rule ≡ Unread → accepted [] ≡ unpackChild how edition names (treeOf i t)
+  child-unread h = ap (λ (x : How). unpackChild x edition names (treeOf i t)) (sym h) ∙ chosen
 
   module _ {r : Answer} where
-    pub child-type : rule ≡ AsType → r ≡ «unpack» names (treeOf i t) → r ≡ unpackChild how names (treeOf i t)
-    child-type h r-is = r-is ∙ ap (λ (x : How). unpackChild x names (treeOf i t)) (sym h) ∙ chosen
+    pub child-type : rule ≡ AsType → r ≡ «unpack» edition names (treeOf i t)
+        → r ≡ unpackChild how edition names (treeOf i t)
+    child-type h r-is = r-is ∙ ap (λ (x : How). unpackChild x edition names (treeOf i t)) (sym h) ∙ chosen
 
-    pub child-list : rule ≡ AsArgument → r ≡ «unpack_argument» names (treeOf i t)
-        → r ≡ unpackChild how names (treeOf i t)
-    child-list h r-is = r-is ∙ ap (λ (x : How). unpackChild x names (treeOf i t)) (sym h) ∙ chosen
+    pub child-list : rule ≡ AsArgument → r ≡ «unpack_argument» edition names (treeOf i t)
+        → r ≡ unpackChild how edition names (treeOf i t)
+    child-list h r-is = r-is ∙ ap (λ (x : How). unpackChild x edition names (treeOf i t)) (sym h) ∙ chosen
 
 -- the children of a node side by side: at each turn what is left is a proper part of the node's subtree, and gives the
 -- whole answer
-pub record Judging (names : List ℕ) (others : How) (t : List ℕ) (whole : Answer) (left : List ℕ) (at : ℕ) (how : How)
+pub record Judging (edition : Edition) (names : List ℕ) (others : How) (t : List ℕ) (whole : Answer) (left : List ℕ)
+    (at : ℕ) (how : How)
     : Type 0 where
   pub within : 24 * at + length left ≤ 50400
   pub part : length left + 24 ≤ spanOf t
-  pub same : unpackEach (readsAs how others) names (forest at left) ≡ whole
+  pub same : unpackEach (readsAs how others) edition names (forest at left) ≡ whole
 
 -- the type that a stretch begins with: what is refused at its node, then its children
-module _ (names : List ℕ) (i : ℕ) (t : List ℕ) (here : Shaped)
-    (here-is : shaped here ≡ atNode names (formOf (nodeOf 0 t .kind) (nodeOf 0 t .detail)) (nodeOf i t)
+module _ (edition : Edition) (names : List ℕ) (i : ℕ) (t : List ℕ) (here : Shaped)
+    (here-is : shaped here ≡ atNode edition names (formOf (nodeOf 0 t .kind) (nodeOf 0 t .detail)) (nodeOf i t)
     (forest (i + 1) (kidsOf t))) where
-  pub unpack-stop : {why : Refusal} → here ≡ Refused why → refusal why ≡ «unpack» names (treeOf i t)
+  pub unpack-stop : {why : Refusal} → here ≡ Refused why → refusal why ≡ «unpack» edition names (treeOf i t)
   unfolding «unpack»
   unpack-stop h = rw (← here-is, h) refl
 
   pub unpack-start : 24 ≤ length t → 24 * i + length t ≤ 50400 → here ≡ Accepted
       → {f : Form} → f ≡ formOf (nodeOf 0 t .kind) (nodeOf 0 t .detail) → {reads : Reads} → reads ≡ readsOf f
       → {e : ℕ} → e ≡ spanOf t
-      → Judging names (reads .others) t («unpack» names (treeOf i t)) (take (e - 24) (drop 24 t)) (i + 1) (reads .first)
+      → Judging edition names (reads .others) t («unpack» edition names (treeOf i t)) (take (e - 24) (drop 24 t))
+      (i + 1) (reads .first)
   unfolding «unpack»
   unpack-start long fits h f-is reads-is {e} e-is = record {
     within = rw (kids-part e t e-is) (omega (arith, length-kids t));
@@ -129,9 +135,10 @@ module _ (names : List ℕ) (i : ℕ) (t : List ℕ) (here : Shaped)
   }
 
 -- the List of arguments that a stretch begins with
-module _ (names : List ℕ) (i : ℕ) (t : List ℕ) where
+module _ (edition : Edition) (names : List ℕ) (i : ℕ) (t : List ℕ) where
   pub argument-start : 24 ≤ length t → 24 * i + length t ≤ 50400 → nodeOf 0 t .kind ≡ kindList → {e : ℕ} → e ≡ spanOf t
-      → Judging names AsArgument t («unpack_argument» names (treeOf i t)) (take (e - 24) (drop 24 t)) (i + 1) AsArgument
+      → Judging edition names AsArgument t («unpack_argument» edition names (treeOf i t)) (take (e - 24) (drop 24 t))
+      (i + 1) AsArgument
   unfolding «unpack»
   argument-start long fits list {e} e-is = record {
     within = rw (kids-part e t e-is) (omega (arith, length-kids t));
@@ -139,13 +146,15 @@ module _ (names : List ℕ) (i : ℕ) (t : List ℕ) where
     same = rw (kids-part e t e-is, eq-eqb (nodeOf 0 t .kind) kindList list) refl;
   }
 
-  pub item-type : {k : ℕ} → k ≡ nodeOf 0 t .kind → (k ≡ kindList → ⊥) → {r : Answer} → r ≡ «unpack» names (treeOf i t)
-      → r ≡ unpackChild AsArgument names (treeOf i t)
+  pub item-type : {k : ℕ} → k ≡ nodeOf 0 t .kind → (k ≡ kindList → ⊥) → {r : Answer}
+      → r ≡ «unpack» edition names (treeOf i t)
+      → r ≡ unpackChild AsArgument edition names (treeOf i t)
   unfolding «unpack»
   item-type {k} k-is other r-is = r-is ∙ rw (← k-is, ne-eqb k kindList other) refl
 
-module _ {names : List ℕ} {others : How} {t : List ℕ} {whole : Answer} {left : List ℕ} {at : ℕ} {how : How}
-    (j : Judging names others t whole left at how) where
+module _ {edition : Edition} {names : List ℕ} {others : How} {t : List ℕ} {whole : Answer} {left : List ℕ} {at : ℕ}
+    {how : How}
+    (j : Judging edition names others t whole left at how) where
   pub each-end : length left < 24 → accepted [] ≡ whole
   unfolding «unpack»
   each-end short = rw (← j .same, forest-none at left short) refl
@@ -154,12 +163,12 @@ module _ {names : List ℕ} {others : How} {t : List ℕ} {whole : Answer} {left
   each-falls = falls t left (j .part)
 
   module _ (big : 24 ≤ length left) (child : Shaped)
-      (child-is : shaped child ≡ unpackChild how names (treeOf at left)) where
-    step : {e : ℕ} → e ≡ spanOf left → unpackEach (readsAs how others) names (forest at left)
-        ≡ andThen (shaped child) (λ _. unpackEach (readsAs others others) names
+      (child-is : shaped child ≡ unpackChild how edition names (treeOf at left)) where
+    step : {e : ℕ} → e ≡ spanOf left → unpackEach (readsAs how others) edition names (forest at left)
+        ≡ andThen (shaped child) (λ _. unpackEach (readsAs others others) edition names
         (forest (at + e / 24) (take (length left - e) (drop e left))))
     unfolding «unpack»
-    step e-is = first-and-rest (λ z ts. unpackEach z names ts) (λ h x. unpackChild h names x)
+    step e-is = first-and-rest (λ z ts. unpackEach z edition names ts) (λ h x. unpackChild h edition names x)
         (λ x y. andThen x (λ _. y)) (λ z x ts. refl) (readsAs how others) at left big e-is
         ∙ rw child-is refl
 
@@ -167,7 +176,7 @@ module _ {names : List ℕ} {others : How} {t : List ℕ} {whole : Answer} {left
     each-stop h = sym (sym (j .same) ∙ step refl ∙ rw h refl)
 
     pub each-on : child ≡ Accepted → {e : ℕ} → e ≡ spanOf left
-        → Judging names others t whole (take (length left - e) (drop e left)) (at + e / 24) others
+        → Judging edition names others t whole (take (length left - e) (drop e left)) (at + e / 24) others
     each-on h {e} e-is = record {
       within = rest-within at left (j .within) e-is;
       part = rw (rest-part e left e-is) (omega (arith, length-rest left, j .part));
@@ -177,6 +186,6 @@ module _ {names : List ℕ} {others : How} {t : List ℕ} {whole : Answer} {left
   -- a child that is not read
   pub each-skip : 24 ≤ length left → {k : ℕ} → k ≡ nodeOf 0 left .kind → {rule : How} → rule ≡ ruleOf how k
       → rule ≡ Unread → {e : ℕ} → e ≡ spanOf left
-      → Judging names others t whole (take (length left - e) (drop e left)) (at + e / 24) others
+      → Judging edition names others t whole (take (length left - e) (drop e left)) (at + e / 24) others
   each-skip big k-is rule-is h e-is =
-      each-on big Accepted (child-unread names at left how k-is rule-is h) refl e-is
+      each-on big Accepted (child-unread edition names at left how k-is rule-is h) refl e-is

@@ -6,9 +6,11 @@ use lib.ListN.{length}
 use Rattle.fields.specs.Choice.{if'}
 use Rattle.forest.specs.Forest.{recordBytes, treeOf}
 use Rattle.dialect.specs.declared.DialectTypes.{DialectTypes}
+use Rattle.dialect.specs.declared.Edition.{Edition}
+use Rattle.dialect.specs.Editions.{editionOf}
 use Rattle.table.specs.Numbers.{shortBuffer}
 use Rattle.table.specs.Answer.{Answer, accepted, refused, andThen, refusal}
-use Rattle.table.specs.Check.{givenOf, inGiven, nodeCheck, stretchOf}
+use Rattle.table.specs.Check.{rulesOf, inRules, nodeCheck, stretchOf}
 use Rattle.table.specs.declared.Wanted.the-variants.{Expression}
 use Rattle.types.specs.Types.{«dialect_check_type»}
 use Rattle.types.specs.declared.Shaped.{Shaped}
@@ -23,14 +25,15 @@ shaped (Refused r) = refusal r
 abbrev pub roomCheck : ℕ → List ℕ → Answer
 roomCheck room t = if' (leb (length t / recordBytes) room) (λ _. accepted []) (λ _. refused shortBuffer [])
 
--- the type job on node i of the table t, for a buffer of so many bytes, where the table is sound and the dialect known:
--- 6, 7, then the type
-unfoldable pub typeAt : List ℕ → List ℕ → DialectTypes → ℕ → ℕ → Answer
-typeAt t names types i room =
+-- the type job on node i of the table t, for a buffer of so many bytes, where the table is sound, and the dialect and
+-- the edition are known: 6, 7, then the type
+unfoldable pub typeAt : Edition → List ℕ → List ℕ → DialectTypes → ℕ → ℕ → Answer
+typeAt edition t names types i room =
     andThen (nodeCheck t i Expression) (λ _.
     andThen (roomCheck room (stretchOf t i)) (λ _.
-    «dialect_check_type» names types (treeOf i (stretchOf t i))))
+    «dialect_check_type» edition names types (treeOf i (stretchOf t i))))
 
--- the whole job: 1 to 5, 6, 7, 45, 40 to 44
-unfoldable pub typeShapeOf : List ℕ → List ℕ → List ℕ → ℕ → ℕ → Answer
-typeShapeOf t names bytes i room = inGiven (givenOf t names bytes) (λ d. typeAt t names (d .«enable_types») i room)
+-- the whole job, by the edition of the number n: 1 to 5, 6, 7, 45, 40 to 44
+unfoldable pub typeShapeOf : List ℕ → List ℕ → List ℕ → ℕ → ℕ → ℕ → Answer
+typeShapeOf t names bytes n i room =
+    inRules (rulesOf t names bytes (editionOf n)) (λ d edition. typeAt edition t names (d .«enable_types») i room)

@@ -1,11 +1,13 @@
 -- Paths in types: unpack_path of src/syntax/type_expr.rs, over trees. These are definitions.
 -- Copyright 2018 The Starlark in Rust Authors. Copyright (c) Facebook, Inc. and its affiliates.
 -- Licensed under Apache-2.0; changed.
-use mathlib.Core.Bool.{Bool}
+use mathlib.Core.Bool.{Bool, false}
 use mathlib.Core.List.{List, [], _∷_}
 use Prim.Native.Nat.{ℕ}
 use lib.Dec.{eqb}
 use Rattle.fields.specs.Choice.{if'}
+use Rattle.dialect.specs.declared.Edition.{Edition}
+use Rattle.dialect.specs.declared.Edition.the-variants.{One, Two}
 use Rattle.forest.specs.Forest.{Node, Tree, node, Forest, none, _then_}
 use Rattle.forest.specs.Names.{nameOf, same}
 use Rattle.soundness.specs.KindNumbers.{kindDot, kindIdentifier}
@@ -16,9 +18,11 @@ use Rattle.table.specs.Answer.{Answer, accepted, refusedAt}
 abbrev pub typeField : List ℕ
 typeField = 116 ∷ 121 ∷ 112 ∷ 101 ∷ []
 
--- whether a path that ends in the field of this Dot is banned. The ban on `type` stands here alone
-abbrev pub banned : List ℕ → Node → Bool
-banned names dot = same (nameOf names dot) typeField
+-- whether a path that ends in the field of this Dot is banned: by the first edition if it is `type`, by the second
+-- never (W-212). The ban on `type` stands here alone, and so does the edition
+abbrev pub banned : Edition → List ℕ → Node → Bool
+banned One names dot = same (nameOf names dot) typeField
+banned Two names dot = false
 
 -- the object of a Dot: Dots down to an Identifier, where a banned path is 44; else 42 at what stands there. Only an
 -- unsound Dot has no object, and nothing is refused
@@ -34,8 +38,8 @@ unfoldable mutual
       refusedAt dotInType r))
 
 -- a path: an Identifier, or Dots down to one; else 43
-unfoldable pub «unpack_path» : List ℕ → Tree → Answer
-«unpack_path» names (node r ks) =
+unfoldable pub «unpack_path» : Edition → List ℕ → Tree → Answer
+«unpack_path» edition names (node r ks) =
     if' (eqb (r .kind) kindIdentifier) (λ _. accepted []) (λ _.
-    if' (eqb (r .kind) kindDot) (λ _. objectPath (banned names r) ks) (λ _.
+    if' (eqb (r .kind) kindDot) (λ _. objectPath (banned edition names r) ks) (λ _.
     refusedAt expectingPath r))

@@ -9,6 +9,7 @@ use Rattle.fields.specs.Choice.{if'}
 use Rattle.forest.specs.Forest.{Node, Tree, node, Forest, none, _then_}
 use Rattle.soundness.specs.KindNumbers.{kindIdentifier, kindList}
 use Rattle.dialect.specs.declared.DialectTypes.{DialectTypes}
+use Rattle.dialect.specs.declared.Edition.{Edition}
 use Rattle.dialect.specs.Rows.{permitsTypes}
 use Rattle.table.specs.Numbers.{invalidType, emptyListInType, typesDisabled}
 use Rattle.table.specs.Answer.{Answer, accepted, andThen, refusedAt}
@@ -24,9 +25,9 @@ indexBase r none = refusedAt invalidType r
 indexBase r (node b bs then ts) = if' (eqb (b .kind) kindIdentifier) (λ _. accepted L.[]) (λ _. refusedAt invalidType r)
 
 -- the base of an Index2: a path. Only an unsound one has none, and nothing is refused
-unfoldable pub index2Base : L.List ℕ → Forest → Answer
-index2Base names none = accepted L.[]
-index2Base names (b then ts) = «unpack_path» names b
+unfoldable pub index2Base : Edition → L.List ℕ → Forest → Answer
+index2Base edition names none = accepted L.[]
+index2Base edition names (b then ts) = «unpack_path» edition names b
 
 -- the items of a List that is a type: 41 for none, 40 for one
 unfoldable pub listLength : Node → Forest → Answer
@@ -35,43 +36,46 @@ listLength r (t then none) = refusedAt invalidType r
 listLength r (t then (u then ts)) = accepted L.[]
 
 -- what is refused at a node before its children are read
-unfoldable pub atNode : L.List ℕ → Form → Node → Forest → Answer
-atNode names Ellipsis r ks = accepted L.[]
-atNode names Path r ks = «unpack_path» names (node r ks)
-atNode names Index r ks = indexBase r ks
-atNode names Index2 r ks = index2Base names ks
-atNode names List r ks = listLength r ks
-atNode names Union r ks = accepted L.[]
-atNode names Tuple r ks = accepted L.[]
-atNode names Other r ks = refusedAt invalidType r
+unfoldable pub atNode : Edition → L.List ℕ → Form → Node → Forest → Answer
+atNode edition names Ellipsis r ks = accepted L.[]
+atNode edition names Path r ks = «unpack_path» edition names (node r ks)
+atNode edition names Index r ks = indexBase r ks
+atNode edition names Index2 r ks = index2Base edition names ks
+atNode edition names List r ks = listLength r ks
+atNode edition names Union r ks = accepted L.[]
+atNode edition names Tuple r ks = accepted L.[]
+atNode edition names Other r ks = refusedAt invalidType r
 
 -- a node as a type, given what its children give by how they are read
-abbrev pub typeRule : L.List ℕ → Node → Forest → (Reads → Answer) → Answer
-typeRule names r ks children =
-    andThen (atNode names (formOf (r .kind) (r .detail)) r ks) (λ _. children (readsOf (formOf (r .kind) (r .detail))))
+abbrev pub typeRule : Edition → L.List ℕ → Node → Forest → (Reads → Answer) → Answer
+typeRule edition names r ks children =
+    andThen (atNode edition names (formOf (r .kind) (r .detail)) r ks) (λ _.
+    children (readsOf (formOf (r .kind) (r .detail))))
 
 -- the type rule and the argument rule, which refer to each other; the first refusal, left to right
 unfoldable mutual
-  pub «unpack» : L.List ℕ → Tree → Answer
-  «unpack» names (node r ks) = typeRule names r ks (λ reads. unpackEach reads names ks)
+  pub «unpack» : Edition → L.List ℕ → Tree → Answer
+  «unpack» edition names (node r ks) = typeRule edition names r ks (λ reads. unpackEach reads edition names ks)
 
   -- an argument of Index2: a List of arguments, or a type
-  pub «unpack_argument» : L.List ℕ → Tree → Answer
-  «unpack_argument» names (node r ks) =
-      if' (eqb (r .kind) kindList) (λ _. unpackEach argumentsOnly names ks) (λ _.
-      typeRule names r ks (λ reads. unpackEach reads names ks))
+  pub «unpack_argument» : Edition → L.List ℕ → Tree → Answer
+  «unpack_argument» edition names (node r ks) =
+      if' (eqb (r .kind) kindList) (λ _. unpackEach argumentsOnly edition names ks) (λ _.
+      typeRule edition names r ks (λ reads. unpackEach reads edition names ks))
 
   -- the children of a node: the first, then the others
-  pub unpackEach : Reads → L.List ℕ → Forest → Answer
-  unpackEach reads names none = accepted L.[]
-  unpackEach reads names (t then ts) =
-      andThen (ofChild (reads .first) (accepted L.[]) (λ _. «unpack» names t) (λ _. «unpack_argument» names t)) (λ _.
-      unpackEach (readsAs (reads .others) (reads .others)) names ts)
+  pub unpackEach : Reads → Edition → L.List ℕ → Forest → Answer
+  unpackEach reads edition names none = accepted L.[]
+  unpackEach reads edition names (t then ts) =
+      andThen (ofChild (reads .first) (accepted L.[])
+      (λ _. «unpack» edition names t) (λ _. «unpack_argument» edition names t)) (λ _.
+      unpackEach (readsAs (reads .others) (reads .others)) edition names ts)
 
 -- 45 at the type, where the dialect has none
 abbrev pub typesCheck : DialectTypes → Node → Answer
 typesCheck types r = if' (permitsTypes types) (λ _. accepted L.[]) (λ _. refusedAt typesDisabled r)
 
--- a type in a dialect
-unfoldable pub «dialect_check_type» : L.List ℕ → DialectTypes → Tree → Answer
-«dialect_check_type» names types (node r ks) = andThen (typesCheck types r) (λ _. «unpack» names (node r ks))
+-- a type in a dialect, by an edition
+unfoldable pub «dialect_check_type» : Edition → L.List ℕ → DialectTypes → Tree → Answer
+«dialect_check_type» edition names types (node r ks) =
+    andThen (typesCheck types r) (λ _. «unpack» edition names (node r ks))

@@ -10,6 +10,7 @@ use crate::How;
 use crate::Shaped;
 use crate::forms;
 use crate::paths;
+use dialect::Edition;
 use forest::RECORD;
 use soundness::kinds;
 use table::numbers;
@@ -41,16 +42,17 @@ fn index_base(t: &[u8], node: usize) -> Shaped
 }
 
 // The base of the Index2 that a stretch begins with.
-fn index2_base(names: &[u8], t: &[u8], node: usize) -> Shaped
+fn index2_base(edition: Edition, names: &[u8], t: &[u8], node: usize) -> Shaped
     requires { ⌜ Headed node (now t) ⌝ }
-    ensures { λ r. ⌜ shaped r ≡ index2Base (now (names .entry)) (forest (node + 1) (kidsOf (now (t .entry)))) ⌝ }
+    ensures { λ r. ⌜ shaped r ≡
+        index2Base edition (now (names .entry)) (forest (node + 1) (kidsOf (now (t .entry)))) ⌝ }
 {
     let e = forest::span(t);
     let k = &t[RECORD..e];
     if k.len() < RECORD {
         return Shaped::Accepted;
     }
-    paths::unpack_path(names, k, node + 1)
+    paths::unpack_path(edition, names, k, node + 1)
 }
 
 // The items of the List that a stretch begins with: a type has two or more.
@@ -72,18 +74,19 @@ fn list_length(t: &[u8], node: usize) -> Shaped
 }
 
 // What is refused at the node that a stretch begins with, before its children are read.
-fn at_node(names: &[u8], t: &[u8], node: usize) -> Shaped
+fn at_node(edition: Edition, names: &[u8], t: &[u8], node: usize) -> Shaped
     requires { ⌜ Headed node (now t) ⌝ }
     ensures { λ r. ⌜ shaped r ≡
-        atNode (now (names .entry)) (formOf (nodeOf 0 (now (t .entry)) .kind) (nodeOf 0 (now (t .entry)) .detail))
+        atNode edition (now (names .entry))
+        (formOf (nodeOf 0 (now (t .entry)) .kind) (nodeOf 0 (now (t .entry)) .detail))
         (nodeOf node (now (t .entry))) (forest (node + 1) (kidsOf (now (t .entry)))) ⌝ }
 {
     let form = forms::form(t);
     match form {
         Form::Ellipsis => Shaped::Accepted,
-        Form::Path => paths::unpack_path(names, t, node),
+        Form::Path => paths::unpack_path(edition, names, t, node),
         Form::Index => index_base(t, node),
-        Form::Index2 => index2_base(names, t, node),
+        Form::Index2 => index2_base(edition, names, t, node),
         Form::List => list_length(t, node),
         Form::Union => Shaped::Accepted,
         Form::Tuple => Shaped::Accepted,
@@ -93,11 +96,11 @@ fn at_node(names: &[u8], t: &[u8], node: usize) -> Shaped
 
 // The type that a stretch begins with. A child that is read is a List of arguments or a type: this function decides
 // which, and each of the two rules gets a part of the children alone, so that the subtree is smaller at each call.
-pub(crate) fn unpack(names: &[u8], t: &[u8], node: usize) -> Shaped
+pub(crate) fn unpack(edition: Edition, names: &[u8], t: &[u8], node: usize) -> Shaped
     requires { ⌜ Headed node (now t) ⌝ }
-    ensures { λ r. ⌜ shaped r ≡ «unpack» (now (names .entry)) (treeOf node (now (t .entry))) ⌝ }
+    ensures { λ r. ⌜ shaped r ≡ «unpack» edition (now (names .entry)) (treeOf node (now (t .entry))) ⌝ }
 {
-    let here = at_node(names, t, node);
+    let here = at_node(edition, names, t, node);
     if let Shaped::Refused(why) = here {
         return Shaped::Refused(why);
     }
@@ -117,13 +120,13 @@ pub(crate) fn unpack(names: &[u8], t: &[u8], node: usize) -> Shaped
         match rule {
             How::Unread => {}
             How::AsType => {
-                let judged = unpack(names, child, place);
+                let judged = unpack(edition, names, child, place);
                 if let Shaped::Refused(why) = judged {
                     return Shaped::Refused(why);
                 }
             }
             How::AsArgument => {
-                let judged = unpack_argument(names, child, place);
+                let judged = unpack_argument(edition, names, child, place);
                 if let Shaped::Refused(why) = judged {
                     return Shaped::Refused(why);
                 }
@@ -134,9 +137,9 @@ pub(crate) fn unpack(names: &[u8], t: &[u8], node: usize) -> Shaped
 }
 
 // The List of arguments that a stretch begins with. An item is a List of arguments again, or a type.
-fn unpack_argument(names: &[u8], t: &[u8], node: usize) -> Shaped
+fn unpack_argument(edition: Edition, names: &[u8], t: &[u8], node: usize) -> Shaped
     requires { ⌜ Headed node (now t) × (nodeOf 0 (now t) .kind ≡ kindList) ⌝ }
-    ensures { λ r. ⌜ shaped r ≡ «unpack_argument» (now (names .entry)) (treeOf node (now (t .entry))) ⌝ }
+    ensures { λ r. ⌜ shaped r ≡ «unpack_argument» edition (now (names .entry)) (treeOf node (now (t .entry))) ⌝ }
 {
     let e = forest::span(t);
     let mut left = &t[RECORD..e];
@@ -148,12 +151,12 @@ fn unpack_argument(names: &[u8], t: &[u8], node: usize) -> Shaped
         left = &item[item_bytes..];
         at += item_bytes / RECORD;
         if forest::kind(item) == kinds::LIST {
-            let judged = unpack_argument(names, item, place);
+            let judged = unpack_argument(edition, names, item, place);
             if let Shaped::Refused(why) = judged {
                 return Shaped::Refused(why);
             }
         } else {
-            let judged = unpack(names, item, place);
+            let judged = unpack(edition, names, item, place);
             if let Shaped::Refused(why) = judged {
                 return Shaped::Refused(why);
             }

@@ -10,9 +10,10 @@ mod paths;
 
 use dialect::Dialect;
 use dialect::DialectTypes;
+use dialect::Edition;
 use forest::RECORD;
-use table::Given;
 use table::Refusal;
+use table::Ruled;
 use table::Wanted;
 use table::numbers;
 ghost use mathlib.Core.Path.{_≡_};
@@ -56,32 +57,39 @@ pub enum Shaped {
     Refused(Refusal),
 }
 
-// Whether a node is a type in a dialect, for a buffer with room for so many shapes.
-pub fn judge(table: &[u8], names: &[u8], dialect: &[u8], node: usize, room: usize) -> Shaped
+// Whether a node is a type in a dialect, by the edition of a number, for a buffer with room for so many shapes.
+pub fn judge(
+    table: &[u8],
+    names: &[u8],
+    dialect: &[u8],
+    edition: u32,
+    node: usize,
+    room: usize,
+) -> Shaped
     ensures { λ r. ⌜ shaped r ≡
-        typeShapeOf (now (table .entry)) (now (names .entry)) (now (dialect .entry)) node room ⌝ }
+        typeShapeOf (now (table .entry)) (now (names .entry)) (now (dialect .entry)) edition node room ⌝ }
 {
-    let entered = table::enter_dialect(table, names, dialect);
+    let entered = table::enter_rules(table, names, dialect, dialect::edition_of(edition));
     match entered {
-        Given::In(d) => {
-            let types = d.enable_types;
-            type_at(table, names, types, node, room)
+        Ruled::By { dialect, edition } => {
+            let types = dialect.enable_types;
+            type_at(edition, table, names, types, node, room)
         }
-        Given::Refused(why) => Shaped::Refused(why),
+        Ruled::Refused(why) => Shaped::Refused(why),
     }
 }
 
-// The type that a stretch begins with, in a dialect, for who has checked the table before. Its first record has the
-// index node. It takes any bytes, and reads none where they are no part of a table.
-pub fn judge_type(names: &[u8], d: Dialect, t: &[u8], node: u32) -> Shaped
-    ensures { λ r. ⌜ shaped r ≡ «dialect_check_type» (now (names .entry)) (d .«enable_types»)
+// The type that a stretch begins with, in a dialect and by an edition, for who has checked the table before. Its first
+// record has the index node. It takes any bytes, and reads none where they are no part of a table.
+pub fn judge_type(names: &[u8], d: Dialect, edition: Edition, t: &[u8], node: u32) -> Shaped
+    ensures { λ r. ⌜ shaped r ≡ «dialect_check_type» edition (now (names .entry)) (d .«enable_types»)
         (treeOf node (headedOf node (now (t .entry)))) ⌝ }
 {
     let types = d.enable_types;
     if !table::is_headed(t, node) {
         return no_type(types, &t[0..0], node);
     }
-    dialect_check_type(names, types, t, node as usize)
+    dialect_check_type(edition, names, types, t, node as usize)
 }
 
 // What stands where no type can be read: 45, else 40, at the node.
@@ -95,10 +103,17 @@ fn no_type(types: DialectTypes, none: &[u8], node: u32) -> Shaped
     Shaped::Refused(table::refused_at(numbers::INVALID_TYPE, node, none))
 }
 
-// The same for a table that is sound, in a dialect with these types.
-fn type_at(table: &[u8], names: &[u8], types: DialectTypes, node: usize, room: usize) -> Shaped
+// The same for a table that is sound, by an edition, in a dialect with these types.
+fn type_at(
+    edition: Edition,
+    table: &[u8],
+    names: &[u8],
+    types: DialectTypes,
+    node: usize,
+    room: usize,
+) -> Shaped
     requires { ⌜ accepted [] ≡ checkOf (now table) (now names) ⌝ }
-    ensures { λ r. ⌜ shaped r ≡ typeAt (now (table .entry)) (now (names .entry)) types node room ⌝ }
+    ensures { λ r. ⌜ shaped r ≡ typeAt edition (now (table .entry)) (now (names .entry)) types node room ⌝ }
 {
     if !table::node_fits(table, node, Wanted::Expression) {
         return Shaped::Refused(Refusal::Bare(numbers::WRONG_NODE));
@@ -107,16 +122,23 @@ fn type_at(table: &[u8], names: &[u8], types: DialectTypes, node: usize, room: u
     if room < t.len() / RECORD {
         return Shaped::Refused(Refusal::Bare(numbers::SHORT_BUFFER));
     }
-    dialect_check_type(names, types, t, node)
+    dialect_check_type(edition, names, types, t, node)
 }
 
-// The type that a stretch begins with, in a dialect with these types.
-fn dialect_check_type(names: &[u8], types: DialectTypes, t: &[u8], node: usize) -> Shaped
+// The type that a stretch begins with, by an edition, in a dialect with these types.
+fn dialect_check_type(
+    edition: Edition,
+    names: &[u8],
+    types: DialectTypes,
+    t: &[u8],
+    node: usize,
+) -> Shaped
     requires { ⌜ Headed node (now t) ⌝ }
-    ensures { λ r. ⌜ shaped r ≡ «dialect_check_type» (now (names .entry)) types (treeOf node (now (t .entry))) ⌝ }
+    ensures { λ r. ⌜ shaped r ≡
+        «dialect_check_type» edition (now (names .entry)) types (treeOf node (now (t .entry))) ⌝ }
 {
     if !dialect::permits_types(types) {
         return Shaped::Refused(table::refused_at(numbers::TYPES_DISABLED, node as u32, t));
     }
-    judging::unpack(names, t, node)
+    judging::unpack(edition, names, t, node)
 }

@@ -5,6 +5,7 @@
 // Copyright 2018 The Starlark in Rust Authors. Copyright (c) Facebook, Inc. and its affiliates.
 // Licensed under Apache-2.0.
 use crate::Shaped;
+use dialect::Edition;
 use forest::RECORD;
 use soundness::kinds;
 use table::numbers;
@@ -15,21 +16,27 @@ ghost use Rattle.table.specs.Check.{Within, Headed};
 ghost use Rattle.types.specs.Paths.{banned, objectPath, «unpack_path»};
 ghost use Rattle.types.specs.Jobs.{shaped};
 
-// The field `type`, which may not end a path.
+// The field `type`, which may not end a path by the first edition.
 const TYPE: [u8; 4] = [116, 121, 112, 101];
 
-// Whether a path that ends in the field of the Dot that a stretch begins with is banned.
-fn is_banned(names: &[u8], t: &[u8]) -> bool
-    ensures { λ r. ⌜ r ≡ banned (now (names .entry)) (nodeOf 0 (now (t .entry))) ⌝ }
+// Whether a path that ends in the field of the Dot that a stretch begins with is banned. No other rule looks at the
+// edition.
+fn is_banned(edition: Edition, names: &[u8], t: &[u8]) -> bool
+    ensures { λ r. ⌜ r ≡ banned edition (now (names .entry)) (nodeOf 0 (now (t .entry))) ⌝ }
 {
-    let field = TYPE;
-    forest::names::same_bytes(forest::names::name(names, t), &field)
+    match edition {
+        Edition::One => {
+            let field = TYPE;
+            forest::names::same_bytes(forest::names::name(names, t), &field)
+        }
+        Edition::Two => false,
+    }
 }
 
 // The path that a stretch begins with.
-pub(crate) fn unpack_path(names: &[u8], t: &[u8], node: usize) -> Shaped
+pub(crate) fn unpack_path(edition: Edition, names: &[u8], t: &[u8], node: usize) -> Shaped
     requires { ⌜ Headed node (now t) ⌝ }
-    ensures { λ r. ⌜ shaped r ≡ «unpack_path» (now (names .entry)) (treeOf node (now (t .entry))) ⌝ }
+    ensures { λ r. ⌜ shaped r ≡ «unpack_path» edition (now (names .entry)) (treeOf node (now (t .entry))) ⌝ }
 {
     let kind = forest::kind(t);
     if kind == kinds::IDENTIFIER {
@@ -39,7 +46,7 @@ pub(crate) fn unpack_path(names: &[u8], t: &[u8], node: usize) -> Shaped
         return Shaped::Refused(table::refused_at(numbers::EXPECTING_PATH, node as u32, t));
     }
     let e = forest::span(t);
-    object_path(is_banned(names, t), &t[RECORD..e], node + 1)
+    object_path(is_banned(edition, names, t), &t[RECORD..e], node + 1)
 }
 
 // The object of a Dot in a path that is banned, or not.

@@ -5,20 +5,26 @@
 -- part that is lent from a place on is laid over that place (`over-part`), and two parts one after the other are both
 -- (`over-next`). Assumes nothing.
 use mathlib.Core.Path.{_≡_, refl, sym, ap, _∙_}
+use mathlib.Core.Bool.{true}
 use mathlib.Core.Logic.{⊎-elim}
-use mathlib.Core.List.{List, [], _++_, append-assoc}
+use mathlib.Core.List.{List, [], _∷_, _++_, append-assoc}
 use Prim.Native.Nat.{ℕ, zero, suc, _+_, _*_, _-_, _/_, _<_, _≤_, min}
 use native.Mathlib.Nat.{add-zero}
 use native.Mathlib.Omega.{arith}
-use lib.ListN.{length, getD, take, drop, replicate, length-append, length-take, length-drop, length-replicate}
+use lib.ListN.{length, getD, take, drop, set, replicate, length-append, length-take, length-drop, length-replicate}
 use lib.ListN.{getD-replicate, List·getD-append, replicate-append-replicate, drop-of-length-le}
 use lib.Seq.{take-length, drop-length, take-at, drop-at, drop-append-le, getD-append-add}
+use lib.Dec.{ltb}
+use borrow.Author.Tests.{ltb-true}
 use borrow.Rule.Slice.PartMut.{putMid}
+use Rattle.dialect.specs.Editions.{statedBytes}
+use Rattle.dialect.specs.declared.Stated.{Stated}
+use Rattle.dialect.specs.declared.Stated.the-variants.{Number, Nothing}
 use Rattle.fields.proofs.Basics.{le-or-lt}
 use Rattle.fields.proofs.Fields.{tail-part}
 use Rattle.fields.specs.Field.{bytesOf}
 use Rattle.fields.specs.Over.{over}
-use Rattle.fields.proofs.Over.{over-none, over-front, length-over, over-next, over-part}
+use Rattle.fields.proofs.Over.{over-none, over-front, length-over, over-sets, over-next, over-part}
 use Rattle.fields.proofs.Spelling.{length-bytes}
 use Rattle.blocks.specs.Block.{weighed, sumOf, beforeSum, blockOf}
 use Rattle.blocks.specs.Run.{blocksFor, blocksOf, runOf}
@@ -27,9 +33,9 @@ use Rattle.blocks.proofs.Sums.{weighed-front}
 use Rattle.blocks.proofs.Laying.{laid-fits, length-laid}
 use Rattle.blocks.proofs.Blocks.{length-front, length-block, take-min}
 use Rattle.blocks.proofs.Runs.{blocks-more, length-run}
-use Rattle.tablefile.specs.File.{headerOf, fileOf, mostBlocks}
+use Rattle.tablefile.specs.File.{Content, headerOf, fileOf, mostBlocks}
 use Rattle.tablefile.proofs.Copies.{drop-zeros}
-use Rattle.writer.specs.Writing.{holding, bytesFor}
+use Rattle.writer.specs.Writing.{holding, bytesFor, isByte}
 
 -- four bytes, and what is laid behind them
 four-then : (d a b : List ℕ) {o₁ o₂ : List ℕ} → length a ≡ 4 → o₁ ≡ over 0 a d → o₂ ≡ over 4 b o₁
@@ -138,26 +144,99 @@ block-laid number content d {o₃ = o₃} fits room head-is o₁-is o₂-is o₃
     let o₄-so = o₄-is ∙ laid-fits 508 check o₃ (omega arith) in
     block-whole number content d fits head-is o₁-so o₂-is o₃-is is check-is o₄-so
 
--- block 0: the counts, then the dialect
-pub header-whole : (t names ds d : List ℕ) {counts o₁ o₂ out : List ℕ} → length ds ≤ 9
-    → counts ≡ bytesOf 2 (length t / 24) ++ bytesOf 2 (length names) → o₁ ≡ laidAt 0 counts (replicate 13 0)
-    → o₂ ≡ laidAt 4 ds o₁ → out ≡ over 0 (blockOf 0 (take (4 + length ds - 0) (drop 0 o₂))) d
-    → out ≡ over 0 (blockOf 0 (headerOf (holding t names ds))) d
-unfolding headerOf
-header-whole t names ds d {counts} {o₁} {o₂} few counts-is o₁-is o₂-is out-is =
-    let n : ℕ = 4 + length ds in
-    let four : length counts ≡ 4 = pair-four (length t / 24) (length names) counts-is in
-    let zeros : length (replicate {A = ℕ} 13 0) ≡ 13 = length-replicate {A = ℕ} 13 0 in
-    let o₁-so : o₁ ≡ over 0 counts (replicate 13 0) = o₁-is ∙ laid-fits 0 counts (replicate 13 0) (omega arith) in
-    let o₁-long : length o₁ ≡ 13 = ap length o₁-is ∙ length-laid 0 counts (replicate 13 0) ∙ zeros in
-    let o₂-so : o₂ ≡ over 4 ds o₁ = o₂-is ∙ laid-fits 4 ds o₁ (omega arith) in
-    let all : n - 0 ≡ n = omega arith in
-    let long : length (counts ++ ds) ≡ n = simp length-append (omega arith) in
-    let header : take (n - 0) (drop 0 o₂) ≡ headerOf (holding t names ds) =
-    ap (λ (k : ℕ). take k o₂) all ∙ ap (take n) (four-then (replicate 13 0) counts ds four o₁-so o₂-so)
-    ∙ take-at (counts ++ ds) (drop n (replicate 13 0)) n long ∙ ap (λ (x : List ℕ). x ++ ds) counts-is
-    ∙ append-assoc (bytesOf 2 (length t / 24)) (bytesOf 2 (length names)) ds in
-    rw header at out-is
+-- what is laid behind what is laid at the front
+next-over : (d a b : List ℕ) (n : ℕ) → length a ≡ n → over n b (over 0 a d) ≡ over 0 (a ++ b) d
+next-over d a b n long =
+    let at : n ≡ 0 + length a = omega arith in
+    ap (λ (m : ℕ). over m b (over 0 a d)) at ∙ over-next 0 a d b
+
+-- an edition takes a byte at most
+pub stated-few : (edition : Stated) → length (statedBytes edition) ≤ 1
+stated-few (Number n) = omega arith
+stated-few Nothing = omega arith
+
+-- block 0: the counts, then the dialect, then the edition
+module _ (t names ds : List ℕ) {counts : List ℕ}
+    (counts-is : counts ≡ bytesOf 2 (length t / 24) ++ bytesOf 2 (length names)) where
+  counts-then : length (counts ++ ds) ≡ 4 + length ds
+  counts-then = simp length-append (omega (arith, pair-four (length t / 24) (length names) counts-is))
+
+  module _ (few : length ds ≤ 9) {o₁ o₂ : List ℕ} (o₁-is : o₁ ≡ laidAt 0 counts (replicate 14 0))
+      (o₂-is : o₂ ≡ laidAt 4 ds o₁) where
+    header-begun : o₂ ≡ over 0 (counts ++ ds) (replicate 14 0)
+    header-begun =
+        let four : length counts ≡ 4 = pair-four (length t / 24) (length names) counts-is in
+        let zeros : length (replicate {A = ℕ} 14 0) ≡ 14 = length-replicate {A = ℕ} 14 0 in
+        let o₁-so : o₁ ≡ over 0 counts (replicate 14 0) = o₁-is ∙ laid-fits 0 counts (replicate 14 0) (omega arith) in
+        let o₁-long : length o₁ ≡ 14 = ap length o₁-is ∙ length-laid 0 counts (replicate 14 0) ∙ zeros in
+        o₂-is ∙ laid-fits 4 ds o₁ (omega arith) ∙ ap (over 4 ds) o₁-so
+        ∙ next-over (replicate 14 0) counts ds 4 four
+
+    pub header-room : 4 + length ds < length o₂
+    header-room =
+        let zeros : length (replicate {A = ℕ} 14 0) ≡ 14 = length-replicate {A = ℕ} 14 0 in
+        let long : length o₂ ≡ 14 = ap length header-begun
+        ∙ length-over 0 (counts ++ ds) (replicate 14 0) (omega (arith, counts-then)) ∙ zeros in
+        omega arith
+
+    module _ (edition : Stated) {o₃ : List ℕ} {used : ℕ}
+        (o₃-is : o₃ ≡ over (4 + length ds) (statedBytes edition) o₂)
+        (used-is : used ≡ 4 + length ds + length (statedBytes edition)) where
+      pub header-used : used ≤ length o₃
+      header-used =
+          let fits : 4 + length ds + length (statedBytes edition) ≤ length o₂ =
+          omega (arith, header-room, stated-few edition) in
+          let long : length o₃ ≡ length o₂ = ap length o₃-is
+          ∙ length-over (4 + length ds) (statedBytes edition) o₂ fits in
+          omega arith
+
+      pub header-small : length (take (used - 0) (drop 0 o₃)) ≤ 504
+      header-small = simp length-take (omega (arith, stated-few edition))
+
+      abbrev es : List ℕ
+      es = statedBytes edition
+
+      abbrev whole : List ℕ
+      whole = (counts ++ ds) ++ es
+
+      whole-is : whole ≡ headerOf (holding t names ds edition)
+      unfolding headerOf
+      whole-is = append-assoc counts ds es ∙ ap (λ (x : List ℕ). x ++ (ds ++ es)) counts-is
+          ∙ append-assoc (bytesOf 2 (length t / 24)) (bytesOf 2 (length names)) (ds ++ es)
+
+      header-laid : take (used - 0) (drop 0 o₃) ≡ headerOf (holding t names ds edition)
+      header-laid =
+          let o₃-so : o₃ ≡ over 0 whole (replicate 14 0) = o₃-is ∙ ap (over (4 + length ds) es) header-begun
+          ∙ next-over (replicate 14 0) (counts ++ ds) es (4 + length ds) counts-then in
+          let long : length whole ≡ used - 0 = omega (arith, length-append (counts ++ ds) es, counts-then) in
+          ap (take (used - 0)) (o₃-so ∙ over-front whole (replicate 14 0))
+          ∙ take-at whole (drop (length whole) (replicate 14 0)) (used - 0) long ∙ whole-is
+
+      pub header-whole : (d : List ℕ) {out : List ℕ} → out ≡ over 0 (blockOf 0 (take (used - 0) (drop 0 o₃))) d
+          → out ≡ over 0 (blockOf 0 (headerOf (holding t names ds edition))) d
+      header-whole d out-is = rw header-laid at out-is
+
+-- the edition, put at its place, or none: e is what code found it to be
+module _ (edition : Stated) where
+  module _ {n : ℕ} (e : edition ≡ Number n) where
+    pub byte-number : ltb n 256 ≡ isByte edition
+    byte-number = rw e refl
+
+    pub byte-small : isByte edition ≡ true → n < 256
+    byte-small h = ltb-true n 256 (rw e at h)
+
+    pub edition-put : (at : ℕ) (out : List ℕ) → at < length out → set out at n ≡ over at (statedBytes edition) out
+    edition-put at out h = rw e (over-sets at (n ∷ []) out (omega arith))
+
+    pub edition-behind : (at : ℕ) → at + 1 ≡ at + length (statedBytes edition)
+    edition-behind at = rw e refl
+
+  module _ (e : edition ≡ Nothing) where
+    pub edition-kept : (at : ℕ) (out : List ℕ) → out ≡ over at (statedBytes edition) out
+    edition-kept at out = rw e (sym (over-none at out))
+
+    pub edition-here : (at : ℕ) → at ≡ at + length (statedBytes edition)
+    edition-here at = rw e (sym (add-zero at))
 
 -- a run: its first block, and the others
 run-first : (number : ℕ) (left : List ℕ) → 0 < length left
@@ -251,24 +330,24 @@ module _ {d content : List ℕ} {first : ℕ} {out left : List ℕ} {done : ℕ}
         rw (new, after) run-next
 
 -- a file: block 0, the names' run, the nodes' run
-header-long : (t names ds : List ℕ) → length ds ≤ 9 → length (blockOf 0 (headerOf (holding t names ds))) ≡ 512
+header-long : (c : Content) → length (c .dialect) ≤ 9 → length (blockOf 0 (headerOf c)) ≡ 512
 unfolding headerOf
-header-long t names ds h =
-    length-block 0 (headerOf (holding t names ds)) (simp (length-append, length-bytes) (omega arith))
+header-long c h = length-block 0 (headerOf c)
+    (simp (length-append, length-bytes) (omega (arith, stated-few (c .edition))))
 
-pub length-file : (t names ds : List ℕ) → length ds ≤ 9
-    → length (fileOf (holding t names ds)) ≡ bytesFor (length t) (length names)
+pub length-file : (c : Content) → length (c .dialect) ≤ 9
+    → length (fileOf c) ≡ bytesFor (length (c .table)) (length (c .names))
 unfolding fileOf
-length-file t names ds h =
-    let first : ℕ = 1 + blocksFor (length names) in
-    simp (length-append, header-long t names ds h, length-run 1 names, length-run first t) (omega arith)
+length-file c h =
+    let first : ℕ = 1 + blocksFor (length (c .names)) in
+    simp (length-append, header-long c h, length-run 1 (c .names), length-run first (c .table)) (omega arith)
 
 -- the file as three functions write it: each is lent what stands from its place on
-module _ (t names ds d : List ℕ) (pre : (length ds ≤ 9)
+module _ (t names ds : List ℕ) (edition : Stated) (d : List ℕ) (pre : (length ds ≤ 9) × (isByte edition ≡ true)
     × (1 + blocksFor (length names) + blocksFor (length t) ≤ mostBlocks)
     × (bytesFor (length t) (length names) ≤ length d)) where
   abbrev header : List ℕ
-  header = blockOf 0 (headerOf (holding t names ds))
+  header = blockOf 0 (headerOf (holding t names ds edition))
 
   abbrev begun : List ℕ
   begun = header ++ runOf 1 names
@@ -277,7 +356,7 @@ module _ (t names ds d : List ℕ) (pre : (length ds ≤ 9)
   first = 1 + blocksFor (length names)
 
   header-is : length header ≡ 512
-  header-is = header-long t names ds (pre .0)
+  header-is = header-long (holding t names ds edition) (pre .0)
 
   begun-long : length begun ≡ 512 * first
   begun-long = simp length-append (omega (arith, header-is, length-run 1 names))
@@ -297,7 +376,7 @@ module _ (t names ds d : List ℕ) (pre : (length ds ≤ 9)
         -- LAW: that is the file
         pub file-whole : {zs : List ℕ}
             → zs ≡ over 0 (runOf (1 + k) t) (take (length f₂ - 512 * (1 + k)) (drop (512 * (1 + k)) f₂))
-            → putMid (512 * (1 + k)) (length f₂ - 512 * (1 + k)) f₂ zs ≡ over 0 (fileOf (holding t names ds)) d
+            → putMid (512 * (1 + k)) (length f₂ - 512 * (1 + k)) f₂ zs ≡ over 0 (fileOf (holding t names ds edition)) d
         unfolding fileOf
         file-whole zs-is =
             let at : 512 * first ≡ 0 + length begun = omega (arith, begun-long) in

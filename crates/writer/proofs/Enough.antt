@@ -11,23 +11,30 @@ use lib.Seq.{take-all}
 use Rattle.fields.proofs.Basics.{le-or-lt}
 use Rattle.dialect.specs.Bytes.{fromBytes}
 use Rattle.dialect.specs.declared.Decoded.the-variants.{Invalid}
+use Rattle.dialect.specs.declared.Stated.{Stated}
 use Rattle.dialect.proofs.Laws.{other-length}
 use Rattle.table.specs.Numbers.{tableLength, nameBytes, badDialect}
 use Rattle.table.specs.Answer.{Answer, accepted, refused}
 use Rattle.table.specs.Check.{mostBytes, mostNames, lengthSound, checkOf, turnedAway, givenOf}
 use Rattle.table.proofs.Checking.{length-whole, check-length, check-names}
-use Rattle.writer.specs.Writing.{writeOf, fileAfter}
+use Rattle.table.proofs.Ruling.{away-rules}
+use Rattle.tablefile.specs.File.{Content}
+use Rattle.tablefile.specs.Reading.{editionRead}
+use Rattle.writer.specs.Writing.{holding, writeOf, fileAfter}
 
 -- two contents that are answered alike, whatever the buffer, with the same bytes after
-pub record Alike (t names ds t′ names′ ds′ : List ℕ) : Type 0 where
-  pub answer : (room : ℕ) → writeOf t names ds room ≡ writeOf t′ names′ ds′ room
-  pub after : (buffer : List ℕ) → fileAfter t names ds buffer ≡ fileAfter t′ names′ ds′ buffer
+pub record Alike (c c′ : Content) : Type 0 where
+  pub answer : (room : ℕ) → writeOf c room ≡ writeOf c′ room
+  pub after : (buffer : List ℕ) → fileAfter c buffer ≡ fileAfter c′ buffer
 
 -- both turned away for the same
-away-alike : (t names ds t′ names′ ds′ : List ℕ) {n : ℕ} {vs : List ℕ} → givenOf t names ds ≡ turnedAway n vs
-    → givenOf t′ names′ ds′ ≡ turnedAway n vs → Alike t names ds t′ names′ ds′
+away-alike : (c c′ : Content) {n : ℕ} {vs : List ℕ} → givenOf (c .table) (c .names) (c .dialect) ≡ turnedAway n vs
+    → givenOf (c′ .table) (c′ .names) (c′ .dialect) ≡ turnedAway n vs → Alike c c′
 unfolding writeOf
-away-alike t names ds t′ names′ ds′ e f = record { answer = λ room. rw (e, f) refl; after = λ buffer. rw (e, f) refl }
+away-alike c c′ e f =
+    let here = away-rules (c .table) (c .names) (c .dialect) (editionRead c) e in
+    let there = away-rules (c′ .table) (c′ .names) (c′ .dialect) (editionRead c′) f in
+    record { answer = λ room. rw (here, there) refl; after = λ buffer. rw (here, there) refl }
 
 module _ (t names ds : List ℕ) where
   bad-table : lengthSound (length t) ≡ false → givenOf t names ds ≡ turnedAway tableLength []
@@ -49,26 +56,30 @@ module _ (t names ds : List ℕ) where
 long-dialect : (ds : List ℕ) → 9 < length ds → fromBytes ds ≡ Invalid
 long-dialect ds h = other-length ds (λ e. omega arith) (λ e. omega arith)
 
-bad-dialect : (t names : List ℕ) {ds ds′ : List ℕ} → fromBytes ds ≡ Invalid → fromBytes ds′ ≡ Invalid
-    → Alike t names ds t names ds′
-unfolding givenOf
-bad-dialect t names {ds} {ds′} e f = go (checkOf t names) refl
-  where
-    go : (x : Answer) → checkOf t names ≡ x → Alike t names ds t names ds′
-    go (accepted vs) c = away-alike t names ds t names ds′ {n = badDialect} {vs = []} (rw (c, e) refl) (rw (c, f) refl)
-    go (refused n vs) c = away-alike t names ds t names ds′ {n = n} {vs = vs} (rw c refl) (rw c refl)
+-- what is cut off of each decides nothing; the edition is the same
+module _ (t names ds : List ℕ) (edition : Stated) where
+  abbrev cut : List ℕ → List ℕ → List ℕ → Content
+  cut t′ names′ ds′ = holding t′ names′ ds′ edition
 
--- what is cut off of each decides nothing
-module _ (t names ds : List ℕ) where
-  enough-dialect : Alike t names (take 10 ds) t names ds
+  bad-dialect : {ds′ : List ℕ} → fromBytes ds ≡ Invalid → fromBytes ds′ ≡ Invalid
+      → Alike (cut t names ds′) (cut t names ds)
+  unfolding givenOf
+  bad-dialect {ds′} e f = go (checkOf t names) refl
+    where
+      go : (x : Answer) → checkOf t names ≡ x → Alike (cut t names ds′) (cut t names ds)
+      go (accepted vs) c = away-alike (cut t names ds′) (cut t names ds) {n = badDialect} {vs = []} (rw (c, f) refl)
+          (rw (c, e) refl)
+      go (refused n vs) c = away-alike (cut t names ds′) (cut t names ds) {n = n} {vs = vs} (rw c refl) (rw c refl)
+
+  enough-dialect : Alike (cut t names (take 10 ds)) (cut t names ds)
   enough-dialect = ⊎-elim
       (λ (h : length ds ≤ 9). rw (take-all 10 ds (omega arith))
       record { answer = λ room. refl; after = λ buffer. refl })
-      (λ (h : 9 < length ds). bad-dialect t names (long-dialect (take 10 ds) (simp length-take (omega arith)))
-      (long-dialect ds h))
+      (λ (h : 9 < length ds). bad-dialect (long-dialect ds h)
+      (long-dialect (take 10 ds) (simp length-take (omega arith))))
       (le-or-lt (length ds) 9)
 
-  enough-names : Alike t (take (suc mostNames) names) (take 10 ds) t names ds
+  enough-names : Alike (cut t (take (suc mostNames) names) (take 10 ds)) (cut t names ds)
   enough-names = ⊎-elim
       (λ (h : length names ≤ mostNames). rw (take-all (suc mostNames) names (omega arith)) enough-dialect)
       (λ (h : mostNames < length names). go (lengthSound (length t)) refl h)
@@ -77,16 +88,19 @@ module _ (t names ds : List ℕ) where
       part : List ℕ
       part = take (suc mostNames) names
 
-      go : (b : Bool) → lengthSound (length t) ≡ b → mostNames < length names → Alike t part (take 10 ds) t names ds
-      go true e h = away-alike t part (take 10 ds) t names ds
+      go : (b : Bool) → lengthSound (length t) ≡ b → mostNames < length names
+          → Alike (cut t part (take 10 ds)) (cut t names ds)
+      go true e h = away-alike (cut t part (take 10 ds)) (cut t names ds)
           (long-names t part (take 10 ds) e (simp length-take (omega arith))) (long-names t names ds e h)
-      go false e h = away-alike t part (take 10 ds) t names ds
+      go false e h = away-alike (cut t part (take 10 ds)) (cut t names ds)
           (bad-table t part (take 10 ds) e) (bad-table t names ds e)
 
   -- THEOREM
-  pub read-enough : Alike (take (suc mostBytes) t) (take (suc mostNames) names) (take 10 ds) t names ds
+  pub read-enough : Alike (holding (take (suc mostBytes) t) (take (suc mostNames) names) (take 10 ds) edition)
+      (holding t names ds edition)
   read-enough = ⊎-elim
       (λ (h : length t ≤ mostBytes). rw (take-all (suc mostBytes) t (omega arith)) enough-names)
-      (λ (h : mostBytes < length t). away-alike _ (take (suc mostNames) names) (take 10 ds) t names ds
+      (λ (h : mostBytes < length t). away-alike
+      (cut (take (suc mostBytes) t) (take (suc mostNames) names) (take 10 ds)) (cut t names ds)
       (long-table (take (suc mostBytes) t) _ _ (simp length-take (omega arith))) (long-table t names ds h))
       (le-or-lt (length t) mostBytes)

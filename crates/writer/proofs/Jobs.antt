@@ -7,22 +7,28 @@ use Prim.Native.Nat.{ℕ, _+_, _*_, _<_, _≤_, _^_}
 use native.Mathlib.Omega.{arith}
 use lib.ListN.{length}
 use lib.Dec.{leb}
-use borrow.Author.Tests.{le-leb, lt-leb, leb-true}
+use borrow.Author.Tests.{le-leb, lt-leb, lt-ltb, leb-true}
 use Rattle.fields.proofs.Basics.{clash, and-left, and-right}
+use Rattle.fields.proofs.Spelling.{Bytes}
+use Rattle.dialect.specs.Editions.{statedBytes, editionHeld}
 use Rattle.dialect.specs.declared.Dialect.{Dialect}
+use Rattle.dialect.specs.declared.Edition.{Edition}
+use Rattle.dialect.specs.declared.EditionRead.{EditionRead}
+use Rattle.dialect.specs.declared.Stated.{Stated}
+use Rattle.dialect.specs.declared.Stated.the-variants.{Number, Nothing}
 use Rattle.table.specs.Numbers.{shortBuffer}
 use Rattle.table.specs.Answer.{Answer, accepted, refused, andThen, isRefused, refusal}
-use Rattle.table.specs.Check.{Handing, inDialect, turnedAway, given, givenOf, inGiven}
+use Rattle.table.specs.Check.{Ruling, byRules, unruled, ruled, rulesOf, inRules}
 use Rattle.table.specs.declared.Refusal.{Refusal}
-use Rattle.table.specs.declared.Given.{Given}
-use Rattle.table.specs.declared.Given.the-variants.{In, Refused as Away}
-use Rattle.table.proofs.Entering.{away-is, in-is, given-known, given-passed}
+use Rattle.table.specs.declared.Ruled.{Ruled}
+use Rattle.table.specs.declared.Ruled.the-variants.{By, Refused as Away}
+use Rattle.table.proofs.Ruling.{unruled-is, by-is}
 use Rattle.blocks.specs.Run.{blocksFor}
-use Rattle.tablefile.specs.File.{fileOf, mostBlocks}
-use Rattle.tablefile.specs.Reading.{soundCheck}
-use Rattle.tablefile.proofs.Accepted.{dialect-lengths}
+use Rattle.tablefile.specs.File.{Content, fileOf, mostBlocks}
+use Rattle.tablefile.specs.Reading.{editionRead, soundCheck}
+use Rattle.tablefile.proofs.Accepted.{dialect-lengths, sound-known, sound-byte}
 use Rattle.writer.specs.Writing.{holding, bytesFor, roomCheck, writeOf, afterwards, fileAfter}
-use Rattle.writer.specs.Writing.{fitsIn, laidOver}
+use Rattle.writer.specs.Writing.{isByte, fitsIn, laidOver}
 use Rattle.fields.specs.Choice.{if'}
 use Rattle.fields.specs.Over.{over}
 
@@ -34,111 +40,117 @@ module _ (t n room : ℕ) {k m : ℕ} (k-is : k ≡ blocksFor n) (m-is : m ≡ b
   pub room-enough : 512 * (1 + k + m) ≤ room → accepted (512 * (1 + k + m) ∷ []) ≡ roomCheck (bytesFor t n) room
   room-enough h = rw (← k-is, ← m-is, le-leb (512 * (1 + k + m)) room h) refl
 
--- what 1 to 5 say of lengths: no more blocks than a file has at most, and no more dialect bytes than nine
-known-few : (t names ds : List ℕ) {d : Dialect} → givenOf t names ds ≡ inDialect d
-    → (1 + blocksFor (length names) + blocksFor (length t) ≤ mostBlocks) × (length ds ≤ 9)
+-- what 1 to 5 say of lengths: no more blocks than a file has at most, no more dialect bytes than nine, and an edition of
+-- one byte
+pub record Few (c : Content) : Type 0 where
+  pub blocks : 1 + blocksFor (length (c .names)) + blocksFor (length (c .table)) ≤ mostBlocks
+  pub dialect : length (c .dialect) ≤ 9
+  pub edition : isByte (c .edition) ≡ true
+
+byte-is : (edition : Stated) → Bytes (statedBytes edition) → isByte edition ≡ true
+byte-is (Number n) small = lt-ltb n 256 (small 0)
+byte-is Nothing small = refl
+
+pub sound-few : (c : Content) → soundCheck c ≡ accepted [] → Few c
 unfolding blocksFor
-known-few t names ds e =
-    let known = given-known t names ds e in (
-      omega (arith, known .0 .most, known .0 .few),
-      ⊎-elim (λ (n : length ds ≡ 0). omega arith) (λ (n : length ds ≡ 9). omega arith) (dialect-lengths ds (known .1)),
-    )
+sound-few c sound =
+    let known = sound-known c sound in
+    record {
+      blocks = omega (arith, known .clean .most, known .clean .few);
+      dialect = ⊎-elim (λ (n : length (c .dialect) ≡ 0). omega arith) (λ (n : length (c .dialect) ≡ 9). omega arith)
+          (dialect-lengths (c .dialect) (known .decoded));
+      edition = byte-is (c .edition) (sound-byte c known);
+    }
 
-pub sound-few : (t names ds : List ℕ) → soundCheck (holding t names ds) ≡ accepted []
-    → (1 + blocksFor (length names) + blocksFor (length t) ≤ mostBlocks) × (length ds ≤ 9)
-sound-few t names ds e = known-few t names ds (given-passed t names ds e .1)
+-- the judgement: x is what `edition_held` read, and g what `enter_rules` answered
+module _ (t names ds : List ℕ) (edition : Stated) {x : EditionRead} (x-is : x ≡ editionHeld ds (statedBytes edition))
+    (g : Ruled) (g-is : ruled g ≡ rulesOf t names ds x) where
+  rules-are : ruled g ≡ rulesOf t names ds (editionHeld ds (statedBytes edition))
+  rules-are = rw x-is at g-is
 
--- the judgement: g is what `enter_dialect` answered
-module _ (t names ds : List ℕ) {g : Given} (g-is : given g ≡ givenOf t names ds) where
-  pub job-refused : (room : ℕ) {why : Refusal} → g ≡ Away why → refusal why ≡ writeOf t names ds room
+  pub job-refused : (room : ℕ) {why : Refusal} → g ≡ Away why → refusal why ≡ writeOf (holding t names ds edition) room
   unfolding writeOf
-  job-refused room e = rw (away-is t names ds g-is e) refl
+  job-refused room e = rw (unruled-is t names ds (editionHeld ds (statedBytes edition)) rules-are e) refl
 
-  module _ {x : Dialect} (e : g ≡ In x) where
+  module _ {f : Dialect} {n : Edition} (e : g ≡ By f n) where
+    passed : soundCheck (holding t names ds edition) ≡ accepted []
+    passed = rw (by-is t names ds (editionHeld ds (statedBytes edition)) rules-are e) refl
+
     pub job-few : 1 + blocksFor (length names) + blocksFor (length t) ≤ mostBlocks
-    job-few = known-few t names ds (in-is t names ds g-is e) .0
+    job-few = sound-few (holding t names ds edition) passed .blocks
 
     pub job-room : (room : ℕ) {r : Answer} → r ≡ roomCheck (bytesFor (length t) (length names)) room
-        → r ≡ writeOf t names ds room
+        → r ≡ writeOf (holding t names ds edition) room
     unfolding writeOf
-    job-room room r-is = r-is ∙ rw (in-is t names ds g-is e) refl
+    job-room room r-is = r-is ∙ rw passed refl
 
 -- LAW: what acceptance says: 1 to 5 are passed, there is room, and the answer is how many bytes are written
-pub record Says (t names ds : List ℕ) (room : ℕ) : Type 0 where
-  pub sound : soundCheck (holding t names ds) ≡ accepted []
-  pub dialect : length ds ≤ 9
-  pub fits : bytesFor (length t) (length names) ≤ room
-  pub answer : writeOf t names ds room ≡ accepted (bytesFor (length t) (length names) ∷ [])
+pub record Says (c : Content) (room : ℕ) : Type 0 where
+  pub sound : soundCheck c ≡ accepted []
+  pub few : Few c
+  pub fits : bytesFor (length (c .table)) (length (c .names)) ≤ room
+  pub answer : writeOf c room ≡ accepted (bytesFor (length (c .table)) (length (c .names)) ∷ [])
 
-module _ (t names ds : List ℕ) (room : ℕ) where
+module _ (c : Content) (room : ℕ) where
   abbrev size : ℕ
-  size = bytesFor (length t) (length names)
+  size = bytesFor (length (c .table)) (length (c .names))
 
-  pub sound-accepted : soundCheck (holding t names ds) ≡ accepted [] → size ≤ room
-      → writeOf t names ds room ≡ accepted (size ∷ [])
+  pub sound-accepted : soundCheck c ≡ accepted [] → size ≤ room → writeOf c room ≡ accepted (size ∷ [])
   unfolding writeOf
   sound-accepted sound h = rw (sound, le-leb size room h) refl
 
-  pub passed-says : isRefused (writeOf t names ds room) ≡ false → Says t names ds room
+  pub passed-says : isRefused (writeOf c room) ≡ false → Says c room
   unfolding writeOf
-  passed-says p = go (givenOf t names ds) (leb size room) refl refl p
+  passed-says p = go (rulesOf (c .table) (c .names) (c .dialect) (editionRead c)) (leb size room) refl refl p
     where
-      go : (h : Handing) (b : Bool) → givenOf t names ds ≡ h → leb size room ≡ b
-          → isRefused (andThen (inGiven h (λ _. accepted []))
+      go : (h : Ruling) (b : Bool) → rulesOf (c .table) (c .names) (c .dialect) (editionRead c) ≡ h
+          → leb size room ≡ b
+          → isRefused (andThen (inRules h (λ _ _. accepted []))
           (λ _. if' b (λ _. accepted (size ∷ [])) (λ _. refused shortBuffer []))) ≡ false
-          → Says t names ds room
-      go (turnedAway n vs) b h-is b-is p = clash refl p
-      go (inDialect d) false h-is b-is p = clash refl p
-      go (inDialect d) true h-is b-is p =
-          let sound : soundCheck (holding t names ds) ≡ accepted [] = rw h-is refl in
+          → Says c room
+      go (unruled n vs) b h-is b-is p = clash refl p
+      go (byRules d e) false h-is b-is p = clash refl p
+      go (byRules d e) true h-is b-is p =
+          let sound : soundCheck c ≡ accepted [] = rw h-is refl in
           let fits : size ≤ room = leb-true size room b-is in
-          record {
-            sound = sound;
-            dialect = known-few t names ds h-is .1;
-            fits = fits;
-            answer = sound-accepted sound fits;
-          }
+          record { sound = sound; few = sound-few c sound; fits = fits; answer = sound-accepted sound fits }
 
 -- the job, by its judgement a and whether that is a refusal
-module _ (t names ds file : List ℕ) {a : Answer} (a-is : a ≡ writeOf t names ds (length file)) {q : Bool}
-    (q-is : q ≡ isRefused a) where
-  pub write-refused : q ≡ true → file ≡ fileAfter t names ds file
+module _ (t names ds : List ℕ) (edition : Stated) (file : List ℕ) {a : Answer}
+    (a-is : a ≡ writeOf (holding t names ds edition) (length file)) {q : Bool} (q-is : q ≡ isRefused a) where
+  pub write-refused : q ≡ true → file ≡ fileAfter (holding t names ds edition) file
   write-refused h = rw (← a-is) (kept a (sym q-is ∙ h))
     where
-      kept : (x : Answer) → isRefused x ≡ true → file ≡ afterwards x (fileOf (holding t names ds)) file
+      kept : (x : Answer) → isRefused x ≡ true → file ≡ afterwards x (fileOf (holding t names ds edition)) file
       kept (accepted vs) e = clash e refl
       kept (refused n vs) e = refl
 
   module _ (no : q ≡ false) where
-    says : Says t names ds (length file)
-    says = passed-says t names ds (length file) (rw (← a-is) (sym q-is ∙ no))
+    says : Says (holding t names ds edition) (length file)
+    says = passed-says (holding t names ds edition) (length file) (rw (← a-is) (sym q-is ∙ no))
 
-    pub write-nine : length ds ≤ 9
-    write-nine = says .dialect
+    pub write-ready : (length ds ≤ 9) × (isByte edition ≡ true)
+        × (1 + blocksFor (length names) + blocksFor (length t) ≤ mostBlocks)
+        × (bytesFor (length t) (length names) ≤ length file)
+    write-ready = (says .few .dialect, says .few .edition, says .few .blocks, says .fits)
 
-    pub write-few : 1 + blocksFor (length names) + blocksFor (length t) ≤ mostBlocks
-    write-few = sound-few t names ds (says .sound) .0
-
-    pub write-room : bytesFor (length t) (length names) ≤ length file
-    write-room = says .fits
-
-    pub write-done : {after : List ℕ} → after ≡ over 0 (fileOf (holding t names ds)) file
-        → after ≡ fileAfter t names ds file
+    pub write-done : {after : List ℕ} → after ≡ over 0 (fileOf (holding t names ds edition)) file
+        → after ≡ fileAfter (holding t names ds edition) file
     write-done after-is = rw (says .answer) after-is
 
 -- a file that is written unchecked: what does not fit, and what does
-module _ (t n d room : ℕ) where
-  pub unfit-table : 50400 < t → false ≡ fitsIn t n d room
+module _ (t n d : ℕ) (edition : Stated) (room : ℕ) where
+  pub unfit-table : 50400 < t → false ≡ fitsIn t n d edition room
   unfolding fitsIn
   unfit-table h = rw (lt-leb t 50400 h) refl
 
   module _ (few : t ≤ 50400) where
-    pub unfit-names : 8064 < n → false ≡ fitsIn t n d room
+    pub unfit-names : 8064 < n → false ≡ fitsIn t n d edition room
     unfolding fitsIn
     unfit-names h = rw (le-leb t 50400 few, lt-leb n 8064 h) refl
 
     module _ (named : n ≤ 8064) where
-      pub unfit-dialect : 9 < d → false ≡ fitsIn t n d room
+      pub unfit-dialect : 9 < d → false ≡ fitsIn t n d edition room
       unfolding fitsIn
       unfit-dialect h = rw (le-leb t 50400 few, le-leb n 8064 named, lt-leb d 9 h) refl
 
@@ -154,59 +166,71 @@ module _ (t n d room : ℕ) where
         pub fit-sum : 1 + k + m < 2 ^ 64
         fit-sum = omega (arith, fit-bytes)
 
-      pub fit-room : d ≤ 9 → {k m : ℕ} → k ≡ blocksFor n → m ≡ blocksFor t
-          → leb (512 * (1 + k + m)) room ≡ fitsIn t n d room
-      unfolding fitsIn
-      fit-room nine k-is m-is = rw (k-is, m-is, le-leb t 50400 few, le-leb n 8064 named, le-leb d 9 nine) refl
+      module _ (nine : d ≤ 9) {q : Bool} (q-is : q ≡ isByte edition) where
+        pub unfit-edition : q ≡ false → false ≡ fitsIn t n d edition room
+        unfolding fitsIn
+        unfit-edition h = rw (le-leb t 50400 few, le-leb n 8064 named, le-leb d 9 nine, ← q-is, h) refl
+
+        pub fit-room : q ≡ true → {k m : ℕ} → k ≡ blocksFor n → m ≡ blocksFor t
+            → leb (512 * (1 + k + m)) room ≡ fitsIn t n d edition room
+        unfolding fitsIn
+        fit-room h k-is m-is =
+            rw (k-is, m-is, le-leb t 50400 few, le-leb n 8064 named, le-leb d 9 nine, ← q-is, h) refl
 
 -- LAW: what fits, and that it is then written
-pub record Fitting (t n d room : ℕ) : Type 0 where
+pub record Fitting (t n d : ℕ) (edition : Stated) (room : ℕ) : Type 0 where
   pub few : t ≤ 50400
   pub named : n ≤ 8064
   pub nine : d ≤ 9
+  pub byte : isByte edition ≡ true
   pub there : bytesFor t n ≤ room
 
-module _ (t n d room : ℕ) where
-  pub fit-says : fitsIn t n d room ≡ true → Fitting t n d room
+module _ (t n d : ℕ) (edition : Stated) (room : ℕ) where
+  pub fit-says : fitsIn t n d edition room ≡ true → Fitting t n d edition room
   unfolding fitsIn
   fit-says e =
       let names = and-right (leb t 50400) _ e in
       let dialect = and-right (leb n 8064) _ names in
+      let byte = and-right (leb d 9) _ dialect in
       record {
         few = leb-true t 50400 (and-left (leb t 50400) _ e);
         named = leb-true n 8064 (and-left (leb n 8064) _ names);
         nine = leb-true d 9 (and-left (leb d 9) _ dialect);
-        there = leb-true (bytesFor t n) room (and-right (leb d 9) _ dialect);
+        byte = and-left (isByte edition) _ byte;
+        there = leb-true (bytesFor t n) room (and-right (isByte edition) _ byte);
       }
 
-  pub says-fit : Fitting t n d room → fitsIn t n d room ≡ true
+  pub says-fit : Fitting t n d edition room → fitsIn t n d edition room ≡ true
   unfolding fitsIn
   says-fit f = rw (
     le-leb t 50400 (f .few),
     le-leb n 8064 (f .named),
     le-leb d 9 (f .nine),
+    f .byte,
     le-leb (bytesFor t n) room (f .there),
   ) refl
 
-pub fit-writes : (t n d room : ℕ) {q : Bool} → q ≡ fitsIn t n d room → q ≡ true
-    → (d ≤ 9) × (1 + blocksFor n + blocksFor t ≤ mostBlocks) × (bytesFor t n ≤ room)
+pub fit-writes : (t n d : ℕ) (edition : Stated) (room : ℕ) {q : Bool} → q ≡ fitsIn t n d edition room → q ≡ true
+    → (d ≤ 9) × (isByte edition ≡ true) × (1 + blocksFor n + blocksFor t ≤ mostBlocks) × (bytesFor t n ≤ room)
 unfolding blocksFor
-fit-writes t n d room q-is e =
-    let f = fit-says t n d room (sym q-is ∙ e) in (f .nine, omega (arith, f .few, f .named), f .there)
+fit-writes t n d edition room q-is e =
+    let f = fit-says t n d edition room (sym q-is ∙ e) in
+    (f .nine, f .byte, omega (arith, f .few, f .named), f .there)
 
-module _ (t names ds buffer : List ℕ) {q : Bool}
-    (q-is : q ≡ fitsIn (length t) (length names) (length ds) (length buffer)) where
-  pub unfit-keeps : q ≡ false → buffer ≡ laidOver (holding t names ds) buffer
+module _ (t names ds : List ℕ) (edition : Stated) (buffer : List ℕ) {q : Bool}
+    (q-is : q ≡ fitsIn (length t) (length names) (length ds) edition (length buffer)) where
+  pub unfit-keeps : q ≡ false → buffer ≡ laidOver (holding t names ds edition) buffer
   unfolding laidOver
   unfit-keeps e = rw (← q-is, e) refl
 
   module _ (e : q ≡ true) where
-    pub fit-laid : {after : List ℕ} → after ≡ over 0 (fileOf (holding t names ds)) buffer
-        → after ≡ laidOver (holding t names ds) buffer
+    pub fit-laid : {after : List ℕ} → after ≡ over 0 (fileOf (holding t names ds edition)) buffer
+        → after ≡ laidOver (holding t names ds edition) buffer
     unfolding laidOver
     fit-laid is = is ∙ rw (← q-is, e) refl
 
-pub laid-over : (t names ds buffer : List ℕ) → Fitting (length t) (length names) (length ds) (length buffer)
-    → laidOver (holding t names ds) buffer ≡ over 0 (fileOf (holding t names ds)) buffer
+pub laid-over : (c : Content) (buffer : List ℕ)
+    → Fitting (length (c .table)) (length (c .names)) (length (c .dialect)) (c .edition) (length buffer)
+    → laidOver c buffer ≡ over 0 (fileOf c) buffer
 unfolding laidOver
-laid-over t names ds buffer f = rw (says-fit _ _ _ _ f) refl
+laid-over c buffer f = rw (says-fit _ _ _ _ _ f) refl

@@ -1,10 +1,11 @@
 -- Two answers that meet the promise of a public function coincide, and so do the buffers that they leave, for every
--- table, names, dialect bytes and buffer. Assumes nothing.
+-- table, names, dialect bytes, edition and buffer. Assumes nothing.
 use mathlib.Core.Path.{_≡_, ap}
 use mathlib.Core.List.{List}
 use Prim.Native.Nat.{ℕ}
 use lib.ListN.{length, getD}
 use Rattle.fields.proofs.Coincide.{coincide, coincide-by}
+use Rattle.dialect.specs.declared.Stated.{Stated}
 use Rattle.table.specs.Answer.{Answer, accepted, refused}
 use Rattle.table.proofs.Answers.{refusal-injective}
 use Rattle.writer.specs.declared.Written.{Written}
@@ -25,15 +26,16 @@ written-injective (Refused r) (Accepted m) e = never (cc)
 written-injective (Refused r) (Refused s) e = ap Refused (refusal-injective r s e)
 
 -- of `write`: the answer and the buffer at exit
-pub write-one : (table names dialect file : List ℕ) {r s : Written} {file-r file-s : List ℕ}
-    → written r ≡ writeOf table names dialect (length file) → file-r ≡ fileAfter table names dialect file
-    → written s ≡ writeOf table names dialect (length file) → file-s ≡ fileAfter table names dialect file
-    → (r ≡ s) × (file-r ≡ file-s)
-write-one table names dialect file r-is file-is s-is file-are =
+pub write-one : (table names dialect : List ℕ) (edition : Stated) (file : List ℕ) {r s : Written}
+    {file-r file-s : List ℕ} → written r ≡ writeOf (holding table names dialect edition) (length file)
+    → file-r ≡ fileAfter (holding table names dialect edition) file
+    → written s ≡ writeOf (holding table names dialect edition) (length file)
+    → file-s ≡ fileAfter (holding table names dialect edition) file → (r ≡ s) × (file-r ≡ file-s)
+write-one table names dialect edition file r-is file-is s-is file-are =
     (coincide-by written written-injective r-is s-is, coincide file-is file-are)
 
 -- of `write_unchecked`: the buffer at exit
-pub write-unchecked-one : (table names dialect file : List ℕ) {file-r file-s : List ℕ}
-    → file-r ≡ laidOver (holding table names dialect) file → file-s ≡ laidOver (holding table names dialect) file
-    → file-r ≡ file-s
-write-unchecked-one table names dialect file = coincide
+pub write-unchecked-one : (table names dialect : List ℕ) (edition : Stated) (file : List ℕ) {file-r file-s : List ℕ}
+    → file-r ≡ laidOver (holding table names dialect edition) file
+    → file-s ≡ laidOver (holding table names dialect edition) file → file-r ≡ file-s
+write-unchecked-one table names dialect edition file = coincide

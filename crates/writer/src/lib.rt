@@ -1,22 +1,26 @@
-// The writer of table files: a table, its names and a dialect, or none, to document 01's blocks, into a lent buffer.
+// The writer of table files: a table, its names, a dialect or none and an edition or none, to document 01's blocks, into
+// a lent buffer.
 use blocks::BLOCK_BYTES;
 use blocks::bytes;
+use dialect::Stated;
 use forest::RECORD;
-use table::Given;
 use table::MOST_BYTES;
 use table::MOST_NAMES;
 use table::Refusal;
+use table::Ruled;
 use table::numbers;
 ghost use mathlib.Core.Path.{_≡_};
-ghost use Prim.Native.Nat.{_+_, _*_, _≤_};
+ghost use mathlib.Core.Bool.{true};
+ghost use Prim.Native.Nat.{_+_, _*_, _<_, _≤_};
 ghost use lib.ListN.{length};
 ghost use Rattle.fields.specs.Over.{over};
+ghost use Rattle.dialect.specs.Editions.{statedBytes};
 ghost use Rattle.table.specs.Answer.{isRefused};
 ghost use Rattle.blocks.specs.Block.{blockBytes, contentBytes, weighed, blockOf};
 ghost use Rattle.blocks.specs.Run.{blocksFor, runOf};
 ghost use Rattle.tablefile.specs.File.{headerOf, fileOf, mostBlocks};
 ghost use Rattle.writer.specs.Writing.{holding, bytesFor, roomCheck, writeOf, fileAfter, fitsIn, laidOver};
-ghost use Rattle.writer.specs.Writing.{written};
+ghost use Rattle.writer.specs.Writing.{isByte, written};
 
 // The answer of the job: how many bytes are written, a multiple of 512, or why it is refused.
 pub enum Written {
@@ -24,37 +28,47 @@ pub enum Written {
     Refused(Refusal),
 }
 
-// The table file of a table, its names and a dialect, nine bytes or none: 1 to 5, then 7 for a buffer that is shorter
-// than the file. A refusal changes no byte, and bytes past the file stay.
-pub fn write(table: &[u8], names: &[u8], dialect: &[u8], file: &mut [u8]) -> Written
-    ensures { λ r. ⌜ written r
-        ≡ writeOf (now (table .entry)) (now (names .entry)) (now (dialect .entry)) (length (now (file .entry))) ⌝ }
-    ensures { λ r. ⌜ now (file .exit)
-        ≡ fileAfter (now (table .entry)) (now (names .entry)) (now (dialect .entry)) (now (file .entry)) ⌝ }
+// The table file of a table, its names, a dialect, nine bytes or none, and an edition, its number or nothing: 1 to 5,
+// then 7 for a buffer that is shorter than the file. An edition without a dialect is 5. A refusal changes no byte, and
+// bytes past the file stay.
+pub fn write(
+    table: &[u8],
+    names: &[u8],
+    dialect: &[u8],
+    edition: Stated,
+    file: &mut [u8],
+) -> Written
+    ensures { λ r. ⌜ written r ≡
+        writeOf (holding (now (table .entry)) (now (names .entry)) (now (dialect .entry)) edition)
+        (length (now (file .entry))) ⌝ }
+    ensures { λ r. ⌜ now (file .exit) ≡
+        fileAfter (holding (now (table .entry)) (now (names .entry)) (now (dialect .entry)) edition)
+        (now (file .entry)) ⌝ }
 {
-    let judged = judge(table, names, dialect, file.len());
+    let judged = judge(table, names, dialect, edition, file.len());
     if is_refused(judged) {
         return judged;
     }
-    write_file(table, names, dialect, file);
+    write_file(table, names, dialect, edition, file);
     judged
 }
 
-// Writes the file of a table, names and dialect bytes that have passed 1 to 5: they are not checked again. If they are
-// longer than in any file, or the buffer is shorter than the file, no byte changes.
-pub fn write_unchecked(table: &[u8], names: &[u8], dialect: &[u8], file: &mut [u8])
-    ensures { λ r. ⌜ now (file .exit)
-        ≡ laidOver (holding (now (table .entry)) (now (names .entry)) (now (dialect .entry))) (now (file .entry)) ⌝ }
+// Writes the file of a table, names, dialect bytes and an edition that have passed 1 to 5: they are not checked again. If
+// they are longer than in any file, or the buffer is shorter than the file, no byte changes.
+pub fn write_unchecked(table: &[u8], names: &[u8], dialect: &[u8], edition: Stated, file: &mut [u8])
+    ensures { λ r. ⌜ now (file .exit) ≡
+        laidOver (holding (now (table .entry)) (now (names .entry)) (now (dialect .entry)) edition)
+        (now (file .entry)) ⌝ }
 {
-    if !fits(table.len(), names.len(), dialect.len(), file.len()) {
+    if !fits(table.len(), names.len(), dialect.len(), edition, file.len()) {
         return;
     }
-    write_file(table, names, dialect, file)
+    write_file(table, names, dialect, edition, file)
 }
 
-// Whether a table, names and dialect bytes of these lengths make a file, and it fits in `room` bytes.
-fn fits(table: usize, names: usize, dialect: usize, room: usize) -> bool
-    ensures { λ r. ⌜ r ≡ fitsIn table names dialect room ⌝ }
+// Whether a table, names and dialect bytes of these lengths, and an edition, make a file, and it fits in `room` bytes.
+fn fits(table: usize, names: usize, dialect: usize, edition: Stated, room: usize) -> bool
+    ensures { λ r. ⌜ r ≡ fitsIn table names dialect edition room ⌝ }
 {
     if MOST_BYTES < table {
         return false;
@@ -65,18 +79,36 @@ fn fits(table: usize, names: usize, dialect: usize, room: usize) -> bool
     if 9 < dialect {
         return false;
     }
+    if !is_byte(edition) {
+        return false;
+    }
     let count = 1 + blocks::blocks_for(names) + blocks::blocks_for(table);
     BLOCK_BYTES * count <= room
 }
 
-// 1 to 5, then 7 for so many bytes of room.
-fn judge(table: &[u8], names: &[u8], dialect: &[u8], room: usize) -> Written
-    ensures { λ r. ⌜ written r ≡ writeOf (now (table .entry)) (now (names .entry)) (now (dialect .entry)) room ⌝ }
+// Whether an edition takes no byte or one.
+fn is_byte(edition: Stated) -> bool
+    ensures { λ r. ⌜ r ≡ isByte edition ⌝ }
 {
-    let entered = table::enter_dialect(table, names, dialect);
+    match edition {
+        Stated::Number(number) => number < 256,
+        Stated::Nothing => true,
+    }
+}
+
+// 1 to 5, then 7 for so many bytes of room.
+fn judge(table: &[u8], names: &[u8], dialect: &[u8], edition: Stated, room: usize) -> Written
+    ensures { λ r. ⌜ written r ≡
+        writeOf (holding (now (table .entry)) (now (names .entry)) (now (dialect .entry)) edition) room ⌝ }
+{
+    let read = dialect::edition_held(dialect, edition);
+    let entered = table::enter_rules(table, names, dialect, read);
     match entered {
-        Given::In(_) => room_for(table.len(), names.len(), room),
-        Given::Refused(why) => Written::Refused(why),
+        Ruled::By {
+            dialect: _,
+            edition: _,
+        } => room_for(table.len(), names.len(), room),
+        Ruled::Refused(why) => Written::Refused(why),
     }
 }
 
@@ -104,34 +136,52 @@ fn is_refused(answer: Written) -> bool
 }
 
 // Writes the file at the front of a buffer: block 0, the blocks of the names, then those of the nodes.
-fn write_file(table: &[u8], names: &[u8], dialect: &[u8], file: &mut [u8])
+fn write_file(table: &[u8], names: &[u8], dialect: &[u8], edition: Stated, file: &mut [u8])
     requires { ⌜ (length (now dialect) ≤ 9)
+        × (isByte edition ≡ true)
         × (1 + blocksFor (length (now names)) + blocksFor (length (now table)) ≤ mostBlocks)
         × (bytesFor (length (now table)) (length (now names)) ≤ length (now file)) ⌝ }
     ensures { λ r. ⌜ now (file .exit)
-        ≡ over 0 (fileOf (holding (now (table .entry)) (now (names .entry)) (now (dialect .entry))))
+        ≡ over 0 (fileOf (holding (now (table .entry)) (now (names .entry)) (now (dialect .entry)) edition))
         (now (file .entry)) ⌝ }
 {
-    write_header(table, names, dialect, file);
+    write_header(table, names, dialect, edition, file);
     write_run(1, names, &mut file[BLOCK_BYTES..]);
     let first = 1 + blocks::blocks_for(names.len());
     let at = BLOCK_BYTES * first;
     write_run(first, table, &mut file[at..])
 }
 
-// Writes block 0 at the front of some bytes: the node count, the name byte count, and the dialect if there is one.
-fn write_header(table: &[u8], names: &[u8], dialect: &[u8], out: &mut [u8])
-    requires { ⌜ (length (now dialect) ≤ 9) × (blockBytes ≤ length (now out)) ⌝ }
+// Writes block 0 at the front of some bytes: the node count, the name byte count, and the dialect and the edition if
+// there are any.
+fn write_header(table: &[u8], names: &[u8], dialect: &[u8], edition: Stated, out: &mut [u8])
+    requires { ⌜ (length (now dialect) ≤ 9) × (isByte edition ≡ true) × (blockBytes ≤ length (now out)) ⌝ }
     ensures { λ r. ⌜ now (out .exit)
-        ≡ over 0 (blockOf 0 (headerOf (holding (now (table .entry)) (now (names .entry)) (now (dialect .entry)))))
+        ≡ over 0
+        (blockOf 0 (headerOf (holding (now (table .entry)) (now (names .entry)) (now (dialect .entry)) edition)))
         (now (out .entry)) ⌝ }
 {
-    let mut header = [0u8; 13];
+    let mut header = [0u8; 14];
     let counts = bytes::pair(table.len() / RECORD, names.len());
     bytes::put(&counts, 0, &mut header);
     bytes::put(dialect, 4, &mut header);
-    let used = 4 + dialect.len();
+    let used = put_edition(edition, 4 + dialect.len(), &mut header);
     write_block(0, &header[0..used], out)
+}
+
+// Puts an edition, if there is one, at a place of block 0's content, and returns the place behind it.
+fn put_edition(edition: Stated, at: usize, out: &mut [u8]) -> usize
+    requires { ⌜ (isByte edition ≡ true) × (at < length (now out)) ⌝ }
+    ensures { λ r. ⌜ now (out .exit) ≡ over at (statedBytes edition) (now (out .entry)) ⌝ }
+    ensures { λ r. ⌜ r ≡ at + length (statedBytes edition) ⌝ }
+{
+    match edition {
+        Stated::Number(number) => {
+            out[at] = number as u8;
+            at + 1
+        }
+        Stated::Nothing => at,
+    }
 }
 
 // Writes the blocks of a content at the front of some bytes, numbered from a number on: each is lent what stands from

@@ -5,6 +5,7 @@ use crate::answer::Span;
 use crate::answer::AUDIT_WORDS;
 use crate::call;
 use crate::dialect::Dialect;
+use crate::dialect::Edition;
 use crate::jobs::argument_refusal;
 use crate::jobs::unpacked;
 use crate::jobs::Written;
@@ -37,14 +38,15 @@ pub struct Place {
 }
 
 /// First the module pass's errors without those of parameter lists, then what each job refuses, record by record.
-pub fn audit(table: &Table, dialect: &Dialect) -> Vec<Refusal> {
+pub fn audit(table: &Table, dialect: &Dialect, edition: Edition) -> Vec<Refusal> {
     let without_def = Dialect { def: false, ..*dialect };
     let listed = module::module(table, if planted(Fault::AuditOpenedDefStays) { &without_def } else { dialect });
     let last = if planted(Fault::TooManyTwiceInTheAudit) { number::STAR_NOT_FOLLOWED } else { number::TOO_MANY_PARAMETERS };
     let is_of_list = |number: u32| (number::SLASH_FIRST..=last).contains(&number);
     let own = listed.in_order().filter(|error| !is_of_list(error.number) || planted(Fault::AuditTellsListsTwice));
     let own: Vec<Refusal> = own.map(|error| table.refuse(error.number, error.node)).collect();
-    let refused: Vec<Refusal> = places(table).into_iter().filter_map(|place| refused_at(table, dialect, place)).collect();
+    let edition = if planted(Fault::AuditByEditionOne) { Edition::One } else { edition };
+    let refused: Vec<Refusal> = places(table).into_iter().filter_map(|place| refused_at(table, dialect, edition, place)).collect();
     if planted(Fault::AuditJobsFirst) { [refused, own].concat() } else { [own, refused].concat() }
 }
 
@@ -98,7 +100,7 @@ fn type_of(table: &Table, node: usize) -> Option<usize> {
 }
 
 /// What a job refuses at a place, if it does.
-pub fn refused_at(table: &Table, dialect: &Dialect, place: Place) -> Option<Refusal> {
+pub fn refused_at(table: &Table, dialect: &Dialect, edition: Edition, place: Place) -> Option<Refusal> {
     let node = place.node;
     let is_missed = match place.job {
         Job::Target => planted(Fault::AuditRefusedForMissed) && !dialect.top_level_stmt,
@@ -113,7 +115,7 @@ pub fn refused_at(table: &Table, dialect: &Dialect, place: Place) -> Option<Refu
         Job::Call => refused_call(table, node),
         Job::Assignment => targets::assignment(table, node).err(),
         Job::Target => targets::target(table, node).err(),
-        Job::Type => types::type_shape(table, node, dialect).err(),
+        Job::Type => types::type_shape(table, node, dialect, edition).err(),
     };
     if planted(Fault::AuditNodeOfTheJob) {
         return refused.map(|refusal| Refusal { node: Some(node as u32), ..refusal });

@@ -1,6 +1,7 @@
-//! The dialect's nine bytes, and the three named rows.
+//! The dialect's nine bytes, the three named rows, and the editions of the type rules (W-212).
 
 use crate::answer::Refusal;
+use crate::answer::NONE;
 use crate::numbers::number;
 use crate::planted::planted;
 use crate::planted::Fault;
@@ -57,6 +58,34 @@ pub fn from_bytes(bytes: &[u8]) -> Result<Dialect, Refusal> {
     let row: &[u8; BYTES] = bytes.try_into().map_err(|_| refused.clone())?;
     let good = |(at, byte): (usize, &u8)| *byte <= most(at);
     if row.iter().enumerate().all(good) { Ok(Dialect::of(row)) } else { Err(refused) }
+}
+
+/// An edition of the type rules.
+#[derive(Clone, Copy, Debug, PartialEq, Eq)]
+pub enum Edition {
+    One,
+    Two,
+}
+
+/// The edition of a number that a job is given: 1 or 2, all else is 5.
+pub fn edition(number: u32) -> Result<Edition, Refusal> {
+    let number = if planted(Fault::EditionIn8Bits) { number & 255 } else { number };
+    match number {
+        1 => Ok(Edition::One),
+        2 => Ok(Edition::Two),
+        0 if planted(Fault::EditionZeroIsOne) => Ok(Edition::One),
+        NONE if planted(Fault::NoEditionIsOne) => Ok(Edition::One),
+        _ => Err(Refusal::bare(number::DIALECT)),
+    }
+}
+
+/// What a file says of it: no byte, or one byte behind a dialect's nine.
+pub fn edition_in_file(dialect: &[u8], byte: Option<u8>) -> Result<Edition, Refusal> {
+    match byte {
+        None => Ok(Edition::One),
+        Some(_) if dialect.is_empty() && !planted(Fault::EditionWithoutDialect) => Err(Refusal::bare(number::DIALECT)),
+        Some(byte) => edition(u32::from(byte)),
+    }
 }
 
 fn row_of_none() -> [u8; BYTES] {

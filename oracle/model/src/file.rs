@@ -17,13 +17,32 @@ const CHECK_AT: usize = 508;
 /// Only whole records stand in a block.
 const NODE_CONTENT: usize = 21 * RECORD_BYTES;
 const COUNTS: usize = 4;
+/// How many bytes block 0 uses; the last is for a planted fault alone.
+const USED: [usize; 4] = [COUNTS, COUNTS + dialect::BYTES, COUNTS + dialect::BYTES + 1, COUNTS + 1];
 
-/// What a file holds. A dialect of no bytes is none.
+/// What a file holds. A dialect of no bytes is none. The edition is a byte, whatever it is, or none.
 #[derive(Clone, Debug, PartialEq, Eq)]
 pub struct Contents {
     pub table: Vec<u8>,
     pub names: Vec<u8>,
     pub dialect: Vec<u8>,
+    pub edition: Option<u8>,
+}
+
+/// What block 0 says: how many nodes and name bytes there are, the dialect's bytes and the edition's, whatever they are.
+pub struct Header {
+    pub nodes: usize,
+    pub names: usize,
+    pub dialect: Vec<u8>,
+    pub edition: Option<u8>,
+}
+
+impl Header {
+    /// 5: the dialect, then the edition.
+    pub fn check_dialect(&self) -> Result<(), Refusal> {
+        dialect::from_bytes(&self.dialect)?;
+        dialect::edition_in_file(&self.dialect, self.edition).map(|_| ())
+    }
 }
 
 /// The sum that stands at a block's end.
@@ -52,7 +71,7 @@ pub fn seal(block: &mut [u8]) {
 pub fn write(contents: &Contents) -> Vec<u8> {
     let nodes = (contents.table.len() / RECORD_BYTES) as u16;
     let counts = [nodes.to_le_bytes(), (contents.names.len() as u16).to_le_bytes()].concat();
-    let header = [counts, contents.dialect.clone()].concat();
+    let header = [counts, contents.dialect.clone(), contents.edition.into_iter().collect()].concat();
     let names = contents.names.chunks(CONTENT);
     let table = contents.table.chunks(NODE_CONTENT);
     let all = std::iter::once(header.as_slice()).chain(names).chain(table);
@@ -82,18 +101,22 @@ pub fn written(mut contents: Contents) -> Vec<u8> {
 /// The file's contents, or the first refusal: block by block, then what is left over, then 1 to 5.
 pub fn read(file: &[u8]) -> Result<Contents, Refusal> {
     let mut blocks = Blocks::of(file);
-    let (nodes, names, dialect) = blocks.header()?;
-    let names = blocks.stretch(names, CONTENT)?;
-    let table = blocks.stretch(nodes * RECORD_BYTES, NODE_CONTENT)?;
+    let header = blocks.header()?;
+    let names = blocks.stretch(header.names, CONTENT)?;
+    let table = blocks.stretch(header.nodes * RECORD_BYTES, NODE_CONTENT)?;
     if !blocks.rest.is_empty() && !planted(Fault::LeftOverAllowed) {
         return Err(Refusal::bare(number::BYTES_LEFT_OVER));
     }
     if planted(Fault::DialectBeforeTable) {
-        dialect::from_bytes(&dialect)?;
+        dialect::from_bytes(&header.dialect)?;
+    }
+    if planted(Fault::EditionBeforeTable) {
+        dialect::edition_in_file(&header.dialect, header.edition)?;
     }
     Table::check(&table, &names)?;
-    dialect::from_bytes(&dialect)?;
-    Ok(Contents { table, names, dialect })
+    header.check_dialect()?;
+    let Header { dialect, edition, .. } = header;
+    Ok(Contents { table, names, dialect, edition })
 }
 
 /// The blocks of a file, one after another.
@@ -107,15 +130,16 @@ impl<'a> Blocks<'a> {
         Blocks { rest: file, number: 0 }
     }
 
-    /// Block 0: the count of nodes, the length of the names (74), and the dialect's bytes, whatever they are.
-    pub fn header(&mut self) -> Result<(usize, usize, Vec<u8>), Refusal> {
-        let header = self.next(&[COUNTS, COUNTS + dialect::BYTES])?;
+    /// Block 0: the count of nodes and the length of the names (74); then nothing, the dialect's bytes, or these and the edition's.
+    pub fn header(&mut self) -> Result<Header, Refusal> {
+        let header = self.next(&USED[..if planted(Fault::FiveUsedAllowed) { 4 } else { 3 }])?;
         let count = |at: usize| usize::from(u16::from_le_bytes([header[at], header[at + 1]]));
         let (nodes, names) = (count(0), count(2));
         if nodes == 0 || nodes > MOST_NODES || names > MOST_NAME_BYTES {
             return Err(Refusal::bare(number::COUNTS));
         }
-        Ok((nodes, names, header[COUNTS..].to_vec()))
+        let (dialect, edition) = header[COUNTS..].split_at(header.len().saturating_sub(COUNTS).min(dialect::BYTES));
+        Ok(Header { nodes, names, dialect: dialect.to_vec(), edition: edition.first().copied() })
     }
 
     /// Passes over a block, for a planted fault.

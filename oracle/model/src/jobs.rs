@@ -228,13 +228,17 @@ pub fn assignment(table: &[u8], names: &[u8], node: usize) -> Answer {
     }))
 }
 
-pub fn type_shape(table: &[u8], names: &[u8], dialect: &[u8], node: usize, shapes: usize) -> Answer {
+pub fn type_shape(table: &[u8], names: &[u8], dialect: &[u8], edition: u32, node: usize, shapes: usize) -> Answer {
     answered(Table::check(table, names).and_then(|table| {
         let in_types = dialect.is_empty() && planted(Fault::EmptyDialectStandardInTypes);
         let dialect = dialect::from_bytes(if in_types { &dialect::STANDARD } else { dialect })?;
+        if planted(Fault::NodeBeforeEdition) {
+            table.wanted_node(node, is_expression)?;
+        }
+        let edition = dialect::edition(edition)?;
         table.wanted_node(node, is_expression)?;
         long_enough(shapes, table.size(node))?;
-        match types::type_shape(&table, node, &dialect) {
+        match types::type_shape(&table, node, &dialect, edition) {
             Ok(bytes) => Ok(Answer { bytes, ..Answer::default() }),
             Err(refusal) => Ok(refused_type(refusal, node)),
         }
@@ -258,16 +262,28 @@ pub fn module(table: &[u8], names: &[u8], dialect: &[u8]) -> Answer {
     }))
 }
 
-/// The table file, into a buffer of so many bytes.
-pub fn write(table: &[u8], names: &[u8], dialect: &[u8], room: usize) -> Answer {
+/// The table file, into a buffer of so many bytes. An edition of NONE is none.
+pub fn write(table: &[u8], names: &[u8], dialect: &[u8], edition: u32, room: usize) -> Answer {
     answered(Table::check(table, names).and_then(|_| {
         dialect::from_bytes(dialect)?;
-        let contents = Contents { table: table.to_vec(), names: names.to_vec(), dialect: dialect.to_vec() };
+        let edition = edition_to_write(dialect, edition)?;
+        let contents = Contents { table: table.to_vec(), names: names.to_vec(), dialect: dialect.to_vec(), edition };
         let file = file::written(contents);
         let early = if planted(Fault::SevenOneBlockEarly) { file::BLOCK } else { 0 };
         long_enough(room, file.len() + early)?;
         Ok(Answer { words: vec![file.len() as u32], file, ..Answer::default() })
     }))
+}
+
+/// The edition byte that the writer writes: none, or a number, 1 or 2, behind a dialect.
+fn edition_to_write(dialect: &[u8], edition: u32) -> Result<Option<u8>, Refusal> {
+    if edition == NONE {
+        return Ok(None);
+    }
+    dialect::edition(edition)?;
+    let byte = Some(edition as u8);
+    dialect::edition_in_file(dialect, byte)?;
+    Ok(byte.filter(|_| edition != 1 || !planted(Fault::EditionOneNotWritten)))
 }
 
 /// The rescue of a damaged file, into a buffer of so many bytes: 90, 91, then 7.
@@ -285,10 +301,11 @@ pub fn rescue(input: &[u8], room: usize) -> Answer {
 }
 
 /// The audit: all errors, whatever fits, as in the module pass.
-pub fn audit(table: &[u8], names: &[u8], dialect: &[u8]) -> Answer {
+pub fn audit(table: &[u8], names: &[u8], dialect: &[u8], edition: u32) -> Answer {
     answered(Table::check(table, names).and_then(|table| {
         let dialect = dialect::from_bytes(dialect)?;
-        let audited: Vec<[u32; AUDIT_WORDS]> = audit::audit(&table, &dialect).iter().map(audit::words).collect();
+        let edition = dialect::edition(edition)?;
+        let audited: Vec<[u32; AUDIT_WORDS]> = audit::audit(&table, &dialect, edition).iter().map(audit::words).collect();
         let total = audited.len() as u32;
         Ok(Answer { audited, ..Answer::accepted(vec![total]) })
     }))
@@ -307,7 +324,7 @@ pub fn read(file: &[u8], table: usize, names: usize) -> Answer {
         long_enough(table, held.table.len())?;
         long_enough(names, held.names.len())?;
         let counts = [(held.table.len() / RECORD_BYTES) as u32, held.names.len() as u32];
-        let words = [&counts[..], &dialect_words(&held.dialect)].concat();
+        let words = [&counts[..], &dialect_words(&held.dialect), &edition_words(held.edition)].concat();
         Ok(Answer { file: held.table, names: held.names, ..Answer::accepted(words) })
     }))
 }
@@ -323,6 +340,13 @@ fn dialect_words(dialect: &[u8]) -> [u32; 4] {
         if planted(Fault::ReadHighByteFirst) { u32::from_be_bytes(four) } else { u32::from_le_bytes(four) }
     };
     [is_there, word(0), word(4), word(8)]
+}
+
+/// The edition byte as it stands, or NONE; and the edition that holds.
+fn edition_words(edition: Option<u8>) -> [u32; 2] {
+    let stands = edition.map_or(if planted(Fault::ReadOneForNoEdition) { 1 } else { NONE }, u32::from);
+    let holds = edition.map_or(if planted(Fault::ReadNoEditionHolds) { NONE } else { 1 }, u32::from);
+    if planted(Fault::ReadEditionsExchanged) { [holds, stands] } else { [stands, holds] }
 }
 
 /// The reader, then the module pass over what the file holds.

@@ -55,6 +55,24 @@ faults! {
     NestedArgumentListAsType
     ShapeOfIndexBaseWritten
     UnionShapeIsTuple
+    EditionTwoAllows42
+    EditionTwoIndexOfPath
+    BanStaysInPaths
+    BanStaysAtIndex2
+    EditionZeroIsOne
+    NoEditionIsOne
+    EditionIn8Bits
+    NodeBeforeEdition
+    AuditByEditionOne
+    EditionWithoutDialect
+    EditionOneNotWritten
+    EditionBeforeTable
+    FiveUsedAllowed
+    BadEditionRescued
+    RescueDropsEdition
+    ReadOneForNoEdition
+    ReadNoEditionHolds
+    ReadEditionsExchanged
     ShapesWrittenWhenRefused
     RefusedForEntered
     DefBodyKeepsFor

@@ -25,11 +25,12 @@ pub struct Rescued {
     pub bytes_after: u64,
 }
 
-/// The header's own words: how many nodes there should be, the names, the dialect.
+/// The header's own words: how many nodes there should be, the names, the dialect, the edition.
 struct Header {
     nodes: usize,
     names: Vec<u8>,
     dialect: Vec<u8>,
+    edition: Option<u8>,
 }
 
 pub fn rescue(input: &[u8]) -> Result<Rescued, Refusal> {
@@ -56,13 +57,16 @@ fn passes(front: &[u8], input: &[u8]) -> bool {
 /// 90: a bad header, 74 and 5 included, or a bad name block.
 fn header(blocks: &mut Blocks) -> Result<Header, Refusal> {
     let bad = |_| Refusal::bare(number::BAD_HEADER);
-    let (nodes, names, dialect) = blocks.header().map_err(bad)?;
+    let file::Header { nodes, names, dialect, edition } = blocks.header().map_err(bad)?;
     if !planted(Fault::BadDialectRescued) {
         dialect::from_bytes(&dialect).map_err(bad)?;
     }
+    if !planted(Fault::BadEditionRescued) {
+        dialect::edition_in_file(&dialect, edition).map_err(bad)?;
+    }
     let of_names = if planted(Fault::BadNamesAre91) { number::NOTHING_KEPT } else { number::BAD_HEADER };
     let names = blocks.stretch(names, CONTENT).map_err(|_| Refusal::bare(of_names))?;
-    Ok(Header { nodes, names, dialect })
+    Ok(Header { nodes, names, dialect, edition })
 }
 
 /// The node blocks before the first bad or missing one.
@@ -106,7 +110,8 @@ fn cut(good: Vec<u8>, header: &Header) -> Result<Rescued, Refusal> {
     }
     let counted = if planted(Fault::DroppedByWrittenSize) { written_size(&good) } else { header.nodes };
     let dropped = counted.saturating_sub(ends[kept]);
-    let contents = Contents { table, names: header.names.clone(), dialect };
+    let edition = header.edition.filter(|_| !planted(Fault::RescueDropsEdition));
+    let contents = Contents { table, names: header.names.clone(), dialect, edition };
     Ok(Rescued { file: file::write(&contents), statements: kept, nodes: ends[kept], dropped, bytes_after: 0 })
 }
 

@@ -2,6 +2,7 @@
 
 use crate::answer::Refusal;
 use crate::dialect::Dialect;
+use crate::dialect::Edition;
 use crate::numbers::kind;
 use crate::numbers::number;
 use crate::planted::planted;
@@ -19,8 +20,8 @@ const TUPLE: u8 = 7;
 type Read = Result<(), Refusal>;
 
 /// The shapes of the type at a node: a byte for each node of its subtree, 0 where none is written.
-pub fn type_shape(table: &Table, node: usize, dialect: &Dialect) -> Result<Vec<u8>, Refusal> {
-    let mut reading = Reading { table, first: node, shapes: vec![0; table.size(node)] };
+pub fn type_shape(table: &Table, node: usize, dialect: &Dialect, edition: Edition) -> Result<Vec<u8>, Refusal> {
+    let mut reading = Reading { table, edition, first: node, shapes: vec![0; table.size(node)] };
     if dialect.types_disabled() && !planted(Fault::TypesDisabledUnseen) {
         return Err(table.refuse(number::TYPES_DISABLED, node));
     }
@@ -30,6 +31,7 @@ pub fn type_shape(table: &Table, node: usize, dialect: &Dialect) -> Result<Vec<u
 
 struct Reading<'a, 'n> {
     table: &'a Table<'n>,
+    edition: Edition,
     first: usize,
     shapes: Vec<u8>,
 }
@@ -55,7 +57,7 @@ impl Reading<'_, '_> {
             }
             kind::IDENTIFIER | kind::DOT => {
                 self.put(node, PATH);
-                self.path(node)
+                self.path(node, planted(Fault::BanStaysInPaths))
             }
             kind::INDEX => self.index(node),
             kind::INDEX2 => self.index2(node),
@@ -82,26 +84,27 @@ impl Reading<'_, '_> {
         }
     }
 
-    /// An Identifier, or Dots down to one; 43 for anything else, 42 and 44 inside the Dots.
-    fn path(&self, node: usize) -> Read {
+    /// An Identifier, or Dots down to one; 43 for anything else, 42 and in edition 1 44 inside the Dots.
+    fn path(&self, node: usize, always_bans: bool) -> Read {
         match self.kind(node) {
             kind::IDENTIFIER => Ok(()),
-            kind::DOT => self.dots(node),
+            kind::DOT => self.dots(node, always_bans),
             _ => Err(self.table.refuse(number::EXPECTING_PATH, node)),
         }
     }
 
-    fn dots(&self, outermost: usize) -> Read {
+    fn dots(&self, outermost: usize, always_bans: bool) -> Read {
         let mut base = outermost;
         let mut bans = self.table.name(outermost) == b"type";
         while self.kind(base) == kind::DOT {
             bans |= planted(Fault::DotTypeAnywhere) && self.table.name(base) == b"type";
             base = self.table.child(base, 0);
         }
-        if self.kind(base) != kind::IDENTIFIER {
+        let is_lifted = self.edition == Edition::Two && !always_bans;
+        if self.kind(base) != kind::IDENTIFIER && !(is_lifted && planted(Fault::EditionTwoAllows42)) {
             return Err(self.table.refuse(number::DOT_IN_TYPE, base));
         }
-        if bans {
+        if bans && !is_lifted {
             let at = if planted(Fault::DotTypeAtDot) { outermost } else { base };
             return Err(self.table.refuse(number::DOT_TYPE_BAN, at));
         }
@@ -110,7 +113,8 @@ impl Reading<'_, '_> {
 
     fn index(&mut self, node: usize) -> Read {
         let base = self.table.child(node, 0);
-        let path_is_fine = planted(Fault::IndexOfPath) && self.path(base).is_ok();
+        let is_planted = planted(Fault::IndexOfPath) || (self.edition == Edition::Two && planted(Fault::EditionTwoIndexOfPath));
+        let path_is_fine = is_planted && self.path(base, false).is_ok();
         if self.kind(base) != kind::IDENTIFIER && !path_is_fine {
             return self.invalid(node);
         }
@@ -124,7 +128,7 @@ impl Reading<'_, '_> {
 
     fn index2(&mut self, node: usize) -> Read {
         self.put(node, INDEX2);
-        self.path(self.table.child(node, 0))?;
+        self.path(self.table.child(node, 0), planted(Fault::BanStaysAtIndex2))?;
         self.argument(self.table.child(node, 1))?;
         self.argument(self.table.child(node, 2))
     }

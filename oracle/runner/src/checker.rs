@@ -14,6 +14,7 @@ use model::answer::Span;
 use model::answer::AUDIT_WORDS;
 use model::answer::ERROR_WORDS;
 use model::audit;
+use model::dialect::Edition;
 use model::file;
 use model::jobs;
 use model::module;
@@ -30,6 +31,7 @@ use crate::port::Effect;
 use crate::port::Job;
 use crate::port::Request;
 use crate::port::FILE;
+use crate::port::FIRST_EDITION;
 use crate::port::JOBS;
 use crate::port::NAMES;
 use crate::record::Recorder;
@@ -119,8 +121,8 @@ impl Checker {
 
     /// Runs one job and compares.
     pub fn check(&mut self, request: &Request) {
-        if let Job::Audit { dialect, errors } = request.job {
-            self.check_audits(request.table, request.names, std::iter::once((dialect, errors)));
+        if let Job::Audit { dialect, edition, errors } = request.job {
+            self.check_audits(request.table, request.names, edition, std::iter::once((dialect, errors)));
         } else if self.wants(&request.job) {
             let model = model_answer(request);
             let judged = or_stop(request, || judged(request, &model));
@@ -182,18 +184,19 @@ impl Checker {
         }
     }
 
-    /// The audit of one table under many dialects: its tree is built once.
+    /// The audit of one table under many dialects: its tree is built once. The crate has edition 1 alone.
     pub fn check_audits<'a>(
         &mut self,
         table: &[u8],
         names: &[u8],
+        edition: u32,
         asked: impl Iterator<Item = (&'a [u8], usize)>,
     ) {
-        let request = |dialect, errors| Request { table, names, job: Job::Audit { dialect, errors } };
+        let request = |dialect, errors| Request { table, names, job: Job::Audit { dialect, edition, errors } };
         if !self.wants(&request(&[], 0).job) {
             return;
         }
-        let checked = Table::check(table, names).ok();
+        let checked = Table::check(table, names).ok().filter(|_| edition == FIRST_EDITION);
         let judge = checked.as_ref().map(|table| or_stop(&request(&[], 0), || run::Audit::of(table)));
         for (dialect, errors) in asked {
             let request = request(dialect, errors);
@@ -213,7 +216,7 @@ impl Checker {
         let of_crate = dialects::from_bytes(dialect);
         let of_model = model::dialect::from_bytes(dialect).expect("the audit has accepted it");
         let parts: Vec<_> = or_stop(request, || judge.parts(&of_crate, audit::places(table)).collect());
-        let told = |place| audit::refused_at(table, &of_model, place).as_ref().map(audit::words);
+        let told = |place| audit::refused_at(table, &of_model, Edition::One, place).as_ref().map(audit::words);
         let differs = parts.iter().find(|(place, found)| told(*place) != *found);
         if !parts.is_empty() {
             self.note(differs.is_none(), || {
@@ -384,12 +387,12 @@ fn model_answer(request: &Request) -> Answer {
         Job::Call { node } => jobs::call(table, names, node),
         Job::Target { node } => jobs::target(table, names, node),
         Job::Assignment { node } => jobs::assignment(table, names, node),
-        Job::Type { dialect, node, shapes } => jobs::type_shape(table, names, dialect, node, shapes),
+        Job::Type { dialect, edition, node, shapes } => jobs::type_shape(table, names, dialect, edition, node, shapes),
         Job::Module { dialect, .. } => jobs::module(table, names, dialect),
-        Job::Write { dialect, file } => jobs::write(table, names, dialect, file),
+        Job::Write { dialect, edition, file } => jobs::write(table, names, dialect, edition, file),
         Job::Bind { call, def, list } => jobs::bind(table, names, call, def, list),
         Job::Rescue { file } => jobs::rescue(table, file),
-        Job::Audit { dialect, .. } => jobs::audit(table, names, dialect),
+        Job::Audit { dialect, edition, .. } => jobs::audit(table, names, dialect, edition),
         Job::Read { table: room, names } => jobs::read(table, room, names),
         Job::CheckFile { .. } => jobs::check_file(table),
         Job::FstringWrite { parts, dialect, text } => jobs::fstring_write(parts, table, dialect, text),
@@ -397,9 +400,17 @@ fn model_answer(request: &Request) -> Answer {
     }
 }
 
+/// Whether a job reads types by the edition that the crate does not have.
+fn is_second_edition(job: &Job) -> bool {
+    matches!(*job, Job::Type { edition, .. } | Job::Audit { edition, .. } if edition != FIRST_EDITION)
+}
+
 /// The crate's answer, where the model has not refused with a number that the crate does not have.
 fn judged(request: &Request, model: &Answer) -> Built<Judged> {
     if is_ours(model.number) || matches!(request.job, Job::Rescue { .. } | Job::Read { .. } | Job::FstringRead { .. }) {
+        return Err(NotATree);
+    }
+    if is_second_edition(&request.job) {
         return Err(NotATree);
     }
     if let Job::FstringWrite { parts, dialect, .. } = request.job {

@@ -3,6 +3,7 @@
 use std::fmt;
 
 use model::answer::Answer;
+use model::answer::NONE;
 use starlark_checks_raw::starlark_assignment;
 use starlark_checks_raw::starlark_audit;
 use starlark_checks_raw::starlark_bind;
@@ -28,13 +29,13 @@ pub enum Job<'a> {
     Call { node: usize },
     Target { node: usize },
     Assignment { node: usize },
-    Type { dialect: &'a [u8], node: usize, shapes: usize },
+    Type { dialect: &'a [u8], edition: u32, node: usize, shapes: usize },
     Module { dialect: &'a [u8], errors: usize },
-    Write { dialect: &'a [u8], file: usize },
+    Write { dialect: &'a [u8], edition: u32, file: usize },
     Bind { call: usize, def: usize, list: usize },
     /// The request's table is the file to rescue, and its names are none.
     Rescue { file: usize },
-    Audit { dialect: &'a [u8], errors: usize },
+    Audit { dialect: &'a [u8], edition: u32, errors: usize },
     /// The request's table is the file, and its names are none: so in the next.
     Read { table: usize, names: usize },
     CheckFile { errors: usize },
@@ -43,6 +44,11 @@ pub enum Job<'a> {
     /// The request's table is the format text, and its names are none.
     FstringRead { parts: usize, texts: usize },
 }
+
+/// The edition of the type rules that the crate has, the other one, and the word for a file without one.
+pub const FIRST_EDITION: u32 = 1;
+pub const SECOND_EDITION: u32 = 2;
+pub const NO_EDITION: u32 = NONE;
 
 /// How many jobs there are: those of the interface, and the program's.
 pub const JOBS: usize = 16;
@@ -248,12 +254,12 @@ impl Effect {
                 Job::Call { node } => starlark_call(t, tl, n, nl, node, out),
                 Job::Target { node } => starlark_target(t, tl, n, nl, node, out),
                 Job::Assignment { node } => starlark_assignment(t, tl, n, nl, node, out),
-                Job::Type { node, .. } => starlark_type(t, tl, n, nl, d, dl, node, bytes, bytes_len, out),
+                Job::Type { edition, node, .. } => starlark_type(t, tl, n, nl, d, dl, edition, node, bytes, bytes_len, out),
                 Job::Module { .. } => starlark_module(t, tl, n, nl, d, dl, words, words_len, out),
-                Job::Write { .. } => starlark_write(t, tl, n, nl, d, dl, bytes, bytes_len, out),
+                Job::Write { edition, .. } => starlark_write(t, tl, n, nl, d, dl, edition, bytes, bytes_len, out),
                 Job::Bind { call, def, .. } => starlark_bind(t, tl, n, nl, call, def, words, words_len, out),
                 Job::Rescue { .. } => starlark_rescue(t, tl, bytes, bytes_len, out),
-                Job::Audit { .. } => starlark_audit(t, tl, n, nl, d, dl, words, words_len, out),
+                Job::Audit { edition, .. } => starlark_audit(t, tl, n, nl, d, dl, edition, words, words_len, out),
                 Job::Read { .. } => starlark_read(t, tl, bytes, bytes_len, second, second_len, out),
                 Job::CheckFile { .. } => starlark_check_file(t, tl, words, words_len, out),
                 Job::FstringWrite { .. } => starlark_fstring_write(p, pl, t, tl, d, dl, bytes, bytes_len, out),

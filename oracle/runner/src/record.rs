@@ -11,6 +11,7 @@ use model::answer::Answer;
 use crate::port::Job;
 use crate::port::Request;
 use crate::port::NAMES;
+use crate::port::NO_EDITION;
 
 const FILL: u8 = 0xee;
 const FILL_WORD: u32 = u32::from_le_bytes([FILL; 4]);
@@ -115,7 +116,16 @@ fn names_of(request: &Request) -> Vec<u8> {
     }
 }
 
-/// A job's dialect, node and room; and the Def's node of a binding, or how long the second buffer of the reader is.
+/// An edition in two bytes, in which the word for none is 65,535; an edition that is larger is not recorded.
+fn recorded(edition: u32) -> usize {
+    match edition {
+        NO_EDITION => 65_535,
+        65_535.. => 65_536,
+        _ => edition as usize,
+    }
+}
+
+/// A job's dialect, node and room; and the Def's node of a binding, how long the second buffer of the reader is, or an edition.
 struct Asked<'a> {
     dialect: &'a [u8],
     node: usize,
@@ -131,9 +141,10 @@ impl<'a> Asked<'a> {
             Job::Table => asked(&[], 0, 0),
             Job::Params { node, modes } => asked(&[], node, modes),
             Job::Call { node } | Job::Target { node } | Job::Assignment { node } => asked(&[], node, 0),
-            Job::Type { dialect, node, shapes } => asked(dialect, node, shapes),
-            Job::Module { dialect, errors } | Job::Audit { dialect, errors } => asked(dialect, 0, errors),
-            Job::Write { dialect, file } => asked(dialect, 0, file),
+            Job::Type { dialect, edition, node, shapes } => Asked { second: recorded(edition), ..asked(dialect, node, shapes) },
+            Job::Module { dialect, errors } => asked(dialect, 0, errors),
+            Job::Audit { dialect, edition, errors } => Asked { second: recorded(edition), ..asked(dialect, 0, errors) },
+            Job::Write { dialect, edition, file } => Asked { second: recorded(edition), ..asked(dialect, 0, file) },
             Job::Rescue { file } => asked(&[], 0, file),
             Job::CheckFile { errors } => asked(&[], 0, errors),
             Job::Bind { call, def, list } => Asked { second: def, ..asked(&[], call, list) },

@@ -101,13 +101,14 @@ pub unsafe extern "C" fn starlark_type(
     names_len: usize,
     dialect: *const u8,
     dialect_len: usize,
+    edition: u32,
     node: usize,
     shapes: *mut u8,
     shapes_len: usize,
     out: Out,
 ) -> u32 {
     let (table, names) = (lent(table, table_len), lent(names, names_len));
-    let answer = jobs::type_shape(table, names, lent(dialect, dialect_len), node, shapes_len);
+    let answer = jobs::type_shape(table, names, lent(dialect, dialect_len), edition, node, shapes_len);
     give_bytes(answer, lent_mut(shapes, shapes_len), out)
 }
 
@@ -177,12 +178,13 @@ pub unsafe extern "C" fn starlark_write(
     names_len: usize,
     dialect: *const u8,
     dialect_len: usize,
+    edition: u32,
     file: *mut u8,
     file_len: usize,
     out: Out,
 ) -> u32 {
     let (table, names) = (lent(table, table_len), lent(names, names_len));
-    let answer = jobs::write(table, names, lent(dialect, dialect_len), file_len);
+    let answer = jobs::write(table, names, lent(dialect, dialect_len), edition, file_len);
     let buffer = lent_mut(file, file_len);
     if planted(Fault::RefusedWriteWrites) && answer.number != 0 && !buffer.is_empty() {
         buffer[0] = 0;
@@ -223,12 +225,13 @@ pub unsafe extern "C" fn starlark_audit(
     names_len: usize,
     dialect: *const u8,
     dialect_len: usize,
+    edition: u32,
     errors: *mut u32,
     errors_len: usize,
     out: Out,
 ) -> u32 {
     let (table, names) = (lent(table, table_len), lent(names, names_len));
-    let mut answer = jobs::audit(table, names, lent(dialect, dialect_len));
+    let mut answer = jobs::audit(table, names, lent(dialect, dialect_len), edition);
     let list = lent_mut(errors, errors_len);
     if planted(Fault::AuditBeginBeforeFile) {
         exchange(&mut answer.audited, 2);

@@ -9,6 +9,7 @@ audit-spec =
     tie.close
     (tie.spec
     (λ c κs. search needs)
+    (λ c κs. search needs)
     (λ c. search needs)
     (λ c κs. search needs)
     (λ c. search needs)
@@ -16,8 +17,11 @@ audit-spec =
     (λ c.  -- returns
     let back = c .before .before .before .before in
     let entered = back .before .entered in
-    let enter-dialect = back .before .before .before .enter-dialect in
+    let enter-rules = back .before .before .before .enter-rules in
+    let edition-of = back .before .before .before .before .edition-of in
     let pass = c .before .before .pass in
-    job-total _ _ _ _ enter-dialect.ensures entered.given.1 pass.ensures.0 pass.ensures.1)
+    job-total _ _ _ _ _ edition-of.ensures enter-rules.ensures entered.given.1 pass.ensures.0 pass.ensures.1)
     (λ c.  -- returns-2
-    job-refused _ _ _ _ (c .before .before .before .enter-dialect .ensures) (c .before .entered2 .given .1)))
+    let enter-rules = c .before .before .before .enter-rules in
+    let edition-of = c .before .before .before .before .edition-of in
+    job-refused _ _ _ _ _ edition-of.ensures enter-rules.ensures (c .before .entered2 .given .1)))

@@ -31,4 +31,4 @@ pass-spec =
     let free = c .before .before .before .before .before .free in
     let back = c .before .before .before .before .before .before in
     let pass = back .before .before .pass in
-    pass-all _ _ _ pass.ensures.0 _ pass.ensures.1 free.ensures within.ensures check-each.ensures.stores))
+    pass-all _ _ _ pass.ensures.0 _ _ pass.ensures.1 free.ensures within.ensures check-each.ensures.stores))

@@ -1,6 +1,6 @@
--- `starlark_checks::put_held` meets its contract: six words are laid one after the other. Assumes nothing.
+-- `starlark_checks::put_held` meets its contract: what stands before the edition, then the edition. Assumes nothing.
 use borrow.Author.Needs.{needs}
-use Rattle.starlark_checks.proofs.Told.{nodes-fit, names-fit, dialect-fits, held-laid}
+use Rattle.starlark_checks.proofs.Told.{held-laid}
 use Rattle.starlark_checks.proofs.put_held.Statement.{statement}
 use Rattle.starlark_checks.proofs.put_held.Tie as tie
 
@@ -10,25 +10,8 @@ put-held-spec =
     (tie.spec
     (λ c κs. search needs)
     (λ c κs. search needs)
-    (λ c.  -- cast-out
-    let start = c .before .before .before .before in
-    record { fits = nodes-fit _ (c .before .before .header .ensures) start.pre })
-    (λ c. search needs)
-    (λ c.  -- cast-out-2
-    let start = c .before .before .before .before .before in
-    record { fits = names-fit _ (c .before .before .before .header .ensures) start.pre })
-    (λ c. search needs)
-    (λ c. record { fits = dialect-fits _ (c .before .before .before .before .header .ensures) })  -- cast-out-3
-    (λ c. search needs)
     (λ c κs. search needs)
-    (λ c. search needs)
-    (λ c κs. search needs)
-    (λ c. search needs)
-    (λ c κs. search needs)
-    (λ c. search needs)
     (λ c.  -- returns
-    let word = c .before .before .word in
-    let back = c .before .before .before .before .before .before in
-    let start = back .before .before .before in
-    held-laid _ start.args.out.now (back .before .header .ensures) (back .dialect-bytes .ensures) word.ensures
-    (c .before .word2 .ensures) (c .word3 .ensures)))
+    let start = c .before .before .before .before in
+    held-laid _ start.args.out.now (c .before .before .put-front .ensures) (c .before .stated-edition .ensures)
+    (c .put-edition .ensures)))

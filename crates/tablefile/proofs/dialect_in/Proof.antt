@@ -1,4 +1,4 @@
--- `tablefile::dialect_in` meets its contract: 13 used bytes or others. Assumes nothing.
+-- `tablefile::dialect_in` meets its contract: 13 or 14 used bytes, or others. Assumes nothing.
 use Rattle.tablefile.proofs.Fronts.{dialect-nine, dialect-none}
 use Rattle.tablefile.proofs.dialect_in.Statement.{statement}
 use Rattle.tablefile.proofs.dialect_in.Tie as tie
@@ -7,5 +7,5 @@ pub dialect-in-spec : {M : Type 1} → statement M
 dialect-in-spec =
     tie.close
     (tie.spec
-    (λ c. dialect-nine (c .if1 .taken))  -- returns
-    (λ c. dialect-none (c .if1 .left)))  -- returns-2
+    (λ c. dialect-nine _ (c .if1 .taken))  -- returns
+    (λ c. dialect-none _ (c .if1 .left)))  -- returns-2

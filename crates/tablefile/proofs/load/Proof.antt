@@ -1,4 +1,5 @@
 -- `tablefile::load` meets its contract: each array is what the blocks hold. Assumes nothing.
+use borrow.Author.Needs.{needs}
 use Rattle.tablefile.proofs.Loads.{load-fits, load-table, load-names, load-dialect, load-is}
 use Rattle.tablefile.proofs.load.Statement.{statement}
 use Rattle.tablefile.proofs.load.Tie as tie
@@ -13,4 +14,5 @@ load-spec =
     (λ c κs.  -- dialect-of-requires
     let start = c .before .before .before .before in
     load-dialect _ start.pre.0 start.pre.1)
+    (λ c κs. search needs)
     (λ c. search load-is))  -- returns

@@ -1,6 +1,8 @@
--- `writer::fits` meets its contract: each length in turn, then the room. Assumes nothing.
+-- `writer::fits` meets its contract: each length in turn, then the edition and the room. Assumes nothing.
 use borrow.Author.Needs.{needs}
-use Rattle.writer.proofs.Jobs.{unfit-table, unfit-names, unfit-dialect, fit-one, fit-sum, fit-bytes, fit-room}
+use borrow.Author.Tests.{not-true, not-false}
+use Rattle.writer.proofs.Jobs.{unfit-table, unfit-names, unfit-dialect, unfit-edition, fit-one, fit-sum, fit-bytes}
+use Rattle.writer.proofs.Jobs.{fit-room}
 use Rattle.writer.proofs.fits.Statement.{statement}
 use Rattle.writer.proofs.fits.Tie as tie
 
@@ -12,8 +14,10 @@ fits-spec =
     (λ c. search unfit-names)  -- returns-2
     (λ c. search unfit-dialect)  -- returns-3
     (λ c κs. search needs)
+    (λ c. search (unfit-edition, not-true))  -- returns-4
+    (λ c κs. search needs)
     (λ c. search fit-one)  -- add-count
     (λ c κs. search needs)
     (λ c. search fit-sum)  -- add-count-2
-    (λ c. search fit-bytes)  -- mul
-    (λ c. search fit-room))  -- returns-4
+    (λ c. search fit-bytes)  -- mul-result
+    (λ c. search (fit-room, not-false)))  -- returns-5

@@ -9,6 +9,7 @@ judge-spec =
     tie.close
     (tie.spec
     (λ c κs. search needs)
+    (λ c κs. search needs)
     (λ c. search needs)
     (λ c κs. search job-few)  -- room-for-requires
     (λ c. search needs)

@@ -11,8 +11,8 @@ write-unchecked-spec =
     (tie.spec
     (λ c κs. search needs)
     (λ c. search (unfit-keeps, not-true))  -- returns
-    (λ c κs.
+    (λ c κs.  -- write-file-requires
     let fits = c .before .before .fits2 in
-    fit-writes _ _ _ _ fits.ensures (not-false _ (c .before .if1 .left)))  -- write-file-requires
+    fit-writes _ _ _ _ _ fits.ensures (not-false _ (c .before .if1 .left)))
     (λ c. search needs)
     (λ c. search (fit-laid, not-false)))  -- returns-2

@@ -28,6 +28,7 @@ use crate::checker::Checker;
 use crate::grow;
 use crate::port::Job;
 use crate::port::Request;
+use crate::port::FIRST_EDITION;
 use crate::rng::Rng;
 use crate::small::Small;
 
@@ -64,7 +65,7 @@ fn expect_of(checker: &mut Checker, dialect: &[u8], list: &[At], cells: &Cells) 
     encoded.write(cells, &PLAIN);
     let words = AUDIT_WORDS * list.len();
     for errors in [0, 4, 5, words.saturating_sub(1), words, words + 1, words + 7] {
-        let job = Job::Audit { dialect, errors };
+        let job = Job::Audit { dialect, edition: FIRST_EDITION, errors };
         checker.expect_audit(&Request { table: &encoded.table, names: &encoded.names, job }, list);
     }
 }
@@ -353,10 +354,10 @@ fn names_span(checker: &mut Checker) {
 }
 
 fn expect_words(checker: &mut Checker, table: &[u8], names: &[u8], list: &[[u32; AUDIT_WORDS]]) {
-    let audited = jobs::audit(table, names, &STANDARD).audited;
+    let audited = jobs::audit(table, names, &STANDARD, FIRST_EDITION).audited;
     checker.note(audited == list, || format!("the model audits {audited:?}, by hand it is {list:?}"));
     for errors in 0..=AUDIT_WORDS * list.len() + 1 {
-        checker.check(&Request { table, names, job: Job::Audit { dialect: &STANDARD, errors } });
+        checker.check(&Request { table, names, job: Job::Audit { dialect: &STANDARD, edition: FIRST_EDITION, errors } });
     }
 }
 
@@ -384,7 +385,7 @@ fn refusals(checker: &mut Checker) {
     let many = vec![b'n'; MOST_NAME_BYTES + 1];
     let mut refuse = |table: &[u8], names: &[u8], dialect: &[u8], number: u32, words: &[u32]| {
         for errors in [0, 4, 5, 40] {
-            checker.expect(&Request { table, names, job: Job::Audit { dialect, errors } }, number, Some(words));
+            checker.expect(&Request { table, names, job: Job::Audit { dialect, edition: FIRST_EDITION, errors } }, number, Some(words));
         }
     };
     for table in [&[][..], &table[1..], &table[..table.len() - 1], &long] {
@@ -408,7 +409,7 @@ fn list_length(rng: &mut Rng, encoded: &Encoded, dialect: &[u8]) -> usize {
     if rng.once_in(2) {
         return room_for_all(&encoded.table);
     }
-    let total = jobs::audit(&encoded.table, &encoded.names, dialect).audited.len();
+    let total = jobs::audit(&encoded.table, &encoded.names, dialect, FIRST_EDITION).audited.len();
     let words = AUDIT_WORDS * total;
     let near = (AUDIT_WORDS * rng.within(0, total) + rng.below(AUDIT_WORDS)).saturating_sub(rng.below(2));
     rng.pick(&[near, near, 0, 4, 5, words, words.saturating_sub(1)])
@@ -434,7 +435,7 @@ pub fn small(checker: &mut Checker, plan: &Plan) {
             let chosen = [0, 768, 767, number as usize * 331 % 769];
             let errors = room_for_all(&encoded.table);
             let chosen = chosen.iter().map(|&at| (dialects[at].as_slice(), errors));
-            checker.check_audits(&encoded.table, &encoded.names, chosen);
+            checker.check_audits(&encoded.table, &encoded.names, FIRST_EDITION, chosen);
         });
     }
 }
@@ -448,7 +449,7 @@ fn check_dialects<'a>(
 ) {
     let encoded = random.encoded;
     let asked = dialects.map(|dialect| (dialect.as_slice(), list_length(rng, encoded, dialect)));
-    checker.check_audits(&encoded.table, &encoded.names, asked);
+    checker.check_audits(&encoded.table, &encoded.names, FIRST_EDITION, asked);
 }
 
 /// Each random module under all 769 dialects.

@@ -20,6 +20,8 @@ use crate::checker::Checker;
 use crate::grow;
 use crate::port::Job;
 use crate::port::Request;
+use crate::port::NO_EDITION;
+use crate::port::FIRST_EDITION;
 use crate::rng::Rng;
 
 pub fn boundaries(checker: &mut Checker, plan: &Plan) {
@@ -58,6 +60,12 @@ fn table_lengths(checker: &mut Checker) {
 
 /// Every job at one node, with buffers of one length.
 fn all_jobs_at(checker: &mut Checker, table: &[u8], names: &[u8], dialect: &[u8], node: usize, room: usize) {
+    all_jobs_in(checker, table, names, dialect, [FIRST_EDITION, NO_EDITION], node, room);
+}
+
+/// The same in an edition, and in another one for the writer.
+fn all_jobs_in(checker: &mut Checker, table: &[u8], names: &[u8], dialect: &[u8], editions: [u32; 2], node: usize, room: usize) {
+    let [edition, written] = editions;
     // Where a job takes two nodes the other is one that it wants, if there is one.
     let first = |kind: u8| table.chunks_exact(24).position(|record| record[0] == kind).unwrap_or(0);
     let jobs = [
@@ -66,12 +74,12 @@ fn all_jobs_at(checker: &mut Checker, table: &[u8], names: &[u8], dialect: &[u8]
         Job::Call { node },
         Job::Target { node },
         Job::Assignment { node },
-        Job::Type { dialect, node, shapes: room },
+        Job::Type { dialect, edition, node, shapes: room },
         Job::Module { dialect, errors: room },
-        Job::Write { dialect, file: 512 * room.min(118) },
+        Job::Write { dialect, edition: written, file: 512 * room.min(118) },
         Job::Bind { call: node, def: first(kind::DEF), list: room },
         Job::Bind { call: first(kind::CALL), def: node, list: room },
-        Job::Audit { dialect, errors: room },
+        Job::Audit { dialect, edition, errors: room },
     ];
     for job in jobs {
         checker.check(&Request { table, names, job });
@@ -247,7 +255,7 @@ fn error_lists(checker: &mut Checker) {
     let misplaced = flat_table(7);
     for errors in 0..=6 * AUDIT_WORDS + 1 {
         checker.check(&Request { table: &misplaced, names: &[], job: Job::Module { dialect: &[], errors } });
-        checker.check(&Request { table: &misplaced, names: &[], job: Job::Audit { dialect: &[], errors } });
+        checker.check(&Request { table: &misplaced, names: &[], job: Job::Audit { dialect: &[], edition: FIRST_EDITION, errors } });
     }
     let full = flat_table(MOST_NODES);
     let total = ERROR_WORDS * (MOST_NODES - 1);
@@ -256,7 +264,7 @@ fn error_lists(checker: &mut Checker) {
     }
     let total = AUDIT_WORDS * (MOST_NODES - 1);
     for errors in [0, 1, 2, 4, 5, total - 6, total - 5, total - 1, total, total + 1, 15 * MOST_NODES] {
-        checker.check(&Request { table: &full, names: &[], job: Job::Audit { dialect: &[], errors } });
+        checker.check(&Request { table: &full, names: &[], job: Job::Audit { dialect: &[], edition: FIRST_EDITION, errors } });
     }
 }
 
@@ -322,7 +330,7 @@ fn depths(checker: &mut Checker) {
     }
 }
 
-/// All combinations of the seven things that can be wrong before a job begins: the first number counts.
+/// All combinations of the eight things that can be wrong before a job begins: the first number counts. Of these the dialect and the edition are both 5.
 fn wrong_in_several_ways(checker: &mut Checker) {
     let mut cells = Cells::default();
     // Node 1 is a Def, node 2 its parameter, node 5 a Call, node 6 its callee.
@@ -346,7 +354,7 @@ fn wrong_in_several_ways(checker: &mut Checker) {
             opened.into_iter().rev().for_each(|at| cells.close(at));
         });
     });
-    for wrong in 0..128u32 {
+    for wrong in 0..256u32 {
         let is = |bit: u32| wrong >> bit & 1 == 1;
         let mut encoded = Encoded::default();
         encoded.write(if is(3) { &cells } else { &shallow }, &PLAIN);
@@ -364,7 +372,8 @@ fn wrong_in_several_ways(checker: &mut Checker) {
         let room = if is(6) { 0 } else { 9 };
         for node in 0..8 {
             let node = if is(5) { node + 1_000 } else { node };
-            all_jobs_at(checker, &encoded.table, &encoded.names, dialect, node, room);
+            let editions = if is(7) { [0, 3] } else { [FIRST_EDITION, NO_EDITION] };
+            all_jobs_in(checker, &encoded.table, &encoded.names, dialect, editions, node, room);
         }
     }
 }

@@ -13,6 +13,7 @@ use crate::cells::PLAIN;
 use crate::checker::Checker;
 use crate::port::Job;
 use crate::port::Request;
+use crate::port::FIRST_EDITION;
 
 pub fn rows_and_bytes(checker: &mut Checker, plan: &Plan) {
     let rows = [STANDARD, EXTENDED, ALL_OPTIONS_INTERNAL, STANDARD];
@@ -41,7 +42,7 @@ pub fn rows_and_bytes(checker: &mut Checker, plan: &Plan) {
 
 /// No bytes: the crate's Extended by its own constant, in the model too, and neither of the other rows.
 fn none_is_extended(checker: &mut Checker, encoded: &Encoded) {
-    let audited = |dialect: &[u8]| model::jobs::audit(&encoded.table, &encoded.names, dialect).audited;
+    let audited = |dialect: &[u8]| model::jobs::audit(&encoded.table, &encoded.names, dialect, FIRST_EDITION).audited;
     let [_, (_, of_crate), ..] = judge::dialects::named();
     checker.note(audited(&[]) == audited(&of_crate), || "no dialect is not Extended".to_owned());
     for (name, row) in [("Standard", STANDARD), ("AllOptionsInternal", ALL_OPTIONS_INTERNAL)] {
@@ -52,9 +53,9 @@ fn none_is_extended(checker: &mut Checker, encoded: &Encoded) {
 fn ask(checker: &mut Checker, encoded: &Encoded, dialect: &[u8]) {
     let Encoded { table, names, .. } = encoded;
     checker.check(&Request { table, names, job: Job::Module { dialect, errors: 60 } });
-    checker.check(&Request { table, names, job: Job::Audit { dialect, errors: 80 } });
+    checker.check(&Request { table, names, job: Job::Audit { dialect, edition: FIRST_EDITION, errors: 80 } });
     for node in [0, 1, 12, 400] {
-        checker.check(&Request { table, names, job: Job::Type { dialect, node, shapes: 20 } });
+        checker.check(&Request { table, names, job: Job::Type { dialect, edition: FIRST_EDITION, node, shapes: 20 } });
     }
 }
 

@@ -14,6 +14,7 @@ use crate::cells::TYPE;
 use crate::checker::Checker;
 use crate::port::Job;
 use crate::port::Request;
+use crate::port::FIRST_EDITION;
 
 const A: u8 = 0;
 const B: u8 = 1;
@@ -131,7 +132,7 @@ fn expect_type(checker: &mut Checker, number: u32, build: impl FnOnce(&mut Cells
     cells.tree(kind::SIMPLE, 0, 0, build);
     with_table(&cells, |table, names| {
         let dialect = &model::dialect::EXTENDED;
-        let job = Job::Type { dialect, node: 1, shapes: table.len() / 24 };
+        let job = Job::Type { dialect, edition: FIRST_EDITION, node: 1, shapes: table.len() / 24 };
         checker.expect(&Request { table, names, job }, number, None);
     });
 }
@@ -184,7 +185,7 @@ pub fn example_table() -> Vec<u8> {
 fn program(checker: &mut Checker, plan: &Plan) {
     let table = example_table();
     for dialect in [&[][..], &model::dialect::STANDARD] {
-        let contents = file::Contents { table: table.clone(), names: b"abc".to_vec(), dialect: dialect.to_vec() };
+        let contents = file::Contents { table: table.clone(), names: b"abc".to_vec(), dialect: dialect.to_vec(), edition: None };
         let written = file::write(&contents);
         let printed = file::printed(&written);
         let expected = "nodes 6\n13 1 14 15\n55 1 20 25\nerrors 2\n";

@@ -93,7 +93,7 @@ pub fn contents(records: usize, names: usize, dialect: &[u8]) -> Contents {
     // Statement by statement another source file.
     encoded.write(&cells, &Style { files: Files::Turns(MOST_FILE), ..PLAIN });
     let names = (0..names).map(|at| b'a' + (at % 26) as u8).collect();
-    Contents { table: encoded.table, names, dialect: dialect.to_vec() }
+    Contents { table: encoded.table, names, dialect: dialect.to_vec(), edition: None }
 }
 
 /// Names and nodes that just fill blocks, and one less and more; and counts beyond the limits.
@@ -164,7 +164,7 @@ fn depths(checker: &mut Checker, rng: &mut Rng, see: See) {
         encoded.write(&chain(rng, depth), &PLAIN);
         for dialect in [&[][..], &dialect::STANDARD, &[9; 9]] {
             let Encoded { table, names, .. } = encoded.clone();
-            let written = file::write(&Contents { table, names, dialect: dialect.to_vec() });
+            let written = file::write(&Contents { table, names, dialect: dialect.to_vec(), edition: None });
             see(checker, &written, false);
         }
     }
@@ -200,12 +200,23 @@ fn damaged(checker: &mut Checker, plan: &Plan, quick: u64, see: See) {
         if rng.once_in(6) && !dialect.is_empty() {
             dialect[rng.below(9)] = 3;
         }
-        let mut bytes = file::write(&Contents { table, names, dialect });
+        let edition = any_edition(random.number);
+        let mut bytes = file::write(&Contents { table, names, dialect, edition });
         for _ in 0..rng.below(3) {
             damage(rng, &mut bytes);
         }
         see(checker, &bytes, random.number % 2 == 0);
     });
+}
+
+/// Most often no edition byte, then a good one; now and then a bad one. It takes no number of the row, so that all else stays as it was.
+pub fn any_edition(number: u64) -> Option<u8> {
+    match number % 8 {
+        0..=3 => None,
+        4 | 5 => Some(1),
+        6 => Some(2),
+        _ => Some((number / 8) as u8),
+    }
 }
 
 /// One change of a file: a bit, with or without its sum put right; a block lost or doubled; an end that is missing.

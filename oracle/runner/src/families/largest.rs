@@ -24,6 +24,8 @@ use crate::cells::Files;
 use crate::checker::Checker;
 use crate::port::Job;
 use crate::port::Request;
+use crate::port::NO_EDITION;
+use crate::port::FIRST_EDITION;
 use crate::rng::Rng;
 
 /// Nothing is permitted, and there are no types.
@@ -157,7 +159,7 @@ pub fn names(checker: &mut Checker, plan: &Plan) {
 /// not.
 fn full_names(checker: &mut Checker, length: usize) {
     let long = |name: usize| [&vec![b'n'; length - 2][..], &short(name)].concat();
-    let audit = Job::Audit { dialect: &ALL_OPTIONS_INTERNAL, errors: 9 };
+    let audit = Job::Audit { dialect: &ALL_OPTIONS_INTERNAL, edition: FIRST_EDITION, errors: 9 };
     let count = (MOST_NAME_BYTES / length).min(MOST_ENTRIES);
     for last in [count - 1, count - 2, 0] {
         let mut growing = Growing::default();
@@ -238,8 +240,8 @@ fn check_field(checker: &mut Checker, field: &[u8]) {
         growing.close(dot);
         growing.leaf(kind::INT, b"");
     });
-    growing.ask(checker, Job::Type { dialect: &ALL_OPTIONS_INTERNAL, node: 2, shapes: 2 });
-    growing.ask(checker, Job::Audit { dialect: &ALL_OPTIONS_INTERNAL, errors: 8 });
+    growing.ask(checker, Job::Type { dialect: &ALL_OPTIONS_INTERNAL, edition: FIRST_EDITION, node: 2, shapes: 2 });
+    growing.ask(checker, Job::Audit { dialect: &ALL_OPTIONS_INTERNAL, edition: FIRST_EDITION, errors: 8 });
 }
 
 /// Parameter lists, calls and bindings.
@@ -304,7 +306,7 @@ fn check_parameters(checker: &mut Checker, count: usize, form: usize) {
         growing.ask(checker, Job::Params { node: 0, modes });
     }
     growing.ask(checker, Job::Module { dialect: &ALL_OPTIONS_INTERNAL, errors: 9 });
-    growing.ask(checker, Job::Audit { dialect: &ALL_OPTIONS_INTERNAL, errors: 9 });
+    growing.ask(checker, Job::Audit { dialect: &ALL_OPTIONS_INTERNAL, edition: FIRST_EDITION, errors: 9 });
 }
 
 /// What stands at a place of a call: all positional; all named; half and half; a star and a double star at the end.
@@ -341,7 +343,7 @@ fn check_arguments(checker: &mut Checker, count: usize, form: usize) {
     let mut growing = Growing::default();
     let node = add_call(&mut growing, &(0..count).collect::<Vec<_>>(), form);
     growing.ask(checker, Job::Call { node });
-    growing.ask(checker, Job::Audit { dialect: &ALL_OPTIONS_INTERNAL, errors: 9 });
+    growing.ask(checker, Job::Audit { dialect: &ALL_OPTIONS_INTERNAL, edition: FIRST_EDITION, errors: 9 });
 }
 
 /// A name that stands once more at the end of a list: of long lists every earlier place is tried, so that whatever a check notes of the names
@@ -483,7 +485,7 @@ fn check_leaves(checker: &mut Checker, group: u8, leaf: u8, count: usize) {
             growing.leaf(kind::SIMPLE, b"");
         });
         if repeated.nodes() <= MOST_NODES {
-            repeated.ask(checker, Job::Audit { dialect: &ALL_OPTIONS_INTERNAL, errors: 9 });
+            repeated.ask(checker, Job::Audit { dialect: &ALL_OPTIONS_INTERNAL, edition: FIRST_EDITION, errors: 9 });
         }
     }
 }
@@ -503,7 +505,7 @@ fn check_types(checker: &mut Checker, group: u8, count: usize) {
     });
     for growing in [growing, index] {
         for shapes in around(growing.nodes() - 1) {
-            growing.ask(checker, Job::Type { dialect: &ALL_OPTIONS_INTERNAL, node: 1, shapes });
+            growing.ask(checker, Job::Type { dialect: &ALL_OPTIONS_INTERNAL, edition: FIRST_EDITION, node: 1, shapes });
         }
     }
 }
@@ -525,13 +527,13 @@ fn check_far_nodes(checker: &mut Checker, before: usize) {
     growing.close(root);
     growing.ask(checker, Job::Table);
     growing.ask(checker, Job::Module { dialect, errors: 9 });
-    growing.ask(checker, Job::Audit { dialect, errors: 9 });
+    growing.ask(checker, Job::Audit { dialect, edition: FIRST_EDITION, errors: 9 });
     for node in [def, call, call + 1, call + 3, last, last + 1] {
         growing.ask(checker, Job::Params { node, modes: 3 });
         growing.ask(checker, Job::Call { node });
         growing.ask(checker, Job::Target { node });
         growing.ask(checker, Job::Assignment { node });
-        growing.ask(checker, Job::Type { dialect, node, shapes: 9 });
+        growing.ask(checker, Job::Type { dialect, edition: FIRST_EDITION, node, shapes: 9 });
         growing.ask(checker, Job::Bind { call, def: node, list: 9 });
         growing.ask(checker, Job::Bind { call: node, def, list: 9 });
     }
@@ -569,19 +571,19 @@ pub fn errors(checker: &mut Checker, plan: &Plan) {
                 checker.check(&Request { table: &table, names: &[], job: Job::Module { dialect: &NOTHING, errors } });
             }
             for errors in around(AUDIT_WORDS * count) {
-                checker.check(&Request { table: &table, names: &[], job: Job::Audit { dialect: &NOTHING, errors } });
+                checker.check(&Request { table: &table, names: &[], job: Job::Audit { dialect: &NOTHING, edition: FIRST_EDITION, errors } });
             }
         }
     }
     let growing = most_errors();
-    let total = jobs::audit(&growing.table, &[], &NOTHING).audited.len();
+    let total = jobs::audit(&growing.table, &[], &NOTHING, FIRST_EDITION).audited.len();
     checker.note(total > 3_400, || format!("the table of the most errors has {total}"));
-    let held = file::Contents { table: growing.table.clone(), names: Vec::new(), dialect: NOTHING.to_vec() };
+    let held = file::Contents { table: growing.table.clone(), names: Vec::new(), dialect: NOTHING.to_vec(), edition: None };
     let bytes = file::write(&held);
     for errors in [0].into_iter().chain(sizes(AUDIT_WORDS * total)).chain([AUDIT_WORDS * total + 1, 16 * MOST_NODES]) {
         if turns.next(checker) {
             growing.ask(checker, Job::Module { dialect: &NOTHING, errors });
-            growing.ask(checker, Job::Audit { dialect: &NOTHING, errors });
+            growing.ask(checker, Job::Audit { dialect: &NOTHING, edition: FIRST_EDITION, errors });
             checker.check(&Request { table: &bytes, names: &[], job: Job::CheckFile { errors } });
         }
     }
@@ -604,10 +606,10 @@ pub fn files(checker: &mut Checker, plan: &Plan) {
 
 fn check_file(checker: &mut Checker, records: usize, names: usize) {
     let held = contents(records, names, &ALL_OPTIONS_INTERNAL);
-    let file::Contents { table, names: name_bytes, dialect } = &held;
+    let file::Contents { table, names: name_bytes, dialect, .. } = &held;
     let whole = file::write(&held);
     for file in around(whole.len()) {
-        checker.check(&Request { table, names: name_bytes, job: Job::Write { dialect, file } });
+        checker.check(&Request { table, names: name_bytes, job: Job::Write { dialect, edition: NO_EDITION, file } });
     }
     let of_file = |bytes: &[u8], checker: &mut Checker| {
         checker.check(&Request { table: bytes, names: &[], job: Job::Read { table: table.len(), names } });

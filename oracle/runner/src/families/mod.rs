@@ -4,6 +4,7 @@ pub mod audits;
 pub mod bindings;
 pub mod boundaries;
 pub mod dialects;
+pub mod editions;
 pub mod examples;
 pub mod files;
 pub mod formats;
@@ -141,6 +142,9 @@ pub const ALL: &[Family] = &[
     family("source files, each record", 2, ARCHIVE | READERS | RESCUE, sources::records, [84_500, 2_900, 180]),
     family("source files, random", 2, ARCHIVE | READERS | RESCUE, sources::random, [245_280, 54_700, 4_200]),
     family("dialect rows and bytes", 1, MODULE | TYPE | AUDIT, dialects::rows_and_bytes, [14_200, 58, 11]),
+    family("editions, corner cases", 1, TYPE | AUDIT | WRITE, editions::corners, [0, 0, 0]),
+    family("editions, files", 1, READERS | RESCUE | FILE, editions::files, [0, 0, 0]),
+    family("editions, audits", 2, AUDIT, editions::audits, [0, 0, 0]),
     family("audits, corner cases", 1, AUDIT, audits::corners, [482, 320, 589]),
     family("audits, every small tree", 2, AUDIT, audits::small, [92_490, 47_030, 29_700]),
     family("audits, all dialects", 2, AUDIT, audits::all_dialects, [59_910, 53_870, 9_120]),

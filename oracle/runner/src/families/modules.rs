@@ -23,6 +23,8 @@ use crate::checker::Checker;
 use crate::grow;
 use crate::port::Job;
 use crate::port::Request;
+use crate::port::NO_EDITION;
+use crate::port::FIRST_EDITION;
 use crate::rng::Rng;
 use crate::small::Small;
 
@@ -162,11 +164,11 @@ pub fn every_job(checker: &mut Checker, rng: &mut Rng, table: &[u8], names: &[u8
         Job::Call { node: call },
         Job::Target { node: target },
         Job::Assignment { node: assignment },
-        Job::Type { dialect, node: ty, shapes: rng.pick(&[0, 1, 2, 4, 8, 30, 100]) },
+        Job::Type { dialect, edition: FIRST_EDITION, node: ty, shapes: rng.pick(&[0, 1, 2, 4, 8, 30, 100]) },
         Job::Module { dialect, errors: rng.pick(&[0, 1, 4, 6, 8, 20, 100]) },
-        Job::Write { dialect, file: rng.pick(&[0, 1_023, 1_024, 1_535, 1_536, 2_048, 4_096]) },
+        Job::Write { dialect, edition: NO_EDITION, file: rng.pick(&[0, 1_023, 1_024, 1_535, 1_536, 2_048, 4_096]) },
         Job::Bind { call, def: owner, list: rng.pick(&[0, 1, 2, 4, 8, 16, 64]) },
-        Job::Audit { dialect, errors: audited },
+        Job::Audit { dialect, edition: FIRST_EDITION, errors: audited },
     ];
     for job in jobs {
         checker.check(&Request { table, names, job });

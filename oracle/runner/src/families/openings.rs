@@ -18,6 +18,7 @@ use crate::checker::Checker;
 use crate::grow;
 use crate::port::Effect;
 use crate::port::Job;
+use crate::port::FIRST_EDITION;
 use crate::rng::Rng;
 
 const TOP_LEVEL_AT: usize = 7;
@@ -92,7 +93,7 @@ fn module_lists(random: &Random, tree: Option<&run::Module>, row: &[u8]) -> List
 fn audit_lists(random: &Random, judge: &run::Audit, row: &[u8]) -> Lists {
     let of_crate = judge.judged(&dialects::from_bytes(row)).ok();
     Lists {
-        of_archive: of_archive(random, Job::Audit { dialect: row, errors: room(random) }, AUDIT_WORDS),
+        of_archive: of_archive(random, Job::Audit { dialect: row, edition: FIRST_EDITION, errors: room(random) }, AUDIT_WORDS),
         of_crate: of_crate.map(|judged| judged.by_statement.audited.into_iter().map(Vec::from).collect()),
     }
 }
@@ -155,6 +156,6 @@ pub fn single_steps(checker: &mut Checker, plan: &Plan) {
         }
         let asked = || std::iter::once(&row).chain(&next).map(|row| (row.as_slice(), room(random)));
         checker.check_dialects(bytes, names, asked());
-        checker.check_audits(bytes, names, asked());
+        checker.check_audits(bytes, names, FIRST_EDITION, asked());
     });
 }

@@ -2,6 +2,7 @@
 //! writer makes. Every byte of the buffers is the model's.
 
 use model::answer::ERROR_WORDS;
+use model::answer::NONE;
 use model::dialect;
 use model::dialect::ALL_OPTIONS_INTERNAL;
 use model::dialect::EXTENDED;
@@ -107,17 +108,20 @@ fn refuse(checker: &mut Checker, bytes: &[u8], number: u32, words: &[u32]) {
 
 /// Answers by hand: nodes, name bytes, 1 for a dialect, its nine bytes in three words; each refusal.
 pub fn corners(checker: &mut Checker, _plan: &Plan) {
-    let example = |dialect: &[u8]| Contents { table: example_table(), names: b"abc".to_vec(), dialect: dialect.to_vec() };
+    let in_edition = |dialect: &[u8], edition| Contents { table: example_table(), names: b"abc".to_vec(), dialect: dialect.to_vec(), edition };
+    let example = |dialect: &[u8]| in_edition(dialect, None);
     let errors = [[13, 1, 14, 15], [55, 1, 20, 25]];
-    expect(checker, &example(&[]), &[6, 3, 0, 0, 0, 0], &errors);
-    expect(checker, &example(&STANDARD), &[6, 3, 1, 0x0001_0101, 0x0001_0000, 0], &errors);
-    expect(checker, &example(&EXTENDED), &[6, 3, 1, 0x0101_0101, 0x0101_0200, 0], &errors);
-    expect(checker, &example(&ALL_OPTIONS_INTERNAL), &[6, 3, 1, 0x0101_0101, 0x0101_0201, 1], &errors);
-    expect(checker, &example(&[0, 1, 0, 0, 0, 1, 0, 0, 1]), &[6, 3, 1, 0x100, 0x100, 1], &[[52, 1, 0, 25], errors[0], errors[1]]);
-    expect(checker, &contents(1, 0, &[]), &[1, 0, 0, 0, 0, 0], &[]);
+    expect(checker, &example(&[]), &[6, 3, 0, 0, 0, 0, NONE, 1], &errors);
+    expect(checker, &example(&STANDARD), &[6, 3, 1, 0x0001_0101, 0x0001_0000, 0, NONE, 1], &errors);
+    expect(checker, &in_edition(&STANDARD, Some(1)), &[6, 3, 1, 0x0001_0101, 0x0001_0000, 0, 1, 1], &errors);
+    expect(checker, &in_edition(&STANDARD, Some(2)), &[6, 3, 1, 0x0001_0101, 0x0001_0000, 0, 2, 2], &errors);
+    expect(checker, &example(&EXTENDED), &[6, 3, 1, 0x0101_0101, 0x0101_0200, 0, NONE, 1], &errors);
+    expect(checker, &example(&ALL_OPTIONS_INTERNAL), &[6, 3, 1, 0x0101_0101, 0x0101_0201, 1, NONE, 1], &errors);
+    expect(checker, &example(&[0, 1, 0, 0, 0, 1, 0, 0, 1]), &[6, 3, 1, 0x100, 0x100, 1, NONE, 1], &[[52, 1, 0, 25], errors[0], errors[1]]);
+    expect(checker, &contents(1, 0, &[]), &[1, 0, 0, 0, 0, 0, NONE, 1], &[]);
     for (entries, errors) in [(MOST_ENTRIES, &[][..]), (MOST_ENTRIES + 1, &[[number::TOO_MANY_PARAMETERS, 1, 5, 5]][..])] {
         let held = listed(entries);
-        expect(checker, &held, &[entries as u32 + 2, held.names.len() as u32, 0, 0, 0, 0], errors);
+        expect(checker, &held, &[entries as u32 + 2, held.names.len() as u32, 0, 0, 0, 0, NONE, 1], errors);
     }
     let largest = contents(MOST_NODES, MOST_NAME_BYTES, &STANDARD);
     for (table, names) in [(MOST_TABLE_BYTES, MOST_NAME_BYTES), (MOST_TABLE_BYTES - 1, 9_000), (60_000, MOST_NAME_BYTES - 1)] {
@@ -137,7 +141,7 @@ fn listed(entries: usize) -> Contents {
     });
     let mut encoded = Encoded::default();
     encoded.write(&cells, &PLAIN);
-    Contents { table: encoded.table, names: encoded.names, dialect: Vec::new() }
+    Contents { table: encoded.table, names: encoded.names, dialect: Vec::new(), edition: None }
 }
 
 /// 70, 72, 71, 73, 74, 75: the first that is wrong, block by block.
@@ -262,8 +266,10 @@ pub fn written(checker: &mut Checker, plan: &Plan) {
     };
     each_random(checker, plan, 23, 20_000, grow, |checker, rng, random| {
         let Encoded { table, names, .. } = random.encoded.clone();
-        let held = Contents { table, names, dialect: dialects[rng.below(dialects.len())].clone() };
-        let bytes = jobs::write(&held.table, &held.names, &held.dialect, 117 * BLOCK).file;
+        let dialect = dialects[rng.below(dialects.len())].clone();
+        let edition = [None, Some(1), Some(2)][(random.number % 3) as usize].filter(|_| !dialect.is_empty());
+        let held = Contents { table, names, dialect, edition };
+        let bytes = jobs::write(&held.table, &held.names, &held.dialect, edition.map_or(NONE, u32::from), 117 * BLOCK).file;
         look(checker, &bytes, random.number as usize);
         let read = jobs::read(&bytes, held.table.len(), held.names.len());
         let is_back = read.number == 0 && read.file == held.table && read.names == held.names && is_told(&read.words, &held);
@@ -273,11 +279,12 @@ pub fn written(checker: &mut Checker, plan: &Plan) {
     });
 }
 
-/// The six words of a reading, put together from what was written.
+/// The eight words of a reading, put together from what was written.
 fn is_told(words: &[u32], held: &Contents) -> bool {
     let byte = |at: usize| (words[3 + at / 4] >> (8 * (at % 4)) & 255) as u8;
     let nine: Vec<u8> = (0..9).map(byte).collect();
     let bytes_are = if held.dialect.is_empty() { nine == [0; 9] } else { nine == held.dialect };
     let counts = [held.table.len() / RECORD_BYTES, held.names.len(), usize::from(!held.dialect.is_empty())];
-    words.len() == 6 && words[..3] == counts.map(|count| count as u32) && bytes_are && words[5] < 256
+    let editions = [held.edition.map_or(NONE, u32::from), held.edition.map_or(1, u32::from)];
+    words.len() == 8 && words[..3] == counts.map(|count| count as u32) && bytes_are && words[5] < 256 && words[6..] == editions
 }

@@ -15,6 +15,7 @@ use model::table::MOST_FILE;
 use model::table::RECORD_BYTES;
 
 use super::each_random;
+use super::files::any_edition;
 use super::files::contents;
 use super::files::damage;
 use super::Plan;
@@ -99,7 +100,7 @@ impl Damaged {
     fn of_files(cells: &Cells, dialect: &[u8], files: Files) -> Damaged {
         let mut encoded = Encoded::default();
         encoded.write(cells, &Style { files, ..PLAIN });
-        Damaged::of(&Contents { table: encoded.table, names: encoded.names, dialect: dialect.to_vec() })
+        Damaged::of(&Contents { table: encoded.table, names: encoded.names, dialect: dialect.to_vec(), edition: None })
     }
 
     fn blocks(&self) -> usize {
@@ -336,13 +337,20 @@ fn across_blocks(checker: &mut Checker) {
     expect(checker, &of_many.size(16, 12).bytes, 1_024, &[1_024, 15, 16, 16, 0, 0]);
 }
 
-/// No dialect stays none, and the names are whole.
+/// No dialect stays none, the edition byte stays as it is, and the names are whole.
 fn no_dialect(checker: &mut Checker) {
-    for dialect in [&[][..], &dialect::STANDARD, &dialect::ALL_OPTIONS_INTERNAL] {
-        let cut = Damaged::of(&contents(44, 505, dialect)).cut(2_048);
+    let mut keeps = |dialect: &[u8], edition: Option<u8>| {
+        let held = |records: usize| Contents { edition, ..contents(records, 505, dialect) };
+        let cut = Damaged::of(&held(44)).cut(2_048);
         let kept = jobs::rescue(&cut.bytes, MOST).file;
-        checker.note(kept == file::write(&contents(21, 505, dialect)), || format!("{dialect:?} is not kept"));
+        checker.note(kept == file::write(&held(21)), || format!("{dialect:?} and {edition:?} are not kept"));
         check(checker, &cut.bytes, &[0, -1, 1]);
+    };
+    for dialect in [&[][..], &dialect::STANDARD, &dialect::ALL_OPTIONS_INTERNAL] {
+        keeps(dialect, None);
+    }
+    for edition in [1, 2] {
+        keeps(&dialect::STANDARD, Some(edition));
     }
 }
 
@@ -529,7 +537,8 @@ pub fn each_random_file(
             dialect[rng.below(9)] = 3;
         }
         let names_at = BLOCK * (1 + names.len().div_ceil(CONTENT));
-        let mut bytes = file::write(&Contents { table, names, dialect });
+        let edition = any_edition(random.number).filter(|&edition| !dialect.is_empty() && (edition < 3 || random.number % 5 == 0));
+        let mut bytes = file::write(&Contents { table, names, dialect, edition });
         match rng.below(6) {
             0 => {}
             // The header and the names are whole.

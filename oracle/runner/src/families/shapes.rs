@@ -4,6 +4,7 @@ use model::numbers::kind;
 use model::table::Class;
 
 use super::each_random;
+use super::editions::check_types_of_editions;
 use super::style;
 use super::Plan;
 use super::Random;
@@ -15,6 +16,8 @@ use crate::grow;
 use crate::grow::Grower;
 use crate::port::Job;
 use crate::port::Request;
+use crate::port::FIRST_EDITION;
+use crate::port::SECOND_EDITION;
 use crate::rng::Rng;
 use crate::small::Small;
 
@@ -52,13 +55,16 @@ fn each_small_expression(plan: &Plan, see: &mut dyn FnMut(&Encoded, u64)) {
     }
 }
 
-/// The type with a buffer that is just long enough, longer, and now and then one short.
+/// The type by both editions, with a buffer that is just long enough, longer, and now and then one short.
 fn check_type(checker: &mut Checker, encoded: &Encoded, node: usize, number: u64) {
     let Encoded { table, names, .. } = encoded;
     let size = usize::from(table[24 * node + 16]) + 256 * usize::from(table[24 * node + 17]);
     let mut ask = |shapes: usize| {
-        let job = Job::Type { dialect: dialect(number), node, shapes };
-        checker.check(&Request { table, names, job });
+        let dialect = dialect(number);
+        for edition in [FIRST_EDITION, SECOND_EDITION] {
+            checker.check(&Request { table, names, job: Job::Type { dialect, edition, node, shapes } });
+        }
+        check_types_of_editions(checker, &Request { table, names, job: Job::Type { dialect, edition: FIRST_EDITION, node, shapes } });
     };
     ask(size + [0, 2][(number / 16 % 2) as usize]);
     if number % 31 == 0 {

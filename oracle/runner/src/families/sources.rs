@@ -30,6 +30,8 @@ use crate::checker::Checker;
 use crate::grow;
 use crate::port::Job;
 use crate::port::Request;
+use crate::port::NO_EDITION;
+use crate::port::FIRST_EDITION;
 use crate::rng::Rng;
 
 /// Both sides of each limit, and what a byte more or less makes of them.
@@ -155,11 +157,11 @@ fn expect_first(checker: &mut Checker, encoded: &Encoded, first: Option<usize>) 
     let number = if first.is_some() { number::UNSOUND } else { 0 };
     checker.expect(&Request { table, names, job: Job::Table }, number, Some(&words));
     if number != 0 {
-        for job in [Job::Module { dialect: &ON, errors: 9 }, Job::Audit { dialect: &ON, errors: 9 }] {
+        for job in [Job::Module { dialect: &ON, errors: 9 }, Job::Audit { dialect: &ON, edition: FIRST_EDITION, errors: 9 }] {
             checker.expect(&Request { table, names, job }, number, Some(&words));
         }
     }
-    for job in [Job::Target { node: 1 }, Job::Write { dialect: &ON, file: MOST_BYTES }] {
+    for job in [Job::Target { node: 1 }, Job::Write { dialect: &ON, edition: NO_EDITION, file: MOST_BYTES }] {
         checker.check(&Request { table, names, job });
     }
 }
@@ -167,7 +169,7 @@ fn expect_first(checker: &mut Checker, encoded: &Encoded, first: Option<usize>) 
 /// The same as a file: 3 with the node where it is read or checked. The rescue is compared.
 fn expect_file(checker: &mut Checker, encoded: &Encoded, first: Option<usize>) {
     let Encoded { table, names, .. } = encoded.clone();
-    let bytes = file::write(&Contents { table, names, dialect: ON.to_vec() });
+    let bytes = file::write(&Contents { table, names, dialect: ON.to_vec(), edition: None });
     let (table, names) = (encoded.table.len(), encoded.names.len());
     let read = Request { table: &bytes, names: &[], job: Job::Read { table, names } };
     let listed = Request { table: &bytes, names: &[], job: Job::CheckFile { errors: 9 } };
@@ -213,7 +215,7 @@ fn old_zeros(checker: &mut Checker) {
         expect_first(checker, &encoded, first);
         expect_file(checker, &encoded, first);
         let Encoded { table, names, .. } = encoded.clone();
-        let bytes = file::write(&Contents { table, names, dialect: Vec::new() });
+        let bytes = file::write(&Contents { table, names, dialect: Vec::new(), edition: None });
         let request = Request { table: &bytes, names: &[], job: Job::Rescue { file: MOST_BYTES } };
         match first {
             None => checker.expect(&request, 0, Some(&[1_024, 0, 1, 0, 0, 0])),
@@ -279,15 +281,15 @@ fn lists_of_two_files(checker: &mut Checker) {
     audit[7][2..4].copy_from_slice(&[1_003_600, 1_003_601]);
     let listed = jobs::module(table, names, &LITTLE).errors;
     checker.note(listed == module, || format!("the model lists {listed:?}, by hand it is {module:?}"));
-    let audited = jobs::audit(table, names, &LITTLE).audited;
+    let audited = jobs::audit(table, names, &LITTLE, FIRST_EDITION).audited;
     checker.note(audited == audit, || format!("the model audits {audited:?}, by hand it is {audit:?}"));
-    let bytes = file::write(&Contents { table: table.clone(), names: names.clone(), dialect: LITTLE.to_vec() });
+    let bytes = file::write(&Contents { table: table.clone(), names: names.clone(), dialect: LITTLE.to_vec(), edition: None });
     let printed = file::printed(&bytes);
     let lines: String = module.iter().map(|[number, file, begin, end]| format!("{number} {file} {begin} {end}\n")).collect();
     checker.note(printed == format!("nodes 22\n{lines}errors 7\n"), || format!("the model prints {printed:?}"));
     for errors in 0..=AUDIT_WORDS * audit.len() + 2 {
         checker.check(&Request { table, names, job: Job::Module { dialect: &LITTLE, errors } });
-        checker.check(&Request { table, names, job: Job::Audit { dialect: &LITTLE, errors } });
+        checker.check(&Request { table, names, job: Job::Audit { dialect: &LITTLE, edition: FIRST_EDITION, errors } });
         checker.check(&Request { table: &bytes, names: &[], job: Job::CheckFile { errors } });
     }
 }
@@ -311,8 +313,8 @@ fn refusals_of_two_files(checker: &mut Checker) {
     expect_refusal(checker, &encoded, Job::Target { node: 4 }, (30, 4, NONE, 7));
     expect_refusal(checker, &encoded, Job::Assignment { node: 16 }, (33, 20, NONE, 999));
     for (dialect, number) in [(&LITTLE, 45), (&ON, 40)] {
-        expect_refusal(checker, &encoded, Job::Type { dialect, node: 20, shapes: 9 }, (number, 20, NONE, 999));
-        expect_refusal(checker, &encoded, Job::Type { dialect, node: 9, shapes: 9 }, (number, 9, NONE, 5));
+        expect_refusal(checker, &encoded, Job::Type { dialect, edition: FIRST_EDITION, node: 20, shapes: 9 }, (number, 20, NONE, 999));
+        expect_refusal(checker, &encoded, Job::Type { dialect, edition: FIRST_EDITION, node: 9, shapes: 9 }, (number, 9, NONE, 5));
     }
     expect_refusal(checker, &encoded, Job::Bind { call: 8, def: 1, list: 9 }, (11, 3, 2, 7));
 }
@@ -436,7 +438,7 @@ fn check_file(checker: &mut Checker, encoded: &Encoded) {
     let Encoded { table, names, .. } = encoded.clone();
     let rooms = Job::Read { table: table.len(), names: names.len() };
     let errors = ERROR_WORDS * jobs::module(&table, &names, &ON).errors.len();
-    let bytes = file::write(&Contents { table, names, dialect: ON.to_vec() });
+    let bytes = file::write(&Contents { table, names, dialect: ON.to_vec(), edition: None });
     for job in [rooms, Job::CheckFile { errors }, Job::Rescue { file: bytes.len() }] {
         checker.check(&Request { table: &bytes, names: &[], job });
     }

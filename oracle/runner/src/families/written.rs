@@ -6,6 +6,7 @@ use model::file::Contents;
 use model::file::BLOCK;
 
 use super::each_random;
+use super::files::any_edition;
 use super::files::contents;
 use super::Plan;
 use crate::cells::Encoded;
@@ -13,6 +14,7 @@ use crate::checker::Checker;
 use crate::grow;
 use crate::port::Job;
 use crate::port::Request;
+use crate::port::NO_EDITION;
 use crate::rng::Rng;
 
 /// The most bytes of a file.
@@ -28,11 +30,12 @@ pub fn written(checker: &mut Checker, plan: &Plan) {
 
 /// A writer's job, and its file read back by the model.
 fn check(checker: &mut Checker, contents: &Contents, room: usize) {
-    let Contents { table, names, dialect } = contents;
-    let request = Request { table, names, job: Job::Write { dialect, file: room } };
+    let Contents { table, names, dialect, edition } = contents;
+    let edition = edition.map_or(NO_EDITION, u32::from);
+    let request = Request { table, names, job: Job::Write { dialect, edition, file: room } };
     if checker.wants(&request.job) {
         checker.check(&request);
-        let written = model::jobs::write(table, names, dialect, room);
+        let written = model::jobs::write(table, names, dialect, edition, room);
         if written.number == 0 {
             let read = file::read(&written.file);
             checker.note(read.as_ref() == Ok(contents), || format!("what is written reads back as {read:?}"));
@@ -90,7 +93,7 @@ fn random(checker: &mut Checker, plan: &Plan) {
         if rng.once_in(8) && !dialect.is_empty() {
             dialect[rng.below(9)] = 3;
         }
-        let held = Contents { table, names, dialect };
+        let held = Contents { table, names, dialect, edition: any_edition(random.number) };
         let needed = file::write(&held).len();
         let room = rng.pick(&[needed, needed, needed + 1, needed + 700, needed - 1, needed - BLOCK]);
         check(checker, &held, room);

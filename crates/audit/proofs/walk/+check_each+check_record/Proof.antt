@@ -28,10 +28,10 @@ use Rattle.audit.proofs.walk.+check_each+check_record.{statement}
 use Rattle.audit.proofs.walk.+check_each+check_record.Tie.{close}
 
 abbrev μ-each : Measures 3 each-kinds.ps ℕ
-μ-each κs a = 2 * length (a .1 .1 .1 .0 .now) + 1
+μ-each κs a = 2 * length (a .1 .1 .1 .1 .0 .now) + 1
 
 abbrev μ-one : Measures 3 one-kinds.ps ℕ
-μ-one κs a = 2 * length (a .1 .1 .1 .0 .now)
+μ-one κs a = 2 * length (a .1 .1 .1 .1 .0 .now)
 
 abbrev each-at : ℕ → In 3 each-kinds.ps
 each-at t = and 3 each-kinds.ps (is 3 each-kinds.ps μ-each t) each.Pre
@@ -46,11 +46,12 @@ abbrev one-below : ℕ → In 3 one-kinds.ps
 one-below t = and 3 one-kinds.ps (falls 3 one-kinds.ps _<_ μ-one t) one.Pre
 
 abbrev each-Inv-loop : each-lts.InvT-loop
-each-Inv-loop d names t at errors₀ left₀ place₀ roles₀ total₀ errors left place roles total =
-    Auditing d names (refusals d names (placed roles₀ (forest at t))) t errors₀ left place roles total errors
+each-Inv-loop d edition names t at errors₀ left₀ place₀ roles₀ total₀ errors left place roles total =
+    Auditing d edition names
+    (refusals d edition names (placed roles₀ (forest at t))) t errors₀ left place roles total errors
 
 abbrev each-μ-loop : each-lts.MeasureT-loop
-each-μ-loop d names t at errors₀ left₀ place₀ roles₀ total₀ errors left place roles total = length left
+each-μ-loop d edition names t at errors₀ left₀ place₀ roles₀ total₀ errors left place roles total = length left
 
 pub +check-each+check-record-spec : {M : Type 1} → statement M
 +check-each+check-record-spec =

@@ -27,10 +27,10 @@ use Rattle.types.proofs.judging.+unpack+unpack_argument.{statement}
 use Rattle.types.proofs.judging.+unpack+unpack_argument.Tie.{close}
 
 abbrev μ-unpack : Measures 2 unpack-kinds.ps ℕ
-μ-unpack κs a = spanOf (a .1 .0 .now)
+μ-unpack κs a = spanOf (a .1 .1 .0 .now)
 
 abbrev μ-unpack-argument : Measures 2 unpack-argument-kinds.ps ℕ
-μ-unpack-argument κs a = spanOf (a .1 .0 .now)
+μ-unpack-argument κs a = spanOf (a .1 .1 .0 .now)
 
 abbrev unpack-at : ℕ → In 2 unpack-kinds.ps
 unpack-at t = and 2 unpack-kinds.ps (is 2 unpack-kinds.ps μ-unpack t) unpack.Pre
@@ -55,18 +55,18 @@ unpack-argument-below t =
     unpack-argument.Pre
 
 abbrev unpack-Inv-loop : unpack-lts.InvT-loop
-unpack-Inv-loop names t node reads e left₀ at₀ how₀ left at how =
-    Judging names (reads .others) t («unpack» names (treeOf node t)) left at how
+unpack-Inv-loop edition names t node reads e left₀ at₀ how₀ left at how =
+    Judging edition names (reads .others) t («unpack» edition names (treeOf node t)) left at how
 
 abbrev unpack-μ-loop : unpack-lts.MeasureT-loop
-unpack-μ-loop names t node reads e left₀ at₀ how₀ left at how = length left
+unpack-μ-loop edition names t node reads e left₀ at₀ how₀ left at how = length left
 
 abbrev unpack-argument-Inv-loop : unpack-argument-lts.InvT-loop
-unpack-argument-Inv-loop names t node e left₀ at₀ left at =
-    Judging names AsArgument t («unpack_argument» names (treeOf node t)) left at AsArgument
+unpack-argument-Inv-loop edition names t node e left₀ at₀ left at =
+    Judging edition names AsArgument t («unpack_argument» edition names (treeOf node t)) left at AsArgument
 
 abbrev unpack-argument-μ-loop : unpack-argument-lts.MeasureT-loop
-unpack-argument-μ-loop names t node e left₀ at₀ left at = length left
+unpack-argument-μ-loop edition names t node e left₀ at₀ left at = length left
 
 pub +unpack+unpack-argument-spec : {M : Type 1} → statement M
 +unpack+unpack-argument-spec = close μ-unpack μ-unpack-argument (λ t. unpack-lts.spec (

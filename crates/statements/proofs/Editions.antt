@@ -1,0 +1,86 @@
+-- W-212: PATHS THAT END IN TYPE
+--
+-- Theorems of crates `dialect`, `types`, `shapes` and `audit` over the two editions of the type rules: over the answer
+-- of the type job, its buffer, and the list of the audit. Each is proved by citing the theorem. Assumes nothing.
+use mathlib.Core.Path.{_≡_}
+use mathlib.Core.List.{List, [], _∷_}
+use Prim.Native.Nat.{ℕ}
+use lib.ListN.{length}
+use Rattle.dialect.specs.declared.Edition.the-variants.{One, Two}
+use Rattle.dialect.specs.declared.EditionRead.the-variants.{Known, Unknown}
+use Rattle.dialect.specs.Editions.{editionOf}
+use Rattle.dialect.proofs.Editions as theorem-number
+use Rattle.table.specs.Numbers.{badDialect, dotTypeBan}
+use Rattle.table.specs.Answer.{accepted, refused, andThen}
+use Rattle.table.specs.Check.{givenCheck, rulesCheck}
+use Rattle.table.proofs.Ruling as theorem-order
+use Rattle.types.specs.Jobs.{typeShapeOf}
+use Rattle.types.proofs.Editions as theorem-type
+use Rattle.errors.specs.declared.Err.{Err}
+use Rattle.shapes.specs.Jobs.{shapesAfter}
+use Rattle.shapes.proofs.Editions as theorem-shapes
+use Rattle.audit.specs.Job.{allErrors, auditOf, auditAfter}
+use Rattle.audit.proofs.Editions as theorem-audit
+use Rattle.audited.specs.Checked.{Each}
+
+-- "an edition other than 1 or 2 is 5": which numbers are editions
+-- In words: 1 is the first edition, 2 the second, and no other number is one.
+pub editions : (editionOf 1 ≡ Known One) × (editionOf 2 ≡ Known Two)
+    × ((n : ℕ) → (n ≡ 1 → ⊥) → (n ≡ 2 → ⊥) → editionOf n ≡ Unknown)
+editions = (theorem-number.number-known One, theorem-number.number-known Two, theorem-number.edition-none)
+
+-- "after the dialect bytes"
+-- In words: with a number that is no edition, 1 to 5 answer what they answer for the table and the dialect bytes; where
+-- these pass, the answer is 5.
+pub edition-last : (t names bytes : List ℕ)
+    → rulesCheck t names bytes Unknown ≡ andThen (givenCheck t names bytes) (λ _. refused badDialect [])
+edition-last = theorem-order.rules-unknown
+
+-- "A type accepted in edition 1 has the same shapes in edition 2"
+-- In words: where the type job by edition 1 accepts, by edition 2 it accepts with the same answer, and the whole buffer
+-- at exit is the same.
+pub same-shapes : (t names bytes : List ℕ) (i : ℕ) (buffer : List ℕ) {vs : List ℕ}
+    → typeShapeOf t names bytes 1 i (length buffer) ≡ accepted vs
+    → (typeShapeOf t names bytes 2 i (length buffer) ≡ accepted vs)
+    × (shapesAfter t names bytes 2 i buffer ≡ shapesAfter t names bytes 1 i buffer)
+same-shapes = theorem-shapes.same-shapes
+
+-- "so 44 isn't given", and nothing else changes
+-- In words: where edition 1 answers anything but 44, edition 2 gives the same answer, refusals included.
+pub same-answer : (t names bytes : List ℕ) (i room : ℕ)
+    → ((vs : List ℕ) → typeShapeOf t names bytes 1 i room ≡ refused dotTypeBan vs → ⊥)
+    → typeShapeOf t names bytes 2 i room ≡ typeShapeOf t names bytes 1 i room
+same-answer = theorem-type.job-lifted
+
+-- the same of the buffer
+-- In words: there the buffer at exit is the same too.
+pub same-buffer : (t names bytes : List ℕ) (i : ℕ) (buffer : List ℕ)
+    → ((vs : List ℕ) → typeShapeOf t names bytes 1 i (length buffer) ≡ refused dotTypeBan vs → ⊥)
+    → shapesAfter t names bytes 2 i buffer ≡ shapesAfter t names bytes 1 i buffer
+same-buffer = theorem-shapes.same-buffer
+
+-- "so 44 isn't given"
+-- In words: the type job by edition 2 never answers 44.
+pub never-banned : (t names bytes : List ℕ) (i room : ℕ) (vs : List ℕ)
+    → typeShapeOf t names bytes 2 i room ≡ refused dotTypeBan vs
+    → ⊥
+never-banned = theorem-type.job-never
+
+-- a list without 44, in the words of the theorem
+no-bans : (es : List Err) → Each (λ (e : Err). e .number ≡ dotTypeBan → ⊥) es → theorem-audit.NoBans es
+no-bans [] h = tt
+no-bans (e ∷ es) h = (h .0, no-bans es (h .1))
+
+-- the same over the audit
+-- In words: where the audit's list by edition 1 has no 44, by edition 2 the list, the answer and the words at exit are
+-- the same.
+pub same-audit : (t names bytes : List ℕ)
+    → Each (λ (e : Err). e .number ≡ dotTypeBan → ⊥) (allErrors t names bytes 1)
+    → (allErrors t names bytes 2 ≡ allErrors t names bytes 1)
+    × (auditOf t names bytes 2 ≡ auditOf t names bytes 1)
+    × ((words : List ℕ) → auditAfter t names bytes 2 words ≡ auditAfter t names bytes 1 words)
+same-audit t names bytes free = (
+  theorem-audit.list-same t names bytes (no-bans _ free),
+  theorem-audit.job-same t names bytes (no-bans _ free),
+  theorem-audit.words-same t names bytes (no-bans _ free),
+)
