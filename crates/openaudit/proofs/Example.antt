@@ -44,16 +44,15 @@ sound = refl
 -- EXAMPLE: the two lists
 pub list-before : allErrors badType badNames closed 1 ≡ before
 unfolding allErrors auditErrors passErrors editionOf rulesOf givenOf fromBytes validBytes within recordOf forestIn
-forest kidsOf restOf
-    sizeOf field kindIn kindOf armOf f exprErrors expr withoutLists rolesOf placed wants kindErrors roleErrors
-    refusedThere refusals «check_assign» leaves typeCheck «check_assignment» «dialect_check_type»
+    forest kidsOf restOf sizeOf field kindIn kindOf armOf f exprErrors expr withoutLists rolesOf placed wants
+    kindErrors roleErrors refusedThere refusals «check_assign» leaves typeCheck «check_assignment» «dialect_check_type»
 list-before = rw sound refl
 
 pub list-after : allErrors badType badNames typesOpen 1 ≡ after
 unfolding allErrors auditErrors passErrors editionOf rulesOf givenOf fromBytes validBytes within recordOf forestIn
-forest kidsOf restOf
-    sizeOf field kindIn kindOf armOf f exprErrors expr withoutLists rolesOf placed wants kindErrors roleErrors
-    refusedThere refusals «check_assign» leaves typeCheck «check_assignment» «dialect_check_type» formOf atNode «unpack»
+    forest kidsOf restOf sizeOf field kindIn kindOf armOf f exprErrors expr withoutLists rolesOf placed wants
+    kindErrors roleErrors refusedThere refusals «check_assign» leaves typeCheck «check_assignment» «dialect_check_type»
+    formOf atNode «unpack»
 list-after = rw sound refl
 
 -- EXAMPLE: the second dialect permits all that the first does, and yet its list is not the first with errors taken out
