@@ -60,7 +60,6 @@ pub opens : permitsAll (recordOf closed) (recordOf typesOpen) ≡ true
 unfolding permitsAll recordOf
 opens = refl
 
-pub not-tied : (out : ℕ → Bool) → allErrors badType badNames typesOpen 1
-    ≡ without out (allErrors badType badNames closed 1)
-    → ⊥
+pub not-tied : (out : ℕ → Bool)
+    → allErrors badType badNames typesOpen 1 ≡ without out (allErrors badType badNames closed 1) → ⊥
 not-tied out h = not-left out _ _ (λ same. absurd (omega (arith, same))) (rw (list-before, list-after) at h)
