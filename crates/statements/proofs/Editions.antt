@@ -6,6 +6,8 @@ use mathlib.Core.Path.{_≡_}
 use mathlib.Core.List.{List, [], _∷_}
 use Prim.Native.Nat.{ℕ}
 use lib.ListN.{length}
+use Rattle.dialect.specs.declared.Dialect.{Dialect}
+use Rattle.dialect.specs.declared.Edition.{Edition}
 use Rattle.dialect.specs.declared.Edition.the-variants.{One, Two}
 use Rattle.dialect.specs.declared.EditionRead.the-variants.{Known, Unknown}
 use Rattle.dialect.specs.Editions.{editionOf}
@@ -19,7 +21,7 @@ use Rattle.types.proofs.Editions as theorem-type
 use Rattle.errors.specs.declared.Err.{Err}
 use Rattle.shapes.specs.Jobs.{shapesAfter}
 use Rattle.shapes.proofs.Editions as theorem-shapes
-use Rattle.audit.specs.Job.{allErrors, auditOf, auditAfter}
+use Rattle.audit.specs.Job.{auditErrors, allErrors, auditOf, auditAfter}
 use Rattle.audit.proofs.Editions as theorem-audit
 use Rattle.audited.specs.Checked.{Each}
 
@@ -29,12 +31,23 @@ pub editions : (editionOf 1 ≡ Known One) × (editionOf 2 ≡ Known Two)
     × ((n : ℕ) → (n ≡ 1 → ⊥) → (n ≡ 2 → ⊥) → editionOf n ≡ Unknown)
 editions = (theorem-number.number-known One, theorem-number.number-known Two, theorem-number.edition-none)
 
+-- "an edition other than 1 or 2 is 5": an edition comes from its own number alone
+-- In words: a number that is the first edition is 1, and one that is the second is 2.
+pub edition-numbers : (n : ℕ) → (editionOf n ≡ Known One → n ≡ 1) × (editionOf n ≡ Known Two → n ≡ 2)
+edition-numbers n = (λ h. theorem-number.edition-back n h, λ h. theorem-number.edition-back n h)
+
 -- "after the dialect bytes"
 -- In words: with a number that is no edition, 1 to 5 answer what they answer for the table and the dialect bytes; where
 -- these pass, the answer is 5.
 pub edition-last : (t names bytes : List ℕ)
     → rulesCheck t names bytes Unknown ≡ andThen (givenCheck t names bytes) (λ _. refused badDialect [])
 edition-last = theorem-order.rules-unknown
+
+-- and a known edition adds nothing
+-- In words: by either edition 1 to 5 answer what they answer for the table and the dialect bytes.
+pub edition-free : (t names bytes : List ℕ) (edition : Edition)
+    → rulesCheck t names bytes (Known edition) ≡ givenCheck t names bytes
+edition-free = theorem-order.rules-given
 
 -- "A type accepted in edition 1 has the same shapes in edition 2"
 -- In words: where the type job by edition 1 accepts, by edition 2 it accepts with the same answer, and the whole buffer
@@ -84,3 +97,10 @@ same-audit t names bytes free = (
   theorem-audit.job-same t names bytes (no-bans _ free),
   theorem-audit.words-same t names bytes (no-bans _ free),
 )
+
+-- the same of bytes that nobody has checked
+-- In words: of any bytes, in any dialect, a list of the audit's pass by edition 1 without 44 is that by edition 2.
+pub same-pass : (d : Dialect) (names t : List ℕ)
+    → Each (λ (e : Err). e .number ≡ dotTypeBan → ⊥) (auditErrors d One names t)
+    → auditErrors d Two names t ≡ auditErrors d One names t
+same-pass d names t free = theorem-audit.audit-same d names t (no-bans _ free)
