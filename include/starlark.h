@@ -105,7 +105,7 @@ enum starlark_number {
     STARLARK_NUMBER_LOAD_NOT_PERMITTED = 59, /* the dialect has no `load` */
     STARLARK_NUMBER_ELLIPSIS_NOT_PERMITTED = 60, /* `...` stands in a dialect that has no types */
     STARLARK_NUMBER_LAMBDA_NOT_PERMITTED = 61, /* the dialect has no `lambda` */
-    STARLARK_NUMBER_F_STRINGS_DISABLED = 62, /* the dialect has no f-strings: a notice and no refusal, the format text is written */
+    STARLARK_NUMBER_F_STRINGS_DISABLED = 62, /* the dialect has no f-strings */
     STARLARK_NUMBER_STRAY_BRACE = 63, /* a brace of a format text starts none of `{{`, `}}`, `{}` and `{!r}` */
     STARLARK_NUMBER_BROKEN_PART = 64, /* a part of a format text is broken, or the lengths of the texts do not add up to the text bytes */
     STARLARK_NUMBER_BLOCK_SHORT = 70, /* the file ends before a block is whole */

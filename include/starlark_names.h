@@ -125,7 +125,7 @@ static inline const char *starlark_number_words(uint32_t number) {
     case STARLARK_NUMBER_LOAD_NOT_PERMITTED: return "the dialect has no `load`";
     case STARLARK_NUMBER_ELLIPSIS_NOT_PERMITTED: return "`...` stands in a dialect that has no types";
     case STARLARK_NUMBER_LAMBDA_NOT_PERMITTED: return "the dialect has no `lambda`";
-    case STARLARK_NUMBER_F_STRINGS_DISABLED: return "the dialect has no f-strings: a notice and no refusal, the format text is written";
+    case STARLARK_NUMBER_F_STRINGS_DISABLED: return "the dialect has no f-strings";
     case STARLARK_NUMBER_STRAY_BRACE: return "a brace of a format text starts none of `{{`, `}}`, `{}` and `{!r}`";
     case STARLARK_NUMBER_BROKEN_PART: return "a part of a format text is broken, or the lengths of the texts do not add up to the text bytes";
     case STARLARK_NUMBER_BLOCK_SHORT: return "the file ends before a block is whole";

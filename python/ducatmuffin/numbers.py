@@ -135,7 +135,7 @@ WORDS = {
     59: "the dialect has no `load`",
     60: "`...` stands in a dialect that has no types",
     61: "the dialect has no `lambda`",
-    62: "the dialect has no f-strings: a notice and no refusal, the format text is written",
+    62: "the dialect has no f-strings",
     63: "a brace of a format text starts none of `{{`, `}}`, `{}` and `{!r}`",
     64: "a part of a format text is broken, or the lengths of the texts do not add up to the text bytes",
     70: "the file ends before a block is whole",

@@ -95,7 +95,7 @@ pub enum Number {
     EllipsisNotPermitted = 60,
     /// the dialect has no `lambda`
     LambdaNotPermitted = 61,
-    /// the dialect has no f-strings: a notice and no refusal, the format text is written
+    /// the dialect has no f-strings
     FStringsDisabled = 62,
     /// a brace of a format text starts none of `{{`, `}}`, `{}` and `{!r}`
     StrayBrace = 63,
@@ -334,7 +334,7 @@ pub const NUMBERS: [(Number, &str, &str); 64] = [
     (Number::LoadNotPermitted, "LOAD_NOT_PERMITTED", "the dialect has no `load`"),
     (Number::EllipsisNotPermitted, "ELLIPSIS_NOT_PERMITTED", "`...` stands in a dialect that has no types"),
     (Number::LambdaNotPermitted, "LAMBDA_NOT_PERMITTED", "the dialect has no `lambda`"),
-    (Number::FStringsDisabled, "F_STRINGS_DISABLED", "the dialect has no f-strings: a notice and no refusal, the format text is written"),
+    (Number::FStringsDisabled, "F_STRINGS_DISABLED", "the dialect has no f-strings"),
     (Number::StrayBrace, "STRAY_BRACE", "a brace of a format text starts none of `{{`, `}}`, `{}` and `{!r}`"),
     (Number::BrokenPart, "BROKEN_PART", "a part of a format text is broken, or the lengths of the texts do not add up to the text bytes"),
     (Number::BlockShort, "BLOCK_SHORT", "the file ends before a block is whole"),

@@ -44,7 +44,7 @@ use Rattle.audited.proofs.Everywhere.{either, none-both, both-none}
 use Rattle.audited.proofs.Nodes.{Here}
 use Rattle.audited.proofs.Roled.{Fits, Roled}
 
--- an answer is told nothing exactly where it is accepted, and so is a parameter list
+-- an answer has no error exactly where it is accepted; the same of the outcome of a parameter list
 quiet-accepted : (a : Answer) → answerErrors a ≡ [] → isAccepted a ≡ true
 quiet-accepted (accepted vs) e = refl
 quiet-accepted (refused n vs) e = never (cc)
@@ -227,7 +227,7 @@ module _ (t names bytes : List ℕ) (n : ℕ) {d : Dialect} {edition : Edition}
       (λ h. accepted-quiet («check_assignment» tree)
       (sym (ap isAccepted (on-node Assignment «check_assignment» h)) ∙ a .assignment (fits-is Assignment ∙ h)))
 
--- LAWS: a tree in its place is refused nothing exactly where every job accepts its node
+-- LAWS: the audit has no refusal at a tree exactly where every job accepts the tree's node
 module _ (t names bytes : List ℕ) (n : ℕ) {d : Dialect} {edition : Edition}
     (g : rulesOf t names bytes (editionOf n) ≡ byRules d edition) (p : Placed) (here : Here t p)
     (fit : Roled p) where
@@ -260,7 +260,7 @@ module _ (t names bytes : List ℕ) (n : ℕ) {d : Dialect} {edition : Edition}
       both-none (told-same ∙ accepts-kind t names bytes n g at (here .inside) a)
       (role-same ∙ role-quiet t names bytes n g at (here .inside) (p .role) fit-there a)
 
--- what is refused there by its kind alone
+-- then there is none by its kind either
 pub kind-none : (d : Dialect) (edition : Edition) (names : List ℕ) (p : Placed) → refusedThere d edition names p ≡ []
     → kindErrors names (p .tree) ≡ []
 unfolding refusedThere

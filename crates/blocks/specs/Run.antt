@@ -7,7 +7,7 @@ use Rattle.fields.specs.Choice.{if'}
 use Rattle.table.specs.Answer.{Answer, accepted, passes, andThen}
 use Rattle.blocks.specs.Block.{blockBytes, contentBytes, blockOf, judge}
 
--- how many blocks a content of so many bytes fills: none if there are none
+-- how many blocks a content of this length fills: none if it is empty
 unfoldable pub blocksFor : ℕ → ℕ
 blocksFor total = (total + 503) / contentBytes
 
@@ -28,7 +28,7 @@ judgeBlocks zero number total bs = accepted []
 judgeBlocks (suc n) number total bs = andThen (judge number (min contentBytes total) bs)
     (λ _. judgeBlocks n (number + 1) (total - contentBytes) (drop blockBytes bs))
 
--- the run at the front of some bytes: as many blocks as so many bytes fill
+-- the run at the front of some bytes: as many blocks as its content fills
 unfoldable pub judgeRun : ℕ → ℕ → List ℕ → Answer
 judgeRun number total bs = judgeBlocks (blocksFor total) number total bs
 
@@ -48,6 +48,6 @@ contents (suc n) bs = take contentBytes (drop 4 bs) ++ contents n (drop blockByt
 unfoldable pub contentIn : ℕ → List ℕ → List ℕ
 contentIn number file = take contentBytes (drop 4 (drop (blockBytes * number) file))
 
--- the content of so many bytes that the run at the front of some bytes holds
+-- the content, of this length, that the run at the front of some bytes holds
 unfoldable pub contentOf : ℕ → List ℕ → List ℕ
 contentOf total bs = take total (contents (blocksFor total) bs)

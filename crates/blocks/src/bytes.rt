@@ -43,7 +43,7 @@ pub fn low(n: usize) -> u8
     (n % 256) as u8
 }
 
-// Whether n bytes from a place on are within so many.
+// Whether n bytes that begin at a place fit into a buffer of `room` bytes.
 fn fits(at: usize, n: usize, room: usize) -> bool
     ensures { λ r. ⌜ r ≡ leb (at + n) room ⌝ }
 {

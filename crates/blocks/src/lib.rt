@@ -19,7 +19,7 @@ pub enum Judged {
     Refused(u32),
 }
 
-// The block at the front of some bytes, which is to have this number and so many used bytes: 70, 72, 71, 73.
+// The block at the front of some bytes, which is to have this number and this count of used bytes: 70, 72, 71, 73.
 pub fn judge(bytes: &[u8], number: usize, used: usize) -> Judged
     ensures { λ r. ⌜ judged r ≡ judge number used (now (bytes .entry)) ⌝ }
 {
@@ -60,7 +60,7 @@ pub fn blocks_for(total: usize) -> usize
     total / CONTENT_BYTES + 1
 }
 
-// How many of so many bytes the first block of a run uses.
+// How many bytes the first block of a run uses, where `more` bytes are still to be stored.
 pub fn used_here(more: usize) -> usize
     ensures { λ r. ⌜ r ≡ min contentBytes more ⌝ }
 {
@@ -146,7 +146,7 @@ pub fn sum(b: &[u8]) -> u32
     sum
 }
 
-// How many of so many bytes are summed.
+// How many of n bytes are summed: 508 at most.
 fn summed(n: usize) -> usize
     ensures { λ r. ⌜ r ≡ min 508 n ⌝ }
 {
