@@ -131,9 +131,10 @@ module _ (t names bytes : List ℕ) (n : ℕ) where
       let g : rulesOf t names bytes (editionOf n) ≡ byRules (k .0) (k .1) = k .2 in
       let total : accepted (length (allErrors t names bytes n) ∷ []) ≡ accepted (0 ∷ []) = rw g at e in
       let zero : length (allErrors t names bytes n) ≡ 0 = cc in
-      let empty = no-entries (allErrors t names bytes n) zero in
-      (rw (rules-known t names bytes g .0, empty-module t names bytes n g empty) refl,
-        empty-accepts t names bytes n g empty)
+      let empty = no-entries (allErrors t names bytes n) zero in (
+        rw (rules-known t names bytes g .0, empty-module t names bytes n g empty) refl,
+        empty-accepts t names bytes n g empty,
+      )
 
   -- THEOREM: and only there, for a number that is an edition
   pub passes-zero : {edition : Edition} → editionOf n ≡ Known edition → moduleOf t names bytes ≡ accepted (0 ∷ [])
