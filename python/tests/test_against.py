@@ -158,7 +158,7 @@ class Forms(CommandTest):
         names = [f"samples/{name}.table" for name in support.samples(".table")]
         one = self.run_ducat("check", "--against", "extended", *names, "samples/missing.table")
         self.assertEqual(one.status, 2)
-        self.assertRegex(one.out, r"\nfiles 17, with errors \d+, refused 4, not read 1, errors \d+, no opening [1-9]\d*\n$")
+        self.assertRegex(one.out, r"\nfiles 19, with errors \d+, refused 5, not read 1, errors \d+, no opening [1-9]\d*\n$")
         self.assertEqual(one, self.run_ducat("check", "--jobs", "3", "--against", "extended", *names, "samples/missing.table"))
 
     def test_bad_only(self):

@@ -303,7 +303,7 @@ class Json(CommandTest):
         self.assertEqual(entry, {
             "name": "samples/clean.table", "kind": "table", "verdict": "accepted", "sha256": hashlib.sha256(data).hexdigest(), "bytes": 2048,
             "whole": True, "dialect": {"name": "standard", "bytes": [1, 1, 1, 0, 0, 0, 1, 0, 0], "given": True},
-            "script": {"name": "samples/clean.star"}, "nodes": 34, "errors": []})
+            "edition": {"number": 1, "given": False}, "script": {"name": "samples/clean.star"}, "nodes": 34, "errors": []})
 
     def test_errors(self):
         entry, = self.told(1, "samples/example-none.table")["inputs"]

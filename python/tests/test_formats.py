@@ -99,7 +99,7 @@ class Sarif(CommandTest):
         self.assertEqual(first["locations"], [{"physicalLocation": {"artifactLocation": {"uri": "samples/example.star"}, "region": {
             "startLine": 1, "startColumn": 15, "endLine": 1, "endColumn": 16}}}])
         self.assertEqual(first["properties"], {"file": 1, "begin": 14, "end": 15, "node": 4, "kind": {"number": 50, "name": "Normal"}, "dialect": {
-            "name": "standard", "bytes": list(numbers.DIALECTS["standard"]), "given": True}})
+            "name": "standard", "bytes": list(numbers.DIALECTS["standard"]), "given": True}, "edition": {"number": 1, "given": False}})
         self.assertEqual(run["artifacts"][0]["length"], 26)
         self.assertIn("not proved", run["artifacts"][0]["properties"]["table"])
         self.assertEqual(run["properties"]["totals"]["errors"], 2)

@@ -17,13 +17,13 @@ use Rattle.audit.specs.Job.{auditOf, auditAfter}
 use Rattle.tablefile.specs.Reading.{contentAt}
 use Rattle.tablefile.specs.Lending.{intoCheck, handed}
 use Rattle.filepass.specs.Passing.{answerOf, wordsAfter}
-use Rattle.writer.specs.Writing.{writeOf, fileAfter}
+use Rattle.writer.specs.Writing.{holding, writeOf, fileAfter}
 use Rattle.rescue.specs.Job.{rescueOf, fileAfter as rescuedAfter}
 use Rattle.books.specs.Lookup.{lookupOf, looked}
 use Rattle.books.specs.Change.{addOf, zoneAdded, lineAdded, removeOf, zoneRemoved, lineRemoved, changed}
 use Rattle.books.specs.Change.{blankOf, blankAfter}
 use Rattle.starlark_checks.specs.Words.{number, words, callWords, rescueWords, laid}
-use Rattle.starlark_checks.specs.Words.{readOf, passWords}
+use Rattle.starlark_checks.specs.Words.{statedOf, readOf, passWords}
 use Rattle.starlark_checks.specs.Version.{version}
 use Rattle.fstring.specs.Writing.{writeOf as textOf, textAfter}
 use Rattle.fstring.specs.Reading.{readOf as partsRead, wordsAfter as partsAfter, textsAfter}
@@ -81,15 +81,16 @@ pub starlark-assignment-one : (table names : List ℕ) (node : ℕ) (out : List 
 starlark-assignment-one table names node out r-is out-is s-is out-are = (coincide r-is s-is, coincide out-is out-are)
 
 -- of `starlark_type`
-pub starlark-type-one : (table names dialect : List ℕ) (node : ℕ) (shapes out : List ℕ) {r s : ℕ}
+pub starlark-type-one : (table names dialect : List ℕ) (edition node : ℕ) (shapes out : List ℕ) {r s : ℕ}
     {shapes-r shapes-s : List ℕ} {out-r out-s : List ℕ}
-    → r ≡ number (typeShapeOf table names dialect node (length shapes))
-    → out-r ≡ laid (words (typeShapeOf table names dialect node (length shapes))) 0 out
-    → shapes-r ≡ shapesAfter table names dialect node shapes
-    → s ≡ number (typeShapeOf table names dialect node (length shapes))
-    → out-s ≡ laid (words (typeShapeOf table names dialect node (length shapes))) 0 out
-    → shapes-s ≡ shapesAfter table names dialect node shapes → (r ≡ s) × (shapes-r ≡ shapes-s) × (out-r ≡ out-s)
-starlark-type-one table names dialect node shapes out r-is out-is shapes-is s-is out-are shapes-are =
+    → r ≡ number (typeShapeOf table names dialect edition node (length shapes))
+    → out-r ≡ laid (words (typeShapeOf table names dialect edition node (length shapes))) 0 out
+    → shapes-r ≡ shapesAfter table names dialect edition node shapes
+    → s ≡ number (typeShapeOf table names dialect edition node (length shapes))
+    → out-s ≡ laid (words (typeShapeOf table names dialect edition node (length shapes))) 0 out
+    → shapes-s ≡ shapesAfter table names dialect edition node shapes
+    → (r ≡ s) × (shapes-r ≡ shapes-s) × (out-r ≡ out-s)
+starlark-type-one table names dialect edition node shapes out r-is out-is shapes-is s-is out-are shapes-are =
     (coincide r-is s-is, coincide shapes-is shapes-are, coincide out-is out-are)
 
 -- of `starlark_module`
@@ -102,23 +103,26 @@ starlark-module-one table names dialect errors out r-is out-is errors-is s-is ou
     (coincide r-is s-is, coincide errors-is errors-are, coincide out-is out-are)
 
 -- of `starlark_audit`
-pub starlark-audit-one : (table names dialect errors out : List ℕ) {r s : ℕ} {errors-r errors-s : List ℕ}
-    {out-r out-s : List ℕ} → r ≡ number (auditOf table names dialect)
-    → out-r ≡ laid (words (auditOf table names dialect)) 0 out → errors-r ≡ auditAfter table names dialect errors
-    → s ≡ number (auditOf table names dialect) → out-s ≡ laid (words (auditOf table names dialect)) 0 out
-    → errors-s ≡ auditAfter table names dialect errors → (r ≡ s) × (errors-r ≡ errors-s) × (out-r ≡ out-s)
-starlark-audit-one table names dialect errors out r-is out-is errors-is s-is out-are errors-are =
+pub starlark-audit-one : (table names dialect : List ℕ) (edition : ℕ) (errors out : List ℕ) {r s : ℕ}
+    {errors-r errors-s : List ℕ} {out-r out-s : List ℕ} → r ≡ number (auditOf table names dialect edition)
+    → out-r ≡ laid (words (auditOf table names dialect edition)) 0 out
+    → errors-r ≡ auditAfter table names dialect edition errors → s ≡ number (auditOf table names dialect edition)
+    → out-s ≡ laid (words (auditOf table names dialect edition)) 0 out
+    → errors-s ≡ auditAfter table names dialect edition errors → (r ≡ s) × (errors-r ≡ errors-s) × (out-r ≡ out-s)
+starlark-audit-one table names dialect edition errors out r-is out-is errors-is s-is out-are errors-are =
     (coincide r-is s-is, coincide errors-is errors-are, coincide out-is out-are)
 
 -- of `starlark_write`
-pub starlark-write-one : (table names dialect file out : List ℕ) {r s : ℕ} {file-r file-s : List ℕ}
-    {out-r out-s : List ℕ} → r ≡ number (writeOf table names dialect (length file))
-    → out-r ≡ laid (words (writeOf table names dialect (length file))) 0 out
-    → file-r ≡ fileAfter table names dialect file
-    → s ≡ number (writeOf table names dialect (length file))
-    → out-s ≡ laid (words (writeOf table names dialect (length file))) 0 out
-    → file-s ≡ fileAfter table names dialect file → (r ≡ s) × (file-r ≡ file-s) × (out-r ≡ out-s)
-starlark-write-one table names dialect file out r-is out-is file-is s-is out-are file-are =
+pub starlark-write-one : (table names dialect : List ℕ) (edition : ℕ) (file out : List ℕ) {r s : ℕ}
+    {file-r file-s : List ℕ} {out-r out-s : List ℕ}
+    → r ≡ number (writeOf (holding table names dialect (statedOf edition)) (length file))
+    → out-r ≡ laid (words (writeOf (holding table names dialect (statedOf edition)) (length file))) 0 out
+    → file-r ≡ fileAfter (holding table names dialect (statedOf edition)) file
+    → s ≡ number (writeOf (holding table names dialect (statedOf edition)) (length file))
+    → out-s ≡ laid (words (writeOf (holding table names dialect (statedOf edition)) (length file))) 0 out
+    → file-s ≡ fileAfter (holding table names dialect (statedOf edition)) file
+    → (r ≡ s) × (file-r ≡ file-s) × (out-r ≡ out-s)
+starlark-write-one table names dialect edition file out r-is out-is file-is s-is out-are file-are =
     (coincide r-is s-is, coincide file-is file-are, coincide out-is out-are)
 
 -- of `starlark_rescue`

@@ -1,16 +1,23 @@
 -- Table files in C, over the promises of `starlark_read` and `starlark_write`, for every input:
 -- what `starlark_read` hands over is what the reader holds;
--- what `starlark_write` has written, `starlark_read` gives back as the same table, names and dialect. Assumes nothing.
+-- what `starlark_write` has written, `starlark_read` gives back as the same table, names, dialect and edition;
+-- the word that it tells of an edition is the one that was given to write it. Assumes nothing.
 use mathlib.Core.Path.{_≡_, refl, sym, ap, _∙_}
+use mathlib.Core.Bool.{Bool, true, false}
 use mathlib.Core.List.{List, [], _∷_, _++_}
 use Prim.Native.Nat.{ℕ, _/_, _≤_}
 use native.Mathlib.Omega.{arith}
 use lib.ListN.{length, take, drop}
+use lib.Dec.{eqb}
+use borrow.Author.Tests.{eqb-true}
+use Rattle.fields.specs.Choice.{if'}
 use Rattle.fields.specs.Field.{field}
 use Rattle.fields.proofs.Spelling.{Bytes}
+use Rattle.dialect.specs.declared.Stated.{Stated}
+use Rattle.dialect.specs.declared.Stated.the-variants.{Number, Nothing}
 use Rattle.table.specs.Answer.{accepted}
 use Rattle.tablefile.specs.File.{Content}
-use Rattle.tablefile.specs.Reading.{headerAt, contentAt, readCheck}
+use Rattle.tablefile.specs.Reading.{headerAt, contentAt, numberHeld, readCheck}
 use Rattle.tablefile.specs.Loading.{verdict, held}
 use Rattle.tablefile.specs.Lending.{intoCheck, handed}
 use Rattle.tablefile.specs.declared.Loaded.{Loaded}
@@ -22,7 +29,7 @@ use Rattle.tablefile.proofs.Theorems.{Read, holds}
 use Rattle.writer.specs.Writing.{holding, writeOf, fileAfter}
 use Rattle.writer.specs.declared.Written.the-variants.{Accepted as Wrote}
 use Rattle.writer.proofs.RoundTrips.{back-content, back-read}
-use Rattle.starlark_checks.specs.Words.{heldValues, readOf}
+use Rattle.starlark_checks.specs.Words.{noPlace, statedOf, statedWord, heldValues, readOf}
 
 -- what a read of a file leaves in two buffers
 abbrev pub tableAfter : List ℕ → List ℕ → List ℕ → List ℕ
@@ -50,7 +57,8 @@ module _ (file t ns : List ℕ) (c : Content) (passed : readCheck file ≡ accep
   its-answer = rw room refl
 
   its-values : heldValues file ≡ length (c .table) / 24 ∷ length (c .names) ∷ (length (c .dialect) / 9)
-      ∷ field 4 (c .dialect) 0 ∷ field 4 (c .dialect) 4 ∷ field 4 (c .dialect) 8 ∷ []
+      ∷ field 4 (c .dialect) 0 ∷ field 4 (c .dialect) 4 ∷ field 4 (c .dialect) 8
+      ∷ statedWord (c .edition) ∷ numberHeld (c .edition) ∷ []
   its-values =
       let f = read-fronted file passed in
       let nodes : headerAt file .nodes ≡ length (contentAt file .table) / 24 = omega (arith, table-length file f) in
@@ -76,29 +84,41 @@ module _ (file : List ℕ) (l : Loaded) (read : Read file l) (good : l .verdict 
   read-names = its-names file t ns (held l) reader same t-fits ns-fit
 
 -- THEOREM: what is written is read back
-module _ (t names ds buffer : List ℕ) {n : ℕ} (wrote : writeOf t names ds (length buffer) ≡ accepted (n ∷ []))
+module _ (t names ds : List ℕ) (e : Stated) (buffer : List ℕ) {n : ℕ}
+    (wrote : writeOf (holding t names ds e) (length buffer) ≡ accepted (n ∷ []))
     (table-bytes : Bytes t) (names-bytes : Bytes names) (dialect-bytes : Bytes ds) (room-t room-n : List ℕ)
     (t-fits : length t ≤ length room-t) (names-fit : length names ≤ length room-n) where
   abbrev pub file : List ℕ
-  file = take n (fileAfter t names ds buffer)
+  file = take n (fileAfter (holding t names ds e) buffer)
 
   accepts : readCheck file ≡ accepted []
-  accepts = back-read t names ds buffer (Wrote n) (fileAfter t names ds buffer) (sym wrote, refl) refl
-      table-bytes names-bytes dialect-bytes
+  accepts =
+      back-read (holding t names ds e) buffer (Wrote n) (fileAfter (holding t names ds e) buffer) (sym wrote, refl)
+      refl table-bytes names-bytes dialect-bytes
 
-  content : contentAt file ≡ holding t names ds
-  content = back-content t names ds buffer (Wrote n) (fileAfter t names ds buffer) (sym wrote, refl) refl
-      table-bytes names-bytes dialect-bytes
+  content : contentAt file ≡ holding t names ds e
+  content =
+      back-content (holding t names ds e) buffer (Wrote n) (fileAfter (holding t names ds e) buffer) (sym wrote, refl)
+      refl table-bytes names-bytes dialect-bytes
 
-  -- the counts and the dialect
+  -- the counts, the dialect and the edition
   pub written-told : readOf file (length room-t) (length room-n)
-      ≡ accepted (length t / 24 ∷ length names ∷ (length ds / 9) ∷ field 4 ds 0 ∷ field 4 ds 4 ∷ field 4 ds 8 ∷ [])
-  written-told = its-answer file room-t room-n (holding t names ds) accepts content t-fits names-fit
-      ∙ ap accepted (its-values file room-t room-n (holding t names ds) accepts content t-fits names-fit)
+      ≡ accepted (length t / 24 ∷ length names ∷ (length ds / 9) ∷ field 4 ds 0 ∷ field 4 ds 4 ∷ field 4 ds 8
+      ∷ statedWord e ∷ numberHeld e ∷ [])
+  written-told = its-answer file room-t room-n (holding t names ds e) accepts content t-fits names-fit
+      ∙ ap accepted (its-values file room-t room-n (holding t names ds e) accepts content t-fits names-fit)
 
   -- the table, and the names
   pub written-table : tableAfter file room-t room-n ≡ t ++ drop (length t) room-t
-  written-table = its-table file room-t room-n (holding t names ds) accepts content t-fits names-fit
+  written-table = its-table file room-t room-n (holding t names ds e) accepts content t-fits names-fit
 
   pub written-names : namesAfter file room-t room-n ≡ names ++ drop (length names) room-n
-  written-names = its-names file room-t room-n (holding t names ds) accepts content t-fits names-fit
+  written-names = its-names file room-t room-n (holding t names ds e) accepts content t-fits names-fit
+
+-- THEOREM: the word that is told of an edition is the word that states it
+pub stated-back : (n : ℕ) → statedWord (statedOf n) ≡ n
+stated-back n = go (eqb n noPlace) refl
+  where
+    go : (b : Bool) → eqb n noPlace ≡ b → statedWord (if' b (λ _. Nothing) (λ _. Number n)) ≡ n
+    go true e = sym (eqb-true n noPlace e)
+    go false e = refl

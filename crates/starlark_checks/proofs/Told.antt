@@ -17,7 +17,7 @@ use Rattle.parameters.specs.Params.{paramsOf, AllBelow}
 use Rattle.parameters.proofs.Accepted.{accepted-small}
 use Rattle.arguments.specs.Job.{placeValues, callValues}
 use Rattle.arguments.specs.declared.CallArgs.{CallArgs}
-use Rattle.tablefile.specs.Reading.{headerAt, contentAt}
+use Rattle.tablefile.specs.Reading.{headerAt, contentAt, numberHeld}
 use Rattle.tablefile.specs.Loading.{verdict}
 use Rattle.tablefile.specs.Lending.{intoCheck}
 use Rattle.tablefile.specs.declared.Heading.{Heading}
@@ -26,7 +26,7 @@ use Rattle.tablefile.specs.declared.Verdict.the-variants.{Accepted}
 use Rattle.tablefile.proofs.Fronts.{dialect-few}
 use Rattle.tablefile.proofs.Lends.{into-fronted}
 use Rattle.starlark_checks.specs.Words.{number, words, placeIn, callWords, rescueWords, laid, Fit}
-use Rattle.starlark_checks.specs.Words.{frontValues, editionValues, heldValues, readOf, passWords}
+use Rattle.starlark_checks.specs.Words.{statedWord, frontValues, editionValues, heldValues, readOf, passWords}
 
 -- a number and words put for an answer
 abbrev pub Put : (Answer → List ℕ) → Answer → ℕ → List ℕ → List ℕ → Type 0
@@ -94,6 +94,11 @@ pub front-laid : (file : List ℕ) {h : Heading} (xs : List ℕ) {d : List ℕ} 
     → set (set (set (set (set (set xs 0 (h .nodes)) 1 (h .names)) 2 (h .dialect / 9)) 3 x) 4 y) 5 z
     ≡ laid (frontValues file) 0 xs
 front-laid file xs h-is d-is x-is y-is z-is = rw (x-is, y-is, z-is, d-is, h-is) refl
+
+-- LAW: two words of an edition, laid from place 6 on
+pub edition-laid : (e : Stated) (xs : List ℕ) {w n : ℕ} → w ≡ statedWord e → n ≡ numberHeld e
+    → set (set xs 6 w) 7 n ≡ laid (editionValues e) 6 xs
+edition-laid e xs w-is n-is = rw (w-is, n-is) refl
 
 -- LAW: two words more, behind these
 pub held-laid : (file : List ℕ) (xs : List ℕ) {ys zs : List ℕ} {e : Stated} → ys ≡ laid (frontValues file) 0 xs

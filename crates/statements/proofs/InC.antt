@@ -7,13 +7,14 @@ use mathlib.Core.List.{List, [], _∷_, _++_}
 use Prim.Native.Nat.{ℕ, _/_, _<_, _≤_}
 use lib.ListN.{length, getD, take, drop}
 use Rattle.fields.specs.Field.{field}
+use Rattle.dialect.specs.declared.Stated.{Stated}
 use Rattle.table.specs.Answer.{accepted}
-use Rattle.tablefile.specs.Reading.{headerAt, contentAt, readCheck}
+use Rattle.tablefile.specs.Reading.{headerAt, contentAt, numberHeld, readCheck}
 use Rattle.tablefile.specs.Loading.{verdict, loadedOf, held}
 use Rattle.tablefile.specs.declared.Loaded.{Loaded}
 use Rattle.tablefile.specs.declared.Verdict.the-variants.{Accepted}
-use Rattle.writer.specs.Writing.{writeOf, fileAfter}
-use Rattle.starlark_checks.specs.Words.{heldValues, readOf}
+use Rattle.writer.specs.Writing.{holding, writeOf, fileAfter}
+use Rattle.starlark_checks.specs.Words.{statedOf, statedWord, heldValues, readOf}
 use Rattle.starlark_checks.proofs.ReadBack.{tableAfter, namesAfter}
 use Rattle.starlark_checks.proofs.ReadBack as theorem
 
@@ -53,42 +54,49 @@ pub read-names : (file : List ℕ) (l : Loaded)
     → namesAfter file t ns ≡ held l .names ++ drop (length (held l .names)) ns
 read-names file l v e = theorem.read-names file l (v, e)
 
--- what `starlark_write` has written, `starlark_read` gives back: the counts and the dialect
--- In words: it tells the number of nodes and of name bytes, whether there is a dialect, and its nine bytes in words.
-pub written-told : (t names ds buffer : List ℕ) {n : ℕ}
-    → writeOf t names ds (length buffer) ≡ accepted (n ∷ [])
+-- what `starlark_write` has written, `starlark_read` gives back: the counts, the dialect and the edition
+-- In words: it tells the number of nodes and of name bytes, whether there is a dialect, its nine bytes in words, the
+-- edition as it was written or the word for none, and the edition that holds.
+pub written-told : (t names ds : List ℕ) (e : Stated) (buffer : List ℕ) {n : ℕ}
+    → writeOf (holding t names ds e) (length buffer) ≡ accepted (n ∷ [])
     → ((i : ℕ) → getD t i 0 < 256)
     → ((i : ℕ) → getD names i 0 < 256)
     → ((i : ℕ) → getD ds i 0 < 256)
     → (room-t room-n : List ℕ)
     → length t ≤ length room-t
     → length names ≤ length room-n
-    → readOf (take n (fileAfter t names ds buffer)) (length room-t) (length room-n)
-    ≡ accepted (length t / 24 ∷ length names ∷ (length ds / 9) ∷ field 4 ds 0 ∷ field 4 ds 4 ∷ field 4 ds 8 ∷ [])
+    → readOf (take n (fileAfter (holding t names ds e) buffer)) (length room-t) (length room-n)
+    ≡ accepted (length t / 24 ∷ length names ∷ (length ds / 9) ∷ field 4 ds 0 ∷ field 4 ds 4 ∷ field 4 ds 8
+    ∷ statedWord e ∷ numberHeld e ∷ [])
 written-told = theorem.written-told
 
 -- and the table
 -- In words: the table's buffer then holds the table that was written, and behind it what stood there.
-pub written-table : (t names ds buffer : List ℕ) {n : ℕ}
-    → writeOf t names ds (length buffer) ≡ accepted (n ∷ [])
+pub written-table : (t names ds : List ℕ) (e : Stated) (buffer : List ℕ) {n : ℕ}
+    → writeOf (holding t names ds e) (length buffer) ≡ accepted (n ∷ [])
     → ((i : ℕ) → getD t i 0 < 256)
     → ((i : ℕ) → getD names i 0 < 256)
     → ((i : ℕ) → getD ds i 0 < 256)
     → (room-t room-n : List ℕ)
     → length t ≤ length room-t
     → length names ≤ length room-n
-    → tableAfter (take n (fileAfter t names ds buffer)) room-t room-n ≡ t ++ drop (length t) room-t
+    → tableAfter (take n (fileAfter (holding t names ds e) buffer)) room-t room-n ≡ t ++ drop (length t) room-t
 written-table = theorem.written-table
 
 -- and the names
 -- In words: the names' buffer then holds the names that were written, and behind them what stood there.
-pub written-names : (t names ds buffer : List ℕ) {n : ℕ}
-    → writeOf t names ds (length buffer) ≡ accepted (n ∷ [])
+pub written-names : (t names ds : List ℕ) (e : Stated) (buffer : List ℕ) {n : ℕ}
+    → writeOf (holding t names ds e) (length buffer) ≡ accepted (n ∷ [])
     → ((i : ℕ) → getD t i 0 < 256)
     → ((i : ℕ) → getD names i 0 < 256)
     → ((i : ℕ) → getD ds i 0 < 256)
     → (room-t room-n : List ℕ)
     → length t ≤ length room-t
     → length names ≤ length room-n
-    → namesAfter (take n (fileAfter t names ds buffer)) room-t room-n ≡ names ++ drop (length names) room-n
+    → namesAfter (take n (fileAfter (holding t names ds e) buffer)) room-t room-n ≡ names ++ drop (length names) room-n
 written-names = theorem.written-names
+
+-- and the word of the edition
+-- In words: the word that is told of an edition is the one that was given to write it.
+pub stated-back : (n : ℕ) → statedWord (statedOf n) ≡ n
+stated-back = theorem.stated-back
