@@ -1,127 +1,78 @@
+-- `filepass::check_file` meets its contract: 70 to 75, a bad edition, or the job on what the file holds. Assumes nothing.
 use borrow.Author.Needs.{needs}
+use Rattle.tablefile.proofs.Lends.{unpacked-table-long, unpacked-names-long}
+use Rattle.filepass.proofs.Listing.{nodes-fit, nodes-word, file-refused, bad-answer, bad-words, file-answer}
+use Rattle.filepass.proofs.Listing.{file-words}
 use Rattle.filepass.proofs.check_file.Statement.{statement}
 use Rattle.filepass.proofs.check_file.Tie as tie
-use Rattle.filepass.proofs.check_file.Reads as reads
-use Rattle.filepass.proofs.check_file.Lts as lts
-use Rattle.dialect.proofs.edition_held.Reads as edition-held-reads
-use Rattle.filepass.proofs.edition_refused.Reads as edition-refused-reads
-use Rattle.filepass.proofs.front.Reads as front-reads
-use Rattle.filepass.proofs.told.Reads as told-reads
-use Rattle.tablefile.proofs.dialect_bytes.Reads as dialect-bytes-reads
-use Rattle.tablefile.proofs.header.Reads as header-reads
-use Rattle.tablefile.proofs.stated_edition.Reads as stated-edition-reads
-use Rattle.tablefile.proofs.unpack.Reads as unpack-reads
-use Rattle.validate.proofs.module.Reads as module-reads
-
--- src/lib.rt:45:9
-unpack-requires : tie.Need-unpack-requires
-unpack-requires c κs = search needs
-
--- src/lib.rt:46:29
-enum-known-unpacked : tie.Need-enum-known-unpacked
-enum-known-unpacked c = search needs
-
--- src/lib.rt:47:9
-returns : tie.Need-returns
-returns c = ?
-
-enum-told : tie.Need-enum-told
-enum-told c = search needs
-
--- src/lib.rt:49:9
-header-requires : tie.Need-header-requires
-header-requires c κs = search needs
-
--- src/lib.rt:50:19
-slice-aggregate-front : tie.Need-slice-aggregate-front
-slice-aggregate-front c = ?
-
--- src/lib.rt:50:27
-mul-front : tie.Need-mul-front
-mul-front c = ?
-
--- src/lib.rt:50:9
-front-requires : tie.Need-front-requires
-front-requires c κs = search needs
-
--- src/lib.rt:51:19
-slice-aggregate-front-2 : tie.Need-slice-aggregate-front-2
-slice-aggregate-front-2 c = ?
-
--- src/lib.rt:51:9
-front-requires-2 : tie.Need-front-requires-2
-front-requires-2 c κs = search needs
-
--- src/lib.rt:52:9
-dialect-bytes-requires : tie.Need-dialect-bytes-requires
-dialect-bytes-requires c κs = search needs
-
--- src/lib.rt:53:48
-stated-edition-requires : tie.Need-stated-edition-requires
-stated-edition-requires c κs = search needs
-
--- src/lib.rt:53:9
-edition-held-requires : tie.Need-edition-held-requires
-edition-held-requires c κs = search needs
-
--- src/lib.rt:55:32
-enum-told-2 : tie.Need-enum-told-2
-enum-told-2 c = search needs
-
--- src/lib.rt:55:32
-edition-refused-requires : tie.Need-edition-refused-requires
-edition-refused-requires c κs = search needs
-
--- src/lib.rt:55:9
-returns-2 : tie.Need-returns-2
-returns-2 c = ?
-
-enum-told-3 : tie.Need-enum-told-3
-enum-told-3 c = search needs
-
--- src/lib.rt:57:9
-module-requires : tie.Need-module-requires
-module-requires c κs = search needs
-
--- src/lib.rt:58:10
-cast-told : tie.Need-cast-told
-cast-told c = ?
-
--- src/lib.rt:58:5
-told-requires : tie.Need-told-requires
-told-requires c κs = search needs
-
--- src/lib.rt:39:1
-same-length : tie.Need-same-length
-same-length c = search needs
-
--- src/lib.rt:39:1
-returns-3 : tie.Need-returns-3
-returns-3 c = ?
 
 pub check-file-spec : {M : Type 1} → statement M
 check-file-spec =
     tie.close
     (tie.spec
-    unpack-requires
-    enum-known-unpacked
-    returns
-    enum-told
-    header-requires
-    slice-aggregate-front
-    mul-front
-    front-requires
-    slice-aggregate-front-2
-    front-requires-2
-    dialect-bytes-requires
-    stated-edition-requires
-    edition-held-requires
-    enum-told-2
-    edition-refused-requires
-    returns-2
-    enum-told-3
-    module-requires
-    cast-told
-    told-requires
-    same-length
-    returns-3)
+    (λ c κs. search needs)
+    (λ c. search needs)
+    (λ c.  -- returns
+    let unpack = c .before .before .before .unpack in
+    file-refused _ _ unpack.ensures.0 _ (c .before .unpacked .given .1))
+    (λ c. search needs)
+    (λ c κs. search needs)
+    (λ c. search unpacked-table-long)  -- slice-aggregate-front
+    (λ c. search nodes-fit)  -- mul-front
+    (λ c κs. search needs)
+    (λ c. search unpacked-names-long)  -- slice-aggregate-front-2
+    (λ c κs. search needs)
+    (λ c κs. search needs)
+    (λ c κs. search needs)
+    (λ c κs. search needs)
+    (λ c. search needs)
+    (λ c κs. search needs)
+    (λ c.  -- returns-2
+    let refused = c .edition-refused in
+    let bad = c .before .enum-told2 in
+    let edition = c .before .before .before .edition-held in
+    let stated = c .before .before .before .before .stated-edition in
+    let bytes = c .before .before .before .before .before .dialect-bytes in
+    let back = c .before .before .before .before .before .before in
+    let front2 = back .front2 in
+    let front = back .before .before .front in
+    let header = back .before .before .before .before .before .header in
+    let back2 = back .before .before .before .before .before .before in
+    let enum-told = back2 .enum-told in
+    let unpack = back2 .before .before .unpack in (
+      bad-answer _ _ unpack.ensures.0 enum-told.given.1 header.ensures unpack.ensures.1.0 unpack.ensures.1.1
+          front.ensures front2.ensures bytes.ensures stated.ensures edition.ensures bad.given.1 _ refused.ensures,
+      bad-words _ _ unpack.ensures.0 enum-told.given.1 header.ensures unpack.ensures.1.0 unpack.ensures.1.1
+          front.ensures front2.ensures bytes.ensures stated.ensures edition.ensures bad.given.1 _ refused.ensures _,
+    ))
+    (λ c. search needs)
+    (λ c κs. search needs)
+    (λ c.  -- cast-told
+    let back = c .before .before .before .before .before .before in
+    let back2 = back .before .before .before .before .before .before in
+    let header = back2 .before .before .before .header in
+    let enum-told = back2 .before .before .before .before .enum-told in
+    let unpack = back2 .before .before .before .before .before .before .unpack in
+    record { fits = nodes-word _ _ unpack.ensures.0 enum-told.given.1 header.ensures })
+    (λ c κs. search needs)
+    (λ c. search needs)
+    (λ c.  -- returns-3
+    let job = c .before .before .before .before .«module» in
+    let back = c .before .before .before .before .before .before in
+    let known = back .enum-told3 in
+    let edition = back .before .before .edition-held in
+    let stated = back .before .before .before .stated-edition in
+    let bytes = back .before .before .before .before .dialect-bytes in
+    let front2 = back .before .before .before .before .before .front2 in
+    let back2 = back .before .before .before .before .before .before in
+    let front = back2 .before .front in
+    let header = back2 .before .before .before .before .header in
+    let enum-told = back2 .before .before .before .before .before .enum-told in
+    let back3 = back2 .before .before .before .before .before .before in
+    let unpack = back3 .before .unpack in (
+      file-answer _ _ unpack.ensures.0 enum-told.given.1 header.ensures unpack.ensures.1.0 unpack.ensures.1.1
+          front.ensures front2.ensures bytes.ensures stated.ensures edition.ensures known.given.1 job.ensures.0
+          (c .told .ensures),
+      file-words _ _ unpack.ensures.0 enum-told.given.1 header.ensures unpack.ensures.1.0 unpack.ensures.1.1
+          front.ensures front2.ensures bytes.ensures stated.ensures edition.ensures known.given.1 _ job.ensures.1,
+    )))
