@@ -16,15 +16,16 @@ use Rattle.table.specs.Numbers.{dotTypeBan}
 use Rattle.table.specs.Answer.{Answer, accepted, refused}
 use Rattle.table.specs.Check.{mostBytes, Handing, inDialect, turnedAway, givenOf, ruling, rulesOf, inRules}
 use Rattle.errors.specs.declared.Err.{Err}
-use Rattle.errors.specs.declared.Listing.the-variants.{Audit}
-use Rattle.errors.specs.Errors.{stored}
+use Rattle.errors.specs.declared.Listing.the-variants.{Own, Audit}
+use Rattle.errors.specs.Errors.{kept, stored}
 use Rattle.types.specs.Types.{«dialect_check_type»}
 use Rattle.types.proofs.Editions.{Lifted, type-lifted}
+use Rattle.validate.specs.Job.{passErrors}
 use Rattle.audit.specs.declared.Role.{Role}
 use Rattle.audit.specs.declared.Role.the-variants.{AsTarget, AsType, Plain}
 use Rattle.audit.specs.declared.Roles.the-variants.{Nowhere}
 use Rattle.audit.specs.Roles.{Placed, placed}
-use Rattle.audit.specs.Refusals.{answerErrors, roleErrors, refusedThere, refusals}
+use Rattle.audit.specs.Refusals.{answerErrors, kindErrors, roleErrors, refusedThere, refusals}
 use Rattle.audit.specs.Job.{auditErrors, auditIn, allErrors, auditOf, auditAfter}
 
 -- a list of errors without 44
@@ -38,9 +39,10 @@ bans-apart [] fs h = (tt, h)
 bans-apart (e ∷ es) fs h = let rest = bans-apart es fs (h .1) in ((h .0, rest .0), rest .1)
 
 -- two lists, part by part: the first parts and the rests are the same where the list of edition 1 has no 44
-parts-same : {es fs es₂ fs₂ : List Err} → (NoBans es → es₂ ≡ es) → (NoBans fs → fs₂ ≡ fs) → NoBans (es ++ fs)
+parts-same : (es : List Err) {fs es₂ fs₂ : List Err} → (NoBans es → es₂ ≡ es) → (NoBans fs → fs₂ ≡ fs)
+    → NoBans (es ++ fs)
     → es₂ ++ fs₂ ≡ es ++ fs
-parts-same {es} {fs} first rest h =
+parts-same es {fs} first rest h =
     let apart = bans-apart es fs h in
     let a = first (apart .0) in
     let b = rest (apart .1) in
@@ -63,19 +65,20 @@ module _ (d : Dialect) (names : List ℕ) where
   there-same : (p : Placed) → NoBans (refusedThere d One names p)
       → refusedThere d Two names p ≡ refusedThere d One names p
   unfolding refusedThere
-  there-same p = parts-same (λ _. refl) (role-same (p .role) (p .tree))
+  there-same p = parts-same (kindErrors names (p .tree)) (λ _. refl) (role-same (p .role) (p .tree))
 
   refusals-same : (ps : List Placed) → NoBans (refusals d One names ps)
       → refusals d Two names ps ≡ refusals d One names ps
   unfolding refusals
   refusals-same [] h = refl
-  refusals-same (p ∷ ps) h = parts-same (there-same p) (refusals-same ps) h
+  refusals-same (p ∷ ps) h = parts-same (refusedThere d One names p) (there-same p) (refusals-same ps) h
 
   -- THEOREM: of any bytes, a list of errors by edition 1 without 44 is that by edition 2
   pub audit-same : (t : List ℕ) → NoBans (auditErrors d One names t)
       → auditErrors d Two names t ≡ auditErrors d One names t
   unfolding auditErrors
-  audit-same t = parts-same (λ _. refl) (refusals-same (placed Nowhere (forest 0 (take mostBytes t))))
+  audit-same t = parts-same (kept Own (passErrors d names t)) (λ _. refl)
+      (refusals-same (placed Nowhere (forest 0 (take mostBytes t))))
 
 -- THEOREM: the same of the job: where edition 1 lists no 44, edition 2 gives the same list, the same answer, refusals
 -- included, and leaves the same words

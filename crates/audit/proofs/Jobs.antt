@@ -10,8 +10,8 @@ use Rattle.dialect.specs.declared.EditionRead.{EditionRead}
 use Rattle.dialect.specs.Editions.{editionOf}
 use Rattle.forest.specs.Forest.{forest, count}
 use Rattle.forest.proofs.Stretch.{count-forest}
-use Rattle.table.specs.Answer.{Answer, accepted, refusal}
-use Rattle.table.specs.Check.{ruled, rulesOf}
+use Rattle.table.specs.Answer.{Answer, accepted, numberOf, carried, refusal}
+use Rattle.table.specs.Check.{byRules, unruled, ruled, rulesOf}
 use Rattle.table.specs.declared.Refusal.{Refusal}
 use Rattle.table.specs.declared.Ruled.{Ruled}
 use Rattle.table.specs.declared.Ruled.the-variants.{By, Refused as Unruled}
@@ -65,18 +65,18 @@ Promised t names bytes n xs r ys = (r ≡ auditOf t names bytes n) × (ys ≡ au
 
 module _ (t names bytes : List ℕ) (n : ℕ) (xs : List ℕ) {x : EditionRead} (x-is : x ≡ editionOf n) {g : Ruled}
     (g-is : ruled g ≡ rulesOf t names bytes x) where
-  here : rulesOf t names bytes (editionOf n) ≡ ruled g
-  here = rw (← x-is) (sym g-is)
-
   pub job-refused : {why : Refusal} → g ≡ Unruled why → Promised t names bytes n xs (refusal why) xs
   unfolding allErrors
-  job-refused h =
-      let told = unruled-is t names bytes (editionOf n) (sym here) h in
+  job-refused {why} h =
+      let told : rulesOf t names bytes (editionOf n) ≡ unruled (numberOf why) (carried why) =
+      rw (← x-is) (unruled-is t names bytes x g-is h) in
       (rw told refl, rw told (sym (stored-none Audit xs)))
 
   pub job-total : {d : Dialect} {edition : Edition} {m : ℕ} {ys : List ℕ} → g ≡ By d edition
       → m ≡ length (auditErrors d edition names t) → ys ≡ stored Audit (auditErrors d edition names t) xs
       → Promised t names bytes n xs (accepted (m ∷ [])) ys
   unfolding allErrors
-  job-total h total words =
-      let told = by-is t names bytes (editionOf n) (sym here) h in (rw (told, total) refl, rw told words)
+  job-total {d} {edition} h total words =
+      let told : rulesOf t names bytes (editionOf n) ≡ byRules d edition =
+      rw (← x-is) (by-is t names bytes x g-is h) in
+      (rw (told, total) refl, rw told words)

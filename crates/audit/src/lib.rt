@@ -62,15 +62,7 @@ pub fn pass(table: &[u8], names: &[u8], d: Dialect, edition: Edition, errors: &m
 {
     let first = validate::pass(Listing::Own, table, names, d, errors) as usize;
     let free = errors::free(Listing::Audit, errors.len(), first);
-    let all = table::within(table);
-    let rest = walk::check_each(
-        d,
-        edition,
-        names,
-        Roles::Nowhere,
-        all,
-        0,
-        &mut errors[free..],
-    );
+    let t = table::within(table);
+    let rest = walk::check_each(d, edition, names, Roles::Nowhere, t, 0, &mut errors[free..]);
     (first + rest) as u32
 }

@@ -145,9 +145,8 @@ module _ (t names bytes : List ℕ) (n : ℕ) where
           → inGiven h (λ _. accepted (length (errorsOf t names bytes) ∷ [])) ≡ accepted (0 ∷ [])
           → auditOf t names bytes n ≡ accepted (0 ∷ [])
       go (inDialect d) h e =
-          let g : rulesOf t names bytes (editionOf n)
-          ≡ byRules d edition = rw known (known-rules t names bytes edition h)
-          in
+          let g : rulesOf t names bytes (editionOf n) ≡ byRules d edition =
+          rw known (known-rules t names bytes edition h) in
           let zero : length (errorsOf t names bytes) ≡ 0 = cc in
           let none = no-entries (errorsOf t names bytes) zero in
           rw (g, accepts-empty t names bytes n g none accepts) refl

@@ -44,16 +44,15 @@ sound = refl
 -- EXAMPLE: the two lists
 pub list-before : allErrors badType badNames closed 1 ≡ before
 unfolding allErrors auditErrors passErrors editionOf rulesOf givenOf fromBytes validBytes within recordOf forestIn
-forest kidsOf restOf
-    sizeOf field kindIn kindOf armOf f exprErrors expr withoutLists rolesOf placed wants kindErrors roleErrors
-    refusedThere refusals «check_assign» leaves typeCheck «check_assignment» «dialect_check_type»
+    forest kidsOf restOf sizeOf field kindIn kindOf armOf f exprErrors expr withoutLists rolesOf placed wants
+    kindErrors roleErrors refusedThere refusals «check_assign» leaves typeCheck «check_assignment» «dialect_check_type»
 list-before = rw sound refl
 
 pub list-after : allErrors badType badNames typesOpen 1 ≡ after
 unfolding allErrors auditErrors passErrors editionOf rulesOf givenOf fromBytes validBytes within recordOf forestIn
-forest kidsOf restOf
-    sizeOf field kindIn kindOf armOf f exprErrors expr withoutLists rolesOf placed wants kindErrors roleErrors
-    refusedThere refusals «check_assign» leaves typeCheck «check_assignment» «dialect_check_type» formOf atNode «unpack»
+    forest kidsOf restOf sizeOf field kindIn kindOf armOf f exprErrors expr withoutLists rolesOf placed wants
+    kindErrors roleErrors refusedThere refusals «check_assign» leaves typeCheck «check_assignment» «dialect_check_type»
+    formOf atNode «unpack»
 list-after = rw sound refl
 
 -- EXAMPLE: the second dialect permits all that the first does, and yet its list is not the first with errors taken out
@@ -61,7 +60,6 @@ pub opens : permitsAll (recordOf closed) (recordOf typesOpen) ≡ true
 unfolding permitsAll recordOf
 opens = refl
 
-pub not-tied : (out : ℕ → Bool) → allErrors badType badNames typesOpen 1
-    ≡ without out (allErrors badType badNames closed 1)
-    → ⊥
+pub not-tied : (out : ℕ → Bool)
+    → allErrors badType badNames typesOpen 1 ≡ without out (allErrors badType badNames closed 1) → ⊥
 not-tied out h = not-left out _ _ (λ same. absurd (omega (arith, same))) (rw (list-before, list-after) at h)

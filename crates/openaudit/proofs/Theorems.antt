@@ -56,8 +56,8 @@ then-stays (refused n vs) f g on h = h
 -- a type that is accepted stays accepted
 tree-stays : (edition : Edition) (names : List ℕ) (x y : DialectTypes) (t : Tree)
     → atLeast (permitsTypes x) (permitsTypes y) ≡ true
-    → isAccepted («dialect_check_type» edition names x t) ≡ true → isAccepted («dialect_check_type» edition names y t)
-    ≡ true
+    → isAccepted («dialect_check_type» edition names x t) ≡ true
+    → isAccepted («dialect_check_type» edition names y t) ≡ true
 unfolding «dialect_check_type»
 tree-stays edition names x y (node r ks) least h = go (permitsTypes x) (permitsTypes y) least h
   where

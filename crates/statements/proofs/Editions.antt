@@ -6,6 +6,8 @@ use mathlib.Core.Path.{_≡_}
 use mathlib.Core.List.{List, [], _∷_}
 use Prim.Native.Nat.{ℕ}
 use lib.ListN.{length}
+use Rattle.dialect.specs.declared.Dialect.{Dialect}
+use Rattle.dialect.specs.declared.Edition.{Edition}
 use Rattle.dialect.specs.declared.Edition.the-variants.{One, Two}
 use Rattle.dialect.specs.declared.EditionRead.the-variants.{Known, Unknown}
 use Rattle.dialect.specs.Editions.{editionOf}
@@ -19,9 +21,11 @@ use Rattle.types.proofs.Editions as theorem-type
 use Rattle.errors.specs.declared.Err.{Err}
 use Rattle.shapes.specs.Jobs.{shapesAfter}
 use Rattle.shapes.proofs.Editions as theorem-shapes
-use Rattle.audit.specs.Job.{allErrors, auditOf, auditAfter}
+use Rattle.audit.specs.Job.{auditErrors, allErrors, auditOf, auditAfter}
 use Rattle.audit.proofs.Editions as theorem-audit
 use Rattle.audited.specs.Checked.{Each}
+use Rattle.examples.specs.Editions.{typedPath, typeName}
+use Rattle.examples.proofs.Editions as theorem-example
 
 -- "an edition other than 1 or 2 is 5": which numbers are editions
 -- In words: 1 is the first edition, 2 the second, and no other number is one.
@@ -29,12 +33,23 @@ pub editions : (editionOf 1 ≡ Known One) × (editionOf 2 ≡ Known Two)
     × ((n : ℕ) → (n ≡ 1 → ⊥) → (n ≡ 2 → ⊥) → editionOf n ≡ Unknown)
 editions = (theorem-number.number-known One, theorem-number.number-known Two, theorem-number.edition-none)
 
+-- "an edition other than 1 or 2 is 5": an edition comes from its own number alone
+-- In words: a number that is the first edition is 1, and one that is the second is 2.
+pub edition-numbers : (n : ℕ) → (editionOf n ≡ Known One → n ≡ 1) × (editionOf n ≡ Known Two → n ≡ 2)
+edition-numbers n = (λ h. theorem-number.edition-back n h, λ h. theorem-number.edition-back n h)
+
 -- "after the dialect bytes"
 -- In words: with a number that is no edition, 1 to 5 answer what they answer for the table and the dialect bytes; where
 -- these pass, the answer is 5.
 pub edition-last : (t names bytes : List ℕ)
     → rulesCheck t names bytes Unknown ≡ andThen (givenCheck t names bytes) (λ _. refused badDialect [])
 edition-last = theorem-order.rules-unknown
+
+-- and a known edition adds nothing
+-- In words: by either edition 1 to 5 answer what they answer for the table and the dialect bytes.
+pub edition-free : (t names bytes : List ℕ) (edition : Edition)
+    → rulesCheck t names bytes (Known edition) ≡ givenCheck t names bytes
+edition-free = theorem-order.rules-given
 
 -- "A type accepted in edition 1 has the same shapes in edition 2"
 -- In words: where the type job by edition 1 accepts, by edition 2 it accepts with the same answer, and the whole buffer
@@ -84,3 +99,30 @@ same-audit t names bytes free = (
   theorem-audit.job-same t names bytes (no-bans _ free),
   theorem-audit.words-same t names bytes (no-bans _ free),
 )
+
+-- the same of bytes that nobody has checked
+-- In words: of any bytes, in any dialect, a list of the audit's pass by edition 1 without 44 is that by edition 2.
+pub same-pass : (d : Dialect) (names t : List ℕ)
+    → Each (λ (e : Err). e .number ≡ dotTypeBan → ⊥) (auditErrors d One names t)
+    → auditErrors d Two names t ≡ auditErrors d One names t
+same-pass d names t free = theorem-audit.audit-same d names t (no-bans _ free)
+
+-- an instance: `t: t.type = 1`, whose type is node 2
+-- In words: by edition 1 the type job answers 44 at node 3, the `t` before the dot, from 3 to 4 in source file 1.
+pub first-bans : typeShapeOf typedPath typeName [] 1 2 2 ≡ refused dotTypeBan (3 ∷ 3 ∷ 4 ∷ 1 ∷ [])
+first-bans = theorem-example.first-bans
+
+-- the same instance by edition 2
+-- In words: by edition 2 the type job accepts it.
+pub second-reads : typeShapeOf typedPath typeName [] 2 2 2 ≡ accepted []
+second-reads = theorem-example.second-reads
+
+-- the same instance by 0
+-- In words: 0 is no edition, and the answer is 5.
+pub zero-is-none : typeShapeOf typedPath typeName [] 0 2 2 ≡ refused badDialect []
+zero-is-none = theorem-example.zero-is-none
+
+-- the same instance by 3
+-- In words: 3 is no edition, and the answer is 5.
+pub three-is-none : typeShapeOf typedPath typeName [] 3 2 2 ≡ refused badDialect []
+three-is-none = theorem-example.three-is-none
