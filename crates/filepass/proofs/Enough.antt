@@ -14,12 +14,13 @@ use borrow.Author.Tests.{lt-leb}
 use Rattle.fields.proofs.Basics.{le-or-lt}
 use Rattle.table.specs.Numbers.{blockCounts, bytesLeftOver}
 use Rattle.table.specs.Answer.{Answer, accepted, refused, andThen}
-use Rattle.table.specs.Check.{mostNodes, mostNames, Handing, inDialect, turnedAway, givenOf, inGiven}
+use Rattle.table.specs.Check.{mostNodes, mostNames, Ruling, byRules, unruled, rulesOf, inRules}
 use Rattle.table.proofs.Answers.{after-both}
 use Rattle.blocks.specs.Block.{demand, judge}
 use Rattle.blocks.specs.Run.{blocksFor, judgeRun}
 use Rattle.tablefile.specs.File.{Content, mostBlocks}
-use Rattle.tablefile.specs.Reading.{headerAt, contentAt, countsFit, blocksCheck, frontCheck, soundCheck, readCheck}
+use Rattle.tablefile.specs.Reading.{headerAt, usedOf, contentAt, countsFit, editionRead, blocksCheck}
+use Rattle.tablefile.specs.Reading.{frontCheck, soundCheck, readCheck}
 use Rattle.tablefile.specs.Lending.{intoCheck, handed}
 use Rattle.blocks.proofs.Parts.{judge-front, run-front}
 use Rattle.tablefile.proofs.Fronts.{header-front, first-is, taken-is, counts-small}
@@ -47,10 +48,10 @@ unfolding Plain
 after-plain (accepted vs) next p = p
 after-plain (refused n vs) next p = tt
 
-given-plain : (h : Handing) → Plain (inGiven h (λ _. accepted []))
+rules-plain : (h : Ruling) → Plain (inRules h (λ _ _. accepted []))
 unfolding Plain
-given-plain (inDialect d) = refl
-given-plain (turnedAway n vs) = tt
+rules-plain (byRules d e) = refl
+rules-plain (unruled n vs) = tt
 
 read-plain : (bs : List ℕ) → Plain (readCheck bs)
 unfolding readCheck
@@ -59,7 +60,7 @@ read-plain bs =
     let sound : Unit {0} → Answer = λ _. soundCheck c in
     let left : Answer = demand (leb (length bs) (headerAt bs .taken)) bytesLeftOver in
     after-plain (frontCheck bs) (λ _. andThen left sound)
-    (after-plain left sound (given-plain (givenOf (c .table) (c .names) (c .dialect))))
+    (after-plain left sound (rules-plain (rulesOf (c .table) (c .names) (c .dialect) (editionRead c))))
 
 -- a file that is longer than what is read of it
 module _ (m : ℕ) (bs : List ℕ) (enough : 512 * mostBlocks < m) (longer : m < length bs) where
@@ -87,13 +88,13 @@ module _ (m : ℕ) (bs : List ℕ) (enough : 512 * mostBlocks < m) (longer : m <
 
   -- the whole check of some bytes with the same block 0
   whole : List ℕ → Bool → Answer
-  whole xs fit = andThen (judge 0 (4 + headerAt bs .dialect) xs) (λ _. andThen (demand fit blockCounts) (λ _. later xs))
+  whole xs fit = andThen (judge 0 (usedOf (headerAt bs)) xs) (λ _. andThen (demand fit blockCounts) (λ _. later xs))
 
   whole-is : (xs : List ℕ) → headerAt xs ≡ headerAt bs
       → readCheck xs ≡ whole xs (countsFit (headerAt bs .nodes) (headerAt bs .names))
   unfolding readCheck blocksCheck whole later
   whole-is xs header-is =
-      let head : Answer = judge 0 (4 + headerAt bs .dialect) xs in
+      let head : Answer = judge 0 (usedOf (headerAt bs)) xs in
       let counts : Answer = demand (countsFit (headerAt bs .nodes) (headerAt bs .names)) blockCounts in
       let runs : Unit {0} → Answer = λ _. andThen (judgeRun 1 (headerAt bs .names) (drop 512 xs))
       (λ _. judgeRun (headerAt bs .first) (24 * headerAt bs .nodes) (drop (512 * headerAt bs .first) xs)) in
@@ -107,8 +108,8 @@ module _ (m : ℕ) (bs : List ℕ) (enough : 512 * mostBlocks < m) (longer : m <
   whole-part : (fit : Bool) → countsFit (headerAt bs .nodes) (headerAt bs .names) ≡ fit
       → whole (take m bs) fit ≡ whole bs fit
   unfolding whole
-  whole-part false e = rw (judge-front 0 (4 + headerAt bs .dialect) m bs (omega arith)) refl
-  whole-part true e = rw (judge-front 0 (4 + headerAt bs .dialect) m bs (omega arith), later-part e) refl
+  whole-part false e = rw (judge-front 0 (usedOf (headerAt bs)) m bs (omega arith)) refl
+  whole-part true e = rw (judge-front 0 (usedOf (headerAt bs)) m bs (omega arith), later-part e) refl
 
   pub longer-part : readCheck (take m bs) ≡ readCheck bs
   longer-part =

@@ -1,21 +1,34 @@
 -- A file's answer, in the terms of code. The code unpacks the file, which looks at 70 to 75, and then runs the module
 -- job, which looks at 1 to 5 itself; `answerOf` looks at 70 to 75 and at 1 to 5, and then runs the job. Both are the
 -- same: where 1 to 5 refuse, the job refuses by the same number (`given-again`) and changes no word (`given-keeps`). So
--- the answer is `answerOf` (`job-is-answer`) and the words are `wordsAfter` (`job-is-words`). Assumes nothing.
+-- the answer is `answerOf` (`job-is-answer`) and the words are `wordsAfter` (`job-is-words`), if an edition holds. The
+-- job does not look at it; a bad one is refused before the job, by 1 to 4 or 5 (`bad-edition`). Assumes nothing.
 use mathlib.Core.Path.{_≡_, refl, sym, ap, _∙_}
 use mathlib.Core.List.{List, [], _∷_}
 use Prim.Native.Nat.{ℕ, _*_, _-_, _/_, _^_, _<_, _≤_}
 use native.Mathlib.Omega.{arith}
 use lib.ListN.{length, take, replicate}
 use lib.Seq.{take-all}
+use Rattle.dialect.specs.Bytes.{fromBytes}
+use Rattle.dialect.specs.Editions.{statedBytes, editionHeld}
 use Rattle.dialect.specs.declared.Dialect.{Dialect}
-use Rattle.table.specs.Answer.{Answer, accepted, refused, andThen, refusal}
-use Rattle.table.specs.Check.{Handing, inDialect, turnedAway, givenOf, inGiven, givenCheck}
+use Rattle.dialect.specs.declared.Decoded.{Decoded}
+use Rattle.dialect.specs.declared.Decoded.the-variants.{Valid, Invalid}
+use Rattle.dialect.specs.declared.Edition.{Edition}
+use Rattle.dialect.specs.declared.EditionRead.{EditionRead}
+use Rattle.dialect.specs.declared.EditionRead.the-variants.{Known, Unknown}
+use Rattle.dialect.specs.declared.Stated.{Stated}
+use Rattle.table.specs.Numbers.{badDialect}
+use Rattle.table.specs.Answer.{Answer, accepted, refused, andThen, refusal, checked}
+use Rattle.table.specs.Check.{checkOf, Handing, inDialect, turnedAway, handing, givenOf, inGiven, givenCheck}
+use Rattle.table.specs.declared.Checked.{Checked}
+use Rattle.table.specs.declared.Checked.the-variants.{Sound, Refused as Unsound}
 use Rattle.table.specs.declared.Refusal.{Refusal}
 use Rattle.table.proofs.Answers.{after-both}
 use Rattle.table.proofs.Entering.{given-known, given-passed}
+use Rattle.table.proofs.Ruling.{rules-known, rules-passed, rules-given, rules-unknown}
 use Rattle.tablefile.specs.File.{Content}
-use Rattle.tablefile.specs.Reading.{headerAt, contentAt, soundCheck}
+use Rattle.tablefile.specs.Reading.{headerAt, contentAt, editionRead, soundCheck}
 use Rattle.tablefile.specs.Loading.{verdict}
 use Rattle.tablefile.specs.Lending.{fileCheck, handed}
 use Rattle.tablefile.specs.declared.Heading.{Heading}
@@ -49,24 +62,17 @@ module _ (t names bytes : List ℕ) (sound : givenCheck t names bytes ≡ accept
   pub held-listed : heldAnswer t names bytes ≡ accepted (length t / 24 ∷ length (errorsOf t names bytes) ∷ [])
   held-listed = rw (known .1) refl
 
+-- LAW: what passes 1 to 5 with its edition passes them without
+pub sound-given : (c : Content) → soundCheck c ≡ accepted [] → givenCheck (c .table) (c .names) (c .dialect) ≡ accepted []
+sound-given c sound =
+    let (d, e, rules) = rules-passed (c .table) (c .names) (c .dialect) (editionRead c) sound in
+    rw (rules-known (c .table) (c .names) (c .dialect) rules .0) refl
+
 -- LAW: 1 to 5 in front of a job in a dialect change nothing, since the job looks at them itself
 pub given-again : (g : Handing) (n : ℕ) (rule : Dialect → Answer)
     → andThen (inGiven g (λ _. accepted [])) (λ _. behind n (inGiven g rule)) ≡ behind n (inGiven g rule)
 given-again (inDialect d) n rule = refl
 given-again (turnedAway m vs) n rule = refl
-
--- LAW: the answer is still `answerOf`: 70 to 75, then the module job on what the file holds
-pub job-is-answer : (file : List ℕ) → andThen (fileCheck file) (λ _.
-    heldAnswer (contentAt file .table) (contentAt file .names) (contentAt file .dialect)) ≡ answerOf file
-unfolding answerOf
-job-is-answer file =
-    let c : Content = contentAt file in
-    let held : Answer = heldAnswer (c .table) (c .names) (c .dialect) in
-    sym (ap (λ (x : Answer). andThen x (λ _. held)) (read-steps file)
-    ∙ after-both (fileCheck file) (λ _. soundCheck c) (λ _. held)
-    ∙ ap (λ (x : Answer). andThen (fileCheck file) (λ _. x))
-    (given-again (givenOf (c .table) (c .names) (c .dialect)) (length (c .table) / 24)
-    (λ _. accepted (length (errorsOf (c .table) (c .names) (c .dialect)) ∷ []))))
 
 -- a job that 1 to 5 turn away changes no word
 pub given-keeps : (t names bytes xs : List ℕ)
@@ -79,19 +85,59 @@ given-keeps t names bytes xs = go (givenOf t names bytes)
     go (inDialect d) = refl
     go (turnedAway n vs) = refl
 
--- LAW: and so are the words
-pub job-is-words : (file xs : List ℕ)
-    → ifRead (fileCheck file) xs (λ _. errorsAfter (contentAt file .table) (contentAt file .names)
-    (contentAt file .dialect) xs) ≡ wordsAfter file xs
-unfolding wordsAfter
-job-is-words file xs = rw (read-steps file) (go (fileCheck file))
+-- a file in which an edition holds
+module _ (file : List ℕ) {e : Edition} (known : editionRead (contentAt file) ≡ Known e) where
+  abbrev c : Content
+  c = contentAt file
+
+  given-so : soundCheck c ≡ givenCheck (c .table) (c .names) (c .dialect)
+  given-so = rw known (rules-given (c .table) (c .names) (c .dialect) e)
+
+  -- LAW: the answer is still `answerOf`: 70 to 75, then the module job on what the file holds
+  job-is-answer : andThen (fileCheck file) (λ _. heldAnswer (c .table) (c .names) (c .dialect)) ≡ answerOf file
+  unfolding answerOf
+  job-is-answer =
+      let held : Answer = heldAnswer (c .table) (c .names) (c .dialect) in
+      sym (ap (λ (x : Answer). andThen x (λ _. held)) (read-steps file)
+      ∙ after-both (fileCheck file) (λ _. soundCheck c) (λ _. held)
+      ∙ ap (λ (x : Answer). andThen (fileCheck file) (λ _. andThen x (λ _. held))) given-so
+      ∙ ap (λ (x : Answer). andThen (fileCheck file) (λ _. x))
+      (given-again (givenOf (c .table) (c .names) (c .dialect)) (length (c .table) / 24)
+      (λ _. accepted (length (errorsOf (c .table) (c .names) (c .dialect)) ∷ []))))
+
+  -- LAW: and so are the words
+  job-is-words : (xs : List ℕ)
+      → ifRead (fileCheck file) xs (λ _. errorsAfter (c .table) (c .names) (c .dialect) xs) ≡ wordsAfter file xs
+  unfolding wordsAfter
+  job-is-words xs = rw (read-steps file, given-so) (go (fileCheck file))
+    where
+      go : (x : Answer) → ifRead x xs (λ _. errorsAfter (c .table) (c .names) (c .dialect) xs)
+          ≡ ifRead (andThen x (λ _. givenCheck (c .table) (c .names) (c .dialect))) xs
+          (λ _. errorsAfter (c .table) (c .names) (c .dialect) xs)
+      go (accepted vs) = sym (given-keeps (c .table) (c .names) (c .dialect) xs)
+      go (refused n vs) = refl
+
+-- LAW: where no edition holds, 1 to 5 are 1 to 4, then 5, whatever the dialect bytes are
+pub bad-edition : (t names bytes : List ℕ)
+    → andThen (givenCheck t names bytes) (λ _. refused badDialect []) ≡ andThen (checkOf t names) (λ _. refused badDialect [])
+unfolding givenOf
+bad-edition t names bytes = go (checkOf t names) (fromBytes bytes)
   where
-    go : (x : Answer) → ifRead x xs (λ _. errorsAfter (contentAt file .table) (contentAt file .names)
-        (contentAt file .dialect) xs)
-        ≡ ifRead (andThen x (λ _. soundCheck (contentAt file))) xs (λ _. errorsAfter (contentAt file .table)
-        (contentAt file .names) (contentAt file .dialect) xs)
-    go (accepted vs) = sym (given-keeps (contentAt file .table) (contentAt file .names) (contentAt file .dialect) xs)
-    go (refused n vs) = refl
+    go : (a : Answer) (x : Decoded)
+        → andThen (inGiven (handing a x) (λ _. accepted [])) (λ _. refused badDialect [])
+        ≡ andThen a (λ _. refused badDialect [])
+    go (accepted vs) (Valid d) = refl
+    go (accepted vs) Invalid = refl
+    go (refused n vs) x = refl
+
+-- what `table::check` found in such a file, as a refusal
+pub refused-sound : (t names : List ℕ) (f : Checked) → checked f ≡ checkOf t names → f ≡ Sound
+    → refused badDialect [] ≡ andThen (checkOf t names) (λ _. refused badDialect [])
+refused-sound t names f f-is e = rw (← f-is, e) refl
+
+pub refused-unsound : (t names : List ℕ) (f : Checked) → checked f ≡ checkOf t names → {why : Refusal}
+    → f ≡ Unsound why → refusal why ≡ andThen (checkOf t names) (λ _. refused badDialect [])
+refused-unsound t names f f-is e = rw (← f-is, e) refl
 
 -- what a job answers, with the number of nodes
 pub told-total : (n : ℕ) (m : Listed) {k : ℕ} → m ≡ Total k → accepted (n ∷ k ∷ []) ≡ behind n (listed m)
@@ -113,15 +159,18 @@ module _ (file : List ℕ) (v : Verdict) (v-is : verdict v ≡ fileCheck file) (
 module _ (file : List ℕ) (v : Verdict) (v-is : verdict v ≡ fileCheck file) where
   pub file-refused : (xs : List ℕ) {why : Refusal} → v ≡ Refused why
       → (refusal why ≡ answerOf file) × (xs ≡ wordsAfter file xs)
-  file-refused xs {why} e = let told : fileCheck file ≡ refusal why = sym v-is ∙ ap verdict e in
-      (rw told at (job-is-answer file), rw told at (job-is-words file xs))
+  unfolding answerOf wordsAfter
+  file-refused xs {why} e =
+      let told : fileCheck file ≡ refusal why = sym v-is ∙ ap verdict e in
+      (rw (read-steps file, told) refl, rw (read-steps file, told) refl)
 
-  -- w and wn are the arrays that it left; t, names and bytes are what the file holds in them
+  -- w and wn are the arrays that it left; t, names and bytes are what the file holds in them, and x its edition
   module _ (good : v ≡ Accepted) {h : Heading} (h-is : h ≡ headerAt file) {w wn t names bytes : List ℕ}
       (w-is : w ≡ handed (fileCheck file) (contentAt file .table) (replicate 50400 0))
       (wn-is : wn ≡ handed (fileCheck file) (contentAt file .names) (replicate 8064 0))
       (t-is : t ≡ take (24 * h .nodes) w) (names-is : names ≡ take (h .names) wn)
-      (bytes-is : bytes ≡ contentAt file .dialect) where
+      (bytes-is : bytes ≡ contentAt file .dialect) {stated : Stated} (stated-is : stated ≡ contentAt file .edition)
+      {x : EditionRead} (x-is : x ≡ editionHeld bytes (statedBytes stated)) where
     told : fileCheck file ≡ accepted []
     told = sym v-is ∙ ap verdict good
 
@@ -134,12 +183,35 @@ module _ (file : List ℕ) (v : Verdict) (v-is : verdict v ≡ fileCheck file) w
     nodes-so : length t / 24 ≡ h .nodes
     nodes-so = omega (arith, unpacked-nodes file v v-is good h-is, ap length t-so)
 
-    -- m is what the module job answers, a that with the number of nodes, and ys the words that it left
-    pub file-answer : {m a : Answer} → m ≡ moduleOf t names bytes → a ≡ behind (h .nodes) m → a ≡ answerOf file
-    file-answer m-is a-is = a-is ∙ rw (m-is, ← nodes-so, t-so, names-so, bytes-is) (rw told at (job-is-answer file))
+    edition-so : editionRead (contentAt file) ≡ x
+    edition-so = rw (x-is, bytes-is, stated-is) refl
 
-    pub file-words : (xs : List ℕ) {ys : List ℕ} → ys ≡ errorsAfter t names bytes xs → ys ≡ wordsAfter file xs
-    file-words xs ys-is = ys-is ∙ rw (t-so, names-so, bytes-is) (rw told at (job-is-words file xs))
+    -- a bad edition: why is what 1 to 4, then 5 say
+    module _ (bad : x ≡ Unknown) (why : Refusal)
+        (why-is : refusal why ≡ andThen (checkOf t names) (λ _. refused badDialect [])) where
+      unsound : soundCheck (contentAt file) ≡ refusal why
+      unsound =
+          let c : Content = contentAt file in
+          rw (edition-so, bad) (rules-unknown (c .table) (c .names) (c .dialect)
+          ∙ bad-edition (c .table) (c .names) (c .dialect)) ∙ sym (rw (t-so, names-so) at why-is)
+
+      pub bad-answer : refusal why ≡ answerOf file
+      unfolding answerOf
+      bad-answer = rw (read-steps file, told, unsound) refl
+
+      pub bad-words : (xs : List ℕ) → xs ≡ wordsAfter file xs
+      unfolding wordsAfter
+      bad-words xs = rw (read-steps file, told, unsound) refl
+
+    -- m is what the module job answers, a that with the number of nodes, and ys the words that it left
+    module _ {e : Edition} (held : x ≡ Known e) where
+      pub file-answer : {m a : Answer} → m ≡ moduleOf t names bytes → a ≡ behind (h .nodes) m → a ≡ answerOf file
+      file-answer m-is a-is = a-is ∙ rw (m-is, ← nodes-so, t-so, names-so, bytes-is)
+          (rw told at (job-is-answer file (edition-so ∙ held)))
+
+      pub file-words : (xs : List ℕ) {ys : List ℕ} → ys ≡ errorsAfter t names bytes xs → ys ≡ wordsAfter file xs
+      file-words xs ys-is =
+          ys-is ∙ rw (t-so, names-so, bytes-is) (rw told at (job-is-words file (edition-so ∙ held) xs))
 
 -- and to so many bytes of a buffer: p is their front
 pub read-so : (file xs : List ℕ) {p ys : List ℕ} {a : Answer} → p ≡ file → a ≡ answerOf p → ys ≡ wordsAfter p xs

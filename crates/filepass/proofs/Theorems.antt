@@ -1,5 +1,5 @@
 -- What users of a file's answer rely on: a refused file changes no word, an accepted one is listed with all errors,
--- and the sizes of `check_read` are enough for every file. Assumes nothing.
+-- whatever its edition (`edition-ignored`), and the sizes of `check_read` are enough for every file. Assumes nothing.
 use mathlib.Core.Path.{_≡_, refl}
 use mathlib.Core.List.{List, [], _∷_, _++_}
 use Prim.Native.Nat.{ℕ, _*_, _/_}
@@ -20,7 +20,7 @@ use Rattle.validate.proofs.Theorems.{list-holds-all}
 use Rattle.filepass.specs.Sizes.{enoughBytes, enoughWords}
 use Rattle.filepass.specs.Passing.{answerOf, wordsAfter}
 use Rattle.filepass.proofs.Enough.{read-enough}
-use Rattle.filepass.proofs.Listing.{held-few, held-listed}
+use Rattle.filepass.proofs.Listing.{held-few, held-listed, sound-given}
 
 -- THEOREM: a file that the reader refuses is answered with that refusal, and changes no word
 pub refused-keeps : (file xs : List ℕ) {n : ℕ} {vs : List ℕ} → readCheck file ≡ refused n vs
@@ -36,7 +36,7 @@ module _ (file : List ℕ) (good : readCheck file ≡ accepted []) where
   errors = errorsOf (c .table) (c .names) (c .dialect)
 
   sound : givenCheck (c .table) (c .names) (c .dialect) ≡ accepted []
-  sound = read-is-sound file good
+  sound = sound-given c (read-is-sound file good)
 
   nodes : length (c .table) / 24 ≡ headerAt file .nodes
   nodes = omega (arith, table-length file (read-fronted file good))
@@ -52,6 +52,15 @@ module _ (file : List ℕ) (good : readCheck file ≡ accepted []) where
   unfolding wordsAfter
   list-has-room xs long = rw good (list-holds-all (c .table) (c .names) (c .dialect) xs
       (omega (arith, held-few _ _ _ sound)))
+
+-- THEOREM: two accepted files that differ in their edition alone have the same listing
+pub edition-ignored : (file other xs : List ℕ) → readCheck file ≡ accepted [] → readCheck other ≡ accepted []
+    → contentAt file .table ≡ contentAt other .table → contentAt file .names ≡ contentAt other .names
+    → contentAt file .dialect ≡ contentAt other .dialect
+    → (answerOf file ≡ answerOf other) × (wordsAfter file xs ≡ wordsAfter other xs)
+unfolding answerOf wordsAfter
+edition-ignored file other xs good well table names dialect =
+    (rw (good, well, table, names, dialect) refl, rw (good, well, table, names, dialect) refl)
 
 -- THEOREM: where a buffer holds a file, or `enoughBytes` of it, `check_read` answers what is answered to the file
 pub read-is-whole : (file buffer xs : List ℕ) (len : ℕ) → take len buffer ≡ take enoughBytes file

@@ -16,8 +16,8 @@ use Rattle.blocks.specs.Block.{judge}
 use Rattle.blocks.specs.Run.{blocksFor, judgeRun}
 use Rattle.blocks.proofs.Parts.{judge-front, run-front, goods-front, content-front}
 use Rattle.tablefile.specs.File.{mostBlocks, fileOf}
-use Rattle.tablefile.specs.Reading.{headerAt, contentAt, countsFit, blocksCheck}
-use Rattle.tablefile.proofs.Fronts.{header-front, first-is, taken-is, dialect-few, counts-small}
+use Rattle.tablefile.specs.Reading.{headerAt, usedOf, statedIn, contentAt, countsFit, blocksCheck}
+use Rattle.tablefile.proofs.Fronts.{header-front, first-is, taken-is, dialect-few, edition-few, counts-small}
 use Rattle.writer.specs.Writing.{afterwards}
 use Rattle.rescue.specs.Good.{headGood, blocksPass, goodTable}
 use Rattle.rescue.specs.Job.{tableKept, kept, rescueOf, fileAfter, rescued}
@@ -63,8 +63,13 @@ module _ (bs : List ℕ) (n : ℕ) (big : 512 * mostBlocks ≤ n) where
   dialect-same = rw (header-same, drop-take 8 n bs)
       (take-take (headerAt bs .dialect) (n - 8) (drop 8 bs) (omega (arith, dialect-few bs)))
 
-  zero-same : judge 0 (4 + headerAt bs .dialect) (take n bs) ≡ judge 0 (4 + headerAt bs .dialect) bs
-  zero-same = judge-front 0 (4 + headerAt bs .dialect) n bs (omega arith)
+  edition-same : contentAt (take n bs) .edition ≡ contentAt bs .edition
+  unfolding contentAt
+  edition-same = rw (header-same, drop-take 17 n bs) (ap statedIn
+      (take-take (headerAt bs .edition) (n - 17) (drop 17 bs) (omega (arith, edition-few bs))))
+
+  zero-same : judge 0 (usedOf (headerAt bs)) (take n bs) ≡ judge 0 (usedOf (headerAt bs)) bs
+  zero-same = judge-front 0 (usedOf (headerAt bs)) n bs (omega arith)
 
   -- where the counts fit, the blocks are among them
   module _ (fit : countsFit (headerAt bs .nodes) (headerAt bs .names) ≡ true) where
@@ -106,18 +111,27 @@ module _ (bs : List ℕ) (n : ℕ) (big : 512 * mostBlocks ≤ n) where
 
     blocks-same : blocksPass (take n bs) ≡ blocksPass bs
     unfolding blocksPass blocksCheck
-    blocks-same = rw (table-same, names-same, dialect-same, header-same, zero-same, names-run, nodes-run) refl
+    blocks-same = rw (
+      table-same,
+      names-same,
+      dialect-same,
+      edition-same,
+      header-same,
+      zero-same,
+      names-run,
+      nodes-run,
+    ) refl
 
     head-same : headGood (take n bs) ≡ headGood bs
     unfolding headGood
-    head-same = rw (dialect-same, header-same, zero-same, names-run) refl
+    head-same = rw (dialect-same, edition-same, header-same, zero-same, names-run) refl
 
     table-kept : tableKept (take n bs) ≡ tableKept bs
     unfolding tableKept
     table-kept = rw (blocks-same, table-same, good-same, names-same) refl
 
     kept-same : kept (take n bs) ≡ kept bs
-    kept-same = rw (table-kept, names-same, dialect-same) refl
+    kept-same = rw (table-kept, names-same, dialect-same, edition-same) refl
 
     answer-fit : (room : ℕ) → later (length bs - n) (rescueOf (take n bs) room) ≡ rescueOf bs room
     answer-fit room =
@@ -131,11 +145,11 @@ module _ (bs : List ℕ) (n : ℕ) (big : 512 * mostBlocks ≤ n) where
   module _ (unfit : countsFit (headerAt bs .nodes) (headerAt bs .names) ≡ false) where
     head-first : headGood (take n bs) ≡ false
     unfolding headGood
-    head-first = rw (header-same, unfit) (and-false (passes (judge 0 (4 + headerAt bs .dialect) (take n bs))))
+    head-first = rw (header-same, unfit) (and-false (passes (judge 0 (usedOf (headerAt bs)) (take n bs))))
 
     head-whole : headGood bs ≡ false
     unfolding headGood
-    head-whole = rw unfit (and-false (passes (judge 0 (4 + headerAt bs .dialect) bs)))
+    head-whole = rw unfit (and-false (passes (judge 0 (usedOf (headerAt bs)) bs)))
 
     answer-unfit : (room : ℕ) → later (length bs - n) (rescueOf (take n bs) room) ≡ rescueOf bs room
     answer-unfit room = rw (bad-head (take n bs) room head-first) (sym (bad-head bs room head-whole))

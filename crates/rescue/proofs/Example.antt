@@ -16,7 +16,7 @@ use Rattle.blocks.specs.Block.{judge}
 use Rattle.blocks.specs.Run.{blocksFor, blocksOf, runOf, judgeBlocks, judgeRun, goodBlocks}
 use Rattle.blocks.specs.Run.{contents, contentIn, contentOf}
 use Rattle.tablefile.specs.File.{Content, headerOf, fileOf}
-use Rattle.tablefile.specs.Reading.{dialectIn, headerAt, contentAt, countsFit, blocksCheck, readCheck}
+use Rattle.tablefile.specs.Reading.{dialectIn, editionIn, headerAt, contentAt, countsFit, blocksCheck, readCheck}
 use Rattle.forest.specs.Forest.{sizeOf, kidsOf, restOf, forestIn, forest, roots}
 use Rattle.forest.specs.Forest.{firsts, count, countTree}
 use Rattle.forest.specs.Names.{same}
@@ -25,12 +25,14 @@ use Rattle.soundness.specs.Files.{fileSound, endsBy, topOf, filesOf}
 use Rattle.soundness.specs.Sound.{nameSound, spanSound, sourceSound, fieldsSound, wholeTrees, classes}
 use Rattle.soundness.specs.Sound.{permitted, wanted, permits, kidsSound, soundNode, soundAt}
 use Rattle.soundness.specs.Sound.{rootSound, contextOf, recordSound, firstFalse, firstUnsound}
-use Rattle.table.specs.Check.{lengthSound, checkOf, givenOf}
+use Rattle.table.specs.Check.{lengthSound, checkOf, givenOf, rulesOf}
 use Rattle.table.specs.Depth.{classWeight, weight, firstDeep, deepIn}
 use Rattle.rescue.specs.Good.{headGood, blocksPass, goodTable}
 use Rattle.rescue.specs.Cut.{resized, cutTo, largest, childrenKept, largestCut}
 use Rattle.rescue.specs.Job.{tableKept, statementsOf, rescueOf}
 use Rattle.dialect.specs.Bytes.{within, validBytes, fromBytes}
+use Rattle.dialect.specs.Editions.{editionHeld}
+use Rattle.dialect.specs.declared.Stated.the-variants.{Nothing}
 
 -- the 24 bytes of a record without a name: kind, detail, size, source file
 abbrev recordOf : ℕ → ℕ → ℕ → ℕ → List ℕ
@@ -38,7 +40,7 @@ recordOf kind detail size file = kind ∷ detail ∷ (replicate 14 0 ++ (size �
 
 -- a file of one block of records, with no name and no dialect
 abbrev pub holding : List ℕ → Content
-holding t = record { table = t; names = []; dialect = [] }
+holding t = record { table = t; names = []; dialect = []; edition = Nothing }
 
 abbrev pub content : Content
 content = holding (recordOf kindStatements 0 3 0 ++ (recordOf kindBreak 0 1 1 ++ recordOf kindBreak 1 1 1))
@@ -56,7 +58,7 @@ oldFile = holding (recordOf kindStatements 0 2 0 ++ recordOf kindBreak 0 1 0)
 -- the reader refuses its blocks with 3
 pub does-not-pass : blocksPass (fileOf content) ≡ false
 unfolding field bytesOf weighed sumOf beforeSum blockOf zeros examine judge blocksFor blocksOf runOf judgeBlocks
-    judgeRun goodBlocks contents contentIn contentOf headerOf fileOf dialectIn headerAt contentAt countsFit blocksCheck
+    judgeRun goodBlocks contents contentIn contentOf headerOf fileOf dialectIn editionIn editionHeld rulesOf headerAt contentAt countsFit blocksCheck
     readCheck sizeOf kidsOf restOf forestIn forest roots firsts count countTree same kindIn kindOf nameSound spanSound
     sourceSound fieldsSound wholeTrees classes permitted wanted permits kidsSound soundNode soundAt rootSound fileSound
     endsBy topOf filesOf contextOf recordSound firstFalse firstUnsound lengthSound checkOf givenOf classWeight weight
@@ -67,7 +69,7 @@ does-not-pass = refl
 -- what is printed: 1,024 bytes, one statement and two nodes kept, one node dropped, no byte behind
 pub is-rescued : rescueOf (fileOf content) 1024 ≡ accepted (1024 ∷ 1 ∷ 2 ∷ 1 ∷ 0 ∷ [])
 unfolding field bytesOf weighed sumOf beforeSum blockOf zeros examine judge blocksFor blocksOf runOf judgeBlocks
-    judgeRun goodBlocks contents contentIn contentOf headerOf fileOf dialectIn headerAt contentAt countsFit blocksCheck
+    judgeRun goodBlocks contents contentIn contentOf headerOf fileOf dialectIn editionIn editionHeld rulesOf headerAt contentAt countsFit blocksCheck
     readCheck sizeOf kidsOf restOf forestIn forest roots firsts count countTree same kindIn kindOf nameSound spanSound
     sourceSound fieldsSound wholeTrees classes permitted wanted permits kidsSound soundNode soundAt rootSound fileSound
     endsBy topOf filesOf contextOf recordSound firstFalse firstUnsound lengthSound checkOf givenOf classWeight weight
@@ -79,7 +81,7 @@ is-rescued = refl
 pub numbers-rescued : map (λ (c : Content). rescueOf (fileOf c) 1024) (wrongChild ∷ wrongRoot ∷ oldFile ∷ [])
     ≡ accepted (1024 ∷ 1 ∷ 2 ∷ 1 ∷ 0 ∷ []) ∷ refused nothingKept [] ∷ refused nothingKept [] ∷ []
 unfolding field bytesOf weighed sumOf beforeSum blockOf zeros examine judge blocksFor blocksOf runOf judgeBlocks
-    judgeRun goodBlocks contents contentIn contentOf headerOf fileOf dialectIn headerAt contentAt countsFit blocksCheck
+    judgeRun goodBlocks contents contentIn contentOf headerOf fileOf dialectIn editionIn editionHeld rulesOf headerAt contentAt countsFit blocksCheck
     readCheck sizeOf kidsOf restOf forestIn forest roots firsts count countTree same kindIn kindOf nameSound spanSound
     sourceSound fieldsSound wholeTrees classes permitted wanted permits kidsSound soundNode soundAt rootSound fileSound
     endsBy topOf filesOf contextOf recordSound firstFalse firstUnsound lengthSound checkOf givenOf classWeight weight

@@ -10,6 +10,7 @@ use native.Mathlib.Omega.{arith}
 use lib.ListN.{length, take, drop, length-take, length-drop}
 use lib.Seq.{take-at}
 use lib.Dec.{leb}
+use Rattle.dialect.specs.declared.Stated.{Stated}
 use Rattle.fields.proofs.Fields.{tail-part}
 use Rattle.fields.specs.Over.{over}
 use Rattle.fields.proofs.Over.{over-front}
@@ -24,15 +25,15 @@ use Rattle.tablefile.specs.Lending.{copied}
 use Rattle.tablefile.proofs.Copies.{copied-is}
 use Rattle.tablefile.specs.Reading.{headerAt, contentAt}
 use Rattle.tablefile.specs.declared.Heading.{Heading}
-use Rattle.tablefile.proofs.Fronts.{dialect-few, first-is, taken-is, table-length}
+use Rattle.tablefile.proofs.Fronts.{first-is, taken-is, table-length}
 use Rattle.writer.specs.Writing.{holding, bytesFor, laidOver}
 use Rattle.writer.proofs.Building.{length-file}
-use Rattle.writer.proofs.Jobs.{Fitting, laid-over}
+use Rattle.writer.proofs.Jobs.{Few, sound-few, Fitting, laid-over}
 use Rattle.rescue.specs.Good.{headGood, blocksPass, goodTable}
 use Rattle.rescue.specs.Job.{tableKept, kept, statementsOf, toldOf, rescueOf, fileAfter, told}
 use Rattle.rescue.specs.Steps.{keptIf, goodBytes, Front, Records, Ready, Goods, Keeping}
 use Rattle.rescue.specs.declared.Kept.{Kept}
-use Rattle.rescue.proofs.Keeping.{head-says, names-long, first-there, kept-some, kept-few, goods}
+use Rattle.rescue.proofs.Keeping.{head-says, names-long, first-there, kept-some, kept-few, kept-sound, goods}
 use Rattle.rescue.proofs.Keeping.{whole-is, kept-is, whole-kept, whole-fronted, whole-there, whole-file}
 use Rattle.rescue.proofs.Keeping.{good-content, good-length, good-whole}
 use Rattle.rescue.proofs.Theorems.{said, bad-head, kept-nothing, short-room}
@@ -122,9 +123,8 @@ module _ {bs : List ℕ} {h : Heading} {names t : List ℕ} {whole : Bool} (k : 
     unfolding fileAfter
     fin-file file enough after-is = after-is ∙ rw (answer (length file) enough) refl
 
-  fin-nine : {ds : List ℕ} → ds ≡ contentAt bs .dialect → length ds ≤ 9
-  unfolding contentAt
-  fin-nine ds-is = rw ds-is (simp length-take (omega (arith, dialect-few bs)))
+  fin-kept : Few (kept bs)
+  fin-kept = sound-few (kept bs) (kept-sound bs (k .ready .head) some)
 
   -- the file, written or copied
   pub lay-there : whole ≡ true → h .taken ≤ length bs
@@ -143,8 +143,7 @@ module _ {bs : List ℕ} {h : Heading} {names t : List ℕ} {whole : Bool} (k : 
     lay-room e = omega (arith, taken e)
 
     file-long : length (fileOf (kept bs)) ≡ bytesFor (length t) (length names)
-    file-long = length-file (tableKept bs) (contentAt bs .names) (contentAt bs .dialect) (fin-nine refl)
-        ∙ rw (k .table, k .ready .called) refl
+    file-long = length-file (kept bs) (fin-kept .dialect) ∙ rw (k .table, k .ready .called) refl
 
     pub lay-whole : whole ≡ true → Bytes bs → {after : List ℕ}
         → after ≡ take (h .taken) bs ++ drop (h .taken) file → after ≡ over 0 (fileOf (kept bs)) file
@@ -154,16 +153,19 @@ module _ {bs : List ℕ} {h : Heading} {names t : List ℕ} {whole : Bool} (k : 
         let long : length (fileOf (kept bs)) ≡ h .taken = file-long ∙ sym (taken e) in
         laid ∙ sym (over-front (fileOf (kept bs)) file ∙ rw (long, same) refl)
 
-    pub lay-cut : {ds after : List ℕ} → ds ≡ contentAt bs .dialect → after ≡ laidOver (holding t names ds) file
+    pub lay-cut : {ds : List ℕ} → ds ≡ contentAt bs .dialect → {edition : Stated} → edition ≡ contentAt bs .edition
+        → {after : List ℕ} → after ≡ laidOver (holding t names ds edition) file
         → after ≡ over 0 (fileOf (kept bs)) file
-    lay-cut {ds} ds-is after-is =
-        let fit : Fitting (length t) (length names) (length ds) (length file) = record {
+    lay-cut {ds} ds-is {edition} edition-is after-is =
+        let fit : Fitting (length t) (length names) (length ds) edition (length file) = record {
           few = omega (arith, fin-few, fin-nodes);
           named = fin-names;
-          nine = fin-nine ds-is;
+          nine = rw ds-is (fin-kept .dialect);
+          byte = rw edition-is (fin-kept .edition);
           there = room;
         } in
-        after-is ∙ laid-over t names ds file fit ∙ rw (k .table, k .ready .called, ds-is) refl
+        after-is ∙ laid-over (holding t names ds edition) file fit
+        ∙ rw (k .table, k .ready .called, ds-is, edition-is) refl
 
 -- a file whose header is good
 module _ {bs : List ℕ} {h : Heading} {names : List ℕ} (r : Ready bs h names) where

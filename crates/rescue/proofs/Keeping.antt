@@ -19,6 +19,9 @@ use Rattle.dialect.specs.Bytes.{fromBytes}
 use Rattle.dialect.specs.declared.Dialect.{Dialect}
 use Rattle.dialect.specs.declared.Decoded.{Decoded}
 use Rattle.dialect.specs.declared.Decoded.the-variants.{Valid, Invalid}
+use Rattle.dialect.specs.declared.Edition.{Edition}
+use Rattle.dialect.specs.declared.EditionRead.{EditionRead}
+use Rattle.dialect.specs.declared.EditionRead.the-variants.{Known, Unknown}
 use Rattle.forest.specs.Forest.{nodeOf, firsts, count}
 use Rattle.forest.proofs.Stretch.{record-or-none}
 use Rattle.soundness.specs.KindNumbers.{kindStatements}
@@ -26,7 +29,8 @@ use Rattle.table.specs.Answer.{Answer, accepted, refused, passes, andThen}
 use Rattle.table.specs.Check.{checkOf, handing, givenOf, inGiven}
 use Rattle.table.proofs.Answers.{passes-is, passed-both}
 use Rattle.table.proofs.Checking.{accepted-clean}
-use Rattle.table.proofs.Entering.{given-known, given-passed}
+use Rattle.table.proofs.Entering.{given-known}
+use Rattle.table.proofs.Ruling.{rules-known, rules-passed, rules-given}
 use Rattle.table.proofs.Theorems.{clean-accepted}
 use Rattle.blocks.specs.Block.{judge}
 use Rattle.blocks.specs.Run.{blocksFor, judgeRun, goodBlocks, contentOf}
@@ -34,11 +38,12 @@ use Rattle.blocks.proofs.Runs.{run-then, run-long, content-long}
 use Rattle.blocks.proofs.Goods.{held, held-content, held-length, good-there, good-all, all-good, block-long}
 use Rattle.blocks.proofs.Parts.{bytes-content}
 use Rattle.tablefile.specs.File.{Content, fileOf}
-use Rattle.tablefile.specs.Reading.{headerAt, contentAt, countsFit, blocksCheck, frontCheck, soundCheck, readCheck}
+use Rattle.tablefile.specs.Reading.{headerAt, usedOf, contentAt, countsFit, editionRead, blocksCheck, frontCheck}
+use Rattle.tablefile.specs.Reading.{soundCheck, readCheck}
 use Rattle.tablefile.proofs.Fronts.{Fronted, fronted-then, counts-small, first-is, taken-is, table-length}
 use Rattle.tablefile.proofs.Files.{front-is-file}
 use Rattle.tablefile.proofs.Accepted.{SoundContent, back-accepted, back-holds}
-use Rattle.rescue.specs.Good.{isDialect, headGood, blocksPass, goodTable}
+use Rattle.rescue.specs.Good.{isDialect, isEdition, headGood, blocksPass, goodTable}
 use Rattle.rescue.specs.Cut.{children, resized, cutTo, childrenKept, largestCut}
 use Rattle.rescue.specs.Job.{tableKept, kept}
 use Rattle.rescue.specs.Steps.{keptIf}
@@ -50,28 +55,36 @@ pub record Head (bs : List ℕ) : Type 0 where
   pub fit : countsFit (headerAt bs .nodes) (headerAt bs .names) ≡ true
   pub counts : (1 ≤ headerAt bs .nodes) × (headerAt bs .nodes ≤ 2100) × (headerAt bs .names ≤ 8064)
   pub dialect : (d : Dialect) × (fromBytes (contentAt bs .dialect) ≡ Valid d)
-  pub block : passes (judge 0 (4 + headerAt bs .dialect) bs) ≡ true
+  pub edition : (e : Edition) × (editionRead (contentAt bs) ≡ Known e)
+  pub block : passes (judge 0 (usedOf (headerAt bs)) bs) ≡ true
   pub names : passes (judgeRun 1 (headerAt bs .names) (drop 512 bs)) ≡ true
 
 pub head-says : (bs : List ℕ) → headGood bs ≡ true → Head bs
 unfolding headGood
 head-says bs e =
-    let block : Bool = passes (judge 0 (4 + headerAt bs .dialect) bs) in
+    let block : Bool = passes (judge 0 (usedOf (headerAt bs)) bs) in
     let fit : Bool = countsFit (headerAt bs .nodes) (headerAt bs .names) in
     let valid : Bool = isDialect (fromBytes (contentAt bs .dialect)) in
+    let held : Bool = isEdition (editionRead (contentAt bs)) in
     let two = and-right block _ e in
     let three = and-right fit _ two in
+    let four = and-right valid _ three in
     record {
       fit = and-left fit _ two;
       counts = counts-small (headerAt bs .nodes) (headerAt bs .names) (and-left fit _ two);
       dialect = go (fromBytes (contentAt bs .dialect)) (and-left valid _ three);
       block = and-left block _ e;
-      names = and-right valid _ three;
+      edition = known (editionRead (contentAt bs)) (and-left held _ four);
+      names = and-right held _ four;
     }
   where
     go : (x : Decoded) → isDialect x ≡ true → (d : Dialect) × (x ≡ Valid d)
     go (Valid d) e = (d, refl)
     go Invalid e = clash e refl
+
+    known : (x : EditionRead) → isEdition x ≡ true → (e : Edition) × (x ≡ Known e)
+    known (Known e) h = (e, refl)
+    known Unknown h = clash h refl
 
 -- the names of a good header are there
 module _ (bs : List ℕ) (head : headGood bs ≡ true) where
@@ -87,7 +100,7 @@ module _ (bs : List ℕ) (head : headGood bs ≡ true) where
 
   pub first-there : 512 * headerAt bs .first ≤ length bs
   first-there =
-      let block = block-long 0 (4 + headerAt bs .dialect) bs (head-says bs head .block) in
+      let block = block-long 0 (usedOf (headerAt bs)) bs (head-says bs head .block) in
       omega (arith, run-long 1 (headerAt bs .names) (drop 512 bs) names-run, length-drop 512 bs, first-is bs)
 
 -- the blocks pass: what they hold does, and it is what is kept
@@ -107,10 +120,10 @@ module _ (bs : List ℕ) (w : blocksPass bs ≡ true) where
 
   pub whole-checked : checkOf (contentAt bs .table) (contentAt bs .names) ≡ accepted []
   whole-checked =
-      let given = given-passed (contentAt bs .table) (contentAt bs .names) (contentAt bs .dialect)
-      (whole-both .sound) in
-      clean-accepted (contentAt bs .table) (contentAt bs .names)
-      (given-known (contentAt bs .table) (contentAt bs .names) (contentAt bs .dialect) (given .1) .0)
+      let c : Content = contentAt bs in
+      let (d, e, rules) = rules-passed (c .table) (c .names) (c .dialect) (editionRead c) (whole-both .sound) in
+      let known = rules-known (c .table) (c .names) (c .dialect) rules in
+      clean-accepted (c .table) (c .names) (given-known (c .table) (c .names) (c .dialect) (known .0) .0)
 
   pub whole-fronted : Fronted bs
   whole-fronted = fronted-then bs (λ _. accepted []) (rw (whole-both .front) refl) .0
@@ -198,11 +211,15 @@ module _ (bs : List ℕ) (head : headGood bs ≡ true) where
   unfolding blocksCheck
   front-is =
       let says = head-says bs head in
-      rw (passes-is (judge 0 (4 + headerAt bs .dialect) bs) (says .block) .1, says .fit, names-run bs head) refl
+      rw (passes-is (judge 0 (usedOf (headerAt bs)) bs) (says .block) .1, says .fit, names-run bs head) refl
 
   sound-is : passes (soundCheck (contentAt bs)) ≡ passes (checkOf (contentAt bs .table) (contentAt bs .names))
   unfolding givenOf
-  sound-is = rw (head-says bs head .dialect .1) (go (checkOf (contentAt bs .table) (contentAt bs .names)))
+  sound-is =
+      let edition = head-says bs head .edition in
+      ap passes (rw (edition .1) (rules-given (contentAt bs .table) (contentAt bs .names) (contentAt bs .dialect)
+      (edition .0)))
+      ∙ rw (head-says bs head .dialect .1) (go (checkOf (contentAt bs .table) (contentAt bs .names)))
     where
       go : (a : Answer) → passes (inGiven (handing a (Valid (head-says bs head .dialect .0))) (λ _. accepted []))
           ≡ passes a
@@ -287,7 +304,10 @@ module _ (bs : List ℕ) (head : headGood bs ≡ true) (some : 1 ≤ length (tab
 
   pub kept-sound : soundCheck (kept bs) ≡ accepted []
   unfolding givenOf
-  kept-sound = rw (kept-checked, head-says bs head .dialect .1) refl
+  kept-sound =
+      let edition = head-says bs head .edition in
+      rw (edition .1) (rules-given (tableKept bs) (contentAt bs .names) (contentAt bs .dialect) (edition .0)
+      ∙ rw (kept-checked, head-says bs head .dialect .1) refl)
 
   module _ (small : Bytes bs) where
     table-small : Bytes (contentAt bs .table)

@@ -13,6 +13,11 @@ use Rattle.dialect.specs.Bytes.{fromBytes}
 use Rattle.dialect.specs.declared.Dialect.{Dialect}
 use Rattle.dialect.specs.declared.Decoded.{Decoded}
 use Rattle.dialect.specs.declared.Decoded.the-variants.{Valid, Invalid}
+use Rattle.dialect.specs.Editions.{statedBytes, editionHeld}
+use Rattle.dialect.specs.declared.Edition.{Edition}
+use Rattle.dialect.specs.declared.EditionRead.{EditionRead}
+use Rattle.dialect.specs.declared.EditionRead.the-variants.{Known, Unknown}
+use Rattle.dialect.specs.declared.Stated.{Stated}
 use Rattle.forest.specs.Forest.{nodeOf, spanOf, node, Forest, none, _then_, forest, roots}
 use Rattle.forest.specs.declared.Found.{Found}
 use Rattle.forest.specs.declared.Found.the-variants.{At, Nothing}
@@ -32,9 +37,8 @@ use Rattle.blocks.specs.declared.Judged.{Judged}
 use Rattle.blocks.specs.declared.Judged.the-variants as judgements
 use Rattle.blocks.proofs.Blocks.{passing}
 use Rattle.blocks.proofs.Runs.{blocks-more}
-use Rattle.tablefile.specs.Reading.{headerAt, contentAt, countsFit}
+use Rattle.tablefile.specs.Reading.{headerAt, usedOf, contentAt, countsFit, editionRead}
 use Rattle.tablefile.specs.declared.Heading.{Heading}
-use Rattle.tablefile.proofs.Fronts.{dialect-few}
 use Rattle.rescue.specs.Good.{headGood}
 use Rattle.rescue.specs.Job.{statementsOf}
 use Rattle.rescue.specs.Steps.{keepableAt, goodBytes}
@@ -162,18 +166,15 @@ module _ {bs : List ℕ} {first total : ℕ} {left : List ℕ} {number done : �
           }
 
 -- the header, step by step; h is what block 0 says
-pub head-nine : (bs : List ℕ) {h : Heading} → h ≡ headerAt bs → h .dialect ≤ 9
-head-nine bs h-is = rw h-is (dialect-few bs)
-
 module _ (bs : List ℕ) (h : Heading) (h-is : h ≡ headerAt bs) (z : Judged)
-    (z-is : judged z ≡ judge 0 (4 + h .dialect) bs) where
+    (z-is : judged z ≡ judge 0 (usedOf h) bs) where
   pub head-zero : {n : ℕ} → z ≡ judgements.Refused n → false ≡ headGood bs
   unfolding headGood
   head-zero e = rw (← h-is, ← z-is, e) refl
 
   module _ (z-good : z ≡ judgements.Passed) where
     pub head-long : 512 ≤ length bs
-    head-long = passing 0 (4 + h .dialect) bs (sym (rw z-good at z-is)) .long
+    head-long = passing 0 (usedOf h) bs (sym (rw z-good at z-is)) .long
 
     module _ {f : Bool} (f-is : f ≡ countsFit (h .nodes) (h .names)) where
       pub head-counts : f ≡ false → false ≡ headGood bs
@@ -186,16 +187,29 @@ module _ (bs : List ℕ) (h : Heading) (h-is : h ≡ headerAt bs) (z : Judged)
         unfolding headGood
         head-dialect e = rw (← ds-is, ← x-is, e, ← h-is, ← z-is, z-good, ← f-is, f-yes) refl
 
-        module _ {d : Dialect} (x-good : x ≡ Valid d) (n : Judged)
-            (n-is : judged n ≡ judgeRun 1 (h .names) (take (length bs - 512) (drop 512 bs))) where
-          head-run : headGood bs ≡ passes (judged n)
+        -- y is what `edition_held` read
+        module _ {d : Dialect} (x-good : x ≡ Valid d) {s : Stated} (s-is : s ≡ contentAt bs .edition) {y : EditionRead}
+            (y-is : y ≡ editionHeld ds (statedBytes s)) where
+          edition-so : editionRead (contentAt bs) ≡ y
+          edition-so = rw (y-is, ds-is, s-is) refl
+
+          dialect-so : fromBytes (contentAt bs .dialect) ≡ Valid d
+          dialect-so = rw (← ds-is, ← x-is) x-good
+
+          pub head-edition : y ≡ Unknown → false ≡ headGood bs
           unfolding headGood
-          head-run =
-              let run : judgeRun 1 (h .names) (drop 512 bs) ≡ judged n = sym (rw (tail-part 512 bs) at n-is) in
-              rw (← ds-is, ← x-is, x-good, ← h-is, ← z-is, z-good, ← f-is, f-yes, run) refl
+          head-edition e = rw (dialect-so, edition-so, e, ← h-is, ← z-is, z-good, ← f-is, f-yes) refl
 
-          pub head-names : {m : ℕ} → n ≡ judgements.Refused m → false ≡ headGood bs
-          head-names e = sym (head-run ∙ rw e refl)
+          module _ {e : Edition} (y-good : y ≡ Known e) (n : Judged)
+              (n-is : judged n ≡ judgeRun 1 (h .names) (take (length bs - 512) (drop 512 bs))) where
+            head-run : headGood bs ≡ passes (judged n)
+            unfolding headGood
+            head-run =
+                let run : judgeRun 1 (h .names) (drop 512 bs) ≡ judged n = sym (rw (tail-part 512 bs) at n-is) in
+                rw (dialect-so, edition-so, y-good, ← h-is, ← z-is, z-good, ← f-is, f-yes, run) refl
 
-          pub head-passed : n ≡ judgements.Passed → true ≡ headGood bs
-          head-passed e = sym (head-run ∙ rw e refl)
+            pub head-names : {m : ℕ} → n ≡ judgements.Refused m → false ≡ headGood bs
+            head-names e = sym (head-run ∙ rw e refl)
+
+            pub head-passed : n ≡ judgements.Passed → true ≡ headGood bs
+            head-passed e = sym (head-run ∙ rw e refl)

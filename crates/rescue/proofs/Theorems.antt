@@ -23,15 +23,15 @@ use Rattle.table.specs.Answer.{Answer, accepted, refused, passes, andThen, refu
 use Rattle.table.specs.declared.Refusal.the-variants.{Bare}
 use Rattle.table.proofs.Answers.{passed-both, never-passed}
 use Rattle.table.proofs.Checking.{accepted-clean}
-use Rattle.table.proofs.Entering.{given-known, given-passed}
 use Rattle.blocks.specs.Block.{demand, judge}
 use Rattle.blocks.proofs.Blocks.{passes as passed-block}
 use Rattle.tablefile.specs.File.{Content, fileOf}
-use Rattle.tablefile.specs.Reading.{headerAt, contentAt, countsFit, frontCheck, soundCheck, readCheck}
+use Rattle.tablefile.specs.Reading.{headerAt, usedOf, contentAt, countsFit, frontCheck, soundCheck, readCheck}
 use Rattle.tablefile.specs.Loading.{loadedOf}
 use Rattle.tablefile.specs.declared.Verdict.the-variants as verdicts
 use Rattle.tablefile.proofs.Fronts.{Fronted, first-is, taken-is, dialect-few, table-length}
-use Rattle.tablefile.proofs.Accepted.{read-fronted, read-whole, read-is-sound, SoundContent, back-accepted, back-holds}
+use Rattle.tablefile.proofs.Accepted.{read-fronted, read-whole, read-is-sound, sound-known, SoundContent}
+use Rattle.tablefile.proofs.Accepted.{back-accepted, back-holds}
 use Rattle.tablefile.proofs.Theorems.{Read, file-read-back}
 use Rattle.writer.specs.Writing.{bytesFor}
 use Rattle.writer.proofs.Building.{length-file}
@@ -240,7 +240,7 @@ module _ (bs buffer : List ℕ) (r : Rescued) (after : List ℕ) (p : Rescue bs 
 
   pub bytes-told : k .bytes ≡ length (fileOf (kept bs))
   bytes-told = ap (λ (vs : List ℕ). getD vs 0 0) (all-says .told)
-      ∙ sym (length-file (tableKept bs) (contentAt bs .names) (contentAt bs .dialect) nine
+      ∙ sym (length-file (kept bs) nine
       ∙ rw (names-long bs (all-says .head)) refl)
 
   rescued-is : after ≡ fileOf (kept bs) ++ drop (k .bytes) buffer
@@ -322,13 +322,12 @@ module _ (file : List ℕ) (e : readCheck file ≡ accepted []) where
   pub read-head : headGood file ≡ true
   unfolding headGood
   read-head =
-      let given = given-passed (contentAt file .table) (contentAt file .names) (contentAt file .dialect)
-      (read-is-sound file e) in
-      let known = given-known (contentAt file .table) (contentAt file .names) (contentAt file .dialect) (given .1) in
+      let known = sound-known (contentAt file) (read-is-sound file e) in
       rw (
-        passed-block 0 (4 + headerAt file .dialect) file (fronted .header),
+        passed-block 0 (usedOf (headerAt file)) file (fronted .header),
         counts-fit,
-        known .1,
+        known .decoded,
+        known .held,
         fronted .names,
       ) refl
 

@@ -129,10 +129,17 @@ module _ (t names ds : List ℕ) (edition : Stated) (file : List ℕ) {a : Answe
     says : Says (holding t names ds edition) (length file)
     says = passed-says (holding t names ds edition) (length file) (rw (← a-is) (sym q-is ∙ no))
 
-    pub write-ready : (length ds ≤ 9) × (isByte edition ≡ true)
-        × (1 + blocksFor (length names) + blocksFor (length t) ≤ mostBlocks)
-        × (bytesFor (length t) (length names) ≤ length file)
-    write-ready = (says .few .dialect, says .few .edition, says .few .blocks, says .fits)
+    pub write-nine : length ds ≤ 9
+    write-nine = says .few .dialect
+
+    pub write-byte : isByte edition ≡ true
+    write-byte = says .few .edition
+
+    pub write-few : 1 + blocksFor (length names) + blocksFor (length t) ≤ mostBlocks
+    write-few = says .few .blocks
+
+    pub write-room : bytesFor (length t) (length names) ≤ length file
+    write-room = says .fits
 
     pub write-done : {after : List ℕ} → after ≡ over 0 (fileOf (holding t names ds edition)) file
         → after ≡ fileAfter (holding t names ds edition) file

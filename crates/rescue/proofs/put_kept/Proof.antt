@@ -20,5 +20,6 @@ put-kept-spec =
     (c .before .before .put .ensures))  -- returns
     (λ c κs. search needs)
     (λ c κs. search needs)
+    (λ c κs. search needs)
     (λ c. search needs)
     (λ c. search lay-cut))  -- returns-2
