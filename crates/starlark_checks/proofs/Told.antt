@@ -104,8 +104,7 @@ edition-laid e xs w-is n-is = rw (w-is, n-is) refl
 pub held-laid : (file : List ℕ) (xs : List ℕ) {ys zs : List ℕ} {e : Stated} → ys ≡ laid (frontValues file) 0 xs
     → e ≡ contentAt file .edition → zs ≡ laid (editionValues e) 6 ys
     → (0 ≡ number (accepted (heldValues file))) × (zs ≡ laid (words (accepted (heldValues file))) 0 xs)
-held-laid file xs ys-is e-is zs-is =
-    (refl, zs-is ∙ ap (λ (s : Stated). laid (editionValues s) 6 _) e-is ∙ ap (laid (editionValues _) 6) ys-is)
+held-laid file xs ys-is e-is zs-is = (refl, zs-is ∙ rw (e-is, ys-is) refl)
 
 -- LAW: a refusal with a span has five words
 module _ (r : Refusal) {n k : ℕ} {s : Span} {p : Place} (h : r ≡ Spanned n k s p) where

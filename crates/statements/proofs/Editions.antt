@@ -24,6 +24,8 @@ use Rattle.shapes.proofs.Editions as theorem-shapes
 use Rattle.audit.specs.Job.{auditErrors, allErrors, auditOf, auditAfter}
 use Rattle.audit.proofs.Editions as theorem-audit
 use Rattle.audited.specs.Checked.{Each}
+use Rattle.examples.specs.Editions.{typedPath, typeName}
+use Rattle.examples.proofs.Editions as theorem-example
 
 -- "an edition other than 1 or 2 is 5": which numbers are editions
 -- In words: 1 is the first edition, 2 the second, and no other number is one.
@@ -104,3 +106,23 @@ pub same-pass : (d : Dialect) (names t : List ℕ)
     → Each (λ (e : Err). e .number ≡ dotTypeBan → ⊥) (auditErrors d One names t)
     → auditErrors d Two names t ≡ auditErrors d One names t
 same-pass d names t free = theorem-audit.audit-same d names t (no-bans _ free)
+
+-- an instance: `t: t.type = 1`, whose type is node 2
+-- In words: by edition 1 the type job answers 44 at node 3, the `t` before the dot, from 3 to 4 in source file 1.
+pub first-bans : typeShapeOf typedPath typeName [] 1 2 2 ≡ refused dotTypeBan (3 ∷ 3 ∷ 4 ∷ 1 ∷ [])
+first-bans = theorem-example.first-bans
+
+-- the same instance by edition 2
+-- In words: by edition 2 the type job accepts it.
+pub second-reads : typeShapeOf typedPath typeName [] 2 2 2 ≡ accepted []
+second-reads = theorem-example.second-reads
+
+-- the same instance by 0
+-- In words: 0 is no edition, and the answer is 5.
+pub zero-is-none : typeShapeOf typedPath typeName [] 0 2 2 ≡ refused badDialect []
+zero-is-none = theorem-example.zero-is-none
+
+-- the same instance by 3
+-- In words: 3 is no edition, and the answer is 5.
+pub three-is-none : typeShapeOf typedPath typeName [] 3 2 2 ≡ refused badDialect []
+three-is-none = theorem-example.three-is-none

@@ -12,4 +12,4 @@ put-edition-spec =
     (λ c. search needs)
     (λ c κs. search needs)
     (λ c. search needs)
-    (λ c. edition-laid _ _ (c .before .stated-word .ensures) (c .edition-number .ensures)))  -- returns
+    (λ c. search edition-laid))  -- returns
