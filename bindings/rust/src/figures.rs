@@ -4,13 +4,13 @@
 //! counted, and the report has its number and the position of its first byte.
 //!
 //! ```
-//! use starlark_checks::{figures, write, Kind, Number, Table, FILE_BYTES};
+//! use starlark_checks::{figures, Kind, Number, Table, FILE_BYTES};
 //!
 //! // a Break outside a loop
 //! let mut nodes = [0; 24];
 //! (nodes[0], nodes[16], nodes[18]) = (Kind::Break.into(), 1, 1);
 //! let mut file = [0; FILE_BYTES];
-//! let length = write(Table { nodes: &nodes, names: &[] }, &[], &mut file)?;
+//! let length = Table { nodes: &nodes, names: &[] }.write(&[], &mut file)?;
 //! let input = [&file[..length], &file[..length], &[0]].concat();
 //! let report = figures::report(&input);
 //! assert_eq!((report.figures.files, report.figures.error(Number::BreakMisplaced)), (2, Some(2)));
