@@ -231,10 +231,11 @@ def read_report(path):
         if told["version"] != FORMAT or told["command"] != "figures":
             raise Failed(f"{path}: this is version {told['version']} of `ducat {told['command']}`; version {FORMAT} of figures is needed")
         told["status"]  # a run that was cut off has none
-        counts = [whole(told["figures"][label]) for label in LABELS]
+        counts = [whole(told["figures"][field]) for field in Figures._fields]
         refused = told["refused"]
-        if len(told["figures"]) != len(LABELS) or counts[0] > MOST_FILES:
+        if counts[0] > MOST_FILES:
             raise ValueError
+        told["proved"] if told["added"] else told["library"]["proved"]
         return told, Counted(counts, whole(refused["number"]) if refused else 0, whole(refused["position"]) if refused else 0, [whole(told["bytes"])])
     except (ValueError, KeyError, TypeError, RecursionError):
         raise Failed(f"{path}: this is not the JSON of a whole run of `ducat figures`") from None
@@ -247,22 +248,27 @@ def whole(number):
     return number
 
 
-def added(paths):
-    """The sum of reports in the order given, and the refusal of the last one as its JSON has it."""
-    counts, lengths, refusal, number, position = [0] * len(NO_FIGURES), [], None, 0, 0
-    for path in paths:
-        told, one = read_report(path)
-        if number:
-            raise Failed(f"{before}: a refusal ended this report, so only the last of the reports may be it")
-        counts = [old + new for old, new in zip(counts, one.counts)]
+class Sum:
+    """Reports that are added in the order given: the sum, the refusal of the last one as its JSON has it, and whether a proved library made all."""
+
+    def __init__(self, paths):
+        self.counted, self.refusal, self.proved = Counted(NO_FIGURES), None, True
+        for at, path in enumerate(paths):
+            if self.refusal:
+                raise Failed(f"{paths[at - 1]}: a refusal ended this report, so no other can follow it")
+            self.add(path, *read_report(path))
+
+    def add(self, path, told, one):
+        before = self.counted
+        counts = [old + new for old, new in zip(before.counts, one.counts)]
         if counts[0] > MOST_FILES:
             raise Failed(f"{path}: with this report there are more than {MOST_FILES:,} files")
-        number, position, refusal = one.number, sum(lengths) + one.position if one.number else 0, told["refused"]
-        lengths += one.lengths
-        before = path
-        if not (told["library"] or {}).get("proved", told.get("proved")):
-            say(f"{path}: this report was made with a library that is not proved")
-    return Counted(counts, number, position, lengths), refusal
+        position = before.total + one.position if one.number else 0
+        self.counted = Counted(counts, one.number, position, before.lengths + one.lengths)
+        self.refusal = {**told["refused"], "position": position} if one.number else None
+        if not (told["proved"] if told["added"] else told["library"]["proved"]):
+            self.proved = False
+            say(f"{path}: the library that made this report is not proved")
 
 
 # ---- printing
@@ -311,7 +317,7 @@ def csv_lines(counted):
 
 
 def in_json(counted, refusal):
-    return {"bytes": counted.total, "figures": dict(zip(LABELS, counted.counts)), "refused": refusal}
+    return {"bytes": counted.total, "figures": dict(zip(Figures._fields, counted.counts)), "refused": refusal}
 
 
 def refusal_of(found, counted):
@@ -363,13 +369,11 @@ def run(library, found, options, out, front):
 
 def add(paths, options, out, front):
     """Adds reports and prints the sum. Returns the exit status, as `run` does."""
-    counted, refusal = added(paths)
-    if counted.number:
-        refusal = {**refusal, "position": counted.position}
+    all_ = Sum(paths)
     if options.format != "json":
-        return print_report(counted, refusal, options, out)
-    report, status = Report(out, front), 2 if counted.number else 0
-    for path, length in zip(paths, counted.lengths):
+        return print_report(all_.counted, all_.refusal, options, out)
+    report, status = Report(out, front), 2 if all_.refusal else 0
+    for path, length in zip(paths, all_.counted.lengths):
         report.add(dumps({**named(path), "kind": "report", "bytes": length}))
-    report.end(**in_json(counted, refusal), status=status)
+    report.end(proved=all_.proved, **in_json(all_.counted, all_.refusal), status=status)
     return status

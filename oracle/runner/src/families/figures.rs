@@ -132,8 +132,7 @@ fn refused_files() -> Vec<Vec<u8>> {
 
 /// Good files: the example, the largest, one in each dialect, and one without a name.
 fn good_files() -> Vec<Contents> {
-    let (table, names) = example_table();
-    let example = Contents { table, names, dialect: STANDARD.to_vec() };
+    let example = Contents { table: example_table(), names: b"abc".to_vec(), dialect: STANDARD.to_vec() };
     vec![
         example.clone(),
         Contents { dialect: ALL_OPTIONS_INTERNAL.to_vec(), ..example.clone() },
