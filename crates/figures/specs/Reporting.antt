@@ -14,7 +14,7 @@ use Rattle.figures.specs.declared.Stepped.{Stepped}
 use Rattle.figures.specs.declared.Stepped.the-variants.{Taken, Refused}
 use Rattle.figures.specs.declared.Ending.{Ending}
 use Rattle.figures.specs.declared.Ending.the-variants.{Whole, Refused as RefusedAt}
-use Rattle.figures.specs.declared.Report.{Report}
+use Rattle.figures.specs.declared.Reported.{Reported}
 
 -- a report has at most so many files, and one more is refused by 76
 abbrev pub mostFiles : ℕ
@@ -50,19 +50,19 @@ figuresAfter w figures =
     if' (eqb (length w) 0) (λ _. figures) (λ _. counted (stepCheck w figures) figures (figuresOf (contentAt w)))
 
 -- a report that is whole, and one that a refusal ended
-abbrev pub whole : List ℕ → Report
+abbrev pub whole : List ℕ → Reported
 whole figures = record { figures = figures; ending = Whole }
 
-abbrev pub endedBy : ℕ → ℕ → List ℕ → Report
+abbrev pub endedBy : ℕ → ℕ → List ℕ → Reported
 endedBy number at figures = record { figures = figures; ending = RefusedAt number at }
 
 -- what follows a step from a place on
-abbrev pub afterStep : Stepped → ℕ → List ℕ → (ℕ → Report) → Report
+abbrev pub afterStep : Stepped → ℕ → List ℕ → (ℕ → Reported) → Reported
 afterStep (Taken n) at figures next = next n
 afterStep (Refused k) at figures next = endedBy k at figures
 
 -- the report of what is left of an input, from a place on, behind what is counted; in so many steps at most
-unfoldable pub reportIn : ℕ → ℕ → List ℕ → List ℕ → Report
+unfoldable pub reportIn : ℕ → ℕ → List ℕ → List ℕ → Reported
 reportIn zero at figures left = whole figures
 reportIn (suc k) at figures left =
     if' (eqb (length left) 0) (λ _. whole figures) (λ _.
@@ -70,12 +70,12 @@ reportIn (suc k) at figures left =
     reportIn k (at + n) (figuresAfter left figures) (drop n left)))
 
 -- a file takes a byte at least, so as many steps as bytes are enough
-unfoldable pub reportFrom : ℕ → List ℕ → List ℕ → Report
+unfoldable pub reportFrom : ℕ → List ℕ → List ℕ → Reported
 reportFrom at figures left = reportIn (length left) at figures left
 
 -- the report of an input
 abbrev pub zeros : List ℕ
 zeros = replicate 32 0
 
-unfoldable pub reportOf : List ℕ → Report
+unfoldable pub reportOf : List ℕ → Reported
 reportOf input = reportFrom 0 zeros input

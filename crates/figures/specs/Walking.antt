@@ -26,7 +26,7 @@ only k v = replicate k 0 ++ v ∷ []
 unfoldable pub plus : List ℕ → List ℕ → List ℕ
 plus [] ys = ys
 plus (x ∷ xs) [] = x ∷ xs
-plus (x ∷ xs) (y ∷ ys) = x + y ∷ plus xs ys
+plus (x ∷ xs) (y ∷ ys) = (x + y) ∷ plus xs ys
 
 -- how many of `*args` or `**kwargs` there are
 abbrev pub places : FlatPlace → ℕ
@@ -45,8 +45,8 @@ RangedIn (Refused f) = Unit {0}
 -- the lengths of the ranges, in the order of the modes
 abbrev pub rangeCounts : Counts → List ℕ
 rangeCounts c =
-    c .«num_positional_only» .0 ∷ c .«num_positional» .0 - c .«num_positional_only» .0
-    ∷ c .flat .0 - (c .«num_positional» .0 + places (c .args) + places (c .kwargs)) ∷ places (c .args)
+    c .«num_positional_only» .0 ∷ (c .«num_positional» .0 - c .«num_positional_only» .0)
+    ∷ (c .flat .0 - (c .«num_positional» .0 + places (c .args) + places (c .kwargs))) ∷ places (c .args)
     ∷ places (c .kwargs) ∷ []
 
 -- what one list adds, by what unpack says of it: the list, and the lengths of its ranges if it is accepted

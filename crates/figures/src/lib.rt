@@ -59,13 +59,13 @@ pub enum Ending {
 }
 
 // A report: the counters, without those of a refused file, and how it ends.
-pub struct Report {
+pub struct Reported {
     pub figures: [u64; FIGURES],
     pub ending: Ending,
 }
 
 // The report of an input: file by file, up to its end or to a file that is refused.
-pub fn report(input: &[u8]) -> Report
+pub fn report(input: &[u8]) -> Reported
     ensures { λ r. ⌜ r ≡ reportOf (now (input .entry)) ⌝ }
 {
     let mut figures = [0u64; FIGURES];
@@ -77,7 +77,7 @@ pub fn report(input: &[u8]) -> Report
                 at += n;
             }
             Stepped::Refused(number) => {
-                return Report {
+                return Reported {
                     figures: figures,
                     ending: Ending::Refused {
                         number: number,
@@ -87,7 +87,7 @@ pub fn report(input: &[u8]) -> Report
             }
         }
     }
-    Report {
+    Reported {
         figures: figures,
         ending: Ending::Whole,
     }

@@ -96,8 +96,10 @@ fn modes_of(c: Counts) -> Modes
     let only = c.num_positional_only;
     let positional = c.num_positional;
     let flat = c.flat;
-    let args = places(c.args);
-    let kwargs = places(c.kwargs);
+    let star = c.args;
+    let star_star = c.kwargs;
+    let args = places(star);
+    let kwargs = places(star_star);
     Modes {
         pos_only: only.0 as u64,
         pos_or_named: (positional.0 - only.0) as u64,
