@@ -109,14 +109,17 @@ class Window:
         self.base = ctypes.addressof((ctypes.c_char * BUFFER).from_buffer(self.buffer))
 
     def count(self, stream, progress):
-        """Counts all of a stream. Returns the number of the refusal that ended it, or 0, and the position."""
+        """Counts all of a stream. Returns the number of the refusal that ended it, or 0, and the position. Raises OSError or ValueError where a read fails,
+        unless a refusal stands before: only 70 depends on the bytes that follow."""
         end, taken = 0, 0
         while True:
-            end, ended = self.fill(stream, end)
+            end, ended, error = self.fill(stream, end)
             # at the end of the input a step sees all that is left
             at, number = self.library.figures_steps(self.base, self.base + end, 1 if ended else WINDOW_BYTES, self.counts)
             at -= self.base
             taken += at
+            if error and number in (0, BLOCK_SHORT):
+                raise error
             if number or ended:
                 return number, taken
             progress.step(self.counts[0], taken)
@@ -124,12 +127,16 @@ class Window:
             end -= at
 
     def fill(self, stream, end):
-        while end < BUFFER:
-            got = stream.read(self.view[end:])
-            if not got:
-                return end, True
-            end += got
-        return end, False
+        """Reads until the buffer is full. Returns how many bytes it has, whether no more come, and why where a read fails."""
+        try:
+            while end < BUFFER:
+                got = stream.read(self.view[end:])
+                if not got:
+                    return end, True, None
+                end += got
+        except (OSError, ValueError) as error:
+            return end, True, error
+        return end, False, None
 
 
 def count(library, found, counts=NO_FIGURES, skip=0, measured=False, progress=None):
@@ -170,7 +177,10 @@ def parts_of(sizes, jobs):
         if size >= least or at == len(sizes) - 1:
             parts.append(range(first, at + 1))
             first, size = at + 1, 0
-    return parts if len(parts) >= jobs else [range(at * len(sizes) // jobs, (at + 1) * len(sizes) // jobs) for at in range(min(jobs, len(sizes)))]
+    if len(parts) >= jobs:
+        return parts
+    many = min(jobs, len(sizes))
+    return [range(at * len(sizes) // many, (at + 1) * len(sizes) // many) for at in range(many)]
 
 
 def count_in_parts(library, found, jobs, measured, progress):
