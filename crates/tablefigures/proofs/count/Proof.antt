@@ -6,7 +6,7 @@ use Rattle.tablefigures.proofs.count.Statement.{statement}
 use Rattle.tablefigures.proofs.count.Tie as tie
 
 abbrev Inv-loop : tie.InvT-loop
-Inv-loop fd name buffer₀ counters₀ held₀ position₀ turns₀ buffer counters held position turns = (length buffer ≡ 119808) × (length counters ≡ 32)
+Inv-loop fd name buffer₀ counters₀ held₀ position₀ turns₀ buffer counters held position turns = length buffer ≡ 119808
 
 abbrev μ-loop : tie.MeasureT-loop
 μ-loop fd name buffer₀ counters₀ held₀ position₀ turns₀ buffer counters held position turns = turns
