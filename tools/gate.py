@@ -72,6 +72,13 @@ STEPS = [
     Step("try-tables", "what is wrong with a line of cases is reported", python("tools/try_tables")),
     Step("tablecheck-data", "tablecheck is run on a sample", data("file", "samples/example.txt", "crates/tablecheck/data/example.table")),
     Step("tablerescue-data", "tablerescue is run on a sample", data("file", "samples/lost.txt", "crates/tablerescue/data/lost.table")),
+    Step(
+        "tablefigures-data",
+        "the samples of joined files are other samples one after another, and tablefigures is run on one",
+        ("sh", "-c", "cd samples && cat example.table parameters.table take.table | cmp - three.tables && "
+         "cat example.table damaged.table take.table | cmp - three-damaged.tables && cmp three.tables ../crates/tablefigures/data/three.tables && "
+         "cmp three.figures ../crates/tablefigures/stdout"),
+    ),
     Step("filetest-data", "filetest damages a sample", data("file", "samples/parameters.txt", "crates/filetest/data/parameters.table")),
     Step("filetest-files", "filetest reads the files of its list", data("filecases", "crates/filetest/files.txt", "crates/filetest/data/files.bin")),
     Step("kinds", "the cases of each kind are what document 01's sentences give", python("tools/kinds.py", "--check")),
@@ -118,10 +125,16 @@ STEPS = [
         counts=r"(\d+) tests passed, (\d+) failed",
     ),
     Step("speed", "ducat checks scripts no slower than 1.2 times flake8, and its cost is linear", python("-I", "-S", "python/tests/speed_scripts.py"), ("flake8",), BESIDE),
-    Step("programs", "tablecheck and tablerescue read, print and replace what they must", python("tools/try_programs.py"), lane=BESIDE),
-    Step("against", "ducat prints and writes what the two programs do, byte by byte", python("-I", "-S", "python/tests/against_programs.py"), lane=BESIDE),
+    Step("programs", "tablecheck, tablerescue and tablefigures read, print and replace what they must", python("tools/try_programs.py"), lane=BESIDE),
+    Step("against", "ducat prints and writes what the three programs do, byte by byte", python("-I", "-S", "python/tests/against_programs.py"), lane=BESIDE),
     Step("books", "the book functions answer as a model with a map of entries does", python("oracle/books"), lane=BESIDE),
     Step("books-time", "a lookup in books of 100 blocks, and an addition, take at most 1 ms", python("bench/books"), lane=BESIDE),
+    Step(
+        "figures-time",
+        "figures take at most 1.5 times starlark_check_file over the same files, and ducat 10 s for 100,000 files from disk",
+        python("bench/figures"),
+        lane=BESIDE,
+    ),
     Step("shown", "the commands print what the documents show", python("tools/shown.py"), lane=BESIDE),
     Step("faults", "the comparison finds a fault of each job, and is not empty", ("oracle/faults", "--gate"), ORACLE, BESIDE),
     Step("compare", "the port answers as the crate does (quick run)", ("oracle/compare",), ORACLE, BESIDE),
