@@ -37,14 +37,6 @@ pub struct Header {
     pub edition: Option<u8>,
 }
 
-impl Header {
-    /// 5: the dialect, then the edition.
-    pub fn check_dialect(&self) -> Result<(), Refusal> {
-        dialect::from_bytes(&self.dialect)?;
-        dialect::edition_in_file(&self.dialect, self.edition).map(|_| ())
-    }
-}
-
 /// The sum that stands at a block's end.
 pub fn check_sum(block: &[u8]) -> u32 {
     let first = if planted(Fault::SumFactorFromZero) { 0 } else { 1 };
