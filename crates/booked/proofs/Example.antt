@@ -9,7 +9,7 @@ use mathlib.Core.Bool.{Bool, true, false, _&&_, _||_, not}
 use mathlib.Core.List.{List, [], _∷_}
 use Prim.Native.Nat.{ℕ, zero, suc, _<_}
 use native.Mathlib.Omega.{arith}
-use lib.ListN.{length, replicate}
+use lib.ListN.{replicate}
 use lib.Dec.{eqb, ltb}
 use borrow.Author.Tests.{ltb-true, eqb-true, eq-eqb}
 use Rattle.fields.specs.Field.{field, bytesOf}
@@ -21,8 +21,8 @@ use Rattle.blocks.specs.Block.{weighed, sumOf, beforeSum, blockOf, zeros, exami
 use Rattle.blocks.specs.Run.{blocksFor, judgeBlocks, judgeRun}
 use Rattle.books.specs.declared.Looked.the-variants.{Zone, Line, Nothing}
 use Rattle.books.specs.declared.Changed.the-variants.{Placed, Refused, Bare}
-use Rattle.books.specs.Book.{every, some, placesOf, entryAt, zoneOf, dialectOf, soundEntry, soundPlace, soundPlaces, soundBook}
-use Rattle.books.specs.Book.{isFor, seenIn, seenBefore, again, twiceIn}
+use Rattle.books.specs.Book.{every, some, placesOf, entryAt, zoneOf, dialectOf, soundEntry, soundPlace, soundPlaces}
+use Rattle.books.specs.Book.{soundBook, isFor, seenIn, seenBefore, again, twiceIn}
 use Rattle.books.specs.Lookup.{fits, bestSetting, bestIn, lookupOf, partOf}
 use Rattle.books.specs.Change.{firstIn, emptyAt, forAt, entryOf, renewed, putEntry, placeToAdd, addIn, removeIn}
 use Rattle.books.specs.Change.{addOf, removeOf, zoneAfter, lineAfter, zoneAdded, lineAdded, zoneRemoved, lineRemoved}
@@ -31,7 +31,7 @@ use Rattle.books.proofs.Laws.{every-stop}
 use Rattle.booked.specs.Said.{Passing, NoneFits, Tells, Within, Keeps, BothPass}
 use Rattle.booked.proofs.Lookups.{zone-tells, line-tells, nothing-fits, same-part, same-place}
 use Rattle.booked.proofs.Booked.{added-found, added-elsewhere, Restored, added-removed, AddedBack, removed-added}
-use Rattle.booked.proofs.Booked.{IsRefused, added-refused, removed-refused, blanked-passes}
+use Rattle.booked.proofs.Booked.{added-refused, removed-refused, blanked-passes}
 
 -- an empty book, and nine dialect bytes
 abbrev pub blank : List ℕ

@@ -1,7 +1,7 @@
 -- What demand 3 supposes can be met, and not only trivially: `def f(a, /, b=1, *args, c, **k)` in a table of its own.
 -- The table is sound, the list is the one that is written, and it has a good cut, so that every theorem of Demand3.antt
--- speaks of it. The other side of the limit is a def with 49 parameters: its table is sound too, and the answer is 19 at
--- the def. All by computation. Assumes nothing.
+-- speaks of it. The other side of the limit is a def with 49 parameters: its table is sound too, and the answer is 19
+-- at the def. All by computation. Assumes nothing.
 use mathlib.Core.Path.{_≡_, refl}
 use mathlib.Core.Logic.{inl}
 use mathlib.Core.List.{[], _∷_, _++_}

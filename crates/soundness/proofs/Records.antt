@@ -1,8 +1,8 @@
 -- Laws of the rule of a record with its children, in the terms of code. Children are counted and judged one by one, and
 -- those that are left decide (`Counting`, `Fitting`). A record is judged by its fields, its size and its children
 -- (`record-fields`, `record-size`, `record-kids`), wherever it stands (`sound-index`). The loop over the records keeps
--- the top-level statement of the record before: of a table (`Going`, with Tops), or of one statement, which does not end
--- (`Judging`); in both the records that are left decide (`Searching`). Assumes nothing.
+-- the top-level statement of the record before: of a table (`Going`, with Tops), or of one statement, which does not
+-- end (`Judging`); in both the records that are left decide (`Searching`). Assumes nothing.
 use mathlib.Core.Path.{_≡_, refl, sym, ap, _∙_}
 use mathlib.Core.Bool.{Bool, true, false, _&&_, and-false}
 use mathlib.Core.List.{List, [], _∷_}

@@ -1,5 +1,5 @@
--- `deflist::list::has_more` meets its contract: where `most` entries are counted, a further one is one too many. Assumes
--- nothing.
+-- `deflist::list::has_more` meets its contract: where `most` entries are counted, a further one is one too many.
+-- Assumes nothing.
 use borrow.Author.Needs.{needs}
 use lib.ListN.{length}
 use Rattle.deflist.proofs.Reading.{Limiting, limit-start, limit-over, limit-on, limit-end, is-over}
