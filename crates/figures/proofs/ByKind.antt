@@ -107,10 +107,10 @@ module _ {t names : List ℕ} {i : ℕ} (n : NodeIn t names i) where
   unfolding nodeFigures acceptedAt refusedAt
   node-list fits no-call start = rw (fits, no-call) (go outcome refl)
     where
-      away : ((c : Counts) → outcome ≡ def.accepted c → ⊥) → added start (0 ∷ 0 ∷ 1 ∷ []) ≡ added start listed
+      away : ((c : Counts) → outcome ≡ def.accepted c → ⊥) → added start (0 ∷ 0 ∷ 1 ∷ 0 ∷ 0 ∷ 0 ∷ 0 ∷ 0 ∷ []) ≡ added start listed
       away off =
           let zero : (m : ℕ) → modeAt m t names i ≡ 0 = λ m. mode-away m (params-away off) in
-          rw (zero 1, zero 2, zero 3, zero 4, zero 5) (sym (added-trailing start (0 ∷ 0 ∷ 1 ∷ []) 7))
+          rw (zero 1, zero 2, zero 3, zero 4, zero 5) (sym (added-trailing start (0 ∷ 0 ∷ 1 ∷ 0 ∷ 0 ∷ 0 ∷ 0 ∷ 0 ∷ []) 2))
 
       go : (o : def.Outcome) → outcome ≡ o → added start (listFigures (told o)) ≡ added start listed
       go (def.accepted c) e =
