@@ -77,7 +77,7 @@ pub fn bind(table: &[u8], names: &[u8], call: usize, def: usize, list: &mut [u32
 }
 
 // Whether a node is a Def of the table.
-fn is_def(table: &[u8], node: usize) -> bool
+pub fn is_def(table: &[u8], node: usize) -> bool
     ensures { λ r. ⌜ r ≡ isDef (now (table .entry)) node ⌝ }
 {
     if table.len() / RECORD <= node {
@@ -88,7 +88,7 @@ fn is_def(table: &[u8], node: usize) -> bool
 }
 
 // The arguments of the call that a stretch begins with: what stands behind its callee.
-fn behind_callee(t: &[u8]) -> &[u8]
+pub fn behind_callee(t: &[u8]) -> &[u8]
     ensures { λ r. ⌜ now r ≡ behindCallee (now (t .entry)) ⌝ }
 {
     let kids = deflist::children(t);
@@ -470,7 +470,7 @@ fn parameter_count(table: &[u8], def: usize) -> usize
 }
 
 // How many arguments the call at a node has.
-fn argument_count(table: &[u8], call: usize) -> usize
+pub fn argument_count(table: &[u8], call: usize) -> usize
     ensures { λ r. ⌜ ((names : List ℕ) → r ≡ length (argumentsAt (now (table .entry)) names call)) ⌝ }
     ensures { λ r. ⌜ recordBytes * r ≤ length (now (table .entry)) ⌝ }
 {

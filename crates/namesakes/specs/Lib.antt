@@ -1,0 +1,3 @@
+pub mod Namesake
+pub mod Job
+pub mod Reading
