@@ -89,16 +89,31 @@ paired with every def of that name in the scripts:
   NAME, MODE: default                             it takes none, and has a default
   *NAME, MODE: ARGUMENT (PLACE); ...              what a star parameter collects, or none
   refused K, ARGUMENT (PLACE)                     the call does not fit the def, or one of them is wrong
-A table file alone gives its defs and calls with their nodes; --call and --def then name two of them. A call
+An argument whose name, or whose field's name, is that of an ordinary parameter and that reaches another one is
+a namesake. Two are exchanged where each has the name of the parameter that the other reaches:
+  namesake: X (PLACE) reaches P, though there is a parameter X
+  exchanged: X (PLACE) reaches Y, and Y (PLACE) reaches X
+With --strict the status is then 1, unless an expectation states it. A table file alone gives its defs and calls with their nodes; --call and --def then name two of them. A call
 of a call, such as outer(1)(2), and a method call are listed as such and bound to no def.
 
 Which argument reaches which parameter is proved. Which call is paired with which def is not: a name that
 means another function at the call is not seen."""
 
-BIND_MORE = """A script that is larger than a table may be is bound too: a call and a def in a table of their two top-level
+BIND_MORE = """With --expect DEF.PARAMETER=NAME every call of DEF must pass NAME, a name or a path as zone.tracks, to PARAMETER. Each
+input is judged by itself; --join judges several scripts as one. Judged are calls whose callee is the name DEF.
+This prints
+  expect DEF.PARAMETER=NAME: met by N calls
+  expect DEF.PARAMETER=NAME: not met              and below it each reason with its place
+It is not met where a call passes something else or is refused or not judged; DEF is defined twice or never, or
+is never called, or has no such PARAMETER; DEF is used other than as a callee; a parameter, a target or a load
+binds or renames DEF; a method of the name DEF is called; or the input is refused, cannot be read or is not
+Starlark. A table file needs --script: a table has no names of defs.
+
+A script that is larger than a table may be is bound too: a call and a def in a table of their two top-level
 statements. A pair that exceeds a limit of a table is listed as not judged.
 
-Exit status: 0 every call is accepted; 1 a call or def is refused (10 to 84), or a script is not Starlark; 2 a
+Exit status: 0 every call is accepted; 1 a call or def is refused (10 to 84), a script is not Starlark, an
+expectation is not met, or with --strict there is a namesake that no expectation states; 2 a
 file is refused or cannot be read, a node is not a Call or not a Def (6), a pair is not judged, the script is not
 the table's, wrong usage, no library, or output that cannot be written."""
 
@@ -334,6 +349,7 @@ def bind_parser():
     parser.add_argument("--def", dest="def_", metavar="N", type=node, help="the node of a Def of one table file; with --call")
     add_join(parser)
     add_script(parser, "the script of one table file: names of defs, texts, lines and columns")
+    add_expect(parser)
     parser.add_argument("--explain", action="store_true", help="say what each number means")
     add_dialect(parser, "of scripts; a table file has its own")
     add_as_script(parser)
@@ -343,6 +359,14 @@ def bind_parser():
     add_format(parser, OTHERS)
     add_color(parser)
     return parser
+
+
+def add_expect(parser):
+    parser.add_argument("--expect", metavar="DEF.PARAMETER=NAME", action="append", default=[],
+                        help="every call of DEF must pass NAME to PARAMETER; may be repeated")
+    parser.add_argument("--expectations", metavar="FILE", help="read expectations from FILE (`-` is standard input), one in a line; # begins a comment")
+    parser.add_argument("--strict", action="store_true",
+                        help="end with 1 where an argument has the name of a parameter and reaches another one, unless an expectation states it")
 
 
 def rescue_parser():
@@ -594,9 +618,16 @@ def bind(words, out):
     if (options.call is None) != (options.def_ is None):
         raise Failed("--call and --def go together")
     configured = Configured(options)
+    expectations = expected(options, configured, options.files)
     found = found_in(options, configured, options.files, folders=False).found
     if options.join and found:
         found = joined(options, found)
+    if expectations and options.call is not None:
+        raise Failed("an expectation is of a def by its name: --call and --def are not for it")
+    if expectations and not options.script:
+        for one in found:
+            if not one.script:
+                raise Failed(f"an expectation needs --script for the table file {one.name}: a table has no names of defs")
     single = "--call and --def" if options.call is not None else "--script" if options.script else None
     if single and (len(found) != 1 or found[0].script):
         raise Failed(f"{single} {'need' if options.call is not None else 'needs'} one table file")
@@ -610,8 +641,16 @@ def bind(words, out):
     from . import bind as job
     json = machine(options.format)
     how = job.Options(found, options.explain, json, configured.dialect, scripts, options.call, options.def_, options.format,
-                      paint_of(options.color, out.terminal))
+                      paint_of(options.color, out.terminal), expectations, options.strict)
     return job.run(library, how, out, head("bind", library, configured.in_json()) if json else None)
+
+
+def expected(options, configured, paths):
+    """The expectations of the command line and of the configuration."""
+    from .expect import gathered
+    if options.expectations is not None:
+        once(options.expectations, *paths, *([options.files_from] if options.files_from is not None else []))
+    return gathered(options.expect, options.expectations, configured.configuration)
 
 
 def finished(options, **more):

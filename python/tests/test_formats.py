@@ -68,7 +68,7 @@ class Sarif(CommandTest):
         self.assertEqual(faults(told, "log"), [])
         run, = told["runs"]
         rules = [rule["id"] for rule in run["tool"]["driver"]["rules"]]
-        self.assertEqual(rules, [*map(str, numbers.WORDS), "syntax"])
+        self.assertEqual(rules, [*map(str, numbers.WORDS), "syntax", "expect", "namesake"])
         for result in run["results"]:
             self.assertEqual(rules[result["ruleIndex"]], result["ruleId"])
             for location in (*result["locations"], *result.get("relatedLocations", ())):
