@@ -411,8 +411,11 @@ class Whole:
     def place(self, node):
         return self.places.place(node)
 
+    def text(self, call):
+        return self.places.text(call)
+
     def head(self, call):
-        return f"{self.place(call)} {self.places.text(call)}"
+        return f"{self.place(call)} {self.text(call)}"
 
     def alone(self, call):
         """Why a call is bound to no def."""

@@ -5,7 +5,7 @@ import sys
 from . import __version__, files, signals
 from .output import Failed, Out, OutputFailed, flush_error, head, paint_of, say, text_of
 
-COMMANDS = ("check", "bind", "rescue", "write", "table", "dump", "book", "rule", "diff", "build")
+COMMANDS = ("check", "bind", "report", "rescue", "write", "table", "dump", "book", "rule", "diff", "build")
 
 USAGE = """usage: ducat COMMAND [OPTION...] ...
        ducat COMMAND --help
@@ -14,6 +14,7 @@ Checks Starlark scripts and their node tables with a proved library.
 
   ducat check PATH...                          check table files, scripts and folders
   ducat bind FILE...                           which argument of a call reaches which parameter of a def
+  ducat report PATH... -o OUT                  a page, in HTML, with all errors and every call drawn
   ducat rescue IN -o OUT                       keep what can be kept of a damaged table file
   ducat write TABLE NAMES [--dialect D] -o OUT
                                                a table file from raw bytes
@@ -116,6 +117,21 @@ Exit status: 0 every call is accepted; 1 a call or def is refused (10 to 84), a 
 expectation is not met, or with --strict there is a namesake that no expectation states; 2 a
 file is refused or cannot be read, a node is not a Call or not a Def (6), a pair is not judged, the script is not
 the table's, wrong usage, no library, or output that cannot be written."""
+
+REPORT = """Writes to OUT one page of HTML about each PATH (a table file, a script or a folder, as for `ducat check`), without
+script and without anything that is loaded:
+  refused tables, and what is known of them
+  expectations, where there are any (see `ducat bind --help`)
+  the number of inputs of each dialect
+  with --books which dialect each zone has at each setting
+  each script's text with its errors marked, and each call drawn with lines from its arguments to the parameters
+  that they reach; exchanged ones have a colour and a pattern of their own
+and prints the totals of `ducat check` and
+  written N     the number of bytes of the page"""
+
+REPORT_MORE = """Exit status: 0 no errors; 1 errors, a call is refused, an expectation is not met, or with --strict there is a namesake
+that no expectation states; 2 an input is refused or cannot be read, nothing is found in a PATH, a pair is not
+judged, wrong usage, no library, or OUT cannot be written. OUT is written in every case but the last three."""
 
 RESCUE = """Writes to OUT a sound table file with what can be kept of the damaged table file IN (`-` is standard input),
 and prints
@@ -369,6 +385,25 @@ def add_expect(parser):
                         help="end with 1 where an argument has the name of a parameter and reaches another one, unless an expectation states it")
 
 
+def report_parser():
+    parser = make_parser("report", REPORT, f"{ATOMIC}\n\n{REPORT_MORE}")
+    parser.add_argument("paths", metavar="PATH", nargs="*")
+    add_output(parser)
+    add_join(parser)
+    add_script(parser, "the script of the table files")
+    add_expect(parser)
+    add_dialect(parser, "of scripts; a table file has its own")
+    add_books(parser)
+    parser.add_argument("--exclude", metavar="GLOB", action="append", default=[],
+                        help="leave out what a search finds and whose name or path matches; may be repeated")
+    add_as_script(parser)
+    add_list(parser)
+    add_stdin_filename(parser)
+    add_config(parser)
+    add_format(parser)
+    return parser
+
+
 def rescue_parser():
     parser = make_parser("rescue", RESCUE, f"{ATOMIC}\n\n{RESCUE_MORE}")
     parser.add_argument("input", metavar="IN")
@@ -593,12 +628,12 @@ def check(words, out):
     return max(status, 2 if search.empty else 0)
 
 
-def books_fit(options):
-    """--books, --zone and --setting go together, and give the dialect."""
+def books_fit(options, alone=False):
+    """--books, --zone and --setting go together, and give the dialect. `alone` permits books without the other two."""
     given = [options.books is not None, options.zone is not None, options.setting is not None]
-    if any(given) and not all(given):
+    if any(given) and not all(given) and not (alone and given == [True, False, False]):
         raise Failed("--books, --zone and --setting go together")
-    if options.books and (options.dialect is not None or options.against is not None):
+    if all(given) and (options.dialect is not None or getattr(options, "against", None) is not None):
         raise Failed("--books gives the dialect: --dialect and --against are not for it")
     if options.books:
         once(*options.books, *options.paths, *([options.files_from] if options.files_from is not None else []))
@@ -643,6 +678,36 @@ def bind(words, out):
     how = job.Options(found, options.explain, json, configured.dialect, scripts, options.call, options.def_, options.format,
                       paint_of(options.color, out.terminal), expectations, options.strict)
     return job.run(library, how, out, head("bind", library, configured.in_json()) if json else None)
+
+
+def report(words, out):
+    options = parse(report_parser(), words)
+    if not options.paths and options.files_from is None:
+        raise Failed("no PATH is named (`ducat report --help` says how)")
+    books_fit(options, alone=True)
+    configured = Configured(options)
+    named_out(options.out, configured.as_script)
+    expectations = expected(options, configured, options.paths)
+    search = found_in(options, configured, options.paths, folders=not options.join)
+    if options.join and search.found:
+        search.found = joined(options, search.found)
+    if options.script and any(one.script for one in search.found):
+        raise Failed("--script is for table files: a script that is checked is its own")
+    scripts, library = scripts_named(options.script), open_library()
+    if options.zone is not None:
+        from . import book
+        given = book.ForCheck(library, options)
+        if given.refusal:
+            options.quiet = True
+            return given.refused(options, out, None)
+        configured.dialect = given.dialect
+    configured.say()
+    for path, excluded in search.empty:
+        say(f"{path}: no table file and no script is found in this folder" + (f"; {excluded:,} excluded" if excluded else ""))
+    from . import report as job
+    how = job.Options(options.out, configured.dialect, scripts, options.books, options.zone, expectations, options.strict)
+    status = job.run(library, how, search.found, out, head("report", library, configured.in_json()) if options.format == "json" else None)
+    return max(status, 2 if search.empty else 0)
 
 
 def expected(options, configured, paths):

@@ -150,8 +150,11 @@ class Wide:
     def place(self, spot):
         return place_in(spot.statement.source, spot.node.begin, self.named)
 
+    def text(self, call):
+        return text_in(call.statement.source, call.node.begin, call.node.end)
+
     def head(self, call):
-        return f"{self.place(call)} {text_in(call.statement.source, call.node.begin, call.node.end)}"
+        return f"{self.place(call)} {self.text(call)}"
 
     def node_json(self, spot):
         return {"node": spot.number, **span_json(spot.statement.source, spot.statement.file, spot.node.begin, spot.node.end)}
