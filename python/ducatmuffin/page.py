@@ -33,13 +33,15 @@ details{border:1px solid var(--line);border-radius:.4rem;margin:.4rem 0;padding:
 mark{background:var(--mark);color:inherit;text-decoration:underline wavy var(--bad)}mark.p{background:var(--early);text-decoration:underline double}
 mark:empty::before{content:"\\2038"}.w{display:block;white-space:normal;font-family:system-ui,sans-serif;color:var(--bad);border-left:3px solid var(--bad);padding-left:.5em}
 .calls{display:grid;grid-template-columns:repeat(auto-fill,minmax(min(100%,26rem),1fr));gap:.8rem}
-figure{margin:0;padding:.5rem .7rem;border:1px solid var(--line);border-radius:.3rem;min-width:0;break-inside:avoid}
-figcaption,figure p{margin:0 0 .4rem}figure p{font-size:.9rem}
-.call{display:flex;gap:.5rem;overflow-x:auto}.call pre{margin:0;font-size:13px;line-height:24px}.call pre.dim{font-size:11px}.call svg{flex:none}
+figure{display:grid;grid-template-columns:auto 90px auto 1fr;align-content:start;gap:0 .5rem;margin:0;padding:.5rem .7rem;border:1px solid var(--line);
+border-radius:.3rem;min-width:0;overflow-x:auto;break-inside:avoid}
+figcaption,figure p{grid-column:1/-1;margin:0 0 .4rem;min-width:0}figure p{font-size:.9rem}
+figure pre{margin:0;font-size:13px;line-height:24px}figure pre.dim{font-size:11px}
 path{fill:none;stroke-width:2}.a{stroke:var(--place)}.b{stroke:var(--name);stroke-dasharray:8 4}.c{stroke:var(--more);stroke-dasharray:2 3}
 .d{stroke:var(--dim);stroke-dasharray:1 5;stroke-linecap:round}path.s{stroke:var(--swap);stroke-width:4;stroke-dasharray:12 3 3 3}
 path.o{stroke:var(--swap);stroke-width:1}
 .bar{fill:var(--place)}td svg,th svg{display:inline-block;vertical-align:middle}
+@media(max-width:40rem){th,td{padding:.2rem .3rem;min-width:4.5rem;overflow-wrap:anywhere}th code{white-space:normal}}
 @media print{body{max-width:none;font-size:11pt}details{border:0;padding:0}details::details-content{content-visibility:visible;block-size:auto}
 .src{background:none}nav{display:none}}
 """
@@ -170,9 +172,9 @@ class Drawing:
     def html(self):
         high, binder = ROW * max(len(self.arguments), len(self.parameters), 1), self.pair.binder
         modes = "\n".join(MODES[mode] + (", default" if taken is None else "") for _, mode, taken in self.taken)
-        return (f'<div class="call"><pre>{self.column(self.arguments, self.pair.places.text)}</pre>'
+        return (f'<pre>{self.column(self.arguments, self.pair.places.text)}</pre>'
                 f'<svg role="img" aria-label="{text(self.words)}" width="{GAP}" height="{high}">{self.paths()}</svg>'
-                f'<pre>{self.column(self.parameters, binder.parameter)}</pre><pre class="dim">{modes}</pre></div>')
+                f'<pre>{self.column(self.parameters, binder.parameter)}</pre><pre class="dim">{modes}</pre>')
 
 
 def curve(argument, parameter):
