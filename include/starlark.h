@@ -23,6 +23,7 @@
  *   accepted      as said at each function
  *   3, 4          out[0] the node
  *   1, 2, 5, 6, 7 nothing; so for 64, 70 to 75, 90 and 91, and for 97 and 98
+ *   76            nothing; starlark_figures puts the position of the refused file into out[0] and out[1], whatever the number
  *   62, 63        as said at starlark_fstring_write and starlark_fstring_read; 62 is no refusal
  *   95, 96        out[0] the book, 0 the zone book, 1 the line book; but 95 of starlark_book_blank nothing
  *   all others    out[0] the node, out[1] and out[2] begin and end of its span (22: the name's span), out[3] STARLARK_NONE; but for 11 and 22,
@@ -33,7 +34,8 @@
  * What the caller must see to: nothing checks it
  *   Each pointer points to as many elements as the length beside it says, and `out` to twelve words. A pointer of length 0 may be NULL.
  *   Buffers that are only read may overlap each other; a written buffer (modes, shapes, list, errors, the file that is written, table and names of
- *   starlark_read, a format text, its parts and texts, a book that is changed, `out`) overlaps none. Words are aligned to four bytes.
+ *   starlark_read, a format text, its parts and texts, a book that is changed, figures, `out`) overlaps none. Words are aligned to four bytes,
+ *   figures to eight.
  *   The thread has stack enough: STARLARK_STACK_BYTES is more than twice what any job was measured to need (bindings/c/stack.c, on aarch64):
  *   at 2,100 nodes of many shapes the table check needs 17 KB, the parameter job 17 KB, the call job 17 KB, the type job 26 KB, the module pass
  *   28 KB, the audit 64 KB, the binding job 34 KB, the target, assignment and write jobs no more than 17 KB; of a file of 2,100 nodes the rescue and
@@ -114,6 +116,7 @@ enum starlark_number {
     STARLARK_NUMBER_BLOCK_USED = 73, /* a block has the wrong number of used bytes, or a byte past them that is not zero */
     STARLARK_NUMBER_BLOCK_COUNTS = 74, /* block 0 counts no node, more than 2,100 nodes, or more than 8,064 name bytes */
     STARLARK_NUMBER_BYTES_LEFT_OVER = 75, /* bytes stand behind the last block */
+    STARLARK_NUMBER_TOO_MANY_FILES = 76, /* a file stands after 4,294,967,295 files of one input */
     STARLARK_NUMBER_STAR_ARGUMENT = 80, /* the call that is bound has a `*` or `**` argument */
     STARLARK_NUMBER_TOO_MANY_POSITIONAL = 81, /* a positional argument is one too many, and there is no `*args` */
     STARLARK_NUMBER_UNKNOWN_NAMED = 82, /* no parameter takes a named argument, and there is no `**kwargs` */
@@ -204,6 +207,42 @@ enum starlark_part {
     STARLARK_PART_REPR = 3, /* !r */
 };
 
+/* The places of the counts of starlark_figures and starlark_figures_step. */
+enum starlark_figure {
+    STARLARK_FIGURE_FILES = 0,
+    STARLARK_FIGURE_NODES = 1,
+    STARLARK_FIGURE_LISTS = 2,
+    STARLARK_FIGURE_MODE_POS_ONLY = 3,
+    STARLARK_FIGURE_MODE_POS_OR_NAME = 4,
+    STARLARK_FIGURE_MODE_NAME_ONLY = 5,
+    STARLARK_FIGURE_MODE_ARGS = 6,
+    STARLARK_FIGURE_MODE_KWARGS = 7,
+    STARLARK_FIGURE_CALLS_ACCEPTED = 8,
+    STARLARK_FIGURE_CALLS_REFUSED = 9,
+    STARLARK_FIGURE_ERROR_10 = 10,
+    STARLARK_FIGURE_ERROR_11 = 11,
+    STARLARK_FIGURE_ERROR_12 = 12,
+    STARLARK_FIGURE_ERROR_13 = 13,
+    STARLARK_FIGURE_ERROR_14 = 14,
+    STARLARK_FIGURE_ERROR_15 = 15,
+    STARLARK_FIGURE_ERROR_16 = 16,
+    STARLARK_FIGURE_ERROR_17 = 17,
+    STARLARK_FIGURE_ERROR_18 = 18,
+    STARLARK_FIGURE_ERROR_19 = 19,
+    STARLARK_FIGURE_ERROR_50 = 20,
+    STARLARK_FIGURE_ERROR_51 = 21,
+    STARLARK_FIGURE_ERROR_52 = 22,
+    STARLARK_FIGURE_ERROR_53 = 23,
+    STARLARK_FIGURE_ERROR_54 = 24,
+    STARLARK_FIGURE_ERROR_55 = 25,
+    STARLARK_FIGURE_ERROR_56 = 26,
+    STARLARK_FIGURE_ERROR_57 = 27,
+    STARLARK_FIGURE_ERROR_58 = 28,
+    STARLARK_FIGURE_ERROR_59 = 29,
+    STARLARK_FIGURE_ERROR_60 = 30,
+    STARLARK_FIGURE_ERROR_61 = 31,
+};
+
 /* The number of bytes of a dialect, and the three dialects that have a name, each as a pointer to so many bytes. */
 #define STARLARK_DIALECT_BYTES 9
 #define STARLARK_DIALECT_STANDARD ((const uint8_t *)"\1\1\1\0\0\0\1\0\0")
@@ -231,6 +270,15 @@ enum starlark_part {
 
 /* The bytes of a table file: a multiple of 512, and a buffer of so many is never too short for one. */
 #define STARLARK_FILE_BYTES 59904
+
+/* How many counts of 64 bits starlark_figures writes: enum starlark_figure has their places. */
+#define STARLARK_FIGURES 32
+
+/* The bytes that starlark_figures_step must see at a time, unless fewer are left: those of the largest table file. */
+#define STARLARK_WINDOW_BYTES 59904
+
+/* The most files that are counted: one more is 76. */
+#define STARLARK_MOST_FILES 4294967295
 
 /* No module has more errors: two for each node. */
 #define STARLARK_ERRORS 4200
@@ -390,6 +438,21 @@ uint32_t starlark_book_remove(uint8_t *zone_book, size_t zone_book_len, uint8_t 
 /* Makes a book of empty places of `book_len` bytes, which must be 1 to 100 whole blocks: 95.
  * Accepted: no word; the book passes as a zone book and as a line book. */
 uint32_t starlark_book_blank(uint8_t *book, size_t book_len, uint32_t *out);
+
+/* Figures: counts over table files that stand one after another in `input`. An empty input holds no file. Bytes after a file's last block begin
+ * the next file: 76, 70 to 74, 3 to 5.
+ * Accepted: no word. A refused file ends the report: out[0] and out[1] are the position of its first byte, low and high word, and the files before
+ * it are counted. `figures` is written in both cases: STARLARK_FIGURES counts in the places of enum starlark_figure. They are the files; their nodes;
+ * their parameter lists, each Def and each Lambda; by mode the parameters, marks omitted, of the lists that 10 to 19 accept; the calls (kind 22) that
+ * 20 to 24 accept, and those that they refuse; and by number the errors of the module pass, all of them. 76 is a file after STARLARK_MOST_FILES files. */
+uint32_t starlark_figures(const uint8_t *input, size_t input_len, uint64_t *figures, uint32_t *out);
+
+/* Adds the counts of the table file at the front of `window` to `figures`, which begin as zeros: 76, 70 to 74, 3 to 5.
+ * Accepted: out[0] the bytes that the file takes, 0 where the window is empty. Where it refuses, neither `figures` nor `out` change. 76 is asked of the
+ * number of files in `figures`. A count never passes 2^64 - 1; from zeros none gets there.
+ * For an input of any length: step over a window of at least STARLARK_WINDOW_BYTES bytes, or all that are left; drop the bytes taken; fill it up; repeat.
+ * The counts are those of starlark_figures over the whole input. */
+uint32_t starlark_figures_step(const uint8_t *window, size_t window_len, uint64_t *figures, uint32_t *out);
 
 #ifdef __cplusplus
 }

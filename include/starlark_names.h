@@ -62,6 +62,7 @@ static inline const char *starlark_number_name(uint32_t number) {
     case STARLARK_NUMBER_BLOCK_USED: return "BLOCK_USED";
     case STARLARK_NUMBER_BLOCK_COUNTS: return "BLOCK_COUNTS";
     case STARLARK_NUMBER_BYTES_LEFT_OVER: return "BYTES_LEFT_OVER";
+    case STARLARK_NUMBER_TOO_MANY_FILES: return "TOO_MANY_FILES";
     case STARLARK_NUMBER_STAR_ARGUMENT: return "STAR_ARGUMENT";
     case STARLARK_NUMBER_TOO_MANY_POSITIONAL: return "TOO_MANY_POSITIONAL";
     case STARLARK_NUMBER_UNKNOWN_NAMED: return "UNKNOWN_NAMED";
@@ -134,6 +135,7 @@ static inline const char *starlark_number_words(uint32_t number) {
     case STARLARK_NUMBER_BLOCK_USED: return "a block has the wrong number of used bytes, or a byte past them that is not zero";
     case STARLARK_NUMBER_BLOCK_COUNTS: return "block 0 counts no node, more than 2,100 nodes, or more than 8,064 name bytes";
     case STARLARK_NUMBER_BYTES_LEFT_OVER: return "bytes stand behind the last block";
+    case STARLARK_NUMBER_TOO_MANY_FILES: return "a file stands after 4,294,967,295 files of one input";
     case STARLARK_NUMBER_STAR_ARGUMENT: return "the call that is bound has a `*` or `**` argument";
     case STARLARK_NUMBER_TOO_MANY_POSITIONAL: return "a positional argument is one too many, and there is no `*args`";
     case STARLARK_NUMBER_UNKNOWN_NAMED: return "no parameter takes a named argument, and there is no `**kwargs`";

@@ -19,7 +19,7 @@ RUST, RAW = ROOT / "bindings" / "rust", ROOT / "bindings" / "raw"
 PYTHON = ROOT / "python" / "ducatmuffin"
 # the header's constants that the wrapper has too, and where the code has them
 SHARED = ["WORDS", "NODES", "NODE_BYTES", "NAME_BYTES", "DEPTH", "PARAMETERS", "FILE_BYTES", "ERRORS", "ERROR_WORDS", "AUDIT_ERRORS", "AUDIT_WORDS",
-          "STACK_BYTES", "DIALECT_BYTES"]
+          "STACK_BYTES", "DIALECT_BYTES", "FIGURES", "WINDOW_BYTES"]
 IN_CODE = {"NODES": "table/src/lib.rt: MOST_NODES", "NAME_BYTES": "table/src/lib.rt: MOST_NAMES", "DEPTH": "table/src/depth.rt: MOST_DEPTH",
            "NODE_BYTES": "forest/src/lib.rt: RECORD", "PARAMETERS": "deflist/src/lib.rt: MOST_PARAMETERS",
            "LAST_FILE": "soundness/src/sound.rt: LAST_FILE", "ERROR_WORDS": "errors/src/lib.rt: WIDTH",
@@ -27,6 +27,8 @@ IN_CODE = {"NODES": "table/src/lib.rt: MOST_NODES", "NAME_BYTES": "table/src/lib
 # the bytes that starlark_params and starlark_type store, as crates/deflist/specs and crates/types/specs define them
 MODES = ["PosOnly", "PosOrName", "NameOnly", "Args", "Kwargs"]
 SHAPES = ["Ellipsis", "Path", "Index", "Index2", "List", "Union", "Tuple"]
+# the errors that starlark_figures counts
+COUNTED = [*range(10, 20), *range(50, 62)]
 # the dialects of crates/dialect that have a name, and what the interfaces call them
 DIALECTS = {"Standard": "STANDARD", "Extended": "EXTENDED", "AllOptionsInternal": "ALL"}
 
@@ -69,6 +71,13 @@ def listed_enum(name, cases):
     return c_enum(name, [f"STARLARK_{name.upper()}_{constant(case)} = {number}," for number, case in enumerate(cases, 1)])
 
 
+def figure_enum():
+    """The places of the counts of starlark_figures."""
+    cases = ["FILES", "NODES", "LISTS", *(f"MODE_{constant(mode)}" for mode in MODES), "CALLS_ACCEPTED", "CALLS_REFUSED",
+             *(f"ERROR_{number}" for number in COUNTED)]
+    return c_enum("figure", [f"STARLARK_FIGURE_{case} = {place}," for place, case in enumerate(cases)])
+
+
 def switches():
     """The names of a dialect's switches, as the code has them."""
     return re.findall(r"^    pub (enable_\w+):", (CRATES / "dialect" / "src" / "lib.rt").read_text(), re.M)
@@ -109,7 +118,8 @@ def python():
     parts = [
         "# what a function returns that accepts, and the word for \"no place\" and \"no earlier node\"\nACCEPTED = 0\nNONE = 0xFFFFFFFF\n",
         "# the limits of include/starlark.h; OUT_WORDS is the number of words that an answer has\n"
-        + "".join(f"{'OUT_WORDS' if name == 'WORDS' else name} = {limits[name]}\n" for name in SHARED),
+        + "".join(f"{'OUT_WORDS' if name == 'WORDS' else name} = {limits[name]}\n" for name in SHARED)
+        + f"MOST_FILES = {limits['MOST_FILES']}\n",
         listed("NUMBERS", "the name of each number", [(int(number), f'"{name}"') for number, name, _, _ in numbers]),
         listed("WORDS", "what each number means", [(int(number), f'"{in_c(words)}"') for number, _, words, _ in numbers]),
         listed("GIVEN", "the jobs that give each number", [(int(number), f'"{jobs}"') for number, _, _, jobs in numbers]),
@@ -187,7 +197,8 @@ def with_enum(text, name, made):
 def made():
     """What is made: each file's text as it must be."""
     header = with_dialects(HEADER.read_text())
-    enums = {"number": number_enum(), "kind": kind_enum(), "mode": listed_enum("mode", MODES), "shape": listed_enum("shape", SHAPES)}
+    enums = {"number": number_enum(), "kind": kind_enum(), "mode": listed_enum("mode", MODES), "shape": listed_enum("shape", SHAPES),
+             "figure": figure_enum()}
     for name, enum in enums.items():
         header = with_enum(header, name, enum)
     return {HEADER: header, NAMES: names_header(), RUST / "src" / "made.rs": rust(), PYTHON / "numbers.py": python()}
@@ -258,7 +269,7 @@ def stored():
 def declared():
     """The faults of the functions: Rust declares, and Python calls, those of the header with the same arguments, in the same order."""
     told, kinds_c = [], {"uint32_t *": "*mut u32", "uint8_t *": "*mut u8", "const uint8_t *": "*const u8", "const uint32_t *": "*const u32",
-                         "size_t ": "usize", "uint32_t ": "u32"}
+                         "uint64_t *": "*mut Counts", "size_t ": "usize", "uint32_t ": "u32"}
     header = dict(re.findall(r"^uint32_t starlark_(\w+)\(([^;]*)\);", HEADER.read_text(), re.M))
     rust_text = dict(re.findall(r"^    pub fn starlark_(\w+)\(([^;]*?),?\s*\) -> u32;", (RAW / "src" / "lib.rs").read_text(), re.M))
     for name, words in header.items():

@@ -3,6 +3,7 @@
 typedef __SIZE_TYPE__ size_t;
 typedef __UINT8_TYPE__ uint8_t;
 typedef __UINT32_TYPE__ uint32_t;
+typedef __UINT64_TYPE__ uint64_t;
 
 /* A port that is compiled this way is not proved; the Python package and tools/install know it by this symbol. */
 const char starlark_unproved[] = "this library is not proved";
@@ -112,3 +113,13 @@ uint32_t starlark_book_remove(BOOKS, uint32_t zone, uint32_t setting, uint32_t *
 
 uint32_t inner_book_blank(struct slice *, uint32_t *);
 uint32_t starlark_book_blank(uint8_t *book, size_t book_len, uint32_t *out) { return inner_book_blank(SLICE(book, book_len), out); }
+
+uint32_t inner_figures(struct slice *, uint64_t *, uint32_t *);
+uint32_t starlark_figures(const uint8_t *input, size_t input_len, uint64_t *figures, uint32_t *out) {
+    return inner_figures(SLICE(input, input_len), figures, out);
+}
+
+uint32_t inner_figures_step(struct slice *, uint64_t *, uint32_t *);
+uint32_t starlark_figures_step(const uint8_t *window, size_t window_len, uint64_t *figures, uint32_t *out) {
+    return inner_figures_step(SLICE(window, window_len), figures, out);
+}

@@ -5,7 +5,7 @@ import sys
 from . import __version__, files, signals
 from .output import Failed, Out, OutputFailed, flush_error, head, paint_of, say, text_of
 
-COMMANDS = ("check", "bind", "report", "rescue", "write", "table", "dump", "book", "rule", "diff", "build")
+COMMANDS = ("check", "bind", "report", "rescue", "write", "table", "dump", "book", "figures", "rule", "diff", "build")
 
 USAGE = """usage: ducat COMMAND [OPTION...] ...
        ducat COMMAND --help
@@ -22,6 +22,7 @@ Checks Starlark scripts and their node tables with a proved library.
   ducat table SCRIPT... --compare FILE         whether a table file is the table of scripts
   ducat dump FILE                              the text form of a table file
   ducat book COMMAND ...                       dialects by zone and setting: lookup, add, remove, list, show, new
+  ducat figures [PATH...]                      counts over table files: nodes, lists, calls, errors
   ducat rule NUMBER                            what a number means, which jobs give it, and an example
   ducat diff OLD.json NEW.json                 the errors that only one of two runs has
   ducat build [--unproved]                     prove and compile the library
@@ -192,6 +193,28 @@ Dialects by zone and setting, in a zone book and a line book.
   ducat book new BLOCKS -o BOOK                            make an empty book
 
 Exit status: 0; 1 for 97 and 98; 2 otherwise."""
+
+FIGURES = """Counts over table files that are joined into one input, in the order given. PATH is a table file, or a folder, which is
+searched for *.table as `ducat check` does; `-`, or no PATH, is standard input. Bytes after a file's last block begin the next
+file, also where it goes on in the next PATH. This prints
+  files N              the number of table files
+  nodes N              of nodes
+  lists N              of parameter lists, each Def and each Lambda
+  mode 1 N             to mode 5 N, of parameters by mode (PosOnly, PosOrName, NameOnly, Args, Kwargs) in accepted lists
+  calls accepted N     of calls whose arguments are accepted
+  calls refused N      of calls whose arguments are refused (20 to 24)
+  error 10 N           to error 19 N, and error 50 N to error 61 N, of errors of the module pass by number
+and, where a file is refused, the last line
+  refused K POSITION   its number (76, 70 to 74, 3 to 5), and the position of its first byte in the input
+Such a file ends the report: the files before it are counted, and nothing of it or after it.
+
+With --add each PATH is a report that `ducat figures --json` printed, and this prints their sum, as of one input. Only the
+last of them may have ended with a refusal."""
+
+FIGURES_MORE = """Any length is read in the same memory. A file that cannot be read is reported, and no report is printed.
+
+Exit status: 0 the report is whole; 2 a refusal ended it, something cannot be read or written, nothing is found in a
+folder, wrong usage, or no library. Errors in the tables do not change it."""
 
 RULE = """Prints what NUMBER means, which jobs give it, and an example that gives it: a script, or a table in text form where no
 script does. NUMBER may also be a name, as NO_DEFAULT_AFTER_DEFAULT."""
@@ -449,6 +472,18 @@ def dump_parser():
     add_stdin_filename(parser)
     add_config(parser)
     add_format(parser)
+    return parser
+
+
+def figures_parser():
+    parser = make_parser("figures", FIGURES, FIGURES_MORE)
+    parser.add_argument("paths", metavar="PATH", nargs="*")
+    parser.add_argument("--explain", action="store_true", help="say what each count and each number means, and which PATH a refused file is in")
+    parser.add_argument("--jobs", metavar="N", type=positive, default=1, help="use N processes; the output is the same")
+    parser.add_argument("--add", action="store_true", help="add reports that --json printed")
+    parser.add_argument("--format", choices=("text", "json", "csv"), default="text",
+                        help="what is printed (docs/JSON.md describes the JSON; csv: a line of names and a line of numbers)")
+    parser.add_argument("--json", dest="format", action="store_const", const="json", help="short for --format json")
     return parser
 
 
@@ -817,6 +852,26 @@ def book(words, out):
     if words[0] == "add":
         options.dialect = dialect_word(options.dialect, "DIALECT") or b""
     return job.RUN[words[0]](open_library(), options, out)
+
+
+def figures(words, out):
+    options = parse(figures_parser(), words)
+    from . import figures as job
+    once(*options.paths)
+    if options.add:
+        if not options.paths:
+            raise Failed("no report is named (`ducat figures --help` says how)")
+        if options.jobs > 1:
+            raise Failed("--jobs is not for --add")
+        return job.add(options.paths, options, out, head("figures", None, added=True) if options.format == "json" else None)
+    from . import inputs
+    search = inputs.Search(scripts=False)
+    for path in options.paths or ["-"]:
+        search.name(path)
+    if search.empty:
+        raise Failed(f"{search.empty[0][0]}: no table file is found in this folder")
+    library = open_library()
+    return job.run(library, search.found, options, out, head("figures", library, added=False) if options.format == "json" else None)
 
 
 def rule(words, out):

@@ -129,10 +129,10 @@ def reason(error):
 # ---- finding
 
 class Search:
-    """Collects inputs, and counts what is excluded."""
+    """Collects inputs, and counts what is excluded. Without `scripts` a folder is searched for table files alone."""
 
-    def __init__(self, exclude=(), stdin_filename=None, as_script=()):
-        self.exclude, self.stdin_filename, self.as_script = tuple(exclude), stdin_filename, tuple(as_script)
+    def __init__(self, exclude=(), stdin_filename=None, as_script=(), scripts=True):
+        self.exclude, self.stdin_filename, self.as_script, self.scripts = tuple(exclude), stdin_filename, tuple(as_script), scripts
         self.found, self.excluded, self.empty = [], 0, []
 
     def name(self, path):
@@ -176,7 +176,7 @@ class Search:
         folder = entry.is_dir(follow_symlinks=False)
         if folder and entry.name.startswith("."):
             return
-        if not folder and not (entry.name.endswith(".table") or is_script(entry.path, self.as_script)):
+        if not folder and not (entry.name.endswith(".table") or self.scripts and is_script(entry.path, self.as_script)):
             return
         if not folder and not entry.is_symlink() and not entry.is_file(follow_symlinks=False):
             return

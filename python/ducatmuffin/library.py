@@ -26,9 +26,10 @@ MOST = 2 ** 64 - 1  # of a size_t
 LIST_WORDS = numbers.AUDIT_WORDS * numbers.AUDIT_ERRORS  # the longest list of errors
 FILE_WORDS = numbers.ERROR_WORDS * numbers.ERRORS  # the longest one of the module pass
 BARE = frozenset([1, 2, 5, 6, 7, 64, *range(70, 76), 90, 91])  # the numbers that carry nothing
+COUNTED_ERRORS = (*range(10, 20), *range(50, 62))  # the numbers that figures count, in their order
 Bytes = Union[bytes, bytearray, memoryview]
 
-POINTER, LENGTH, WORD = ctypes.c_char_p, ctypes.c_size_t, ctypes.c_uint32
+POINTER, LENGTH, WORD, COUNT = ctypes.c_char_p, ctypes.c_size_t, ctypes.c_uint32, ctypes.c_uint64
 LENT = [ctypes.c_void_p, LENGTH]  # a buffer that is written
 READ = [POINTER, LENGTH]  # a buffer that is only read
 OUT = [ctypes.c_void_p]
@@ -54,6 +55,8 @@ FUNCTIONS = {
     "book_add": LENT * 2 + [WORD] * 2 + READ + OUT,
     "book_remove": LENT * 2 + [WORD] * 2 + OUT,
     "book_blank": LENT + OUT,
+    "figures": READ + [ctypes.c_void_p] + OUT,
+    "figures_step": [ctypes.c_void_p, LENGTH, ctypes.c_void_p] + OUT,
     "version": [],
 }
 # the first words of the parts of a format text that are no text
@@ -251,6 +254,34 @@ class Changed:
     accepted: ClassVar[bool] = True
 
 
+# The 32 counts of figures, in the order of the C interface: mode_1 is PosOnly and so on (numbers.MODES), error_10 how often 10 is found
+Figures = NamedTuple("Figures", [(name, int) for name in (
+    "files", "nodes", "lists", *(f"mode_{mode}" for mode in numbers.MODES), "calls_accepted", "calls_refused",
+    *(f"error_{number}" for number in COUNTED_ERRORS))])
+NO_FIGURES = Figures(*[0] * len(Figures._fields))
+
+
+@dataclass(frozen=True)
+class Report:
+    """The figures of files that are joined: their counts, and why and where the report ended, or None and None where it is whole. `position` is
+    that of the refused file's first byte."""
+    figures: Figures
+    number: Optional[int] = None
+    position: Optional[int] = None
+
+    @property
+    def whole(self) -> bool:
+        return self.number is None
+
+
+@dataclass(frozen=True)
+class Stepped:
+    """The figures with those of one file more, and the number of bytes that it takes: 0 where the window is empty."""
+    figures: Figures
+    taken: int
+    accepted: ClassVar[bool] = True
+
+
 class Buffers(threading.local):
     """What a thread lends to the library: the words of the answer, and the largest buffers that a job needs."""
 
@@ -259,11 +290,13 @@ class Buffers(threading.local):
         self.words = (WORD * LIST_WORDS)()
         self.file = ctypes.create_string_buffer(numbers.FILE_BYTES)
         self.names = ctypes.create_string_buffer(numbers.NAME_BYTES)
+        self.counts = (COUNT * len(Figures._fields))()
         # addresses, so that a call need not make a pointer each time
         self.out_at = ctypes.addressof(self.out)
         self.words_at = ctypes.addressof(self.words)
         self.file_at = ctypes.addressof(self.file)
         self.names_at = ctypes.addressof(self.names)
+        self.counts_at = ctypes.addressof(self.counts)
 
 
 def _bytes(data):
@@ -618,6 +651,34 @@ class Library:
         book, own = ctypes.create_string_buffer(512 * blocks), self._buffers
         number = self._book_blank(ctypes.addressof(book), len(book), own.out_at)
         return BookRefusal(number, numbers.WORDS[number]) if number else book.raw
+
+    def figures(self, data: Bytes) -> Report:
+        """The figures of table files, one after another. A refused file ends the report."""
+        data, own = _bytes(data), self._buffers
+        number = self._figures(data, len(data), own.counts_at, own.out_at)
+        figures = Figures(*own.counts)
+        return Report(figures, number, _wide(own.out[0], own.out[1])) if number else Report(figures)
+
+    def figures_step(self, window: Bytes, figures: Figures) -> Union[Stepped, Refusal]:
+        """Adds the figures of the table file at the front of a window, which need not be longer than numbers.WINDOW_BYTES."""
+        window, own = _bytes(window), self._buffers
+        if any(not 0 <= operator.index(count) <= MOST for count in figures):
+            raise ValueError("a count is a number from 0 to 2 ** 64 - 1")
+        own.counts[:] = figures
+        number = self._figures_step(window, len(window), own.counts_at, own.out_at)
+        return Refusal(number, numbers.WORDS.get(number, "unknown")) if number else Stepped(Figures(*own.counts), own.out[0])
+
+    def figures_steps(self, at: int, end: int, least: int, counts: ctypes.Array) -> Tuple[int, int]:
+        """Steps over the memory from address `at` to `end`, as long as `least` bytes are there. `counts` is an array of 32 COUNT. Returns the
+        address of the first byte that no step took, and the number of the refusal there, or 0."""
+        step, own, counts_at = self._figures_step, self._buffers, ctypes.addressof(counts)
+        out, out_at = own.out, own.out_at
+        while end - at >= least:
+            number = step(at, end - at, counts_at, out_at)
+            if number:
+                return at, number
+            at += out[0]
+        return at, 0
 
 
 def _identity(path):

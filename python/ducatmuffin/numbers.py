@@ -20,6 +20,9 @@ AUDIT_ERRORS = 8400
 AUDIT_WORDS = 5
 STACK_BYTES = 262144
 DIALECT_BYTES = 9
+FIGURES = 32
+WINDOW_BYTES = 59904
+MOST_FILES = 4294967295
 
 # the name of each number
 NUMBERS = {
@@ -76,6 +79,7 @@ NUMBERS = {
     73: "BLOCK_USED",
     74: "BLOCK_COUNTS",
     75: "BYTES_LEFT_OVER",
+    76: "TOO_MANY_FILES",
     80: "STAR_ARGUMENT",
     81: "TOO_MANY_POSITIONAL",
     82: "UNKNOWN_NAMED",
@@ -144,6 +148,7 @@ WORDS = {
     73: "a block has the wrong number of used bytes, or a byte past them that is not zero",
     74: "block 0 counts no node, more than 2,100 nodes, or more than 8,064 name bytes",
     75: "bytes stand behind the last block",
+    76: "a file stands after 4,294,967,295 files of one input",
     80: "the call that is bound has a `*` or `**` argument",
     81: "a positional argument is one too many, and there is no `*args`",
     82: "no parameter takes a named argument, and there is no `**kwargs`",
@@ -161,9 +166,9 @@ WORDS = {
 GIVEN = {
     1: "table, params, call, bind, target, assignment, type, module, audit, write",
     2: "table, params, call, bind, target, assignment, type, module, audit, write",
-    3: "table, params, call, bind, target, assignment, type, module, audit, write, read, file",
-    4: "table, params, call, bind, target, assignment, type, module, audit, write, read, file",
-    5: "type, module, audit, write, read, file, fstring_write",
+    3: "table, params, call, bind, target, assignment, type, module, audit, write, read, file, figures, figures_step",
+    4: "table, params, call, bind, target, assignment, type, module, audit, write, read, file, figures, figures_step",
+    5: "type, module, audit, write, read, file, fstring_write, figures, figures_step",
     6: "params, call, bind, target, assignment, type",
     7: "params, bind, type, write, rescue, read, fstring_write, fstring_read",
     10: "params, bind, module, audit, file",
@@ -206,12 +211,13 @@ GIVEN = {
     62: "fstring_write",
     63: "fstring_read",
     64: "fstring_write",
-    70: "read, file",
-    71: "read, file",
-    72: "read, file",
-    73: "read, file",
-    74: "read, file",
+    70: "read, file, figures, figures_step",
+    71: "read, file, figures, figures_step",
+    72: "read, file, figures, figures_step",
+    73: "read, file, figures, figures_step",
+    74: "read, file, figures, figures_step",
     75: "read, file",
+    76: "figures, figures_step",
     80: "bind",
     81: "bind",
     82: "bind",

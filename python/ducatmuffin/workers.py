@@ -1,4 +1,4 @@
-"""Several processes for `ducat check --jobs N`, with the answers in the order of the inputs.
+"""Several processes for `ducat check --jobs N` and `ducat figures --jobs N`, with the answers in the order of the inputs.
 
 Process k takes the inputs k, k + N, k + 2 N, ... and writes its answers to a pipe of its own, from which they are read in turn. A process has
 none of the command's own descriptors, and ends with the command, also where that ends by KILL.
@@ -24,23 +24,41 @@ def answers(checker, found, jobs):
 
 def shared(checker, found, jobs):
     from .check import Answer
+
+    def is_given(one):
+        """Standard input belongs to the command itself."""
+        return one.path is None and one.error is None
+
+    def answer(one):
+        given = checker.answer(one)
+        return given.verdict, given.errors, given.out, given.err
+
+    received_in_turn = results(answer, [one for one in found if not is_given(one)], jobs)
+    try:
+        for one in found:
+            yield checker.answer(one) if is_given(one) else Answer(*next(received_in_turn))
+    finally:
+        received_in_turn.close()
+
+
+def results(function, items, jobs):
+    """What a function gives for each item, in their order: a generator. It must be something that marshal can write."""
     pipes, children = [], []
     try:
         # a signal between a fork and the note of it would leave a process behind
         before = signal.pthread_sigmask(signal.SIG_BLOCK, ENDING)
         try:
             for first in range(jobs):
-                start(checker, found, first, jobs, pipes, children)
+                start(function, items[first::jobs], pipes, children)
         finally:
             signal.pthread_sigmask(signal.SIG_SETMASK, before)
-        for at, one in enumerate(found):
-            # standard input belongs to the command itself
-            yield checker.answer(one) if one.path is None and one.error is None else Answer(*received(pipes[at % jobs]))
+        for at in range(len(items)):
+            yield received(pipes[at % jobs])
     finally:
         end(pipes, children)
 
 
-def start(checker, found, first, jobs, pipes, children):
+def start(function, items, pipes, children):
     reading, writing = os.pipe()
     parent = os.getpid()
     child = os.fork()
@@ -59,7 +77,7 @@ def start(checker, found, first, jobs, pipes, children):
             pipe.close()
         os.close(reading)
         detach()
-        work(checker, found[first::jobs], writing)
+        work(function, items, writing)
         status = 0
     except BaseException:
         pass  # the command sees that an answer is missing
@@ -82,12 +100,9 @@ def detach():
         os.dup2(nothing, descriptor)
 
 
-def work(checker, found, writing):
-    for one in found:
-        if one.path is None and one.error is None:
-            continue
-        answer = checker.answer(one)
-        data = marshal.dumps((answer.verdict, answer.errors, answer.out, answer.err))
+def work(function, items, writing):
+    for item in items:
+        data = marshal.dumps(function(item))
         data = LENGTH.pack(len(data)) + data
         while data:
             data = data[os.write(writing, data):]

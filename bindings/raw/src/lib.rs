@@ -5,6 +5,9 @@
 /// The words that a function answers in.
 pub type Words = [u32; 12];
 
+/// The counts of figures.
+pub type Counts = [u64; 32];
+
 extern "C" {
     pub fn starlark_version() -> u32;
     pub fn starlark_table(table: *const u8, table_len: usize, names: *const u8, names_len: usize, out: *mut Words) -> u32;
@@ -170,4 +173,6 @@ extern "C" {
         out: *mut Words,
     ) -> u32;
     pub fn starlark_book_blank(book: *mut u8, book_len: usize, out: *mut Words) -> u32;
+    pub fn starlark_figures(input: *const u8, input_len: usize, figures: *mut Counts, out: *mut Words) -> u32;
+    pub fn starlark_figures_step(window: *const u8, window_len: usize, figures: *mut Counts, out: *mut Words) -> u32;
 }

@@ -10,6 +10,8 @@ use starlark_checks_raw::starlark_book_lookup;
 use starlark_checks_raw::starlark_book_remove;
 use starlark_checks_raw::starlark_call;
 use starlark_checks_raw::starlark_check_file;
+use starlark_checks_raw::starlark_figures;
+use starlark_checks_raw::starlark_figures_step;
 use starlark_checks_raw::starlark_fstring_read;
 use starlark_checks_raw::starlark_fstring_write;
 use starlark_checks_raw::starlark_module;
@@ -21,6 +23,7 @@ use starlark_checks_raw::starlark_target;
 use starlark_checks_raw::starlark_type;
 use starlark_checks_raw::starlark_version;
 use starlark_checks_raw::starlark_write;
+use starlark_checks_raw::Counts;
 
 use crate::Table;
 use crate::Words;
@@ -131,4 +134,12 @@ pub fn book_remove(zone_book: &mut [u8], line_book: &mut [u8], zone: u32, settin
 
 pub fn book_blank(book: &mut [u8], out: &mut Words) -> u32 {
     unsafe { starlark_book_blank(book.as_mut_ptr(), book.len(), out) }
+}
+
+pub fn figures(input: &[u8], counts: &mut Counts, out: &mut Words) -> u32 {
+    unsafe { starlark_figures(input.as_ptr(), input.len(), counts, out) }
+}
+
+pub fn figures_step(window: &[u8], counts: &mut Counts, out: &mut Words) -> u32 {
+    unsafe { starlark_figures_step(window.as_ptr(), window.len(), counts, out) }
 }

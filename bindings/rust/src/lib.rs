@@ -27,6 +27,7 @@ use starlark_checks_raw::Words;
 
 pub mod books;
 mod errors;
+pub mod figures;
 mod format;
 mod interface;
 mod made;
@@ -157,6 +158,12 @@ pub const AUDIT_ERRORS: usize = 8_400;
 
 /// The words of an error of an audit in a lent list: those of a module's, then the node.
 pub const AUDIT_WORDS: usize = 5;
+
+/// How many counts figures have.
+pub const FIGURES: usize = 32;
+
+/// The bytes that a step of figures must see, unless fewer are left: those of the largest table file.
+pub const WINDOW_BYTES: usize = 59_904;
 
 /// Stack enough for every job, twice over.
 pub const STACK_BYTES: usize = 1 << 18;

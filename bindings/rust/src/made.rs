@@ -113,6 +113,8 @@ pub enum Number {
     BlockCounts = 74,
     /// bytes stand behind the last block
     BytesLeftOver = 75,
+    /// a file stands after 4,294,967,295 files of one input
+    TooManyFiles = 76,
     /// the call that is bound has a `*` or `**` argument
     StarArgument = 80,
     /// a positional argument is one too many, and there is no `*args`
@@ -289,7 +291,7 @@ pub mod dialect {
 }
 
 /// Each number, its name and what it means.
-pub const NUMBERS: [(Number, &str, &str); 64] = [
+pub const NUMBERS: [(Number, &str, &str); 65] = [
     (Number::TableLength, "TABLE_LENGTH", "the table has no record, more than 2,100, or a part of one"),
     (Number::NameBytes, "NAME_BYTES", "there are more than 8,064 name bytes"),
     (Number::UnsoundRecord, "UNSOUND_RECORD", "a record of the table is unsound"),
@@ -343,6 +345,7 @@ pub const NUMBERS: [(Number, &str, &str); 64] = [
     (Number::BlockUsed, "BLOCK_USED", "a block has the wrong number of used bytes, or a byte past them that is not zero"),
     (Number::BlockCounts, "BLOCK_COUNTS", "block 0 counts no node, more than 2,100 nodes, or more than 8,064 name bytes"),
     (Number::BytesLeftOver, "BYTES_LEFT_OVER", "bytes stand behind the last block"),
+    (Number::TooManyFiles, "TOO_MANY_FILES", "a file stands after 4,294,967,295 files of one input"),
     (Number::StarArgument, "STAR_ARGUMENT", "the call that is bound has a `*` or `**` argument"),
     (Number::TooManyPositional, "TOO_MANY_POSITIONAL", "a positional argument is one too many, and there is no `*args`"),
     (Number::UnknownNamed, "UNKNOWN_NAMED", "no parameter takes a named argument, and there is no `**kwargs`"),

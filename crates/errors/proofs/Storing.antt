@@ -16,7 +16,7 @@ use Rattle.fields.proofs.Fields.{tail-part}
 use Rattle.errors.specs.Errors.{only, unlessIn, isListError, withoutLists, kept, width, wordsOf, stored, Stores}
 use Rattle.errors.specs.declared.Err.{Err}
 use Rattle.errors.specs.declared.Listing.{Listing}
-use Rattle.errors.specs.declared.Listing.the-variants.{Module, Own, Audit}
+use Rattle.errors.specs.declared.Listing.the-variants.{Module, Own, Audit, Numbers}
 
 -- LAW: what is kept of errors and others: what is kept of each; and it is no more than there are
 without-append : (es fs : List Err) → withoutLists (es ++ fs) ≡ withoutLists es ++ withoutLists fs
@@ -44,17 +44,20 @@ pub kept-append : (l : Listing) (es fs : List Err) → kept l (es ++ fs) ≡ kep
 kept-append Module es fs = refl
 kept-append Own es fs = without-append es fs
 kept-append Audit es fs = refl
+kept-append Numbers es fs = refl
 
 pub kept-few : (l : Listing) (es : List Err) → length (kept l es) ≤ length es
 kept-few Module es = omega arith
 kept-few Own es = without-few es
 kept-few Audit es = omega arith
+kept-few Numbers es = omega arith
 
 pub kept-none : (l : Listing) → kept l [] ≡ []
 unfolding withoutLists
 kept-none Module = refl
 kept-none Own = refl
 kept-none Audit = refl
+kept-none Numbers = refl
 
 -- LAW: an error of a parameter list is not kept among the module pass's own, any other is
 module _ (e : Err) {b : Bool} (b-is : b ≡ isListError (e .number)) where
@@ -76,6 +79,7 @@ module _ (l : Listing) where
       go Module = refl
       go Own = refl
       go Audit = refl
+      go Numbers = refl
 
   -- there is room for an error, or none
   room : {P : Type 0} (xs : List ℕ) → (width l ≤ length xs → P) → (length xs < width l → P) → P
@@ -117,6 +121,7 @@ module _ (l : Listing) where
       some Module = omega arith
       some Own = omega arith
       some Audit = omega arith
+      some Numbers = omega arith
 
   -- LAW: where the first errors are stored, the next begin at the first free word, or at the end
   pub stored-append : (es fs : List Err) (xs : List ℕ) →
@@ -216,6 +221,12 @@ module _ (xs : List ℕ) (e : Err) where
 
   pub long-full : length xs < width Audit → Stores Audit (only e) xs 1 xs
   long-full = push-full xs e refl
+
+  pub number-fits : width Numbers ≤ length xs → Stores Numbers (only e) xs 1 (sets xs 0 (wordsOf Numbers e))
+  number-fits = push-fits xs e refl
+
+  pub number-full : length xs < width Numbers → Stores Numbers (only e) xs 1 xs
+  number-full = push-full xs e refl
 
 -- LAW: an error of a parameter list leaves every word of the module pass's own; any other is stored as the audit stores
 -- it

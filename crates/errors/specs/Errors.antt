@@ -13,7 +13,7 @@ use Rattle.table.specs.Numbers.{slashFirst, tooManyParameters}
 use Rattle.table.specs.declared.Span.{Span}
 use Rattle.errors.specs.declared.Err.{Err}
 use Rattle.errors.specs.declared.Listing.{Listing}
-use Rattle.errors.specs.declared.Listing.the-variants.{Module, Own, Audit}
+use Rattle.errors.specs.declared.Listing.the-variants.{Module, Own, Audit, Numbers}
 
 -- an error: document 01's number, the index of a record, and a span
 abbrev pub err : ℕ → ℕ → Span → Err
@@ -49,8 +49,9 @@ abbrev pub kept : Listing → List Err → List Err
 kept Module es = es
 kept Own es = withoutLists es
 kept Audit es = es
+kept Numbers es = es
 
--- how many words an error has, and how many with its node
+-- how many words an error has, how many with its node, and one where its number is all that is kept of it
 abbrev pub errorWords : ℕ
 errorWords = 4
 
@@ -61,8 +62,9 @@ abbrev pub width : Listing → ℕ
 width Module = errorWords
 width Own = auditWords
 width Audit = auditWords
+width Numbers = 1
 
--- its words: number, source file, begin and end; and with the node one more
+-- its words: number, source file, begin and end; with the node one more; or the number alone
 abbrev pub placeWords : Err → List ℕ
 placeWords e = e .number ∷ e .span .file ∷ e .span .begin ∷ e .span .end ∷ []
 
@@ -73,6 +75,7 @@ abbrev pub wordsOf : Listing → Err → List ℕ
 wordsOf Module e = placeWords e
 wordsOf Own e = nodeWords e
 wordsOf Audit e = nodeWords e
+wordsOf Numbers e = e .number ∷ []
 
 -- a list of words after errors were stored in it: the first that fit whole, and every other word as it was
 unfoldable pub stored : Listing → List Err → List ℕ → List ℕ

@@ -7,7 +7,7 @@ ghost use mathlib.Core.Path.{_≡_};
 ghost use Prim.Native.Nat.{_*_, min};
 ghost use Rattle.forest.specs.Forest.{nodeOf};
 ghost use Rattle.errors.specs.Errors.{errAt, only, unless, isListError, width, Stores};
-ghost use Rattle.errors.specs.declared.Listing.the-variants.{Module, Own, Audit};
+ghost use Rattle.errors.specs.declared.Listing.the-variants.{Module, Own, Audit, Numbers};
 
 // How many words an error of the module pass has: its number, source file, begin and end.
 pub const WIDTH: usize = 4;
@@ -27,6 +27,7 @@ pub enum Listing {
     Module, // the module pass's: WIDTH words an error
     Own, // the module pass's in the audit: with the node, and the errors of parameter lists, 10 to 19, are left out
     Audit, // the audit's: with the node
+    Numbers, // the module pass's for who counts them: the number alone, one word an error
 }
 
 // One error: stored where there is room for it, and counted in any case, if the form keeps it.
@@ -37,6 +38,7 @@ pub fn push(listing: Listing, e: Err, errors: &mut [u32]) -> usize
         Listing::Module => push_short(e, errors),
         Listing::Own => push_own(e, errors),
         Listing::Audit => push_long(e, errors),
+        Listing::Numbers => push_number(e, errors),
     }
 }
 
@@ -69,7 +71,17 @@ fn push_long(e: Err, errors: &mut [u32]) -> usize
     1
 }
 
-// The same, unless it is an error of a parameter list.
+// The number of an error.
+fn push_number(e: Err, errors: &mut [u32]) -> usize
+    ensures { λ r. ⌜ Stores Numbers (only e) (now (errors .entry)) r (now (errors .exit)) ⌝ }
+{
+    if 1 <= errors.len() {
+        errors[0] = e.number;
+    }
+    1
+}
+
+// An error with its node, unless it is an error of a parameter list.
 fn push_own(e: Err, errors: &mut [u32]) -> usize
     ensures { λ r. ⌜ Stores Own (only e) (now (errors .entry)) r (now (errors .exit)) ⌝ }
 {
@@ -131,10 +143,11 @@ pub fn free(listing: Listing, len: usize, count: usize) -> usize
         Listing::Module => free_short(len, count),
         Listing::Own => free_long(len, count),
         Listing::Audit => free_long(len, count),
+        Listing::Numbers => free_numbers(len, count),
     }
 }
 
-// The same behind errors without their node, and with it.
+// The same behind errors without their node, with it, and behind numbers.
 fn free_short(len: usize, count: usize) -> usize
     ensures { λ r. ⌜ r ≡ min (width Module * count) len ⌝ }
 {
@@ -149,6 +162,15 @@ fn free_long(len: usize, count: usize) -> usize
 {
     if count <= len / WIDTH_WITH_NODE {
         return WIDTH_WITH_NODE * count;
+    }
+    len
+}
+
+fn free_numbers(len: usize, count: usize) -> usize
+    ensures { λ r. ⌜ r ≡ min (width Numbers * count) len ⌝ }
+{
+    if count <= len {
+        return count;
     }
     len
 }

@@ -4,6 +4,8 @@ use arguments::Called;
 use bind::Bound;
 use books::Changed;
 use books::Looked;
+use figures::Ending;
+use figures::Stepped;
 use filepass::Passed;
 use namesakes::Named;
 use parameters::Counted;
@@ -48,6 +50,8 @@ ghost use Rattle.books.specs.Change.{blankOf, blankAfter};
 ghost use Rattle.starlark_checks.specs.Words.{number, words, callWords, rescueWords, laid, Fit, placeIn};
 ghost use Rattle.starlark_checks.specs.Words.{heldValues, readOf, passWords};
 ghost use Rattle.starlark_checks.specs.Version.{version};
+ghost use Rattle.figures.specs.Reporting.{stepOf, figuresAfter, reportOf};
+ghost use Rattle.starlark_checks.specs.FigureWords.{endingNumber, endingWords, stepAnswer};
 ghost use Rattle.fstring.specs.Writing.{writeOf as textOf, textAfter, notice};
 ghost use Rattle.fstring.specs.Reading.{readOf as partsRead, wordsAfter as partsAfter, textsAfter};
 ghost use Rattle.starlark_checks.specs.FormatWords.{twoWords, textWords, partWords};
@@ -694,4 +698,56 @@ pub extern "C" fn starlark_book_blank(book: &mut [u8], out: &mut [u32; 12]) -> u
         return 0;
     }
     numbers::BOOK_UNSOUND
+}
+
+// How a report ends: 0, or the number of the refused file, and its position in two words, the low one first.
+fn put_ending(ending: Ending, out: &mut [u32; 12]) -> u32
+    ensures { λ r. ⌜ r ≡ endingNumber ending ⌝ }
+    ensures { λ r. ⌜ now (out .exit) ≡ laid (endingWords ending) 0 (now (out .entry)) ⌝ }
+{
+    match ending {
+        Ending::Whole => 0,
+        Ending::Refused { number, at } => {
+            put_wide(at, 0, out);
+            number
+        }
+    }
+}
+
+// The report of files one after another: the counters in the buffer, also where a refused file ends it.
+#[no_mangle]
+pub extern "C" fn starlark_figures(
+    input: &[u8],
+    figures: &mut [u64; 32],
+    out: &mut [u32; 12],
+) -> u32
+    ensures { λ r. ⌜ r ≡ endingNumber (reportOf (now (input .entry)) .ending) ⌝ }
+    ensures { λ r. ⌜ now (out .exit) ≡
+        laid (endingWords (reportOf (now (input .entry)) .ending)) 0 (now (out .entry)) ⌝ }
+    ensures { λ r. ⌜ now (figures .exit) ≡ reportOf (now (input .entry)) .figures ⌝ }
+{
+    let report = figures::report(input);
+    let counters = report.figures;
+    *figures = counters;
+    let ending = report.ending;
+    put_ending(ending, out)
+}
+
+// One step: adds the file at the front of a window to the counters, and answers how many bytes it takes.
+#[no_mangle]
+pub extern "C" fn starlark_figures_step(
+    window: &[u8],
+    figures: &mut [u64; 32],
+    out: &mut [u32; 12],
+) -> u32
+    ensures { λ r. ⌜ r ≡ number (stepAnswer (stepOf (now (window .entry)) (now (figures .entry)))) ⌝ }
+    ensures { λ r. ⌜ now (out .exit) ≡
+        laid (words (stepAnswer (stepOf (now (window .entry)) (now (figures .entry))))) 0 (now (out .entry)) ⌝ }
+    ensures { λ r. ⌜ now (figures .exit) ≡ figuresAfter (now (window .entry)) (now (figures .entry)) ⌝ }
+{
+    let answer = figures::step(window, figures);
+    match answer {
+        Stepped::Taken(n) => put_count(n as u32, out),
+        Stepped::Refused(number) => number,
+    }
 }

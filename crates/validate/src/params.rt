@@ -94,6 +94,7 @@ fn list_error(listing: Listing, names: &[u8], t: &[u8], at: usize, errors: &mut 
         Listing::Module => unpack_error(listing, names, t, at, errors),
         Listing::Own => 0,
         Listing::Audit => unpack_error(listing, names, t, at, errors),
+        Listing::Numbers => unpack_error(listing, names, t, at, errors),
     }
 }
 

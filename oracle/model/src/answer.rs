@@ -66,6 +66,8 @@ pub struct Answer {
     pub names: Vec<u8>,
     /// A binding or the parts of a format text, which go to the start of the lent list word by word.
     pub list: Vec<u32>,
+    /// The counts of figures, which are written whole; none where the lent ones stay.
+    pub counts: Vec<u64>,
     /// A notice beside an accepted answer (62), which is among its words too; 0 where there is none.
     pub notice: u32,
 }
@@ -131,6 +133,11 @@ impl Answer {
     pub fn numbers(&self) -> impl Iterator<Item = u32> + '_ {
         let of_errors = self.errors.iter().map(|error| error[0]).chain(self.audited.iter().map(|error| error[0]));
         std::iter::once(self.number).chain(of_errors).chain((self.notice != 0).then_some(self.notice))
+    }
+
+    /// Writes the counts of figures.
+    pub fn write_counts(&self, lent: &mut [u64]) {
+        lent[..self.counts.len()].copy_from_slice(&self.counts);
     }
 
     pub fn write_words(&self, out: &mut [u32; 12]) {

@@ -81,19 +81,32 @@ pub fn written(mut contents: Contents) -> Vec<u8> {
 
 /// The file's contents, or the first refusal: block by block, then what is left over, then 1 to 5.
 pub fn read(file: &[u8]) -> Result<Contents, Refusal> {
-    let mut blocks = Blocks::of(file);
+    let (contents, taken) = front(file)?;
+    if taken < file.len() && !planted(Fault::LeftOverAllowed) {
+        return Err(Refusal::bare(number::BYTES_LEFT_OVER));
+    }
+    contents.judged()
+}
+
+/// What the blocks of the file at the front of some bytes hold, whether it is sound or not, and how many bytes they are.
+pub fn front(bytes: &[u8]) -> Result<(Contents, usize), Refusal> {
+    let mut blocks = Blocks::of(bytes);
     let (nodes, names, dialect) = blocks.header()?;
     let names = blocks.stretch(names, CONTENT)?;
     let table = blocks.stretch(nodes * RECORD_BYTES, NODE_CONTENT)?;
-    if !blocks.rest.is_empty() && !planted(Fault::LeftOverAllowed) {
-        return Err(Refusal::bare(number::BYTES_LEFT_OVER));
+    Ok((Contents { table, names, dialect }, bytes.len() - blocks.rest.len()))
+}
+
+impl Contents {
+    /// The contents, where they pass 3 to 5.
+    pub fn judged(self) -> Result<Contents, Refusal> {
+        if planted(Fault::DialectBeforeTable) {
+            dialect::from_bytes(&self.dialect)?;
+        }
+        Table::check(&self.table, &self.names)?;
+        dialect::from_bytes(&self.dialect)?;
+        Ok(self)
     }
-    if planted(Fault::DialectBeforeTable) {
-        dialect::from_bytes(&dialect)?;
-    }
-    Table::check(&table, &names)?;
-    dialect::from_bytes(&dialect)?;
-    Ok(Contents { table, names, dialect })
 }
 
 /// The blocks of a file, one after another.
@@ -161,6 +174,14 @@ impl<'a> Blocks<'a> {
         }
         Ok(bytes)
     }
+}
+
+/// How many blocks pass at the front of some bytes, for a planted fault.
+pub fn good_blocks(bytes: &[u8]) -> usize {
+    let passes = |(number, block): (usize, &[u8])| {
+        block[0..2] == (number as u16).to_le_bytes() && check_sum(block).to_le_bytes() == block[CHECK_AT..]
+    };
+    bytes.chunks_exact(BLOCK).enumerate().take_while(|&block| passes(block)).count()
 }
 
 /// What the program tablecheck prints for a file.

@@ -1,6 +1,6 @@
 //! Document 01 in Rust: its node table, its file, its limits, and what its definitions answer for every
 //! table. Written from the document, so that it can judge tables that no tree of the crate can be.
-//! And document 02's binding of arguments to parameters, its rescue of files and its reader of format texts, which the crate does not have, and
+//! And document 02's binding of arguments to parameters, its rescue of files, its reader of format texts and its figures, which the crate does not have, and
 //! the audit of a whole table by all jobs.
 
 pub mod answer;
@@ -8,6 +8,7 @@ pub mod audit;
 pub mod bind;
 pub mod call;
 pub mod dialect;
+pub mod figures;
 pub mod file;
 pub mod fstring;
 pub mod jobs;

@@ -129,6 +129,7 @@ pub mod number {
     pub const USED_BYTES: u32 = 73;
     pub const COUNTS: u32 = 74;
     pub const BYTES_LEFT_OVER: u32 = 75;
+    pub const TOO_MANY_FILES: u32 = 76;
 
     pub const STAR_IN_CALL: u32 = 80;
     pub const TOO_MANY_POSITIONAL: u32 = 81;

@@ -196,6 +196,18 @@ faults! {
     WordPastPartsWritten
     LargeTreesUnjudged
     HalfOfTheRandomJobs
+    FiguresLeftOver
+    FiguresRefusedCounted
+    FiguresPositionOfBlock
+    FiguresModesOfRefused
+    FiguresCallsAmongErrors
+    FiguresErrorsThatFit
+    FiguresLambdaUncounted
+    FiguresSumsWrapped
+    FiguresManyAfterShort
+    FiguresNotCleared
+    FiguresRefusedStepWrites
+    FiguresInputChanged
 }
 
 #[cfg(feature = "faults")]

@@ -14,6 +14,7 @@ use model::answer::Span;
 use model::answer::AUDIT_WORDS;
 use model::answer::ERROR_WORDS;
 use model::audit;
+use model::figures;
 use model::file;
 use model::jobs;
 use model::module;
@@ -394,12 +395,15 @@ fn model_answer(request: &Request) -> Answer {
         Job::CheckFile { .. } => jobs::check_file(table),
         Job::FstringWrite { parts, dialect, text } => jobs::fstring_write(parts, table, dialect, text),
         Job::FstringRead { parts, texts } => jobs::fstring_read(table, parts, texts),
+        Job::Figures => figures::report_answer(table),
+        Job::FiguresStep { counts } => figures::step_answer(table, counts),
     }
 }
 
 /// The crate's answer, where the model has not refused with a number that the crate does not have.
 fn judged(request: &Request, model: &Answer) -> Built<Judged> {
-    if is_ours(model.number) || matches!(request.job, Job::Rescue { .. } | Job::Read { .. } | Job::FstringRead { .. }) {
+    let by_model_alone = matches!(request.job, Job::Rescue { .. } | Job::Read { .. } | Job::FstringRead { .. });
+    if is_ours(model.number) || by_model_alone || matches!(request.job, Job::Figures | Job::FiguresStep { .. }) {
         return Err(NotATree);
     }
     if let Job::FstringWrite { parts, dialect, .. } = request.job {
@@ -411,7 +415,7 @@ fn judged(request: &Request, model: &Answer) -> Built<Judged> {
     let table = Table::check(request.table, request.names).map_err(|_| NotATree)?;
     match request.job {
         Job::Table | Job::Write { .. } | Job::Rescue { .. } | Job::Read { .. } | Job::CheckFile { .. } => Err(NotATree),
-        Job::FstringWrite { .. } | Job::FstringRead { .. } => Err(NotATree),
+        Job::FstringWrite { .. } | Job::FstringRead { .. } | Job::Figures | Job::FiguresStep { .. } => Err(NotATree),
         Job::Params { node, .. } => run::params(&table, node).map(Judged::from),
         Job::Call { node } => run::call(&table, node).map(Judged::from),
         Job::Target { node } => run::target(&table, node).map(Judged::from),
@@ -465,7 +469,7 @@ fn with_own_spans(request: &Request) -> Built<Vec<[u32; ERROR_WORDS]>> {
     let table = Table::check(request.table, request.names).map_err(|_| NotATree)?;
     match request.job {
         Job::Table | Job::Write { .. } | Job::Rescue { .. } | Job::Read { .. } | Job::CheckFile { .. } => Err(NotATree),
-        Job::FstringWrite { .. } | Job::FstringRead { .. } => Err(NotATree),
+        Job::FstringWrite { .. } | Job::FstringRead { .. } | Job::Figures | Job::FiguresStep { .. } => Err(NotATree),
         Job::Params { node, .. } => own_spans::params(&table, node),
         Job::Call { node } => own_spans::call(&table, node),
         Job::Target { node } => own_spans::target(&table, node),

@@ -8,6 +8,8 @@ use starlark_checks_raw::starlark_audit;
 use starlark_checks_raw::starlark_bind;
 use starlark_checks_raw::starlark_call;
 use starlark_checks_raw::starlark_check_file;
+use starlark_checks_raw::starlark_figures;
+use starlark_checks_raw::starlark_figures_step;
 use starlark_checks_raw::starlark_fstring_read;
 use starlark_checks_raw::starlark_fstring_write;
 use starlark_checks_raw::starlark_module;
@@ -18,6 +20,7 @@ use starlark_checks_raw::starlark_table;
 use starlark_checks_raw::starlark_target;
 use starlark_checks_raw::starlark_type;
 use starlark_checks_raw::starlark_write;
+use starlark_checks_raw::Counts;
 use starlark_checks_raw::Words;
 
 /// One of the interface's functions with its arguments beside the table and the names.
@@ -42,10 +45,13 @@ pub enum Job<'a> {
     FstringWrite { parts: &'a [u32], dialect: &'a [u8], text: usize },
     /// The request's table is the format text, and its names are none.
     FstringRead { parts: usize, texts: usize },
+    /// The request's table is the input, in the next the window, and its names are none.
+    Figures,
+    FiguresStep { counts: &'a Counts },
 }
 
 /// How many jobs there are: those of the interface, and the program's.
-pub const JOBS: usize = 16;
+pub const JOBS: usize = 18;
 
 /// The jobs by the names that the command line knows.
 pub const NAMES: [&str; JOBS] = [
@@ -64,6 +70,8 @@ pub const NAMES: [&str; JOBS] = [
     "check_file",
     "fstring_write",
     "fstring_read",
+    "figures",
+    "figures_step",
     "file",
 ];
 
@@ -89,6 +97,8 @@ impl Job<'_> {
             Job::CheckFile { .. } => 12,
             Job::FstringWrite { .. } => 13,
             Job::FstringRead { .. } => 14,
+            Job::Figures => 15,
+            Job::FiguresStep { .. } => 16,
         }
     }
 
@@ -110,8 +120,9 @@ pub struct Request<'a> {
 }
 
 const GUARD: usize = 8;
+const COUNTS: usize = model::figures::COUNTS;
 
-/// Everything that a job may change, guards included: the answer's number, `out`, and the lent buffers. And the dialect and the words of a format
+/// Everything that a job may change, guards included: the answer's number, `out`, the counts of figures, and the lent buffers. And the dialect and the words of a format
 /// text's parts, which no job may change.
 #[derive(Clone, Debug, PartialEq, Eq)]
 pub struct Effect {
@@ -123,6 +134,7 @@ pub struct Effect {
     pub words: Vec<u32>,
     pub dialect: Vec<u8>,
     pub parts: Vec<u32>,
+    pub counts: Vec<u64>,
 }
 
 /// No mode, no shape and no length is like it.
@@ -132,6 +144,10 @@ fn byte_pattern(at: usize) -> u8 {
 
 fn word_pattern(at: usize) -> u32 {
     0xa500_0000 | at as u32
+}
+
+fn count_pattern(at: usize) -> u64 {
+    u64::from(word_pattern(at)) << 32 | 7
 }
 
 /// Bytes with guards on both sides.
@@ -168,6 +184,10 @@ impl Effect {
             _ => 0,
         };
         let parts = if let Job::FstringWrite { parts, .. } = *job { guarded_words(parts) } else { Vec::new() };
+        let mut counts: Vec<u64> = (0..COUNTS + 2 * GUARD).map(count_pattern).collect();
+        if let Job::FiguresStep { counts: lent } = *job {
+            counts[GUARD..GUARD + COUNTS].copy_from_slice(lent);
+        }
         Effect {
             number: 0,
             out: std::array::from_fn(word_pattern),
@@ -176,6 +196,7 @@ impl Effect {
             words: (0..words + 2 * GUARD).map(word_pattern).collect(),
             dialect: job.dialect().map_or(Vec::new(), guarded),
             parts,
+            counts,
         }
     }
 
@@ -187,11 +208,16 @@ impl Effect {
         answer.write_bytes(effect.lent_bytes());
         answer.write_names(effect.lent_names());
         answer.write_list(effect.lent_words());
+        answer.write_counts(effect.lent_counts());
         effect
     }
 
     fn out(&mut self) -> &mut Words {
         (&mut self.out[GUARD..GUARD + 12]).try_into().expect("twelve words")
+    }
+
+    fn lent_counts(&mut self) -> &mut Counts {
+        (&mut self.counts[GUARD..GUARD + COUNTS]).try_into().expect("32 counts")
     }
 
     fn lent_bytes(&mut self) -> &mut [u8] {
@@ -237,6 +263,7 @@ impl Effect {
             parts => (parts.as_ptr(), parts.len()),
         };
         let out: *mut Words = self.out();
+        let counts: *mut Counts = self.lent_counts();
         let (bytes, bytes_len) = written(self.lent_bytes(), null_for_none);
         let (second, second_len) = written(self.lent_names(), null_for_none);
         let (words, words_len) = written(self.lent_words(), null_for_none);
@@ -258,6 +285,8 @@ impl Effect {
                 Job::CheckFile { .. } => starlark_check_file(t, tl, words, words_len, out),
                 Job::FstringWrite { .. } => starlark_fstring_write(p, pl, t, tl, d, dl, bytes, bytes_len, out),
                 Job::FstringRead { .. } => starlark_fstring_read(t, tl, words, words_len, second, second_len, out),
+                Job::Figures => starlark_figures(t, tl, counts, out),
+                Job::FiguresStep { .. } => starlark_figures_step(t, tl, counts, out),
             }
         };
     }
@@ -293,6 +322,10 @@ impl fmt::Display for Effect {
         if self.words.len() > 2 * GUARD {
             let shown = self.words.iter().enumerate().take(GUARD + 60).map(word).collect();
             write!(f, ", list [{}]", joined(shown))?;
+        }
+        let is_changed = |(at, &count): (usize, &u64)| count != count_pattern(at);
+        if self.counts.iter().enumerate().any(is_changed) {
+            write!(f, ", counts {:?}", &self.counts[GUARD..GUARD + COUNTS])?;
         }
         if !self.dialect.is_empty() {
             write!(f, ", dialect [{}]", joined(self.dialect.iter().enumerate().map(byte).collect()))?;

@@ -51,6 +51,9 @@ pub struct Recorder {
 impl Recorder {
     /// Keeps the request if it is small and enough of its like are not kept yet.
     pub fn offer(&mut self, request: &Request, answer: &Answer, by_crate: bool) {
+        if let Job::Figures | Job::FiguresStep { .. } = request.job {
+            return; // nothing replays them: the command's tests count the samples
+        }
         let asked = Asked::of(&request.job);
         let is_small = request.table.len() <= if takes_file(&request.job) { MOST_FILE_BYTES } else { MOST_TABLE_BYTES }
             && names_of(request).len() <= if is_format(&request.job) { MOST_PART_BYTES } else { MOST_NAME_BYTES }
@@ -128,7 +131,7 @@ impl<'a> Asked<'a> {
     fn of(job: &Job<'a>) -> Asked<'a> {
         let asked = |dialect, node, room| Asked { dialect, node, second: 0, room, second_room: 0 };
         match *job {
-            Job::Table => asked(&[], 0, 0),
+            Job::Table | Job::Figures | Job::FiguresStep { .. } => asked(&[], 0, 0),
             Job::Params { node, modes } => asked(&[], node, modes),
             Job::Call { node } | Job::Target { node } | Job::Assignment { node } => asked(&[], node, 0),
             Job::Type { dialect, node, shapes } => asked(dialect, node, shapes),

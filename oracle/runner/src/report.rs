@@ -14,7 +14,7 @@ use crate::port::NAMES;
 /// any seed.
 const LEAST: [u64; JOBS] = [
     1_436_000, 2_761_000, 701_000, 2_781_000, 779_000, 3_357_000, 1_640_000, 433_000, 1_420_000, 180_000, 844_000, 121_800, 97_000, 505_000,
-    890_000, 3_400,
+    890_000, 0, 0, 3_400,
 ];
 
 /// What the whole comparison must put to Python at the least, where there is one.
@@ -120,6 +120,8 @@ fn numbers_of_jobs() -> [Vec<usize>; JOBS] {
         of_file(&[10..=19, 50..=61]),
         vec![0, 5, 7, 62, 64],
         vec![0, 7, 63],
+        [0].into_iter().chain(3..=5).chain(70..=74).collect(),
+        [0].into_iter().chain(3..=5).chain(70..=74).chain([76]).collect(),
         of_file(&[]),
     ]
 }

@@ -4,6 +4,7 @@
 use model::answer::Answer;
 use model::answer::AUDIT_WORDS;
 use model::answer::ERROR_WORDS;
+use model::figures;
 use model::jobs;
 use model::planted::planted;
 use model::planted::Fault;
@@ -363,5 +364,28 @@ pub unsafe extern "C" fn starlark_fstring_read(
     }
     answer.write_list(list);
     answer.write_names(texts);
+    give(answer, out)
+}
+
+#[no_mangle]
+pub unsafe extern "C" fn starlark_figures(input: *const u8, input_len: usize, counts: *mut figures::Counts, out: Out) -> u32 {
+    let mut answer = figures::report_answer(lent(input, input_len));
+    if planted(Fault::FiguresNotCleared) {
+        answer.counts.iter_mut().zip(&*counts).for_each(|(sum, before)| *sum = sum.saturating_add(*before));
+    }
+    if planted(Fault::FiguresInputChanged) {
+        change(input, input_len);
+    }
+    answer.write_counts(&mut *counts);
+    give(answer, out)
+}
+
+#[no_mangle]
+pub unsafe extern "C" fn starlark_figures_step(window: *const u8, window_len: usize, counts: *mut figures::Counts, out: Out) -> u32 {
+    let answer = figures::step_answer(lent(window, window_len), &*counts);
+    if planted(Fault::FiguresRefusedStepWrites) && answer.number != 0 {
+        (*counts)[figures::NODES] = (*counts)[figures::NODES].wrapping_add(1);
+    }
+    answer.write_counts(&mut *counts);
     give(answer, out)
 }

@@ -13,6 +13,9 @@ free-spec =
     (λ c κs. search needs)
     (λ c. search needs)
     (λ c κs. search needs)
+    (λ c. search needs)
+    (λ c κs. search needs)
     (λ c. rw (c .before .enum-told .given .1) (c .free-short .ensures))  -- returns
     (λ c. rw (c .before .enum-told2 .given .1) (c .free-long .ensures))  -- returns-2
-    (λ c. rw (c .before .enum-told3 .given .1) (c .free-long2 .ensures)))  -- returns-3
+    (λ c. rw (c .before .enum-told3 .given .1) (c .free-long2 .ensures))  -- returns-3
+    (λ c. rw (c .before .enum-told4 .given .1) (c .free-numbers .ensures)))  -- returns-4

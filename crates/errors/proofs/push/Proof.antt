@@ -15,8 +15,12 @@ push-spec =
     (λ c. search needs)
     (λ c κs. search needs)
     (λ c. search needs)
+    (λ c κs. search needs)
+    (λ c. search needs)
     (λ c. search push-form)  -- returns
     (λ c. search needs)
     (λ c. search push-form)  -- returns-2
     (λ c. search needs)
-    (λ c. search push-form))  -- returns-3
+    (λ c. search push-form)  -- returns-3
+    (λ c. search needs)
+    (λ c. search push-form))  -- returns-4

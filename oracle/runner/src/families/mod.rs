@@ -5,6 +5,7 @@ pub mod bindings;
 pub mod boundaries;
 pub mod dialects;
 pub mod examples;
+pub mod figures;
 pub mod files;
 pub mod formats;
 pub mod largest;
@@ -101,7 +102,9 @@ const READ: u32 = 1 << 11;
 const CHECK_FILE: u32 = 1 << 12;
 const FSTRING_WRITE: u32 = 1 << 13;
 const FSTRING_READ: u32 = 1 << 14;
-const FILE: u32 = 1 << 15;
+const FIGURES: u32 = 1 << 15;
+const FIGURES_STEP: u32 = 1 << 16;
+const FILE: u32 = 1 << 17;
 /// Those that take a table.
 const ARCHIVE: u32 = (RESCUE - 1) | AUDIT;
 /// Those that take a file and read it.
@@ -168,6 +171,9 @@ pub const ALL: &[Family] = &[
     family("format texts, every short one", 2, FORMATS, formats::texts, [725_570, 48_430, 48_430]),
     family("format texts, every list", 2, FORMATS, formats::lists, [462_180, 74_200, 109_990]),
     family("format texts, random", 2, FORMATS, formats::random, [212_000, 31_000, 30_700]),
+    family("figures, corner cases", 1, FIGURES | FIGURES_STEP, figures::corners, [0, 0, 0]),
+    family("figures, every cut", 2, FIGURES | FIGURES_STEP, figures::cuts, [0, 0, 0]),
+    family("figures, random joins", 2, FIGURES | FIGURES_STEP, figures::random, [0, 0, 0]),
     family("files, through the program", 1, FILE, files::files, [1_700, 0, 0]),
 ];
 

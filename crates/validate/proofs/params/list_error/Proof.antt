@@ -15,7 +15,11 @@ list-error-spec =
     (λ c. search needs)
     (λ c κs. search needs)
     (λ c. search needs)
+    (λ c κs. search needs)
+    (λ c. search needs)
     (λ c. search needs)
     (λ c. search own-judges-none)  -- returns-2
+    (λ c. search needs)
+    (λ c. search needs)
     (λ c. search needs)
     (λ c. search needs))

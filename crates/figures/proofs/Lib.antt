@@ -1,0 +1,3 @@
+pub mod Additions
+pub mod Occurring
+pub mod Lists

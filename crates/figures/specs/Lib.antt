@@ -1,0 +1,4 @@
+pub mod Counting
+pub mod Adding
+pub mod Reporting
+pub mod Walking

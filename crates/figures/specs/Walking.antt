@@ -1,0 +1,88 @@
+-- What inner functions of the crate add to the counters, and what they may suppose. These are definitions that only
+-- contracts of private functions use.
+use mathlib.Core.Path.{_≡_}
+use mathlib.Core.Bool.{Bool}
+use mathlib.Core.List.{List, [], _∷_, _++_}
+use Prim.Native.Nat.{ℕ, _+_, _-_, _≤_, _<_}
+use lib.ListN.{replicate}
+use Rattle.table.specs.Answer.{Answer, accepted, refused, passes, isRefused}
+use Rattle.table.specs.Check.{checkOf}
+use Rattle.dialect.specs.declared.Dialect.{Dialect}
+use Rattle.validate.specs.Job.{passErrors}
+use Rattle.deflist.specs.Unpack.{modePosOnly, modePosOrName, modeNameOnly, modeArgs, modeKwargs}
+use Rattle.deflist.specs.declared.Counts.{Counts}
+use Rattle.deflist.specs.declared.FlatPlace.{FlatPlace}
+use Rattle.deflist.specs.declared.FlatPlace.the-variants.{AtFlat, NoFlat}
+use Rattle.deflist.specs.declared.Judged.{Judged}
+use Rattle.deflist.specs.declared.Judged.the-variants.{Accepted, Refused}
+use Rattle.figures.specs.Counting.{one, nodesOf, total, listAt, modeAt, acceptedAt, refusedAt, numbersOf}
+use Rattle.figures.specs.Counting.{errorCounts}
+
+-- one counter's figure: v at the place k
+unfoldable pub only : ℕ → ℕ → List ℕ
+only k v = replicate k 0 ++ v ∷ []
+
+-- the sum of figures
+unfoldable pub plus : List ℕ → List ℕ → List ℕ
+plus [] ys = ys
+plus (x ∷ xs) [] = x ∷ xs
+plus (x ∷ xs) (y ∷ ys) = (x + y) ∷ plus xs ys
+
+-- how many of `*args` or `**kwargs` there are
+abbrev pub places : FlatPlace → ℕ
+places (AtFlat i) = 1
+places NoFlat = 0
+
+-- the five ranges that unpack has counted follow one another
+pub record Ranged (c : Counts) : Type 0 where
+  pub before : c .«num_positional_only» .0 ≤ c .«num_positional» .0
+  pub behind : c .«num_positional» .0 + places (c .args) + places (c .kwargs) ≤ c .flat .0
+
+abbrev pub RangedIn : Judged → Type 0
+RangedIn (Accepted c) = Ranged c
+RangedIn (Refused f) = Unit {0}
+
+-- the lengths of the ranges, in the order of the modes
+abbrev pub rangeCounts : Counts → List ℕ
+rangeCounts c =
+    c .«num_positional_only» .0 ∷ (c .«num_positional» .0 - c .«num_positional_only» .0)
+    ∷ (c .flat .0 - (c .«num_positional» .0 + places (c .args) + places (c .kwargs))) ∷ places (c .args)
+    ∷ places (c .kwargs) ∷ []
+
+-- what one list adds, by what unpack says of it: the list, and the lengths of its ranges if it is accepted
+abbrev pub listFigures : Judged → List ℕ
+listFigures (Accepted c) = 0 ∷ 0 ∷ 1 ∷ rangeCounts c
+listFigures (Refused f) = 0 ∷ 0 ∷ 1 ∷ []
+
+-- what one call adds, by what its job answers
+abbrev pub callFigures : Answer → List ℕ
+callFigures a = replicate 8 0 ++ one (passes a) ∷ one (isRefused a) ∷ []
+
+-- what one node adds, and what the nodes 0 to n - 1 add together
+abbrev pub modesAt : (ℕ → ℕ) → List ℕ → List ℕ
+modesAt count rest = count modePosOnly ∷ count modePosOrName ∷ count modeNameOnly ∷ count modeArgs ∷ count modeKwargs
+    ∷ rest
+
+unfoldable pub nodeFigures : List ℕ → List ℕ → ℕ → List ℕ
+nodeFigures t names i =
+    0 ∷ 0 ∷ listAt t i ∷ modesAt (λ k. modeAt k t names i) (acceptedAt t names i ∷ refusedAt t names i ∷ [])
+
+unfoldable pub nodesFigures : List ℕ → List ℕ → ℕ → List ℕ
+nodesFigures t names n =
+    0 ∷ 0 ∷ total n (listAt t)
+    ∷ modesAt (λ k. total n (modeAt k t names)) (total n (acceptedAt t names) ∷ total n (refusedAt t names) ∷ [])
+
+-- what errors of these numbers add
+unfoldable pub errorFigures : List ℕ → List ℕ
+errorFigures ns = replicate 10 0 ++ errorCounts ns
+
+-- the figures of a table in a dialect, as they are added: one file, its nodes, what is counted node by node, the errors
+unfoldable pub figuresIn : Dialect → List ℕ → List ℕ → List ℕ
+figuresIn d t names =
+    plus (only 0 1) (plus (only 1 (nodesOf t)) (plus (nodesFigures t names (nodesOf t))
+    (errorFigures (numbersOf (passErrors d names t)))))
+
+-- a node of a table that is sound
+pub record NodeIn (t names : List ℕ) (i : ℕ) : Type 0 where
+  pub sound : checkOf t names ≡ accepted []
+  pub within : i < nodesOf t

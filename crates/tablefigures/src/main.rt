@@ -1,0 +1,266 @@
+// Counts over table files that stand one after another in the file that its argument names, or else in standard input.
+// It prints 32 lines, each a name and a count, and, where a file is refused, the last line `refused NUMBER POSITION`.
+// It only reads, calls and prints: what a file adds is the library's, figures::step. The buffer has two windows: a step
+// sees at least one, or all that is left, and bytes are moved only where less than one is unread. A read that fails
+// prints no report.
+use blocks::BLOCK_BYTES;
+use figures::FIGURES;
+use figures::Stepped;
+use libc::STDIN_FILENO;
+use libc::STDOUT_FILENO;
+use tablefile::MOST_BLOCKS;
+
+// The bytes of the largest table file: a step sees no more of its input.
+const WINDOW: usize = BLOCK_BYTES * MOST_BLOCKS;
+
+const BUFFER: usize = 2 * WINDOW;
+
+// What a turn came to: so many bytes are left in the buffer, the first of them at a place of the input; the input is
+// counted; a file is refused at a place of the input; or a read failed.
+enum Turn {
+    On { left: usize, at: u64 },
+    Whole,
+    Refused { number: u32, at: u64 },
+    Failed,
+}
+
+// How the steps over the buffer ended: they need more bytes from a place on, or a file is refused there.
+enum Went {
+    On(usize),
+    Stopped(usize, u32),
+}
+
+// What came of reading: so many bytes are in the buffer, or a read failed.
+enum Got {
+    Bytes(usize),
+    Failed,
+}
+
+fn main() {
+    if os::arg_count() < 2 {
+        count(STDIN_FILENO, b"standard input");
+        return;
+    }
+    let mut path = io::buffer();
+    let k = os::arg(1, &mut path);
+    if os::errno() != 0 {
+        os::fail(b"the file's name");
+        return;
+    }
+    let fd = os::open_read(&path[..k]);
+    if fd < 0 {
+        os::fail(&path[..k]);
+        return;
+    }
+    count(fd, &path[..k]);
+    libc::close(fd);
+}
+
+// A proved loop has to end, and nothing says that an input does. So the loop counts its turns down, from a number that
+// no input uses up.
+fn count(fd: i32, name: &[u8]) {
+    let mut buffer = [0u8; BUFFER];
+    let mut counters = [0u64; FIGURES];
+    let mut held = 0;
+    let mut position = 0u64;
+    let mut turns = u64::MAX;
+    while 0 < turns {
+        let turn = take(fd, &mut buffer, held, position, &mut counters);
+        match turn {
+            Turn::On { left, at } => {
+                held = left;
+                position = at;
+            }
+            Turn::Whole => {
+                say_figures(&counters);
+                return;
+            }
+            Turn::Refused { number, at } => {
+                say_figures(&counters);
+                say_refused(number, at);
+                return;
+            }
+            Turn::Failed => {
+                os::fail(name);
+                return;
+            }
+        }
+        turns -= 1;
+    }
+}
+
+// One turn: fills the buffer, counts the files that are whole in it, and moves what is left to its front. The bytes that
+// are held stand at a position of the input.
+fn take(
+    fd: i32,
+    buffer: &mut [u8],
+    held: usize,
+    position: u64,
+    counters: &mut [u64; FIGURES],
+) -> Turn {
+    let got = fill(fd, buffer, held);
+    let Got::Bytes(n) = got else {
+        return Turn::Failed;
+    };
+    let ended = n < buffer.len();
+    let went = walk(buffer, n, least(ended), counters);
+    match went {
+        Went::Stopped(at, number) => Turn::Refused {
+            number: number,
+            at: sum(position, at as u64),
+        },
+        Went::On(at) => {
+            if ended {
+                return Turn::Whole;
+            }
+            Turn::On {
+                left: move_front(buffer, at, n),
+                at: sum(position, at as u64),
+            }
+        }
+    }
+}
+
+// How many bytes a step must see: a window, and at the end of the input all that is left.
+fn least(ended: bool) -> usize {
+    if ended {
+        return 1;
+    }
+    WINDOW
+}
+
+// Reads behind the bytes that are held until the buffer is full or the input ends, and tells a read that fails from an
+// end.
+fn fill(fd: i32, buffer: &mut [u8], held: usize) -> Got {
+    let mut done = held;
+    while done < buffer.len() {
+        let got = libc::read(fd, &mut buffer[done..]);
+        if got < 0 {
+            return Got::Failed;
+        }
+        let more = io::count(got, &buffer[done..]);
+        if more == 0 {
+            return Got::Bytes(done);
+        }
+        done += more;
+    }
+    Got::Bytes(done)
+}
+
+// Steps over the first n bytes of the buffer, as long as so many are unread. A file takes at least a byte, so n steps are
+// enough.
+fn walk(buffer: &[u8], n: usize, wanted: usize, counters: &mut [u64; FIGURES]) -> Went {
+    let mut at = 0;
+    let mut turns = n;
+    while 0 < turns {
+        if left(at, n) < wanted {
+            return Went::On(at);
+        }
+        let stepped = figures::step(part(buffer, at, n), counters);
+        match stepped {
+            Stepped::Taken(k) => {
+                at = held_sum(at, k);
+            }
+            Stepped::Refused(number) => {
+                return Went::Stopped(at, number);
+            }
+        }
+        turns -= 1;
+    }
+    Went::On(at)
+}
+
+// The bytes from a place up to an end; none where there are none.
+fn part(buffer: &[u8], at: usize, end: usize) -> &[u8] {
+    if buffer.len() < end {
+        return &buffer[0..0];
+    }
+    if end < at {
+        return &buffer[0..0];
+    }
+    &buffer[at..end]
+}
+
+// How many bytes stand from a place up to an end.
+fn left(at: usize, end: usize) -> usize {
+    if end < at {
+        return 0;
+    }
+    end - at
+}
+
+// Moves the bytes from a place up to an end to the front, and answers how many these are.
+fn move_front(buffer: &mut [u8], at: usize, end: usize) -> usize {
+    let n = left(at, end);
+    let mut i = 0;
+    while i < n {
+        move_one(buffer, at, i);
+        i += 1;
+    }
+    n
+}
+
+// Moves one byte; none where the place is not in the buffer.
+fn move_one(buffer: &mut [u8], at: usize, i: usize) {
+    let from = held_sum(at, i);
+    if from < buffer.len() {
+        if i < buffer.len() {
+            buffer[i] = buffer[from];
+        }
+    }
+}
+
+// Two numbers in one, or the largest there is.
+fn sum(a: u64, b: u64) -> u64 {
+    if u64::MAX - a < b {
+        return u64::MAX;
+    }
+    a + b
+}
+
+fn held_sum(a: usize, b: usize) -> usize {
+    if usize::MAX - a < b {
+        return usize::MAX;
+    }
+    a + b
+}
+
+// The 32 lines.
+fn say_figures(counters: &[u64; FIGURES]) {
+    say_line(b"files ", counters[0]);
+    say_line(b"nodes ", counters[1]);
+    say_line(b"lists ", counters[2]);
+    say_numbered(b"mode ", 1, &counters[3..8]);
+    say_line(b"calls accepted ", counters[8]);
+    say_line(b"calls refused ", counters[9]);
+    say_numbered(b"error ", 10, &counters[10..20]);
+    say_numbered(b"error ", 50, &counters[20..32]);
+}
+
+// Lines of counts that are numbered from a first number on.
+fn say_numbered(text: &[u8], first: u64, counts: &[u64]) {
+    let n = counts.len();
+    let mut i = 0;
+    while i < n {
+        say(text);
+        io::print_decimal(STDOUT_FILENO, sum(first, i as u64));
+        say_line(b" ", counts[i]);
+        i += 1;
+    }
+}
+
+fn say_refused(number: u32, at: u64) {
+    say(b"refused ");
+    io::print_decimal(STDOUT_FILENO, number as u64);
+    say_line(b" ", at);
+}
+
+fn say_line(text: &[u8], n: u64) {
+    say(text);
+    io::print_decimal(STDOUT_FILENO, n);
+    say(b"\n");
+}
+
+fn say(text: &[u8]) {
+    io::write_all(STDOUT_FILENO, text);
+}
