@@ -123,7 +123,7 @@ REPORT = """Writes to OUT one page of HTML about each PATH (a table file, a scri
 script and without anything that is loaded:
   refused tables, and what is known of them
   expectations, where there are any (see `ducat bind --help`)
-  the number of inputs of each dialect
+  the figures of their tables (see `ducat figures --help`), and the number of inputs of each dialect
   with --books which dialect each zone has at each setting
   each script's text with its errors marked, and each call drawn with lines from its arguments to the parameters
   that they reach; exchanged ones have a colour and a pattern of their own

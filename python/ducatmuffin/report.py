@@ -3,10 +3,11 @@
 The page has no script and loads nothing. What it says of a table is the library's answer; it counts only the files by dialect.
 """
 from . import book, check, dialects, files, page, scripts
-from .bind import Places, Tree, Whole, counted
+from .bind import MODES, Places, Tree, Whole, counted
 from .check import ACCEPTED, ERRORS, NO_TABLE, OTHER, REFUSED, STEP, SYNTAX, UNREADABLE, Answer, Checker, Totals
 from .expect import Expectations
-from .library import BookRefusal, Refusal
+from .library import COUNTED_ERRORS, NO_FIGURES, BookRefusal, Refusal
+from .numbers import WORDS
 from .output import Failed, Progress, Report, digest, named, say
 
 DRAWN = 2000  # the most pairs of an input that are drawn
@@ -76,7 +77,7 @@ class Maker:
         how = check.Options(explain=True, json=True, dialect=options.dialect, scripts=options.scripts, format="json")
         how.by_books = options.zone is not None
         self.checker, self.totals, self.inputs, self.status = Checker(library, how), Totals(), [], 0
-        self.expectations = Expectations(options.expectations)
+        self.expectations, self.figures, self.uncounted = Expectations(options.expectations), NO_FIGURES, 0
 
     def add(self, one):
         found = self.checker.found(one)
@@ -84,6 +85,7 @@ class Maker:
         shown = Shown(len(self.inputs) + 1, found, self.checker.entry(found))
         self.inputs.append(shown)
         if found.verdict in (ACCEPTED, ERRORS):
+            self.figure(found)
             calls = self.calls_of(shown)
             shown.expect()
             shown.part = f"{self.texts(shown)}<h4>Calls</h4>\n{calls}"  # what comes before says which lines are linked to
@@ -93,6 +95,16 @@ class Maker:
             shown.part = self.texts(shown) if found.verdict == SYNTAX else ""
         self.status = max([self.status, shown.status, *(int(not one.met) for one in shown.judged)])
         found.pieces = found.data = found.statements = None  # nothing of it is needed any more
+
+    def figure(self, found):
+        """Adds the figures of an input's tables: the library writes each as a table file, and counts it."""
+        for piece in found.pieces:
+            written = self.library.write(piece.table, piece.names, found.dialect)
+            answer = written if type(written) is Refusal else self.library.figures_step(written.data, self.figures)
+            if type(answer) is Refusal:
+                self.uncounted += 1
+            else:
+                self.figures = answer.figures
 
     # ---- the calls of an input
 
@@ -201,6 +213,7 @@ def page_of(maker, books, proved):
     parts.add("refused", "Refused tables", refused_part([one for one in inputs if one.found.verdict == REFUSED]))
     parts.add("unread", "Inputs that are not read or have no table", unread_part([one for one in inputs if "failed" in one.entry]))
     parts.add("expected", "Expectations", expected_part(inputs))
+    parts.add("figures", "Figures", figures_part(maker.figures, maker.uncounted))
     parts.add("dialects", "Files by dialect", dialects_part(inputs))
     parts.add("books", "Dialects by zone and setting", books)
     rest = [one for one in inputs if one.found.verdict in (ACCEPTED, ERRORS, SYNTAX)]
@@ -231,6 +244,24 @@ def unread_part(inputs):
 def expected_part(inputs):
     rows = [(text, f'<a href="#{one.key}">{one.name}</a>' if one.part else one.name, came, why) for one in inputs for text, came, why in one.expected]
     return page.table("Every call must pass this name to this parameter", ("expectation", "input", "result", "why"), rows) if rows else ""
+
+
+def figures_part(figures, uncounted):
+    """The library's figures, as bars by error number and by mode."""
+    if not figures.files:
+        return ""
+    errors = [(number, getattr(figures, f"error_{number}")) for number in COUNTED_ERRORS]
+    modes = [(words, getattr(figures, f"mode_{mode}")) for mode, words in MODES.items()]
+    said = (f"{counted(figures.files, 'table')}, {counted(figures.nodes, 'node')}, {counted(figures.lists, 'parameter list')}, "
+            f"{counted(figures.calls_accepted, 'call')} with accepted arguments, {counted(figures.calls_refused, 'call')} with refused ones.")
+    said += f" Not counted: {counted(uncounted, 'table')}." if uncounted else ""
+    most = max(many for _, many in errors)
+    rows = [(f"{number}: {page.text(WORDS[number])}", many, page.bar(many, most)) for number, many in errors if many]
+    of_errors = page.table("Errors of the module pass by number; those that are not here have none", ("error", "how many", "as a bar"), rows) if rows else ""
+    most = max(many for _, many in modes)
+    rows = [(words, many, page.bar(many, most)) for words, many in modes]
+    return f"<p>{said}</p>\n{of_errors or '<p>The module pass finds no error.</p>'}\n" + page.table(
+        "Parameters of accepted lists, by how they take arguments", ("mode", "parameters", "as a bar"), rows)
 
 
 def dialects_part(inputs):

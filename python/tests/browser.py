@@ -221,7 +221,7 @@ def main():
             for name, data in looks(browser, page, faults).items():
                 put(os.path.join(ROOM, f"{name}.png"), data)
             works(browser, page, room, faults)
-            browser.open(small, 900, 1000)
+            browser.open(small, 960, 1000)
             picture = browser.picture("document.querySelector('details')")
             put(os.path.join(ROOM, "report.png"), picture)
         finally:

@@ -310,6 +310,21 @@ class Whole(ReportTest):
             counts[name] = counts.get(name, 0) + 1
         self.assertEqual({name: int(many) for name, many in rows}, counts)
 
+    def test_figures(self):
+        """The figures of a page are those of `ducat figures` over the same table files."""
+        names = ["samples/example.table", "samples/whole.table", "samples/take.table", "samples/joined.table", "samples/lambda.table"]
+        root = self.report(1, *names)
+        told = dict(line.rsplit(" ", 1) for line in self.run_ducat("figures", *names).out.splitlines())
+        for caption, key in (("Errors of the module pass", "error {}"), ("Parameters of accepted lists", "mode {}")):
+            table = next(one for one in root.all("table") if one.one("caption").text.startswith(caption))
+            rows = [[cell.text for cell in row.children if isinstance(cell, Element)] for row in table.all("tr")][1:]
+            for at, (name, many, _) in enumerate(rows, 1):
+                self.assertEqual(many, told[key.format(name.partition(":")[0] if "error" in key else at)], name)
+            self.assertEqual(sum(int(row[1]) for row in rows), sum(int(many) for name, many in told.items() if name.startswith(key[:4])))
+        section = next(one for one in root.all("section", aria_labelledby="figures"))
+        self.assertIn(f"5 tables, {told['nodes']} nodes, {told['lists']} parameter lists, {told['calls accepted']} calls with accepted arguments, "
+                      f"{told['calls refused']} call", section.text)
+
     def test_books(self):
         books = ("--books", "samples/zones.book", "samples/line.book")
         root = self.report(0, "samples/clean.table", *books)
