@@ -22,7 +22,7 @@ STYLE = """
 body{margin:0 auto;max-width:75rem;padding:1rem;background:var(--back);color:var(--fore);font:16px/1.5 system-ui,sans-serif;overflow-wrap:anywhere}
 h1{font-size:1.6rem;margin:.5rem 0}h2{font-size:1.3rem;margin:2rem 0 .5rem}h3{font-size:1rem;display:inline;margin:0}h4{margin:1rem 0 .3rem}
 a{color:var(--link)}:focus-visible{outline:3px solid var(--link);outline-offset:2px}:target{outline:2px dashed var(--link)}
-code,pre,.src{font-family:ui-monospace,"DejaVu Sans Mono",Menlo,Consolas,monospace}
+code,pre,.src,figcaption{font-family:ui-monospace,"DejaVu Sans Mono",Menlo,Consolas,monospace}
 .wide{overflow-x:auto}table{border-collapse:collapse}caption{text-align:left;color:var(--dim);padding:.2rem 0}
 th,td{border:1px solid var(--line);padding:.25rem .6rem;text-align:left;vertical-align:top;overflow-wrap:break-word}td.n{text-align:right}
 th code{white-space:nowrap}nav ul{display:flex;flex-wrap:wrap;gap:.2rem 1.5rem;list-style:none;padding:0}
@@ -35,7 +35,7 @@ mark:empty::before{content:"\\2038"}.w{display:block;white-space:normal;font-fam
 .calls{display:grid;grid-template-columns:repeat(auto-fill,minmax(min(100%,26rem),1fr));gap:.8rem}
 figure{display:grid;grid-template-columns:auto 90px auto 1fr;align-content:start;gap:0 .5rem;margin:0;padding:.5rem .7rem;border:1px solid var(--line);
 border-radius:.3rem;min-width:0;overflow-x:auto;break-inside:avoid}
-figcaption,figure p{grid-column:1/-1;margin:0 0 .4rem;min-width:0}figure p{font-size:.9rem}
+figcaption,figure p{grid-column:1/-1;margin:0 0 .4rem;min-width:0;font-size:.9rem}
 figure pre{margin:0;font-size:13px;line-height:24px}figure pre.dim{font-size:11px}
 path{fill:none;stroke-width:2}.a{stroke:var(--place)}.b{stroke:var(--name);stroke-dasharray:8 4}.c{stroke:var(--more);stroke-dasharray:2 3}
 .d{stroke:var(--dim);stroke-dasharray:1 5;stroke-linecap:round}path.s{stroke:var(--swap);stroke-width:4;stroke-dasharray:12 3 3 3}
@@ -70,12 +70,12 @@ def whole(title, parts):
         f"<title>{title}</title>\n<style>{STYLE}</style>\n</head>\n<body>\n", *parts, "</body>\n</html>\n"]).encode("utf-8", "replace")
 
 
-def table(caption, head, rows, kind=""):
+def table(caption, head, rows):
     """A table of cells that are escaped already. A cell that begins with a digit stands to the right."""
     cells = "".join(f'<th scope="col">{cell}</th>' for cell in head)
     lines = "".join("<tr>" + f'<th scope="row">{row[0]}</th>' + "".join(f"<td{' class=n' if str(cell)[:1].isdigit() else ''}>{cell}</td>" for cell in row[1:])
                     + "</tr>\n" for row in rows)
-    return (f'<div class="wide" tabindex="0"><table{kind}><caption>{caption}</caption>\n<thead><tr>{cells}</tr></thead>\n'
+    return (f'<div class="wide" tabindex="0"><table><caption>{caption}</caption>\n<thead><tr>{cells}</tr></thead>\n'
             f"<tbody>\n{lines}</tbody></table></div>\n")
 
 

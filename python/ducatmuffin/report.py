@@ -110,11 +110,12 @@ class Maker:
 
     def calls_of(self, shown):
         if not shown.held:
+            shown.judged = self.expectations.unmet("the input has no script, and a table has no names of defs")
             return "<p>Without its script no call is paired with a def: a table has no names of defs.</p>\n"
         try:
             return self.calls(shown, self.world(shown.found, shown.held))
         except Failed as error:
-            shown.status = 2
+            shown.status, shown.judged = 2, self.expectations.unmet("the input is not bound to its script")
             return f'<p class="bad">No call is drawn: {page.text(str(error))}</p>\n'
 
     def world(self, found, held):
@@ -151,7 +152,7 @@ class Maker:
 
     def call(self, shown, world, pair):
         said = page.text(world.text(pair.call))
-        top = f'<figure><figcaption>{shown.line(world.node_json(pair.call))} <code>{said}</code>, def {shown.line(world.node_json(pair.def_))}</figcaption>\n'
+        top = f'<figure><figcaption>{shown.line(world.node_json(pair.call))} {said}, def {shown.line(world.node_json(pair.def_))}</figcaption>\n'
         if pair.beyond:
             return f'{top}<p class="bad">not judged: {page.text(pair.beyond)}</p></figure>\n'
         lines, refused = pair.lines(True), type(pair.answer) is Refusal

@@ -349,6 +349,9 @@ class Whole(ReportTest):
         self.assertEqual(rows[0][:3], ["take.trains=trains", "samples/take.star", "not met"])
         self.assertIn("10:10 trains takes tracks, not trains", rows[0][3])
         self.assertEqual(rows[1][2:], ["not met", "take is defined nowheretake is never called"])
+        root = self.report(1, self.put("alone.table", support.sample("clean.table")), "--expect", "take.trains=trains")
+        self.assertIn("the input has no script, and a table has no names of defs", root.text)
+        self.report(2, "samples/take.table", "--script", "samples/clean.star", "--expect", "take.trains=trains")
 
     def test_status(self):
         path = self.put("x.star", "def order(trains, tracks): pass\norder(tracks, trains)\n")
