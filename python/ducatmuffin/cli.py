@@ -95,7 +95,9 @@ An argument whose name, or whose field's name, is that of an ordinary parameter 
 a namesake. Two are exchanged where each has the name of the parameter that the other reaches:
   namesake: X (PLACE) reaches P, though there is a parameter X
   exchanged: X (PLACE) reaches Y, and Y (PLACE) reaches X
-With --strict the status is then 1, unless an expectation states it. A table file alone gives its defs and calls with their nodes; --call and --def then name two of them. A call
+With --strict the status is then 1, unless an expectation states it.
+
+A table file alone gives its defs and calls with their nodes; --call and --def then name two of them. A call
 of a call, such as outer(1)(2), and a method call are listed as such and bound to no def.
 
 Which argument reaches which parameter is proved. Which call is paired with which def is not: a name that
@@ -115,9 +117,9 @@ A script that is larger than a table may be is bound too: a call and a def in a 
 statements. A pair that exceeds a limit of a table is listed as not judged.
 
 Exit status: 0 every call is accepted; 1 a call or def is refused (10 to 84), a script is not Starlark, an
-expectation is not met, or with --strict there is a namesake that no expectation states; 2 a
-file is refused or cannot be read, a node is not a Call or not a Def (6), a pair is not judged, the script is not
-the table's, wrong usage, no library, or output that cannot be written."""
+expectation is not met, or with --strict there is a namesake that no expectation states; 2 a file is refused or
+cannot be read, a node is not a Call or not a Def (6), a pair is not judged, the script is not the table's, wrong
+usage, no library, or output that cannot be written."""
 
 REPORT = """Writes to OUT one page of HTML about each PATH (a table file, a script or a folder, as for `ducat check`), without
 script and without anything that is loaded:
@@ -132,7 +134,8 @@ and prints the totals of `ducat check` and
 
 REPORT_MORE = """Exit status: 0 no errors; 1 errors, a call is refused, an expectation is not met, or with --strict there is a namesake
 that no expectation states; 2 an input is refused or cannot be read, nothing is found in a PATH, a pair is not
-judged, wrong usage, no library, or OUT cannot be written. OUT is written in every case but the last three."""
+judged, wrong usage, no library, or OUT cannot be written. Where the books give no dialect for --zone and --setting the
+status is that of `ducat book lookup`, and OUT is as it was."""
 
 RESCUE = """Writes to OUT a sound table file with what can be kept of the damaged table file IN (`-` is standard input),
 and prints
@@ -324,10 +327,10 @@ def add_list(parser):
     parser.add_argument("-0", "--null", action="store_true", help="the names of --files-from end with NUL, not with a newline")
 
 
-def add_books(parser):
+def add_books(parser, shown=""):
     from .book import SETTING, ZONE
     parser.add_argument("--books", metavar=("ZONEBOOK", "LINEBOOK"), nargs=2,
-                        help="check scripts, and table files without a dialect, in the dialect that these books give for --zone and --setting")
+                        help=f"{shown}check scripts, and table files without a dialect, in the dialect that these books give for --zone and --setting")
     parser.add_argument("--zone", metavar="Z", type=ZONE, help="the zone, for --books")
     parser.add_argument("--setting", metavar="S", type=SETTING, help="the setting, for --books")
 
@@ -416,7 +419,7 @@ def report_parser():
     add_script(parser, "the script of the table files")
     add_expect(parser)
     add_dialect(parser, "of scripts; a table file has its own")
-    add_books(parser)
+    add_books(parser, "show which dialect each zone has at each setting; with --zone and --setting also ")
     parser.add_argument("--exclude", metavar="GLOB", action="append", default=[],
                         help="leave out what a search finds and whose name or path matches; may be repeated")
     add_as_script(parser)

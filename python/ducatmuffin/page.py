@@ -23,7 +23,7 @@ body{margin:0 auto;max-width:75rem;padding:1rem;background:var(--back);color:var
 h1{font-size:1.6rem;margin:.5rem 0}h2{font-size:1.3rem;margin:2rem 0 .5rem}h3{font-size:1rem;display:inline;margin:0}h4{margin:1rem 0 .3rem}
 a{color:var(--link)}:focus-visible{outline:3px solid var(--link);outline-offset:2px}:target{outline:2px dashed var(--link)}
 code,pre,.src,figcaption{font-family:ui-monospace,"DejaVu Sans Mono",Menlo,Consolas,monospace}
-.wide{overflow-x:auto}table{border-collapse:collapse}caption{text-align:left;color:var(--dim);padding:.2rem 0}
+.wide{overflow-x:auto;margin:.6rem 0}table{border-collapse:collapse}caption{text-align:left;color:var(--dim);padding:.2rem 0}
 th,td{border:1px solid var(--line);padding:.25rem .6rem;text-align:left;vertical-align:top;overflow-wrap:break-word}td.n{text-align:right}
 th code{white-space:nowrap}nav ul{display:flex;flex-wrap:wrap;gap:.2rem 1.5rem;list-style:none;padding:0}
 details{border:1px solid var(--line);border-radius:.4rem;margin:.4rem 0;padding:.3rem .8rem}summary{cursor:pointer}
