@@ -1,7 +1,7 @@
 #!/usr/bin/env python3
-"""Tries what no promise says of the programs tablecheck and tablerescue: how much they read, what they print, and how OUT is replaced.
+"""Tries what no promise says of the programs tablecheck, tablerescue and tablefigures: how much they read, what they print, and how OUT is replaced.
 
-They must be built (rt check tablecheck tablerescue). Each is run as rt runs it, on Arm under the kit's emulator. For the comparison of the
+They must be built (rt check tablecheck tablerescue tablefigures). Each is run as rt runs it, on Arm under the kit's emulator. For the comparison of the
 command with them there is a step of its own. Status 1, with a line for each fault, where something is not as it must be.
 """
 import os
@@ -118,6 +118,26 @@ def rescue(room):
     huge.unlink()
 
 
+def figures(room):
+    """tablefigures on the samples, on many files through its buffer, and on what cannot be read."""
+    place, one, whole = room / "in.tables", (SAMPLES / "example.table").read_bytes(), largest()
+    none = "".join(line.rpartition(" ")[0] + " 0\n" for line in (SAMPLES / "three.figures").read_text().splitlines())
+    trials = [(name, (SAMPLES / f"{name}.tables").read_bytes(), (SAMPLES / f"{name}.figures").read_text()) for name in ("three", "three-damaged")]
+    trials += [("no byte", b"", none), ("one byte", b"\0", none + "refused 70 0\n")]
+    for words, data, expected in trials:
+        place.write_bytes(data)
+        by_name, by_input = run([*command("tablefigures"), str(place)]), run(command("tablefigures"), input=data)
+        must(f"tablefigures, {words}, by name", (by_name.stdout, by_name.stderr) == (expected.encode(), b""), by_name.stdout[:200])
+        must(f"tablefigures, {words}, from standard input", by_input.stdout == expected.encode(), by_input.stdout[:200])
+    many = run(command("tablefigures"), input=(one * 50 + whole) * 20 + b"x").stdout.decode().splitlines()
+    position = 20 * (50 * len(one) + len(whole))
+    must("tablefigures, many files", (many[0], many[-1], len(many)) == ("files 1020", f"refused 70 {position}", 33), many)
+    gone = run([*command("tablefigures"), "no such file"])
+    must("tablefigures, no file", gone.stdout == b"" and b"No such file" in gone.stderr, gone)
+    unread = run([*command("tablefigures"), str(room)])
+    must("tablefigures, a read that fails", unread.stdout == b"" and unread.stderr != b"", unread)
+
+
 def ended(room):
     """tablerescue, ended many times while it works on a file whose block 100 is damaged."""
     damaged, whole = room / "damaged", room / "whole"
@@ -129,12 +149,12 @@ def ended(room):
 
 
 def main():
-    for name in ("tablecheck", "tablerescue"):
+    for name in ("tablecheck", "tablerescue", "tablefigures"):
         if not (ROOT / "target" / "bin" / name).exists():
             print(f"try_programs: {name} is not built; rt check {name} makes it")
             return 2
     with tempfile.TemporaryDirectory() as folder:
-        for trials in (check, rescue, ended):
+        for trials in (check, rescue, figures, ended):
             trials(pathlib.Path(folder))
     print("\n".join(f"try_programs: {fault}" for fault in FAULTS) or f"try_programs: {len(TRIED)} trials of the programs came out as they must")
     return 1 if FAULTS else 0

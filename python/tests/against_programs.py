@@ -1,9 +1,10 @@
-"""Compares `ducat check --module` and `ducat rescue` with the Rattle programs tablecheck and tablerescue, byte by byte.
+"""Compares `ducat check --module`, `ducat rescue` and `ducat figures` with the Rattle programs tablecheck, tablerescue and tablefigures, byte by byte.
 
     python3 -I -S python/tests/against_programs.py [--quick]
 
 The inputs: every sample, every cut of samples/take.table, and 300 damaged files. Every cut of the other samples is compared with
-starlark_check_file. --quick takes every 40th cut and 20 damaged files.
+starlark_check_file. Figures are compared over joins of samples and damaged files, over every 16th cut of one, and over joins around the size of
+the program's buffer. --quick takes every 40th cut and 20 damaged files.
 
 A program is what `rt` has built in target/bin, run by the kit's loader, and by its emulator where the machine is not x86-64.
 Exit status: 0 they agree; 1 they do not; 3 skipped: rt or a program is missing.
@@ -19,6 +20,7 @@ from concurrent.futures import ThreadPoolExecutor
 sys.path.insert(0, os.path.dirname(os.path.abspath(__file__)))
 import support  # noqa: E402
 from command import forked  # noqa: E402
+from ducatmuffin import table  # noqa: E402
 from ducatmuffin.library import Refusal  # noqa: E402
 
 DAMAGED = 300
@@ -66,6 +68,23 @@ def cases(quick):
     return found + list(damaged(20 if quick else DAMAGED))
 
 
+def joins(quick):
+    """Inputs of many files: whole samples, damaged ones among them, cuts, and files around the program's buffer of two windows."""
+    draw, whole = random.Random(214), [support.sample(f"{name}.table") for name in support.samples(".table")]
+    good = [data for data in whole if support.library().check_file(data).accepted]
+    found = [b"", b"\0", *(support.sample(f"{name}.tables") for name in support.samples(".tables"))]
+    bad = list(damaged(20 if quick else 100))
+    for one in bad:
+        parts = [draw.choice(good) for _ in range(draw.randrange(4))]
+        found.append(b"".join([*parts, one, *(draw.choice(good) for _ in range(draw.randrange(2)))]))
+    three = support.sample("three.tables")
+    found += [three[:cut] for cut in range(0, len(three) + 1, 160 if quick else 16)]
+    largest = table.read_text("(Statements ^2099<(Break)>)").file()
+    long = b"".join([*good, largest, largest, *good, largest]) * 3
+    found += [long, long + b"x", long[:-1], long + bad[0], *(bytes(largest * 2 + good[0] * at + long) for at in range(0, 40, 10 if quick else 3))]
+    return found
+
+
 def checked(paths):
     """What one run of ducat prints of many files, and for each its lines."""
     ran = forked(("check", "--module", "--files-from", "-", "-0"), support.ROOT, b"\0".join(map(os.fsencode, paths)))
@@ -96,8 +115,8 @@ class Comparison:
             file.write(data)
         return path
 
-    def program(self, name, *words):
-        ran = subprocess.run([*self.run_by, os.path.join(support.ROOT, "target", "bin", name), *words], stdin=subprocess.DEVNULL,
+    def program(self, name, *words, stdin=subprocess.DEVNULL):
+        ran = subprocess.run([*self.run_by, os.path.join(support.ROOT, "target", "bin", name), *words], stdin=stdin,
                              stdout=subprocess.PIPE, stderr=subprocess.PIPE)
         return ran.stdout, ran.stderr
 
@@ -134,6 +153,23 @@ class Comparison:
                 self.fault(f"{path}: ducat and tablerescue write different files")
         return len(paths)
 
+    def figures(self, found):
+        """ducat figures, and the program tablefigures, by name and from standard input in turn."""
+        paths = [self.put(f"joined.{at:05}", data) for at, data in enumerate(found)]
+        with ThreadPoolExecutor(os.cpu_count() or 1) as pool:
+            answers = pool.map(lambda case: self.counted(*case), enumerate(paths))
+            for path, (out, err) in zip(paths, answers):
+                ran = forked(("figures", path), support.ROOT, b"")
+                if err or not out or ran.out.encode() != out:
+                    self.fault(f"{path}: ducat prints {ran.out}, tablefigures {out} and {err}")
+        return len(paths)
+
+    def counted(self, at, path):
+        if at % 2:
+            return self.program("tablefigures", path)
+        with open(path, "rb") as file:
+            return self.program("tablefigures", stdin=file)
+
     def content(self, path):
         try:
             with open(path, "rb") as file:
@@ -163,15 +199,15 @@ class Comparison:
 
 def main():
     missing = [] if shutil.which("rt") else ["rt"]
-    missing += [name for name in ("tablecheck", "tablerescue") if not os.path.exists(os.path.join(support.ROOT, "target", "bin", name))]
+    missing += [name for name in ("tablecheck", "tablerescue", "tablefigures") if not os.path.exists(os.path.join(support.ROOT, "target", "bin", name))]
     if missing:
         print(f"against_programs: skipped: {' and '.join(missing)} missing")
         return 3
     quick = "--quick" in sys.argv
     with tempfile.TemporaryDirectory(prefix="ducat-test-") as room:
         comparison, found = Comparison(room, quick), cases(quick)
-        many = comparison.check(found), comparison.rescue(found), comparison.cuts()
-    print("against_programs: {} files checked and {} rescued as the programs do, {} cuts as starlark_check_file; {} differ".format(
+        many = comparison.check(found), comparison.rescue(found), comparison.figures(joins(quick)), comparison.cuts()
+    print("against_programs: {} files checked, {} rescued and {} inputs counted as the programs do, {} cuts as starlark_check_file; {} differ".format(
         *many, len(comparison.faults)))
     return 1 if comparison.faults else 0
 

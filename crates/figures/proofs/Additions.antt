@@ -66,6 +66,16 @@ added-only [] k v = refl
 added-only (a ∷ fs) zero v = ap (λ (r : List ℕ). held a v ∷ r) (sym (added-none fs))
 added-only (a ∷ fs) (suc k) v = ap₂ _∷_ (sym (held-none a)) (added-only fs k v)
 
+pub stored-only : (fs : List ℕ) (k v : ℕ) {x : ℕ} → x ≡ held (getD fs k 0) v → set fs k x ≡ added fs (only k v)
+stored-only fs k v x-is = rw x-is (added-only fs k v)
+
+-- LAW: figures, and then one more counter behind them
+pub added-next : (fs xs : List ℕ) (v : ℕ) → added (added fs xs) (only (length xs) v) ≡ added fs (xs ++ v ∷ [])
+unfolding added only
+added-next [] xs v = refl
+added-next (f ∷ fs) [] v = refl
+added-next (f ∷ fs) (x ∷ xs) v = ap₂ _∷_ (held-none (held f x)) (added-next fs xs v)
+
 -- additions keep the number of counters
 pub added-length : (fs xs : List ℕ) → length (added fs xs) ≡ length fs
 unfolding added
@@ -82,3 +92,17 @@ plus-append [] (c ∷ cs) bs ds h = absurd (omega (arith, h))
 plus-append (a ∷ fs) [] bs ds h = absurd (omega (arith, h))
 plus-append (a ∷ fs) (c ∷ cs) bs ds h = ap (λ (r : List ℕ). (a + c) ∷ r)
     (plus-append fs cs bs ds (omega (arith, h)))
+
+-- zeros in front
+pub plus-behind : (n : ℕ) (xs ys : List ℕ)
+    → plus (replicate n 0 ++ xs) (replicate n 0 ++ ys) ≡ replicate n 0 ++ plus xs ys
+unfolding plus
+plus-behind zero xs ys = refl
+plus-behind (suc n) xs ys = ap (λ (r : List ℕ). 0 ∷ r) (plus-behind n xs ys)
+
+pub only-behind : (k j v : ℕ) → only (k + j) v ≡ replicate k 0 ++ only j v
+unfolding only
+only-behind zero j v = let e : 0 + j ≡ j = omega arith in rw e refl
+only-behind (suc k) j v =
+    let e : suc k + j ≡ suc (k + j) = omega arith in
+    rw e (ap (λ (r : List ℕ). 0 ∷ r) (only-behind k j v))

@@ -1,3 +1,7 @@
 pub mod Additions
 pub mod Occurring
 pub mod Lists
+pub mod ByKind
+pub mod Windows
+pub mod Running
+pub mod Totals

@@ -11,22 +11,29 @@ use lib.Dec.{eqb}
 use Rattle.fields.specs.Choice.{if'}
 use Rattle.forest.specs.Forest.{Node}
 use Rattle.deflist.specs.Written.{Param}
-use Rattle.deflist.specs.Unpack.{Outcome, accepted, refused, repeated, internal, unpack, modes}
+use Rattle.deflist.specs.Unpack.{accepted, unpack, modes}
 use Rattle.deflist.specs.Limited.{limited}
 use Rattle.deflist.specs.Told.{told}
 use Rattle.deflist.specs.declared.Counts.{Counts}
 use Rattle.deflist.specs.declared.Judged.{Judged}
 use Rattle.deflist.specs.declared.Judged.the-variants.{Accepted, Refused}
+use Rattle.deflist.specs.declared.Fault.{Fault}
 use Rattle.deflist.proofs.Limited.{limited-accepted}
-use Rattle.fields.proofs.Basics.{never}
+use Rattle.deflist.proofs.Theorems.{told-accepted}
 use Rattle.demand3.specs.Cut.{Star, noStar, bare, starred, Last, noKwargs, withKwargs, Cut, argsPart, kwargsPart}
-use Rattle.demand3.specs.Cut.{join, partsOf, partModes}
+use Rattle.demand3.specs.Cut.{firsts, afterStar, ordinary, join, partsOf, partModes}
 use Rattle.demand3.proofs.Counting.{argsPlace, kwargsPlace}
 use Rattle.demand3.proofs.Cuts.{cutCounts, cut-accepted, accepted-cut, cut-modes}
+use Rattle.table.specs.Answer.{Answer}
+use Rattle.table.specs.declared.Refusal.{Refusal}
+use Rattle.arguments.specs.Job.{called}
+use Rattle.arguments.specs.declared.CallArgs.{CallArgs}
+use Rattle.arguments.specs.declared.Called.{Called}
+use Rattle.arguments.specs.declared.Called.the-variants as calls
 use Rattle.figures.specs.Adding.{added}
 use Rattle.figures.specs.Counting.{occurrences}
-use Rattle.figures.specs.Walking.{only, plus, places, Ranged, rangeCounts, listFigures}
-use Rattle.figures.proofs.Additions.{added-twice, added-none}
+use Rattle.figures.specs.Walking.{only, plus, places, Ranged, rangeCounts, listFigures, callFigures}
+use Rattle.figures.proofs.Additions.{added-twice, added-next, added-trailing}
 use Rattle.figures.proofs.Occurring.{occurs-append, occurs-run}
 
 -- `*args` and `**kwargs` of a cut
@@ -38,6 +45,11 @@ args-places (starred r n qs) m = refl
 kwargs-places : (k : Last) (m : ℕ) → places (kwargsPlace k m) ≡ length (kwargsPart k)
 kwargs-places noKwargs m = refl
 kwargs-places (withKwargs r n) m = refl
+
+-- five numbers that are the same
+row : {p q r t u p′ q′ r′ t′ u′ : ℕ} → p ≡ p′ → q ≡ q′ → r ≡ r′ → t ≡ t′ → u ≡ u′
+    → _≡_ {A = List ℕ} (p ∷ q ∷ r ∷ t ∷ u ∷ []) (p′ ∷ q′ ∷ r′ ∷ t′ ∷ u′ ∷ [])
+row e f g h i = rw (e, f, g, h, i) refl
 
 -- five runs of equal modes, in the order of the parts
 five-runs : (m a b s n k : ℕ) → occurrences m (replicate a 1 ++ (replicate b 2 ++ (replicate s 4 ++ (replicate n 3
@@ -51,27 +63,38 @@ modeCounts ms = occurrences 1 ms ∷ occurrences 2 ms ∷ occurrences 3 ms ∷ o
 
 runs-counted : (a b s n k : ℕ) → modeCounts (replicate a 1 ++ (replicate b 2 ++ (replicate s 4 ++ (replicate n 3
     ++ replicate k 5)))) ≡ a ∷ b ∷ n ∷ s ∷ k ∷ []
-runs-counted a b s n k = row (at 1 ∙ omega arith) (at 2 ∙ omega arith) (at 3 ∙ omega arith) (at 4 ∙ omega arith) (at 5)
+runs-counted a b s n k = row (at 1 ∙ omega arith) (at 2 ∙ omega arith) (at 3 ∙ omega arith) (at 4 ∙ omega arith)
+    (at 5 ∙ omega arith)
   where
     at : (m : ℕ) → occurrences m (replicate a 1 ++ (replicate b 2 ++ (replicate s 4 ++ (replicate n 3
         ++ replicate k 5)))) ≡ if' (eqb 1 m) (λ _. a) (λ _. 0) + (if' (eqb 2 m) (λ _. b) (λ _. 0)
         + (if' (eqb 4 m) (λ _. s) (λ _. 0) + (if' (eqb 3 m) (λ _. n) (λ _. 0) + if' (eqb 5 m) (λ _. k) (λ _. 0))))
     at m = five-runs m a b s n k
 
-    row : {p q r t u p′ q′ r′ t′ u′ : ℕ} → p ≡ p′ → q ≡ q′ → r ≡ r′ → t ≡ t′ → u ≡ u′
-        → _≡_ {A = List ℕ} (p ∷ q ∷ r ∷ t ∷ u ∷ []) (p′ ∷ q′ ∷ r′ ∷ t′ ∷ u′ ∷ [])
-    row e f g h i = rw (e, f, g, h, i) refl
-
 -- what a cut counts
 module _ (c : Cut) where
-  pub cut-ranged : Ranged (cutCounts c)
-  cut-ranged = record { before = omega arith; behind = omega (arith, args, kwargs) }
-    where
-      args : (m : ℕ) → places (argsPlace (c .star) m) ≡ length (argsPart (c .star))
-      args m = args-places (c .star) m
+  abbrev positional : ℕ
+  positional = length (ordinary (firsts (c .before))) + length (ordinary (c .middle))
 
-      kwargs : (m : ℕ) → places (kwargsPlace (c .last) m) ≡ length (kwargsPart (c .last))
-      kwargs m = kwargs-places (c .last) m
+  abbrev beforeKwargs : ℕ
+  beforeKwargs = positional + length (argsPart (c .star)) + length (ordinary (afterStar (c .star)))
+
+  cut-ranged : Ranged (cutCounts c)
+  cut-ranged = record {
+    before = omega arith;
+    behind = omega (arith, args-places (c .star) positional, kwargs-places (c .last) beforeKwargs);
+  }
+
+  cut-counted : rangeCounts (cutCounts c) ≡ modeCounts (partModes (partsOf c))
+  cut-counted =
+      let args = args-places (c .star) positional in
+      let kwargs = kwargs-places (c .last) beforeKwargs in
+      let named : ℕ = length (ordinary (afterStar (c .star))) in
+      let second : positional - length (ordinary (firsts (c .before))) ≡ length (ordinary (c .middle)) = omega arith in
+      let third : beforeKwargs + length (kwargsPart (c .last)) - (positional
+      + places (argsPlace (c .star) positional) + places (kwargsPlace (c .last) beforeKwargs)) ≡ named =
+      omega (arith, args, kwargs) in
+      row refl second third args kwargs ∙ sym (runs-counted _ _ _ named _)
 
 module _ (l : List Param) {c : Counts} (h : unpack l ≡ accepted c) where
   cut-of : (d : Cut) × (c ≡ cutCounts d) × (modes l ≡ partModes (partsOf d))
@@ -88,28 +111,56 @@ module _ (l : List Param) {c : Counts} (h : unpack l ≡ accepted c) where
   pub ranged : Ranged c
   ranged = let d = cut-of in rw (d .1) (cut-ranged (d .0))
 
--- what is said of a list: who is told that it is accepted
-module _ (owner : Node) (l : List Param) {c : Counts} (h : told (limited owner l) ≡ Accepted c) where
-  pub told-accepted : limited owner l ≡ accepted c
-  told-accepted = go (limited owner l) refl h
-    where
-      go : (o : Outcome) → limited owner l ≡ o → told o ≡ Accepted c → limited owner l ≡ accepted c
-      go (accepted d) e f = e ∙ ap accepted (let same : d ≡ c = cc in same)
-      go (refused n r) e f = never (cc)
-      go (repeated i r) e f = never (cc)
-      go (internal x r) e f = never (cc)
+-- five counters, one after another, in the terms of code
+pub modes-added : (a : List ℕ) {b c d e f : List ℕ} (v w x y z : ℕ) → b ≡ added a (only 3 v) → c ≡ added b (only 4 w)
+    → d ≡ added c (only 5 x) → e ≡ added d (only 6 y) → f ≡ added e (only 7 z)
+    → f ≡ added a (0 ∷ 0 ∷ 0 ∷ v ∷ w ∷ x ∷ y ∷ z ∷ [])
+unfolding only
+modes-added a {b} {c} {d} {e} {f} v w x y z b-is c-is d-is e-is f-is =
+    let one : c ≡ added a (0 ∷ 0 ∷ 0 ∷ v ∷ w ∷ []) = c-is ∙ rw b-is (added-next a (0 ∷ 0 ∷ 0 ∷ v ∷ []) w) in
+    let two : d ≡ added a (0 ∷ 0 ∷ 0 ∷ v ∷ w ∷ x ∷ []) = d-is ∙ rw one (added-next a (0 ∷ 0 ∷ 0 ∷ v ∷ w ∷ []) x) in
+    let three : e ≡ added a (0 ∷ 0 ∷ 0 ∷ v ∷ w ∷ x ∷ y ∷ []) = e-is ∙ rw two (added-next a (0 ∷ 0 ∷ 0 ∷ v ∷ w ∷ x ∷ []) y) in
+    f-is ∙ rw three (added-next a (0 ∷ 0 ∷ 0 ∷ v ∷ w ∷ x ∷ y ∷ []) z)
 
-  pub told-ranged : Ranged c
-  told-ranged = ranged l (limited-accepted owner l told-accepted .1)
+-- what is said of a list: if it is told to be accepted, its ranges follow one another
+pub told-ranged : (owner : Node) (l : List Param) {j : Judged} → j ≡ told (limited owner l) → {c : Counts} → j ≡ Accepted c
+    → Ranged c
+told-ranged owner l j-is h =
+    ranged l (limited-accepted owner l (told-accepted (limited owner l) (sym j-is ∙ h)) .1)
+
+-- what code counts from the ranges, with its own counts of `*args` and `**kwargs`
+pub ranges-are : (c : Counts) {a k : ℕ} → a ≡ places (c .args) → k ≡ places (c .kwargs)
+    → c .«num_positional_only» .0 ∷ (c .«num_positional» .0 - c .«num_positional_only» .0)
+    ∷ (c .flat .0 - (c .«num_positional» .0 + a + k)) ∷ a ∷ k ∷ [] ≡ rangeCounts c
+ranges-are c a-is k-is = rw (a-is, k-is) refl
+
+-- what code adds for a list that is accepted, and for one that is not
+module _ (start : List ℕ) {j k : Judged} (j-is : j ≡ k) {xs : List ℕ} (xs-is : xs ≡ added start (only 2 1)) where
+  pub list-accepted : {c : Counts} → j ≡ Accepted c → {m n q r s : ℕ} → m ∷ n ∷ q ∷ r ∷ s ∷ [] ≡ rangeCounts c
+      → {ys : List ℕ} → ys ≡ added xs (0 ∷ 0 ∷ 0 ∷ m ∷ n ∷ q ∷ r ∷ s ∷ []) → ys ≡ added start (listFigures k)
+  unfolding only plus
+  list-accepted {c} h {m} {n} {q} {r} {s} e ys-is =
+      let figures : 0 ∷ 0 ∷ 1 ∷ m ∷ n ∷ q ∷ r ∷ s ∷ [] ≡ listFigures k =
+      ap (λ (x : List ℕ). 0 ∷ 0 ∷ 1 ∷ x) e ∙ ap listFigures (sym h ∙ j-is) in
+      ys-is ∙ rw xs-is (added-twice start (only 2 1) _ ∙ ap (added start) figures)
+
+  pub list-refused : {f : Fault} → j ≡ Refused f → xs ≡ added start (listFigures k)
+  unfolding only
+  list-refused h = xs-is ∙ ap (added start) (ap listFigures (sym h ∙ j-is))
+
+-- and for a call
+module _ (start : List ℕ) {r : Called} {a : Answer} (r-is : called r ≡ a) {ys : List ℕ} where
+  pub call-accepted : {x : CallArgs} → r ≡ calls.Accepted x → ys ≡ added start (only 8 1)
+      → ys ≡ added start (callFigures a)
+  unfolding only
+  call-accepted h ys-is = ys-is ∙ sym (added-trailing start (only 8 1) 1)
+      ∙ ap (λ (b : Answer). added start (callFigures b)) (ap called (sym h) ∙ r-is)
+
+  pub call-refused : {why : Refusal} → r ≡ calls.Refused why → ys ≡ added start (only 9 1)
+      → ys ≡ added start (callFigures a)
+  unfolding only
+  call-refused h ys-is = ys-is ∙ ap (λ (b : Answer). added start (callFigures b)) (ap called (sym h) ∙ r-is)
 
 -- LAW: what the code counts from the ranges are the occurrences of the modes
 pub modes-counted : (l : List Param) {c : Counts} → unpack l ≡ accepted c → rangeCounts c ≡ modeCounts (modes l)
-modes-counted l {c} h =
-    let d = cut-of l h in
-    rw (d .1, d .2) (cut-counted (d .0))
-  where
-    cut-counted : (d : Cut) → rangeCounts (cutCounts d) ≡ modeCounts (partModes (partsOf d))
-    cut-counted d = sym (runs-counted _ _ _ _ _ ∙ rw (← args-places (d .star) _, ← kwargs-places (d .last) _) tail)
-      where
-        tail : {r : List ℕ} → r ≡ r
-        tail = refl
+modes-counted l {c} h = let d = cut-of l h in rw (d .1, d .2) (cut-counted (d .0))

@@ -5,23 +5,31 @@ use mathlib.Core.Path.{_≡_, refl, sym, ap, ap₂, _∙_}
 use mathlib.Core.Bool.{Bool, true, false, _&&_}
 use mathlib.Core.Logic.{_⊎_, inl, inr}
 use mathlib.Core.List.{List, [], _∷_, _++_, append-assoc}
-use Prim.Native.Nat.{ℕ, zero, suc, _+_, _-_, _<_, _≤_}
+use Prim.Native.Nat.{ℕ, zero, suc, _+_, _-_, _*_, _<_, _≤_}
 use native.Mathlib.Omega.{arith}
-use lib.ListN.{length, getD, take, replicate, length-replicate}
-use lib.Seq.{take-suc}
+use lib.ListN.{length, getD, take, drop, replicate, length-replicate}
+use lib.Seq.{take-suc, take-append-seam}
 use lib.Dec.{eqb, leb}
 use borrow.Author.Tests.{eq-eqb, ne-eqb, le-leb, leb-true}
 use Rattle.fields.specs.Choice.{if'}
 use Rattle.fields.proofs.Basics.{clash, and-left, and-right, and-both, le-or-lt}
+use Rattle.dialect.specs.declared.Dialect.{Dialect}
+use Rattle.errors.specs.declared.Err.{Err}
+use Rattle.errors.specs.declared.Listing.the-variants.{Numbers}
+use Rattle.errors.specs.Errors.{kept, stored}
+use Rattle.errors.proofs.Storing.{allWords, stored-all, stored-length}
+use Rattle.validate.specs.Job.{passErrors}
+use Rattle.validate.proofs.Theorems.{pass-few}
 use Rattle.figures.specs.Adding.{added}
-use Rattle.figures.specs.Counting.{one, occurrences, occurrencesFrom, errorCounts}
+use Rattle.figures.specs.Counting.{one, occurrences, occurrencesFrom, numbersOf, errorCounts}
 use Rattle.figures.specs.Walking.{only, plus, errorFigures}
-use Rattle.figures.proofs.Additions.{added-twice, added-zeros, added-trailing, plus-append}
+use Rattle.figures.proofs.Additions.{added-twice, added-zeros, added-trailing, plus-append, plus-behind}
+use Rattle.figures.proofs.Additions.{only-behind}
 
 -- in a joined list, and in a run of equal numbers
 pub occurs-append : (n : ℕ) (fs bs : List ℕ) → occurrences n (fs ++ bs) ≡ occurrences n fs + occurrences n bs
 unfolding occurrences
-occurs-append n [] bs = refl
+occurs-append n [] bs = omega arith
 occurs-append n (a ∷ fs) bs = let h = occurs-append n fs bs in omega (arith, h)
 
 pub occurs-run : (n m k : ℕ) → occurrences n (replicate k m) ≡ if' (eqb m n) (λ _. k) (λ _. 0)
@@ -31,8 +39,8 @@ occurs-run n m k = go (eqb m n) refl k
     go : (b : Bool) → eqb m n ≡ b → (k : ℕ) → occurrences n (replicate k m) ≡ if' b (λ _. k) (λ _. 0)
     go true e zero = refl
     go false e zero = refl
-    go true e (suc k) = rw e (ap suc (go true e k))
-    go false e (suc k) = rw e (go false e k)
+    go true e (suc k) = let h = go true e k in rw e (omega (arith, h))
+    go false e (suc k) = let h = go false e k in rw e (omega (arith, h))
 
 -- several numbers at once
 from-length : (k n : ℕ) (ms : List ℕ) → length (occurrencesFrom k n ms) ≡ k
@@ -50,17 +58,12 @@ from-append (suc k) n fs bs = ap₂ _∷_ (occurs-append n fs bs) (from-append k
 pub errors-append : (fs bs : List ℕ) → errorFigures (fs ++ bs) ≡ plus (errorFigures fs) (errorFigures bs)
 unfolding errorFigures errorCounts
 errors-append fs bs =
-    let zeros : List ℕ = replicate 10 0 in
     let lists = from-append 10 10 fs bs in
     let modules = from-append 12 50 fs bs in
     let even : length (occurrencesFrom 10 10 fs) ≡ length (occurrencesFrom 10 10 bs)
     = from-length 10 10 fs ∙ sym (from-length 10 10 bs) in
-    sym (plus-append zeros zeros _ _ refl
-    ∙ ap (λ (r : List ℕ). plus zeros zeros ++ r) (plus-append _ _ _ _ even)
-    ∙ rw (← lists, ← modules) zeros-twice)
-  where
-    zeros-twice : {r : List ℕ} → plus (replicate 10 0) (replicate 10 0) ++ r ≡ replicate 10 0 ++ r
-    zeros-twice = refl
+    rw (lists, modules)
+    (sym (plus-behind 10 _ _ ∙ ap (λ (r : List ℕ). replicate 10 0 ++ r) (plus-append _ _ _ _ even)))
 
 -- a number by itself: it is one of those, or none
 module _ (n : ℕ) where
@@ -90,29 +93,30 @@ module _ (n : ℕ) where
       (ap (λ (r : List ℕ). 0 ∷ r) (from-one k (b + 1) j (omega arith) (omega arith)))
 
   module _ (fs : List ℕ) where
-    pub number-of-list : (leb 10 n && leb n 19) ≡ true
-        → added fs (only (10 + (n - 10)) 1) ≡ added fs (errorFigures (n ∷ []))
-    unfolding errorFigures errorCounts only
-    number-of-list h =
+    pub number-of-list : (leb 10 n && leb n 19) ≡ true → {ys : List ℕ} → ys ≡ added fs (only (10 + (n - 10)) 1)
+        → ys ≡ added fs (errorFigures (n ∷ []))
+    unfolding errorFigures errorCounts
+    number-of-list h ys-is =
         let j : ℕ = n - 10 in
         let least = leb-true 10 n (and-left (leb 10 n) (leb n 19) h) in
         let most = leb-true n 19 (and-right (leb 10 n) (leb n 19) h) in
         let list = from-one 10 10 j (omega (arith, least)) (omega (arith, least, most)) in
         let rest = from-none 12 50 (inl (omega (arith, most))) in
-        rw (list, rest)
-        (sym (added-trailing fs (only (10 + j) 1 ++ replicate (10 - (j + 1)) 0) 12
-        ∙ added-trailing fs (only (10 + j) 1) (10 - (j + 1))))
+        ys-is ∙ rw (list, rest, only-behind 10 j 1)
+        (sym (added-trailing fs (replicate 10 0 ++ (only j 1 ++ replicate (10 - (j + 1)) 0)) 12
+        ∙ added-trailing fs (replicate 10 0 ++ only j 1) (10 - (j + 1))))
 
-    pub number-of-module : (leb 50 n && leb n 61) ≡ true
-        → added fs (only (20 + (n - 50)) 1) ≡ added fs (errorFigures (n ∷ []))
-    unfolding errorFigures errorCounts only
-    number-of-module h =
+    pub number-of-module : (leb 50 n && leb n 61) ≡ true → {ys : List ℕ} → ys ≡ added fs (only (20 + (n - 50)) 1)
+        → ys ≡ added fs (errorFigures (n ∷ []))
+    unfolding errorFigures errorCounts
+    number-of-module h ys-is =
         let j : ℕ = n - 50 in
         let least = leb-true 50 n (and-left (leb 50 n) (leb n 61) h) in
         let most = leb-true n 61 (and-right (leb 50 n) (leb n 61) h) in
         let list = from-none 10 10 (inr (omega (arith, least))) in
         let rest = from-one 12 50 j (omega (arith, least)) (omega (arith, least, most)) in
-        rw (list, rest) (sym (added-trailing fs (only (20 + j) 1) (12 - (j + 1))))
+        ys-is ∙ rw (list, rest, only-behind 20 j 1)
+        (sym (added-trailing fs (replicate 20 0 ++ only j 1) (12 - (j + 1))))
 
     pub number-other : (leb 10 n && leb n 19) ≡ false → (leb 50 n && leb n 61) ≡ false
         → fs ≡ added fs (errorFigures (n ∷ []))
@@ -130,6 +134,20 @@ module _ (n : ℕ) where
             go (inl x) (inr y) = inr (omega arith)
             go (inr x) y = inl x
 
+-- the two tests of code
+module _ {n : ℕ} where
+  pub list-least : (leb 10 n && leb n 19) ≡ true → 10 ≤ n
+  list-least h = leb-true 10 n (and-left (leb 10 n) (leb n 19) h)
+
+  pub list-most : (leb 10 n && leb n 19) ≡ true → n ≤ 19
+  list-most h = leb-true n 19 (and-right (leb 10 n) (leb n 19) h)
+
+  pub module-least : (leb 50 n && leb n 61) ≡ true → 50 ≤ n
+  module-least h = leb-true 50 n (and-left (leb 50 n) (leb n 61) h)
+
+  pub module-most : (leb 50 n && leb n 61) ≡ true → n ≤ 61
+  module-most h = leb-true n 61 (and-right (leb 50 n) (leb n 61) h)
+
 -- numbers in a loop: of the first n of some, the first i are counted
 pub record Counting (start found : List ℕ) (n : ℕ) (figures : List ℕ) (i : ℕ) : Type 0 where
   pub upto : i ≤ n
@@ -137,7 +155,7 @@ pub record Counting (start found : List ℕ) (n : ℕ) (figures : List ℕ) (i :
   pub is : figures ≡ added start (errorFigures (take i found))
 
 pub counting-start : (start found : List ℕ) (n : ℕ) → n ≤ length found → Counting start found n start 0
-unfolding errorFigures errorCounts occurrences
+unfolding errorFigures errorCounts occurrencesFrom occurrences
 counting-start start found n h = record { upto = omega arith; there = h; is = sym (added-zeros start 32) }
 
 module _ {start found : List ℕ} {n : ℕ} {figures : List ℕ} {i : ℕ} (c : Counting start found n figures i) where
@@ -154,5 +172,51 @@ module _ {start found : List ℕ} {n : ℕ} {figures : List ℕ} {i : ℕ} (c : 
       so = ys-is ∙ rw (c .is, more, errors-append (take i found) (x ∷ []))
           (added-twice start (errorFigures (take i found)) (errorFigures (x ∷ [])))
 
+  pub counting-there : i < n → i < length found
+  counting-there h = omega (arith, c .there)
+
   pub counting-end : n ≤ i → figures ≡ added start (errorFigures (take n found))
   counting-end h = let e : i ≡ n = omega (arith, c .upto) in rw e at (c .is)
+
+-- in the terms of code: a list with room for all errors of the form Numbers holds the number of each
+numbers-length : (es : List Err) → length (numbersOf es) ≡ length es
+unfolding numbersOf
+numbers-length [] = refl
+numbers-length (e ∷ es) = ap suc (numbers-length es)
+
+numbers-words : (es : List Err) → allWords Numbers es ≡ numbersOf es
+unfolding numbersOf
+numbers-words [] = refl
+numbers-words (e ∷ es) = ap (λ (r : List ℕ). e .number ∷ r) (numbers-words es)
+
+module _ (d : Dialect) (names t : List ℕ) (few : length t ≤ 50400) {found : List ℕ} {n : ℕ}
+    (n-is : n ≡ length (kept Numbers (passErrors d names t)))
+    (found-is : found ≡ stored Numbers (kept Numbers (passErrors d names t)) (replicate 4200 0)) where
+  es : List Err
+  es = passErrors d names t
+
+  short : length es ≤ 4200
+  unfolding es
+  short = omega (arith, pass-few Numbers d names t, few)
+
+  pub numbers-there : n ≤ length found
+  unfolding es
+  numbers-there =
+      let long = stored-length Numbers es (replicate 4200 0) in
+      omega (arith, n-is, short, long, ap length found-is, length-replicate {A = ℕ} 4200 0)
+
+  pub numbers-found : take n found ≡ numbersOf (passErrors d names t)
+  unfolding es
+  numbers-found =
+      let room : 1 * length es ≤ length {A = ℕ} (replicate 4200 0) = omega (arith, short, length-replicate {A = ℕ} 4200 0) in
+      let all : stored Numbers es (replicate 4200 0) ≡ numbersOf es ++ drop (1 * length es) (replicate 4200 0) =
+      rw (← numbers-words es) (stored-all Numbers es (replicate 4200 0) room) in
+      rw (found-is, n-is, all) (take-front (numbersOf es) _ (length es) (numbers-length es))
+    where
+      take-front : (xs ys : List ℕ) (k : ℕ) → length xs ≡ k → take k (xs ++ ys) ≡ xs
+      take-front xs ys k e = rw (← e) (take-append-seam xs ys)
+
+  -- what one loop over them leaves
+  pub errors-added : (start : List ℕ) {figures : List ℕ} → figures ≡ added start (errorFigures (take n found))
+      → figures ≡ added start (errorFigures (numbersOf (passErrors d names t)))
+  errors-added start h = h ∙ rw numbers-found refl

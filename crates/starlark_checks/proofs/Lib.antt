@@ -1,5 +1,6 @@
 mod Told
 mod FormatTold
 mod Places
+mod FigureTold
 pub mod Promises
 pub mod ReadBack

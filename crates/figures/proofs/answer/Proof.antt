@@ -1,29 +1,15 @@
+-- `figures::answer` meets its contract: the bytes taken, or the number. Assumes nothing.
+use Rattle.figures.proofs.Windows.{answer-sound, answer-refused}
 use borrow.Author.Needs.{needs}
 use Rattle.figures.proofs.answer.Statement.{statement}
 use Rattle.figures.proofs.answer.Tie as tie
-use Rattle.figures.proofs.answer.Reads as reads
-use Rattle.figures.proofs.answer.Lts as lts
-use Rattle.table.proofs.number.Reads as number-reads
-
--- src/lib.rt:141:27
-enum-told : tie.Need-enum-told
-enum-told c = search needs
-
--- src/lib.rt:142:26
-enum-known-judged : tie.Need-enum-known-judged
-enum-known-judged c = search needs
-
--- src/lib.rt:142:51
-number-requires : tie.Need-number-requires
-number-requires c κs = search needs
-
--- src/lib.rt:137:1
-returns : tie.Need-returns
-returns c = ?
-
--- src/lib.rt:137:1
-returns-2 : tie.Need-returns-2
-returns-2 c = ?
 
 pub answer-spec : {M : Type 1} → statement M
-answer-spec = tie.close (tie.spec enum-told enum-known-judged number-requires returns returns-2)
+answer-spec =
+    tie.close
+    (tie.spec
+    (λ c. search needs)
+    (λ c. search needs)
+    (λ c κs. search needs)
+    (λ c. search answer-sound)  -- returns
+    (λ c. search answer-refused))  -- returns-2

@@ -1,0 +1,21 @@
+-- `figures::add_table` meets its contract: 1 to 5, then its figures. Assumes nothing.
+use Rattle.figures.proofs.Totals.{given-sound, table-added, table-refused}
+use borrow.Author.Needs.{needs}
+use Rattle.figures.proofs.add_table.Statement.{statement}
+use Rattle.figures.proofs.add_table.Tie as tie
+
+pub add-table-spec : {M : Type 1} → statement M
+add-table-spec =
+    tie.close
+    (tie.spec
+    (λ c κs. search needs)
+    (λ c. search needs)
+    (λ c κs. search given-sound)
+    (λ c. search needs)
+    (λ c.  -- returns
+    let entered = c .before .before .before .entered in
+    let enter = c .before .before .before .before .before .enter-dialect in
+    table-added _ _ _ enter.ensures entered.given.1 _ (c .add-all .ensures))
+    (λ c.  -- returns-2
+    let enter = c .before .before .before .enter-dialect in
+    table-refused _ _ _ enter.ensures (c .before .entered2 .given .1) _))

@@ -1,0 +1,18 @@
+-- `figures::nodes::add_list` meets its contract: the list, and its modes if it is accepted. Assumes nothing.
+use Rattle.figures.proofs.Lists.{told-ranged, list-accepted, list-refused}
+use borrow.Author.Needs.{needs}
+use Rattle.figures.proofs.nodes.add_list.Statement.{statement}
+use Rattle.figures.proofs.nodes.add_list.Tie as tie
+
+pub add-list-spec : {M : Type 1} → statement M
+add-list-spec =
+    tie.close
+    (tie.spec
+    (λ c κs. search needs)
+    (λ c κs. search needs)
+    (λ c. search needs)
+    (λ c κs. search told-ranged)
+    (λ c κs. search needs)
+    (λ c. search needs)
+    (λ c. search list-accepted)  -- returns
+    (λ c. search list-refused))  -- returns-2
