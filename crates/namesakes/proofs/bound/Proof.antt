@@ -10,10 +10,27 @@ bound-spec =
     (tie.spec
     (λ c κs. search needs)
     (λ c. search needs)
-    (λ c κs. search bound-ready)  -- report-requires
+    (λ c κs.  -- report-requires
+    let answer = c .before .before .before .answer in
+    let back = c .before .before .before .before .before .before in
+    let the-bind = back .before .bind in
+    let start = back .before .before .before .before .before .before .before in
+    bound-ready _ _ _ _ start.args.list.now start.pre.0 the-bind.result start.pre.1 the-bind.ensures answer.given.1)
     (λ c. search needs)
     (λ c. search needs)
     (λ c. search needs)
-    (λ c. search bound-found)  -- returns
+    (λ c.  -- returns
+    let report = c .before .before .report in
+    let back = c .before .before .before .before .before .before in
+    let the-bind = back .before .before .before .before .bind in
+    let back2 = back .before .before .before .before .before .before in
+    let start = back2 .before .before .before .before in
+    bound-found _ _ _ _ _ start.pre.0 the-bind.result start.pre.1 the-bind.ensures (back .answer .given .1)
+    report.ensures)
     (λ c. search needs)
-    (λ c. search bound-refused))  -- returns-2
+    (λ c.  -- returns-2
+    let answer2 = c .before .answer2 in
+    let the-bind = c .before .before .before .before .before .bind in
+    let back = c .before .before .before .before .before .before in
+    let start = back .before .before .before .before .before in
+    bound-refused _ _ _ _ _ start.pre.0 the-bind.result start.pre.1 the-bind.ensures answer2.given.1))

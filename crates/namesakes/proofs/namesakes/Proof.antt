@@ -11,9 +11,15 @@ namesakes-spec =
     (tie.spec
     (λ c κs. search needs)
     (λ c. search needs)
-    (λ c. search entry-refused)  -- returns
+    (λ c.  -- returns
+    entry-refused _ _ _ _ _ (c .before .before .before .enter .ensures) (c .before .entered .given .1))
     (λ c. search needs)
     (λ c. search needs)
-    (λ c κs. (search entry-passed, refl))  -- bound-requires
+    (λ c κs.  -- bound-requires
+    let enum-told = c .before .before .enum-told in
+    let enter = c .before .before .before .before .enter in
+    let back = c .before .before .before .before .before .before in
+    let start = back .before .before in
+    (entry-passed _ _ _ _ start.args.list.now enter.ensures enum-told.given.1, refl))
     (λ c. search needs)
     (λ c. search needs))  -- returns-2
