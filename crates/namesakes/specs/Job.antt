@@ -1,9 +1,10 @@
 -- The job: its answer and the lent list afterwards, for every input. These are definitions.
-use mathlib.Core.List.{List, [], _∷_, _++_}
+use mathlib.Core.List.{List, [], _∷_}
 use Prim.Native.Nat.{ℕ, _*_}
-use lib.ListN.{length, drop}
+use lib.ListN.{length}
 use lib.Dec.{leb}
 use Rattle.fields.specs.Choice.{if'}
+use Rattle.fields.specs.Over.{over}
 use Rattle.forest.specs.Forest.{nodeOf, treeOf}
 use Rattle.table.specs.Numbers.{shortBuffer}
 use Rattle.table.specs.Answer.{Answer, accepted, refused, andThen, refusal}
@@ -54,7 +55,7 @@ namesakesOf t names call def room = counted (boundOf t names call def room) (rep
 
 -- the list afterwards: the reports at its front and the rest as it was; a refusal leaves it
 abbrev pub written : List Report → List ℕ → List ℕ
-written rs list = rows rs ++ drop (4 * length rs) list
+written rs list = over 0 (rows rs) list
 
 abbrev pub laid : Answer → (List ℕ → List Report) → List ℕ → List ℕ
 laid (accepted ws) reported list = written (reported ws) list

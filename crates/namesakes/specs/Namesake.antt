@@ -69,7 +69,7 @@ pub record Report : Type 0 where
 
 -- the report of an argument at a node, by the parameter that it reaches and by its namesake; ws are the words of the
 -- binding
-abbrev pub reportOf : List ℕ → ℕ → ℕ → Place → List Report
+unfoldable pub reportOf : List ℕ → ℕ → ℕ → Place → List Report
 reportOf ws at p Nothing = []
 reportOf ws at p (At q) =
     if' (eqb p q) (λ _. []) (λ _. record { argument = at; reached = p; namesake = q; taken = getD ws q 0 } ∷ [])

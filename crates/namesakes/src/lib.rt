@@ -13,14 +13,14 @@ use table::Wanted;
 use table::numbers;
 ghost use mathlib.Core.Path.{_≡_};
 ghost use mathlib.Core.Bool.{_&&_};
-ghost use mathlib.Core.List.{_++_};
-ghost use Prim.Native.Nat.{ℕ, _+_, _*_, _/_, _≤_};
-ghost use lib.ListN.{length, getD, drop};
-ghost use Rattle.forest.specs.Forest.{recordBytes, nodeOf, spanOf, kidsOf, forest};
+ghost use mathlib.Core.List.{[]};
+ghost use Prim.Native.Nat.{ℕ, _*_, _≤_};
+ghost use lib.ListN.{length, getD, replicate};
+ghost use Rattle.forest.specs.Forest.{recordBytes, nodeOf, kidsOf, forest};
 ghost use Rattle.forest.specs.Names.{nameOf, same};
-ghost use Rattle.table.specs.Answer.{checked};
-ghost use Rattle.table.specs.Check.{Within, mostBytes};
-ghost use Rattle.bind.specs.Job.{argumentsAt};
+ghost use Rattle.table.specs.Answer.{accepted, checked};
+ghost use Rattle.table.specs.Check.{mostNodes, mostBytes};
+ghost use Rattle.table.specs.declared.Place.the-variants.{At};
 ghost use Rattle.bind.specs.FlatList.{flats};
 ghost use Rattle.bind.specs.Reading.{Behind, flatsOf as flatCount};
 ghost use Rattle.parameters.specs.Params.{listOf};
@@ -52,8 +52,27 @@ pub fn namesakes(table: &[u8], names: &[u8], call: usize, def: usize, list: &mut
     }
     let mut space = [0u32; MOST_WORDS];
     let words: &mut [u32] = &mut space;
-    let bound = bind::bind(table, names, call, def, words);
-    match bound {
+    bound(table, names, call, def, words, list)
+}
+
+// The same of a call and a def that are let in, where words has room for those of the binding.
+fn bound(
+    table: &[u8],
+    names: &[u8],
+    call: usize,
+    def: usize,
+    words: &mut [u32],
+    list: &mut [u32],
+) -> Named
+    requires { ⌜ entryOf (now table) (now names) call def (length (now list)) ≡ accepted [] ⌝ }
+    requires { ⌜ now words ≡ replicate (2 * mostNodes) 0 ⌝ }
+    ensures { λ r. ⌜ named r ≡
+        namesakesOf (now (table .entry)) (now (names .entry)) call def (length (now (list .entry))) ⌝ }
+    ensures { λ r. ⌜ now (list .exit) ≡
+        listAfter (now (table .entry)) (now (names .entry)) call def (now (list .entry)) ⌝ }
+{
+    let answer = bind::bind(table, names, call, def, words);
+    match answer {
         Bound::Accepted { flat, many } => {
             Named::Found(report(table, names, call, def, flat, words, list))
         }
@@ -126,6 +145,7 @@ fn along(
     ensures { λ r. ⌜ ((i : ℕ) → r ≡
         length (reportsFrom (flatsOf (now (names .entry)) i (now (params .entry))) (now (words .entry)) from
         (labelledIn (now (names .entry)) (forest first (now (args .entry)))))) ⌝ }
+    ensures { λ r. ⌜ recordBytes * r ≤ length (now (args .entry)) ⌝ }
     ensures { λ r. ⌜ ((i : ℕ) → now (list .exit) ≡
         written (reportsFrom (flatsOf (now (names .entry)) i (now (params .entry))) (now (words .entry)) from
         (labelledIn (now (names .entry)) (forest first (now (args .entry))))) (now (list .entry))) ⌝ }
