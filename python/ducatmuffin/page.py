@@ -71,11 +71,11 @@ def whole(title, parts):
 
 
 def table(caption, head, rows):
-    """A table of cells that are escaped already. A cell that begins with a digit stands to the right."""
+    """A table of cells that are escaped already, as its caption is. A cell that begins with a digit stands to the right. A wide one is scrolled by itself."""
     cells = "".join(f'<th scope="col">{cell}</th>' for cell in head)
     lines = "".join("<tr>" + f'<th scope="row">{row[0]}</th>' + "".join(f"<td{' class=n' if str(cell)[:1].isdigit() else ''}>{cell}</td>" for cell in row[1:])
                     + "</tr>\n" for row in rows)
-    return (f'<div class="wide" tabindex="0"><table><caption>{caption}</caption>\n<thead><tr>{cells}</tr></thead>\n'
+    return (f'<div class="wide" role="group" aria-label="{caption}" tabindex="0"><table><caption>{caption}</caption>\n<thead><tr>{cells}</tr></thead>\n'
             f"<tbody>\n{lines}</tbody></table></div>\n")
 
 

@@ -3,7 +3,7 @@
     python3 -I -S python/tests/browser.py              the step `page` of ./test
     python3 -I -S python/tests/browser.py --write      the same, and docs/report.png is made anew
 
-A page of 500 scripts loads in under a second, by the browser's own load event. A page of samples is laid out light and dark, 400 and 1,600 pixels
+A page of 500 scripts loads in under a second, by the browser's own load event (on a busy machine: by its processor time). A page of samples is laid out light and dark, 400 and 1,600 pixels
 wide: it is not wider than the window, its policy keeps a script from running, the keyboard opens what is folded, and its contrasts suffice. Its pictures
 are left in target/page. Exit status: 0 all hold; 1 one does not; 3 there is no browser.
 """
@@ -52,7 +52,8 @@ return [...low];
 class Browser:
     """A session of the browser, without a profile and without the network."""
 
-    def __init__(self, room):
+    def __init__(self):
+        self.room = room = tempfile.mkdtemp(prefix="ducat-browser-")
         with socket.socket() as free:
             free.bind(("127.0.0.1", 0))
             port = free.getsockname()[1]
@@ -92,6 +93,10 @@ class Browser:
     def protocol(self, command, **parameters):
         return self.do("goog/cdp/execute", cmd=command, params=parameters)
 
+    def processor(self):
+        """The processor time of the page's process so far, in milliseconds."""
+        return next(1000 * one["value"] for one in self.protocol("Performance.getMetrics")["metrics"] if one["name"] == "ProcessTime")
+
     def open(self, path, width=1600, height=1000, scheme="light"):
         self.protocol("Emulation.setDeviceMetricsOverride", width=width, height=height, deviceScaleFactor=1, mobile=False)
         self.protocol("Emulation.setEmulatedMedia", features=[{"name": "prefers-color-scheme", "value": scheme}])
@@ -111,6 +116,7 @@ class Browser:
             pass
         self.driver.terminate()
         self.driver.wait()
+        shutil.rmtree(self.room, True)  # a process of the browser may still end
 
 
 class Faults(list):
@@ -145,18 +151,28 @@ def many(room):
     return report(room, os.path.join(room, "many.html"), "many", "--dialect", "all")
 
 
-def loads(browser, path, faults):
-    """The time of the browser's load event, the least of three, or of fifteen where none is short enough: other work of the machine is not the page's."""
-    times = []
-    while len(times) < 3 or min(times) >= MOST and len(times) < 15:
+def loads(browser, path, room, faults):
+    """The time of the browser's load event, the least of three, or of six where none is short enough. Other work of the machine is not the page's: where
+    more is waiting to run than there are processors, the processor time of the browser's process for the page is judged in place of it."""
+    times, used, blank = [], [], os.path.join(room, "blank.html")
+    put(blank, b"<!DOCTYPE html><title>blank</title>")
+    browser.protocol("Performance.enable")
+    while len(times) < 3 or min(times) >= MOST and len(times) < 6:
+        browser.open(blank)
+        before = browser.processor()
         browser.open(path)
         while not browser.run(ENDED):
             time.sleep(0.1)
         times.append(browser.run(ENDED))
+        after = browser.processor()
+        used.append(after - before if after > before else after)  # another page may have another process
     folded = browser.run("return [document.querySelectorAll('details').length, document.querySelectorAll('details[open]').length]")
     faults.demand(folded == [SCRIPTS, 0], f"{SCRIPTS} scripts: {folded[0]} details, {folded[1]} of them open")
-    faults.demand(min(times) < MOST, f"{SCRIPTS} scripts load in {min(times):.0f} ms, and {MOST} are allowed")
-    print(f"page: {SCRIPTS} scripts, {os.path.getsize(path):,} bytes: the load event after {min(times):.0f} ms ({', '.join(f'{t:.0f}' for t in times)})")
+    busy = os.getloadavg()[0] > (os.cpu_count() or 1)
+    print(f"page: {SCRIPTS} scripts, {os.path.getsize(path):,} bytes: the load event after {min(times):.0f} ms, the least of {len(times)}; processor time "
+          f"{min(used):.0f} ms{'; the machine is busy, so the smaller of the two counts' if busy else ''}")
+    took = min(*times, *used) if busy else min(times)
+    faults.demand(took < MOST, f"{SCRIPTS} scripts load in {took:.0f} ms, and {MOST} are allowed")
 
 
 def looks(browser, path, faults):
@@ -215,9 +231,9 @@ def main():
                       "--books", "samples/zones.book", "samples/line.book", "--expect", "take.trains=trains")
         small = report(support.ROOT, os.path.join(room, "small.html"), "samples/take.star", "--dialect", "all")
         big = many(room)
-        browser = Browser(room)
+        browser = Browser()
         try:
-            loads(browser, big, faults)
+            loads(browser, big, room, faults)
             for name, data in looks(browser, page, faults).items():
                 put(os.path.join(ROOM, f"{name}.png"), data)
             works(browser, page, room, faults)
