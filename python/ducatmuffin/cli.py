@@ -731,6 +731,9 @@ def report(words, out):
         search.found = joined(options, search.found)
     if options.script and any(one.script for one in search.found):
         raise Failed("--script is for table files: a script that is checked is its own")
+    taken = [part.path for one in search.found for part in getattr(one, "scripts", [one])] + (options.books or [])
+    if any(is_same(options.out, path) for path in taken):
+        raise Failed(f"-o {options.out}: it is an input, and the page would take its place")
     scripts, library = scripts_named(options.script), open_library()
     if options.zone is not None:
         from . import book
@@ -746,6 +749,14 @@ def report(words, out):
     how = job.Options(options.out, configured.dialect, scripts, options.books, options.zone, expectations, options.strict)
     status = job.run(library, how, search.found, out, head("report", library, configured.in_json()) if options.format == "json" else None)
     return max(status, 2 if search.empty else 0)
+
+
+def is_same(out, path):
+    """Whether a file that is to be written is one that is read."""
+    try:
+        return path is not None and os.path.samefile(out, path)
+    except OSError:
+        return False
 
 
 def expected(options, configured, paths):

@@ -163,7 +163,7 @@ def of_defs(world, one, calls):
             yield unmet_at(world, def_, f"{name} is defined here, and {len(defs)} times in all")
         if one.parameter not in world.parameters(def_):
             yield unmet_at(world, def_, f"{name} has no parameter {parameter}")
-        elif not calls:
+        if not calls:
             yield unmet_at(world, def_, f"{name} is never called")
     if not defs and not calls:
         yield Unmet(f"{name} is never called")

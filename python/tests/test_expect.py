@@ -83,6 +83,7 @@ class NotMet(ExpectTest):
 
     def test_no_such_parameter(self):
         self.unmet(DEF + "order(trains, tracks)\n", "1:1 order has no parameter first", expectation="order.first=trains")
+        self.unmet(DEF, "1:1 order has no parameter first", "1:1 order is never called", expectation="order.first=trains")
 
     def test_other_uses(self):
         call = "order(trains, tracks)\n"

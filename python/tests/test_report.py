@@ -337,6 +337,12 @@ class Whole(ReportTest):
             for setting, cell in zip((1, 3, 4, 5, 6), row[1:]):
                 said = self.run_ducat("book", "lookup", "--explain", *books[1:], str(zone), str(setting)).out
                 self.assertIn(f"dialect {cell[2:]}:", said)
+        zones, line = support.library().book_blank(4), support.library().book_blank(1)
+        for at in range(1, 65):
+            zones = support.library().book_add(zones, line, at, 1000 + at, bytes(9)).zone_book
+        root = self.report(0, "samples/clean.table", "--books", self.put("zones", zones), self.put("line", line))
+        table = next(one for one in root.all("table") if one.one("caption").text.startswith("The entries"))
+        self.assertEqual([row.text for row in table.all("tr")][1:], [f"zone{at}{1000 + at}000000000" for at in range(1, 65)])
         root = self.report(2, "samples/clean.table", "--books", "samples/damaged.book", "samples/line.book")
         self.assertIn("refused 95", root.text)
         words = ("samples/take.star", *books, "--zone", "12", "--setting", "4")
@@ -392,6 +398,13 @@ class Whole(ReportTest):
             self.assertEqual((ran.status, ran.out), (2, ""), words)
             self.assertIn(said, ran.err)
         self.alone()
+        own = self.put("own.table", support.sample("clean.table"))
+        for words in ((own, "-o", own), ("samples/clean.table", "-o", own, "--books", own, own), ("--join", self.put("a.star", ""), "-o", self.at("a.html"))):
+            if "--join" in words:
+                os.symlink(self.at("a.star"), self.at("a.html"))
+            ran = self.run_ducat("report", *words)
+            self.assertEqual((ran.status, "it is an input" in ran.err), (2, True), words)
+        self.assertEqual(self.read("own.table"), support.sample("clean.table"))
         out = self.at("x.html")
         told = json.loads(self.run_ducat("report", "samples/clean.table", "-o", out, "--json").out)
         self.assertEqual((told["command"], told["status"], told["output"]["bytes"], told["totals"]["files"]), ("report", 0, os.path.getsize(out), 1))
