@@ -9,6 +9,7 @@ from .expect import Expectations
 from .library import COUNTED_ERRORS, NO_FIGURES, BookRefusal, Refusal
 from .numbers import WORDS
 from .output import Failed, Progress, Report, digest, named, say
+from .table import file_of
 
 DRAWN = 2000  # the most pairs of an input that are drawn
 OPEN = 3  # so many inputs are shown unfolded
@@ -97,10 +98,9 @@ class Maker:
         found.pieces = found.data = found.statements = None  # nothing of it is needed any more
 
     def figure(self, found):
-        """Adds the figures of an input's tables: the library writes each as a table file, and counts it."""
+        """Adds the figures of an input's tables: the library reads and counts the table file of each."""
         for piece in found.pieces:
-            written = self.library.write(piece.table, piece.names, found.dialect)
-            answer = written if type(written) is Refusal else self.library.figures_step(written.data, self.figures)
+            answer = self.library.figures_step(file_of(piece.table, piece.names, found.dialect), self.figures)
             if type(answer) is Refusal:
                 self.uncounted += 1
             else:

@@ -294,11 +294,13 @@ class Whole(ReportTest):
         self.assertEqual([heading.text for heading in root.all("h2")][:2], ["Refused tables", "Inputs that are not read or have no table"])
         refused = next(root.all("table"))
         rows = [[cell.text for cell in row.children if isinstance(cell, Element)] for row in refused.all("tr")][1:]
-        self.assertEqual([(row[0], row[1]) for row in rows], [("samples/cut.table", "70"), ("samples/damaged.table", "72"), ("samples/lost.table", "70"),
-                                                              ("samples/unsound.table", "3")])
-        self.assertIn("the file ends after 1500 bytes", rows[0][3])
+        told = self.told("check", "samples", "samples/missing.table")
+        refused = [(entry["name"], str(entry["refused"]["number"])) for entry in told if "refused" in entry]
+        self.assertGreater(len(refused), 3)
+        self.assertEqual([(row[0], row[1]) for row in rows], refused)
+        self.assertIn("the file ends after 1500 bytes", next(row[3] for row in rows if row[0] == "samples/cut.table"))
         self.assertIn("samples/missing.table", root.text)
-        self.assertEqual(len(list(root.all("details"))), 28 - 4)
+        self.assertEqual(len(list(root.all("details"))), len(told) - len(refused) - 1)
 
     def test_dialects(self):
         root = self.report(1, "samples/toplevel.table", "samples/toplevel-standard.table", "samples/clean.table", "samples/example.table")
