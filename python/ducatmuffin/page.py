@@ -34,15 +34,15 @@ mark{background:var(--mark);color:inherit;text-decoration:underline wavy var(--b
 mark:empty::before{content:"\\2038"}.w{display:block;white-space:normal;font-family:system-ui,sans-serif;color:var(--bad);border-left:3px solid var(--bad);padding-left:.5em}
 .calls{display:grid;grid-template-columns:repeat(auto-fill,minmax(min(100%,26rem),1fr));gap:.8rem}
 figure{display:grid;grid-template-columns:auto 90px auto 1fr;align-content:start;gap:0 .5rem;margin:0;padding:.5rem .7rem;border:1px solid var(--line);
-border-radius:.3rem;min-width:0;overflow-x:auto;break-inside:avoid}
-figcaption,figure p{grid-column:1/-1;margin:0 0 .4rem;min-width:0;font-size:.9rem}
+border-radius:.3rem;min-width:0;overflow-x:auto;container-type:inline-size;break-inside:avoid}
+figcaption,figure p{grid-column:1/-1;justify-self:start;position:sticky;left:0;max-width:100cqi;margin:0 0 .4rem;font-size:.9rem}
 figure pre{margin:0;font-size:13px;line-height:24px}figure pre.dim{font-size:11px}
 path{fill:none;stroke-width:2}.a{stroke:var(--place)}.b{stroke:var(--name);stroke-dasharray:8 4}.c{stroke:var(--more);stroke-dasharray:2 3}
 .d{stroke:var(--dim);stroke-dasharray:1 5;stroke-linecap:round}path.s{stroke:var(--swap);stroke-width:4;stroke-dasharray:12 3 3 3}
 path.o{stroke:var(--swap);stroke-width:1}
 .bar{fill:var(--place)}td svg,th svg{display:inline-block;vertical-align:middle}
 @media(max-width:40rem){th,td{padding:.2rem .3rem;min-width:4.5rem;overflow-wrap:anywhere}th code{white-space:normal}}
-@media print{body{max-width:none;font-size:11pt}details{border:0;padding:0}details::details-content{content-visibility:visible;block-size:auto}
+@media print{body{max-width:none;font-size:11pt}.calls{display:block}figure{margin:.4rem 0}details{border:0;padding:0}details::details-content{content-visibility:visible;block-size:auto}
 .src{background:none}nav{display:none}}
 """
 
