@@ -88,7 +88,7 @@ pub fn is_def(table: &[u8], node: usize) -> bool
 }
 
 // The arguments of the call that a stretch begins with: what stands behind its callee.
-pub fn behind_callee(t: &[u8]) -> &[u8]
+fn behind_callee(t: &[u8]) -> &[u8]
     ensures { λ r. ⌜ now r ≡ behindCallee (now (t .entry)) ⌝ }
 {
     let kids = deflist::children(t);
@@ -470,7 +470,7 @@ fn parameter_count(table: &[u8], def: usize) -> usize
 }
 
 // How many arguments the call at a node has.
-pub fn argument_count(table: &[u8], call: usize) -> usize
+fn argument_count(table: &[u8], call: usize) -> usize
     ensures { λ r. ⌜ ((names : List ℕ) → r ≡ length (argumentsAt (now (table .entry)) names call)) ⌝ }
     ensures { λ r. ⌜ recordBytes * r ≤ length (now (table .entry)) ⌝ }
 {

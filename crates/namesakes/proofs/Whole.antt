@@ -6,9 +6,9 @@
 use mathlib.Core.Path.{_≡_, refl, sym, ap, _∙_}
 use mathlib.Core.Bool.{Bool, true, false}
 use mathlib.Core.List.{List, [], _∷_, _++_}
-use Prim.Native.Nat.{ℕ, zero, suc, _+_, _*_, _/_, _<_, _≤_}
+use Prim.Native.Nat.{ℕ, zero, suc, _+_, _-_, _*_, _/_, _<_, _≤_}
 use native.Mathlib.Omega.{arith}
-use lib.ListN.{length, getD, drop, replicate, length-replicate}
+use lib.ListN.{length, getD, take, drop, replicate, length-replicate}
 use lib.Seq.{getD-drop}
 use lib.Dec.{eqb, leb}
 use borrow.Author.Tests.{leb-true}
@@ -37,7 +37,9 @@ use Rattle.bind.specs.Reading.{Behind, behindCallee}
 use Rattle.bind.specs.declared.Bound.{Bound}
 use Rattle.bind.specs.declared.Bound.the-variants.{Accepted, Refused as Unbound}
 use Rattle.bind.proofs.Lists.{flats-short}
-use Rattle.bind.proofs.Entry.{Entered, entered, def-stretch, call-stretch, table-short}
+use Rattle.bind.proofs.Steps.{behind-part}
+use Rattle.bind.proofs.Entry.{args-counted, args-few, Entered, entered, def-stretch, call-stretch, table-short}
+use Rattle.arguments.specs.Written.{argumentsIn}
 use Rattle.bind.proofs.Room.{room-enough}
 use Rattle.namesakes.specs.Namesake.{Labelled, labelledIn, Report, reportOf, reportsFrom}
 use Rattle.namesakes.specs.Job as job
@@ -52,6 +54,18 @@ pub labelled-many : (t ns : List ℕ) (i : ℕ) → bare (labelledAt t ns i) ≡
 unfolding labelledAt argumentsAt
 labelled-many t ns i = same-of ns _
 
+-- the arguments of the call at a node, counted
+module _ (t : List ℕ) (call : ℕ) {u kids : List ℕ} {e : ℕ} (u-is : u ≡ stretchOf t call) (kids-are : kids ≡ kidsOf u)
+    (e-is : e ≡ spanOf kids) (r : ℕ) where
+  pub count-told : ((ns : List ℕ) (i : ℕ)
+      → r ≡ length (argumentsIn ns (forest i (take (length kids - e) (drop e kids)))))
+      × (24 * r ≤ length (take (length kids - e) (drop e kids)))
+      → ((ns : List ℕ) → r ≡ length (argumentsAt t ns call)) × (24 * r ≤ length t)
+  count-told (all, few) = (
+    args-counted t call u-is r (behind-part u kids-are e-is) all,
+    args-few t call u-is r (behind-part u kids-are e-is) few,
+  )
+
 -- what stands behind a callee lies within the table
 behind-within : (call : ℕ) (u : List ℕ) → Within call u
     → 24 * (call + 1 + spanOf (kidsOf u) / 24) + length (behindCallee u) ≤ 50424
@@ -61,10 +75,16 @@ behind-within call u h = omega (arith, length-kids u, length-rest (kidsOf u))
 -- the reports of a call and a def: the parts of the table that are read lie within it, and hold what is reported
 module _ {t ns : List ℕ} {call def n : ℕ} (k : Ready t ns call def n) {flat : ℕ}
     (flat-is : flat ≡ length (flats (listOf t ns def))) {s u : List ℕ} (s-is : s ≡ stretchOf t def)
-    (u-is : u ≡ stretchOf t call) {params kids args : List ℕ} (params-are : params ≡ kidsOf s)
-    (kids-are : kids ≡ kidsOf u) {e : ℕ} (e-is : e ≡ spanOf kids) (args-are : args ≡ behindCallee u) where
+    (u-is : u ≡ stretchOf t call) {params kids : List ℕ} (params-are : params ≡ kidsOf s)
+    (kids-are : kids ≡ kidsOf u) {e : ℕ} (e-is : e ≡ spanOf kids) where
   abbrev first : ℕ
   first = call + 1 + e / 24
+
+  abbrev args : List ℕ
+  args = take (length kids - e) (drop e kids)
+
+  args-are : args ≡ behindCallee u
+  args-are = behind-part u kids-are e-is
 
   arguments : labelledIn ns (forest first args) ≡ labelledAt t ns call
   unfolding labelledAt

@@ -13,7 +13,7 @@ use table::Wanted;
 use table::numbers;
 ghost use mathlib.Core.Path.{_≡_};
 ghost use mathlib.Core.Bool.{_&&_};
-ghost use mathlib.Core.List.{[]};
+ghost use mathlib.Core.List.{List, []};
 ghost use Prim.Native.Nat.{ℕ, _*_, _≤_};
 ghost use lib.ListN.{length, getD, replicate};
 ghost use Rattle.forest.specs.Forest.{recordBytes, nodeOf, kidsOf, forest};
@@ -21,7 +21,9 @@ ghost use Rattle.forest.specs.Names.{nameOf, same};
 ghost use Rattle.table.specs.Answer.{accepted, checked};
 ghost use Rattle.table.specs.Check.{mostNodes, mostBytes};
 ghost use Rattle.table.specs.declared.Place.the-variants.{At};
+ghost use Rattle.arguments.specs.Written.{argumentsIn};
 ghost use Rattle.bind.specs.FlatList.{flats};
+ghost use Rattle.bind.specs.Job.{argumentsAt};
 ghost use Rattle.bind.specs.Reading.{Behind, flatsOf as flatCount};
 ghost use Rattle.parameters.specs.Params.{listOf};
 ghost use Rattle.namesakes.specs.Namesake.{labelOf, labelledIn, ordinaryFrom, namesakeOf, reportOf, reportsFrom};
@@ -91,10 +93,35 @@ fn enter(table: &[u8], names: &[u8], call: usize, def: usize, room: usize) -> Ch
     if !bind::is_def(table, def) {
         return Checked::Refused(Refusal::Bare(numbers::WRONG_NODE));
     }
-    if room < 4 * bind::argument_count(table, call) {
+    if room < 4 * argument_count(table, call) {
         return Checked::Refused(Refusal::Bare(numbers::SHORT_BUFFER));
     }
     Checked::Sound
+}
+
+// How many arguments the call at a node has: what stands behind its callee.
+fn argument_count(table: &[u8], call: usize) -> usize
+    ensures { λ r. ⌜ ((names : List ℕ) → r ≡ length (argumentsAt (now (table .entry)) names call)) ⌝ }
+    ensures { λ r. ⌜ recordBytes * r ≤ length (now (table .entry)) ⌝ }
+{
+    let kids = deflist::children(table::stretch(table, call));
+    let e = forest::span(kids);
+    count(&kids[e..])
+}
+
+// How many arguments there are.
+fn count(args: &[u8]) -> usize
+    ensures { λ r. ⌜ ((names : List ℕ) (i : ℕ) → r ≡ length (argumentsIn names (forest i (now (args .entry))))) ⌝ }
+    ensures { λ r. ⌜ recordBytes * r ≤ length (now (args .entry)) ⌝ }
+{
+    let mut left = args;
+    let mut n = 0;
+    while RECORD <= left.len() {
+        let e = forest::span(left);
+        left = &left[e..];
+        n += 1;
+    }
+    n
 }
 
 // Writes the reports of a call and a def that are bound, and returns how many there are. flat is the flat count, and
@@ -117,17 +144,10 @@ fn report(
         (now (list .entry)) ⌝ }
 {
     let params = deflist::children(table::stretch(table, def));
-    let t = table::stretch(table, call);
-    let first = call + 1 + forest::span(deflist::children(t)) / RECORD;
-    along(
-        names,
-        params,
-        bind::behind_callee(t),
-        first,
-        flat as usize,
-        words,
-        list,
-    ) as u32
+    let kids = deflist::children(table::stretch(table, call));
+    let e = forest::span(kids);
+    let first = call + 1 + e / RECORD;
+    along(names, params, &kids[e..], first, flat as usize, words, list) as u32
 }
 
 // The reports of the arguments in turn, the first of which is the node first, and whose words stand from a place on.

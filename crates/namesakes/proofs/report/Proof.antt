@@ -12,13 +12,14 @@ report-spec =
     (λ c κs. search needs)
     (λ c κs. search needs)
     (λ c κs. search needs)
-    (λ c. search needs)
     (λ c κs. search needs)
     (λ c κs. search needs)
     (λ c. search needs)
-    (λ c κs. search needs)
+    (λ c. search needs)
+    (λ c. search needs)
+    (λ c. search needs)
+    (λ c. search needs)
     (λ c κs.  -- along-requires
-    let behind-callee = c .before .behind-callee in
     let span = c .before .before .span in
     let children2 = c .before .before .before .children2 in
     let stretch2 = c .before .before .before .before .stretch2 in
@@ -26,12 +27,24 @@ report-spec =
     let back = c .before .before .before .before .before .before in
     let start = back .before .before .before .before .before in
     report-fits start.pre.0 start.pre.1 (back .stretch .ensures) stretch2.ensures children.ensures children2.ensures
-    span.ensures behind-callee.ensures)
-    (λ c. search report-small)  -- cast-result
+    span.ensures)
+    (λ c.  -- cast-result
+    let along = c .before .before .along in
+    let span = c .before .before .before .before .before .span in
+    let back = c .before .before .before .before .before .before in
+    let stretch2 = back .before .stretch2 in
+    let children = back .before .before .children in
+    let stretch = back .before .before .before .stretch in
+    let back2 = back .before .before .before .before .before .before in
+    let start = back2 .before .before in
+    omega (
+      arith,
+      report-small start.pre.0 start.pre.1 stretch.ensures stretch2.ensures children.ensures (back .children2 .ensures)
+          span.ensures along.ensures.1.0,
+    ))
     (λ c. search needs)
     (λ c.  -- returns
     let along = c .before .before .along in
-    let behind-callee = c .before .before .before .before .behind-callee in
     let span = c .before .before .before .before .before .span in
     let back = c .before .before .before .before .before .before in
     let stretch2 = back .before .stretch2 in
@@ -40,4 +53,4 @@ report-spec =
     let back2 = back .before .before .before .before .before .before in
     let start = back2 .before .before in
     report-told start.pre.0 start.pre.1 stretch.ensures stretch2.ensures children.ensures (back .children2 .ensures)
-    span.ensures behind-callee.ensures _ _ along.ensures.0 along.ensures.1.1))
+    span.ensures _ _ along.ensures.0 along.ensures.1.1))
