@@ -39,7 +39,10 @@ PARTS = ("README.md", "./ducat bind --strict --expect take2.trains=trains sample
 
 # what the bindings of two joined scripts are, from their table and from the scripts themselves
 RECORDED = [("samples/joined.bound", "./ducat bind --script 1=samples/joined.1.star --script 2=samples/joined.2.star samples/joined.table"),
-            ("samples/joined.bound", "./ducat bind --join samples/joined.1.star samples/joined.2.star")]
+            ("samples/joined.bound", "./ducat bind --join samples/joined.1.star samples/joined.2.star"),
+            ("samples/three.figures", "./ducat figures samples/three.tables"),
+            ("samples/three.figures", "./ducat figures --jobs 2 samples/example.table samples/parameters.table samples/take.table"),
+            ("samples/three-damaged.figures", "./ducat figures samples/three-damaged.tables")]
 
 
 def printed(command, room):

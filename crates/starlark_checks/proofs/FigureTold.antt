@@ -2,15 +2,26 @@
 -- the counters are those of the report (`report-put`). A step that accepts puts one word, which fits: a file takes at
 -- most 59,904 bytes (`step-fits`). Assumes nothing.
 use mathlib.Core.Path.{_≡_, refl, sym, ap, _∙_}
+use mathlib.Core.Bool.{Bool, true, false}
 use mathlib.Core.List.{List, []}
-use Prim.Native.Nat.{ℕ, _^_, _<_}
+use Prim.Native.Nat.{ℕ, _*_, _^_, _<_, _≤_}
 use native.Mathlib.Omega.{arith}
+use lib.ListN.{length, getD}
+use lib.Dec.{eqb, ltb}
+use Rattle.fields.specs.Choice.{if'}
+use Rattle.fields.proofs.Basics.{never}
+use Rattle.table.specs.Answer.{Answer, accepted, refused}
+use Rattle.table.proofs.Answers.{passed-both}
+use Rattle.blocks.specs.Block.{demand}
+use Rattle.blocks.specs.Run.{blocksFor}
+use Rattle.tablefile.specs.Reading.{headerAt, contentAt, frontCheck, soundCheck}
+use Rattle.tablefile.proofs.Fronts.{first-is, taken-is, Fronted, fronted-then}
 use Rattle.figures.specs.declared.Ending.{Ending}
 use Rattle.figures.specs.declared.Ending.the-variants.{Refused as RefusedAt}
 use Rattle.figures.specs.declared.Stepped.{Stepped}
-use Rattle.figures.specs.declared.Stepped.the-variants.{Taken, Refused}
+use Rattle.figures.specs.declared.Stepped.the-variants.{Taken}
 use Rattle.figures.specs.declared.Reported.{Reported}
-use Rattle.figures.specs.Reporting.{stepOf}
+use Rattle.figures.specs.Reporting.{mostFiles, tooManyFiles, windowCheck, stepCheck, told, stepOf}
 use Rattle.starlark_checks.specs.Words.{laid}
 use Rattle.starlark_checks.specs.FormatWords.{twoWords}
 use Rattle.starlark_checks.specs.FigureWords.{endingNumber, endingWords}
@@ -33,11 +44,27 @@ report-put v w xs q (i, p) =
         = ap (λ (e : Ending). laid (endingWords e) 0 xs) k in
     (i ∙ ap endingNumber k, (p ∙ words, ap (λ (r : Reported). r .figures) q))
 
-takenIn : Stepped → ℕ
-takenIn (Taken n) = n
-takenIn (Refused n) = 0
+-- a file whose blocks pass takes at most 59,904 bytes: block 0, 16 of names and 100 of nodes
+front-most : (w : List ℕ) → Fronted w → headerAt w .taken ≤ 59904
+unfolding blocksFor
+front-most w f =
+    let names : blocksFor (headerAt w .names) ≤ 16 = omega (arith, f .counts) in
+    let nodes : blocksFor (24 * headerAt w .nodes) ≤ 100 = omega (arith, f .counts) in
+    omega (arith, taken-is w, first-is w, names, nodes)
 
 -- LAW: the bytes that a step takes fit a word
 pub step-fits : (w figures : List ℕ) {a : Stepped} {n : ℕ} → a ≡ stepOf w figures → a ≡ Taken n → n < 2 ^ 32
-unfolding stepOf takenIn
-step-fits w figures a-is e = omega (arith, ap takenIn (sym a-is ∙ e))
+unfolding stepOf stepCheck windowCheck
+step-fits w figures {n = n} a-is e = start (eqb (length w) 0) (sym a-is ∙ e)
+  where
+    go : (a : Answer) → stepCheck w figures ≡ a → told a (headerAt w .taken) ≡ Taken n → n < 2 ^ 32
+    go (accepted vs) c f =
+        let is : headerAt w .taken ≡ n = cc in
+        let rest = passed-both (demand (ltb (getD figures 0 0) mostFiles) tooManyFiles) (λ _. windowCheck w) c in
+        let front = passed-both (frontCheck w) (λ _. soundCheck (contentAt w)) (rest .2) in
+        omega (arith, is, front-most w (fronted-then w (λ _. accepted []) (rw (front .1) refl) .0))
+    go (refused k vs) c f = never (cc)
+    start : (t : Bool) → if' t (λ _. Taken 0) (λ _. told (stepCheck w figures) (headerAt w .taken)) ≡ Taken n
+        → n < 2 ^ 32
+    start true f = let z : 0 ≡ n = cc in omega (arith, z)
+    start false f = go (stepCheck w figures) refl f

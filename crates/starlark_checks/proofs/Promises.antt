@@ -26,6 +26,8 @@ use Rattle.books.specs.Change.{blankOf, blankAfter}
 use Rattle.starlark_checks.specs.Words.{number, words, callWords, rescueWords, laid}
 use Rattle.starlark_checks.specs.Words.{readOf, passWords}
 use Rattle.starlark_checks.specs.Version.{version}
+use Rattle.figures.specs.Reporting.{stepOf, figuresAfter, reportOf}
+use Rattle.starlark_checks.specs.FigureWords.{endingNumber, endingWords, stepAnswer}
 use Rattle.fstring.specs.Writing.{writeOf as textOf, textAfter}
 use Rattle.fstring.specs.Reading.{readOf as partsRead, wordsAfter as partsAfter, textsAfter}
 use Rattle.starlark_checks.specs.FormatWords.{textWords, partWords}
@@ -230,3 +232,22 @@ pub starlark-book-blank-one : (book out : List ℕ) {r s : ℕ} {book-r book-s :
     → r ≡ blankOf (length book) → out-r ≡ laid [] 0 out → book-r ≡ blankAfter book → s ≡ blankOf (length book)
     → out-s ≡ laid [] 0 out → book-s ≡ blankAfter book → (r ≡ s) × (book-r ≡ book-s) × (out-r ≡ out-s)
 starlark-book-blank-one book out a b c d e f = (coincide a d, coincide c f, coincide b e)
+
+-- of `starlark_figures`
+pub starlark-figures-one : (input out : List ℕ) {r s : ℕ} {figures-r figures-s out-r out-s : List ℕ}
+    → r ≡ endingNumber (reportOf input .ending) → out-r ≡ laid (endingWords (reportOf input .ending)) 0 out
+    → figures-r ≡ reportOf input .figures → s ≡ endingNumber (reportOf input .ending)
+    → out-s ≡ laid (endingWords (reportOf input .ending)) 0 out → figures-s ≡ reportOf input .figures
+    → (r ≡ s) × (figures-r ≡ figures-s) × (out-r ≡ out-s)
+starlark-figures-one input out r-is out-is figures-is s-is out-are figures-are =
+    (coincide r-is s-is, coincide figures-is figures-are, coincide out-is out-are)
+
+-- of `starlark_figures_step`
+pub starlark-figures-step-one : (window figures out : List ℕ) {r s : ℕ} {figures-r figures-s out-r out-s : List ℕ}
+    → r ≡ number (stepAnswer (stepOf window figures))
+    → out-r ≡ laid (words (stepAnswer (stepOf window figures))) 0 out → figures-r ≡ figuresAfter window figures
+    → s ≡ number (stepAnswer (stepOf window figures))
+    → out-s ≡ laid (words (stepAnswer (stepOf window figures))) 0 out → figures-s ≡ figuresAfter window figures
+    → (r ≡ s) × (figures-r ≡ figures-s) × (out-r ≡ out-s)
+starlark-figures-step-one window figures out r-is out-is figures-is s-is out-are figures-are =
+    (coincide r-is s-is, coincide figures-is figures-are, coincide out-is out-are)

@@ -4,7 +4,14 @@
 // sees at least one, or all that is left, and bytes are moved only where less than one is unread. A read that fails
 // prints no report.
 use blocks::BLOCK_BYTES;
+use figures::CALLS_ACCEPTED;
+use figures::CALLS_REFUSED;
+use figures::ERRORS;
 use figures::FIGURES;
+use figures::FILES;
+use figures::LISTS;
+use figures::MODES;
+use figures::NODES;
 use figures::Stepped;
 use libc::STDIN_FILENO;
 use libc::STDOUT_FILENO;
@@ -227,26 +234,33 @@ fn held_sum(a: usize, b: usize) -> usize {
 
 // The 32 lines.
 fn say_figures(counters: &[u64; FIGURES]) {
-    say_line(b"files ", counters[0]);
-    say_line(b"nodes ", counters[1]);
-    say_line(b"lists ", counters[2]);
-    say_numbered(b"mode ", 1, &counters[3..8]);
-    say_line(b"calls accepted ", counters[8]);
-    say_line(b"calls refused ", counters[9]);
-    say_numbered(b"error ", 10, &counters[10..20]);
-    say_numbered(b"error ", 50, &counters[20..32]);
+    say_line(b"files ", counters[FILES]);
+    say_line(b"nodes ", counters[NODES]);
+    say_line(b"lists ", counters[LISTS]);
+    say_numbered(b"mode ", 1, counters, MODES, 5);
+    say_line(b"calls accepted ", counters[CALLS_ACCEPTED]);
+    say_line(b"calls refused ", counters[CALLS_REFUSED]);
+    say_numbered(b"error ", 10, counters, ERRORS, 10);
+    say_numbered(b"error ", 50, counters, ERRORS + 10, 12);
 }
 
-// Lines of counts that are numbered from a first number on.
-fn say_numbered(text: &[u8], first: u64, counts: &[u64]) {
-    let n = counts.len();
+// Lines of n counters from a place on, which are numbered from a first number on.
+fn say_numbered(text: &[u8], first: u64, counters: &[u64; FIGURES], place: usize, n: usize) {
     let mut i = 0;
     while i < n {
         say(text);
         io::print_decimal(STDOUT_FILENO, sum(first, i as u64));
-        say_line(b" ", counts[i]);
+        say_line(b" ", counter(counters, held_sum(place, i)));
         i += 1;
     }
+}
+
+// A counter; 0 where there is none.
+fn counter(counters: &[u64; FIGURES], place: usize) -> u64 {
+    if place < FIGURES {
+        return counters[place];
+    }
+    0
 }
 
 fn say_refused(number: u32, at: u64) {

@@ -14,7 +14,7 @@ use crate::port::NAMES;
 /// any seed.
 const LEAST: [u64; JOBS] = [
     1_436_000, 2_761_000, 701_000, 2_781_000, 779_000, 3_357_000, 1_640_000, 433_000, 1_420_000, 180_000, 844_000, 121_800, 97_000, 505_000,
-    890_000, 0, 0, 3_400,
+    890_000, 41_500, 119_000, 3_400,
 ];
 
 /// What the whole comparison must put to Python at the least, where there is one.

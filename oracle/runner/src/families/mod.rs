@@ -171,9 +171,9 @@ pub const ALL: &[Family] = &[
     family("format texts, every short one", 2, FORMATS, formats::texts, [725_570, 48_430, 48_430]),
     family("format texts, every list", 2, FORMATS, formats::lists, [462_180, 74_200, 109_990]),
     family("format texts, random", 2, FORMATS, formats::random, [212_000, 31_000, 30_700]),
-    family("figures, corner cases", 1, FIGURES | FIGURES_STEP, figures::corners, [0, 0, 0]),
-    family("figures, every cut", 2, FIGURES | FIGURES_STEP, figures::cuts, [0, 0, 0]),
-    family("figures, random joins", 2, FIGURES | FIGURES_STEP, figures::random, [0, 0, 0]),
+    family("figures, corner cases", 1, FIGURES | FIGURES_STEP, figures::corners, [1_340, 0, 6]),
+    family("figures, every cut", 2, FIGURES | FIGURES_STEP, figures::cuts, [31_950, 0, 0]),
+    family("figures, random joins", 2, FIGURES | FIGURES_STEP, figures::random, [128_000, 0, 22_000]),
     family("files, through the program", 1, FILE, files::files, [1_700, 0, 0]),
 ];
 
