@@ -35,7 +35,7 @@ FIRST, PROOFS, BESIDE, WRONG = "first", "proofs", "beside", "wrong"
 LANES = (FIRST, PROOFS, WRONG, BESIDE)  # the order in which results are printed
 
 # What a step may need besides rt and Python: how it is called, and whether it is here.
-NEEDS = {tool: (tool, lambda tool=tool: shutil.which(tool) is not None) for tool in ("cc", "rustc", "cargo", "nm", "dpkg-deb", "flake8")}
+NEEDS = {tool: (tool, lambda tool=tool: shutil.which(tool) is not None) for tool in ("cc", "rustc", "cargo", "nm", "dpkg-deb", "flake8", "chromium", "chromedriver")}
 NEEDS["published"] = ("the crate's published files", PUBLISHED.exists)
 ORACLE = ("cc", "rustc", "cargo", "nm", "dpkg-deb", "published")
 
@@ -129,6 +129,8 @@ STEPS = [
     Step("against", "ducat prints and writes what the three programs do, byte by byte", python("-I", "-S", "python/tests/against_programs.py"), lane=BESIDE),
     Step("books", "the book functions answer as a model with a map of entries does", python("oracle/books"), lane=BESIDE),
     Step("books-time", "a lookup in books of 100 blocks, and an addition, take at most 1 ms", python("bench/books"), lane=BESIDE),
+    Step("page", "a browser shows the page of ducat report, light and dark, and loads 500 scripts in under a second", python("-I", "-S", "python/tests/browser.py"),
+         ("chromium", "chromedriver"), BESIDE),
     Step(
         "figures-time",
         "figures take at most 1.5 times starlark_check_file over the same files, and ducat 10 s for 100,000 files from disk",

@@ -3,7 +3,7 @@
 
 A block of lines that are indented by four spaces, after the line '<!-- shown: COMMAND -->', is the standard output of COMMAND, run at the
 root. ROOM in a command is a temporary folder. README's first command is such a block without the mark (a reader sees no comment in it), and is
-listed here. So are files of samples/ that hold what a command prints. Status 1, with a line for each difference, where one differs; so where a
+listed here; of its second one README shows parts. So are files of samples/ that hold what a command prints. Status 1, with a line for each difference, where one differs; so where a
 document shows nothing.
 """
 import pathlib
@@ -25,6 +25,17 @@ FIRST = ("README.md", "./ducat check samples/example.star", """    nodes 6
           ^^^^^
     errors 2
 """)
+
+# parts of what a command prints that README shows
+PARTS = ("README.md", "./ducat bind --strict --expect take2.trains=trains samples/take.star", (
+    """    10:5 take(tracks, trains), def 1:1
+        trains, by place only: tracks (10:10)
+        tracks, by place only: trains (10:18)
+        exchanged: tracks (10:10) reaches trains, and trains (10:18) reaches tracks
+""", """    expect take2.trains=trains: not met
+        12:26 trains takes tracks, not trains
+        13:11 trains takes tracks, not trains
+"""))
 
 # what the bindings of two joined scripts are, from their table and from the scripts themselves
 RECORDED = [("samples/joined.bound", "./ducat bind --script 1=samples/joined.1.star --script 2=samples/joined.2.star samples/joined.table"),
@@ -50,6 +61,8 @@ def main():
     shown = [FIRST]
     if f"    {FIRST[1]}\n" not in readme or FIRST[2] not in readme:
         faults.append("README.md does not show the first command with what it prints")
+    if f"    {PARTS[1]}\n" not in readme or any(part not in readme for part in PARTS[2]):
+        faults.append("README.md does not show the release check with parts of what it prints")
     if readme.count("\n") > 150:
         faults.append(f"README.md has {readme.count(chr(10))} lines, and 150 are allowed")
     for document in DOCUMENTS:
@@ -59,10 +72,12 @@ def main():
             faults.append(f"{document} shows nothing")
     shown += [(path, command, indented((ROOT / path).read_text())) for path, command in RECORDED]
     with tempfile.TemporaryDirectory() as room:
+        said = printed(PARTS[1], room)
+        faults += [f"{PARTS[0]}: `{PARTS[1]}` does not print this part:\n{part}" for part in PARTS[2] if part not in said]
         for document, command, block in shown:
             if printed(command, room) != block:
                 faults.append(f"{document}: `{command}` prints something else than is shown:\n{printed(command, room)}")
-    print("\n".join(faults) or f"shown.py: {len(shown)} commands print what the documents show")
+    print("\n".join(faults) or f"shown.py: {len(shown) + 1} commands print what the documents show")
     return 1 if faults else 0
 
 

@@ -52,6 +52,11 @@ uint32_t starlark_bind(TABLE, size_t call, size_t def, uint32_t *list, size_t li
     return inner_bind(SLICE(t, tl), SLICE(n, nl), call, def, SLICE(list, list_len), out);
 }
 
+uint32_t inner_namesakes(struct slice *, struct slice *, size_t, size_t, struct slice *, uint32_t *);
+uint32_t starlark_namesakes(TABLE, size_t call, size_t def, uint32_t *list, size_t list_len, uint32_t *out) {
+    return inner_namesakes(SLICE(t, tl), SLICE(n, nl), call, def, SLICE(list, list_len), out);
+}
+
 uint32_t inner_write(struct slice *, struct slice *, struct slice *, uint32_t, struct slice *, uint32_t *);
 uint32_t starlark_write(TABLE, const uint8_t *d, size_t dl, uint32_t edition, uint8_t *file, size_t file_len, uint32_t *out) {
     return inner_write(SLICE(t, tl), SLICE(n, nl), SLICE(d, dl), edition, SLICE(file, file_len), out);

@@ -1,4 +1,4 @@
-"""ducat bind: which argument of a call reaches which parameter of a def.
+"""ducat bind: which argument of a call reaches which parameter of a def, and which arguments have the name of another parameter.
 
 The answers are the library's. Which call is paired with which def is said here, by the names of defs in the scripts: a table has none.
 """
@@ -8,11 +8,12 @@ import re
 from . import dialects, inputs, reasons
 from .check import (MADE, NO_TABLE, SAYS_THE_STEP, STEP, SYNTAX, Found, complaints, evidence_of, failed_json, hint_of, in_one_table, is_joined, node_json, parsed,
                     read_parts, span_json, start, syntax_errors, syntax_lines)
+from .expect import Expectations
 from .library import Refusal
 from .numbers import KIND, KINDS
 from .output import PLAIN, Failed, named, say, shown, visible
 from .scripts import NONE, files_of
-from .table import children, decode, name_of
+from .table import children, decode, name_of, parents
 
 DEF, CALL, IDENTIFIER, NAMED, DOT = (KIND[word] for word in ("Def", "Call", "Identifier", "Named", "Dot"))
 STARS = {KIND["ArgsParam"]: "*", KIND["KwArgsParam"]: "**"}
@@ -51,6 +52,14 @@ class Tree:
     def arguments(self, node):
         return list(children(self.records, node))[1:]
 
+    def path(self, node):
+        """The names of an expression that is an identifier or a path, as zone.tracks; otherwise None."""
+        names = []
+        while self.records[node].kind == DOT:
+            names.append(self.name(node))
+            node += 1
+        return (self.name(node), *reversed(names)) if self.records[node].kind == IDENTIFIER else None
+
     def callee(self, node):
         """The name of what is called, where that is an identifier."""
         return self.name(node + 1) if self.records[node + 1].kind == IDENTIFIER else None
@@ -63,14 +72,19 @@ class Tree:
 class Bytes:
     """Places in bytes, where there is no script; an argument's text is told by its table."""
 
+    scripts = NONE
+
     def __init__(self, tree):
         self.tree = tree
 
     def text(self, argument):
-        tree, value = self.tree, argument + 1
-        kind = tree.records[value].kind
-        said = shown(tree.name(value)) if kind == IDENTIFIER else f"({KINDS[kind][0]})"
-        return f"{shown(tree.name(argument))}={said}" if tree.records[argument].kind == NAMED else said
+        said = self.value(argument + 1)
+        return f"{shown(self.tree.name(argument))}={said}" if self.tree.records[argument].kind == NAMED else said
+
+    def value(self, node):
+        """An expression: a name or a path as it is, any other by its kind."""
+        path = self.tree.path(node)
+        return shown(b".".join(path)) if path else f"({KINDS[self.tree.records[node].kind][0]})"
 
     def place(self, node):
         return "node {}, file {}, bytes {} to {}".format(node, self.tree.file(node), *self.tree.span(node))
@@ -114,6 +128,11 @@ class Places:
         source = self.source(node)
         return text_in(source, *self.tree.span(node)) if source else self.of_table(node)
 
+    def value(self, node):
+        """The text of an expression."""
+        source = self.source(node)
+        return text_in(source, *self.tree.span(node)) if source else self.bytes.value(node)
+
     def of_table(self, node):
         """The text of an argument or a call, as far as its table tells it."""
         if self.tree.records[node].kind != CALL:
@@ -144,11 +163,52 @@ def place_in(source, begin, named):
     return f"{visible(source.path)}:{where}" if named else where
 
 
+class Namesake:
+    """An argument with the name of an ordinary parameter, `parameter`, that reaches another one, `reaches`. `other` is the one that it is exchanged
+    with: each has the name of the parameter that the other reaches. `expected` is the expectation that states it."""
+
+    def __init__(self, argument, reaches, parameter, taker):
+        self.argument, self.reaches, self.parameter, self.taker = argument, reaches, parameter, taker
+        self.other = self.expected = None
+
+
 class Binder:
     """Asks the library about the calls and defs of one table."""
 
     def __init__(self, library, tree):
-        self.library, self.tree, self.modes, self.flat, self.arguments = library, tree, {}, {}, {}
+        self.library, self.tree, self.modes, self.flat, self.arguments, self.named = library, tree, {}, {}, {}, {}
+
+    def flat_of(self, def_):
+        if def_ not in self.flat:
+            self.flat[def_] = self.tree.flat(def_)
+        return self.flat[def_]
+
+    def arguments_of(self, call):
+        if call not in self.arguments:
+            self.arguments[call] = self.tree.arguments(call)
+        return self.arguments[call]
+
+    def names_in(self, node, list_, of):
+        """The names of a def's parameters or of a call's arguments, found once."""
+        if node not in self.named:
+            self.named[node] = frozenset(map(of, list_(node)))
+        return self.named[node]
+
+    def argument_name(self, argument):
+        path = self.tree.records[argument + 1].kind in (DOT, IDENTIFIER)
+        return self.tree.name(argument + 1) if path else None
+
+    def namesakes(self, call, def_):
+        """The namesakes of an accepted call, in order. The library is asked where an argument has the name of a parameter: it reports no other."""
+        if self.names_in(call, self.arguments_of, self.argument_name).isdisjoint(self.names_in(def_, self.flat_of, self.tree.name)):
+            return ()
+        answer, flat = self.library.namesakes(self.tree.table, self.tree.names, call, def_), self.flat_of(def_)
+        found = {one.argument: Namesake(one.argument, flat[one.reached], flat[one.namesake], one.taken) for one in answer.found}
+        for one in found.values():
+            other = found.get(one.taker)
+            if other and other.taker == one.argument:
+                one.other = other
+        return tuple(found.values())
 
     def bound(self, call, def_):
         return self.library.bind(self.tree.table, self.tree.names, call, def_)
@@ -169,14 +229,10 @@ class Binder:
 
     def taken(self, answer, call, def_):
         """Each parameter of an accepted call: its node, its mode, and the arguments that it takes."""
-        tree = self.tree
-        if def_ not in self.flat:
-            self.flat[def_] = tree.flat(def_)
+        tree, arguments = self.tree, self.arguments_of(call)
+        if def_ not in self.modes:
             self.modes[def_] = self.library.params(tree.table, tree.names, def_).modes
-        if call not in self.arguments:
-            self.arguments[call] = tree.arguments(call)
-        arguments = self.arguments[call]
-        for at, (parameter, mode, node) in enumerate(zip(self.flat[def_], self.modes[def_], answer.parameters)):
+        for at, (parameter, mode, node) in enumerate(zip(self.flat_of(def_), self.modes[def_], answer.parameters)):
             if mode in (4, 5):
                 yield parameter, mode, [one for one, reached in zip(arguments, answer.arguments) if reached == at]
             else:
@@ -192,9 +248,21 @@ class Binder:
                 said = "default"
             else:
                 said = "; ".join([f"{places.text(one)} ({places.place(one)})" for one in taken]) or "none"
-            record = self.tree.records[parameter]
-            lines.append(f"{STARS.get(record.kind, '')}{shown(self.tree.name(parameter))}, {MODES[mode]}: {said}")
+            lines.append(f"{self.parameter(parameter)}, {MODES[mode]}: {said}")
         return lines or ["no parameters"]
+
+    def parameter(self, node):
+        """A parameter's name with its stars."""
+        return STARS.get(self.tree.records[node].kind, "") + shown(self.tree.name(node))
+
+    def reached(self, one, places, place=True):
+        """`tracks reaches trains`, with the argument's place."""
+        value = one.argument + 1
+        where = f" ({places.place(value)})" if place else ""
+        return f"{places.value(value)}{where} reaches {self.parameter(one.reaches)}"
+
+    def though(self, one, places, place=True):
+        return f"{self.reached(one, places, place)}, though there is a parameter {shown(self.tree.name(one.parameter))}"
 
     def counted(self, answer):
         """For 19 how many entries the list has."""
@@ -218,6 +286,11 @@ class Binder:
              "arguments": [self.node(one, scripts) for one in taken or ()]}
             for parameter, mode, taken in self.taken(answer, call, def_)]
         return told
+
+    def namesake_json(self, one, places):
+        return {**self.node(one.argument, places.scripts), "words": self.though(one, places, False), "reaches": self.parameter(one.reaches),
+                "parameter": shown(self.tree.name(one.parameter)), "taken_by": self.node(one.taker, places.scripts) if one.taker else None,
+                "exchanged": one.other is not None, **({"expected": one.expected} if one.expected else {})}
 
     def node(self, node, scripts):
         return {"node": self.tree.number(node), **place_json(self.tree, node, scripts)}
@@ -248,6 +321,120 @@ def status_of(answer):
     return 1 if 10 <= answer.number else 2
 
 
+class Pair:
+    """A call and a def of one table, and the library's answer. `judged` is the total that the pair counts in, `beyond` why it is not judged."""
+
+    beyond = None
+
+    def __init__(self, binder, places, call, def_, answer):
+        self.binder, self.places, self.nodes, self.answer = binder, places, (call, def_), answer
+        self.call, self.def_, self.status = call, def_, status_of(answer)
+        refused = type(answer) is Refusal
+        self.judged, self.namesakes = "refused" if refused else "bound", () if refused else binder.namesakes(call, def_)
+
+    def lines(self, explain):
+        return self.binder.lines(self.answer, *self.nodes, self.places, explain) + self.namesake_lines()
+
+    def namesake_lines(self):
+        """A line for each namesake; two that are exchanged have one."""
+        lines, told = [], set()
+        for one in self.namesakes:
+            stated = [each.expected for each in (one, one.other) if each and each.expected]
+            expected = f"; {' and '.join(stated)} expect{'' if len(stated) > 1 else 's'} it" if stated else ""
+            if one.other is None:
+                lines.append(f"namesake: {self.binder.though(one, self.places)}{expected}")
+            elif one.other not in told:
+                lines.append(f"exchanged: {self.binder.reached(one, self.places)}, and {self.binder.reached(one.other, self.places)}{expected}")
+                told.add(one)
+        return lines
+
+    def in_json(self):
+        told = self.binder.in_json(self.answer, *self.nodes, self.places.scripts)
+        if self.namesakes:
+            told["namesakes"] = [self.binder.namesake_json(one, self.places) for one in self.namesakes]
+        return told
+
+    @property
+    def unexpected(self):
+        """The namesakes that no expectation states."""
+        return [one for one in self.namesakes if not one.expected]
+
+
+class Nodes:
+    """The kinds and names of a tree's nodes, a parent before its children, and their parents."""
+
+    def __init__(self, kinds, names, above, spot):
+        self.kinds, self.names, self.parents, self.spot = kinds, names, above, spot
+
+    def is_callee(self, at):
+        above = self.parents[at]
+        return above is not None and self.kinds[above] == CALL and at == above + 1
+
+
+class Whole:
+    """All calls and defs of one table. A call and a def are the numbers of their nodes."""
+
+    def __init__(self, library, tree, places):
+        self.binder, self.tree, self.places, self.scripts, self.defs = Binder(library, tree), tree, places, places.scripts, places.defs
+
+    def paired(self):
+        """Each call, in order, with its pairs."""
+        calls = [(call, self.defs.get(self.tree.callee(call), [])) for call in self.tree.of_kind(CALL)]
+        for (call, defs), answers in zip(calls, self.binder.answers(calls)):
+            yield call, [Pair(self.binder, self.places, call, def_, answer) for def_, answer in zip(defs, answers)]
+
+    def trees(self):
+        """The nodes of the table, for what looks at all of them."""
+        yield Nodes([record.kind for record in self.tree.records], [name_of(record, self.tree.names) for record in self.tree.records],
+                    parents(self.tree.records), lambda at: at)
+
+    def notes(self):
+        """What is said of defs that no script names."""
+        return [f"{self.scripts.note(file)}; {counted(len(defs), 'def')} of it {'is' if len(defs) == 1 else 'are'} paired with no call"
+                for file, defs in sorted(self.places.unnamed.items())]
+
+    def lacking(self):
+        """The source file numbers without a script, each with a sentence."""
+        return [self.scripts.note(file) for file in files_of(self.tree.table) if not self.scripts.of(file)]
+
+    def callee(self, call):
+        return self.tree.callee(call)
+
+    def parameters(self, def_):
+        return [self.tree.name(node) for node in self.binder.flat_of(def_)]
+
+    def source(self, node):
+        """The bytes of a node, or None where there is no script."""
+        source = self.places.source(node)
+        return source.bytes[slice(*self.tree.span(node))] if source else None
+
+    def place(self, node):
+        return self.places.place(node)
+
+    def text(self, call):
+        return self.places.text(call)
+
+    def head(self, call):
+        return f"{self.place(call)} {self.text(call)}"
+
+    def alone(self, call):
+        """Why a call is bound to no def."""
+        return self.tree.unnamed(call) if self.callee(call) is None else NO_DEF
+
+    def node_json(self, node):
+        return self.binder.node(node, self.scripts)
+
+    def call_json(self, call):
+        return call_json(self.tree, call, self.scripts)
+
+
+def call_json(tree, node, scripts=NONE):
+    name = tree.callee(node)
+    return {"node": node, **place_json(tree, node, scripts), "callee": None if name is None else shown(name),
+            "form": "name" if name is not None else {CALL: "call", DOT: "method"}.get(tree.records[node + 1].kind, "expression"),
+            "arguments": len(tree.arguments(node))}
+
+
 class Run:
     """A run over several files."""
 
@@ -264,7 +451,8 @@ class Run:
         if one.script and not self.parsed(found):
             return
         if one.script and not in_one_table(found):
-            self.wide(found)
+            from .wide import Wide
+            self.paired(found, Wide(self.library, found))
             return
         if not (self.sound(found) if one.script else self.read(found)):
             return
@@ -315,33 +503,47 @@ class Run:
 
     # ---- what cannot be bound
 
+    def unmet(self, why):
+        """No expectation is met by an input that is not bound. In JSON, as a part of the input's; else in lines."""
+        judged = self.options.expectations.unmet(f"the input {why}")
+        self.worse(int(bool(judged)))
+        if self.report:
+            return {"expectations": [one.in_json() for one in judged]} if judged else {}
+        self.expected_lines(judged)
+        return None
+
     def failed(self, found, message=None):
         """An input that is not read, or has no table, or, with a message, whose script is another's."""
         self.worse(2)
+        none = found.verdict == NO_TABLE
+        why = "is not bound to its script" if message is not None else "has no table" if none else "cannot be read"
         if self.report:
             told = failed_json(found) if message is None else {"failed": visible(message)}
-            verdict = "no table" if found.verdict == NO_TABLE else "unreadable"
-            self.add(found, {**start(found), **joined_evidence(found), "verdict": verdict, **told})
+            verdict = "no table" if none else "unreadable"
+            self.add(found, {**start(found), **joined_evidence(found), "verdict": verdict, **told, **self.unmet(why)})
             return
         for line in complaints(found) if message is None else [message]:
             say(line)
+        self.unmet(why)
 
     def not_starlark(self, found):
         self.worse(1)
         if self.report:
-            self.add(found, {**start(found), **evidence_of(found), "verdict": "syntax", "errors": syntax_errors(found)})
+            self.add(found, {**start(found), **evidence_of(found), "verdict": "syntax", "errors": syntax_errors(found), **self.unmet("is not Starlark")})
             return
         self.header(found.one)
         for part in found.syntax:
             self.out.lines(syntax_lines(part.source, part.syntax, self.options.paint))
+        self.unmet("is not Starlark")
 
     def refused(self, found, refusal):
         self.worse(2)
         one, found.refusal = found.one, refusal
         why = reasons.why_file(self.library, found.data, refusal, len(found.data) < inputs.TABLE_MOST) if not one.script else reasons.Why()
+        unmet = f"is refused with {refusal.number}"
         if self.report:
             told = {"number": refusal.number, "words": refusal.words, **why.in_json()}
-            self.add(found, {**start(found), **evidence_of(found), "verdict": "refused", "refused": told})
+            self.add(found, {**start(found), **evidence_of(found), "verdict": "refused", "refused": told, **self.unmet(unmet)})
             return
         said = f"refused {refusal.number}: {refusal.words}{why}"
         self.header(one)
@@ -353,6 +555,7 @@ class Run:
             self.out.lines([paint(f"refused {refusal.number}")])
             self.out.flush()
             say(f"{one.name}: {said}")
+        self.unmet(unmet)
 
     # ---- what can
 
@@ -364,7 +567,7 @@ class Run:
         if self.options.call is not None:
             self.pair(found, tree)
         elif found.scripts:
-            self.script(found, tree, Places(tree, found.scripts))
+            self.paired(found, Whole(self.library, tree, Places(tree, found.scripts)))
         else:
             self.listed(found, tree)
 
@@ -376,24 +579,24 @@ class Run:
         """A call and a def by their nodes."""
         call, def_ = self.options.call, self.options.def_
         binder = Binder(self.library, tree)
-        answer = binder.bound(call, def_)
-        self.worse(status_of(answer))
+        pair = Pair(binder, Bytes(tree), call, def_, binder.bound(call, def_))
+        self.worse(max(pair.status, int(self.options.strict and bool(pair.namesakes))))
         if not self.report:
-            self.out.lines(map(self.options.paint.refusal, binder.lines(answer, call, def_, Bytes(tree), self.options.explain)))
+            self.out.lines(map(self.options.paint.refusal, pair.lines(self.options.explain)))
             return
-        verdict = ("bound", "refused", "refused")[status_of(answer)]
-        if status_of(answer) == 2:
-            told = {"call": {"node": call}, "def": {"node": def_}, "refused": {"number": answer.number, "words": answer.words}}
+        verdict, strict = ("bound", "refused", "refused")[pair.status], {"strict": True} if self.options.strict else {}
+        if pair.status == 2:
+            told = {"call": {"node": call}, "def": {"node": def_}, "refused": {"number": pair.answer.number, "words": pair.answer.words}}
         else:
-            told = binder.in_json(answer, call, def_, NONE)
-        self.told(found, verdict=verdict, pairs=[told])
+            told = pair.in_json()
+        self.told(found, verdict=verdict, pairs=[told], **strict)
 
     def listed(self, found, tree):
         """The defs and calls of a table, in its order."""
         defs, calls = tree.of_kind(DEF), tree.of_kind(CALL)
         if self.report:
             self.told(found, verdict="listed", defs=[self.def_json(tree, node) for node in defs],
-                      calls=[self.call_json(tree, node) for node in calls])
+                      calls=[call_json(tree, node) for node in calls])
             return
         self.header(found.one)
         lines = []
@@ -410,83 +613,79 @@ class Run:
     def def_json(self, tree, node, scripts=NONE):
         return {"node": node, **place_json(tree, node, scripts), "parameters": len(tree.flat(node))}
 
-    def call_json(self, tree, node, scripts=NONE):
-        name = tree.callee(node)
-        return {"node": node, **place_json(tree, node, scripts), "callee": None if name is None else shown(name),
-                "form": "name" if name is not None else {CALL: "call", DOT: "method"}.get(tree.records[node + 1].kind, "expression"),
-                "arguments": len(tree.arguments(node))}
-
     def bound(self, head, lines):
         paint = self.options.paint
         self.out.lines([paint.bold(head), *("    " + paint.refusal(line) for line in lines)])
 
-    def script(self, found, tree, places):
+    def paired(self, found, world):
         """All calls of a name with the defs of that name, and the calls that have none."""
-        binder, accepted, refused, alone, pairs = Binder(self.library, tree), 0, 0, [], []
+        totals, alone, pairs, expected = self.totals(world), [], [], self.options.expectations.start()
         if not self.report:
             self.header(found.one)
-        calls = [(call, places.defs.get(tree.callee(call), [])) for call in tree.of_kind(CALL)]
-        for (call, defs), answers in zip(calls, binder.answers(calls)):
-            head = f"{places.place(call)} {places.text(call)}"
-            for def_, answer in zip(defs, answers):
-                self.worse(status_of(answer))
-                accepted, refused = accepted + (type(answer) is not Refusal), refused + (type(answer) is Refusal)
-                if self.report:
-                    pairs.append(binder.in_json(answer, call, def_, places.scripts))
-                else:
-                    lines = binder.lines(answer, call, def_, places, self.options.explain)
-                    self.bound(f"{head}, def {places.place(def_)}", lines)
-            if not defs:
-                alone.append(call)
-                if not self.report:
-                    self.out.lines([f"{head}, {tree.unnamed(call) if tree.callee(call) is None else NO_DEF}"])
-        notes = [f"{places.scripts.note(file)}; {counted(len(defs), 'def')} of it {'is' if len(defs) == 1 else 'are'} paired with no call"
-                 for file, defs in sorted(places.unnamed.items())]
-        if self.report:
-            self.told(found, verdict="refused" if refused else "bound", **script_json(found), pairs=pairs,
-                      without_def=[self.call_json(tree, call, places.scripts) for call in alone], **({"notes": notes} if notes else {}),
-                      totals={"bound": accepted, "refused": refused, "without_def": len(alone)})
-        else:
-            self.out.lines([f"bound {accepted}, refused {refused}, without a def {len(alone)}"])
-            self.out.flush()
-            for note in notes:
-                say(f"{found.one.name}: {note}")
-
-
-    def wide(self, found):
-        """The same over a script that is larger than a table may be: each pair in a table of its two top-level statements."""
-        from .wide import Wide
-        wide, alone, pairs = Wide(self.library, found), [], []
-        totals = {"bound": 0, "refused": 0, "without_def": 0, "not_judged": 0}
-        if not self.report:
-            self.header(found.one)
-        for call in wide.calls:
-            defs = wide.defs.get(call.name, [])
-            for pair in (wide.pair(call, def_) for def_ in defs):
-                totals[pair.judged] += 1
-                self.worse(pair.status)
+        for call, of_call in world.paired():
+            expected.see(world, call, of_call)
+            for pair in of_call:
+                self.count(totals, pair)
                 if self.report:
                     pairs.append(pair.in_json())
                 else:
-                    self.bound(f"{wide.head(call)}, def {wide.place(pair.def_)}", pair.lines(self.options.explain))
-            if not defs:
+                    self.bound(f"{world.head(call)}, def {world.place(pair.def_)}", pair.lines(self.options.explain))
+            if not of_call:
                 alone.append(call)
                 if not self.report:
-                    self.out.lines([f"{wide.head(call)}, {call.unnamed if call.name is None else NO_DEF}"])
-        totals["without_def"] = len(alone)
+                    self.out.lines([f"{world.head(call)}, {world.alone(call)}"])
+        totals["without_def"], judged = len(alone), expected.judged(world)
+        self.worse(int(any(not one.met for one in judged)))
         if self.report:
-            verdict = "not judged" if totals["not_judged"] else "refused" if totals["refused"] else "bound"
-            self.told(found, verdict=verdict, **script_json(found), pairs=pairs, without_def=[wide.call_json(call) for call in alone], totals=totals)
+            self.paired_json(found, world, totals, pairs, alone, judged)
         else:
-            self.out.lines(["bound {bound}, refused {refused}, without a def {without_def}, not judged {not_judged}".format(**totals)])
+            self.paired_end(found, world, totals, judged)
+
+    @staticmethod
+    def totals(world):
+        return {"bound": 0, "refused": 0, "without_def": 0, **({} if type(world) is Whole else {"not_judged": 0}), "namesakes": 0}
+
+    def count(self, totals, pair):
+        totals[pair.judged] += 1
+        totals["namesakes"] += len(pair.namesakes)
+        self.worse(pair.status)
+        if self.options.strict and pair.unexpected:
+            self.worse(1)
+
+    def paired_json(self, found, world, totals, pairs, alone, judged):
+        verdict = "not judged" if totals.get("not_judged") else "refused" if totals["refused"] else "bound"
+        notes = world.notes()
+        more = {"notes": notes} if notes else {}
+        if self.options.strict:
+            more["strict"] = True
+        if judged:
+            more["expectations"] = [one.in_json() for one in judged]
+        self.told(found, verdict=verdict, **script_json(found), pairs=pairs, without_def=[world.call_json(call) for call in alone], **more, totals=totals)
+
+    def paired_end(self, found, world, totals, judged):
+        """The totals, what the expectations come to, and on standard error the notes."""
+        line = "bound {bound}, refused {refused}, without a def {without_def}".format(**totals)
+        line += f", namesakes {totals['namesakes']}" if totals["namesakes"] else ""
+        self.out.lines([line + (f", not judged {totals['not_judged']}" if "not_judged" in totals else "")])
+        self.expected_lines(judged)
+        self.out.flush()
+        for note in world.notes():
+            say(f"{found.one.name}: {note}")
+
+    def expected_lines(self, judged):
+        paint = self.options.paint
+        for one in judged:
+            self.out.lines([f"expect {one.text}: {paint.refusal(one.came)}", *(f"    {line}" for line in one.lines())])
 
 
 class Options:
     """How a run binds and prints; `json` and `paint` as in check.Options."""
 
-    def __init__(self, files, explain=False, json=False, dialect=None, scripts=None, call=None, def_=None, format=None, paint=PLAIN):
+    def __init__(self, files, explain=False, json=False, dialect=None, scripts=None, call=None, def_=None, format=None, paint=PLAIN, expectations=(),
+                 strict=False):
         self.files, self.explain, self.dialect, self.format = files, explain, dialect, format or ("json" if json else "text")
         self.json, self.scripts, self.call, self.def_, self.paint = self.format != "text", scripts, call, def_, paint
+        self.expectations, self.strict = Expectations(expectations), strict
 
 
 def run(library, options, out, front):

@@ -5,7 +5,7 @@ import sys
 from . import __version__, files, signals
 from .output import Failed, Out, OutputFailed, flush_error, head, paint_of, say, text_of
 
-COMMANDS = ("check", "bind", "rescue", "write", "table", "dump", "book", "figures", "rule", "diff", "build")
+COMMANDS = ("check", "bind", "report", "rescue", "write", "table", "dump", "book", "figures", "rule", "diff", "build")
 
 USAGE = """usage: ducat COMMAND [OPTION...] ...
        ducat COMMAND --help
@@ -14,6 +14,7 @@ Checks Starlark scripts and their node tables with a proved library.
 
   ducat check PATH...                          check table files, scripts and folders
   ducat bind FILE...                           which argument of a call reaches which parameter of a def
+  ducat report PATH... -o OUT                  a page, in HTML, with all errors and every call drawn
   ducat rescue IN -o OUT                       keep what can be kept of a damaged table file
   ducat write TABLE NAMES [--dialect D [--edition N]] -o OUT
                                                a table file from raw bytes
@@ -91,18 +92,51 @@ paired with every def of that name in the scripts:
   NAME, MODE: default                             it takes none, and has a default
   *NAME, MODE: ARGUMENT (PLACE); ...              what a star parameter collects, or none
   refused K, ARGUMENT (PLACE)                     the call does not fit the def, or one of them is wrong
+An argument whose name, or whose field's name, is that of an ordinary parameter and that reaches another one is
+a namesake. Two are exchanged where each has the name of the parameter that the other reaches:
+  namesake: X (PLACE) reaches P, though there is a parameter X
+  exchanged: X (PLACE) reaches Y, and Y (PLACE) reaches X
+With --strict the status is then 1, unless an expectation states it.
+
 A table file alone gives its defs and calls with their nodes; --call and --def then name two of them. A call
 of a call, such as outer(1)(2), and a method call are listed as such and bound to no def.
 
 Which argument reaches which parameter is proved. Which call is paired with which def is not: a name that
 means another function at the call is not seen."""
 
-BIND_MORE = """A script that is larger than a table may be is bound too: a call and a def in a table of their two top-level
+BIND_MORE = """With --expect DEF.PARAMETER=NAME every call of DEF must pass NAME, a name or a path as zone.tracks, to PARAMETER. Each
+input is judged by itself; --join judges several scripts as one. Judged are calls whose callee is the name DEF.
+This prints
+  expect DEF.PARAMETER=NAME: met by N calls
+  expect DEF.PARAMETER=NAME: not met              and below it each reason with its place
+It is not met where a call passes something else or is refused or not judged; DEF is defined twice or never, or
+is never called, or has no such PARAMETER; DEF is used other than as a callee; a parameter, a target or a load
+binds or renames DEF; a method of the name DEF is called; or the input is refused, cannot be read or is not
+Starlark. A table file needs --script: a table has no names of defs.
+
+A script that is larger than a table may be is bound too: a call and a def in a table of their two top-level
 statements. A pair that exceeds a limit of a table is listed as not judged.
 
-Exit status: 0 every call is accepted; 1 a call or def is refused (10 to 84), or a script is not Starlark; 2 a
-file is refused or cannot be read, a node is not a Call or not a Def (6), a pair is not judged, the script is not
-the table's, wrong usage, no library, or output that cannot be written."""
+Exit status: 0 every call is accepted; 1 a call or def is refused (10 to 84), a script is not Starlark, an
+expectation is not met, or with --strict there is a namesake that no expectation states; 2 a file is refused or
+cannot be read, a node is not a Call or not a Def (6), a pair is not judged, the script is not the table's, wrong
+usage, no library, or output that cannot be written."""
+
+REPORT = """Writes to OUT one page of HTML about each PATH (a table file, a script or a folder, as for `ducat check`), without
+script and without anything that is loaded:
+  refused tables, and what is known of them
+  expectations, where there are any (see `ducat bind --help`)
+  the figures of their tables (see `ducat figures --help`), and the number of inputs of each dialect
+  with --books which dialect each zone has at each setting
+  each script's text with its errors marked, and each call drawn with lines from its arguments to the parameters
+  that they reach; exchanged ones have a colour and a pattern of their own
+and prints the totals of `ducat check` and
+  written N     the number of bytes of the page"""
+
+REPORT_MORE = """Exit status: 0 no errors; 1 errors, a call is refused, an expectation is not met, or with --strict there is a namesake
+that no expectation states; 2 an input is refused or cannot be read, nothing is found in a PATH, a pair is not
+judged, wrong usage, no library, or OUT cannot be written. Where the books give no dialect for --zone and --setting the
+status is that of `ducat book lookup`, and OUT is as it was."""
 
 RESCUE = """Writes to OUT a sound table file with what can be kept of the damaged table file IN (`-` is standard input),
 and prints
@@ -300,10 +334,10 @@ def add_list(parser):
     parser.add_argument("-0", "--null", action="store_true", help="the names of --files-from end with NUL, not with a newline")
 
 
-def add_books(parser):
+def add_books(parser, shown=""):
     from .book import SETTING, ZONE
     parser.add_argument("--books", metavar=("ZONEBOOK", "LINEBOOK"), nargs=2,
-                        help="check scripts, and table files without a dialect, in the dialect that these books give for --zone and --setting")
+                        help=f"{shown}check scripts, and table files without a dialect, in the dialect that these books give for --zone and --setting")
     parser.add_argument("--zone", metavar="Z", type=ZONE, help="the zone, for --books")
     parser.add_argument("--setting", metavar="S", type=SETTING, help="the setting, for --books")
 
@@ -373,6 +407,7 @@ def bind_parser():
     parser.add_argument("--def", dest="def_", metavar="N", type=node, help="the node of a Def of one table file; with --call")
     add_join(parser)
     add_script(parser, "the script of one table file: names of defs, texts, lines and columns")
+    add_expect(parser)
     parser.add_argument("--explain", action="store_true", help="say what each number means")
     add_dialect(parser, "of scripts; a table file has its own")
     add_as_script(parser)
@@ -381,6 +416,33 @@ def bind_parser():
     add_config(parser)
     add_format(parser, OTHERS)
     add_color(parser)
+    return parser
+
+
+def add_expect(parser):
+    parser.add_argument("--expect", metavar="DEF.PARAMETER=NAME", action="append", default=[],
+                        help="every call of DEF must pass NAME to PARAMETER; may be repeated")
+    parser.add_argument("--expectations", metavar="FILE", help="read expectations from FILE (`-` is standard input), one in a line; # begins a comment")
+    parser.add_argument("--strict", action="store_true",
+                        help="end with 1 where an argument has the name of a parameter and reaches another one, unless an expectation states it")
+
+
+def report_parser():
+    parser = make_parser("report", REPORT, f"{ATOMIC}\n\n{REPORT_MORE}")
+    parser.add_argument("paths", metavar="PATH", nargs="*")
+    add_output(parser)
+    add_join(parser)
+    add_script(parser, "the script of the table files")
+    add_expect(parser)
+    add_dialect(parser, "of scripts; a table file has its own")
+    add_books(parser, "show which dialect each zone has at each setting; with --zone and --setting also ")
+    parser.add_argument("--exclude", metavar="GLOB", action="append", default=[],
+                        help="leave out what a search finds and whose name or path matches; may be repeated")
+    add_as_script(parser)
+    add_list(parser)
+    add_stdin_filename(parser)
+    add_config(parser)
+    add_format(parser)
     return parser
 
 
@@ -639,12 +701,12 @@ def needs_dialect(edition, dialect):
         raise Failed("--edition needs a dialect: a file without a dialect has no edition (--dialect gives one)")
 
 
-def books_fit(options):
-    """--books, --zone and --setting go together, and give the dialect."""
+def books_fit(options, alone=False):
+    """--books, --zone and --setting go together, and give the dialect. `alone` permits books without the other two."""
     given = [options.books is not None, options.zone is not None, options.setting is not None]
-    if any(given) and not all(given):
+    if any(given) and not all(given) and not (alone and given == [True, False, False]):
         raise Failed("--books, --zone and --setting go together")
-    if options.books and (options.dialect is not None or options.against is not None):
+    if all(given) and (options.dialect is not None or getattr(options, "against", None) is not None):
         raise Failed("--books gives the dialect: --dialect and --against are not for it")
     if options.books:
         once(*options.books, *options.paths, *([options.files_from] if options.files_from is not None else []))
@@ -664,9 +726,16 @@ def bind(words, out):
     if (options.call is None) != (options.def_ is None):
         raise Failed("--call and --def go together")
     configured = Configured(options)
+    expectations = expected(options, configured, options.files)
     found = found_in(options, configured, options.files, folders=False).found
     if options.join and found:
         found = joined(options, found)
+    if expectations and options.call is not None:
+        raise Failed("an expectation is of a def by its name: --call and --def are not for it")
+    if expectations and not options.script:
+        for one in found:
+            if not one.script:
+                raise Failed(f"an expectation needs --script for the table file {one.name}: a table has no names of defs")
     single = "--call and --def" if options.call is not None else "--script" if options.script else None
     if single and (len(found) != 1 or found[0].script):
         raise Failed(f"{single} {'need' if options.call is not None else 'needs'} one table file")
@@ -680,8 +749,57 @@ def bind(words, out):
     from . import bind as job
     json = machine(options.format)
     how = job.Options(found, options.explain, json, configured.dialect, scripts, options.call, options.def_, options.format,
-                      paint_of(options.color, out.terminal))
+                      paint_of(options.color, out.terminal), expectations, options.strict)
     return job.run(library, how, out, head("bind", library, configured.in_json()) if json else None)
+
+
+def report(words, out):
+    options = parse(report_parser(), words)
+    if not options.paths and options.files_from is None:
+        raise Failed("no PATH is named (`ducat report --help` says how)")
+    books_fit(options, alone=True)
+    configured = Configured(options)
+    named_out(options.out, configured.as_script)
+    expectations = expected(options, configured, options.paths)
+    search = found_in(options, configured, options.paths, folders=not options.join)
+    if options.join and search.found:
+        search.found = joined(options, search.found)
+    if options.script and any(one.script for one in search.found):
+        raise Failed("--script is for table files: a script that is checked is its own")
+    taken = [part.path for one in search.found for part in getattr(one, "scripts", [one])] + (options.books or [])
+    if any(is_same(options.out, path) for path in taken):
+        raise Failed(f"-o {options.out}: it is an input, and the page would take its place")
+    scripts, library = scripts_named(options.script), open_library()
+    if options.zone is not None:
+        from . import book
+        given = book.ForCheck(library, options)
+        if given.refusal:
+            options.quiet = True
+            return given.refused(options, out, None)
+        configured.dialect = given.dialect
+    configured.say()
+    for path, excluded in search.empty:
+        say(f"{path}: no table file and no script is found in this folder" + (f"; {excluded:,} excluded" if excluded else ""))
+    from . import report as job
+    how = job.Options(options.out, configured.dialect, scripts, options.books, options.zone, expectations, options.strict)
+    status = job.run(library, how, search.found, out, head("report", library, configured.in_json()) if options.format == "json" else None)
+    return max(status, 2 if search.empty else 0)
+
+
+def is_same(out, path):
+    """Whether a file that is to be written is one that is read."""
+    try:
+        return path is not None and os.path.samefile(out, path)
+    except OSError:
+        return False
+
+
+def expected(options, configured, paths):
+    """The expectations of the command line and of the configuration."""
+    from .expect import gathered
+    if options.expectations is not None:
+        once(options.expectations, *paths, *([options.files_from] if options.files_from is not None else []))
+    return gathered(options.expect, options.expectations, configured.configuration)
 
 
 def finished(options, **more):

@@ -1,4 +1,4 @@
-"""The configuration file ducat.ini: the dialect of scripts, what a search leaves out, and which other files are scripts.
+"""The configuration file ducat.ini: the dialect of scripts, what a search leaves out, which other files are scripts, and what `ducat bind` expects.
 
     [ducat]
     dialect = standard
@@ -7,6 +7,8 @@
         *.tmp.star
     as-script =
         *.bzl.tpl
+    expect =
+        order.trains=trains
 """
 import os
 
@@ -15,15 +17,15 @@ from .output import Failed, named
 
 NAME = "ducat.ini"
 SECTION = "ducat"
-KEYS = ("dialect", "exclude", "as-script")
+KEYS = ("dialect", "exclude", "as-script", "expect")
 MOST = 1 << 20  # bytes
 
 
 class Configuration:
     """What a file says. `dialect` is the word in it, or None."""
 
-    def __init__(self, path, dialect=None, exclude=(), as_script=()):
-        self.path, self.dialect, self.exclude, self.as_script = path, dialect, tuple(exclude), tuple(as_script)
+    def __init__(self, path, dialect=None, exclude=(), as_script=(), expect=()):
+        self.path, self.dialect, self.exclude, self.as_script, self.expect = path, dialect, tuple(exclude), tuple(as_script), tuple(expect)
 
 
 def load(path=None):
@@ -64,8 +66,8 @@ def parsed(path, data):
             dialects.of(dialect)
         except ValueError as error:
             raise Failed(f"{path}: {error}") from None
-    exclude, as_script = ([line.strip() for line in held.get(key, "").splitlines() if line.strip()] for key in ("exclude", "as-script"))
-    return Configuration(path, dialect, exclude, as_script)
+    lists = ([line.strip() for line in held.get(key, "").splitlines() if line.strip()] for key in KEYS[1:])
+    return Configuration(path, dialect, *lists)
 
 
 def told(configuration, dialect, excluded):

@@ -54,6 +54,12 @@ def of_input(entry):
     for pair in entry.get("pairs", ()):
         if "refused" in pair or "not_judged" in pair:
             yield of_pair(pair, entry)
+        for told in pair.get("namesakes", ()):
+            if "expected" not in told:
+                yield ("namesake", *place(told), *place(pair["def"])), f"{where(told, script_name(entry, told))}: {told['words']}"
+    for expectation in entry.get("expectations", ()):
+        for told in expectation["not_met"]:
+            yield of_unmet(expectation["expect"], told, entry)
 
 
 def of_pair(pair, entry):
@@ -63,6 +69,10 @@ def of_pair(pair, entry):
     words = f"refused {number}: {refused['words']}" if refused else f"not judged: {pair['not_judged']}"
     key = (number, *place(pair["call"]), *place(pair["def"]), *place(refused or {}))
     return key, f"{where(pair['call'], name)}, def {where(pair['def'], script_name(entry, pair['def']))}: {words}"
+
+
+def of_unmet(expect, told, entry):
+    return ("expect", expect, told["words"], *place(told)), f"{where(told, script_name(entry, told))}: {expect} is not met: {told['words']}"
 
 
 def script_name(entry, told):

@@ -11,11 +11,14 @@ from .output import Report, digest, dumps, encoded, visible
 
 MACHINE = ("json", "gcc", "github", "sarif")
 SYNTAX, UNREADABLE, NO_TABLE, NO_OPENING, NOT_JUDGED = "syntax", "unreadable", "no-table", "no-opening", "not-judged"
+EXPECT, NAMESAKE = "expect", "namesake"
 FAILED = {"no table": NO_TABLE, "other dialect": "other-dialect"}  # by verdict; every other one is unreadable
 REPEATED = {11: "parameter", 22: "argument"}
 SCHEMA = "https://docs.oasis-open.org/sarif/sarif/v2.1.0/errata01/os/schemas/sarif-schema-2.1.0.json"
 SAFE = frozenset(b"ABCDEFGHIJKLMNOPQRSTUVWXYZabcdefghijklmnopqrstuvwxyz0123456789-._~/")
-RULES = [str(number) for number in WORDS] + [SYNTAX]
+NAMED_RULES = {SYNTAX: "the script is not Starlark", EXPECT: "an expectation of a call's arguments is not met",
+               NAMESAKE: "an argument has the name of a parameter and reaches another one"}
+RULES = [*map(str, WORDS), *NAMED_RULES]
 INDEX = {rule: at for at, rule in enumerate(RULES)}
 
 
@@ -35,7 +38,9 @@ class Place:
 
 
 class Finding:
-    """An error, a refusal or another reason: its rule, its words, its place, notes (a place and words each), and what SARIF has besides."""
+    """An error, a refusal or another reason: its rule, its words, its place, notes (a place and words each), what SARIF has besides, and its level."""
+
+    level = "error"
 
     def __init__(self, rule, words, place, notes=(), **more):
         self.rule, self.words, self.place, self.notes, self.more = str(rule), words, place, notes, more
@@ -94,6 +99,29 @@ def of_pair(entry, pair, name, scripts):
                    **properties(entry, at))
 
 
+def of_namesakes(entry, pair, name, scripts):
+    """The namesakes of a pair that no expectation states; two that are exchanged are one. They are errors with --strict, else warnings."""
+    done = set()
+    for told in pair.get("namesakes", ()):
+        if "expected" in told or told["node"] in done:
+            continue
+        notes, other = [note(pair["def"], "the def", name, scripts)], told["taken_by"]
+        if told["exchanged"]:
+            done.add(other["node"])
+            notes.insert(0, note(other, "it is exchanged with this argument", name, scripts))
+        place = place_of(told, name, scripts)
+        one = Finding(NAMESAKE, placed(told, told["words"], place), place, notes, **properties(entry, told))
+        one.level = "error" if entry.get("strict") else "warning"
+        yield one
+
+
+def of_expectations(entry, name, scripts):
+    for expectation in entry.get("expectations", ()):
+        for told in expectation["not_met"]:
+            place, words = place_of(told, name, scripts), f"{expectation['expect']} is not met: {told['words']}"
+            yield Finding(EXPECT, placed(told, words, place), place, **properties(entry, told))
+
+
 def of_failure(entry, name):
     """Why an input is not read, has no table or another dialect than the books'; of scripts that are joined that of each."""
     rule = FAILED.get(entry["verdict"], UNREADABLE)
@@ -110,6 +138,10 @@ def name_of(told):
 
 def findings(entry, name, scripts):
     """All that is found in an input."""
+    return [*of_input(entry, name, scripts), *of_expectations(entry, name, scripts)]
+
+
+def of_input(entry, name, scripts):
     if "failed" in entry:
         return list(of_failure(entry, name))
     if "refused" in entry:
@@ -120,7 +152,9 @@ def findings(entry, name, scripts):
     if entry["verdict"] == "no opening":
         return [Finding(NO_OPENING, f"no opening, closes {', '.join(entry['closes'])}", Place(name))]
     found = [of_error(entry, told, name, scripts) for told in entry.get("errors", ())]
-    return found + [of_pair(entry, pair, name, scripts) for pair in entry.get("pairs", ()) if "refused" in pair or "not_judged" in pair]
+    for pair in entry.get("pairs", ()):
+        found += [of_pair(entry, pair, name, scripts)] if "refused" in pair or "not_judged" in pair else of_namesakes(entry, pair, name, scripts)
+    return found
 
 
 # ---- lines
@@ -133,7 +167,7 @@ def gcc_line(place, level, words):
 def gcc(found):
     lines = []
     for one in found:
-        lines.append(f"{gcc_line(one.place, 'error', one.words)} [{one.rule}]")
+        lines.append(f"{gcc_line(one.place, one.level, one.words)} [{one.rule}]")
         lines += [gcc_line(place, "note", words) for place, words in one.notes]
     return lines
 
@@ -158,7 +192,7 @@ def github(found):
                 told.update(col=place.column, endColumn=max(place.column, place.end_column - 1))
         told["title"] = f"ducat {one.rule}"
         words = "".join([one.words, *(f"\n{gcc_line(place, 'note', text)}" for place, text in one.notes)])
-        lines.append("::error " + ",".join(f"{key}={escaped(str(value), '%' + chr(13) + chr(10) + ':,')}" for key, value in told.items())
+        lines.append(f"::{one.level} " + ",".join(f"{key}={escaped(str(value), '%' + chr(13) + chr(10) + ':,')}" for key, value in told.items())
                      + f"::{escaped(words, '%' + chr(13) + chr(10))}")
     return lines
 
@@ -181,7 +215,7 @@ def location(place, words=None, at=None):
 
 
 def result(one):
-    told = {"ruleId": one.rule, "ruleIndex": INDEX[one.rule], "level": "error", "message": {"text": one.words}, "locations": [location(one.place)]}
+    told = {"ruleId": one.rule, "ruleIndex": INDEX[one.rule], "level": one.level, "message": {"text": one.words}, "locations": [location(one.place)]}
     if one.notes:
         told["relatedLocations"] = [location(place, words, at) for at, (place, words) in enumerate(one.notes, 1)]
     return {**told, "properties": one.more} if one.more else told
@@ -210,8 +244,8 @@ def sarif(entry, name, scripts):
 
 
 def rule(name):
-    if name == SYNTAX:
-        return {"id": SYNTAX, "name": "Syntax", "shortDescription": {"text": "the script is not Starlark"}}
+    if name in NAMED_RULES:
+        return {"id": name, "name": name.capitalize(), "shortDescription": {"text": NAMED_RULES[name]}}
     number = int(name)
     return {"id": name, "name": "".join(word.capitalize() for word in NUMBERS[number].split("_")), "shortDescription": {"text": WORDS[number]}}
 

@@ -40,6 +40,7 @@ FUNCTIONS = {
     "params": READ * 2 + [LENGTH] + LENT + OUT,
     "call": READ * 2 + [LENGTH] + OUT,
     "bind": READ * 2 + [LENGTH] * 2 + LENT + OUT,
+    "namesakes": READ * 2 + [LENGTH] * 2 + LENT + OUT,
     "target": READ * 2 + [LENGTH] + OUT,
     "assignment": READ * 2 + [LENGTH] + OUT,
     "type": READ * 3 + [WORD, LENGTH] + LENT + OUT,
@@ -131,6 +132,22 @@ class Bound:
     index of the parameter that it reached."""
     parameters: Tuple[int, ...]
     arguments: Tuple[int, ...]
+    accepted: ClassVar[bool] = True
+
+
+class Namesake(NamedTuple):
+    """An argument that has the name of one ordinary parameter and reaches another: its node, the index of the parameter that it reaches, the
+    index of the one that has its name, and the node of the argument that the latter takes (0: none, or its default)."""
+    argument: int
+    reached: int
+    namesake: int
+    taken: int
+
+
+@dataclass(frozen=True)
+class Namesakes:
+    """The arguments that are reported, in order."""
+    found: Tuple[Namesake, ...]
     accepted: ClassVar[bool] = True
 
 
@@ -477,6 +494,17 @@ class Library:
         flat, many = own.out[:2]
         words = (WORD * (flat + many)).from_address(lent)[:]
         return Bound(tuple(words[:flat]), tuple(words[flat:]))
+
+    def namesakes(self, table: Bytes, names: Bytes, call: int, def_: int, room: Optional[int] = None) -> Union[Namesakes, Refusal]:
+        """Which arguments of a Call have the name of one ordinary parameter of a Def and reach another."""
+        table, names, own = _bytes(table), _bytes(names), self._buffers
+        room, buffer = _room(room, LIST_WORDS, 4)
+        lent = own.words_at if buffer is None else ctypes.addressof(buffer)
+        number = self._namesakes(table, len(table), names, len(names), _node(call), _node(def_), lent, room, own.out_at)
+        if number:
+            return _refusal(number, own.out)
+        words = (WORD * (4 * own.out[0])).from_address(lent)[:]
+        return Namesakes(tuple(Namesake(*words[at:at + 4]) for at in range(0, len(words), 4)))
 
     def target(self, table: Bytes, names: Bytes, node: int) -> Union[Targeted, Refusal]:
         """Whether the expression at a node is a target."""

@@ -46,7 +46,7 @@ def encoded(text):
 class Paint:
     """Colours of a terminal, by the escape sequences of ECMA-48, or none."""
 
-    REFUSAL = re.compile(r"refused \d+|not judged")
+    REFUSAL = re.compile(r"refused \d+|not judged|not met|exchanged|namesake")
 
     def __init__(self, on=False):
         self.on = on

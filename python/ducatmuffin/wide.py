@@ -1,10 +1,9 @@
 """The calls and defs of scripts that are larger than a table may be, for `ducat bind`: a call and a def are bound in a table of their two top-level
 statements. Numbers of nodes are those that one table of the whole would have.
 """
-from . import export
-from .bind import CALL, DEF, DOT, HEAD, IDENTIFIER, OTHER, UNNAMED, Binder, Places, Tree, place_in, status_of, text_in
+from . import bind, export
+from .bind import CALL, DEF, DOT, FLAT, HEAD, IDENTIFIER, NO_DEF, OTHER, UNNAMED, Binder, Nodes, Places, Tree, place_in, text_in
 from .check import span_json
-from .library import Refusal
 from .output import shown
 
 
@@ -17,41 +16,39 @@ class Statement:
 
 
 class Spot:
-    """A call or a def: its statement, its number there, and its node. `name` is the name that is called, or None, or the def's own."""
+    """A call, a def or another node: its statement, its number there, and its node. `name` is the name that is called, or None, or the def's own."""
 
     def __init__(self, statement, at, node):
-        self.statement, self.at, self.node, self.number = statement, at, node, statement.first + at
+        self.statement, self.at, self.node, self.number, self.name = statement, at, node, statement.first + at, None
         if node.kind == DEF:
             self.name = HEAD.match(statement.source.bytes, node.begin, node.end)[1]
-        else:
-            self.name = node.children[0].name if node.children[0].kind == IDENTIFIER else None
+        elif node.kind == CALL and node.children[0].kind == IDENTIFIER:
+            self.name = node.children[0].name
 
     @property
     def unnamed(self):
         return UNNAMED.get(self.node.children[0].kind, OTHER)
 
 
-class Pair:
-    """A call and a def, and the library's answer in a table of their statements. `judged` is the total that the pair counts in."""
+class Pair(bind.Pair):
+    """A call and a def, and the library's answer in a table of their statements."""
 
     def __init__(self, wide, shared, call, def_):
-        self.wide, self.shared, self.call, self.def_ = wide, shared, call, def_
-        self.judged, self.status, self.answer = "not_judged", 2, None
         if not shared.beyond:
-            self.binder = Binder(wide.library, shared.tree)
-            self.nodes = shared.number_of(call), shared.number_of(def_)
-            self.answer = self.binder.bound(*self.nodes)
-            self.judged, self.status = "refused" if type(self.answer) is Refusal else "bound", status_of(self.answer)
+            nodes = shared.number_of(call), shared.number_of(def_)
+            binder = Binder(wide.library, shared.tree)
+            super().__init__(binder, shared.places, *nodes, binder.bound(*nodes))
+        else:
+            self.judged, self.status, self.answer, self.namesakes = "not_judged", 2, None, ()
+        self.wide, self.call, self.def_, self.beyond = wide, call, def_, shared.beyond
 
     def lines(self, explain):
-        if self.shared.beyond:
-            return [f"not judged: {self.shared.beyond}"]
-        return self.binder.lines(self.answer, *self.nodes, self.shared.places, explain)
+        return [f"not judged: {self.beyond}"] if self.beyond else super().lines(explain)
 
     def in_json(self):
-        if self.shared.beyond:
-            return {"call": self.wide.node_json(self.call), "def": self.wide.node_json(self.def_), "not_judged": self.shared.beyond}
-        return self.binder.in_json(self.answer, *self.nodes, self.wide.scripts)
+        if self.beyond:
+            return {"call": self.wide.node_json(self.call), "def": self.wide.node_json(self.def_), "not_judged": self.beyond}
+        return super().in_json()
 
 
 class Shared:
@@ -89,7 +86,7 @@ class Wide:
 
     def __init__(self, library, found):
         self.library, self.scripts, self.named = library, found.scripts, len(found.scripts.by_file) > 1
-        self.calls, self.defs, self.known, self.of = [], {}, {}, None
+        self.calls, self.defs, self.known, self.of, self.statements = [], {}, {}, None, []
         number = 1
         for part, statements in zip(found.parts, found.statements):
             for root in statements:
@@ -98,6 +95,7 @@ class Wide:
                 self.add(statement)
 
     def add(self, statement):
+        self.statements.append(statement)
         for at, node in enumerate(statement.nodes):
             if node.kind == CALL:
                 self.calls.append(Spot(statement, at, node))
@@ -115,13 +113,48 @@ class Wide:
             self.known[other] = Shared(both, self.scripts)
         return Pair(self, self.known[other], call, def_)
 
+    def paired(self):
+        """Each call, in order, with its pairs."""
+        for call in self.calls:
+            yield call, [self.pair(call, def_) for def_ in self.defs.get(call.name, [])]
+
+    def trees(self):
+        """The nodes of each statement, for what looks at all of them."""
+        for statement in self.statements:
+            number, above = {id(node): at for at, node in enumerate(statement.nodes)}, [None] * len(statement.nodes)
+            for at, node in enumerate(statement.nodes):
+                for child in node.children:
+                    above[number[id(child)]] = at
+            yield Nodes([node.kind for node in statement.nodes], [node.name for node in statement.nodes], above,
+                        lambda at, statement=statement: Spot(statement, at, statement.nodes[at]))
+
+    def callee(self, call):
+        return call.name
+
+    def parameters(self, def_):
+        return [node.name for node in def_.node.children if node.kind in FLAT]
+
+    def source(self, spot):
+        return spot.statement.source.bytes[spot.node.begin:spot.node.end]
+
+    def notes(self):
+        return []
+
+    lacking = notes
+
     # ---- printing
+
+    def alone(self, call):
+        return call.unnamed if call.name is None else NO_DEF
 
     def place(self, spot):
         return place_in(spot.statement.source, spot.node.begin, self.named)
 
+    def text(self, call):
+        return text_in(call.statement.source, call.node.begin, call.node.end)
+
     def head(self, call):
-        return f"{self.place(call)} {text_in(call.statement.source, call.node.begin, call.node.end)}"
+        return f"{self.place(call)} {self.text(call)}"
 
     def node_json(self, spot):
         return {"node": spot.number, **span_json(spot.statement.source, spot.statement.file, spot.node.begin, spot.node.end)}

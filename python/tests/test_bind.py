@@ -105,8 +105,11 @@ defs 3, calls 6
         self.pair(1, "refused 82 1 174 187\n", TAKE, 28, 1)
         self.pair(1, "refused 82 1 174 187: no parameter takes a named argument, and there is no `**kwargs`\n", TAKE, 28, 1, "--explain")
         self.pair(0, "trains, by place or name: trains=tracks (node 32, file 1, bytes 189 to 202)\n"
-                  "tracks, by place or name: tracks=trains (node 30, file 1, bytes 174 to 187)\n", TAKE, 28, 9, "--explain")
-        self.says(0, "trains, by place only: tracks (node 37, file 1, bytes 213 to 219)\ntracks, by place only: trains (node 39, file 1, bytes 221 to 227)\n", "",
+                  "tracks, by place or name: tracks=trains (node 30, file 1, bytes 174 to 187)\n"
+                  "exchanged: trains (node 31, file 1, bytes 181 to 187) reaches tracks, and tracks (node 33, file 1, bytes 196 to 202) reaches trains\n",
+                  TAKE, 28, 9, "--explain")
+        self.says(0, "trains, by place only: tracks (node 37, file 1, bytes 213 to 219)\ntracks, by place only: trains (node 39, file 1, bytes 221 to 227)\n"
+                  "exchanged: tracks (node 38, file 1, bytes 213 to 219) reaches trains, and trains (node 40, file 1, bytes 221 to 227) reaches tracks\n", "",
                   "bind", "-", "--call", "35", "--def", "1", input=support.sample("take.table"))
 
 
@@ -192,7 +195,7 @@ class Files(BindTest):
         self.assertEqual([line for line in ran.out.splitlines() if line.startswith("samples/")],
                          ["samples/take.table:", "samples/damaged.table:", "samples/take.star:"])
         self.assertIn("refused 72\n", ran.out)
-        self.assertTrue(ran.out.endswith("bound 5, refused 1, without a def 0\n"))
+        self.assertTrue(ran.out.endswith("bound 5, refused 1, without a def 0, namesakes 6\n"))
 
     def test_words_that_are_wrong(self):
         for words, said in (((), "no FILE is named"), ((TAKE, "--call", "1"), "--call and --def go together"),
@@ -284,7 +287,7 @@ class Json(BindTest):
     def test_script(self):
         told = self.told(1, "--script", "samples/take.star", TAKE)
         entry, = told["inputs"]
-        self.assertEqual((told["command"], entry["verdict"], entry["totals"]), ("bind", "refused", {"bound": 5, "refused": 1, "without_def": 0}))
+        self.assertEqual((told["command"], entry["verdict"], entry["totals"]), ("bind", "refused", {"bound": 5, "refused": 1, "without_def": 0, "namesakes": 6}))
         first, second = entry["pairs"][:2]
         self.assertEqual(first["parameters"][0], {"name": "trains", "mode": "by place only", "default": False, "arguments": [
             {"node": 23, "file": 1, "begin": 149, "end": 155, "line": 8, "column": 10}]})

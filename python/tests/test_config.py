@@ -54,7 +54,7 @@ class Config(CommandTest):
         self.assertEqual(support.library().read(self.read("out")).dialect, bytes([1, 1, 1, 1, 1, 2, 1, 1, 1]))
 
     def test_what_is_wrong_with_it(self):
-        for text, said in (("[ducat]\ndialct = all\n", "there is no key dialct, only dialect, exclude, as-script"),
+        for text, said in (("[ducat]\ndialct = all\n", "there is no key dialct, only dialect, exclude, as-script, expect"),
                            ("[duct]\n", "there is no section [duct], only [ducat]"),
                            ("[ducat]\ndialect = basic\n", "no dialect is called basic"), ("dialect = all\n", "no section headers"),
                            (b"[ducat]\nexclude = \xff\n", "not UTF-8"), ("[ducat]\ndialect=all\ndialect=all\n", "already exists"),

@@ -68,7 +68,7 @@ class Sarif(CommandTest):
         self.assertEqual(faults(told, "log"), [])
         run, = told["runs"]
         rules = [rule["id"] for rule in run["tool"]["driver"]["rules"]]
-        self.assertEqual(rules, [*map(str, numbers.WORDS), "syntax"])
+        self.assertEqual(rules, [*map(str, numbers.WORDS), "syntax", "expect", "namesake"])
         for result in run["results"]:
             self.assertEqual(rules[result["ruleIndex"]], result["ruleId"])
             for location in (*result["locations"], *result.get("relatedLocations", ())):
@@ -124,8 +124,10 @@ class Sarif(CommandTest):
 
     def test_bind(self):
         for words in (("--script", "samples/take.star", "samples/take.table"), ("samples/take.star",)):
-            result, = self.log(1, "bind", *words)["results"]
+            result, *exchanged = self.log(1, "bind", *words)["results"]
             self.assertEqual((result["ruleId"], [one["message"]["text"] for one in result["relatedLocations"]]), ("82", ["the call", "the def"]))
+            self.assertEqual([(one["ruleId"], one["level"], one["relatedLocations"][0]["message"]["text"]) for one in exchanged],
+                             [("namesake", "warning", "it is exchanged with this argument")] * 3)
         self.log(1, "bind", "--join", "samples/joined.1.star", "samples/joined.2.star")
         self.assertEqual(self.log(0, "bind", "samples/take.table")["results"], [])
         self.log(2, "bind", "samples/take.table", "--call", "0", "--def", "0")
@@ -165,7 +167,14 @@ class Lines(CommandTest):
         path = self.put("x.star", "x = \n")
         self.says(1, f"{path}:1:5: error: syntax: unexpected end of line [syntax]\n", STEP, "check", "--format", "gcc", path)
         self.says(1, "samples/take.star:9:10: error: no parameter takes a named argument, and there is no `**kwargs` [82]\n"
-                  "samples/take.star:9:5: note: the call\nsamples/take.star:1:1: note: the def\n", STEP, "bind", "--format", "gcc", "samples/take.star")
+                  "samples/take.star:9:5: note: the call\nsamples/take.star:1:1: note: the def\n"
+                  "samples/take.star:10:10: warning: tracks reaches trains, though there is a parameter tracks [namesake]\n"
+                  "samples/take.star:10:18: note: it is exchanged with this argument\nsamples/take.star:1:1: note: the def\n"
+                  "samples/take.star:12:11: warning: trains reaches tracks, though there is a parameter trains [namesake]\n"
+                  "samples/take.star:12:26: note: it is exchanged with this argument\nsamples/take.star:4:1: note: the def\n"
+                  "samples/take.star:13:11: warning: tracks reaches trains, though there is a parameter tracks [namesake]\n"
+                  "samples/take.star:13:19: note: it is exchanged with this argument\nsamples/take.star:4:1: note: the def\n", STEP,
+                  "bind", "--format", "gcc", "samples/take.star")
         self.says(0, "", "", "check", "--format", "gcc", "samples/clean.table")
         self.says(1, "", "", "check", "--format", "gcc", "--quiet", "samples/example.star")
 

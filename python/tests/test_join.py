@@ -228,7 +228,7 @@ class Bind(JoinTest):
     def test_json(self):
         for words, kind in ((JOIN, "joined"), ((*BOTH, JOINED), "table")):
             entry, = self.told(1, "bind", *words)["inputs"]
-            self.assertEqual((entry["kind"], entry["totals"]), (kind, {"bound": 1, "refused": 2, "without_def": 0}))
+            self.assertEqual((entry["kind"], entry["totals"]), (kind, {"bound": 1, "refused": 2, "without_def": 0, "namesakes": 0}))
             self.assertEqual([(one["file"], one["name"]) for one in entry["scripts"]], [(1, LINE), (2, ZONE)])
             pair = entry["pairs"][0]
             self.assertEqual((pair["call"], pair["def"]), ({"node": 19, "file": 2, "begin": 39, "end": 78, "line": 2, "column": 1},

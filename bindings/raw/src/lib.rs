@@ -91,6 +91,17 @@ extern "C" {
         list_len: usize,
         out: *mut Words,
     ) -> u32;
+    pub fn starlark_namesakes(
+        table: *const u8,
+        table_len: usize,
+        names: *const u8,
+        names_len: usize,
+        call: usize,
+        def: usize,
+        list: *mut u32,
+        list_len: usize,
+        out: *mut Words,
+    ) -> u32;
     pub fn starlark_call(
         table: *const u8,
         table_len: usize,

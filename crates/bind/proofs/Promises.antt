@@ -1,11 +1,13 @@
--- Two answers of the job, with the lists they leave, that meet its promise coincide. Assumes nothing.
+-- Two answers that meet the promise of a public function coincide; of the job, with the lists they leave. Assumes
+-- nothing.
 use mathlib.Core.Path.{_≡_, sym, ap}
+use mathlib.Core.Bool.{Bool}
 use mathlib.Core.List.{List}
 use Prim.Native.Nat.{ℕ}
 use lib.ListN.{length}
 use Rattle.fields.proofs.Coincide.{coincide, coincide-by}
 use Rattle.table.proofs.Answers.{refusal-injective, never-accepted}
-use Rattle.bind.specs.Job.{bindOf, listAfter, bound}
+use Rattle.bind.specs.Job.{isDef, bindOf, listAfter, bound}
 use Rattle.bind.specs.declared.Bound.{Bound}
 use Rattle.bind.specs.declared.Bound.the-variants.{Accepted, Refused}
 
@@ -23,3 +25,7 @@ pub bind-one : (table names : List ℕ) (call def : ℕ) (list : List ℕ) {r s 
     → (r ≡ s) × (list-r ≡ list-s)
 bind-one table names call def list r-is list-is s-is list-are =
     (coincide-by bound bound-injective r-is s-is, coincide list-is list-are)
+
+-- of `is_def`
+pub is-def-one : (table : List ℕ) (node : ℕ) {r s : Bool} → r ≡ isDef table node → s ≡ isDef table node → r ≡ s
+is-def-one table node r-is s-is = coincide r-is s-is

@@ -77,7 +77,7 @@ pub fn bind(table: &[u8], names: &[u8], call: usize, def: usize, list: &mut [u32
 }
 
 // Whether a node is a Def of the table.
-fn is_def(table: &[u8], node: usize) -> bool
+pub fn is_def(table: &[u8], node: usize) -> bool
     ensures { λ r. ⌜ r ≡ isDef (now (table .entry)) node ⌝ }
 {
     if table.len() / RECORD <= node {

@@ -9,6 +9,7 @@ use Rattle.table.specs.Check.{checkOf}
 use Rattle.parameters.specs.Params.{paramsOf, modesAfter}
 use Rattle.arguments.specs.Job.{callOf}
 use Rattle.bind.specs.Job.{bindOf, listAfter}
+use Rattle.namesakes.specs.Job.{namesakesOf, listAfter as reportsAfter}
 use Rattle.targets.specs.Jobs.{targetOf, assignmentOf}
 use Rattle.types.specs.Jobs.{typeShapeOf}
 use Rattle.shapes.specs.Jobs.{shapesAfter}
@@ -66,6 +67,16 @@ pub starlark-bind-one : (table names : List ℕ) (call def : ℕ) (list out : Li
     → out-s ≡ laid (words (bindOf table names call def (length list))) 0 out
     → list-s ≡ listAfter table names call def list → (r ≡ s) × (list-r ≡ list-s) × (out-r ≡ out-s)
 starlark-bind-one table names call def list out r-is out-is list-is s-is out-are list-are =
+    (coincide r-is s-is, coincide list-is list-are, coincide out-is out-are)
+
+-- of `starlark_namesakes`
+pub starlark-namesakes-one : (table names : List ℕ) (call def : ℕ) (list out : List ℕ) {r s : ℕ} {list-r list-s : List ℕ}
+    {out-r out-s : List ℕ} → r ≡ number (namesakesOf table names call def (length list))
+    → out-r ≡ laid (words (namesakesOf table names call def (length list))) 0 out
+    → list-r ≡ reportsAfter table names call def list → s ≡ number (namesakesOf table names call def (length list))
+    → out-s ≡ laid (words (namesakesOf table names call def (length list))) 0 out
+    → list-s ≡ reportsAfter table names call def list → (r ≡ s) × (list-r ≡ list-s) × (out-r ≡ out-s)
+starlark-namesakes-one table names call def list out r-is out-is list-is s-is out-are list-are =
     (coincide r-is s-is, coincide list-is list-are, coincide out-is out-are)
 
 -- of `starlark_target`

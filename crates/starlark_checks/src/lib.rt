@@ -8,6 +8,7 @@ use dialect::Stated;
 use figures::Ending;
 use figures::Stepped;
 use filepass::Passed;
+use namesakes::Named;
 use parameters::Counted;
 use parameters::Range;
 use parameters::Unpacked;
@@ -33,6 +34,7 @@ ghost use Rattle.parameters.specs.Indices.{valuesOf};
 ghost use Rattle.parameters.specs.Params.{paramsOf, modesAfter};
 ghost use Rattle.arguments.specs.Job.{placeValues, callValues, callOf};
 ghost use Rattle.bind.specs.Job.{bindOf, listAfter};
+ghost use Rattle.namesakes.specs.Job.{namesakesOf, listAfter as reportsAfter};
 ghost use Rattle.targets.specs.Jobs.{targetOf, assignmentOf};
 ghost use Rattle.types.specs.Jobs.{typeShapeOf};
 ghost use Rattle.shapes.specs.Jobs.{shapesAfter};
@@ -310,6 +312,31 @@ pub extern "C" fn starlark_bind(
     match answer {
         Bound::Accepted { flat, many } => put_two(flat, many, out),
         Bound::Refused(r) => put_refused(r, out),
+    }
+}
+
+// The namesakes job: how many arguments are reported, and four words for each of them in the list.
+#[no_mangle]
+pub extern "C" fn starlark_namesakes(
+    table: &[u8],
+    names: &[u8],
+    call: usize,
+    def: usize,
+    list: &mut [u32],
+    out: &mut [u32; 12],
+) -> u32
+    ensures { λ r. ⌜ r ≡
+        number (namesakesOf (now (table .entry)) (now (names .entry)) call def (length (now (list .entry)))) ⌝ }
+    ensures { λ r. ⌜ now (out .exit) ≡
+        laid (words (namesakesOf (now (table .entry)) (now (names .entry)) call def (length (now (list .entry))))) 0
+        (now (out .entry)) ⌝ }
+    ensures { λ r. ⌜ now (list .exit) ≡
+        reportsAfter (now (table .entry)) (now (names .entry)) call def (now (list .entry)) ⌝ }
+{
+    let answer = namesakes::namesakes(table, names, call, def, list);
+    match answer {
+        Named::Found(n) => put_count(n, out),
+        Named::Refused(r) => put_refused(r, out),
     }
 }
 

@@ -1,0 +1,4 @@
+pub mod Namesake
+pub mod Job
+pub mod Reading
+pub mod Said

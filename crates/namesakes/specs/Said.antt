@@ -1,0 +1,77 @@
+-- What the theorems on namesakes speak of: a row of the list, two arguments that are exchanged, and a call in which two
+-- arguments of another stand exchanged. These are definitions.
+use mathlib.Core.Path.{_≡_}
+use mathlib.Core.List.{List, [], _∷_}
+use Prim.Native.Nat.{ℕ, _*_, _<_}
+use lib.ListN.{take, drop}
+use Rattle.forest.specs.Forest.{Node}
+use Rattle.deflist.specs.Unpack.{modePosOnly}
+use Rattle.arguments.specs.Written.{Argument, positional, named, args, kwargs, nodeIn}
+use Rattle.bind.specs.FlatList.{FlatParam}
+use Rattle.reached.specs.Said.{IsAt, Ordinary, flatsAt, argumentWord}
+use Rattle.namesakes.specs.Namesake.{label, Labelled}
+use Rattle.namesakes.specs.Job.{labelledAt}
+
+-- an argument's node
+abbrev pub nodeOf : Labelled → ℕ
+nodeOf a = nodeIn (a .argument) .at
+
+-- these four words are one of the first n rows of a list
+pub record Reported (list : List ℕ) (n : ℕ) (row : List ℕ) : Type 0 where
+  pub number : ℕ
+  pub below : number < n
+  pub there : take 4 (drop (4 * number) list) ≡ row
+
+-- arguments j and l of a call are exchanged: each has the name of the ordinary parameter that the other reaches; words
+-- are the list of the binding
+pub record Exchanged (t names : List ℕ) (call def : ℕ) (words : List ℕ) (j l : ℕ) : Type 0 where
+  pub apart : j ≡ l → ⊥
+  pub first : Labelled
+  pub second : Labelled
+  pub firstThere : IsAt (labelledAt t names call) j first
+  pub secondThere : IsAt (labelledAt t names call) l second
+  pub param : FlatParam
+  pub other : FlatParam
+  pub paramThere : IsAt (flatsAt t names def) (argumentWord t names call def words j) param
+  pub otherThere : IsAt (flatsAt t names def) (argumentWord t names call def words l) other
+  pub ordinary : Ordinary param
+  pub otherOrdinary : Ordinary other
+  pub firstName : first .name ≡ label (other .name)
+  pub secondName : second .name ≡ label (param .name)
+
+-- argument k is positional, its parameter stands before `/`, and has its name
+pub record OwnName (t names : List ℕ) (call def k : ℕ) : Type 0 where
+  pub argument : Labelled
+  pub there : IsAt (labelledAt t names call) k argument
+  pub node : Node
+  pub byPlace : argument .argument ≡ positional node
+  pub param : FlatParam
+  pub paramThere : IsAt (flatsAt t names def) k param
+  pub posOnly : param .mode ≡ modePosOnly
+  pub name : argument .name ≡ label (param .name)
+
+-- two arguments of one kind, and of one name if they are named
+abbrev pub Like : Argument → Argument → Type 0
+Like (positional r) (positional s) = Unit {0}
+Like (positional r) (named s n) = ⊥
+Like (positional r) (args s) = ⊥
+Like (positional r) (kwargs s) = ⊥
+Like (named r m) (positional s) = ⊥
+Like (named r m) (named s n) = m ≡ n
+Like (named r m) (args s) = ⊥
+Like (named r m) (kwargs s) = ⊥
+Like (args r) (positional s) = ⊥
+Like (args r) (named s n) = ⊥
+Like (args r) (args s) = Unit {0}
+Like (args r) (kwargs s) = ⊥
+Like (kwargs r) (positional s) = ⊥
+Like (kwargs r) (named s n) = ⊥
+Like (kwargs r) (args s) = ⊥
+Like (kwargs r) (kwargs s) = Unit {0}
+
+-- two calls with the same kinds and names of arguments
+abbrev pub Alike : List Argument → List Argument → Type 0
+Alike [] [] = Unit {0}
+Alike [] (b ∷ bs) = ⊥
+Alike (a ∷ qs) [] = ⊥
+Alike (a ∷ qs) (b ∷ bs) = Like a b × Alike qs bs
