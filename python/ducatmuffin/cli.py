@@ -435,6 +435,7 @@ def report_parser():
     add_script(parser, "the script of the table files")
     add_expect(parser)
     add_dialect(parser, "of scripts; a table file has its own")
+    add_edition(parser, "for scripts (default: 1); a table file has its own")
     add_books(parser, "show which dialect each zone has at each setting; with --zone and --setting also ")
     parser.add_argument("--exclude", metavar="GLOB", action="append", default=[],
                         help="leave out what a search finds and whose name or path matches; may be repeated")
@@ -689,7 +690,7 @@ def edition_fits(options, configured):
     """--edition is for scripts, and for the jobs that read types."""
     if options.edition is None:
         return
-    if options.module:
+    if getattr(options, "module", False):
         raise Failed("--edition is for types, which the module pass does not read: --module is not for it")
     if options.files_from is None and not any(could_be_script(path, options.stdin_filename, configured.as_script) for path in options.paths):
         raise Failed("--edition is for scripts: a table file has its own edition")
@@ -759,6 +760,7 @@ def report(words, out):
         raise Failed("no PATH is named (`ducat report --help` says how)")
     books_fit(options, alone=True)
     configured = Configured(options)
+    edition_fits(options, configured)
     named_out(options.out, configured.as_script)
     expectations = expected(options, configured, options.paths)
     search = found_in(options, configured, options.paths, folders=not options.join)
@@ -781,7 +783,7 @@ def report(words, out):
     for path, excluded in search.empty:
         say(f"{path}: no table file and no script is found in this folder" + (f"; {excluded:,} excluded" if excluded else ""))
     from . import report as job
-    how = job.Options(options.out, configured.dialect, scripts, options.books, options.zone, expectations, options.strict)
+    how = job.Options(options.out, configured.dialect, scripts, options.books, options.zone, expectations, options.strict, options.edition)
     status = job.run(library, how, search.found, out, head("report", library, configured.in_json()) if options.format == "json" else None)
     return max(status, 2 if search.empty else 0)
 

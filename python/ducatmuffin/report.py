@@ -75,7 +75,8 @@ class Maker:
 
     def __init__(self, library, options):
         self.library, self.options = library, options
-        how = check.Options(explain=True, json=True, dialect=options.dialect, scripts=options.scripts, format="json")
+        how = check.Options(explain=True, json=True, dialect=options.dialect, scripts=options.scripts, format="json",
+                            edition=options.edition)
         how.by_books = options.zone is not None
         self.checker, self.totals, self.inputs, self.status = Checker(library, how), Totals(), [], 0
         self.expectations, self.figures, self.uncounted = Expectations(options.expectations), NO_FIGURES, 0
@@ -316,9 +317,9 @@ def cell(found):
 class Options:
     """How a page is made. `zone` is there where the dialect is that of the books."""
 
-    def __init__(self, out, dialect=None, scripts=None, books=None, zone=None, expectations=(), strict=False):
+    def __init__(self, out, dialect=None, scripts=None, books=None, zone=None, expectations=(), strict=False, edition=None):
         self.out, self.dialect, self.scripts, self.books, self.zone = out, dialect, scripts, books, zone
-        self.expectations, self.strict = expectations, strict
+        self.expectations, self.strict, self.edition = expectations, strict, edition
 
 
 def run(library, options, found, out, front):

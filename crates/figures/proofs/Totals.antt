@@ -10,12 +10,15 @@ use lib.ListN.{length, take, replicate}
 use lib.Seq.{take-all}
 use Rattle.dialect.specs.declared.Dialect.{Dialect}
 use Rattle.table.specs.Answer.{accepted, refused, refusal, checked}
-use Rattle.table.specs.Check.{checkOf, given, givenOf, inDialect, givenCheck}
-use Rattle.table.specs.declared.Given.{Given}
-use Rattle.table.specs.declared.Given.the-variants.{In, Refused as Away}
+use Rattle.table.specs.Check.{checkOf, givenOf, inDialect, ruled, rulesOf, rulesCheck}
+use Rattle.dialect.specs.declared.Edition.{Edition}
+use Rattle.dialect.specs.declared.EditionRead.{EditionRead}
+use Rattle.table.specs.declared.Ruled.{Ruled}
+use Rattle.table.specs.declared.Ruled.the-variants.{By, Refused as Away}
 use Rattle.table.specs.declared.Refusal.{Refusal}
 use Rattle.table.specs.declared.Checked.the-variants as judgements
-use Rattle.table.proofs.Entering.{away-is, in-is, given-known}
+use Rattle.table.proofs.Entering.{given-known}
+use Rattle.table.proofs.Ruling.{rules-known, by-is, unruled-is}
 use Rattle.table.proofs.Checking.{Clean, accepted-clean}
 use Rattle.table.proofs.Theorems.{clean-accepted}
 use Rattle.validate.specs.Job.{passErrors, errorsOf}
@@ -45,27 +48,30 @@ all-added d t names a b-is c-is e-is =
 pub table-few : (t names : List ℕ) → checkOf t names ≡ accepted [] → length t ≤ 50400
 table-few t names e = accepted-clean t names e .most
 
--- 1 to 5, in the terms of code: g is what `enter_dialect` answered
-module _ (t names bytes : List ℕ) {g : Given} (g-is : given g ≡ givenOf t names bytes) where
-  pub given-sound : {d : Dialect} → g ≡ In d → checkOf t names ≡ accepted []
-  given-sound h = clean-accepted t names (given-known t names bytes (in-is t names bytes g-is h) .0)
+-- 1 to 5, in the terms of code: g is what `enter_rules` answered
+module _ (t names bytes : List ℕ) {x : EditionRead} {g : Ruled} (g-is : ruled g ≡ rulesOf t names bytes x) where
+  let-in : {d : Dialect} {e : Edition} → g ≡ By d e → givenOf t names bytes ≡ inDialect d
+  let-in h = rules-known t names bytes (by-is t names bytes g-is h) .0
+
+  pub given-sound : {d : Dialect} {e : Edition} → g ≡ By d e → checkOf t names ≡ accepted []
+  given-sound h = clean-accepted t names (given-known t names bytes (let-in h) .0)
 
   -- the counters after the file is counted, and in the end
   module _ (start : List ℕ) {k : ℕ} (k-is : k ≡ filesOf g) {xs : List ℕ} (xs-is : xs ≡ added start (only 0 k)) where
-    pub table-added : {d : Dialect} → g ≡ In d → {ys : List ℕ} → ys ≡ added xs (figuresIn d t names)
-        → (accepted [] ≡ givenCheck t names bytes)
-        × (ys ≡ counted (givenCheck t names bytes) start (tableFigures t names bytes))
+    pub table-added : {d : Dialect} {e : Edition} → g ≡ By d e → {ys : List ℕ} → ys ≡ added xs (figuresIn d t names)
+        → (accepted [] ≡ rulesCheck t names bytes x)
+        × (ys ≡ counted (rulesCheck t names bytes x) start (tableFigures t names bytes))
     table-added {d} h {ys} ys-is =
-        let is = in-is t names bytes g-is h in
         let one : k ≡ 1 = k-is ∙ ap filesOf h in
         let first : ys ≡ added (added start (only 0 1)) (figuresIn d t names) = ys-is ∙ rw (xs-is, one) refl in
-        rw is (refl, first ∙ added-twice start (only 0 1) _ ∙ ap (added start) (figures-are t names bytes is))
+        rw (by-is t names bytes g-is h)
+        (refl, first ∙ added-twice start (only 0 1) _ ∙ ap (added start) (figures-are t names bytes (let-in h)))
 
     pub table-refused : {why : Refusal} → g ≡ Away why
-        → (refusal why ≡ givenCheck t names bytes)
-        × (xs ≡ counted (givenCheck t names bytes) start (tableFigures t names bytes))
+        → (refusal why ≡ rulesCheck t names bytes x)
+        × (xs ≡ counted (rulesCheck t names bytes x) start (tableFigures t names bytes))
     unfolding only
     table-refused h =
         let none : k ≡ 0 = k-is ∙ ap filesOf h in
         let same : xs ≡ start = xs-is ∙ rw none (added-zeros start 1) in
-        rw (away-is t names bytes g-is h) (refl, same)
+        rw (unruled-is t names bytes g-is h) (refl, same)

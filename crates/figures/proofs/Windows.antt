@@ -13,20 +13,24 @@ use lib.Dec.{leb}
 use borrow.Author.Tests.{le-leb}
 use Rattle.fields.proofs.Basics.{drop-take}
 use Rattle.table.specs.Answer.{Answer, accepted, refused, andThen, numberOf, refusal, checked}
-use Rattle.table.specs.Check.{givenCheck}
+use Rattle.table.specs.Check.{rulesCheck}
+use Rattle.dialect.specs.Editions.{statedBytes, editionHeld}
+use Rattle.dialect.specs.declared.Stated.{Stated}
+use Rattle.dialect.specs.declared.EditionRead.{EditionRead}
 use Rattle.table.specs.declared.Checked.{Checked}
 use Rattle.table.specs.declared.Checked.the-variants as judgements
 use Rattle.table.specs.declared.Refusal.{Refusal}
 use Rattle.blocks.specs.Run.{blocksFor}
 use Rattle.blocks.proofs.Parts.{judge-front, run-front, content-front}
 use Rattle.tablefile.specs.File.{Content}
-use Rattle.tablefile.specs.Reading.{headerAt, contentAt, blocksCheck, frontCheck, soundCheck, readCheck}
+use Rattle.tablefile.specs.Reading.{headerAt, usedOf, contentAt, blocksCheck, frontCheck, editionRead, soundCheck}
+use Rattle.tablefile.specs.Reading.{readCheck}
 use Rattle.tablefile.specs.Loading.{verdict}
 use Rattle.tablefile.specs.Lending.{fileCheck, handed}
 use Rattle.tablefile.specs.declared.Heading.{Heading}
 use Rattle.tablefile.specs.declared.Verdict.{Verdict}
 use Rattle.tablefile.specs.declared.Verdict.the-variants.{Accepted, Refused}
-use Rattle.tablefile.proofs.Fronts.{header-front, first-is, taken-is, dialect-few}
+use Rattle.tablefile.proofs.Fronts.{header-front, first-is, taken-is, dialect-few, edition-few}
 use Rattle.tablefile.proofs.Lends.{read-steps, unpacked-few, unpacked-table-long, unpacked-names-long}
 use Rattle.tablefile.proofs.Lends.{unpacked-table, unpacked-names}
 use Rattle.figures.specs.Counting.{tableFigures, figuresOf}
@@ -56,6 +60,11 @@ module _ (w : List ℕ) where
       (take-take (headerAt w .dialect) (headerAt w .taken - 8) (drop 8 w)
       (omega (arith, dialect-few w, taken-least)))
 
+  edition-window : take (headerAt w .edition) (drop 17 (fileIn w)) ≡ take (headerAt w .edition) (drop 17 w)
+  edition-window = rw (drop-take 17 (headerAt w .taken) w)
+      (take-take (headerAt w .edition) (headerAt w .taken - 17) (drop 17 w)
+      (omega (arith, edition-few w, taken-least)))
+
   pub content-window : contentAt (fileIn w) ≡ contentAt w
   unfolding contentAt
   content-window = rw (
@@ -63,13 +72,14 @@ module _ (w : List ℕ) where
     content-front (24 * headerAt w .nodes) (512 * headerAt w .first) (headerAt w .taken) w nodes-held,
     content-front (headerAt w .names) 512 (headerAt w .taken) w names-held,
     dialect-window,
+    edition-window,
   ) refl
 
   pub front-window : frontCheck (fileIn w) ≡ frontCheck w
   unfolding blocksCheck
   front-window = rw (
     header-window,
-    judge-front 0 (4 + headerAt w .dialect) (headerAt w .taken) w taken-least,
+    judge-front 0 (usedOf (headerAt w)) (headerAt w .taken) w taken-least,
     run-front (headerAt w .names) 512 (headerAt w .taken) w names-held 1,
     run-front (24 * headerAt w .nodes) (512 * headerAt w .first) (headerAt w .taken) w nodes-held (headerAt w .first),
   ) refl
@@ -124,7 +134,8 @@ module _ (w : List ℕ) {h : Heading} (h-is : h ≡ headerAt w) {f : List ℕ} (
         (wt-is : wt ≡ handed (fileCheck f) (contentAt f .table) (replicate 50400 0))
         (wn-is : wn ≡ handed (fileCheck f) (contentAt f .names) (replicate 8064 0))
         (t-is : t ≡ take (24 * h .nodes) wt) (names-is : names ≡ take (h .names) wn)
-        (bytes-is : bytes ≡ contentAt f .dialect) where
+        (bytes-is : bytes ≡ contentAt f .dialect) {z : Stated} (z-is : z ≡ contentAt f .edition) {x : EditionRead}
+        (x-is : x ≡ editionHeld bytes (statedBytes z)) where
       same : contentAt f ≡ contentAt w
       same = ap contentAt f-so ∙ content-window w
 
@@ -137,15 +148,18 @@ module _ (w : List ℕ) {h : Heading} (h-is : h ≡ headerAt w) {f : List ℕ} (
       bytes-so : bytes ≡ contentAt w .dialect
       bytes-so = bytes-is ∙ ap (λ (c : Content). c .dialect) same
 
-      sound-so : givenCheck t names bytes ≡ windowCheck w
-      sound-so = rw (t-so, names-so, bytes-so) (sym (steps-so ∙ rw good refl))
+      x-so : x ≡ editionRead (contentAt w)
+      x-so = x-is ∙ rw (bytes-so, z-is, same) refl
 
-      pub window-answer : {a : Answer} {s : Stepped} → a ≡ givenCheck t names bytes → s ≡ told a (h .taken)
+      sound-so : rulesCheck t names bytes x ≡ windowCheck w
+      sound-so = rw (t-so, names-so, bytes-so, x-so) (sym (steps-so ∙ rw good refl))
+
+      pub window-answer : {a : Answer} {s : Stepped} → a ≡ rulesCheck t names bytes x → s ≡ told a (h .taken)
           → s ≡ told (windowCheck w) (headerAt w .taken)
       window-answer a-is s-is = s-is ∙ rw (a-is, sound-so, h-is) refl
 
       pub window-figures : (start : List ℕ) {ys : List ℕ}
-          → ys ≡ counted (givenCheck t names bytes) start (tableFigures t names bytes)
+          → ys ≡ counted (rulesCheck t names bytes x) start (tableFigures t names bytes)
           → ys ≡ counted (windowCheck w) start (figuresOf (contentAt w))
       window-figures start ys-is = ys-is ∙ rw (sound-so, t-so, names-so, bytes-so) refl
 

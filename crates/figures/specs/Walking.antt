@@ -7,8 +7,8 @@ use Prim.Native.Nat.{ℕ, _+_, _-_, _≤_, _<_}
 use lib.ListN.{replicate}
 use Rattle.table.specs.Answer.{Answer, accepted, refused, passes, isRefused}
 use Rattle.table.specs.Check.{checkOf}
-use Rattle.table.specs.declared.Given.{Given}
-use Rattle.table.specs.declared.Given.the-variants.{In, Refused as Away}
+use Rattle.table.specs.declared.Ruled.{Ruled}
+use Rattle.table.specs.declared.Ruled.the-variants.{By, Refused as Away}
 use Rattle.dialect.specs.declared.Dialect.{Dialect}
 use Rattle.validate.specs.Job.{passErrors}
 use Rattle.deflist.specs.Unpack.{modePosOnly, modePosOrName, modeNameOnly, modeArgs, modeKwargs}
@@ -83,8 +83,8 @@ unfoldable pub errorFigures : List ℕ → List ℕ
 errorFigures ns = replicate 10 0 ++ errorCounts ns
 
 -- how many files are counted: the one that 1 to 5 let in
-abbrev pub filesOf : Given → ℕ
-filesOf (In d) = 1
+abbrev pub filesOf : Ruled → ℕ
+filesOf (By d e) = 1
 filesOf (Away r) = 0
 
 -- the figures of a table in a dialect, as they are added behind the file: nodes, what is counted node by node, errors

@@ -5,16 +5,17 @@ mod sums;
 mod told;
 
 use dialect::Dialect;
+use dialect::EditionRead;
 use forest::RECORD;
 use table::Checked;
-use table::Given;
+use table::Ruled;
 use table::MOST_BYTES;
 use table::MOST_NAMES;
 use tablefile::Verdict;
 ghost use mathlib.Core.Path.{_≡_};
 ghost use mathlib.Core.List.{[]};
 ghost use Rattle.table.specs.Answer.{accepted, checked};
-ghost use Rattle.table.specs.Check.{checkOf, givenCheck};
+ghost use Rattle.table.specs.Check.{checkOf, rulesCheck};
 ghost use Rattle.tablefile.specs.Reading.{headerAt, contentAt};
 ghost use Rattle.figures.specs.Counting.{figuresOf, tableFigures};
 ghost use Rattle.figures.specs.Adding.{added};
@@ -124,12 +125,11 @@ fn add_front(window: &[u8], figures: &mut [u64; FIGURES]) -> Stepped
     if let Verdict::Refused(why) = unpacked {
         return Stepped::Refused(table::number(why));
     }
-    let judged = add_table(
-        filepass::front(&table, RECORD * h.nodes),
-        filepass::front(&names, h.names),
-        tablefile::dialect_bytes(file),
-        figures,
-    );
+    let t = filepass::front(&table, RECORD * h.nodes);
+    let n = filepass::front(&names, h.names);
+    let bytes = tablefile::dialect_bytes(file);
+    let edition = dialect::edition_held(bytes, tablefile::stated_edition(file));
+    let judged = add_table(t, n, bytes, edition, figures);
     answer(judged, h.taken)
 }
 
@@ -143,31 +143,44 @@ fn answer(judged: Checked, taken: usize) -> Stepped
     }
 }
 
-// 1 to 5 of what a file holds, then its figures are added.
-fn add_table(table: &[u8], names: &[u8], dialect: &[u8], figures: &mut [u64; FIGURES]) -> Checked
-    ensures { λ r. ⌜ checked r ≡ givenCheck (now (table .entry)) (now (names .entry)) (now (dialect .entry)) ⌝ }
+// 1 to 5 of what a file holds, then its figures are added. The edition is only checked: no figure depends on it.
+fn add_table(
+    table: &[u8],
+    names: &[u8],
+    dialect: &[u8],
+    edition: EditionRead,
+    figures: &mut [u64; FIGURES],
+) -> Checked
+    ensures { λ r. ⌜ checked r ≡
+        rulesCheck (now (table .entry)) (now (names .entry)) (now (dialect .entry)) edition ⌝ }
     ensures { λ r. ⌜ now (figures .exit) ≡
-        counted (givenCheck (now (table .entry)) (now (names .entry)) (now (dialect .entry))) (now (figures .entry))
-        (tableFigures (now (table .entry)) (now (names .entry)) (now (dialect .entry))) ⌝ }
+        counted (rulesCheck (now (table .entry)) (now (names .entry)) (now (dialect .entry)) edition)
+        (now (figures .entry)) (tableFigures (now (table .entry)) (now (names .entry)) (now (dialect .entry))) ⌝ }
 {
-    let entered = table::enter_dialect(table, names, dialect);
+    let entered = table::enter_rules(table, names, dialect, edition);
     sums::add(figures, FILES, files(entered));
     match entered {
-        Given::In(d) => {
+        Ruled::By {
+            dialect: d,
+            edition: _,
+        } => {
             add_all(table, names, d, figures);
             Checked::Sound
         }
-        Given::Refused(why) => Checked::Refused(why),
+        Ruled::Refused(why) => Checked::Refused(why),
     }
 }
 
 // How many files are counted: the one that 1 to 5 let in.
-fn files(entered: Given) -> u64
+fn files(entered: Ruled) -> u64
     ensures { λ r. ⌜ r ≡ filesOf entered ⌝ }
 {
     match entered {
-        Given::In(_) => 1,
-        Given::Refused(_) => 0,
+        Ruled::By {
+            dialect: _,
+            edition: _,
+        } => 1,
+        Ruled::Refused(_) => 0,
     }
 }
 
