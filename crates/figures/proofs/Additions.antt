@@ -2,7 +2,7 @@
 -- whatever the counters are, because a sum held to 64 bits does not depend on how it is cut (`held-twice`), and no
 -- lengths are asked for. A counter that code stores by itself is `added-only`; zeros change nothing, wherever they
 -- stand (`added-zeros`, `added-trailing`). Induction is on the lists. Assumes nothing.
-use mathlib.Core.Path.{_≡_, refl, sym, ap, ap₂, _∙_}
+use mathlib.Core.Path.{_≡_, refl, sym, ap, ap₂}
 use mathlib.Core.List.{List, [], _∷_, _++_}
 use Prim.Native.Nat.{ℕ, zero, suc, _+_, _-_, _^_, _<_, _≤_, min}
 use native.Mathlib.Omega.{arith}

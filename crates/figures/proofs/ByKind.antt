@@ -4,20 +4,19 @@
 -- Any other node adds nothing. In the loop what is added for the first i nodes is one sum (`walk-on`). Cite `node-list`,
 -- `node-call`, `node-other`. Assumes nothing.
 use mathlib.Core.Path.{_≡_, refl, sym, ap, _∙_}
-use mathlib.Core.Bool.{Bool, true, false, _||_}
-use mathlib.Core.List.{List, [], _∷_, _++_}
+use mathlib.Core.Bool.{true, false}
+use mathlib.Core.List.{List, [], _∷_}
 use Prim.Native.Nat.{ℕ, suc, _+_, _*_, _-_, _/_, _^_, _<_, _≤_}
 use native.Mathlib.Omega.{arith}
-use lib.ListN.{length, take, drop, replicate}
-use lib.Dec.{eqb, ltb}
-use borrow.Author.Tests.{lt-ltb, eq-eqb, ne-eqb}
+use lib.ListN.{length, take, drop}
+use borrow.Author.Tests.{lt-ltb, ne-eqb}
 use Rattle.fields.specs.Choice.{if'}
 use Rattle.fields.proofs.Basics.{never, clash}
 use Rattle.fields.proofs.Fields.{tail-part}
 use Rattle.forest.specs.Forest.{nodeOf, treeOf}
 use Rattle.soundness.specs.KindNumbers.{kindDef, kindLambda, kindCall}
-use Rattle.table.specs.Answer.{Answer, accepted, refused, passes, isRefused}
-use Rattle.table.specs.Check.{mostNodes, checkOf, wants, nodeFits, stretchOf, headedOf, onNode}
+use Rattle.table.specs.Answer.{Answer, accepted, refused, passes}
+use Rattle.table.specs.Check.{checkOf, wants, nodeFits, stretchOf, headedOf, onNode}
 use Rattle.table.specs.declared.Wanted.{Wanted}
 use Rattle.table.specs.declared.Wanted.the-variants.{Parameters, Call}
 use Rattle.table.proofs.Checking.{Clean, accepted-clean}
@@ -34,7 +33,7 @@ use Rattle.deflist.specs.declared.Judged.the-variants.{Accepted, Refused}
 use Rattle.deflist.proofs.Limited.{limited-short, limited-accepted}
 use Rattle.parameters.specs.Params.{listOf, paramsOf}
 use Rattle.parameters.proofs.Accepted.{accepted-passed, passed-accepted}
-use Rattle.arguments.specs.Job.{callAnswer, callOf}
+use Rattle.arguments.specs.Job.{callAnswer}
 use Rattle.figures.specs.Adding.{added}
 use Rattle.figures.specs.Counting.{occurrences, total, nodesOf, modeAt, acceptedAt, refusedAt}
 use Rattle.figures.specs.Walking.{plus, rangeCounts, listFigures, callFigures, nodeFigures, nodesFigures}

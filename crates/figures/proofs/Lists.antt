@@ -4,7 +4,7 @@
 -- subtraction goes below 0. Assumes nothing.
 use mathlib.Core.Path.{_≡_, refl, sym, ap, _∙_}
 use mathlib.Core.List.{List, [], _∷_, _++_}
-use Prim.Native.Nat.{ℕ, _+_, _-_, _≤_}
+use Prim.Native.Nat.{ℕ, _+_, _-_}
 use native.Mathlib.Omega.{arith}
 use lib.ListN.{length, replicate}
 use lib.Dec.{eqb}
@@ -20,7 +20,7 @@ use Rattle.deflist.specs.declared.Judged.the-variants.{Accepted, Refused}
 use Rattle.deflist.specs.declared.Fault.{Fault}
 use Rattle.deflist.proofs.Limited.{limited-accepted}
 use Rattle.demand3.specs.Cut.{Star, noStar, bare, starred, Last, noKwargs, withKwargs, Cut, argsPart, kwargsPart}
-use Rattle.demand3.specs.Cut.{firsts, afterStar, ordinary, join, partsOf, partModes}
+use Rattle.demand3.specs.Cut.{firsts, afterStar, ordinary, partsOf, partModes}
 use Rattle.demand3.proofs.Counting.{argsPlace, kwargsPlace}
 use Rattle.demand3.proofs.Cuts.{cutCounts, cut-accepted, accepted-cut, cut-modes}
 use Rattle.table.specs.Answer.{Answer}

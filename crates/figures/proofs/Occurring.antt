@@ -4,7 +4,7 @@
 use mathlib.Core.Path.{_≡_, refl, sym, ap, ap₂, _∙_}
 use mathlib.Core.Bool.{Bool, true, false, _&&_}
 use mathlib.Core.Logic.{_⊎_, inl, inr}
-use mathlib.Core.List.{List, [], _∷_, _++_, append-assoc}
+use mathlib.Core.List.{List, [], _∷_, _++_}
 use Prim.Native.Nat.{ℕ, zero, suc, _+_, _-_, _*_, _<_, _≤_}
 use native.Mathlib.Omega.{arith}
 use lib.ListN.{length, getD, take, drop, replicate, length-replicate}
@@ -21,7 +21,7 @@ use Rattle.errors.proofs.Storing.{allWords, stored-all, stored-length}
 use Rattle.validate.specs.Job.{passErrors}
 use Rattle.validate.proofs.Theorems.{pass-few}
 use Rattle.figures.specs.Adding.{added}
-use Rattle.figures.specs.Counting.{one, occurrences, occurrencesFrom, numbersOf, errorCounts}
+use Rattle.figures.specs.Counting.{occurrences, occurrencesFrom, numbersOf, errorCounts}
 use Rattle.figures.specs.Walking.{only, plus, errorFigures}
 use Rattle.figures.proofs.Additions.{added-twice, added-zeros, added-trailing, plus-append, plus-behind}
 use Rattle.figures.proofs.Additions.{only-behind}

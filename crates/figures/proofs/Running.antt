@@ -4,17 +4,17 @@
 -- counted, with the report of what is left, is the report of the input (`Running`). Assumes nothing.
 use mathlib.Core.Path.{_≡_, refl, sym, ap, _∙_}
 use mathlib.Core.Bool.{Bool, true, false}
-use mathlib.Core.List.{List, [], _∷_}
+use mathlib.Core.List.{List, []}
 use Prim.Native.Nat.{ℕ, zero, suc, _+_, _-_, _<_, _≤_}
 use native.Mathlib.Omega.{arith}
 use lib.ListN.{length, getD, take, drop, length-drop}
-use lib.Seq.{drop-drop, take-all}
+use lib.Seq.{drop-drop}
 use lib.Dec.{eqb, ltb}
 use borrow.Author.Tests.{eq-eqb, ne-eqb, eqb-false, lt-ltb, le-ltb}
 use Rattle.fields.specs.Choice.{if'}
 use Rattle.fields.proofs.Basics.{never}
 use Rattle.fields.proofs.Fields.{tail-part}
-use Rattle.table.specs.Answer.{Answer, accepted, refused, andThen}
+use Rattle.table.specs.Answer.{Answer, accepted, refused}
 use Rattle.table.proofs.Answers.{passed-both}
 use Rattle.blocks.specs.Block.{demand}
 use Rattle.tablefile.specs.Reading.{headerAt, contentAt, frontCheck, soundCheck}
@@ -24,7 +24,6 @@ use Rattle.figures.specs.Reporting.{mostFiles, tooManyFiles, windowCheck
 use Rattle.figures.specs.Reporting.{figuresAfter, whole, endedBy, afterStep, reportIn, reportFrom, zeros, reportOf}
 use Rattle.figures.specs.declared.Stepped.{Stepped}
 use Rattle.figures.specs.declared.Stepped.the-variants.{Taken, Refused}
-use Rattle.figures.specs.declared.Reported.{Reported}
 use Rattle.figures.proofs.Windows.{taken-least}
 
 -- each return of `step`: no byte; 76; the file at the front

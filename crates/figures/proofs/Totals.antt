@@ -1,29 +1,27 @@
 -- The figures of a file are added in four parts: the file, its nodes, what is counted node by node, the errors. In a
 -- table that passes 1 to 5 they are `tableFigures` (`figures-are`), because no two parts have a counter in common and
 -- the module pass looks at the whole table. Assumes nothing.
-use mathlib.Core.Path.{_≡_, refl, sym, ap, _∙_}
-use mathlib.Core.List.{List, [], _∷_, _++_}
-use Prim.Native.Nat.{ℕ, _+_, _/_, _≤_}
+use mathlib.Core.Path.{_≡_, refl, ap, _∙_}
+use mathlib.Core.List.{List, []}
+use Prim.Native.Nat.{ℕ, _/_, _≤_}
 use native.Mathlib.Nat.{add-zero}
-use native.Mathlib.Omega.{arith}
-use lib.ListN.{length, take, replicate}
+use lib.ListN.{length, take}
 use lib.Seq.{take-all}
 use Rattle.dialect.specs.declared.Dialect.{Dialect}
-use Rattle.table.specs.Answer.{accepted, refused, refusal, checked}
+use Rattle.table.specs.Answer.{accepted, refusal}
 use Rattle.table.specs.Check.{checkOf, givenOf, inDialect, ruled, rulesOf, rulesCheck}
 use Rattle.dialect.specs.declared.Edition.{Edition}
 use Rattle.dialect.specs.declared.EditionRead.{EditionRead}
 use Rattle.table.specs.declared.Ruled.{Ruled}
 use Rattle.table.specs.declared.Ruled.the-variants.{By, Refused as Away}
 use Rattle.table.specs.declared.Refusal.{Refusal}
-use Rattle.table.specs.declared.Checked.the-variants as judgements
 use Rattle.table.proofs.Entering.{given-known}
 use Rattle.table.proofs.Ruling.{rules-known, by-is, unruled-is}
-use Rattle.table.proofs.Checking.{Clean, accepted-clean}
+use Rattle.table.proofs.Checking.{accepted-clean}
 use Rattle.table.proofs.Theorems.{clean-accepted}
 use Rattle.validate.specs.Job.{passErrors, errorsOf}
 use Rattle.figures.specs.Adding.{added}
-use Rattle.figures.specs.Counting.{nodesOf, numbersOf, errorCounts, tableFigures}
+use Rattle.figures.specs.Counting.{numbersOf, tableFigures}
 use Rattle.figures.specs.Walking.{only, plus, nodesFigures, errorFigures, filesOf, figuresIn}
 use Rattle.figures.specs.Reporting.{counted}
 use Rattle.figures.proofs.Additions.{added-twice, added-zeros}

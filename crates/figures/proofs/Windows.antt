@@ -4,15 +4,14 @@
 -- terms of code, a refusal of `tablefile::unpack` is the step's (`window-refused`), and else 1 to 5 of the unpacked
 -- table decide (`window-answer`, `window-figures`). Assumes nothing.
 use mathlib.Core.Path.{_≡_, refl, sym, ap, _∙_}
-use mathlib.Core.List.{List, []}
-use Prim.Native.Nat.{ℕ, _+_, _*_, _-_, _^_, _<_, _≤_, min}
+use mathlib.Core.List.{List}
+use Prim.Native.Nat.{ℕ, _+_, _*_, _-_, _^_, _<_, _≤_}
 use native.Mathlib.Omega.{arith}
 use lib.ListN.{length, take, drop, replicate, length-take}
 use lib.Seq.{take-take}
-use lib.Dec.{leb}
 use borrow.Author.Tests.{le-leb}
 use Rattle.fields.proofs.Basics.{drop-take}
-use Rattle.table.specs.Answer.{Answer, accepted, refused, andThen, numberOf, refusal, checked}
+use Rattle.table.specs.Answer.{Answer, andThen, numberOf, refusal, checked}
 use Rattle.table.specs.Check.{rulesCheck}
 use Rattle.dialect.specs.Editions.{statedBytes, editionHeld}
 use Rattle.dialect.specs.declared.Stated.{Stated}

@@ -1,6 +1,6 @@
 -- A report over files one after another: one step over the file at the front, and the report of an input. These are
 -- definitions.
-use mathlib.Core.List.{List, [], _∷_}
+use mathlib.Core.List.{List}
 use Prim.Native.Nat.{ℕ, zero, suc, _+_}
 use lib.ListN.{length, getD, drop, replicate}
 use lib.Dec.{eqb, ltb}
@@ -12,7 +12,6 @@ use Rattle.figures.specs.Counting.{figuresOf}
 use Rattle.figures.specs.Adding.{added}
 use Rattle.figures.specs.declared.Stepped.{Stepped}
 use Rattle.figures.specs.declared.Stepped.the-variants.{Taken, Refused}
-use Rattle.figures.specs.declared.Ending.{Ending}
 use Rattle.figures.specs.declared.Ending.the-variants.{Whole, Refused as RefusedAt}
 use Rattle.figures.specs.declared.Reported.{Reported}
 

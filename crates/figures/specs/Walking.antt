@@ -1,11 +1,10 @@
 -- What inner functions of the crate add to the counters, and what they may suppose. These are definitions that only
 -- contracts of private functions use.
 use mathlib.Core.Path.{_≡_}
-use mathlib.Core.Bool.{Bool}
 use mathlib.Core.List.{List, [], _∷_, _++_}
 use Prim.Native.Nat.{ℕ, _+_, _-_, _≤_, _<_}
 use lib.ListN.{replicate}
-use Rattle.table.specs.Answer.{Answer, accepted, refused, passes, isRefused}
+use Rattle.table.specs.Answer.{Answer, accepted, passes, isRefused}
 use Rattle.table.specs.Check.{checkOf}
 use Rattle.table.specs.declared.Ruled.{Ruled}
 use Rattle.table.specs.declared.Ruled.the-variants.{By, Refused as Away}

@@ -6,11 +6,8 @@ use mathlib.Core.List.{List, [], _∷_}
 use Prim.Native.Nat.{ℕ, _*_, _<_, _≤_}
 use native.Mathlib.Omega.{arith}
 use lib.ListN.{length, getD, set, length-set}
-use lib.Seq.{sets}
 use lib.Dec.{eqb, leb}
 use borrow.Author.Tests.{le-leb, lt-leb, eq-eqb, ne-eqb}
-use Rattle.fields.specs.Choice.{if'}
-use Rattle.fields.specs.Over.{over}
 use Rattle.fields.proofs.Over.{over-none, over-sets}
 use Rattle.forest.specs.Forest.{nodeOf, kidsOf, forest}
 use Rattle.forest.specs.Names.{nameOf}

@@ -9,9 +9,9 @@
 -- parameters are distinct (reached's `one-name`). Assumes nothing.
 use mathlib.Core.Path.{_≡_, refl, sym, ap, _∙_}
 use mathlib.Core.Bool.{Bool, true, false}
-use mathlib.Core.Logic.{_⊎_, inl, inr, _↔_}
+use mathlib.Core.Logic.{_↔_}
 use mathlib.Core.List.{List, [], _∷_, _++_}
-use Prim.Native.Nat.{ℕ, zero, suc, _+_, _*_, _<_}
+use Prim.Native.Nat.{ℕ, zero, suc, _+_, _*_}
 use native.Mathlib.Omega.{arith}
 use lib.ListN.{length, getD, take, drop}
 use lib.Dec.{eqb}
@@ -27,21 +27,18 @@ use Rattle.table.proofs.Answers.{never-passed}
 use Rattle.deflist.specs.Written.{Name}
 use Rattle.deflist.proofs.Limited.{limited-short}
 use Rattle.parameters.specs.Params.{listOf}
-use Rattle.arguments.specs.Written.{Argument, positional, nodeIn}
 use Rattle.bind.specs.FlatList.{FlatParam}
 use Rattle.bind.specs.Job.{argumentsAt, bindOf, listsBound}
 use Rattle.bind.specs.Binding.{binding}
 use Rattle.reached.specs.Said.{IsAt, Ordinary, flatsAt, parameterWord, argumentWord}
-use Rattle.reached.proofs.Params.{within, same-at, one-name}
+use Rattle.reached.proofs.Params.{within, one-name}
 use Rattle.reached.proofs.Passed as passing
 use Rattle.reached.proofs.Passed.{Passed}
-use Rattle.reached.proofs.Reached.{at-most-one, halves-agree, positional-fills}
+use Rattle.reached.proofs.Reached.{at-most-one, halves-agree}
 use Rattle.namesakes.specs.Namesake.{Label, nameless, label, Labelled, ordinaryFrom, namesakeOf, Report, rows}
 use Rattle.namesakes.specs.Job.{labelledAt, entryOf, boundAt, boundOf, reportsAt, counted, namesakesOf, listAfter}
-use Rattle.namesakes.specs.Job.{written}
 use Rattle.namesakes.specs.Said.{nodeOf, Reported, Exchanged}
 use Rattle.namesakes.proofs.Lists.{bare}
-use Rattle.namesakes.proofs.Loops.{rows-long}
 use Rattle.namesakes.proofs.Whole.{labelled-many}
 use Rattle.namesakes.proofs.Found.{Sake, ordinary-found, ordinary-missed, reported, none-if, rowOf, fourOf, row-at}
 

@@ -2,7 +2,7 @@
 -- records at the same place (`params-paired`). `unpack` looks at kinds and names alone, so it takes the same steps on
 -- both; only the node of an earlier parameter of the same name may differ, and that is not read. The induction is on
 -- the list of pairs (`run-same`). Cite `list-same` and `marks-same`. Assumes nothing.
-use mathlib.Core.Path.{_≡_, refl, sym, ap, _∙_}
+use mathlib.Core.Path.{_≡_, refl, ap}
 use mathlib.Core.Bool.{Bool, true, false, not}
 use mathlib.Core.List.{List, [], _∷_, _++_}
 use Prim.Native.Nat.{ℕ, zero, suc, _+_}
@@ -19,8 +19,8 @@ use Rattle.soundness.specs.Kinds.{parameter, classOf}
 use Rattle.table.specs.Numbers.{slashFirst, starLast, noNormalAfterStar, tooManyParameters}
 use Rattle.deflist.specs.Written.{Name, Param, nodeIn, kindIn, kindAt, param, paramOf, paramsIn}
 use Rattle.deflist.specs.Unpack.{writtenAt, hasName, firstSame, repeats, rule, firstly, Step, on, stop, again, broken}
-use Rattle.deflist.specs.Unpack.{unlessBroken, keep, step, Outcome, accepted, refused, repeated, internal, normalNext}
-use Rattle.deflist.specs.Unpack.{fromStar, finish, after, run, isSlash, slashFrom, firstSlash, positionalOnly, start}
+use Rattle.deflist.specs.Unpack.{unlessBroken, keep, step, Outcome, accepted, normalNext}
+use Rattle.deflist.specs.Unpack.{fromStar, finish, after, run, isSlash, slashFrom}
 use Rattle.deflist.specs.Unpack.{unpack}
 use Rattle.deflist.specs.Limited.{mostParameters, limited}
 use Rattle.deflist.specs.Told.{told}
@@ -33,7 +33,7 @@ use Rattle.deflist.specs.declared.Unpacking.{Unpacking}
 use Rattle.deflist.specs.declared.WrittenPlace.{WrittenPlace}
 use Rattle.deflist.specs.declared.WrittenPlace.the-variants.{AtWritten, NoWritten}
 use Rattle.errors.specs.Errors.{errAt, unless}
-use Rattle.validate.specs.Params.{isMark, notPermitted, permits, markError, everyMark, marks, unpackError}
+use Rattle.validate.specs.Params.{isMark, notPermitted, permits, everyMark, marks, unpackError}
 use Rattle.validate.specs.declared.Mark.{Mark}
 use Rattle.parts.specs.Parts.{SameRecord, SameTrees, read}
 use Rattle.parts.proofs.Read.{Reads, reads-both, reads-if, reads-at}

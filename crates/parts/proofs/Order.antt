@@ -1,6 +1,6 @@
 -- Lists up to order, by counting: a list joined of two has as many that pass a test as both together, so the order of
 -- what is joined does not matter. No induction but on a list. Assumes nothing.
-use mathlib.Core.Path.{_≡_, refl, ap, _∙_}
+use mathlib.Core.Path.{_≡_}
 use mathlib.Core.Bool.{Bool}
 use mathlib.Core.List.{List, [], _∷_, _++_}
 use Prim.Native.Nat.{ℕ, _+_}

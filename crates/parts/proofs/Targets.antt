@@ -3,14 +3,13 @@
 -- at once (`assign-same`). Cite `counted-same` and `assignment-same`. Assumes nothing.
 use mathlib.Core.Path.{_≡_, refl, ap}
 use mathlib.Core.Bool.{_&&_}
-use mathlib.Core.List.{List, [], _∷_}
+use mathlib.Core.List.{List}
 use Prim.Native.Nat.{ℕ}
 use lib.Dec.{eqb}
 use Rattle.forest.specs.Forest.{Node, Tree, node, Forest, none, _then_}
 use Rattle.soundness.specs.KindNumbers.{kindAssignModify}
 use Rattle.table.specs.Numbers.{invalidLhs, invalidModifyLhs, typeOnAugmented, typeOnTuple}
-use Rattle.table.specs.Answer.{accepted}
-use Rattle.targets.specs.Targets.{isLeaf, isGroup, «check_assign», checkEach, leaves, counted, modifyCheck, typeCheck}
+use Rattle.targets.specs.Targets.{isLeaf, isGroup, «check_assign», checkEach, counted, modifyCheck, typeCheck}
 use Rattle.targets.specs.Targets.{«check_assignment»}
 use Rattle.parts.specs.Parts.{SameRecord, SameTree, SameTrees}
 use Rattle.parts.proofs.Read.{Answers, answers-then, answers-if, answers-at}

@@ -11,12 +11,12 @@ use lib.ListN.{take}
 use Rattle.fields.specs.Choice.{if'}
 use Rattle.dialect.specs.declared.Dialect.{Dialect}
 use Rattle.dialect.specs.declared.Edition.{Edition}
-use Rattle.forest.specs.Forest.{Node, Tree, node, Forest, none, _then_, forest}
+use Rattle.forest.specs.Forest.{Node, node, Forest, none, _then_, forest}
 use Rattle.soundness.specs.KindNumbers.{kindStatements}
 use Rattle.soundness.specs.Kinds.{kindIn, kindOf}
 use Rattle.errors.specs.declared.Err.{Err}
 use Rattle.errors.specs.declared.Listing.the-variants.{Own}
-use Rattle.errors.specs.Errors.{withoutLists, kept}
+use Rattle.errors.specs.Errors.{withoutLists}
 use Rattle.errors.proofs.Storing.{kept-append}
 use Rattle.validate.specs.Module.{atTop, armOf, f, «visit_stmt», exprErrors, expr, «visit_expr», «validate_module»}
 use Rattle.validate.specs.Job.{passErrors}

@@ -3,8 +3,8 @@
 -- The induction is on both forests at once, over statements and over expressions (`tree-same`). Cite `module-same`.
 -- Assumes nothing.
 use mathlib.Core.Path.{_≡_, refl, ap}
-use mathlib.Core.Bool.{Bool, true, false, _&&_, not}
-use mathlib.Core.List.{List, [], _∷_, _++_}
+use mathlib.Core.Bool.{Bool}
+use mathlib.Core.List.{List}
 use Prim.Native.Nat.{ℕ}
 use lib.Dec.{eqb}
 use Rattle.dialect.specs.declared.Dialect.{Dialect}
@@ -16,8 +16,7 @@ use Rattle.table.specs.Numbers.{defNotPermitted, loadNotAtTop, loadNotPermitted
 use Rattle.table.specs.Numbers.{lambdaNotPermitted}
 use Rattle.errors.specs.declared.Err.{Err}
 use Rattle.validate.specs.Params.{«validate_params», withParams}
-use Rattle.validate.specs.Module.{atTop, inDef, armOf, onArm, f, «visit_stmt», exprErrors, expr, «visit_expr»}
-use Rattle.validate.specs.Module.{«validate_module»}
+use Rattle.validate.specs.Module.{inDef, armOf, onArm, f, «visit_stmt», exprErrors, expr, «visit_expr»}
 use Rattle.validate.specs.declared.Mark.the-variants.{Star, Slash}
 use Rattle.validate.specs.declared.Standing.{Standing}
 use Rattle.validate.specs.declared.Arm.{Arm}

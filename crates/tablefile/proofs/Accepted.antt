@@ -20,7 +20,7 @@ use Rattle.dialect.specs.declared.EditionRead.the-variants.{Known, Unknown}
 use Rattle.dialect.specs.declared.Stated.{Stated}
 use Rattle.dialect.specs.declared.Stated.the-variants.{Number, Nothing}
 use Rattle.dialect.proofs.Laws.{other-length}
-use Rattle.dialect.proofs.Editions.{editionNumber, edition-back, held-none, held-alone, held-number}
+use Rattle.dialect.proofs.Editions.{editionNumber, edition-back, held-alone, held-number}
 use Rattle.table.specs.Numbers.{blockCheck, bytesLeftOver}
 use Rattle.table.specs.Answer.{Answer, accepted, refused, andThen}
 use Rattle.table.proofs.Answers.{refusal-injective, never-accepted}
@@ -30,7 +30,7 @@ use Rattle.table.proofs.Ruling.{rules-known, rules-passed}
 use Rattle.blocks.specs.Block.{demand}
 use Rattle.fields.proofs.Spelling.{Bytes}
 use Rattle.tablefile.specs.File.{Content, fileOf}
-use Rattle.tablefile.specs.Reading.{headerAt, contentAt, editionRead, numberHeld, frontCheck, soundCheck}
+use Rattle.tablefile.specs.Reading.{headerAt, contentAt, editionRead, frontCheck, soundCheck}
 use Rattle.tablefile.specs.Reading.{readCheck}
 use Rattle.tablefile.specs.Loading.{verdict}
 use Rattle.tablefile.specs.declared.Verdict.{Verdict}
