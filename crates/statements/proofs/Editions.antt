@@ -94,18 +94,19 @@ pub same-audit : (t names bytes : List ℕ)
     → (allErrors t names bytes 2 ≡ allErrors t names bytes 1)
     × (auditOf t names bytes 2 ≡ auditOf t names bytes 1)
     × ((words : List ℕ) → auditAfter t names bytes 2 words ≡ auditAfter t names bytes 1 words)
-same-audit t names bytes free = (
-  theorem-audit.list-same t names bytes (no-bans _ free),
-  theorem-audit.job-same t names bytes (no-bans _ free),
-  theorem-audit.words-same t names bytes (no-bans _ free),
-)
+same-audit t names bytes free =
+    let none = no-bans (allErrors t names bytes 1) free in (
+      theorem-audit.list-same t names bytes none,
+      theorem-audit.job-same t names bytes none,
+      theorem-audit.words-same t names bytes none,
+    )
 
 -- the same of bytes that nobody has checked
 -- In words: of any bytes, in any dialect, a list of the audit's pass by edition 1 without 44 is that by edition 2.
 pub same-pass : (d : Dialect) (names t : List ℕ)
     → Each (λ (e : Err). e .number ≡ dotTypeBan → ⊥) (auditErrors d One names t)
     → auditErrors d Two names t ≡ auditErrors d One names t
-same-pass d names t free = theorem-audit.audit-same d names t (no-bans _ free)
+same-pass d names t free = theorem-audit.audit-same d names t (no-bans (auditErrors d One names t) free)
 
 -- an instance: `t: t.type = 1`, whose type is node 2
 -- In words: by edition 1 the type job answers 44 at node 3, the `t` before the dot, from 3 to 4 in source file 1.
