@@ -26,7 +26,7 @@ use Rattle.forest.specs.Forest.{nodeOf, firsts, count}
 use Rattle.forest.proofs.Stretch.{record-or-none}
 use Rattle.soundness.specs.KindNumbers.{kindStatements}
 use Rattle.table.specs.Answer.{Answer, accepted, refused, passes, andThen}
-use Rattle.table.specs.Check.{checkOf, handing, givenOf, inGiven}
+use Rattle.table.specs.Check.{checkOf, handing, givenOf, inGiven, givenCheck}
 use Rattle.table.proofs.Answers.{passes-is, passed-both}
 use Rattle.table.proofs.Checking.{accepted-clean}
 use Rattle.table.proofs.Entering.{given-known}
@@ -216,10 +216,11 @@ module _ (bs : List ℕ) (head : headGood bs ≡ true) where
   sound-is : passes (soundCheck (contentAt bs)) ≡ passes (checkOf (contentAt bs .table) (contentAt bs .names))
   unfolding givenOf
   sound-is =
+      let c : Content = contentAt bs in
       let edition = head-says bs head .edition in
-      ap passes (rw (edition .1) (rules-given (contentAt bs .table) (contentAt bs .names) (contentAt bs .dialect)
-      (edition .0)))
-      ∙ rw (head-says bs head .dialect .1) (go (checkOf (contentAt bs .table) (contentAt bs .names)))
+      let given : soundCheck c ≡ givenCheck (c .table) (c .names) (c .dialect) =
+      rw (edition .1) (rules-given (c .table) (c .names) (c .dialect) (edition .0)) in
+      ap passes given ∙ rw (head-says bs head .dialect .1) (go (checkOf (c .table) (c .names)))
     where
       go : (a : Answer) → passes (inGiven (handing a (Valid (head-says bs head .dialect .0))) (λ _. accepted []))
           ≡ passes a

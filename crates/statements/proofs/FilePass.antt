@@ -46,6 +46,18 @@ pub list-has-room : (file : List ℕ)
     * length (errorsOf (contentAt file .table) (contentAt file .names) (contentAt file .dialect))) xs
 list-has-room = theorem.list-has-room
 
+-- "a file with edition 2 has the listing it had" (W-212)
+-- In words: two accepted files with the same table, names and dialect have the same answer and leave the same words,
+-- whatever their editions.
+pub edition-ignored : (file other xs : List ℕ)
+    → readCheck file ≡ accepted []
+    → readCheck other ≡ accepted []
+    → contentAt file .table ≡ contentAt other .table
+    → contentAt file .names ≡ contentAt other .names
+    → contentAt file .dialect ≡ contentAt other .dialect
+    → (answerOf file ≡ answerOf other) × (wordsAfter file xs ≡ wordsAfter other xs)
+edition-ignored = theorem.edition-ignored
+
 -- of a file of any length `enoughBytes` bytes are enough
 -- In words: what is answered to so much of a file is what is answered to the file, and the words are the same.
 pub read-enough : (file xs : List ℕ)

@@ -90,9 +90,9 @@ nothing-can-be-kept bs buffer r after a b =
       λ e. (t .1 e .head, (t .1 e .blocks, λ j o x y z. t .1 e .none j o (x, y, z))),
     )
 
--- "Names and dialect are kept whole": the output is accepted by the reader
+-- "Names and dialect are kept whole", and the edition (W-212): the output is accepted by the reader
 -- In words: the reader's answer on the bytes that an accepted rescue wrote is accepted, and holds the table that is
--- kept, and the names and the dialect of the header.
+-- kept, and the names, the dialect and the edition of the header.
 pub read-back : (bs buffer : List ℕ) (r : Rescued) (after : List ℕ)
     → rescued r ≡ rescueOf bs (length buffer)
     → after ≡ fileAfter bs buffer

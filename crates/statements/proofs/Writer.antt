@@ -1,17 +1,19 @@
 -- W-201: WRITING THE TABLE FILE
 --
 -- Theorems of crate `writer` over what `writer::write` and the reader promise: `Write` and `Read`, each two equations,
--- stand as arrows. Each is proved by citing the theorem. Assumes nothing.
+-- stand as arrows; c is what is to be written, and the number of an edition or nothing is a part of it (W-212). Each is
+-- proved by citing the theorem. Assumes nothing.
 use mathlib.Core.Path.{_≡_}
 use mathlib.Core.List.{List, [], _++_}
 use Prim.Native.Nat.{ℕ, suc, _*_, _<_, _≤_}
 use lib.ListN.{length, getD, take, drop}
+use Rattle.dialect.specs.declared.Stated.{Stated}
 use Rattle.table.specs.Numbers.{shortBuffer}
 use Rattle.table.specs.Answer.{accepted}
 use Rattle.table.specs.Check.{mostBytes, mostNames}
 use Rattle.table.specs.declared.Refusal.{Refusal}
 use Rattle.table.specs.declared.Refusal.the-variants.{Bare}
-use Rattle.tablefile.specs.File.{mostBlocks}
+use Rattle.tablefile.specs.File.{Content, mostBlocks}
 use Rattle.tablefile.specs.Reading.{headerAt, contentAt, soundCheck, readCheck}
 use Rattle.tablefile.specs.Lending.{intoCheck, handed}
 use Rattle.tablefile.specs.Loading.{verdict, loadedOf, held}
@@ -24,67 +26,69 @@ use Rattle.writer.proofs.RoundTrips as theorem
 use Rattle.writer.proofs.Enough as theorem-enough
 
 -- "Its output reads back as the same table, names and dialect."
--- In words: the reader's answer on the bytes that an accepted write has written holds the same table, names and
--- dialect.
-pub same-content : (t names ds buffer : List ℕ) (r : Written) (after : List ℕ)
-    → written r ≡ writeOf t names ds (length buffer)
-    → after ≡ fileAfter t names ds buffer
+-- In words: the reader's answer on the bytes that an accepted write has written holds the same table, names, dialect
+-- and edition.
+pub same-content : (c : Content) (buffer : List ℕ) (r : Written) (after : List ℕ)
+    → written r ≡ writeOf c (length buffer)
+    → after ≡ fileAfter c buffer
     → {n : ℕ}
     → r ≡ Accepted n
-    → ((i : ℕ) → getD t i 0 < 256)
-    → ((i : ℕ) → getD names i 0 < 256)
-    → ((i : ℕ) → getD ds i 0 < 256)
+    → ((i : ℕ) → getD (c .table) i 0 < 256)
+    → ((i : ℕ) → getD (c .names) i 0 < 256)
+    → ((i : ℕ) → getD (c .dialect) i 0 < 256)
     → (s : Loaded)
     → verdict (s .verdict) ≡ readCheck (take n after)
     → s ≡ loadedOf (s .verdict) (contentAt (take n after)) (headerAt (take n after) .taken)
-    → held s ≡ holding t names ds
-same-content t names ds buffer r after a b good x y z s v l =
-    theorem.same-content t names ds buffer r after (a, b) good x y z s (v, l)
+    → held s ≡ c
+same-content c buffer r after a b good x y z s v l =
+    theorem.same-content c buffer r after (a, b) good x y z s (v, l)
 
 -- "Its output reads back": the whole answer
--- In words: that answer is the accepted one, with this table, these names, this dialect and the number of bytes.
-pub reads-back : (t names ds buffer : List ℕ) (r : Written) (after : List ℕ)
-    → written r ≡ writeOf t names ds (length buffer)
-    → after ≡ fileAfter t names ds buffer
+-- In words: that answer is the accepted one, with this table, these names, this dialect, this edition and the number of
+-- bytes.
+pub reads-back : (c : Content) (buffer : List ℕ) (r : Written) (after : List ℕ)
+    → written r ≡ writeOf c (length buffer)
+    → after ≡ fileAfter c buffer
     → {n : ℕ}
     → r ≡ Accepted n
-    → ((i : ℕ) → getD t i 0 < 256)
-    → ((i : ℕ) → getD names i 0 < 256)
-    → ((i : ℕ) → getD ds i 0 < 256)
+    → ((i : ℕ) → getD (c .table) i 0 < 256)
+    → ((i : ℕ) → getD (c .names) i 0 < 256)
+    → ((i : ℕ) → getD (c .dialect) i 0 < 256)
     → (s : Loaded)
     → verdict (s .verdict) ≡ readCheck (take n after)
     → s ≡ loadedOf (s .verdict) (contentAt (take n after)) (headerAt (take n after) .taken)
-    → s ≡ loadedOf verdicts.Accepted (holding t names ds) n
-reads-back t names ds buffer r after a b good x y z s v l =
-    theorem.reads-back t names ds buffer r after (a, b) good x y z s (v, l)
+    → s ≡ loadedOf verdicts.Accepted c n
+reads-back c buffer r after a b good x y z s v l =
+    theorem.reads-back c buffer r after (a, b) good x y z s (v, l)
 
 -- so the reader does not refuse it
 -- In words: the reader accepts the bytes that an accepted write has written.
-pub not-refused : (t names ds buffer : List ℕ) (r : Written) (after : List ℕ)
-    → written r ≡ writeOf t names ds (length buffer)
-    → after ≡ fileAfter t names ds buffer
+pub not-refused : (c : Content) (buffer : List ℕ) (r : Written) (after : List ℕ)
+    → written r ≡ writeOf c (length buffer)
+    → after ≡ fileAfter c buffer
     → {n : ℕ}
     → r ≡ Accepted n
-    → ((i : ℕ) → getD t i 0 < 256)
-    → ((i : ℕ) → getD names i 0 < 256)
-    → ((i : ℕ) → getD ds i 0 < 256)
+    → ((i : ℕ) → getD (c .table) i 0 < 256)
+    → ((i : ℕ) → getD (c .names) i 0 < 256)
+    → ((i : ℕ) → getD (c .dialect) i 0 < 256)
     → (s : Loaded)
     → verdict (s .verdict) ≡ readCheck (take n after)
     → s ≡ loadedOf (s .verdict) (contentAt (take n after)) (headerAt (take n after) .taken)
     → s .verdict ≡ verdicts.Accepted
-not-refused t names ds buffer r after a b good x y z s v l =
-    theorem.not-refused t names ds buffer r after (a, b) good x y z s (v, l)
+not-refused c buffer r after a b good x y z s v l =
+    theorem.not-refused c buffer r after (a, b) good x y z s (v, l)
 
 -- "each file that the reader accepts is written again to the same bytes"
--- In words: written from the reader's answer into a buffer that is long enough, an accepted file gives its own bytes.
+-- In words: written from the reader's answer into a buffer that is long enough, an accepted file gives its own bytes,
+-- whether it uses 4, 13 or 14 bytes of block 0.
 pub written-again : (file : List ℕ) (s : Loaded)
     → ((i : ℕ) → getD file i 0 < 256)
     → verdict (s .verdict) ≡ readCheck file
     → s ≡ loadedOf (s .verdict) (contentAt file) (headerAt file .taken)
     → s .verdict ≡ verdicts.Accepted
     → (buffer : List ℕ) (r : Written) (after : List ℕ)
-    → written r ≡ writeOf (held s .table) (held s .names) (held s .dialect) (length buffer)
-    → after ≡ fileAfter (held s .table) (held s .names) (held s .dialect) buffer
+    → written r ≡ writeOf (held s) (length buffer)
+    → after ≡ fileAfter (held s) buffer
     → length file ≤ length buffer
     → (r ≡ Accepted (length file)) × (after ≡ file ++ drop (length file) buffer)
 written-again file s small v l good buffer r after a b =
@@ -92,108 +96,109 @@ written-again file s small v l good buffer r after a b =
 
 -- "then 7 exactly if the blocks don't fit"
 -- In words: where 1 to 5 are passed and the buffer is shorter than the blocks, the answer is 7.
-pub short-is-7 : (t names ds buffer : List ℕ) (r : Written) (after : List ℕ)
-    → written r ≡ writeOf t names ds (length buffer)
-    → after ≡ fileAfter t names ds buffer
-    → soundCheck (holding t names ds) ≡ accepted []
-    → length buffer < bytesFor (length t) (length names)
+pub short-is-7 : (c : Content) (buffer : List ℕ) (r : Written) (after : List ℕ)
+    → written r ≡ writeOf c (length buffer)
+    → after ≡ fileAfter c buffer
+    → soundCheck c ≡ accepted []
+    → length buffer < bytesFor (length (c .table)) (length (c .names))
     → r ≡ Refused (Bare shortBuffer)
-short-is-7 t names ds buffer r after a b = theorem.short-is-7 t names ds buffer r after (a, b)
+short-is-7 c buffer r after a b = theorem.short-is-7 c buffer r after (a, b)
 
 -- "exactly": else it is accepted
 -- In words: where 1 to 5 are passed and the blocks fit, the answer is their number of bytes.
-pub fits-is-accepted : (t names ds buffer : List ℕ) (r : Written) (after : List ℕ)
-    → written r ≡ writeOf t names ds (length buffer)
-    → after ≡ fileAfter t names ds buffer
-    → soundCheck (holding t names ds) ≡ accepted []
-    → bytesFor (length t) (length names) ≤ length buffer
-    → r ≡ Accepted (bytesFor (length t) (length names))
-fits-is-accepted t names ds buffer r after a b = theorem.fits-is-accepted t names ds buffer r after (a, b)
+pub fits-is-accepted : (c : Content) (buffer : List ℕ) (r : Written) (after : List ℕ)
+    → written r ≡ writeOf c (length buffer)
+    → after ≡ fileAfter c buffer
+    → soundCheck c ≡ accepted []
+    → bytesFor (length (c .table)) (length (c .names)) ≤ length buffer
+    → r ≡ Accepted (bytesFor (length (c .table)) (length (c .names)))
+fits-is-accepted c buffer r after a b = theorem.fits-is-accepted c buffer r after (a, b)
 
 -- 59,904 bytes are never too few
 -- In words: the blocks of what passes 1 to 5 take at most 117 times 512 bytes.
-pub never-too-short : (t names ds buffer : List ℕ) (r : Written) (after : List ℕ)
-    → written r ≡ writeOf t names ds (length buffer)
-    → after ≡ fileAfter t names ds buffer
-    → soundCheck (holding t names ds) ≡ accepted []
-    → bytesFor (length t) (length names) ≤ 512 * mostBlocks
-never-too-short t names ds buffer r after a b = theorem.never-too-short t names ds buffer r after (a, b)
+pub never-too-short : (c : Content) (buffer : List ℕ) (r : Written) (after : List ℕ)
+    → written r ≡ writeOf c (length buffer)
+    → after ≡ fileAfter c buffer
+    → soundCheck c ≡ accepted []
+    → bytesFor (length (c .table)) (length (c .names)) ≤ 512 * mostBlocks
+never-too-short c buffer r after a b = theorem.never-too-short c buffer r after (a, b)
 
 -- "the buffer then stays"
 -- In words: where the writer refuses, the buffer at exit is the buffer at entry.
-pub refusal-keeps : (t names ds buffer : List ℕ) (r : Written) (after : List ℕ)
-    → written r ≡ writeOf t names ds (length buffer)
-    → after ≡ fileAfter t names ds buffer
+pub refusal-keeps : (c : Content) (buffer : List ℕ) (r : Written) (after : List ℕ)
+    → written r ≡ writeOf c (length buffer)
+    → after ≡ fileAfter c buffer
     → {why : Refusal}
     → r ≡ Refused why
     → after ≡ buffer
-refusal-keeps t names ds buffer r after a b = theorem.refusal-keeps t names ds buffer r after (a, b)
+refusal-keeps c buffer r after a b = theorem.refusal-keeps c buffer r after (a, b)
 
 -- "bytes past the blocks always"
 -- In words: after an accepted write, the bytes past the blocks are as they were.
-pub past-stays : (t names ds buffer : List ℕ) (r : Written) (after : List ℕ)
-    → written r ≡ writeOf t names ds (length buffer)
-    → after ≡ fileAfter t names ds buffer
+pub past-stays : (c : Content) (buffer : List ℕ) (r : Written) (after : List ℕ)
+    → written r ≡ writeOf c (length buffer)
+    → after ≡ fileAfter c buffer
     → {n : ℕ}
     → r ≡ Accepted n
     → drop n after ≡ drop n buffer
-past-stays t names ds buffer r after a b = theorem.past-stays t names ds buffer r after (a, b)
+past-stays c buffer r after a b = theorem.past-stays c buffer r after (a, b)
 
 -- `read_into` hands over what was written
 -- In words: the bytes that were written are accepted by `read_into`, into buffers that table and names fit.
-pub into-accepted : (t names ds buffer : List ℕ) (r : Written) (after : List ℕ)
-    → written r ≡ writeOf t names ds (length buffer)
-    → after ≡ fileAfter t names ds buffer
+pub into-accepted : (c : Content) (buffer : List ℕ) (r : Written) (after : List ℕ)
+    → written r ≡ writeOf c (length buffer)
+    → after ≡ fileAfter c buffer
     → {n : ℕ}
     → r ≡ Accepted n
-    → ((i : ℕ) → getD t i 0 < 256)
-    → ((i : ℕ) → getD names i 0 < 256)
-    → ((i : ℕ) → getD ds i 0 < 256)
+    → ((i : ℕ) → getD (c .table) i 0 < 256)
+    → ((i : ℕ) → getD (c .names) i 0 < 256)
+    → ((i : ℕ) → getD (c .dialect) i 0 < 256)
     → (room-t room-n : List ℕ)
-    → length t ≤ length room-t
-    → length names ≤ length room-n
+    → length (c .table) ≤ length room-t
+    → length (c .names) ≤ length room-n
     → intoCheck (take n after) (length room-t) (length room-n) ≡ accepted []
-into-accepted t names ds buffer r after a b = theorem.into-accepted t names ds buffer r after (a, b)
+into-accepted c buffer r after a b = theorem.into-accepted c buffer r after (a, b)
 
 -- the table, by `read_into`
 -- In words: the table's buffer then holds the table, and behind it what stood there.
-pub hands-back-table : (t names ds buffer : List ℕ) (r : Written) (after : List ℕ)
-    → written r ≡ writeOf t names ds (length buffer)
-    → after ≡ fileAfter t names ds buffer
+pub hands-back-table : (c : Content) (buffer : List ℕ) (r : Written) (after : List ℕ)
+    → written r ≡ writeOf c (length buffer)
+    → after ≡ fileAfter c buffer
     → {n : ℕ}
     → r ≡ Accepted n
-    → ((i : ℕ) → getD t i 0 < 256)
-    → ((i : ℕ) → getD names i 0 < 256)
-    → ((i : ℕ) → getD ds i 0 < 256)
+    → ((i : ℕ) → getD (c .table) i 0 < 256)
+    → ((i : ℕ) → getD (c .names) i 0 < 256)
+    → ((i : ℕ) → getD (c .dialect) i 0 < 256)
     → (room-t room-n : List ℕ)
-    → length t ≤ length room-t
-    → length names ≤ length room-n
+    → length (c .table) ≤ length room-t
+    → length (c .names) ≤ length room-n
     → handed (intoCheck (take n after) (length room-t) (length room-n)) (contentAt (take n after) .table) room-t
-    ≡ t ++ drop (length t) room-t
-hands-back-table t names ds buffer r after a b = theorem.hands-back-table t names ds buffer r after (a, b)
+    ≡ c .table ++ drop (length (c .table)) room-t
+hands-back-table c buffer r after a b = theorem.hands-back-table c buffer r after (a, b)
 
 -- the names, by `read_into`
 -- In words: the names' buffer then holds the names, and behind them what stood there.
-pub hands-back-names : (t names ds buffer : List ℕ) (r : Written) (after : List ℕ)
-    → written r ≡ writeOf t names ds (length buffer)
-    → after ≡ fileAfter t names ds buffer
+pub hands-back-names : (c : Content) (buffer : List ℕ) (r : Written) (after : List ℕ)
+    → written r ≡ writeOf c (length buffer)
+    → after ≡ fileAfter c buffer
     → {n : ℕ}
     → r ≡ Accepted n
-    → ((i : ℕ) → getD t i 0 < 256)
-    → ((i : ℕ) → getD names i 0 < 256)
-    → ((i : ℕ) → getD ds i 0 < 256)
+    → ((i : ℕ) → getD (c .table) i 0 < 256)
+    → ((i : ℕ) → getD (c .names) i 0 < 256)
+    → ((i : ℕ) → getD (c .dialect) i 0 < 256)
     → (room-t room-n : List ℕ)
-    → length t ≤ length room-t
-    → length names ≤ length room-n
+    → length (c .table) ≤ length room-t
+    → length (c .names) ≤ length room-n
     → handed (intoCheck (take n after) (length room-t) (length room-n)) (contentAt (take n after) .names) room-n
-    ≡ names ++ drop (length names) room-n
-hands-back-names t names ds buffer r after a b = theorem.hands-back-names t names ds buffer r after (a, b)
+    ≡ c .names ++ drop (length (c .names)) room-n
+hands-back-names c buffer r after a b = theorem.hands-back-names c buffer r after (a, b)
 
 -- of a table 50,401 bytes are enough, of names 8,065 and of a dialect 10, however long they are
 -- In words: what is answered to so much of them is what is answered to all, and the buffer at exit is the same.
-pub read-enough : (t names ds : List ℕ)
-    → ((room : ℕ) → writeOf (take (suc mostBytes) t) (take (suc mostNames) names) (take 10 ds) room
-    ≡ writeOf t names ds room)
-    × ((buffer : List ℕ) → fileAfter (take (suc mostBytes) t) (take (suc mostNames) names) (take 10 ds) buffer
-    ≡ fileAfter t names ds buffer)
-read-enough t names ds = let x = theorem-enough.read-enough t names ds in (x .answer, x .after)
+pub read-enough : (t names ds : List ℕ) (edition : Stated)
+    → ((room : ℕ) → writeOf (holding (take (suc mostBytes) t) (take (suc mostNames) names) (take 10 ds) edition) room
+    ≡ writeOf (holding t names ds edition) room)
+    × ((buffer : List ℕ)
+    → fileAfter (holding (take (suc mostBytes) t) (take (suc mostNames) names) (take 10 ds) edition) buffer
+    ≡ fileAfter (holding t names ds edition) buffer)
+read-enough t names ds edition = let x = theorem-enough.read-enough t names ds edition in (x .answer, x .after)

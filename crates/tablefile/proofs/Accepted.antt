@@ -20,7 +20,7 @@ use Rattle.dialect.specs.declared.EditionRead.the-variants.{Known, Unknown}
 use Rattle.dialect.specs.declared.Stated.{Stated}
 use Rattle.dialect.specs.declared.Stated.the-variants.{Number, Nothing}
 use Rattle.dialect.proofs.Laws.{other-length}
-use Rattle.dialect.proofs.Editions.{editionNumber, edition-back, held-none, held-alone, held-number}
+use Rattle.dialect.proofs.Editions.{editionNumber, edition-back, held-alone, held-number}
 use Rattle.table.specs.Numbers.{blockCheck, bytesLeftOver}
 use Rattle.table.specs.Answer.{Answer, accepted, refused, andThen}
 use Rattle.table.proofs.Answers.{refusal-injective, never-accepted}
@@ -30,13 +30,14 @@ use Rattle.table.proofs.Ruling.{rules-known, rules-passed}
 use Rattle.blocks.specs.Block.{demand}
 use Rattle.fields.proofs.Spelling.{Bytes}
 use Rattle.tablefile.specs.File.{Content, fileOf}
-use Rattle.tablefile.specs.Reading.{headerAt, contentAt, editionRead, numberHeld, frontCheck, soundCheck}
+use Rattle.tablefile.specs.Reading.{headerAt, contentAt, editionRead, frontCheck, soundCheck}
 use Rattle.tablefile.specs.Reading.{readCheck}
 use Rattle.tablefile.specs.Loading.{verdict}
 use Rattle.tablefile.specs.declared.Verdict.{Verdict}
 use Rattle.tablefile.specs.declared.Verdict.the-variants.{Accepted, Refused}
 use Rattle.tablefile.proofs.Fronts.{Fronted, demand-then, fronted-then, taken-there}
-use Rattle.tablefile.proofs.Files.{Headed, bare, inDialect, byEdition, Fits, front-is-file, front-changed, file-passes, file-holds, file-taken}
+use Rattle.tablefile.proofs.Files.{Headed, bare, inDialect, byEdition, Fits, front-is-file, front-changed}
+use Rattle.tablefile.proofs.Files.{file-passes, file-holds, file-taken}
 
 -- no two verdicts mean the same
 pub verdict-injective : (r s : Verdict) → verdict r ≡ verdict s → r ≡ s

@@ -6,7 +6,7 @@
 -- `into-table-done`, `into-names-done`). Assumes nothing.
 use mathlib.Core.Path.{_≡_, refl, sym, ap, _∙_}
 use mathlib.Core.Bool.{Bool, true, false, _&&_}
-use mathlib.Core.List.{List, [], _∷_, _++_}
+use mathlib.Core.List.{List, [], _++_}
 use Prim.Native.Nat.{ℕ, _+_, _*_, _-_, _^_, _<_, _≤_}
 use native.Mathlib.Omega.{arith}
 use lib.ListN.{length, getD, take, drop, replicate, length-append, length-take, length-drop, length-replicate}
@@ -27,7 +27,7 @@ use Rattle.blocks.specs.Run.{blocksFor, contentOf}
 use Rattle.blocks.specs.declared.Judged.{Judged}
 use Rattle.blocks.specs.declared.Judged.the-variants.{Passed}
 use Rattle.blocks.specs.declared.Judged.the-variants as judgements
-use Rattle.tablefile.specs.Reading.{dialectIn, editionIn, headerAt, statedIn, contentAt, blocksCheck}
+use Rattle.tablefile.specs.Reading.{dialectIn, editionIn, headerAt, contentAt, blocksCheck}
 use Rattle.tablefile.specs.Reading.{frontCheck, soundCheck, readCheck}
 use Rattle.tablefile.specs.Loading.{verdict}
 use Rattle.tablefile.specs.Lending.{fileCheck, intoCheck, handed, Holds}

@@ -4,12 +4,12 @@
 -- different contents differ, so that one with 13 used bytes and one with 14 and edition 1 do. Assumes nothing.
 use mathlib.Core.Path.{_≡_, refl, sym, ap, _∙_}
 use mathlib.Core.List.{List, [], _++_}
-use mathlib.Core.Logic.{⊎-elim}
+use mathlib.Core.Logic.{_⊎_, inl, inr, ⊎-elim}
 use Prim.Native.Nat.{ℕ, _<_}
 use lib.ListN.{length, getD, take, set}
 use Rattle.dialect.specs.Editions.{statedBytes, editionHeld}
 use Rattle.dialect.specs.declared.Edition.{Edition}
-use Rattle.dialect.specs.declared.Edition.the-variants.{One}
+use Rattle.dialect.specs.declared.Edition.the-variants.{One, Two}
 use Rattle.dialect.specs.declared.EditionRead.the-variants.{Known}
 use Rattle.dialect.specs.declared.Stated.{Stated}
 use Rattle.dialect.specs.declared.Stated.the-variants.{Number, Nothing}
@@ -81,6 +81,19 @@ pub sound-edition : (c : Content) → soundCheck c ≡ accepted []
 sound-edition c sound =
     let known = sound-known c sound in
     (known .edition, known .held, number-held (c .dialect) (c .edition) (known .held))
+
+-- so it is in what an accepted file answers
+pub accepted-edition : (file : List ℕ) (r : Loaded) → Read file r → r .verdict ≡ Accepted
+    → (numberHeld (r .edition) ≡ 1) ⊎ (numberHeld (r .edition) ≡ 2)
+unfolding held
+accepted-edition file r p good =
+    let (e, known, number) = sound-edition (held r) (accepted-is-sound file r p good) in
+    go e number
+  where
+    go : (e : Edition) → numberHeld (r .edition) ≡ editionNumber e
+        → (numberHeld (r .edition) ≡ 1) ⊎ (numberHeld (r .edition) ≡ 2)
+    go One h = inl h
+    go Two h = inr h
 
 -- files of different contents differ
 pub file-injective : (c d : Content) → SoundContent c → SoundContent d → fileOf c ≡ fileOf d → c ≡ d
