@@ -63,7 +63,8 @@ module _ (t names bytes : List ℕ) (sound : givenCheck t names bytes ≡ accept
   held-listed = rw (known .1) refl
 
 -- LAW: what passes 1 to 5 with its edition passes them without
-pub sound-given : (c : Content) → soundCheck c ≡ accepted [] → givenCheck (c .table) (c .names) (c .dialect) ≡ accepted []
+pub sound-given : (c : Content) → soundCheck c ≡ accepted []
+    → givenCheck (c .table) (c .names) (c .dialect) ≡ accepted []
 sound-given c sound =
     let (d, e, rules) = rules-passed (c .table) (c .names) (c .dialect) (editionRead c) sound in
     rw (rules-known (c .table) (c .names) (c .dialect) rules .0) refl
@@ -119,7 +120,8 @@ module _ (file : List ℕ) {e : Edition} (known : editionRead (contentAt file) �
 
 -- LAW: where no edition holds, 1 to 5 are 1 to 4, then 5, whatever the dialect bytes are
 pub bad-edition : (t names bytes : List ℕ)
-    → andThen (givenCheck t names bytes) (λ _. refused badDialect []) ≡ andThen (checkOf t names) (λ _. refused badDialect [])
+    → andThen (givenCheck t names bytes) (λ _. refused badDialect [])
+    ≡ andThen (checkOf t names) (λ _. refused badDialect [])
 unfolding givenOf
 bad-edition t names bytes = go (checkOf t names) (fromBytes bytes)
   where

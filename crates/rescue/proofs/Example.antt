@@ -58,7 +58,8 @@ oldFile = holding (recordOf kindStatements 0 2 0 ++ recordOf kindBreak 0 1 0)
 -- the reader refuses its blocks with 3
 pub does-not-pass : blocksPass (fileOf content) ≡ false
 unfolding field bytesOf weighed sumOf beforeSum blockOf zeros examine judge blocksFor blocksOf runOf judgeBlocks
-    judgeRun goodBlocks contents contentIn contentOf headerOf fileOf dialectIn editionIn editionHeld rulesOf headerAt contentAt countsFit blocksCheck
+    judgeRun goodBlocks contents contentIn contentOf headerOf fileOf dialectIn editionIn editionHeld rulesOf headerAt
+    contentAt countsFit blocksCheck
     readCheck sizeOf kidsOf restOf forestIn forest roots firsts count countTree same kindIn kindOf nameSound spanSound
     sourceSound fieldsSound wholeTrees classes permitted wanted permits kidsSound soundNode soundAt rootSound fileSound
     endsBy topOf filesOf contextOf recordSound firstFalse firstUnsound lengthSound checkOf givenOf classWeight weight
@@ -69,7 +70,8 @@ does-not-pass = refl
 -- what is printed: 1,024 bytes, one statement and two nodes kept, one node dropped, no byte behind
 pub is-rescued : rescueOf (fileOf content) 1024 ≡ accepted (1024 ∷ 1 ∷ 2 ∷ 1 ∷ 0 ∷ [])
 unfolding field bytesOf weighed sumOf beforeSum blockOf zeros examine judge blocksFor blocksOf runOf judgeBlocks
-    judgeRun goodBlocks contents contentIn contentOf headerOf fileOf dialectIn editionIn editionHeld rulesOf headerAt contentAt countsFit blocksCheck
+    judgeRun goodBlocks contents contentIn contentOf headerOf fileOf dialectIn editionIn editionHeld rulesOf headerAt
+    contentAt countsFit blocksCheck
     readCheck sizeOf kidsOf restOf forestIn forest roots firsts count countTree same kindIn kindOf nameSound spanSound
     sourceSound fieldsSound wholeTrees classes permitted wanted permits kidsSound soundNode soundAt rootSound fileSound
     endsBy topOf filesOf contextOf recordSound firstFalse firstUnsound lengthSound checkOf givenOf classWeight weight
@@ -81,7 +83,8 @@ is-rescued = refl
 pub numbers-rescued : map (λ (c : Content). rescueOf (fileOf c) 1024) (wrongChild ∷ wrongRoot ∷ oldFile ∷ [])
     ≡ accepted (1024 ∷ 1 ∷ 2 ∷ 1 ∷ 0 ∷ []) ∷ refused nothingKept [] ∷ refused nothingKept [] ∷ []
 unfolding field bytesOf weighed sumOf beforeSum blockOf zeros examine judge blocksFor blocksOf runOf judgeBlocks
-    judgeRun goodBlocks contents contentIn contentOf headerOf fileOf dialectIn editionIn editionHeld rulesOf headerAt contentAt countsFit blocksCheck
+    judgeRun goodBlocks contents contentIn contentOf headerOf fileOf dialectIn editionIn editionHeld rulesOf headerAt
+    contentAt countsFit blocksCheck
     readCheck sizeOf kidsOf restOf forestIn forest roots firsts count countTree same kindIn kindOf nameSound spanSound
     sourceSound fieldsSound wholeTrees classes permitted wanted permits kidsSound soundNode soundAt rootSound fileSound
     endsBy topOf filesOf contextOf recordSound firstFalse firstUnsound lengthSound checkOf givenOf classWeight weight

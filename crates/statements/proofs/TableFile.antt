@@ -38,7 +38,8 @@ pub accepted-is-sound : (file : List ℕ) (r : Loaded)
 accepted-is-sound file r v l = theorem.accepted-is-sound file r (v, l)
 
 -- the file of a table is read as that table
--- In words: the file of table, names, dialect and edition, bytes that pass 1 to 5, is accepted, and the answer is these.
+-- In words: the file of table, names, dialect and edition, bytes that pass 1 to 5, is accepted, and the answer is
+-- these.
 pub file-read-back : (c : Content) (r : Loaded)
     → soundCheck c ≡ accepted []
     → ((i : ℕ) → getD (c .table) i 0 < 256)
@@ -69,7 +70,8 @@ pub accepted-edition : (file : List ℕ) (r : Loaded)
     → verdict (r .verdict) ≡ readCheck file
     → r ≡ loadedOf (r .verdict) (contentAt file) (headerAt file .taken)
     → r .verdict ≡ Accepted
-    → ((numberHeld (r .edition) ≡ 1) ⊎ (numberHeld (r .edition) ≡ 2)) × (r .edition ≡ Nothing → numberHeld (r .edition) ≡ 1)
+    → ((numberHeld (r .edition) ≡ 1) ⊎ (numberHeld (r .edition) ≡ 2))
+    × (r .edition ≡ Nothing → numberHeld (r .edition) ≡ 1)
 accepted-edition file r v l good = (theorem.accepted-edition file r (v, l) good, λ none. ap numberHeld none)
 
 -- "13 used bytes and 14 used bytes with edition 1 are different files" (W-212)

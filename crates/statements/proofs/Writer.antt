@@ -26,8 +26,8 @@ use Rattle.writer.proofs.RoundTrips as theorem
 use Rattle.writer.proofs.Enough as theorem-enough
 
 -- "Its output reads back as the same table, names and dialect."
--- In words: the reader's answer on the bytes that an accepted write has written holds the same table, names, dialect and
--- edition.
+-- In words: the reader's answer on the bytes that an accepted write has written holds the same table, names, dialect
+-- and edition.
 pub same-content : (c : Content) (buffer : List ℕ) (r : Written) (after : List ℕ)
     → written r ≡ writeOf c (length buffer)
     → after ≡ fileAfter c buffer

@@ -36,7 +36,8 @@ use Rattle.tablefile.specs.Loading.{verdict}
 use Rattle.tablefile.specs.declared.Verdict.{Verdict}
 use Rattle.tablefile.specs.declared.Verdict.the-variants.{Accepted, Refused}
 use Rattle.tablefile.proofs.Fronts.{Fronted, demand-then, fronted-then, taken-there}
-use Rattle.tablefile.proofs.Files.{Headed, bare, inDialect, byEdition, Fits, front-is-file, front-changed, file-passes, file-holds, file-taken}
+use Rattle.tablefile.proofs.Files.{Headed, bare, inDialect, byEdition, Fits, front-is-file, front-changed}
+use Rattle.tablefile.proofs.Files.{file-passes, file-holds, file-taken}
 
 -- no two verdicts mean the same
 pub verdict-injective : (r s : Verdict) → verdict r ≡ verdict s → r ≡ s

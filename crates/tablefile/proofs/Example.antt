@@ -1,6 +1,6 @@
 -- What the theorems on files suppose can be met, and not only trivially: the file of `x = 1`, a table of four records
--- with a name, Standard's nine bytes and edition 1. That its content is sound is computed; that its file is then accepted, and
--- read as this content, is `file-read-back`. Assumes nothing.
+-- with a name, Standard's nine bytes and edition 1. That its content is sound is computed; that its file is then
+-- accepted, and read as this content, is `file-read-back`. Assumes nothing.
 use mathlib.Core.Path.{_≡_, refl, sym}
 use mathlib.Core.Bool.{Bool, true, _&&_}
 use mathlib.Core.List.{List, [], _∷_, _++_}
@@ -60,7 +60,8 @@ small-bytes (x ∷ l) e (suc i) = small-bytes l (and-right (ltb x 256) (small l)
 
 -- it passes 1 to 5
 pub sound : soundCheck content ≡ accepted []
-unfolding rulesOf editionOf editionHeld givenOf fromBytes validBytes within checkOf lengthSound field sizeOf kidsOf restOf forestIn forest count
+unfolding rulesOf editionOf editionHeld givenOf fromBytes validBytes within checkOf lengthSound field sizeOf kidsOf
+    restOf forestIn forest count
     countTree same kindIn kindOf nameSound spanSound sourceSound fieldsSound wholeTrees classes permitted wanted permits
     kidsSound soundNode soundAt rootSound fileSound endsBy topOf filesOf contextOf recordSound firstFalse firstUnsound
     classWeight weight firstDeep deepIn

@@ -1,6 +1,6 @@
 -- The file at the front and the file of a content: each is the other's inverse, and one changed byte is told. There are
--- three headers (`Headed`): without a dialect, with one, and with a dialect and an edition. What block 0 holds behind its
--- counts, dialect and edition, is one list in these laws (`tail-is`, `tail-there`). Assumes nothing.
+-- three headers (`Headed`): without a dialect, with one, and with a dialect and an edition. What block 0 holds behind
+-- its counts, dialect and edition, is one list in these laws (`tail-is`, `tail-there`). Assumes nothing.
 use mathlib.Core.Path.{_≡_, refl, sym, ap, _∙_}
 use mathlib.Core.Bool.{true}
 use mathlib.Core.Logic.{_⊎_, ⊎-elim}
@@ -186,8 +186,8 @@ pub record Fits (c : Content) : Type 0 where
   pub dialect-bytes : Bytes (c .dialect)
   pub edition-bytes : Bytes (statedBytes (c .edition))
 
--- such a header has at most ten bytes behind its counts; what it says it has is what it has; and its edition byte stands
--- at place 17
+-- such a header has at most ten bytes behind its counts; what it says it has is what it has; and its edition byte
+-- stands at place 17
 headed-few : {d e : ℕ} → Headed d e → d + e ≤ 10
 headed-few (bare p q) = omega arith
 headed-few (inDialect p q) = omega arith

@@ -42,7 +42,8 @@ module _ (bs : List ℕ) {h : Heading} (h-is : h ≡ headerAt bs) (passed : fron
   pub load-dialect : (512 ≤ length bs) × (h .dialect ≤ 9)
   load-dialect = (f .header .long, rw h-is (dialect-few bs))
 
-  pub load-is : {ts ns ds : List ℕ} {edition : Stated} → ts ≡ laid 50400 (contentOf (24 * h .nodes) (drop (512 * h .first) bs))
+  pub load-is : {ts ns ds : List ℕ} {edition : Stated}
+      → ts ≡ laid 50400 (contentOf (24 * h .nodes) (drop (512 * h .first) bs))
       → ns ≡ laid 8064 (contentOf (h .names) (drop 512 bs)) → ds ≡ laid 9 (take (h .dialect) (drop 8 bs))
       → edition ≡ contentAt bs .edition
       → _≡_ {A = Loaded}

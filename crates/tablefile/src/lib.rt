@@ -35,8 +35,8 @@ pub enum Verdict {
     Refused(Refusal),
 }
 
-// What a file holds, by value, and how many bytes it takes. Where it has no dialect, dialect_len is 0. When refused, and
-// past the lengths, all is zero, and there is no edition.
+// What a file holds, by value, and how many bytes it takes. Where it has no dialect, dialect_len is 0. All is zero past
+// the lengths, and all is zero, with no edition, when refused.
 pub struct Loaded {
     pub verdict: Verdict,
     pub taken: usize,

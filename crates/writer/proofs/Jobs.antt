@@ -40,8 +40,8 @@ module _ (t n room : ℕ) {k m : ℕ} (k-is : k ≡ blocksFor n) (m-is : m ≡ b
   pub room-enough : 512 * (1 + k + m) ≤ room → accepted (512 * (1 + k + m) ∷ []) ≡ roomCheck (bytesFor t n) room
   room-enough h = rw (← k-is, ← m-is, le-leb (512 * (1 + k + m)) room h) refl
 
--- what 1 to 5 say of lengths: no more blocks than a file has at most, no more dialect bytes than nine, and an edition of
--- one byte
+-- what 1 to 5 say of lengths: no more blocks than a file has at most, no more dialect bytes than nine, and an edition
+-- of one byte
 pub record Few (c : Content) : Type 0 where
   pub blocks : 1 + blocksFor (length (c .names)) + blocksFor (length (c .table)) ≤ mostBlocks
   pub dialect : length (c .dialect) ≤ 9

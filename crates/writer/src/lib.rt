@@ -1,5 +1,5 @@
-// The writer of table files: a table, its names, a dialect or none and an edition or none, to document 01's blocks, into
-// a lent buffer.
+// The writer of table files: a table, its names, a dialect or none and an edition or none, to document 01's blocks,
+// into a lent buffer.
 use blocks::BLOCK_BYTES;
 use blocks::bytes;
 use dialect::Stated;
@@ -53,8 +53,8 @@ pub fn write(
     judged
 }
 
-// Writes the file of a table, names, dialect bytes and an edition that have passed 1 to 5: they are not checked again. If
-// they are longer than in any file, or the buffer is shorter than the file, no byte changes.
+// Writes the file of a table, names, dialect bytes and an edition that have passed 1 to 5: they are not checked again.
+// If they are longer than in any file, or the buffer is shorter than the file, no byte changes.
 pub fn write_unchecked(table: &[u8], names: &[u8], dialect: &[u8], edition: Stated, file: &mut [u8])
     ensures { λ r. ⌜ now (file .exit) ≡
         laidOver (holding (now (table .entry)) (now (names .entry)) (now (dialect .entry)) edition)

@@ -1,4 +1,5 @@
--- `filepass::check_file` meets its contract: 70 to 75, a bad edition, or the job on what the file holds. Assumes nothing.
+-- `filepass::check_file` meets its contract: 70 to 75, a bad edition, or the job on what the file holds. Assumes
+-- nothing.
 use borrow.Author.Needs.{needs}
 use Rattle.tablefile.proofs.Lends.{unpacked-table-long, unpacked-names-long}
 use Rattle.filepass.proofs.Listing.{nodes-fit, nodes-word, file-refused, bad-answer, bad-words, file-answer}
@@ -41,9 +42,11 @@ check-file-spec =
     let enum-told = back2 .enum-told in
     let unpack = back2 .before .before .unpack in (
       bad-answer _ _ unpack.ensures.0 enum-told.given.1 header.ensures unpack.ensures.1.0 unpack.ensures.1.1
-          front.ensures front2.ensures bytes.ensures stated.ensures edition.ensures bad.given.1 refused.result refused.ensures,
+          front.ensures front2.ensures bytes.ensures stated.ensures edition.ensures bad.given.1 refused.result
+          refused.ensures,
       bad-words _ _ unpack.ensures.0 enum-told.given.1 header.ensures unpack.ensures.1.0 unpack.ensures.1.1
-          front.ensures front2.ensures bytes.ensures stated.ensures edition.ensures bad.given.1 refused.result refused.ensures _,
+          front.ensures front2.ensures bytes.ensures stated.ensures edition.ensures bad.given.1 refused.result
+          refused.ensures _,
     ))
     (λ c. search needs)
     (λ c κs. search needs)

@@ -28,7 +28,8 @@ hand-over-spec =
     let back2 = back .before .before .before .before .before .before in
     let start = back2 .before .before in (
       into-table-within start.pre header.ensures,
-      into-table-room start.pre header.ensures dialect.ensures edition.ensures check.ensures _ _ judge-room.ensures is-refused.ensures
+      into-table-room start.pre header.ensures dialect.ensures edition.ensures check.ensures _ _ judge-room.ensures
+          is-refused.ensures
           (c .before .if1 .left),
     ))
     (λ c κs.  -- put-requires-2
@@ -41,7 +42,8 @@ hand-over-spec =
     let header = back2 .header in
     let start = back2 .before .before .before .before .before .before in (
       into-names-within start.pre header.ensures,
-      into-names-room start.pre header.ensures dialect.ensures edition.ensures check.ensures _ _ (back .before .judge-room .ensures)
+      into-names-room start.pre header.ensures dialect.ensures edition.ensures check.ensures _ _
+          (back .before .judge-room .ensures)
           (back .is-refused .ensures) if1.left,
     ))
     (λ c. search needs)
@@ -61,9 +63,11 @@ hand-over-spec =
     let start = back3 .before .before .before in (
       into-so start.pre header.ensures dialect.ensures edition.ensures check.ensures _ _ judge-room.ensures,
       (
-        into-table-done start.pre header.ensures dialect.ensures edition.ensures check.ensures _ _ judge-room.ensures is-refused.ensures
+        into-table-done start.pre header.ensures dialect.ensures edition.ensures check.ensures _ _
+            judge-room.ensures is-refused.ensures
             if1.left _ (back .put .ensures),
-        into-names-done start.pre header.ensures dialect.ensures edition.ensures check.ensures _ _ judge-room.ensures is-refused.ensures
+        into-names-done start.pre header.ensures dialect.ensures edition.ensures check.ensures _ _
+            judge-room.ensures is-refused.ensures
             if1.left _ put2.ensures,
       ),
     )))

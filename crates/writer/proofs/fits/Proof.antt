@@ -1,7 +1,8 @@
 -- `writer::fits` meets its contract: each length in turn, then the edition and the room. Assumes nothing.
 use borrow.Author.Needs.{needs}
 use borrow.Author.Tests.{not-true, not-false}
-use Rattle.writer.proofs.Jobs.{unfit-table, unfit-names, unfit-dialect, unfit-edition, fit-one, fit-sum, fit-bytes}
+use Rattle.writer.proofs.Jobs.{unfit-table, unfit-names, unfit-dialect, unfit-edition, fit-one, fit-sum}
+use Rattle.writer.proofs.Jobs.{fit-bytes}
 use Rattle.writer.proofs.Jobs.{fit-room}
 use Rattle.writer.proofs.fits.Statement.{statement}
 use Rattle.writer.proofs.fits.Tie as tie
