@@ -29,15 +29,22 @@ use Rattle.deflist.specs.Unpack as def
 use Rattle.deflist.specs.Limited.{limited}
 use Rattle.deflist.specs.Told.{told}
 use Rattle.deflist.specs.declared.Counts.{Counts}
+use Rattle.deflist.specs.declared.Fault.{Fault}
+use Rattle.deflist.specs.declared.Judged.the-variants.{Accepted, Refused}
 use Rattle.deflist.proofs.Limited.{limited-short, limited-accepted}
 use Rattle.parameters.specs.Params.{listOf, paramsOf}
 use Rattle.parameters.proofs.Accepted.{accepted-passed, passed-accepted}
 use Rattle.arguments.specs.Job.{callAnswer, callOf}
 use Rattle.figures.specs.Adding.{added}
 use Rattle.figures.specs.Counting.{occurrences, total, nodesOf, modeAt, acceptedAt, refusedAt}
-use Rattle.figures.specs.Walking.{only, plus, listFigures, callFigures, nodeFigures, nodesFigures, NodeIn}
+use Rattle.figures.specs.Walking.{plus, rangeCounts, listFigures, callFigures, nodeFigures, nodesFigures}
+use Rattle.figures.specs.Walking.{NodeIn}
 use Rattle.figures.proofs.Additions.{added-zeros, added-trailing, added-twice}
 use Rattle.figures.proofs.Lists.{modeCounts, modes-counted}
+
+-- what is told to be refused is not accepted
+not-accepted : {o : def.Outcome} {f : Fault} → told o ≡ Refused f → {c : Counts} → o ≡ def.accepted c → ⊥
+not-accepted {o} {f} h {c} e = let both : Accepted c ≡ Refused f = sym (ap told e) ∙ h in never (cc)
 
 module _ {t names : List ℕ} {i : ℕ} (n : NodeIn t names i) where
   clean : Clean t names
@@ -101,36 +108,35 @@ module _ {t names : List ℕ} {i : ℕ} (n : NodeIn t names i) where
   listed = 0 ∷ 0 ∷ 1 ∷ modeAt 1 t names i ∷ modeAt 2 t names i ∷ modeAt 3 t names i ∷ modeAt 4 t names i
       ∷ modeAt 5 t names i ∷ 0 ∷ 0 ∷ []
 
+  -- without a mode, where its list is not accepted
+  listed-away : ((c : Counts) → outcome ≡ def.accepted c → ⊥) → (start : List ℕ)
+      → added start (0 ∷ 0 ∷ 1 ∷ 0 ∷ 0 ∷ 0 ∷ 0 ∷ 0 ∷ []) ≡ added start listed
+  listed-away off start =
+      let zero : (m : ℕ) → modeAt m t names i ≡ 0 = λ m. mode-away m (params-away off) in
+      rw (zero 1, zero 2, zero 3, zero 4, zero 5)
+      (sym (added-trailing start (0 ∷ 0 ∷ 1 ∷ 0 ∷ 0 ∷ 0 ∷ 0 ∷ 0 ∷ []) 2))
+
+  -- with its modes, where it is
+  listed-there : nodeFits t i Parameters ≡ true → {c : Counts} → outcome ≡ def.accepted c → (start : List ℕ)
+      → added start (0 ∷ 0 ∷ 1 ∷ rangeCounts c) ≡ added start listed
+  listed-there fits e start =
+      let is : (m : ℕ) → modeAt m t names i ≡ occurrences m (def.modes list) = λ m. mode-there fits e m in
+      let counts = modes-counted list (limited-accepted (nodeOf i (stretchOf t i)) list e .1) in
+      rw (is 1, is 2, is 3, is 4, is 5)
+      (ap (λ (x : List ℕ). added start (0 ∷ 0 ∷ 1 ∷ x)) counts
+      ∙ sym (added-trailing start (0 ∷ 0 ∷ 1 ∷ modeCounts (def.modes list)) 2))
+
   -- LAW: a Def or Lambda adds its list, and its modes if that is accepted
   pub node-list : nodeFits t i Parameters ≡ true → nodeFits t i Call ≡ false → (start : List ℕ)
       → added start (listFigures (told outcome)) ≡ added start (nodeFigures t names i)
   unfolding nodeFigures acceptedAt refusedAt
   node-list fits no-call start = rw (fits, no-call) (go outcome refl)
     where
-      away : ((c : Counts) → outcome ≡ def.accepted c → ⊥) → added start (0 ∷ 0 ∷ 1 ∷ []) ≡ added start listed
-      away off =
-          let zero : (m : ℕ) → modeAt m t names i ≡ 0 = λ m. mode-away m (params-away off) in
-          rw (zero 1, zero 2, zero 3, zero 4, zero 5) (sym (added-trailing start (0 ∷ 0 ∷ 1 ∷ []) 7))
-
       go : (o : def.Outcome) → outcome ≡ o → added start (listFigures (told o)) ≡ added start listed
-      go (def.accepted c) e =
-          let is : (m : ℕ) → modeAt m t names i ≡ occurrences m (def.modes list) = λ m. mode-there fits e m in
-          let counts = modes-counted list (limited-accepted (nodeOf i (stretchOf t i)) list e .1) in
-          rw (is 1, is 2, is 3, is 4, is 5)
-          (ap (λ (x : List ℕ). added start (0 ∷ 0 ∷ 1 ∷ x)) counts
-          ∙ sym (added-trailing start (0 ∷ 0 ∷ 1 ∷ modeCounts (def.modes list)) 2))
-      go (def.refused k r) e = away (λ c f. none (sym e ∙ f))
-        where
-          none : {c : Counts} → def.refused k r ≡ def.accepted c → ⊥
-          none f = never (cc)
-      go (def.repeated k r) e = away (λ c f. none (sym e ∙ f))
-        where
-          none : {c : Counts} → def.repeated k r ≡ def.accepted c → ⊥
-          none f = never (cc)
-      go (def.internal k r) e = away (λ c f. none (sym e ∙ f))
-        where
-          none : {c : Counts} → def.internal k r ≡ def.accepted c → ⊥
-          none f = never (cc)
+      go (def.accepted c) e = listed-there fits e start
+      go (def.refused k r) e = listed-away (λ c f. not-accepted {o = def.refused k r} refl (sym e ∙ f)) start
+      go (def.repeated k r) e = listed-away (λ c f. not-accepted {o = def.repeated k r} refl (sym e ∙ f)) start
+      go (def.internal k r) e = listed-away (λ c f. not-accepted {o = def.internal k r} refl (sym e ∙ f)) start
 
   -- LAW: a Call adds one to the calls that are accepted or refused
   pub node-call : nodeFits t i Parameters ≡ false → nodeFits t i Call ≡ true → (start : List ℕ)

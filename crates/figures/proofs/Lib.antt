@@ -5,3 +5,4 @@ pub mod ByKind
 pub mod Windows
 pub mod Running
 pub mod Totals
+pub mod Promises

@@ -11,7 +11,7 @@ use lib.Dec.{eqb}
 use Rattle.fields.specs.Choice.{if'}
 use Rattle.forest.specs.Forest.{Node}
 use Rattle.deflist.specs.Written.{Param}
-use Rattle.deflist.specs.Unpack.{accepted, unpack, modes}
+use Rattle.deflist.specs.Unpack.{Outcome, accepted, refused, repeated, internal, unpack, modes}
 use Rattle.deflist.specs.Limited.{limited}
 use Rattle.deflist.specs.Told.{told}
 use Rattle.deflist.specs.declared.Counts.{Counts}
@@ -19,7 +19,6 @@ use Rattle.deflist.specs.declared.Judged.{Judged}
 use Rattle.deflist.specs.declared.Judged.the-variants.{Accepted, Refused}
 use Rattle.deflist.specs.declared.Fault.{Fault}
 use Rattle.deflist.proofs.Limited.{limited-accepted}
-use Rattle.deflist.proofs.Theorems.{told-accepted}
 use Rattle.demand3.specs.Cut.{Star, noStar, bare, starred, Last, noKwargs, withKwargs, Cut, argsPart, kwargsPart}
 use Rattle.demand3.specs.Cut.{firsts, afterStar, ordinary, join, partsOf, partModes}
 use Rattle.demand3.proofs.Counting.{argsPlace, kwargsPlace}
@@ -32,7 +31,8 @@ use Rattle.arguments.specs.declared.Called.{Called}
 use Rattle.arguments.specs.declared.Called.the-variants as calls
 use Rattle.figures.specs.Adding.{added}
 use Rattle.figures.specs.Counting.{occurrences}
-use Rattle.figures.specs.Walking.{only, plus, places, Ranged, rangeCounts, listFigures, callFigures}
+use Rattle.figures.specs.Walking.{only, plus, places, Ranged, RangedIn, rangeCounts, judgedCounts}
+use Rattle.figures.specs.Walking.{listFigures, callFigures}
 use Rattle.figures.proofs.Additions.{added-twice, added-next, added-trailing}
 use Rattle.figures.proofs.Occurring.{occurs-append, occurs-run}
 
@@ -123,10 +123,17 @@ modes-added a {b} {c} {d} {e} {f} v w x y z b-is c-is d-is e-is f-is =
     f-is ∙ rw three (added-next a (0 ∷ 0 ∷ 0 ∷ v ∷ w ∷ x ∷ y ∷ []) z)
 
 -- what is said of a list: if it is told to be accepted, its ranges follow one another
-pub told-ranged : (owner : Node) (l : List Param) {j : Judged} → j ≡ told (limited owner l) → {c : Counts} → j ≡ Accepted c
-    → Ranged c
-told-ranged owner l j-is h =
-    ranged l (limited-accepted owner l (told-accepted (limited owner l) (sym j-is ∙ h)) .1)
+pub told-ranged : (owner : Node) (l : List Param) {j : Judged} → j ≡ told (limited owner l) → RangedIn j
+told-ranged owner l j-is = rw j-is (go (limited owner l) refl)
+  where
+    go : (o : Outcome) → limited owner l ≡ o → RangedIn (told o)
+    go (accepted c) e = ranged l (limited-accepted owner l e .1)
+    go (refused n r) e = tt
+    go (repeated k r) e = tt
+    go (internal k r) e = tt
+
+pub ranged-accepted : {j : Judged} → RangedIn j → {c : Counts} → j ≡ Accepted c → Ranged c
+ranged-accepted r e = rw e at r
 
 -- what code counts from the ranges, with its own counts of `*args` and `**kwargs`
 pub ranges-are : (c : Counts) {a k : ℕ} → a ≡ places (c .args) → k ≡ places (c .kwargs)
@@ -134,19 +141,21 @@ pub ranges-are : (c : Counts) {a k : ℕ} → a ≡ places (c .args) → k ≡ p
     ∷ (c .flat .0 - (c .«num_positional» .0 + a + k)) ∷ a ∷ k ∷ [] ≡ rangeCounts c
 ranges-are c a-is k-is = rw (a-is, k-is) refl
 
--- what code adds for a list that is accepted, and for one that is not
-module _ (start : List ℕ) {j k : Judged} (j-is : j ≡ k) {xs : List ℕ} (xs-is : xs ≡ added start (only 2 1)) where
-  pub list-accepted : {c : Counts} → j ≡ Accepted c → {m n q r s : ℕ} → m ∷ n ∷ q ∷ r ∷ s ∷ [] ≡ rangeCounts c
-      → {ys : List ℕ} → ys ≡ added xs (0 ∷ 0 ∷ 0 ∷ m ∷ n ∷ q ∷ r ∷ s ∷ []) → ys ≡ added start (listFigures k)
-  unfolding only plus
-  list-accepted {c} h {m} {n} {q} {r} {s} e ys-is =
-      let figures : 0 ∷ 0 ∷ 1 ∷ m ∷ n ∷ q ∷ r ∷ s ∷ [] ≡ listFigures k =
-      ap (λ (x : List ℕ). 0 ∷ 0 ∷ 1 ∷ x) e ∙ ap listFigures (sym h ∙ j-is) in
-      ys-is ∙ rw xs-is (added-twice start (only 2 1) _ ∙ ap (added start) figures)
+pub counts-accepted : {j : Judged} {c : Counts} → j ≡ Accepted c → {l : List ℕ} → l ≡ rangeCounts c → l ≡ judgedCounts j
+counts-accepted e l-is = rw e l-is
 
-  pub list-refused : {f : Fault} → j ≡ Refused f → xs ≡ added start (listFigures k)
-  unfolding only
-  list-refused h = xs-is ∙ ap (added start) (ap listFigures (sym h ∙ j-is))
+pub counts-refused : {j : Judged} {f : Fault} → j ≡ Refused f → 0 ∷ 0 ∷ 0 ∷ 0 ∷ 0 ∷ [] ≡ judgedCounts j
+counts-refused e = rw e refl
+
+-- what code adds for a list
+pub list-added : (start : List ℕ) {j k : Judged} → j ≡ k → {xs : List ℕ} → xs ≡ added start (only 2 1)
+    → {m n q r s : ℕ} → m ∷ n ∷ q ∷ r ∷ s ∷ [] ≡ judgedCounts j
+    → {ys : List ℕ} → ys ≡ added xs (0 ∷ 0 ∷ 0 ∷ m ∷ n ∷ q ∷ r ∷ s ∷ []) → ys ≡ added start (listFigures k)
+unfolding only plus
+list-added start {j} {k} j-is xs-is {m} {n} {q} {r} {s} e ys-is =
+    let figures : 0 ∷ 0 ∷ 1 ∷ m ∷ n ∷ q ∷ r ∷ s ∷ [] ≡ listFigures k =
+    ap (λ (x : List ℕ). 0 ∷ 0 ∷ 1 ∷ x) e ∙ ap listFigures j-is in
+    ys-is ∙ rw xs-is (added-twice start (only 2 1) _ ∙ ap (added start) figures)
 
 -- and for a call
 module _ (start : List ℕ) {r : Called} {a : Answer} (r-is : called r ≡ a) {ys : List ℕ} where

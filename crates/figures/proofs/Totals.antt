@@ -1,4 +1,4 @@
--- The figures of a table are added in four parts: the file, its nodes, what is counted node by node, the errors. In a
+-- The figures of a file are added in four parts: the file, its nodes, what is counted node by node, the errors. In a
 -- table that passes 1 to 5 they are `tableFigures` (`figures-are`), because no two parts have a counter in common and
 -- the module pass looks at the whole table. Assumes nothing.
 use mathlib.Core.Path.{_≡_, refl, sym, ap, _∙_}
@@ -21,27 +21,26 @@ use Rattle.table.proofs.Theorems.{clean-accepted}
 use Rattle.validate.specs.Job.{passErrors, errorsOf}
 use Rattle.figures.specs.Adding.{added}
 use Rattle.figures.specs.Counting.{nodesOf, numbersOf, errorCounts, tableFigures}
-use Rattle.figures.specs.Walking.{only, plus, nodesFigures, errorFigures, figuresIn}
+use Rattle.figures.specs.Walking.{only, plus, nodesFigures, errorFigures, filesOf, figuresIn}
 use Rattle.figures.specs.Reporting.{counted}
-use Rattle.figures.proofs.Additions.{added-twice}
+use Rattle.figures.proofs.Additions.{added-twice, added-zeros}
 
--- LAW: in the dialect that is given the figures are those of the definition
+-- LAW: with the file in front, in the dialect that is given, the figures are those of the definition
 pub figures-are : (t names bytes : List ℕ) {d : Dialect} → givenOf t names bytes ≡ inDialect d
-    → figuresIn d t names ≡ tableFigures t names bytes
+    → plus (only 0 1) (figuresIn d t names) ≡ tableFigures t names bytes
 unfolding figuresIn tableFigures only plus nodesFigures errorFigures errorsOf passErrors
 figures-are t names bytes {d} h =
     let all : take 50400 t ≡ t = take-all 50400 t (given-known t names bytes h .0 .most) in
     rw (h, all) (simp add-zero)
 
--- four additions, one after another, in the terms of code
-pub all-added : (d : Dialect) (t names a : List ℕ) {b c e f : List ℕ} → b ≡ added a (only 0 1)
-    → c ≡ added b (only 1 (length t / 24)) → e ≡ added c (nodesFigures t names (length t / 24))
-    → f ≡ added e (errorFigures (numbersOf (passErrors d names t))) → f ≡ added a (figuresIn d t names)
+-- three additions, one after another, in the terms of code
+pub all-added : (d : Dialect) (t names a : List ℕ) {b c e : List ℕ} → b ≡ added a (only 1 (length t / 24))
+    → c ≡ added b (nodesFigures t names (length t / 24))
+    → e ≡ added c (errorFigures (numbersOf (passErrors d names t))) → e ≡ added a (figuresIn d t names)
 unfolding figuresIn
-all-added d t names a b-is c-is e-is f-is =
-    f-is ∙ rw (e-is, c-is, b-is)
-    (added-twice _ (nodesFigures t names (length t / 24)) _ ∙ added-twice _ (only 1 (length t / 24)) _
-    ∙ added-twice a (only 0 1) _)
+all-added d t names a b-is c-is e-is =
+    e-is ∙ rw (c-is, b-is)
+    (added-twice _ (nodesFigures t names (length t / 24)) _ ∙ added-twice a (only 1 (length t / 24)) _)
 
 pub table-few : (t names : List ℕ) → checkOf t names ≡ accepted [] → length t ≤ 50400
 table-few t names e = accepted-clean t names e .most
@@ -51,14 +50,22 @@ module _ (t names bytes : List ℕ) {g : Given} (g-is : given g ≡ givenOf t na
   pub given-sound : {d : Dialect} → g ≡ In d → checkOf t names ≡ accepted []
   given-sound h = clean-accepted t names (given-known t names bytes (in-is t names bytes g-is h) .0)
 
-  pub table-added : {d : Dialect} → g ≡ In d → (start : List ℕ) {ys : List ℕ} → ys ≡ added start (figuresIn d t names)
-      → (accepted [] ≡ givenCheck t names bytes)
-      × (ys ≡ counted (givenCheck t names bytes) start (tableFigures t names bytes))
-  table-added h start ys-is =
-      let is = in-is t names bytes g-is h in
-      rw (is) (refl, ys-is ∙ ap (added start) (figures-are t names bytes is))
+  -- the counters after the file is counted, and in the end
+  module _ (start : List ℕ) {k : ℕ} (k-is : k ≡ filesOf g) {xs : List ℕ} (xs-is : xs ≡ added start (only 0 k)) where
+    pub table-added : {d : Dialect} → g ≡ In d → {ys : List ℕ} → ys ≡ added xs (figuresIn d t names)
+        → (accepted [] ≡ givenCheck t names bytes)
+        × (ys ≡ counted (givenCheck t names bytes) start (tableFigures t names bytes))
+    table-added {d} h {ys} ys-is =
+        let is = in-is t names bytes g-is h in
+        let one : k ≡ 1 = k-is ∙ ap filesOf h in
+        let first : ys ≡ added (added start (only 0 1)) (figuresIn d t names) = ys-is ∙ rw (xs-is, one) refl in
+        rw is (refl, first ∙ added-twice start (only 0 1) _ ∙ ap (added start) (figures-are t names bytes is))
 
-  pub table-refused : {why : Refusal} → g ≡ Away why → (start : List ℕ)
-      → (refusal why ≡ givenCheck t names bytes)
-      × (start ≡ counted (givenCheck t names bytes) start (tableFigures t names bytes))
-  table-refused h start = rw (away-is t names bytes g-is h) (refl, refl)
+    pub table-refused : {why : Refusal} → g ≡ Away why
+        → (refusal why ≡ givenCheck t names bytes)
+        × (xs ≡ counted (givenCheck t names bytes) start (tableFigures t names bytes))
+    unfolding only
+    table-refused h =
+        let none : k ≡ 0 = k-is ∙ ap filesOf h in
+        let same : xs ≡ start = xs-is ∙ rw none (added-zeros start 1) in
+        rw (away-is t names bytes g-is h) (refl, same)

@@ -7,6 +7,8 @@ use Prim.Native.Nat.{ℕ, _+_, _-_, _≤_, _<_}
 use lib.ListN.{replicate}
 use Rattle.table.specs.Answer.{Answer, accepted, refused, passes, isRefused}
 use Rattle.table.specs.Check.{checkOf}
+use Rattle.table.specs.declared.Given.{Given}
+use Rattle.table.specs.declared.Given.the-variants.{In, Refused as Away}
 use Rattle.dialect.specs.declared.Dialect.{Dialect}
 use Rattle.validate.specs.Job.{passErrors}
 use Rattle.deflist.specs.Unpack.{modePosOnly, modePosOrName, modeNameOnly, modeArgs, modeKwargs}
@@ -49,10 +51,14 @@ rangeCounts c =
     ∷ (c .flat .0 - (c .«num_positional» .0 + places (c .args) + places (c .kwargs))) ∷ places (c .args)
     ∷ places (c .kwargs) ∷ []
 
--- what one list adds, by what unpack says of it: the list, and the lengths of its ranges if it is accepted
+-- the same by what unpack says of a list: a refused one has no modes
+abbrev pub judgedCounts : Judged → List ℕ
+judgedCounts (Accepted c) = rangeCounts c
+judgedCounts (Refused f) = 0 ∷ 0 ∷ 0 ∷ 0 ∷ 0 ∷ []
+
+-- what one list adds: the list, and its modes
 abbrev pub listFigures : Judged → List ℕ
-listFigures (Accepted c) = 0 ∷ 0 ∷ 1 ∷ rangeCounts c
-listFigures (Refused f) = 0 ∷ 0 ∷ 1 ∷ []
+listFigures j = 0 ∷ 0 ∷ 1 ∷ judgedCounts j
 
 -- what one call adds, by what its job answers
 abbrev pub callFigures : Answer → List ℕ
@@ -76,11 +82,16 @@ nodesFigures t names n =
 unfoldable pub errorFigures : List ℕ → List ℕ
 errorFigures ns = replicate 10 0 ++ errorCounts ns
 
--- the figures of a table in a dialect, as they are added: one file, its nodes, what is counted node by node, the errors
+-- how many files are counted: the one that 1 to 5 let in
+abbrev pub filesOf : Given → ℕ
+filesOf (In d) = 1
+filesOf (Away r) = 0
+
+-- the figures of a table in a dialect, as they are added behind the file: nodes, what is counted node by node, errors
 unfoldable pub figuresIn : Dialect → List ℕ → List ℕ → List ℕ
 figuresIn d t names =
-    plus (only 0 1) (plus (only 1 (nodesOf t)) (plus (nodesFigures t names (nodesOf t))
-    (errorFigures (numbersOf (passErrors d names t)))))
+    plus (only 1 (nodesOf t)) (plus (nodesFigures t names (nodesOf t))
+    (errorFigures (numbersOf (passErrors d names t))))
 
 -- a node of a table that is sound
 pub record NodeIn (t names : List ℕ) (i : ℕ) : Type 0 where

@@ -18,7 +18,7 @@ ghost use Rattle.table.specs.Check.{checkOf, givenCheck};
 ghost use Rattle.tablefile.specs.Reading.{headerAt, contentAt};
 ghost use Rattle.figures.specs.Counting.{figuresOf, tableFigures};
 ghost use Rattle.figures.specs.Adding.{added};
-ghost use Rattle.figures.specs.Walking.{figuresIn};
+ghost use Rattle.figures.specs.Walking.{filesOf, figuresIn};
 ghost use Rattle.figures.specs.Reporting.{windowCheck, told as toldOf, counted, stepOf, figuresAfter, reportOf};
 
 // How many counters a report has. Their order: files; nodes; parameter lists; flat parameters of the modes 1 to 5 in
@@ -151,6 +151,7 @@ fn add_table(table: &[u8], names: &[u8], dialect: &[u8], figures: &mut [u64; FIG
         (tableFigures (now (table .entry)) (now (names .entry)) (now (dialect .entry))) ⌝ }
 {
     let entered = table::enter_dialect(table, names, dialect);
+    sums::add(figures, FILES, files(entered));
     match entered {
         Given::In(d) => {
             add_all(table, names, d, figures);
@@ -160,14 +161,23 @@ fn add_table(table: &[u8], names: &[u8], dialect: &[u8], figures: &mut [u64; FIG
     }
 }
 
-// The figures of a table that passes 1 to 5: the file, its nodes, what is counted node by node, the errors.
+// How many files are counted: the one that 1 to 5 let in.
+fn files(entered: Given) -> u64
+    ensures { λ r. ⌜ r ≡ filesOf entered ⌝ }
+{
+    match entered {
+        Given::In(_) => 1,
+        Given::Refused(_) => 0,
+    }
+}
+
+// The figures of a table that passes 1 to 5 behind the file: its nodes, what is counted node by node, the errors.
 fn add_all(table: &[u8], names: &[u8], d: Dialect, figures: &mut [u64; FIGURES])
     requires { ⌜ checkOf (now table) (now names) ≡ accepted [] ⌝ }
     ensures { λ r. ⌜ now (figures .exit) ≡
         added (now (figures .entry)) (figuresIn d (now (table .entry)) (now (names .entry))) ⌝ }
 {
     let count = table.len() / RECORD;
-    sums::add(figures, FILES, 1);
     sums::add(figures, NODES, count as u64);
     nodes::add_nodes(table, names, count, figures);
     told::add_errors(table, names, d, figures);

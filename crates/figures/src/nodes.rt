@@ -22,8 +22,8 @@ ghost use Rattle.deflist.specs.Told.{told};
 ghost use Rattle.arguments.specs.Job.{callAnswer};
 ghost use Rattle.figures.specs.Adding.{added};
 ghost use Rattle.figures.specs.Counting.{nodesOf};
-ghost use Rattle.figures.specs.Walking.{places as placesOf, Ranged, rangeCounts, listFigures, callFigures};
-ghost use Rattle.figures.specs.Walking.{nodeFigures, nodesFigures, NodeIn};
+ghost use Rattle.figures.specs.Walking.{places as placesOf, Ranged, RangedIn, rangeCounts, judgedCounts};
+ghost use Rattle.figures.specs.Walking.{listFigures, callFigures, nodeFigures, nodesFigures, NodeIn};
 
 // How many flat parameters of each mode a list has.
 pub struct Modes {
@@ -70,10 +70,7 @@ fn add_list(names: &[u8], t: &[u8], node: u32, figures: &mut [u64; FIGURES])
 {
     sums::add(figures, LISTS, 1);
     let judged = deflist::judge(names, t, node);
-    match judged {
-        Judged::Accepted(c) => add_modes(modes_of(c), figures),
-        Judged::Refused(_) => {}
-    }
+    add_modes(modes_of(judged), figures);
 }
 
 // The modes of a list.
@@ -88,8 +85,26 @@ fn add_modes(m: Modes, figures: &mut [u64; FIGURES])
     sums::add(figures, MODES + 4, m.kwargs);
 }
 
+// The modes of a list that is accepted; a refused one has none.
+fn modes_of(judged: Judged) -> Modes
+    requires { ⌜ RangedIn judged ⌝ }
+    ensures { λ r. ⌜ r .«pos_only» ∷ r .«pos_or_named» ∷ r .«named_only» ∷ r .args ∷ r .kwargs ∷ [] ≡
+        judgedCounts judged ⌝ }
+{
+    match judged {
+        Judged::Accepted(c) => lengths(c),
+        Judged::Refused(_) => Modes {
+            pos_only: 0,
+            pos_or_named: 0,
+            named_only: 0,
+            args: 0,
+            kwargs: 0,
+        },
+    }
+}
+
 // The lengths of the five ranges of an accepted list.
-fn modes_of(c: Counts) -> Modes
+fn lengths(c: Counts) -> Modes
     requires { ⌜ Ranged c ⌝ }
     ensures { λ r. ⌜ r .«pos_only» ∷ r .«pos_or_named» ∷ r .«named_only» ∷ r .args ∷ r .kwargs ∷ [] ≡ rangeCounts c ⌝ }
 {

@@ -1,4 +1,4 @@
--- `figures::add_all` meets its contract: the file, its nodes, what is counted node by node, the errors. Assumes nothing.
+-- `figures::add_all` meets its contract: its nodes, what is counted node by node, the errors. Assumes nothing.
 use Rattle.figures.proofs.Totals.{all-added, table-few}
 use borrow.Author.Needs.{needs}
 use Rattle.figures.proofs.add_all.Statement.{statement}
@@ -10,10 +10,8 @@ add-all-spec =
     (tie.spec
     (λ c κs. search needs)
     (λ c κs. search needs)
-    (λ c κs. search needs)
     (λ c κs. search table-few)
     (λ c.  -- returns
     let add-nodes = c .before .before .add-nodes in
-    let add2 = c .before .before .before .before .add2 in
-    let add = c .before .before .before .before .before .before .add in
-    all-added _ _ _ _ add.ensures add2.ensures add-nodes.ensures (c .add-errors .ensures)))
+    let add = c .before .before .before .before .add in
+    all-added _ _ _ _ add.ensures add-nodes.ensures (c .add-errors .ensures)))

@@ -1,4 +1,4 @@
--- `figures::add_table` meets its contract: 1 to 5, then its figures. Assumes nothing.
+-- `figures::add_table` meets its contract: 1 to 5, then the figures of a file that they let in. Assumes nothing.
 use Rattle.figures.proofs.Totals.{given-sound, table-added, table-refused}
 use borrow.Author.Needs.{needs}
 use Rattle.figures.proofs.add_table.Statement.{statement}
@@ -9,13 +9,20 @@ add-table-spec =
     tie.close
     (tie.spec
     (λ c κs. search needs)
+    (λ c κs. search needs)
+    (λ c κs. search needs)
     (λ c. search needs)
     (λ c κs. search given-sound)
     (λ c. search needs)
     (λ c.  -- returns
     let entered = c .before .before .before .entered in
-    let enter = c .before .before .before .before .before .enter-dialect in
-    table-added _ _ _ enter.ensures entered.given.1 _ (c .add-all .ensures))
+    let add = c .before .before .before .before .before .add in
+    let back = c .before .before .before .before .before .before in
+    let files = back .files in
+    let enter = back .before .before .enter-dialect in
+    table-added _ _ _ enter.ensures _ files.ensures add.ensures entered.given.1 (c .add-all .ensures))
     (λ c.  -- returns-2
-    let enter = c .before .before .before .enter-dialect in
-    table-refused _ _ _ enter.ensures (c .before .entered2 .given .1) _))
+    let add = c .before .before .before .add in
+    let files = c .before .before .before .before .files in
+    let enter = c .before .before .before .before .before .before .enter-dialect in
+    table-refused _ _ _ enter.ensures _ files.ensures add.ensures (c .before .entered2 .given .1)))

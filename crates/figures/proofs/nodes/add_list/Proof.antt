@@ -1,5 +1,5 @@
--- `figures::nodes::add_list` meets its contract: the list, and its modes if it is accepted. Assumes nothing.
-use Rattle.figures.proofs.Lists.{told-ranged, list-accepted, list-refused}
+-- `figures::nodes::add_list` meets its contract: the list and its modes. Assumes nothing.
+use Rattle.figures.proofs.Lists.{told-ranged, list-added}
 use borrow.Author.Needs.{needs}
 use Rattle.figures.proofs.nodes.add_list.Statement.{statement}
 use Rattle.figures.proofs.nodes.add_list.Tie as tie
@@ -10,9 +10,6 @@ add-list-spec =
     (tie.spec
     (λ c κs. search needs)
     (λ c κs. search needs)
-    (λ c. search needs)
     (λ c κs. search told-ranged)
     (λ c κs. search needs)
-    (λ c. search needs)
-    (λ c. search list-accepted)  -- returns
-    (λ c. search list-refused))  -- returns-2
+    (λ c. search list-added))  -- returns
