@@ -152,7 +152,7 @@ static void run_book_remove(void) { number = starlark_book_remove(zone_book, siz
 
 /* Figures of the file that check of a file has. */
 static uint64_t figures[STARLARK_FIGURES];
-static void run_figures(void) { number = starlark_figures(file, file_len, figures, out); }
+static void run_figures(void) { number = starlark_figures(damaged, damaged_bytes + 1, figures, out); }
 
 struct job {
     const char *name;
