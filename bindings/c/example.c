@@ -257,6 +257,26 @@ static void check_file(const char *words, const uint8_t *dialect, size_t dialect
     printf("\n");
 }
 
+/* The figures of the script's file two times over and `more` of its bytes, in one call and step by step. */
+static void figures(const char *words, size_t damaged, size_t more) {
+    uint32_t out[STARLARK_WORDS];
+    uint64_t counts[STARLARK_FIGURES], steps[STARLARK_FIGURES] = {0};
+    static uint8_t input[3 * STARLARK_FILE_BYTES];
+    size_t one = script_file(input, STARLARK_DIALECT_EXTENDED, 9, STARLARK_FILE_BYTES), length = 2 * one + more, at = 0;
+    memcpy(input + one, input, one);
+    memcpy(input + 2 * one, input, more);
+    if (damaged < length) input[damaged] ^= 1;
+    uint32_t number = starlark_figures(input, length, counts, out);
+    printf("%s: %u", words, number);
+    if (number != STARLARK_ACCEPTED) printf(" at byte %llu", (unsigned long long)out[1] << 32 | out[0]);
+    printf(", files %llu, nodes %llu, lists %llu, calls %llu and %llu, error 11 %llu, error 13 %llu", (unsigned long long)counts[STARLARK_FIGURE_FILES],
+           (unsigned long long)counts[STARLARK_FIGURE_NODES], (unsigned long long)counts[STARLARK_FIGURE_LISTS],
+           (unsigned long long)counts[STARLARK_FIGURE_CALLS_ACCEPTED], (unsigned long long)counts[STARLARK_FIGURE_CALLS_REFUSED],
+           (unsigned long long)counts[STARLARK_FIGURE_ERROR_11], (unsigned long long)counts[STARLARK_FIGURE_ERROR_13]);
+    while (at < length && starlark_figures_step(input + at, length - at, steps, out) == STARLARK_ACCEPTED) at += out[0];
+    printf("; steps to byte %zu, %s\n", at, memcmp(counts, steps, sizeof steps) == 0 ? "the same" : "others");
+}
+
 /* A format text of `length` bytes as its parts, in `room` words and `bytes_room` bytes, which hold 9 and a dot. */
 static void read_format(const char *words, const char *text, size_t length, size_t room, size_t bytes_room) {
     uint32_t out[STARLARK_WORDS], parts[16];
@@ -424,6 +444,9 @@ int main(int count, char **words) {
     check_file("the file in the Extended dialect, checked", extended, 9, none, 26);
     check_file("with no dialect, a list of seven words", extended, 0, none, 7);
     check_file("with a changed byte", extended, 9, 600, 4);
+    figures("figures of two files", none, 0);
+    figures("with a byte behind them", none, 1);
+    figures("with a changed byte in the second", 3000, 0);
     enum { TEXT = STARLARK_PART_TEXT, NONE = STARLARK_PART_NONE, STR = STARLARK_PART_STR, REPR = STARLARK_PART_REPR };
     static const uint32_t parts[] = {TEXT, 6, TEXT, 2, STR, 0, TEXT, 0, TEXT, 4, REPR, 0, NONE, 0};
     enum { PARTS = sizeof parts / sizeof *parts };

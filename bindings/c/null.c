@@ -60,6 +60,9 @@ static uint32_t run_fstring_read(const struct part *part, uint32_t *out) { retur
 static uint32_t run_book_lookup(const struct part *part, uint32_t *out) { return starlark_book_lookup(PART(0), PART(1), 7, 1, out); }
 static uint32_t run_book_add(const struct part *part, uint32_t *out) { return starlark_book_add(PART(0), PART(1), 7, 2, PART(2), out); }
 static uint32_t run_book_remove(const struct part *part, uint32_t *out) { return starlark_book_remove(PART(0), PART(1), 7, 1, out); }
+static uint64_t counts[STARLARK_FIGURES];
+static uint32_t run_figures(const struct part *part, uint32_t *out) { return starlark_figures(PART(0), counts, out); }
+static uint32_t run_figures_step(const struct part *part, uint32_t *out) { return starlark_figures_step(PART(0), counts, out); }
 static uint32_t run_book_blank(const struct part *part, uint32_t *out) { return starlark_book_blank(PART(0), out); }
 
 /* what a part is: a buffer that is read, one of bytes that is written, or one of words; a job's parts in the order of its arguments */
@@ -72,7 +75,7 @@ static const struct job {
             {"rescue", "fb", run_rescue}, {"read", "fbb", run_read},     {"check_file", "fw", run_check_file},
             {"audit", "tndw", run_audit}, {"fstring_write", "pndb", run_fstring_write}, {"fstring_read", "xwb", run_fstring_read},
             {"book_lookup", "zl", run_book_lookup}, {"book_add", "ZLd", run_book_add}, {"book_remove", "ZL", run_book_remove},
-            {"book_blank", "b", run_book_blank}};
+            {"book_blank", "b", run_book_blank}, {"figures", "f", run_figures}, {"figures_step", "f", run_figures_step}};
 enum { JOBS = sizeof jobs / sizeof *jobs };
 
 /* What a run leaves: its number, its words, and the buffers that it writes. */

@@ -150,6 +150,10 @@ static void run_book_add(void) {
 }
 static void run_book_remove(void) { number = starlark_book_remove(zone_book, sizeof zone_book, line_book, sizeof line_book, 7, 1, out); }
 
+/* Figures of the file that check of a file has. */
+static uint64_t figures[STARLARK_FIGURES];
+static void run_figures(void) { number = starlark_figures(damaged, damaged_bytes + 1, figures, out); }
+
 struct job {
     const char *name;
     void (*run)(void);
@@ -159,7 +163,8 @@ struct job {
           {"rescue of a cut file", run_rescue, 0}, {"rescue of a whole file", run_rescue_whole, 0}, {"read of a file", run_read, 0},
           {"check of a file", run_check_file, 0}, {"audit", run_audit, 0}, {"audit with all switches off", run_audit_off, 0},
           {"fstring_read", run_fstring_read, 0}, {"fstring_write", run_fstring_write, 0},
-          {"lookup in books", run_book_lookup, 0}, {"addition to a book", run_book_add, 0}, {"removal from a book", run_book_remove, 0}};
+          {"lookup in books", run_book_lookup, 0}, {"addition to a book", run_book_add, 0}, {"removal from a book", run_book_remove, 0},
+          {"figures of a file", run_figures, 0}};
 enum { JOBS = sizeof jobs / sizeof *jobs };
 
 /* Whether a job ends on a stack of so many bytes. */

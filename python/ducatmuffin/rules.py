@@ -6,11 +6,12 @@ from .numbers import GIVEN, NUMBERS, WORDS
 from .output import Failed
 
 CHECK, BIND, PAIR, WRITE, PARAMS, RESCUE = "check", "bind", "pair", "write", "params", "rescue"
-READ_TEXT, WRITE_TEXT, COMMANDS = "fstring_read", "fstring_write_words", "commands"
+READ_TEXT, WRITE_TEXT, COMMANDS, STEP = "fstring_read", "fstring_write_words", "commands", "figures_step"
 # what gives the number, in words; {} is the dialect's option
 HOW = {CHECK: "`ducat check{} FILE`", BIND: "`ducat bind{} FILE`", PAIR: "`ducat bind FILE --call 0 --def 0`", WRITE: "its records and names, given to `ducat write`",
        PARAMS: "the job params of node 0, with a buffer of 0 bytes", RESCUE: "`ducat rescue FILE -o OUT`", READ_TEXT: "the function `fstring_read` of the library",
-       WRITE_TEXT: "the function `fstring_write_words` of the library, with no text bytes", COMMANDS: "the last of them gives it"}
+       WRITE_TEXT: "the function `fstring_write_words` of the library, with no text bytes", COMMANDS: "the last of them gives it",
+       STEP: "the function `figures_step` of the library, where 4,294,967,295 files are counted"}
 FORMS = {READ_TEXT: "a format text", WRITE_TEXT: "words of parts", COMMANDS: "commands"}
 
 
@@ -101,6 +102,7 @@ EXAMPLES = {
     73: table("(Break)", then=((514, 23),)),
     74: table("(Break)", then=((4, 0),)),
     75: table("(Break)", more=1),
+    76: table("(Break)", STEP),
     80: script("def f(a): pass\nf(*a)", how=BIND),
     81: script("def f(a): pass\nf(1, 2)", how=BIND),
     82: script("def f(a, /): pass\nf(a=1)", how=BIND),

@@ -6,7 +6,7 @@ import unittest
 import support
 from command import STEP, CommandTest
 from ducatmuffin import numbers, rules, table
-from ducatmuffin.library import Refusal
+from ducatmuffin.library import NO_FIGURES, Refusal
 
 
 def with_bytes(data, then, more):
@@ -39,6 +39,9 @@ class Rule(CommandTest):
         if example.how == rules.PARAMS:
             answer = support.library().params(text.table, text.names, 0, room=0)
             return {answer.number} if type(answer) is Refusal else set()
+        if example.how == rules.STEP:
+            answer = support.library().figures_step(text.file(), NO_FIGURES._replace(files=numbers.MOST_FILES))
+            return {answer.number} if type(answer) is Refusal else set()
         name = self.put(f"{number}.table", with_bytes(text.file(), example.then, example.more))
         if example.how == rules.PAIR:
             return self.printed("bind", name, "--call", "0", "--def", "0")
@@ -64,7 +67,7 @@ class Rule(CommandTest):
     def test_a_script_where_one_gives_it(self):
         """The numbers of jobs on a table alone and of files have no script."""
         self.assertEqual([number for number, example in rules.EXAMPLES.items() if not example.script],
-                         [1, 2, 3, 4, 6, 7, 63, 64, *range(70, 76), 90, 91, *range(95, 99)])
+                         [1, 2, 3, 4, 6, 7, 63, 64, *range(70, 77), 90, 91, *range(95, 99)])
 
     def test_what_is_printed(self):
         said = ("13 NO_DEFAULT_AFTER_DEFAULT\nmeaning: a parameter without a default stands after one that has a default\n"

@@ -5,6 +5,7 @@ use starlark_checks::check_file;
 use starlark_checks::dialect::ALL;
 use starlark_checks::dialect::EXTENDED;
 use starlark_checks::dialect::STANDARD;
+use starlark_checks::figures;
 use starlark_checks::fstring_read;
 use starlark_checks::fstring_write;
 use starlark_checks::fstring_write_words;
@@ -357,6 +358,31 @@ fn reads() {
     show_checked("a file with a byte behind it", &[&none[..], &[0]].concat(), 2 * ERROR_WORDS);
 }
 
+/// The figures of an input, in one call and step by step.
+fn show_figures(words: &str, input: &[u8]) {
+    let report = figures::report(input);
+    let (mut counts, mut at) = (figures::Figures::default(), 0);
+    while at < input.len() {
+        match figures::step(&input[at..], &mut counts) {
+            Ok(taken) => at += taken,
+            Err(_) => break,
+        }
+    }
+    let figures::Figures { files, nodes, lists, modes, .. } = report.figures;
+    let same = if counts == report.figures { "the same" } else { "others" };
+    println!("{words}: {:?}, files {files}, nodes {nodes}, lists {lists}, modes {modes:?}; steps to byte {at}, {same}", report.refused);
+}
+
+fn figures_of_files() {
+    let script = def(vec![leaf(NORMAL, "a"), leaf(NO_ARGS, ""), leaf(NORMAL, "b")]);
+    let mut file = vec![BEFORE; FILE_BYTES];
+    let size = script.table().write(&EXTENDED, &mut file).expect("the file is written");
+    let two = [&file[..size], &file[..size]].concat();
+    show_figures("figures of two files", &two);
+    show_figures("of no file", &[]);
+    show_figures("with a byte behind them", &[&two[..], &[0]].concat());
+}
+
 /// Parts written into a buffer of `room` bytes, and read back from there.
 fn show_format(words: &str, parts: &[Part], dialect: &[u8], room: usize) {
     let mut text = vec![b'.'; room];
@@ -410,5 +436,6 @@ fn main() {
     files();
     rescues();
     reads();
+    figures_of_files();
     formats();
 }

@@ -59,7 +59,7 @@ pub struct Figures {
 impl Figures {
     /// The number of parameters of a mode in the lists that are accepted.
     pub fn mode(&self, mode: Mode) -> u64 {
-        self.modes[usize::from(u8::from(mode)) - 1]
+        self.modes[mode as usize - 1]
     }
 
     /// How often the module pass gives a number; None for a number that it never gives.

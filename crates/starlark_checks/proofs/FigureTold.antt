@@ -41,7 +41,7 @@ pub report-put : (v w : Reported) {n : ℕ} (xs : List ℕ) {ys : List ℕ} → 
 report-put v w xs q (i, p) =
     let k = ap (λ (r : Reported). r .ending) q in
     let words : laid (endingWords (v .ending)) 0 xs ≡ laid (endingWords (w .ending)) 0 xs
-        = ap (λ (e : Ending). laid (endingWords e) 0 xs) k in
+    = ap (λ (e : Ending). laid (endingWords e) 0 xs) k in
     (i ∙ ap endingNumber k, (p ∙ words, ap (λ (r : Reported). r .figures) q))
 
 -- a file whose blocks pass takes at most 59,904 bytes: block 0, 16 of names and 100 of nodes
@@ -64,6 +64,7 @@ step-fits w figures {n = n} a-is e = start (eqb (length w) 0) (sym a-is ∙ e)
         let front = passed-both (frontCheck w) (λ _. soundCheck (contentAt w)) (rest .2) in
         omega (arith, is, front-most w (fronted-then w (λ _. accepted []) (rw (front .1) refl) .0))
     go (refused k vs) c f = never (cc)
+
     start : (t : Bool) → if' t (λ _. Taken 0) (λ _. told (stepCheck w figures) (headerAt w .taken)) ≡ Taken n
         → n < 2 ^ 32
     start true f = let z : 0 ≡ n = cc in omega (arith, z)
