@@ -5,3 +5,5 @@ pub mod Whole
 pub mod Promises
 pub mod Found
 pub mod Theorems
+pub mod Alike
+pub mod Exchanging

@@ -5,8 +5,8 @@
 --   call with nothing reported, whose names are those of their parameters, is reported.
 --
 -- "Reaches" is what the binding job says: the words of its list at exit (`argumentWord` of the crate `reached`). The
--- job's reports are those of these words (`count-is`, `list-is`); the rest is the law of lists (Found) and that names of
--- parameters are distinct (reached's `one-name`). Assumes nothing.
+-- job's reports are those of these words (`count-is`, `list-is`); the rest is the law of lists (Found) and that names
+-- of parameters are distinct (reached's `one-name`). Assumes nothing.
 use mathlib.Core.Path.{_≡_, refl, sym, ap, _∙_}
 use mathlib.Core.Bool.{Bool, true, false}
 use mathlib.Core.Logic.{_↔_}
@@ -40,14 +40,35 @@ use Rattle.namesakes.specs.Job.{labelledAt, entryOf, boundAt, boundOf, r
 use Rattle.namesakes.specs.Said.{nodeOf, Reported, Exchanged}
 use Rattle.namesakes.proofs.Lists.{bare}
 use Rattle.namesakes.proofs.Whole.{labelled-many}
-use Rattle.namesakes.proofs.Found.{Sake, ordinary-found, ordinary-missed, reported, none-if, rowOf, fourOf, row-at}
+use Rattle.namesakes.proofs.Found.{Sake, ordinary-found, ordinary-missed, reported, none-if, rowOf, fourOf}
+use Rattle.namesakes.proofs.Found.{row-at}
 
 -- an argument with its name is an argument
 bare-at : (qs : List Labelled) (k : ℕ) (a : Labelled) → IsAt qs k a → IsAt (bare qs) k (a .argument)
 bare-at (b ∷ qs) zero a at = ap (λ (x : Labelled). x .argument) at
 bare-at (b ∷ qs) (suc k) a at = bare-at qs k a at
 
--- a call and a def that the binding accepts with a list of words, and this job with a list
+pub argument-at : (t names : List ℕ) (call k : ℕ) (a : Labelled) → IsAt (labelledAt t names call) k a
+    → IsAt (argumentsAt t names call) k (a .argument)
+argument-at t names call k a at = rw (labelled-many t names call) at (bare-at (labelledAt t names call) k a at)
+
+-- a call and a def that the binding accepts with a list of words: both jobs have one binding
+module _ (t names : List ℕ) (call def : ℕ) (words : List ℕ) {vs : List ℕ}
+    (bound : bindOf t names call def (length words) ≡ accepted vs) where
+  pub pass : Passed t names call def words
+  pass = passing.passed t names call def words bound
+
+  pub bound-is : boundAt t names call def ≡ accepted (pass .words)
+  unfolding boundAt listsBound binding
+  bound-is = rw (
+    limited-short (recordOf def (stretchOf t def)) (listOf t names def) (pass .short) ∙ pass .outcome,
+    pass .inOrder,
+    pass .noStar,
+    pass .walked,
+    pass .noEmpty,
+  ) refl
+
+-- and this job with a list
 module _ (t names : List ℕ) (call def : ℕ) (words : List ℕ) {vs : List ℕ}
     (bound : bindOf t names call def (length words) ≡ accepted vs) (list : List ℕ) {n : ℕ}
     (found : namesakesOf t names call def (length list) ≡ accepted (n ∷ [])) where
@@ -60,25 +81,14 @@ module _ (t names : List ℕ) (call def : ℕ) (words : List ℕ) {vs : List ℕ
   abbrev own : ℕ → ℕ
   own k = argumentWord t names call def words k
 
-  pass : Passed t names call def words
-  pass = passing.passed t names call def words bound
+  abbrev ps : Passed t names call def words
+  ps = pass t names call def words bound
 
   abbrev ws : List ℕ
-  ws = pass .words
+  ws = ps .words
 
   abbrev rs : List Report
   rs = reportsAt t names call def ws
-
-  -- both jobs have one binding
-  bound-is : boundAt t names call def ≡ accepted ws
-  unfolding boundAt listsBound binding
-  bound-is = rw (
-    limited-short (recordOf def (stretchOf t def)) (listOf t names def) (pass .short) ∙ pass .outcome,
-    pass .inOrder,
-    pass .noStar,
-    pass .walked,
-    pass .noEmpty,
-  ) refl
 
   so-bound : boundOf t names call def (length list) ≡ accepted ws
   unfolding namesakesOf boundOf
@@ -86,7 +96,7 @@ module _ (t names : List ℕ) (call def : ℕ) (words : List ℕ) {vs : List ℕ
     where
       go : (a : Answer) → counted (andThen a (λ _. boundAt t names call def)) (reportsAt t names call def)
           ≡ accepted (n ∷ []) → andThen a (λ _. boundAt t names call def) ≡ accepted ws
-      go (accepted us) e = bound-is
+      go (accepted us) e = bound-is t names call def words bound
       go (refused m us) e = never-passed e
 
   count-is : n ≡ length rs
@@ -97,12 +107,9 @@ module _ (t names : List ℕ) (call def : ℕ) (words : List ℕ) {vs : List ℕ
   unfolding listAfter
   list-is = rw so-bound (over-front (rows rs) list)
 
-  argument : (k : ℕ) (a : Labelled) → IsAt qs k a → IsAt (argumentsAt t names call) k (a .argument)
-  argument k a at = rw (labelled-many t names call) at (bare-at qs k a at)
-
   own-is : (k : ℕ) (a : Labelled) → IsAt qs k a → own k ≡ getD ws (length fs + k) 0
-  own-is k a at = passing.word-is t names call def words pass (length fs + k)
-      (omega (arith, within (argumentsAt t names call) k (a .argument) (argument k a at)))
+  own-is k a at = passing.word-is t names call def words ps (length fs + k)
+      (omega (arith, within (argumentsAt t names call) k (a .argument) (argument-at t names call k a at)))
 
   -- the parameter of a name
   sake-at : (x : Name) (q : ℕ) → namesakeOf fs (label x) ≡ At q → Sake fs x q
@@ -124,7 +131,7 @@ module _ (t names : List ℕ) (call def : ℕ) (words : List ℕ) {vs : List ℕ
       go (At i) e =
           let f = ordinary-found fs (p .name) 0 i e in
           let s : Sake fs (p .name) (f .0) = f .1 .1 in
-          let same : f .0 ≡ q = one-name (listOf t names def) (pass .counts) (pass .outcome) (f .0) q (s .param) p
+          let same : f .0 ≡ q = one-name (listOf t names def) (ps .counts) (ps .outcome) (f .0) q (s .param) p
           (s .there) there (s .name) in
           ap At (omega (arith, f .1 .0))
       go Nothing e = absurd (ordinary-missed fs (p .name) 0 e q p there o refl)
@@ -139,9 +146,10 @@ module _ (t names : List ℕ) (call def : ℕ) (words : List ℕ) {vs : List ℕ
       let mine = own-is k a at in
       let r = reported fs ws (length fs) qs k a q at (ap (namesakeOf fs) name ∙ at-sake q p there o)
       (λ e. far (mine ∙ e)) in
-      let theirs = passing.word-is t names call def words pass q (omega (arith, within fs q p there)) in
+      let theirs = passing.word-is t names call def words ps q (omega (arith, within fs q p there)) in
       let row : take 4 (drop (4 * r .0) (listAfter t names call def list))
-      ≡ fourOf (rowOf fs ws (length fs + k) a q) = rw list-is (row-at rs (drop (length (rows rs)) list) (r .0) _ (r .1)) in
+      ≡ fourOf (rowOf fs ws (length fs + k) a q) =
+      rw list-is (row-at rs (drop (length (rows rs)) list) (r .0) _ (r .1)) in
       record {
         number = r .0;
         below = omega (arith, count-is, within rs (r .0) _ (r .1));
@@ -187,14 +195,15 @@ module _ (t names : List ℕ) (call def : ℕ) (words : List ℕ) {vs : List ℕ
   exchanged-reported j l x =
       let a = x .first in
       let b = x .second in
-      let at = argument j a (x .firstThere) in
-      let bt = argument l b (x .secondThere) in
+      let at = argument-at t names call j a (x .firstThere) in
+      let bt = argument-at t names call l b (x .secondThere) in
       let far : own j ≡ own l → ⊥ = λ e.
       x .apart (at-most-one t names call def words bound (x .param) j l _ _ at bt e (x .paramThere) (x .ordinary)) in
       let mine : parameterWord t names call def words (own j) ≡ nodeOf a =
       halves-agree t names call def words bound (own j) j (x .param) _ (x .paramThere) (x .ordinary) at .1 refl in
       let theirs : parameterWord t names call def words (own l) ≡ nodeOf b =
-      halves-agree t names call def words bound (own l) l (x .other) _ (x .otherThere) (x .otherOrdinary) bt .1 refl in (
+      halves-agree t names call def words bound (own l) l (x .other) _ (x .otherThere) (x .otherOrdinary) bt .1 refl
+      in (
         rw theirs at (is-reported j a (own l) (x .other) (x .firstThere) (x .firstName) (x .otherThere)
             (x .otherOrdinary) far),
         rw mine at (is-reported l b (own j) (x .param) (x .secondThere) (x .secondName) (x .paramThere) (x .ordinary)

@@ -1,8 +1,8 @@
--- The reports of a call and a def in a table, and the job, return by return, in the terms of code. A call and a def that
--- are let in are let in by the binding too, because its 4,200 words are enough for any two nodes (`enters`). Their
+-- The reports of a call and a def in a table, and the job, return by return, in the terms of code. A call and a def
+-- that are let in are let in by the binding too, because its 4,200 words are enough for any two nodes (`enters`). Their
 -- binding is then the same (`words-same`). The words that `bind` leaves in zeros are those of the binding, and 0 behind
--- them, so that both say the same of every place (`padded`), and the reports are the same (`reads-same`).
--- Assumes nothing.
+-- them, so that both say the same of every place (`padded`), and the reports are the same (`reads-same`). Assumes
+-- nothing.
 use mathlib.Core.Path.{_≡_, refl, sym, ap, _∙_}
 use mathlib.Core.Bool.{Bool, true, false}
 use mathlib.Core.List.{List, [], _∷_, _++_}
@@ -164,16 +164,16 @@ padded ws n i = go ws (drop (length ws) (replicate n 0))
     go (w ∷ ws) zs z (suc i) = go ws zs z i
 
 -- LAW: who is let in is let in by the binding, and has room
-pub enters : (t ns : List ℕ) (call def room : ℕ) → entryOf t ns call def room ≡ accepted []
+pub enters : (t ns : List ℕ) (call def room : ℕ) {vs : List ℕ} → entryOf t ns call def room ≡ accepted vs
     → (binding.entryOf t ns call def 4200 ≡ accepted []) × (4 * length (argumentsAt t ns call) ≤ room)
 unfolding entryOf binding.entryOf
-enters t ns call def room e = go (entryCheck Call t ns call) (isDef t def)
+enters t ns call def room {vs} e = go (entryCheck Call t ns call) (isDef t def)
     (leb (4 * length (argumentsAt t ns call)) room) refl refl refl e
   where
     go : (a : Answer) (b l : Bool) → entryCheck Call t ns call ≡ a → isDef t def ≡ b
         → leb (4 * length (argumentsAt t ns call)) room ≡ l
         → andThen a (λ _. andThen (if' b (λ _. accepted []) (λ _. refused wrongNode []))
-        (λ _. if' l (λ _. accepted []) (λ _. refused shortBuffer []))) ≡ accepted []
+        (λ _. if' l (λ _. accepted []) (λ _. refused shortBuffer []))) ≡ accepted vs
         → (andThen a (λ _. andThen (if' b (λ _. accepted []) (λ _. refused wrongNode []))
         (λ _. binding.roomCheck 4200 (listOf t ns def) (argumentsAt t ns call))) ≡ accepted [])
         × (4 * length (argumentsAt t ns call) ≤ room)

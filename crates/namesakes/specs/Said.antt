@@ -1,13 +1,18 @@
 -- What the theorems on namesakes speak of: a row of the list, two arguments that are exchanged, and a call in which two
 -- arguments of another stand exchanged. These are definitions.
 use mathlib.Core.Path.{_≡_}
+use mathlib.Core.Bool.{true}
 use mathlib.Core.List.{List, [], _∷_}
 use Prim.Native.Nat.{ℕ, _*_, _<_}
 use lib.ListN.{take, drop}
 use Rattle.forest.specs.Forest.{Node}
+use Rattle.table.specs.Check.{nodeFits}
+use Rattle.table.specs.declared.Wanted.the-variants.{Call}
+use Rattle.deflist.specs.Written.{Name}
 use Rattle.deflist.specs.Unpack.{modePosOnly}
-use Rattle.arguments.specs.Written.{Argument, positional, named, args, kwargs, nodeIn}
+use Rattle.arguments.specs.Written.{Argument, positional, named, args, kwargs, nodeIn, kindIn}
 use Rattle.bind.specs.FlatList.{FlatParam}
+use Rattle.bind.specs.Job.{argumentsAt}
 use Rattle.reached.specs.Said.{IsAt, Ordinary, flatsAt, argumentWord}
 use Rattle.namesakes.specs.Namesake.{label, Labelled}
 use Rattle.namesakes.specs.Job.{labelledAt}
@@ -50,28 +55,30 @@ pub record OwnName (t names : List ℕ) (call def k : ℕ) : Type 0 where
   pub posOnly : param .mode ≡ modePosOnly
   pub name : argument .name ≡ label (param .name)
 
--- two arguments of one kind, and of one name if they are named
-abbrev pub Like : Argument → Argument → Type 0
-Like (positional r) (positional s) = Unit {0}
-Like (positional r) (named s n) = ⊥
-Like (positional r) (args s) = ⊥
-Like (positional r) (kwargs s) = ⊥
-Like (named r m) (positional s) = ⊥
-Like (named r m) (named s n) = m ≡ n
-Like (named r m) (args s) = ⊥
-Like (named r m) (kwargs s) = ⊥
-Like (args r) (positional s) = ⊥
-Like (args r) (named s n) = ⊥
-Like (args r) (args s) = Unit {0}
-Like (args r) (kwargs s) = ⊥
-Like (kwargs r) (positional s) = ⊥
-Like (kwargs r) (named s n) = ⊥
-Like (kwargs r) (args s) = ⊥
-Like (kwargs r) (kwargs s) = Unit {0}
+-- the name that an argument is called by; only named ones have one
+abbrev pub calledBy : Argument → Name
+calledBy (positional r) = []
+calledBy (named r n) = n
+calledBy (args r) = []
+calledBy (kwargs r) = []
 
--- two calls with the same kinds and names of arguments
+-- two lists of arguments of the same kinds, called by the same names
 abbrev pub Alike : List Argument → List Argument → Type 0
 Alike [] [] = Unit {0}
 Alike [] (b ∷ bs) = ⊥
 Alike (a ∷ qs) [] = ⊥
-Alike (a ∷ qs) (b ∷ bs) = Like a b × Alike qs bs
+Alike (a ∷ qs) (b ∷ bs) = ((kindIn a ≡ kindIn b) × (calledBy a ≡ calledBy b)) × Alike qs bs
+
+-- another call in which arguments j and l of a call stand exchanged, and all else is alike
+pub record Swapped (t names : List ℕ) (call other def j l : ℕ) : Type 0 where
+  pub isACall : nodeFits t other Call ≡ true
+  pub alike : Alike (argumentsAt t names call) (argumentsAt t names other)
+  pub apart : j ≡ l → ⊥
+  pub own : OwnName t names call def j
+  pub owns : OwnName t names call def l
+  pub first : Labelled
+  pub second : Labelled
+  pub firstThere : IsAt (labelledAt t names other) j first
+  pub secondThere : IsAt (labelledAt t names other) l second
+  pub firstName : first .name ≡ owns .argument .name
+  pub secondName : second .name ≡ own .argument .name

@@ -1,8 +1,8 @@
--- Argument lists of two calls that say the same. As with parameters, both lists are made from one list of pairs: a kind,
--- a name and two records at the same place (`arguments-paired`). `unpack` looks at kinds and names alone; only the node
--- of an earlier argument of the same name may differ, and that is not read. 22 is read at the name: its begin is the
--- record's source position, and its end that and the name's length. The induction is on the list of pairs (`run-same`).
--- Cite `call-same`. Assumes nothing.
+-- Argument lists of two calls that say the same. As with parameters, both lists are made from one list of pairs: a
+-- kind, a name and two records at the same place (`arguments-paired`). `unpack` looks at kinds and names alone; only
+-- the node of an earlier argument of the same name may differ, and that is not read. 22 is read at the name: its begin
+-- is the record's source position, and its end that and the name's length. The induction is on the list of pairs
+-- (`run-same`). Cite `call-same`. Assumes nothing.
 use mathlib.Core.Path.{_≡_, refl, ap}
 use mathlib.Core.Bool.{Bool, true, false}
 use mathlib.Core.List.{List, [], _∷_, _++_}
@@ -17,7 +17,8 @@ use Rattle.forest.specs.declared.Found.{Found}
 use Rattle.forest.specs.declared.Found.the-variants.{At, Nothing}
 use Rattle.table.specs.Answer.{refusedAt}
 use Rattle.table.specs.Numbers.{namedAfterStar, repeatedNamed}
-use Rattle.arguments.specs.Written.{Name, Argument, nodeIn, kindIn, kindAt, argument, argumentOf, argumentsIn, argumentsOf}
+use Rattle.arguments.specs.Written.{Name, Argument, nodeIn, kindIn, kindAt, argument, argumentOf, argumentsIn}
+use Rattle.arguments.specs.Written.{argumentsOf}
 use Rattle.arguments.specs.Call.{pastNamed, hasName, firstSame, repeats, newName, rule, check, advance, total, taken}
 use Rattle.arguments.specs.Call.{Outcome, unlessBroken, run, start, unpack}
 use Rattle.arguments.specs.Job.{refusedAtName, outcomeAnswer, callAnswer}
@@ -192,7 +193,8 @@ module _ (p : Pair) (next more : Unit {0} → Outcome) (on-same : Same (next tt)
       (unlessBroken (check (otherList bs) stage (argument k (p .other) n)) (p .other) more)
   unfolding check repeats
   turn-same bs stage Positional n = checked-same (rule stage Nothing Positional)
-  turn-same bs stage Named n = named-same (pastNamed stage) (firstSame n (oneList bs)) (firstSame n (otherList bs)) (found-same n bs)
+  turn-same bs stage Named n =
+      named-same (pastNamed stage) (firstSame n (oneList bs)) (firstSame n (otherList bs)) (found-same n bs)
   turn-same bs stage Args n = checked-same (rule stage Nothing Args)
   turn-same bs stage KwArgs n = checked-same (rule stage Nothing KwArgs)
 

@@ -19,7 +19,8 @@ use Rattle.parts.specs.Example.{recordAt, rootAt, wholeNames, inTwo, twi
 
 -- a record at two places of two tables says the same if its name does
 same-record : {names others : List ℕ} (i j kind len start there begin stop size : ℕ)
-    → nameOf names (recordAt i kind len start begin stop size) ≡ nameOf others (recordAt j kind len there begin stop size)
+    → nameOf names (recordAt i kind len start begin stop size)
+    ≡ nameOf others (recordAt j kind len there begin stop size)
     → SameRecord names others (recordAt i kind len start begin stop size) (recordAt j kind len there begin stop size)
 same-record i j kind len start there begin stop size h = record {
   kind = refl;
@@ -47,7 +48,10 @@ kept =
             (
               (
                 same-record 2 2 kindLambda 0 0 0 0 14 4 refl,
-                ((parameter 3 7 8, tt), ((parameter 4 10 11, tt), ((same-record 5 5 kindInt 0 0 0 13 14 1 refl, tt), tt))),
+                (
+                  (parameter 3 7 8, tt),
+                  ((parameter 4 10 11, tt), ((same-record 5 5 kindInt 0 0 0 13 14 1 refl, tt), tt)),
+                ),
               ),
               tt,
             ),

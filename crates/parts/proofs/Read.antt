@@ -1,7 +1,7 @@
 -- What is read of errors, and of answers, at two records that say the same: number, source file, begin and end are
 -- equal, since none of them is the node's index (`reads-at`, `answers-at`). Lists that are joined or chosen by equal
--- tests read the same where their parts do (`reads-both`, `reads-if`), and so do answers in order (`answers-then`): what
--- is read of an answer's errors tells whether it is a refusal. No induction but on a list. Assumes nothing.
+-- tests read the same where their parts do (`reads-both`, `reads-if`), and so do answers in order (`answers-then`):
+-- what is read of an answer's errors tells whether it is a refusal. No induction but on a list. Assumes nothing.
 use mathlib.Core.Path.{_≡_, refl, sym, ap, _∙_}
 use mathlib.Core.Bool.{Bool, true, false}
 use mathlib.Core.List.{List, [], _∷_, _++_}

@@ -86,7 +86,8 @@ module _ (d : Dialect) (names : List ℕ) where
     placed-under : placed Nowhere (under r ts) ≡ placedAs Plain (node r ts) ∷ placed Nowhere ts
     unfolding placedTree rolesOf
     placed-under = ap (λ (ps : List Placed). placedAs Plain (node r ts) ∷ ps)
-        (append-nil (placed (rolesOf (r .kind) (r .detail)) ts) ∙ ap (λ (q : Roles). placed q ts) (no-roles (r .kind) (r .detail) is))
+        (append-nil (placed (rolesOf (r .kind) (r .detail)) ts)
+        ∙ ap (λ (q : Roles). placed q ts) (no-roles (r .kind) (r .detail) is))
       where
         no-roles : (k x : ℕ) → k ≡ kindStatements → rolesOf k x ≡ Nowhere
         no-roles k x e = rw e refl
@@ -192,7 +193,8 @@ module _ (d : Dialect) where
   pub module-in-parts : (names : List ℕ) (r : Node) (ps : List Part) → r .kind ≡ kindStatements → Kept names ps
       → SameUpToOrder (read («validate_module» d names (under r (joined ps)))) (readInTurn («validate_module» d) ps)
   module-in-parts names r ps is kept-all test =
-      ap (tally test) (module-splits .root-body names r (joined ps) is) ∙ split-body module-splits names test ps kept-all
+      ap (tally test) (module-splits .root-body names r (joined ps) is)
+      ∙ split-body module-splits names test ps kept-all
 
 module _ (d : Dialect) (edition : Edition) where
   -- the audit
@@ -220,7 +222,8 @@ module _ (d : Dialect) (edition : Edition) where
 
   -- THEOREM: and the audit
   pub audit-in-parts : (names : List ℕ) (r : Node) (ps : List Part) → r .kind ≡ kindStatements → Kept names ps
-      → SameUpToOrder (read («audit_module» d edition names (under r (joined ps)))) (readInTurn («audit_module» d edition) ps)
+      → SameUpToOrder (read («audit_module» d edition names (under r (joined ps))))
+      (readInTurn («audit_module» d edition) ps)
   audit-in-parts names r ps is kept-all test =
       ap (tally test) (audit-splits .root-body names r (joined ps) is) ∙ split-body audit-splits names test ps kept-all
 

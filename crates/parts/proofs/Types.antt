@@ -30,7 +30,8 @@ use Rattle.parts.proofs.Read.{Answers, answers-then, answers-if, answer
 
 -- a child, by how it is read
 abbrev child : Edition → L.List ℕ → How → Tree → Answer
-child edition names how t = ofChild how (accepted L.[]) (λ _. «unpack» edition names t) (λ _. «unpack_argument» edition names t)
+child edition names how t =
+    ofChild how (accepted L.[]) (λ _. «unpack» edition names t) (λ _. «unpack_argument» edition names t)
 
 module _ (edition : Edition) (names others : L.List ℕ) where
   -- paths
@@ -51,7 +52,8 @@ module _ (edition : Edition) (names others : L.List ℕ) where
         (answers-if _ _ (ap (λ (k : ℕ). eqb k kindDot) (h .kind)) _ _ _ _ (object-same ban ks ls below)
         (answers-at h dotInType))
 
-  path-same : (t u : Tree) → SameTree names others t u → Answers («unpack_path» edition names t) («unpack_path» edition others u)
+  path-same : (t u : Tree) → SameTree names others t u
+      → Answers («unpack_path» edition names t) («unpack_path» edition others u)
   unfolding «unpack_path» SameTree
   path-same (node r ks) (node s ls) (h, below) =
       answers-if _ _ (ap (λ (k : ℕ). eqb k kindIdentifier) (h .kind)) _ _ _ _ refl
@@ -75,7 +77,8 @@ module _ (edition : Edition) (names others : L.List ℕ) where
   index-same r s (node b bs then ts) (node c cs then us) h ((b-is, _), _) =
       answers-if _ _ (ap (λ (k : ℕ). eqb k kindIdentifier) (b-is .kind)) _ _ _ _ refl (answers-at h invalidType)
 
-  index2-same : (ks ls : Forest) → SameTrees names others ks ls → Answers (index2Base edition names ks) (index2Base edition others ls)
+  index2-same : (ks ls : Forest) → SameTrees names others ks ls
+      → Answers (index2Base edition names ks) (index2Base edition others ls)
   unfolding index2Base SameTrees
   index2-same none none below = refl
   index2-same none (u then us) below = absurd below
@@ -107,7 +110,8 @@ module _ (edition : Edition) (names others : L.List ℕ) where
 
   -- a node as a type, where the same is read of its children however they are read
   module _ {r s : Node} (h : SameRecord names others r s) (ks ls : Forest) (below : SameTrees names others ks ls)
-      (inside : (reads : Reading) → Answers (unpackEach reads edition names ks) (unpackEach reads edition others ls)) where
+      (inside : (reads : Reading)
+      → Answers (unpackEach reads edition names ks) (unpackEach reads edition others ls)) where
     rule-same : Answers (typeRule edition names r ks (λ reads. unpackEach reads edition names ks))
         (typeRule edition others s ls (λ reads. unpackEach reads edition others ls))
     rule-same = go _ _ (formed (r .kind) (s .kind) (h .kind) (r .detail) (s .detail) (h .detail))
@@ -119,7 +123,8 @@ module _ (edition : Edition) (names others : L.List ℕ) where
             → Answers (andThen (atNode edition names a r ks) (λ _. unpackEach (readsOf a) edition names ks))
             (andThen (atNode edition others b s ls) (λ _. unpackEach (readsOf b) edition others ls))
         go a b e =
-            rw e (answers-then (atNode edition names b r ks) (atNode edition others b s ls) _ _ (node-same b r s ks ls h below)
+            rw e (answers-then (atNode edition names b r ks) (atNode edition others b s ls) _ _
+            (node-same b r s ks ls h below)
             (inside (readsOf b)))
 
   -- a child, by how it is read
@@ -133,7 +138,8 @@ module _ (edition : Edition) (names others : L.List ℕ) where
   mutual
     unfolding «unpack» SameTree
 
-    type-same : (t u : Tree) → SameTree names others t u → Answers («unpack» edition names t) («unpack» edition others u)
+    type-same : (t u : Tree) → SameTree names others t u
+        → Answers («unpack» edition names t) («unpack» edition others u)
     type-same (node r ks) (node s ls) (h, below) =
         rule-same h ks ls below (λ reads. unpack-each-same ks ls reads below)
 
@@ -150,7 +156,8 @@ module _ (edition : Edition) (names others : L.List ℕ) where
     unpack-each-same (t then ts) none reads h = absurd h
     unpack-each-same (t then ts) (u then us) reads (here, rest) =
         answers-then (child edition names (reads .first) t) (child edition others (reads .first) u) _ _
-        (child-same (reads .first) («unpack» edition names t) («unpack» edition others u) («unpack_argument» edition names t)
+        (child-same (reads .first) («unpack» edition names t) («unpack» edition others u)
+        («unpack_argument» edition names t)
         («unpack_argument» edition others u) (type-same t u here) (argument-same t u here))
         (unpack-each-same ts us (readsAs (reads .others) (reads .others)) rest)
 
@@ -159,5 +166,6 @@ module _ (edition : Edition) (names others : L.List ℕ) where
       → Answers («dialect_check_type» edition names types t) («dialect_check_type» edition others types u)
   unfolding «dialect_check_type» SameTree
   check-same types (node r ks) (node s ls) (h, below) =
-      answers-then (typesCheck types r) (typesCheck types s) _ _ (answers-if (permitsTypes types) _ refl _ _ _ _ refl (answers-at h typesDisabled))
+      answers-then (typesCheck types r) (typesCheck types s) _ _
+      (answers-if (permitsTypes types) _ refl _ _ _ _ refl (answers-at h typesDisabled))
       (type-same (node r ks) (node s ls) (h, below))

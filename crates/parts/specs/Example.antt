@@ -1,5 +1,5 @@
--- A script of two statements, `lambda a, a: 1` and `break`, as one tree and as two. The errors of the whole are 55, then
--- 11; those of the parts are 11, then 55, since the module pass reports statements before expressions. These are
+-- A script of two statements, `lambda a, a: 1` and `break`, as one tree and as two. The errors of the whole are 55,
+-- then 11; those of the parts are 11, then 55, since the module pass reports statements before expressions. These are
 -- definitions.
 use mathlib.Core.List.{List, [], _∷_}
 use Prim.Native.Nat.{ℕ}

@@ -45,7 +45,8 @@ unfoldable mutual
   SameTrees names others (t then ts) none = ⊥
   SameTrees names others (t then ts) (u then us) = SameTree names others t u × SameTrees names others ts us
 
--- a part: its top-level statements as they stand in the whole; its own table's root, names, and the same statements there
+-- a part: its top-level statements as they stand in the whole; its own table's root, names, and the same statements
+-- there
 pub record Part : Type 0 where
   pub cut : Forest
   pub root : Node

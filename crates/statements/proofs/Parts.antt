@@ -1,8 +1,8 @@
 -- A SCRIPT IN SEVERAL TABLES
 --
--- Theorems of crate `parts`: a script that is too large for one table is cut between top-level statements, and each part
--- is checked in a table of its own. No job accepts the whole, so these are about trees. Each is proved by citing the
--- theorem. Assumes nothing.
+-- Theorems of crate `parts`: a script that is too large for one table is cut between top-level statements, and each
+-- part is checked in a table of its own. No job accepts the whole, so these are about trees. Each is proved by citing
+-- the theorem. Assumes nothing.
 use mathlib.Core.Path.{_≡_}
 use mathlib.Core.Bool.{Bool}
 use mathlib.Core.List.{List, [], _∷_}
@@ -56,7 +56,8 @@ kept = theorem-example.kept
 
 -- an instance: the errors of the whole
 -- In words: 55 is reported before 11, because the module pass reports statements before expressions.
-pub whole-reads : read («validate_module» (recordOf (rowNamed Extended)) wholeNames (under (rootAt 0 20 7) (joined inTwo)))
+pub whole-reads :
+    read («validate_module» (recordOf (rowNamed Extended)) wholeNames (under (rootAt 0 20 7) (joined inTwo)))
     ≡ misplaced ∷ twice ∷ []
 whole-reads = theorem-example.whole-reads
 
