@@ -5,6 +5,7 @@ use Prim.Native.Nat.{ℕ, zero, suc, _+_}
 use lib.ListN.{length, getD, drop, replicate}
 use lib.Dec.{eqb, ltb}
 use Rattle.fields.specs.Choice.{if'}
+use Rattle.table.specs.Numbers.{tooManyFiles}
 use Rattle.table.specs.Answer.{Answer, accepted, refused, andThen}
 use Rattle.blocks.specs.Block.{demand}
 use Rattle.tablefile.specs.Reading.{headerAt, contentAt, frontCheck, soundCheck}
@@ -15,12 +16,9 @@ use Rattle.figures.specs.declared.Stepped.the-variants.{Taken, Refused}
 use Rattle.figures.specs.declared.Ending.the-variants.{Whole, Refused as RefusedAt}
 use Rattle.figures.specs.declared.Reported.{Reported}
 
--- a report has at most so many files, and one more is refused by 76
+-- a report has at most so many files
 abbrev pub mostFiles : ℕ
 mostFiles = 4294967295
-
-abbrev pub tooManyFiles : ℕ
-tooManyFiles = 76
 
 -- the file at the front of some bytes: its blocks, then 1 to 5 of what it holds; bytes behind it are not looked at
 unfoldable pub windowCheck : List ℕ → Answer

@@ -11,6 +11,7 @@ use table::Checked;
 use table::MOST_BYTES;
 use table::MOST_NAMES;
 use table::Ruled;
+use table::numbers;
 use tablefile::Verdict;
 ghost use mathlib.Core.Path.{_≡_};
 ghost use mathlib.Core.List.{[]};
@@ -43,9 +44,6 @@ pub const ERRORS: usize = 10;
 
 // A report has at most so many files.
 pub const MOST_FILES: u64 = 4294967295;
-
-// The number of a file after so many.
-pub const TOO_MANY_FILES: u32 = 76;
 
 // What a step answers: how many bytes the file at the front takes, or the number by which it is refused.
 pub enum Stepped {
@@ -104,7 +102,7 @@ pub fn step(window: &[u8], figures: &mut [u64; FIGURES]) -> Stepped
         return Stepped::Taken(0);
     }
     if MOST_FILES <= figures[FILES] {
-        return Stepped::Refused(TOO_MANY_FILES);
+        return Stepped::Refused(numbers::TOO_MANY_FILES);
     }
     add_front(window, figures)
 }

@@ -21,7 +21,8 @@ use Rattle.figures.specs.declared.Ending.the-variants.{Refused as RefusedAt}
 use Rattle.figures.specs.declared.Stepped.{Stepped}
 use Rattle.figures.specs.declared.Stepped.the-variants.{Taken}
 use Rattle.figures.specs.declared.Reported.{Reported}
-use Rattle.figures.specs.Reporting.{mostFiles, tooManyFiles, windowCheck, stepCheck, told, stepOf}
+use Rattle.table.specs.Numbers.{tooManyFiles}
+use Rattle.figures.specs.Reporting.{mostFiles, windowCheck, stepCheck, told, stepOf}
 use Rattle.starlark_checks.specs.Words.{laid}
 use Rattle.starlark_checks.specs.FormatWords.{twoWords}
 use Rattle.starlark_checks.specs.FigureWords.{endingNumber, endingWords}
