@@ -13,7 +13,7 @@ use Rattle.forest.specs.Forest.{Node}
 use Rattle.table.specs.Check.{nodeFits}
 use Rattle.table.specs.declared.Wanted.the-variants.{Call}
 use Rattle.deflist.specs.Written.{Name}
-use Rattle.arguments.specs.Written.{Argument, positional, named, args, kwargs, nodeIn, kindIn}
+use Rattle.arguments.specs.Written.{Argument, positional, named, args, kwargs, kindIn}
 use Rattle.arguments.specs.Accepted.{kindsOf, namesOf, Ordered}
 use Rattle.arguments.specs.declared.CallArgs.{CallArgs}
 use Rattle.arguments.specs.declared.Kind.{Kind}
