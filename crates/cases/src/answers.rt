@@ -19,8 +19,8 @@ use targets::Targeted;
 use types::Shaped;
 use validate::Listed;
 
-// What a request asks: its job, how long its parts are, and the job's node; of a binding the Def's beside the Call's. The
-// edition of the type rules stands where the Def's node does.
+// What a request asks: its job, how long its parts are, and the job's node; of a binding the Def's beside the Call's.
+// The edition of the type rules stands where the Def's node does.
 pub struct Asked {
     pub job: u16,
     pub label: usize,

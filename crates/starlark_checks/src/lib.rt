@@ -196,8 +196,8 @@ fn put_edition(edition: Stated, out: &mut [u32; 12])
     out[7] = tablefile::edition_number(edition);
 }
 
-// What a file holds before its edition: its nodes and name bytes, whether it has a dialect, and the dialect's bytes, four
-// a word.
+// What a file holds before its edition: its nodes and name bytes, whether it has a dialect, and the dialect's bytes,
+// four a word.
 fn put_front(file: &[u8], out: &mut [u32; 12])
     requires { ⌜ Fit (headerAt (now file) .nodes ∷ headerAt (now file) .names ∷ []) ⌝ }
     ensures { λ u. ⌜ now (out .exit) ≡ laid (frontValues (now (file .entry))) 0 (now (out .entry)) ⌝ }
