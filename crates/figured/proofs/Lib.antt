@@ -1,0 +1,5 @@
+pub mod Parts
+pub mod Joins
+pub mod Through
+pub mod Stops
+pub mod Sums

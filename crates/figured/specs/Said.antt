@@ -1,0 +1,56 @@
+-- What the sentences of W-214 speak of: two inputs joined, the same input through a buffer, counters that stay small.
+-- These are definitions.
+use mathlib.Core.Path.{_≡_}
+use mathlib.Core.Bool.{Bool, true, false}
+use mathlib.Core.List.{List}
+use Prim.Native.Nat.{ℕ, zero, suc, _+_, _*_, _≤_}
+use lib.ListN.{length, getD, take, drop}
+use lib.Dec.{eqb}
+use Rattle.fields.specs.Choice.{if'}
+use Rattle.blocks.specs.Block.{blockBytes}
+use Rattle.tablefile.specs.File.{mostBlocks}
+use Rattle.figures.specs.Adding.{added}
+use Rattle.table.specs.Numbers.{tooManyFiles}
+use Rattle.figures.specs.Reporting.{mostFiles, stepOf, figuresAfter, whole, afterStep, zeros}
+use Rattle.figures.specs.declared.Ending.{Ending}
+use Rattle.figures.specs.declared.Ending.the-variants.{Whole, Refused}
+use Rattle.figures.specs.declared.Reported.{Reported}
+
+-- an ending whose place is so many bytes later
+abbrev pub later : ℕ → Ending → Ending
+later n Whole = Whole
+later n (Refused k at) = Refused k (n + at)
+
+-- the sum of two reports, the second of which begins so many bytes later
+abbrev pub summed : ℕ → Reported → Reported → Reported
+summed n r s = record { figures = added (r .figures) (s .figures); ending = later n (s .ending) }
+
+-- a report that 76 did not end
+abbrev pub endedBy76 : Ending → Bool
+endedBy76 Whole = false
+endedBy76 (Refused k at) = eqb k tooManyFiles
+
+-- the bytes of the largest file: a buffer of so many bytes holds the file at its front whole
+abbrev pub windowBytes : ℕ
+windowBytes = blockBytes * mostBlocks
+
+-- the report of what is left of an input, in which each step sees only the first bytes of what is left: as many as a
+-- buffer holds at that place
+unfoldable pub throughIn : (ℕ → ℕ) → ℕ → ℕ → List ℕ → List ℕ → Reported
+throughIn room zero at figures left = whole figures
+throughIn room (suc k) at figures left =
+    if' (eqb (length left) 0) (λ _. whole figures) (λ _.
+    afterStep (stepOf (take (room at) left) figures) at figures (λ n.
+    throughIn room k (at + n) (figuresAfter (take (room at) left) figures) (drop n left)))
+
+unfoldable pub through : (ℕ → ℕ) → List ℕ → Reported
+through room input = throughIn room (length input) 0 zeros input
+
+-- the most that a file adds to a counter: 48 parameters of a mode in each of 2,100 lists
+abbrev pub mostAdded : ℕ
+mostAdded = 100800
+
+-- counters that stay small: no more files than a report may have, and no counter above what so many files can add
+pub record Small (figures : List ℕ) : Type 0 where
+  pub files : getD figures 0 0 ≤ mostFiles
+  pub others : (i : ℕ) → getD figures i 0 ≤ mostAdded * getD figures 0 0
