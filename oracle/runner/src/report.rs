@@ -13,8 +13,8 @@ use crate::port::NAMES;
 /// What the whole comparison must run of each job at the least, in the order of `NAMES`: about 99 of 100 of what the quick run has at
 /// any seed.
 const LEAST: [u64; JOBS] = [
-    1_436_000, 2_761_000, 701_000, 2_781_000, 779_000, 3_357_000, 1_640_000, 433_000, 1_420_000, 180_000, 844_000, 121_800, 97_000, 505_000,
-    890_000, 41_500, 119_000, 3_400,
+    1_436_000, 2_761_000, 701_000, 2_781_000, 779_000, 6_360_000, 1_640_000, 435_000, 1_420_000, 182_000, 885_000, 124_000, 99_000, 505_000,
+    890_000, 41_500, 119_000, 3_660,
 ];
 
 /// What the whole comparison must put to Python at the least, where there is one.

@@ -24,8 +24,8 @@ use crate::cells::Files;
 use crate::checker::Checker;
 use crate::port::Job;
 use crate::port::Request;
-use crate::port::NO_EDITION;
 use crate::port::FIRST_EDITION;
+use crate::port::NO_EDITION;
 use crate::rng::Rng;
 
 /// Nothing is permitted, and there are no types.
