@@ -223,17 +223,17 @@ pub starlark-book-blank-one : (book out : List ℕ) {r s : ℕ} {book-r book-s :
 starlark-book-blank-one book out a b c d e f = (coincide a d, coincide c f, coincide b e)
 
 -- of `starlark_figures`
-pub starlark-figures-one : (input out : List ℕ) {r s : ℕ} {figures-r figures-s out-r out-s : List ℕ}
-    → r ≡ endingNumber (reportOf input .ending) → out-r ≡ laid (endingWords (reportOf input .ending)) 0 out
-    → figures-r ≡ reportOf input .figures → s ≡ endingNumber (reportOf input .ending)
-    → out-s ≡ laid (endingWords (reportOf input .ending)) 0 out → figures-s ≡ reportOf input .figures
-    → (r ≡ s) × (figures-r ≡ figures-s) × (out-r ≡ out-s)
-starlark-figures-one input out r-is out-is figures-is s-is out-are figures-are =
+pub starlark-figures-one : (input figures out : List ℕ) {r s : ℕ} {figures-r figures-s : List ℕ}
+    {out-r out-s : List ℕ} → r ≡ endingNumber (reportOf input .ending)
+    → out-r ≡ laid (endingWords (reportOf input .ending)) 0 out → figures-r ≡ reportOf input .figures
+    → s ≡ endingNumber (reportOf input .ending) → out-s ≡ laid (endingWords (reportOf input .ending)) 0 out
+    → figures-s ≡ reportOf input .figures → (r ≡ s) × (figures-r ≡ figures-s) × (out-r ≡ out-s)
+starlark-figures-one input figures out r-is out-is figures-is s-is out-are figures-are =
     (coincide r-is s-is, coincide figures-is figures-are, coincide out-is out-are)
 
 -- of `starlark_figures_step`
-pub starlark-figures-step-one : (window figures out : List ℕ) {r s : ℕ} {figures-r figures-s out-r out-s : List ℕ}
-    → r ≡ number (stepAnswer (stepOf window figures))
+pub starlark-figures-step-one : (window figures out : List ℕ) {r s : ℕ} {figures-r figures-s : List ℕ}
+    {out-r out-s : List ℕ} → r ≡ number (stepAnswer (stepOf window figures))
     → out-r ≡ laid (words (stepAnswer (stepOf window figures))) 0 out → figures-r ≡ figuresAfter window figures
     → s ≡ number (stepAnswer (stepOf window figures))
     → out-s ≡ laid (words (stepAnswer (stepOf window figures))) 0 out → figures-s ≡ figuresAfter window figures
