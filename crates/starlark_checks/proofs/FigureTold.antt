@@ -1,6 +1,6 @@
--- Figures, told in C. How a report ends is one value of an enum, so what is put for it is put by cases (`ending-put`), and
--- the counters are those of the report (`report-put`). A step that accepts puts one word, which fits: a file takes at
--- most 59,904 bytes (`step-fits`). Assumes nothing.
+-- Figures, told in C. How a report ends is one value of an enum, so what is put for it is put by cases (`ending-put`),
+-- and the counters are those of the report (`report-put`). A step that accepts puts one word, which fits: a file takes
+-- at most 59,904 bytes (`step-fits`). Assumes nothing.
 use mathlib.Core.Path.{_≡_, refl, sym, ap, _∙_}
 use mathlib.Core.Bool.{Bool, true, false}
 use mathlib.Core.List.{List, []}

@@ -96,8 +96,8 @@ fn count(fd: i32, name: &[u8]) {
     }
 }
 
-// One turn: fills the buffer, counts the files that are whole in it, and moves what is left to its front. The bytes that
-// are held stand at a position of the input.
+// One turn: fills the buffer, counts the files that are whole in it, and moves what is left to its front. The bytes
+// that are held stand at a position of the input.
 fn take(
     fd: i32,
     buffer: &mut [u8],
@@ -154,8 +154,8 @@ fn fill(fd: i32, buffer: &mut [u8], held: usize) -> Got {
     Got::Bytes(done)
 }
 
-// Steps over the first n bytes of the buffer, as long as so many are unread. A file takes at least a byte, so n steps are
-// enough.
+// Steps over the first n bytes of the buffer, as long as so many are unread. A file takes at least a byte, so n steps
+// are enough.
 fn walk(buffer: &[u8], n: usize, wanted: usize, counters: &mut [u64; FIGURES]) -> Went {
     let mut at = 0;
     let mut turns = n;

@@ -28,14 +28,6 @@ faults! {
     ModesOfMarksWritten
     RefusedListWritesModes
     ModeBufferByFlatCount
-    OneEntryMore
-    TooManyByFlatCount
-    TooManyAtTheEntry
-    TooManyBeforeShortBuffer
-    TooManyAfterTheRules
-    TooManyNotInTheModule
-    TooManyNotInLambdas
-    TooManyTwiceInTheAudit
     RepeatedBeforeNamedAfterStar
     RepeatedAtArgumentSpan
     StarAfterStarStarAllowed
@@ -152,6 +144,14 @@ faults! {
     RefusedRescueWrites
     BytePastRescuedWritten
     RescuedFileChanged
+    OneEntryMore
+    TooManyByFlatCount
+    TooManyAtTheEntry
+    TooManyBeforeShortBuffer
+    TooManyAfterTheRules
+    TooManyNotInTheModule
+    TooManyNotInLambdas
+    TooManyTwiceInTheAudit
     AuditTellsListsTwice
     AuditJobsFirst
     AuditTypeBeforeCall
