@@ -214,6 +214,10 @@ blockCounts = 74
 abbrev pub bytesLeftOver : ℕ
 bytesLeftOver = 75
 
+-- a file after 4,294,967,295 files
+abbrev pub tooManyFiles : ℕ
+tooManyFiles = 76
+
 -- a star or `**` argument of a call that is bound
 abbrev pub starArgument : ℕ
 starArgument = 80

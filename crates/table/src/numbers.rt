@@ -105,6 +105,8 @@ pub const BLOCK_COUNTS: u32 = 74; // counts beyond the limits, or no node
 
 pub const BYTES_LEFT_OVER: u32 = 75; // bytes left over
 
+pub const TOO_MANY_FILES: u32 = 76; // a file after 4,294,967,295 files
+
 pub const STAR_ARGUMENT: u32 = 80; // a star or `**` argument of a call that is bound
 
 pub const TOO_MANY_POSITIONAL: u32 = 81; // a positional argument too many, without `*args`
