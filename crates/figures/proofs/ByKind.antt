@@ -1,8 +1,8 @@
--- One node of a sound table adds its figures, by its kind. A Def or Lambda: the code asks `deflist::judge` on the node's
--- stretch, and `paramsOf` accepts exactly where that does, because the table is sound, the node fits, and a list within
--- the limit fits the room (`mode-there`, `mode-away`). A Call: `arguments::judge` on the stretch is `callOf` of the node.
--- Any other node adds nothing. In the loop what is added for the first i nodes is one sum (`walk-on`). Cite `node-list`,
--- `node-call`, `node-other`. Assumes nothing.
+-- One node of a sound table adds its figures, by its kind. A Def or Lambda: the code asks `deflist::judge` on the
+-- node's stretch, and `paramsOf` accepts exactly where that does, because the table is sound, the node fits, and a list
+-- within the limit fits the room (`mode-there`, `mode-away`). A Call: `arguments::judge` on the stretch is `callOf` of
+-- the node. Any other node adds nothing. In the loop what is added for the first i nodes is one sum (`walk-on`). Cite
+-- `node-list`, `node-call`, `node-other`. Assumes nothing.
 use mathlib.Core.Path.{_≡_, refl, sym, ap, _∙_}
 use mathlib.Core.Bool.{Bool, true, false, _||_}
 use mathlib.Core.List.{List, [], _∷_, _++_}

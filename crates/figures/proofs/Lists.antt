@@ -119,7 +119,8 @@ unfolding only
 modes-added a {b} {c} {d} {e} {f} v w x y z b-is c-is d-is e-is f-is =
     let one : c ≡ added a (0 ∷ 0 ∷ 0 ∷ v ∷ w ∷ []) = c-is ∙ rw b-is (added-next a (0 ∷ 0 ∷ 0 ∷ v ∷ []) w) in
     let two : d ≡ added a (0 ∷ 0 ∷ 0 ∷ v ∷ w ∷ x ∷ []) = d-is ∙ rw one (added-next a (0 ∷ 0 ∷ 0 ∷ v ∷ w ∷ []) x) in
-    let three : e ≡ added a (0 ∷ 0 ∷ 0 ∷ v ∷ w ∷ x ∷ y ∷ []) = e-is ∙ rw two (added-next a (0 ∷ 0 ∷ 0 ∷ v ∷ w ∷ x ∷ []) y) in
+    let three : e ≡ added a (0 ∷ 0 ∷ 0 ∷ v ∷ w ∷ x ∷ y ∷ []) =
+    e-is ∙ rw two (added-next a (0 ∷ 0 ∷ 0 ∷ v ∷ w ∷ x ∷ []) y) in
     f-is ∙ rw three (added-next a (0 ∷ 0 ∷ 0 ∷ v ∷ w ∷ x ∷ y ∷ []) z)
 
 -- what is said of a list: if it is told to be accepted, its ranges follow one another

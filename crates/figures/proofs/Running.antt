@@ -21,7 +21,8 @@ use Rattle.tablefile.specs.Reading.{headerAt, contentAt, frontCheck, soundCheck
 use Rattle.tablefile.proofs.Fronts.{fronted-then, taken-there}
 use Rattle.figures.specs.Counting.{figuresOf}
 use Rattle.figures.specs.Reporting.{mostFiles, tooManyFiles, windowCheck, stepCheck, told, counted, stepOf}
-use Rattle.figures.specs.Reporting.{figuresAfter, whole, endedBy, afterStep, reportIn, reportFrom, zeros, reportOf}
+use Rattle.figures.specs.Reporting.{figuresAfter, whole, endedBy, afterStep, reportIn, reportFrom, zeros}
+use Rattle.figures.specs.Reporting.{reportOf}
 use Rattle.figures.specs.declared.Stepped.{Stepped}
 use Rattle.figures.specs.declared.Stepped.the-variants.{Taken, Refused}
 use Rattle.figures.specs.declared.Reported.{Reported}

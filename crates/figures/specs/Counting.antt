@@ -72,8 +72,8 @@ numbersOf (e ∷ es) = e .number ∷ numbersOf es
 unfoldable pub errorCounts : List ℕ → List ℕ
 errorCounts ns = occurrencesFrom 10 slashFirst ns ++ occurrencesFrom 12 starNotPermitted ns
 
--- the 32 figures of a table in a dialect: the file itself; its nodes; parameter lists; flat parameters of the modes 1 to
--- 5; calls accepted and refused; the errors of the module pass by number, over its whole list
+-- the 32 figures of a table in a dialect: the file itself; its nodes; parameter lists; flat parameters of the modes 1
+-- to 5; calls accepted and refused; the errors of the module pass by number, over its whole list
 unfoldable pub tableFigures : List ℕ → List ℕ → List ℕ → List ℕ
 tableFigures t names dialect =
     1 ∷ nodesOf t ∷ over t (listAt t)

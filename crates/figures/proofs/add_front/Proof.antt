@@ -1,4 +1,4 @@
--- `figures::add_front` meets its contract: 70 to 74, then 1 to 5 and the figures of what the file holds. Assumes nothing.
+-- `figures::add_front` meets its contract: 70 to 74, then 1 to 5 and the figures of the file. Assumes nothing.
 use Rattle.figures.proofs.Windows.{window-refused, window-fits, window-table-long, window-names-long}
 use Rattle.figures.proofs.Windows.{window-answer, window-figures}
 use borrow.Author.Needs.{needs}
