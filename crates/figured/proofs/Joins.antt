@@ -4,9 +4,9 @@
 use mathlib.Core.Path.{_≡_, refl, sym, ap, _∙_}
 use mathlib.Core.Bool.{Bool, true, false}
 use mathlib.Core.List.{List, [], _∷_, _++_}
-use Prim.Native.Nat.{ℕ, zero, suc, _+_, _<_, _≤_}
+use Prim.Native.Nat.{ℕ, zero, suc, _+_, _≤_}
 use native.Mathlib.Omega.{arith}
-use lib.ListN.{length, take, drop, length-drop, length-append}
+use lib.ListN.{length, drop, length-drop, length-append}
 use lib.Seq.{take-append-seam, drop-append-le}
 use lib.Dec.{eqb}
 use borrow.Author.Tests.{eqb-true, eqb-false}
@@ -44,7 +44,7 @@ module _ (a b fs : List ℕ) (some : length a ≡ 0 → ⊥) {n : ℕ} (takes : 
       let asked : headerAt a .taken ≡ n = taken-asked a fs some takes in
       let fits = taken-fits a fs some takes in
       let front : headerAt a ≡ headerAt (a ++ b) = ap headerAt (sym (take-append-seam a b))
-          ∙ header-front (length a) (a ++ b) (omega (arith, asked, fits, taken-least a)) in
+      ∙ header-front (length a) (a ++ b) (omega (arith, asked, fits, taken-least a)) in
       omega (arith, asked, fits, ap (λ (h : Heading). h .taken) front)
 
   joined-some : length (a ++ b) ≡ 0 → ⊥
@@ -82,11 +82,13 @@ pub report-joined : (k at : ℕ) (fs a b : List ℕ) → length a ≤ k → (gs 
 report-joined zero at fs a b few gs e = joined-none at fs a b (omega (arith, few)) gs e
 report-joined (suc k) at fs a b few gs e =
     go (eqb (length a) 0) refl (stepOf a fs) refl
-    (λ n fits f. report-joined k (at + n) (figuresAfter a fs) (drop n a) b (omega (arith, few, fits, length-drop n a)) gs f)
+    (λ n fits f. report-joined k (at + n) (figuresAfter a fs) (drop n a) b
+    (omega (arith, few, fits, length-drop n a)) gs f)
   where
     Rest : ℕ → Type 0
     Rest n = (1 ≤ n) × (n ≤ length a) → reportFrom (at + n) (figuresAfter a fs) (drop n a) ≡ whole gs
         → reportFrom (at + n) (figuresAfter a fs) (drop n a ++ b) ≡ reportFrom (at + n + length (drop n a)) gs b
+
     go : (z : Bool) → eqb (length a) 0 ≡ z → (s : Stepped) → stepOf a fs ≡ s → ((n : ℕ) → Rest n)
         → reportFrom at fs (a ++ b) ≡ reportFrom (at + length a) gs b
     go true z s h rest = joined-none at fs a b (eqb-true (length a) 0 z) gs e

@@ -2,21 +2,17 @@
 -- whole (`part-check`, `part-content`): both have the same first bytes, and those decide (figures' Windows). Hence a
 -- step over a part that holds the file at the front is the step over the whole (`part-step`). Assumes nothing.
 use mathlib.Core.Path.{_≡_, refl, sym, ap, _∙_}
-use mathlib.Core.List.{List, []}
-use Prim.Native.Nat.{ℕ, zero, suc, _+_, _<_, _≤_}
+use mathlib.Core.List.{List}
+use Prim.Native.Nat.{ℕ, _≤_}
 use native.Mathlib.Omega.{arith}
-use lib.ListN.{length, getD, take, drop, length-take}
+use lib.ListN.{length, take, length-take}
 use lib.Seq.{take-take}
-use lib.Dec.{eqb, ltb}
 use borrow.Author.Tests.{ne-eqb}
 use Rattle.fields.proofs.Basics.{never}
-use Rattle.table.specs.Answer.{Answer, accepted, refused, andThen}
-use Rattle.blocks.specs.Block.{demand}
-use Rattle.tablefile.specs.Reading.{headerAt, contentAt, frontCheck, soundCheck}
+use Rattle.table.specs.Answer.{Answer, accepted, refused}
+use Rattle.tablefile.specs.Reading.{headerAt, contentAt, frontCheck}
 use Rattle.tablefile.proofs.Fronts.{header-front}
-use Rattle.figures.specs.Counting.{figuresOf}
-use Rattle.table.specs.Numbers.{tooManyFiles}
-use Rattle.figures.specs.Reporting.{mostFiles, windowCheck, stepCheck, told, counted, stepOf, figuresAfter}
+use Rattle.figures.specs.Reporting.{windowCheck, stepCheck, told, stepOf, figuresAfter}
 use Rattle.figures.specs.declared.Stepped.the-variants.{Taken}
 use Rattle.figures.proofs.Windows.{fileIn, taken-least, front-window, content-window}
 

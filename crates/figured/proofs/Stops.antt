@@ -4,7 +4,7 @@
 -- are there whole (`front-more`). Both by induction on how many bytes are left. Assumes nothing.
 use mathlib.Core.Path.{_≡_, refl, sym, ap, _∙_}
 use mathlib.Core.Bool.{Bool, true, false}
-use mathlib.Core.List.{List, [], _∷_, _++_}
+use mathlib.Core.List.{List, [], _++_}
 use mathlib.Core.Logic.{_⊎_, inl, inr}
 use Prim.Native.Nat.{ℕ, zero, suc, _+_, _*_, _-_, _<_, _≤_, min}
 use native.Mathlib.Omega.{arith}
@@ -19,9 +19,7 @@ use Rattle.blocks.specs.Block.{demand, judge}
 use Rattle.blocks.specs.Run.{blocksFor, judgeBlocks, judgeRun}
 use Rattle.blocks.proofs.Judging.{judge-short}
 use Rattle.blocks.proofs.Parts.{judge-front}
-use Rattle.blocks.proofs.Runs.{run-long}
 use Rattle.tablefile.specs.Reading.{headerAt, usedOf, contentAt, countsFit, blocksCheck, frontCheck, soundCheck}
-use Rattle.tablefile.specs.declared.Heading.{Heading}
 use Rattle.tablefile.proofs.Fronts.{header-front, first-is, fronted-then, taken-there}
 use Rattle.figures.specs.Reporting.{mostFiles, windowCheck, stepCheck, told, stepOf, figuresAfter, whole}
 use Rattle.figures.specs.Reporting.{endedBy, reportFrom}
@@ -164,7 +162,8 @@ blocks-long (suc n) number total bs vs e =
         → (judgeBlocks n (number + 1) (total - 504) (drop 512 bs) ≡ accepted vs → 512 * n ≤ length (drop 512 bs))
         → 512 * suc n ≤ length bs
     go (inr short) (accepted us) x-is f rest =
-        let bad : refused blockShort [] ≡ judge number (min 504 total) bs = judge-short number (min 504 total) bs short in
+        let bad : refused blockShort [] ≡ judge number (min 504 total) bs =
+        judge-short number (min 504 total) bs short in
         never (cc)
     go (inl long) (accepted us) x-is f rest =
         let behind : 512 * n ≤ length (drop 512 bs) = rest f in
@@ -240,6 +239,7 @@ module _ (a b : List ℕ) where
         number : Stepped → ℕ
         number (Taken n) = 0
         number (Refused m) = m
+
         m-is : k ≡ m
         m-is = sym (ap number e)
 

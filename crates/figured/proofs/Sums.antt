@@ -6,19 +6,19 @@
 use mathlib.Core.Path.{_≡_, refl, sym, ap, ap₂, _∙_}
 use mathlib.Core.Bool.{Bool, true, false}
 use mathlib.Core.List.{List, [], _∷_, _++_}
-use Prim.Native.Nat.{ℕ, zero, suc, _+_, _-_, _<_, _≤_, min}
+use Prim.Native.Nat.{ℕ, zero, suc, _+_, _-_, _<_, _≤_}
 use native.Mathlib.Omega.{arith}
-use lib.ListN.{length, getD, take, drop, replicate, length-drop}
+use lib.ListN.{length, getD, drop, replicate, length-drop}
 use lib.Dec.{eqb, ltb}
-use borrow.Author.Tests.{eq-eqb, ne-eqb, eqb-true, eqb-false, lt-ltb, ltb-true}
+use borrow.Author.Tests.{ne-eqb, eqb-true, eqb-false, lt-ltb, ltb-true}
 use Rattle.fields.proofs.Basics.{never, clash}
 use Rattle.table.specs.Answer.{Answer, accepted, refused}
 use Rattle.tablefile.specs.Reading.{headerAt, contentAt}
 use Rattle.figures.specs.Counting.{figuresOf}
-use Rattle.figures.specs.Adding.{most64, held, added}
+use Rattle.figures.specs.Adding.{held, added}
 use Rattle.figures.specs.Walking.{plus}
 use Rattle.table.specs.Numbers.{tooManyFiles}
-use Rattle.figures.specs.Reporting.{mostFiles, windowCheck, stepCheck, told, counted, stepOf, figuresAfter}
+use Rattle.figures.specs.Reporting.{mostFiles, stepCheck, told, counted, stepOf, figuresAfter}
 use Rattle.figures.specs.Reporting.{whole, endedBy, reportFrom, zeros, reportOf}
 use Rattle.figures.specs.declared.Stepped.{Stepped}
 use Rattle.figures.specs.declared.Stepped.the-variants.{Taken, Refused}
@@ -147,7 +147,7 @@ not-76 : (at : ℕ) (fs b : List ℕ) → (length b ≡ 0 → ⊥) → Not76 (re
     → stepOf b fs ≡ Refused tooManyFiles → ⊥
 not-76 at fs b some not e =
     let ends : endedBy76 (reportFrom at fs b .ending) ≡ true
-        = ap (λ (r : Reported). endedBy76 (r .ending)) (report-stop at fs b some e) in
+    = ap (λ (r : Reported). endedBy76 (r .ending)) (report-stop at fs b some e) in
     clash ends not
 
 -- LAW: two reports over the same bytes add the same figures
@@ -173,7 +173,7 @@ run-both (suc k) at from fs gs b few long fewer not =
     go false z (Taken n) e rest =
         let some = eqb-false (length b) 0 z in
         let on : reportFrom at fs b ≡ reportFrom (at + n) (added fs (figuresOf (contentAt b))) (drop n b)
-            = report-on at fs b some e ∙ rw (taken-adds b fs some e) refl in
+        = report-on at fs b some e ∙ rw (taken-adds b fs some e) refl in
         both-on at from fs gs b some n e (step-alike b fs some gs fewer (not-76 at fs b some not) ∙ e)
         (rest n (taken-fits b fs some e) (rw (← on) not))
 
@@ -206,11 +206,11 @@ report-sums a b all not =
     let whole-a : reportFrom 0 zeros a ≡ whole fs = ap (ended fs) all in
     let here : 0 + length a ≡ length a = omega arith in
     let joins : reportFrom 0 zeros (a ++ b) ≡ reportFrom (length a) fs b
-        = report-joined (length a) 0 zeros a b (omega arith) fs whole-a
-        ∙ ap (λ (p : ℕ). reportFrom p fs b) here in
+    = report-joined (length a) 0 zeros a b (omega arith) fs whole-a
+    ∙ ap (λ (p : ℕ). reportFrom p fs b) here in
     let long : length fs ≡ 32 = report-long (length a) 0 zeros a (omega arith) in
     let both = run-both (length b) (length a) 0 fs zeros b (omega arith) (omega (arith, long)) (omega arith)
-        (rw (← joins) not) in
+    (rw (← joins) not) in
     joins ∙ both .one ∙ rw (both .other) (sums fs (both .more) (both .end) (omega (arith, long)))
   where
     sums : (fs more : List ℕ) (e : Ending) → length fs ≤ 32

@@ -17,10 +17,10 @@ use Rattle.table.specs.Numbers.{blockCounts, tooManyFiles}
 use Rattle.blocks.specs.Block.{demand, judge}
 use Rattle.blocks.specs.Run.{blocksFor}
 use Rattle.blocks.proofs.Parts.{judge-front}
-use Rattle.tablefile.specs.Reading.{headerAt, usedOf, contentAt, countsFit, blocksCheck, frontCheck, soundCheck}
+use Rattle.tablefile.specs.Reading.{headerAt, usedOf, contentAt, countsFit, blocksCheck}
 use Rattle.tablefile.proofs.Fronts.{header-front, first-is, taken-is, counts-small}
 use Rattle.figures.specs.Counting.{figuresOf}
-use Rattle.figures.specs.Reporting.{mostFiles, windowCheck, stepCheck, told, counted, stepOf, figuresAfter, whole, afterStep}
+use Rattle.figures.specs.Reporting.{mostFiles, windowCheck, stepCheck, counted, stepOf, figuresAfter, whole, afterStep}
 use Rattle.figures.specs.Reporting.{reportIn, reportFrom, reportOf}
 use Rattle.figures.specs.declared.Stepped.{Stepped}
 use Rattle.figures.specs.declared.Stepped.the-variants.{Taken, Refused}
@@ -114,6 +114,7 @@ module _ (room : ℕ → ℕ) (enough : (at : ℕ) → windowBytes ≤ room at) 
           ≡ afterStep s at fs (λ n. reportIn k (at + n) gs (drop n left))
       follows (Taken n) gs rest = rest n gs
       follows (Refused m) gs rest = refl
+
       go : (z : Bool) → eqb (length left) 0 ≡ z
           → ((n : ℕ) (hs : List ℕ) → throughIn room k (at + n) hs (drop n left) ≡ reportIn k (at + n) hs (drop n left))
           → if' z (λ _. whole fs) (λ _. afterStep (stepOf (take (room at) left) fs) at fs (λ n.

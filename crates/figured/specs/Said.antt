@@ -1,7 +1,6 @@
 -- What the sentences of W-214 speak of: two inputs joined, the same input through a buffer, counters that stay small.
 -- These are definitions.
-use mathlib.Core.Path.{_≡_}
-use mathlib.Core.Bool.{Bool, true, false}
+use mathlib.Core.Bool.{Bool, false}
 use mathlib.Core.List.{List}
 use Prim.Native.Nat.{ℕ, zero, suc, _+_, _*_, _≤_}
 use lib.ListN.{length, getD, take, drop}

@@ -208,8 +208,8 @@ module _ (d : Dialect) (names t : List ℕ) (few : length t ≤ 50400) {found : 
   pub numbers-found : take n found ≡ numbersOf (passErrors d names t)
   unfolding es
   numbers-found =
-      let room : 1 * length es ≤ length {A = ℕ} (replicate 4200 0) =
-      omega (arith, short, length-replicate {A = ℕ} 4200 0) in
+      let long = length-replicate {A = ℕ} 4200 0 in
+      let room : 1 * length es ≤ length {A = ℕ} (replicate 4200 0) = omega (arith, short, long) in
       let all : stored Numbers es (replicate 4200 0) ≡ numbersOf es ++ drop (1 * length es) (replicate 4200 0) =
       rw (← numbers-words es) (stored-all Numbers es (replicate 4200 0) room) in
       rw (found-is, n-is, all) (take-front (numbersOf es) _ (length es) (numbers-length es))

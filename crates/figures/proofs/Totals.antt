@@ -1,22 +1,22 @@
 -- The figures of a file are added in four parts: the file, its nodes, what is counted node by node, the errors. In a
 -- table that passes 1 to 5 they are `tableFigures` (`figures-are`), because no two parts have a counter in common and
 -- the module pass looks at the whole table. Assumes nothing.
-use mathlib.Core.Path.{_≡_, refl, ap, _∙_}
+use mathlib.Core.Path.{_≡_, refl, sym, ap, _∙_}
 use mathlib.Core.List.{List, []}
 use Prim.Native.Nat.{ℕ, _/_, _≤_}
 use native.Mathlib.Nat.{add-zero}
 use lib.ListN.{length, take}
 use lib.Seq.{take-all}
 use Rattle.dialect.specs.declared.Dialect.{Dialect}
-use Rattle.table.specs.Answer.{accepted, refusal}
-use Rattle.table.specs.Check.{checkOf, givenOf, inDialect, ruled, rulesOf, rulesCheck}
 use Rattle.dialect.specs.declared.Edition.{Edition}
 use Rattle.dialect.specs.declared.EditionRead.{EditionRead}
+use Rattle.table.specs.Answer.{accepted, numberOf, carried, refusal}
+use Rattle.table.specs.Check.{checkOf, givenOf, inDialect, byRules, unruled, ruled, rulesOf, rulesCheck}
 use Rattle.table.specs.declared.Ruled.{Ruled}
 use Rattle.table.specs.declared.Ruled.the-variants.{By, Refused as Away}
 use Rattle.table.specs.declared.Refusal.{Refusal}
 use Rattle.table.proofs.Entering.{given-known}
-use Rattle.table.proofs.Ruling.{rules-known, by-is, unruled-is}
+use Rattle.table.proofs.Ruling.{rules-known}
 use Rattle.table.proofs.Checking.{accepted-clean}
 use Rattle.table.proofs.Theorems.{clean-accepted}
 use Rattle.validate.specs.Job.{passErrors, errorsOf}
@@ -46,13 +46,19 @@ all-added d t names a b-is c-is e-is =
 pub table-few : (t names : List ℕ) → checkOf t names ≡ accepted [] → length t ≤ 50400
 table-few t names e = accepted-clean t names e .most
 
--- 1 to 5, in the terms of code: g is what `enter_rules` answered
-module _ (t names bytes : List ℕ) {x : EditionRead} {g : Ruled} (g-is : ruled g ≡ rulesOf t names bytes x) where
-  let-in : {d : Dialect} {e : Edition} → g ≡ By d e → givenOf t names bytes ≡ inDialect d
-  let-in h = rules-known t names bytes (by-is t names bytes g-is h) .0
+-- 1 to 5, in the terms of code: x is what was read of an edition, g what `enter_rules` answered
+module _ (t names bytes : List ℕ) (x : EditionRead) {g : Ruled} (g-is : ruled g ≡ rulesOf t names bytes x) where
+  by-is : {d : Dialect} {e : Edition} → g ≡ By d e → rulesOf t names bytes x ≡ byRules d e
+  by-is h = sym g-is ∙ ap ruled h
+
+  given-is : {d : Dialect} {e : Edition} → g ≡ By d e → givenOf t names bytes ≡ inDialect d
+  given-is h = rules-known t names bytes (by-is h) .0
+
+  away-is : {why : Refusal} → g ≡ Away why → rulesOf t names bytes x ≡ unruled (numberOf why) (carried why)
+  away-is h = sym g-is ∙ ap ruled h
 
   pub given-sound : {d : Dialect} {e : Edition} → g ≡ By d e → checkOf t names ≡ accepted []
-  given-sound h = clean-accepted t names (given-known t names bytes (let-in h) .0)
+  given-sound h = clean-accepted t names (given-known t names bytes (given-is h) .0)
 
   -- the counters after the file is counted, and in the end
   module _ (start : List ℕ) {k : ℕ} (k-is : k ≡ filesOf g) {xs : List ℕ} (xs-is : xs ≡ added start (only 0 k)) where
@@ -62,8 +68,8 @@ module _ (t names bytes : List ℕ) {x : EditionRead} {g : Ruled} (g-is : ruled 
     table-added {d} h {ys} ys-is =
         let one : k ≡ 1 = k-is ∙ ap filesOf h in
         let first : ys ≡ added (added start (only 0 1)) (figuresIn d t names) = ys-is ∙ rw (xs-is, one) refl in
-        rw (by-is t names bytes g-is h)
-        (refl, first ∙ added-twice start (only 0 1) _ ∙ ap (added start) (figures-are t names bytes (let-in h)))
+        let figures = figures-are t names bytes (given-is h) in
+        rw (by-is h) (refl, first ∙ added-twice start (only 0 1) _ ∙ ap (added start) figures)
 
     pub table-refused : {why : Refusal} → g ≡ Away why
         → (refusal why ≡ rulesCheck t names bytes x)
@@ -72,4 +78,4 @@ module _ (t names bytes : List ℕ) {x : EditionRead} {g : Ruled} (g-is : ruled 
     table-refused h =
         let none : k ≡ 0 = k-is ∙ ap filesOf h in
         let same : xs ≡ start = xs-is ∙ rw none (added-zeros start 1) in
-        rw (unruled-is t names bytes g-is h) (refl, same)
+        rw (away-is h) (refl, same)

@@ -12,18 +12,17 @@ use lib.Seq.{take-take}
 use borrow.Author.Tests.{le-leb}
 use Rattle.fields.proofs.Basics.{drop-take}
 use Rattle.table.specs.Answer.{Answer, andThen, numberOf, refusal, checked}
-use Rattle.table.specs.Check.{rulesCheck}
 use Rattle.dialect.specs.Editions.{statedBytes, editionHeld}
-use Rattle.dialect.specs.declared.Stated.{Stated}
 use Rattle.dialect.specs.declared.EditionRead.{EditionRead}
+use Rattle.dialect.specs.declared.Stated.{Stated}
+use Rattle.table.specs.Check.{rulesCheck}
 use Rattle.table.specs.declared.Checked.{Checked}
 use Rattle.table.specs.declared.Checked.the-variants as judgements
 use Rattle.table.specs.declared.Refusal.{Refusal}
 use Rattle.blocks.specs.Run.{blocksFor}
 use Rattle.blocks.proofs.Parts.{judge-front, run-front, content-front}
 use Rattle.tablefile.specs.File.{Content}
-use Rattle.tablefile.specs.Reading.{headerAt, usedOf, contentAt, blocksCheck, frontCheck, editionRead, soundCheck}
-use Rattle.tablefile.specs.Reading.{readCheck}
+use Rattle.tablefile.specs.Reading.{headerAt, usedOf, contentAt, blocksCheck, frontCheck, soundCheck, readCheck}
 use Rattle.tablefile.specs.Loading.{verdict}
 use Rattle.tablefile.specs.Lending.{fileCheck, handed}
 use Rattle.tablefile.specs.declared.Heading.{Heading}
@@ -54,15 +53,9 @@ module _ (w : List ℕ) where
   nodes-held : 512 * headerAt w .first + 512 * blocksFor (24 * headerAt w .nodes) ≤ headerAt w .taken
   nodes-held = omega (arith, taken-is w)
 
-  dialect-window : take (headerAt w .dialect) (drop 8 (fileIn w)) ≡ take (headerAt w .dialect) (drop 8 w)
-  dialect-window = rw (drop-take 8 (headerAt w .taken) w)
-      (take-take (headerAt w .dialect) (headerAt w .taken - 8) (drop 8 w)
-      (omega (arith, dialect-few w, taken-least)))
-
-  edition-window : take (headerAt w .edition) (drop 17 (fileIn w)) ≡ take (headerAt w .edition) (drop 17 w)
-  edition-window = rw (drop-take 17 (headerAt w .taken) w)
-      (take-take (headerAt w .edition) (headerAt w .taken - 17) (drop 17 w)
-      (omega (arith, edition-few w, taken-least)))
+  part-window : (k at : ℕ) → at + k ≤ 512 → take k (drop at (fileIn w)) ≡ take k (drop at w)
+  part-window k at h = rw (drop-take at (headerAt w .taken) w)
+      (take-take k (headerAt w .taken - at) (drop at w) (omega (arith, taken-least)))
 
   pub content-window : contentAt (fileIn w) ≡ contentAt w
   unfolding contentAt
@@ -70,8 +63,8 @@ module _ (w : List ℕ) where
     header-window,
     content-front (24 * headerAt w .nodes) (512 * headerAt w .first) (headerAt w .taken) w nodes-held,
     content-front (headerAt w .names) 512 (headerAt w .taken) w names-held,
-    dialect-window,
-    edition-window,
+    part-window (headerAt w .dialect) 8 (omega (arith, dialect-few w)),
+    part-window (headerAt w .edition) 17 (omega (arith, edition-few w)),
   ) refl
 
   pub front-window : frontCheck (fileIn w) ≡ frontCheck w
@@ -128,13 +121,13 @@ module _ (w : List ℕ) {h : Heading} (h-is : h ≡ headerAt w) {f : List ℕ} (
       pub window-names-long : x ≡ handed (fileCheck f) (contentAt f .names) (replicate 8064 0) → 8064 ≡ length x
       window-names-long = unpacked-names-long f v v-is good h-so
 
-    -- wt and wn are the arrays that it left; t, names and bytes are what the file holds
+    -- wt and wn are the arrays that it left; t, names and bytes are what the file holds, and x its edition
     module _ {wt wn t names bytes : List ℕ}
         (wt-is : wt ≡ handed (fileCheck f) (contentAt f .table) (replicate 50400 0))
         (wn-is : wn ≡ handed (fileCheck f) (contentAt f .names) (replicate 8064 0))
         (t-is : t ≡ take (24 * h .nodes) wt) (names-is : names ≡ take (h .names) wn)
-        (bytes-is : bytes ≡ contentAt f .dialect) {z : Stated} (z-is : z ≡ contentAt f .edition) {x : EditionRead}
-        (x-is : x ≡ editionHeld bytes (statedBytes z)) where
+        (bytes-is : bytes ≡ contentAt f .dialect) {stated : Stated} (stated-is : stated ≡ contentAt f .edition)
+        {x : EditionRead} (x-is : x ≡ editionHeld bytes (statedBytes stated)) where
       same : contentAt f ≡ contentAt w
       same = ap contentAt f-so ∙ content-window w
 
@@ -147,11 +140,11 @@ module _ (w : List ℕ) {h : Heading} (h-is : h ≡ headerAt w) {f : List ℕ} (
       bytes-so : bytes ≡ contentAt w .dialect
       bytes-so = bytes-is ∙ ap (λ (c : Content). c .dialect) same
 
-      x-so : x ≡ editionRead (contentAt w)
-      x-so = x-is ∙ rw (bytes-so, z-is, same) refl
+      stated-so : stated ≡ contentAt w .edition
+      stated-so = stated-is ∙ ap (λ (c : Content). c .edition) same
 
       sound-so : rulesCheck t names bytes x ≡ windowCheck w
-      sound-so = rw (t-so, names-so, bytes-so, x-so) (sym (steps-so ∙ rw good refl))
+      sound-so = rw (x-is, stated-so, t-so, names-so, bytes-so) (sym (steps-so ∙ rw good refl))
 
       pub window-answer : {a : Answer} {s : Stepped} → a ≡ rulesCheck t names bytes x → s ≡ told a (h .taken)
           → s ≡ told (windowCheck w) (headerAt w .taken)

@@ -123,11 +123,15 @@ fn add_front(window: &[u8], figures: &mut [u64; FIGURES]) -> Stepped
     if let Verdict::Refused(why) = unpacked {
         return Stepped::Refused(table::number(why));
     }
-    let t = filepass::front(&table, RECORD * h.nodes);
-    let n = filepass::front(&names, h.names);
     let bytes = tablefile::dialect_bytes(file);
     let edition = dialect::edition_held(bytes, tablefile::stated_edition(file));
-    let judged = add_table(t, n, bytes, edition, figures);
+    let judged = add_table(
+        filepass::front(&table, RECORD * h.nodes),
+        filepass::front(&names, h.names),
+        bytes,
+        edition,
+        figures,
+    );
     answer(judged, h.taken)
 }
 
@@ -141,21 +145,21 @@ fn answer(judged: Checked, taken: usize) -> Stepped
     }
 }
 
-// 1 to 5 of what a file holds, then its figures are added. The edition is only checked: no figure depends on it.
+// 1 to 5 of what a file holds, then its figures are added.
 fn add_table(
     table: &[u8],
     names: &[u8],
-    dialect: &[u8],
+    bytes: &[u8],
     edition: EditionRead,
     figures: &mut [u64; FIGURES],
 ) -> Checked
     ensures { λ r. ⌜ checked r ≡
-        rulesCheck (now (table .entry)) (now (names .entry)) (now (dialect .entry)) edition ⌝ }
+        rulesCheck (now (table .entry)) (now (names .entry)) (now (bytes .entry)) edition ⌝ }
     ensures { λ r. ⌜ now (figures .exit) ≡
-        counted (rulesCheck (now (table .entry)) (now (names .entry)) (now (dialect .entry)) edition)
-        (now (figures .entry)) (tableFigures (now (table .entry)) (now (names .entry)) (now (dialect .entry))) ⌝ }
+        counted (rulesCheck (now (table .entry)) (now (names .entry)) (now (bytes .entry)) edition)
+        (now (figures .entry)) (tableFigures (now (table .entry)) (now (names .entry)) (now (bytes .entry))) ⌝ }
 {
-    let entered = table::enter_rules(table, names, dialect, edition);
+    let entered = table::enter_rules(table, names, bytes, edition);
     sums::add(figures, FILES, files(entered));
     match entered {
         Ruled::By {

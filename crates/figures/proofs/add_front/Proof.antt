@@ -1,5 +1,4 @@
--- `figures::add_front` meets its contract: 70 to 74, then 1 to 5 and the figures of what the file holds. Assumes
--- nothing.
+-- `figures::add_front` meets its contract: 70 to 74, then 1 to 5 and the figures of the file. Assumes nothing.
 use Rattle.figures.proofs.Windows.{window-refused, window-fits, window-table-long, window-names-long}
 use Rattle.figures.proofs.Windows.{window-answer, window-figures}
 use borrow.Author.Needs.{needs}
@@ -23,6 +22,9 @@ add-front-spec =
     window-refused _ header.ensures front.ensures _ unpack.ensures.0 (c .before .before .unpacked .given .1)
     (c .number .ensures) _)
     (λ c. search needs)
+    (λ c κs. search needs)
+    (λ c κs. search needs)
+    (λ c κs. search needs)
     (λ c. search window-table-long)  -- slice-aggregate-front
     (λ c. search window-fits)  -- mul-front
     (λ c κs. search needs)
@@ -30,20 +32,23 @@ add-front-spec =
     (λ c κs. search needs)
     (λ c κs. search needs)
     (λ c κs. search needs)
-    (λ c κs. search needs)
     (λ c.  -- returns-2
     let add-table = c .before .add-table in
-    let dialect = c .before .before .before .dialect-bytes in
-    let front3 = c .before .before .before .before .front3 in
+    let front3 = c .before .before .before .front3 in
+    let front2 = c .before .before .before .before .before .front2 in
     let back = c .before .before .before .before .before .before in
-    let front2 = back .front2 in
-    let enum-told = back .before .before .before .enum-told in
-    let unpack = back .before .before .before .before .before .unpack in
+    let edition = back .before .before .edition-held in
+    let stated = back .before .before .before .stated-edition in
+    let dialect = back .before .before .before .before .dialect-bytes in
+    let enum-told = back .before .before .before .before .before .enum-told in
     let back2 = back .before .before .before .before .before .before in
-    let front = back2 .before .before .front in
-    let header = back2 .before .before .before .header in (
+    let unpack = back2 .before .unpack in
+    let front = back2 .before .before .before .before .front in
+    let header = back2 .before .before .before .before .before .header in (
       window-answer _ header.ensures front.ensures _ unpack.ensures.0 enum-told.given.1 unpack.ensures.1.0
-          unpack.ensures.1.1 front2.ensures front3.ensures dialect.ensures add-table.ensures.0 (c .answer .ensures),
+          unpack.ensures.1.1 front2.ensures front3.ensures dialect.ensures stated.ensures edition.ensures
+          add-table.ensures.0 (c .answer .ensures),
       window-figures _ header.ensures front.ensures _ unpack.ensures.0 enum-told.given.1 unpack.ensures.1.0
-          unpack.ensures.1.1 front2.ensures front3.ensures dialect.ensures _ add-table.ensures.1,
+          unpack.ensures.1.1 front2.ensures front3.ensures dialect.ensures stated.ensures edition.ensures _
+          add-table.ensures.1,
     )))

@@ -20,9 +20,9 @@ add-table-spec =
     let back = c .before .before .before .before .before .before in
     let files = back .files in
     let enter = back .before .before .enter-rules in
-    table-added _ _ _ enter.ensures _ files.ensures add.ensures entered.given.1 (c .add-all .ensures))
+    table-added _ _ _ _ enter.ensures _ files.ensures add.ensures entered.given.1 (c .add-all .ensures))
     (λ c.  -- returns-2
     let add = c .before .before .before .add in
     let files = c .before .before .before .before .files in
     let enter = c .before .before .before .before .before .before .enter-rules in
-    table-refused _ _ _ enter.ensures _ files.ensures add.ensures (c .before .entered2 .given .1)))
+    table-refused _ _ _ _ enter.ensures _ files.ensures add.ensures (c .before .entered2 .given .1)))

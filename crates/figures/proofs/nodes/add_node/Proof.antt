@@ -1,6 +1,6 @@
 -- `figures::nodes::add_node` meets its contract: what its kind is counted by. Assumes nothing.
-use Rattle.figures.proofs.ByKind.{node-there, node-bytes, node-word, kind-list, kind-lambda, kind-call}
-use Rattle.figures.proofs.ByKind.{kind-other}
+use Rattle.figures.proofs.ByKind.{node-there, node-bytes, node-word}
+use Rattle.figures.proofs.ByKind.{kind-list, kind-lambda, kind-call, kind-other}
 use borrow.Author.Needs.{needs}
 use Rattle.figures.proofs.nodes.add_node.Statement.{statement}
 use Rattle.figures.proofs.nodes.add_node.Tie as tie
