@@ -121,6 +121,7 @@ STEPS = [
     Step("programs", "tablecheck and tablerescue read, print and replace what they must", python("tools/try_programs.py"), lane=BESIDE),
     Step("against", "ducat prints and writes what the two programs do, byte by byte", python("-I", "-S", "python/tests/against_programs.py"), lane=BESIDE),
     Step("books", "the book functions answer as a model with a map of entries does", python("oracle/books"), lane=BESIDE),
+    Step("namesakes", "the namesakes job answers as calls of Python do", python("oracle/namesakes"), lane=BESIDE),
     Step("books-time", "a lookup in books of 100 blocks, and an addition, take at most 1 ms", python("bench/books"), lane=BESIDE),
     Step("shown", "the commands print what the documents show", python("tools/shown.py"), lane=BESIDE),
     Step("faults", "the comparison finds a fault of each job, and is not empty", ("oracle/faults", "--gate"), ORACLE, BESIDE),
