@@ -278,12 +278,13 @@ uint32_t starlark_call(const uint8_t *table, size_t table_len, const uint8_t *na
 uint32_t starlark_bind(const uint8_t *table, size_t table_len, const uint8_t *names, size_t names_len, size_t call, size_t def,
                        uint32_t *list, size_t list_len, uint32_t *out);
 
-/* Which arguments of the Call at `call` have the name of one ordinary parameter of the Def at `def` and reach another: 1 to 4, 6, 7, 10 to 19, 20 to 24,
- * 80 to 84. An argument's name is that of its expression: an Identifier's, or a Dot's field; other expressions have none. Names are compared byte by byte.
+/* Which arguments of the Call at `call` have the name of one ordinary parameter of the Def at `def`
+ * and reach another: 1 to 4, 6, 7, 10 to 19, 20 to 24, 80 to 84.
  * Accepted: out[0] how many arguments are reported. The list then begins with four words for each, in the order of the arguments: the argument's node,
  * the index of the parameter that it reaches (`*args` and `**kwargs` included), the index of the ordinary parameter that has its name, and the node of the
- * argument that the latter takes, or 0 where it takes none or its default. Two arguments are exchanged where each has the name of the parameter that the
- * other reaches. The list needs four words for each argument (else 7); words past the answer stay. Refusals are those of starlark_bind. */
+ * argument that the latter takes, or 0 where it takes none or its default. An argument's name is that of its expression: an Identifier's, or a Dot's field;
+ * other expressions have none. Names are compared byte by byte. Two arguments are exchanged where each has the name of the parameter that the other reaches.
+ * The list needs four words for each argument (else 7); words past the answer stay. The refusals are those of starlark_bind, in the same order. */
 uint32_t starlark_namesakes(const uint8_t *table, size_t table_len, const uint8_t *names, size_t names_len, size_t call, size_t def,
                             uint32_t *list, size_t list_len, uint32_t *out);
 

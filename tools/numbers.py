@@ -20,7 +20,7 @@ from tables import tables
 GIVEN = [*range(1, 8), *range(10, 20), *range(20, 25), *range(30, 34), *range(40, 46), *range(50, 65), *range(70, 76), *range(80, 85), 90, 91,
          *range(95, 99)]
 HEAD = ["number", "name", "meaning", "given by"]
-JOBS = ["table", "params", "call", "bind", "target", "assignment", "type", "module", "audit", "write", "rescue", "read", "file",
+JOBS = ["table", "params", "call", "bind", "namesakes", "target", "assignment", "type", "module", "audit", "write", "rescue", "read", "file",
         "fstring_write", "fstring_read", "book_lookup", "book_add", "book_remove", "book_blank"]
 
 
