@@ -128,6 +128,7 @@ STEPS = [
     Step("programs", "tablecheck, tablerescue and tablefigures read, print and replace what they must", python("tools/try_programs.py"), lane=BESIDE),
     Step("against", "ducat prints and writes what the three programs do, byte by byte", python("-I", "-S", "python/tests/against_programs.py"), lane=BESIDE),
     Step("books", "the book functions answer as a model with a map of entries does", python("oracle/books"), lane=BESIDE),
+    Step("namesakes", "the namesakes job answers as calls of Python do", python("oracle/namesakes"), lane=BESIDE),
     Step("books-time", "a lookup in books of 100 blocks, and an addition, take at most 1 ms", python("bench/books"), lane=BESIDE),
     Step("page", "a browser shows the page of ducat report, light and dark, and loads 500 scripts in under a second", python("-I", "-S", "python/tests/browser.py"),
          ("chromium", "chromedriver"), BESIDE),

@@ -44,6 +44,7 @@ static uint32_t run_table(const struct part *part, uint32_t *out) { return starl
 static uint32_t run_params(const struct part *part, uint32_t *out) { return starlark_params(PART(0), PART(1), DEF, PART(2), out); }
 static uint32_t run_call(const struct part *part, uint32_t *out) { return starlark_call(PART(0), PART(1), CALL, out); }
 static uint32_t run_bind(const struct part *part, uint32_t *out) { return starlark_bind(PART(0), PART(1), CALL, DEF, PART(2), out); }
+static uint32_t run_namesakes(const struct part *part, uint32_t *out) { return starlark_namesakes(PART(0), PART(1), CALL, DEF, PART(2), out); }
 static uint32_t run_target(const struct part *part, uint32_t *out) { return starlark_target(PART(0), PART(1), TARGET, out); }
 static uint32_t run_assignment(const struct part *part, uint32_t *out) { return starlark_assignment(PART(0), PART(1), ASSIGN, out); }
 static uint32_t run_type(const struct part *part, uint32_t *out) { return starlark_type(PART(0), PART(1), PART(2), STARLARK_EDITION_1, TARGET, PART(3), out); }
@@ -75,7 +76,8 @@ static const struct job {
             {"rescue", "fb", run_rescue}, {"read", "fbb", run_read},     {"check_file", "fw", run_check_file},
             {"audit", "tndw", run_audit}, {"fstring_write", "pndb", run_fstring_write}, {"fstring_read", "xwb", run_fstring_read},
             {"book_lookup", "zl", run_book_lookup}, {"book_add", "ZLd", run_book_add}, {"book_remove", "ZL", run_book_remove},
-            {"book_blank", "b", run_book_blank}, {"figures", "f", run_figures}, {"figures_step", "f", run_figures_step}};
+            {"book_blank", "b", run_book_blank}, {"figures", "f", run_figures}, {"figures_step", "f", run_figures_step},
+            {"namesakes", "tnw", run_namesakes}};
 enum { JOBS = sizeof jobs / sizeof *jobs };
 
 /* What a run leaves: its number, its words, and the buffers that it writes. */

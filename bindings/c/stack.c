@@ -97,6 +97,10 @@ static void run_bind(void) {
     number = starlark_bind(table, STARLARK_NODE_BYTES * nodes, names, sizeof names, job_node, job_def, list, 2 * STARLARK_NODES, out);
 }
 
+static void run_namesakes(void) {
+    number = starlark_namesakes(table, STARLARK_NODE_BYTES * nodes, names, sizeof names, job_node, job_def, list, 2 * STARLARK_NODES, out);
+}
+
 /* The table's file without its last byte: the largest cut of its records, if there is one. The file is made before, in space that is not lent. */
 static uint8_t damaged[STARLARK_FILE_BYTES];
 static size_t damaged_bytes;
@@ -159,7 +163,7 @@ struct job {
     void (*run)(void);
     size_t most;
 } jobs[] = {{"table", run_table, 0}, {"params", run_params, 0}, {"call", run_call, 0}, {"target", run_target, 0}, {"assignment", run_assignment, 0}, {"type", run_type, 0},
-          {"module", run_module, 0}, {"module with all switches off", run_refusing, 0}, {"write", run_write, 0}, {"bind", run_bind, 0},
+          {"module", run_module, 0}, {"module with all switches off", run_refusing, 0}, {"write", run_write, 0}, {"bind", run_bind, 0}, {"namesakes", run_namesakes, 0},
           {"rescue of a cut file", run_rescue, 0}, {"rescue of a whole file", run_rescue_whole, 0}, {"read of a file", run_read, 0},
           {"check of a file", run_check_file, 0}, {"audit", run_audit, 0}, {"audit with all switches off", run_audit_off, 0},
           {"fstring_read", run_fstring_read, 0}, {"fstring_write", run_fstring_write, 0},

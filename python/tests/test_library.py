@@ -12,7 +12,8 @@ import unittest.mock
 
 import support
 from ducatmuffin import __version__, library, numbers, table
-from ducatmuffin.library import Bound, Called, Checked, Edition, Error, Errors, Loaded, Params, Refusal, Rescued, Shaped, Targeted, Written
+from ducatmuffin.library import (Bound, Called, Checked, Edition, Error, Errors, Loaded, Namesake, Namesakes, Params, Refusal, Rescued, Shaped,
+                                 Targeted, Written)
 
 
 def made(text):
@@ -82,6 +83,19 @@ class Jobs(unittest.TestCase):
             self.assertEqual(job("bind", *BOTH, 8, 1, room=room), Bound((12, 0, 0), (2, 0)))
         less = made("(Statements (Def (Normal a) (Break)) (OtherSimple (Call (Identifier f))))")
         self.assertEqual(job("bind", *less, 5, 1).number, 84)
+
+    def test_namesakes(self):
+        called = "(Call (Identifier f) (Positional (Identifier b)) (Positional (Dot a (Identifier z))) (Positional (Int)))"
+        both = made(f"(Statements (Def (Normal a) (Normal b) (Slash) (ArgsParam c) (Break)) (OtherSimple {called}))")
+        found = Namesakes((Namesake(10, 0, 1, 12), Namesake(12, 1, 0, 10)))
+        self.assertEqual(job("namesakes", *both, 8, 1), found)
+        self.assertEqual(job("namesakes", *both, 1, 8), refusal(6))
+        for room in range(12):
+            self.assertEqual(job("namesakes", *both, 8, 1, room=room), refusal(7))
+        self.assertEqual(job("namesakes", *both, 8, 1, room=12), found)
+        self.assertEqual(job("namesakes", *BOTH, 8, 1), Namesakes(()))
+        less = made("(Statements (Def (Normal a) (Break)) (OtherSimple (Call (Identifier f))))")
+        self.assertEqual(job("namesakes", *less, 5, 1), job("bind", *less, 5, 1))
 
     def test_target(self):
         tuples = made("(Assign (Tuple (Identifier a) (Tuple (Identifier b) (Dot c (Int)))) (Int))")

@@ -15,6 +15,7 @@ use starlark_checks_raw::starlark_figures_step;
 use starlark_checks_raw::starlark_fstring_read;
 use starlark_checks_raw::starlark_fstring_write;
 use starlark_checks_raw::starlark_module;
+use starlark_checks_raw::starlark_namesakes;
 use starlark_checks_raw::starlark_params;
 use starlark_checks_raw::starlark_read;
 use starlark_checks_raw::starlark_rescue;
@@ -53,6 +54,13 @@ pub fn bind(table: Table, call: usize, def: usize, list: &mut [u32], out: &mut W
     let (t, tl, n, nl) = (nodes.as_ptr(), nodes.len(), names.as_ptr(), names.len());
     let (start, length) = (list.as_mut_ptr(), list.len());
     unsafe { starlark_bind(t, tl, n, nl, call, def, start, length, out) }
+}
+
+pub fn namesakes(table: Table, call: usize, def: usize, list: &mut [u32], out: &mut Words) -> u32 {
+    let Table { nodes, names } = table;
+    let (t, tl, n, nl) = (nodes.as_ptr(), nodes.len(), names.as_ptr(), names.len());
+    let (start, length) = (list.as_mut_ptr(), list.len());
+    unsafe { starlark_namesakes(t, tl, n, nl, call, def, start, length, out) }
 }
 
 pub fn target(table: Table, node: usize, out: &mut Words) -> u32 {

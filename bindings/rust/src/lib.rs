@@ -176,6 +176,16 @@ pub struct Bound {
     pub arguments: u32,
 }
 
+/// An argument that has the name of one ordinary parameter and reaches another: its node, the index of the parameter that it reaches, the
+/// index of the one that has its name, and the node of the argument that the latter takes, or 0 where it takes none or its default.
+#[derive(Clone, Copy, Debug, PartialEq, Eq)]
+pub struct Namesake {
+    pub argument: u32,
+    pub reached: u32,
+    pub namesake: u32,
+    pub taken: u32,
+}
+
 /// What is kept of a damaged table file: the bytes written, the statements and the nodes, how many nodes are dropped by the header's count, and
 /// how many bytes stand after the header's last block.
 #[derive(Clone, Copy, Debug, PartialEq, Eq)]
@@ -283,6 +293,20 @@ impl Table<'_> {
     pub fn bind(self, call: usize, def: usize, list: &mut [u32]) -> Result<Bound, Refused> {
         let out = accepted(|out| interface::bind(self, call, def, list, out))?;
         Ok(Bound { parameters: out[0], arguments: out[1] })
+    }
+
+    /// Which arguments of a Call have the name of one ordinary parameter of a Def and reach another, in order. `list` needs four words for
+    /// each argument.
+    pub fn namesakes<'l>(
+        self,
+        call: usize,
+        def: usize,
+        list: &'l mut [u32],
+    ) -> Result<impl Iterator<Item = Namesake> + 'l, Refused> {
+        let out = accepted(|out| interface::namesakes(self, call, def, list, out))?;
+        let row = |words: &[u32]| Namesake { argument: words[0], reached: words[1], namesake: words[2], taken: words[3] };
+        let list: &'l [u32] = list;
+        Ok(list.chunks_exact(4).take(out[0] as usize).map(row))
     }
 
     /// How many leaves the target at a node has.

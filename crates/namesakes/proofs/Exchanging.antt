@@ -99,6 +99,7 @@ module _ (t names : List ℕ) (call other def : ℕ) (words : List ℕ) {vs : Li
   pub exchange-is-reported : (m : ℕ) × ((namesakesOf t names other def (length list) ≡ accepted (m ∷ []))
       × (Reported (listAfter t names other def list) m (nodeOf (s .first) ∷ j ∷ l ∷ nodeOf (s .second) ∷ [])
       × Reported (listAfter t names other def list) m (nodeOf (s .second) ∷ l ∷ j ∷ nodeOf (s .first) ∷ [])))
+  unfolding exchanged
   exchange-is-reported =
       let f = also-found in
       let e = exchanged-reported t names other def words also-bound list (f .1) j l exchanged in

@@ -7,3 +7,4 @@ pub mod Found
 pub mod Theorems
 pub mod Alike
 pub mod Exchanging
+pub mod Example

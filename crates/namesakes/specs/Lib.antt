@@ -2,3 +2,4 @@ pub mod Namesake
 pub mod Job
 pub mod Reading
 pub mod Said
+pub mod Example

@@ -8,6 +8,7 @@ pub mod Demand3
 pub mod Arguments
 pub mod Binding
 pub mod BindingRoom
+pub mod Namesakes
 pub mod Targets
 pub mod Types
 pub mod Shapes
