@@ -2,19 +2,18 @@
 -- of their parameters, is reported. The other call is accepted, because its arguments are alike (Alike). Positional
 -- arguments reach the parameters of their places (reached's `positional-fills`), so that the two are exchanged, and
 -- both are reported (Theorems' `exchanged-reported`). Cite `exchange-is-reported`. Assumes nothing.
-use mathlib.Core.Path.{_≡_, refl, sym, ap, _∙_}
+use mathlib.Core.Path.{_≡_, refl, _∙_}
 use mathlib.Core.Logic.{inl}
 use mathlib.Core.List.{List, [], _∷_}
-use Prim.Native.Nat.{ℕ, _+_, _*_, _≤_}
+use Prim.Native.Nat.{ℕ, _*_, _≤_}
 use native.Mathlib.Omega.{arith}
 use lib.ListN.{length}
 use borrow.Author.Tests.{le-leb}
-use Rattle.forest.specs.Forest.{Node}
 use Rattle.table.specs.Answer.{Answer, accepted, refused, andThen}
 use Rattle.table.proofs.Answers.{never-passed}
 use Rattle.table.proofs.Entering.{sound-entry}
 use Rattle.table.specs.declared.Wanted.the-variants.{Call}
-use Rattle.arguments.specs.Written.{Argument, positional}
+use Rattle.arguments.specs.Written.{positional}
 use Rattle.bind.specs.Job.{argumentsAt, bindOf}
 use Rattle.reached.specs.Said.{IsAt, flatsAt, argumentWord}
 use Rattle.reached.specs.Rules.{Rules}

@@ -6,11 +6,11 @@ use mathlib.Core.Path.{_≡_, refl, sym, ap, _∙_}
 use mathlib.Core.Bool.{Bool, true, false, _&&_, _||_}
 use mathlib.Core.Logic.{_⊎_, inl, inr}
 use mathlib.Core.List.{List, [], _∷_, _++_}
-use Prim.Native.Nat.{ℕ, zero, suc, _+_, _*_, _<_}
+use Prim.Native.Nat.{ℕ, zero, suc, _+_, _*_}
 use native.Mathlib.Omega.{arith}
 use lib.ListN.{length, getD, take, drop}
 use lib.Dec.{eqb}
-use borrow.Author.Tests.{eq-eqb, ne-eqb, eqb-true, eqb-false}
+use borrow.Author.Tests.{eq-eqb, ne-eqb, eqb-true}
 use Rattle.fields.proofs.Basics.{never}
 use Rattle.fields.specs.Choice.{if'}
 use Rattle.forest.specs.Names.{same}
@@ -136,7 +136,8 @@ module _ (fs : List FlatParam) (ws : List ℕ) where
       let r = reported (place + 1) qs k a q at n (rw next at far) in
       let these = reportOf ws (nodeIn (b .argument) .at) (getD ws place 0) (namesakeOf fs (b .name)) in
       let row : rowOf (place + 1 + k) a q ≡ rowOf (place + suc k) a q = ap (λ (i : ℕ). rowOf i a q) (sym next) in
-      (length these + r .0, equal (these ++ reportsFrom fs ws (place + 1) qs) (length these + r .0) row (behind these (reportsFrom fs ws (place + 1) qs) (r .0) _ (r .1)))
+      let there = behind these (reportsFrom fs ws (place + 1) qs) (r .0) _ (r .1) in
+      (length these + r .0, equal (these ++ reportsFrom fs ws (place + 1) qs) (length these + r .0) row there)
 
   -- LAW: if each argument reaches its namesake, none is reported
   pub none-if : (place : ℕ) (qs : List Labelled)

@@ -2,21 +2,19 @@
 -- stretch record by record: `labelled-on` and `labelled-end` say what an argument adds, `ordinary-one` what a parameter
 -- does. The search needs no state of the list, because a Normal is ordinary in each state. `labelled-behind` and
 -- `same-arguments` lead back to the arguments that `bind` reads. Assumes nothing.
-use mathlib.Core.Path.{_≡_, refl, sym, ap, _∙_}
-use mathlib.Core.Bool.{Bool, true, false, _&&_}
+use mathlib.Core.Path.{_≡_, refl, ap}
+use mathlib.Core.Bool.{true, false, _&&_}
 use mathlib.Core.List.{List, [], _∷_, _++_, map}
 use Prim.Native.Nat.{ℕ, _+_, _-_, _/_, _<_, _≤_}
 use native.Mathlib.Omega.{arith}
-use lib.ListN.{length, take, drop, length-map}
-use lib.Dec.{leb}
+use lib.ListN.{length, take, drop}
 use borrow.Author.Tests.{le-leb, lt-leb}
 use Rattle.fields.specs.Choice.{if'}
 use Rattle.fields.proofs.Basics.{never}
 use Rattle.forest.specs.Forest.{nodeOf, spanOf, kidsOf, restOf, Tree, node, Forest, none, _then_, forest, treeOf}
 use Rattle.forest.specs.Names.{nameOf, same}
 use Rattle.forest.proofs.Stretch.{forest-none, forest-tree, rest-part, record-or-none, length-rest}
-use Rattle.table.specs.declared.Place.{Place}
-use Rattle.table.specs.declared.Place.the-variants.{At, Nothing}
+use Rattle.table.specs.declared.Place.the-variants.{At}
 use Rattle.deflist.specs.Written.{Name, Param, normal, noArgs, slash, args, kwargs, kindIn, kindAt, param, paramOf}
 use Rattle.deflist.specs.Unpack.{modeOf}
 use Rattle.deflist.specs.Reading.{kindHere}
@@ -27,8 +25,8 @@ use Rattle.deflist.specs.declared.State.the-variants.{Normal as BeforeSlash, Se
 use Rattle.arguments.specs.Written.{Argument, argumentsIn, argumentOf, argumentsOf}
 use Rattle.bind.specs.FlatList.{FlatParam, nameIn, flatParam}
 use Rattle.bind.specs.Reading.{behindCallee, flatsOf as flatCount}
-use Rattle.namesakes.specs.Namesake.{hasName, Label, nameless, label, labelOf, Labelled, labelledIn, labelledOf}
-use Rattle.namesakes.specs.Namesake.{ordinaryFrom, namesakeOf}
+use Rattle.namesakes.specs.Namesake.{hasName, nameless, label, labelOf, Labelled, labelledIn, labelledOf}
+use Rattle.namesakes.specs.Namesake.{ordinaryFrom}
 use Rattle.namesakes.specs.Reading.{isNormal, isNamed}
 
 -- a stretch has no argument, or one that is followed by those of the rest

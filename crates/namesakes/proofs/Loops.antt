@@ -1,7 +1,7 @@
--- The two loops: over the parameters, which seeks a name, and over the arguments, which writes the reports. What is left
--- decides: after each turn the search of the rest is that of the whole (`Finding`), and the reports that are written,
--- with those of the rest, are all (`Scanning`). Room is counted in arguments: a report for each at most, so that four
--- words for each argument are enough. Assumes nothing.
+-- The two loops: over the parameters, which seeks a name, and over the arguments, which writes the reports. What is
+-- left decides: after each turn the search of the rest is that of the whole (`Finding`), and the reports that are
+-- written, with those of the rest, are all (`Scanning`). Room is counted in arguments: a report for each at most, so
+-- that four words for each argument are enough. Assumes nothing.
 use mathlib.Core.Path.{_≡_, refl, sym, ap, _∙_}
 use mathlib.Core.Bool.{Bool, true, false, _&&_}
 use mathlib.Core.List.{List, [], _∷_, _++_}

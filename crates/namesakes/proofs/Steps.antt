@@ -1,16 +1,13 @@
--- Laws of single functions, one for each return, in the terms of code: what comes before the binding (1 to 4, 6, 7), the
--- name of an expression, and the four words of a report. Assumes nothing.
+-- Laws of single functions, one for each return, in the terms of code: what comes before the binding (1 to 4, 6, 7),
+-- the name of an expression, and the four words of a report. Assumes nothing.
 use mathlib.Core.Path.{_≡_, refl, sym, ap, _∙_}
 use mathlib.Core.Bool.{Bool, true, false, _&&_, _||_}
 use mathlib.Core.List.{List, [], _∷_}
 use Prim.Native.Nat.{ℕ, _*_, _<_, _≤_}
 use native.Mathlib.Omega.{arith}
 use lib.ListN.{length, getD, set, length-set}
-use lib.Seq.{sets}
 use lib.Dec.{eqb, leb}
 use borrow.Author.Tests.{le-leb, lt-leb, eq-eqb, ne-eqb}
-use Rattle.fields.specs.Choice.{if'}
-use Rattle.fields.specs.Over.{over}
 use Rattle.fields.proofs.Over.{over-none, over-sets}
 use Rattle.forest.specs.Forest.{nodeOf, kidsOf, forest}
 use Rattle.forest.specs.Names.{nameOf}

@@ -1,17 +1,17 @@
 -- Namesakes, in the user's words, for a call and a def that both jobs accept:
 --
---   None is reported exactly when every argument that has the name of an ordinary parameter reaches that parameter. Two
---   arguments that are exchanged are both reported. By position before `/`, exchanging the two arguments of an accepted
---   call with nothing reported, whose names are those of their parameters, is reported.
+--   None is reported exactly when every argument that has the name of an ordinary parameter reaches that parameter.
+--   Two arguments that are exchanged are both reported. By position before `/`, exchanging the two arguments of an
+--   accepted call with nothing reported, whose names are those of their parameters, is reported.
 --
 -- "Reaches" is what the binding job says: the words of its list at exit (`argumentWord` of the crate `reached`). The
--- job's reports are those of these words (`count-is`, `list-is`); the rest is the law of lists (Found) and that names of
--- parameters are distinct (reached's `one-name`). Assumes nothing.
+-- job's reports are those of these words (`count-is`, `list-is`); the rest is the law of lists (Found) and that names
+-- of parameters are distinct (reached's `one-name`). Assumes nothing.
 use mathlib.Core.Path.{_≡_, refl, sym, ap, _∙_}
 use mathlib.Core.Bool.{Bool, true, false}
-use mathlib.Core.Logic.{_⊎_, inl, inr, _↔_}
+use mathlib.Core.Logic.{_↔_}
 use mathlib.Core.List.{List, [], _∷_, _++_}
-use Prim.Native.Nat.{ℕ, zero, suc, _+_, _*_, _<_}
+use Prim.Native.Nat.{ℕ, zero, suc, _+_, _*_}
 use native.Mathlib.Omega.{arith}
 use lib.ListN.{length, getD, take, drop}
 use lib.Dec.{eqb}
@@ -27,23 +27,21 @@ use Rattle.table.proofs.Answers.{never-passed}
 use Rattle.deflist.specs.Written.{Name}
 use Rattle.deflist.proofs.Limited.{limited-short}
 use Rattle.parameters.specs.Params.{listOf}
-use Rattle.arguments.specs.Written.{Argument, positional, nodeIn}
 use Rattle.bind.specs.FlatList.{FlatParam}
 use Rattle.bind.specs.Job.{argumentsAt, bindOf, listsBound}
 use Rattle.bind.specs.Binding.{binding}
 use Rattle.reached.specs.Said.{IsAt, Ordinary, flatsAt, parameterWord, argumentWord}
-use Rattle.reached.proofs.Params.{within, same-at, one-name}
+use Rattle.reached.proofs.Params.{within, one-name}
 use Rattle.reached.proofs.Passed as passing
 use Rattle.reached.proofs.Passed.{Passed}
-use Rattle.reached.proofs.Reached.{at-most-one, halves-agree, positional-fills}
+use Rattle.reached.proofs.Reached.{at-most-one, halves-agree}
 use Rattle.namesakes.specs.Namesake.{Label, nameless, label, Labelled, ordinaryFrom, namesakeOf, Report, rows}
 use Rattle.namesakes.specs.Job.{labelledAt, entryOf, boundAt, boundOf, reportsAt, counted, namesakesOf, listAfter}
-use Rattle.namesakes.specs.Job.{written}
 use Rattle.namesakes.specs.Said.{nodeOf, Reported, Exchanged}
 use Rattle.namesakes.proofs.Lists.{bare}
-use Rattle.namesakes.proofs.Loops.{rows-long}
 use Rattle.namesakes.proofs.Whole.{labelled-many}
-use Rattle.namesakes.proofs.Found.{Sake, ordinary-found, ordinary-missed, reported, none-if, rowOf, fourOf, row-at}
+use Rattle.namesakes.proofs.Found.{Sake, ordinary-found, ordinary-missed, reported, none-if, rowOf, fourOf}
+use Rattle.namesakes.proofs.Found.{row-at}
 
 -- an argument with its name is an argument
 bare-at : (qs : List Labelled) (k : ℕ) (a : Labelled) → IsAt qs k a → IsAt (bare qs) k (a .argument)
@@ -150,7 +148,8 @@ module _ (t names : List ℕ) (call def : ℕ) (words : List ℕ) {vs : List ℕ
       (λ e. far (mine ∙ e)) in
       let theirs = passing.word-is t names call def words ps q (omega (arith, within fs q p there)) in
       let row : take 4 (drop (4 * r .0) (listAfter t names call def list))
-      ≡ fourOf (rowOf fs ws (length fs + k) a q) = rw list-is (row-at rs (drop (length (rows rs)) list) (r .0) _ (r .1)) in
+      ≡ fourOf (rowOf fs ws (length fs + k) a q) =
+      rw list-is (row-at rs (drop (length (rows rs)) list) (r .0) _ (r .1)) in
       record {
         number = r .0;
         below = omega (arith, count-is, within rs (r .0) _ (r .1));
@@ -202,8 +201,9 @@ module _ (t names : List ℕ) (call def : ℕ) (words : List ℕ) {vs : List ℕ
       x .apart (at-most-one t names call def words bound (x .param) j l _ _ at bt e (x .paramThere) (x .ordinary)) in
       let mine : parameterWord t names call def words (own j) ≡ nodeOf a =
       halves-agree t names call def words bound (own j) j (x .param) _ (x .paramThere) (x .ordinary) at .1 refl in
+      let agree = halves-agree t names call def words bound (own l) l (x .other) in
       let theirs : parameterWord t names call def words (own l) ≡ nodeOf b =
-      halves-agree t names call def words bound (own l) l (x .other) _ (x .otherThere) (x .otherOrdinary) bt .1 refl in (
+      agree _ (x .otherThere) (x .otherOrdinary) bt .1 refl in (
         rw theirs at (is-reported j a (own l) (x .other) (x .firstThere) (x .firstName) (x .otherThere)
             (x .otherOrdinary) far),
         rw mine at (is-reported l b (own j) (x .param) (x .secondThere) (x .secondName) (x .paramThere) (x .ordinary)

@@ -1,7 +1,7 @@
--- The reports of a call and a def in a table, and the job, return by return, in the terms of code. A call and a def that
--- are let in are let in by the binding too, because its 4,200 words are enough for any two nodes (`enters`). Their
--- binding is then the same (`words-same`). The words that `bind` leaves in zeros are those of the binding, and 0 behind
--- them, so that both say the same of every place (`padded`), and the reports are the same (`reads-same`).
+-- The reports of a call and a def in a table, and the job, return by return, in the terms of code. A call and a def
+-- that are let in are let in by the binding too, because its 4,200 words are enough for any two nodes (`enters`).
+-- Their binding is then the same (`words-same`). The words that `bind` leaves in zeros are those of the binding, and
+-- 0 behind them, so that both say the same of every place (`padded`), and the reports are the same (`reads-same`).
 -- Assumes nothing.
 use mathlib.Core.Path.{_≡_, refl, sym, ap, _∙_}
 use mathlib.Core.Bool.{Bool, true, false}
@@ -10,15 +10,14 @@ use Prim.Native.Nat.{ℕ, zero, suc, _+_, _-_, _*_, _/_, _<_, _≤_}
 use native.Mathlib.Omega.{arith}
 use lib.ListN.{length, getD, take, drop, replicate, length-replicate}
 use lib.Seq.{getD-drop}
-use lib.Dec.{eqb, leb}
+use lib.Dec.{leb}
 use borrow.Author.Tests.{leb-true}
-use Rattle.fields.proofs.Basics.{never}
 use Rattle.fields.specs.Choice.{if'}
-use Rattle.forest.specs.Forest.{nodeOf, spanOf, kidsOf, forest}
+use Rattle.forest.specs.Forest.{spanOf, kidsOf, forest}
 use Rattle.forest.proofs.Stretch.{length-kids, length-rest}
 use Rattle.table.specs.Numbers.{wrongNode, shortBuffer}
 use Rattle.table.specs.Answer.{Answer, accepted, refused, andThen, refusal, checked}
-use Rattle.table.specs.Check.{mostNodes, mostBytes, Within, stretchOf, entryCheck, checkOf}
+use Rattle.table.specs.Check.{mostBytes, Within, stretchOf, entryCheck}
 use Rattle.table.specs.declared.Refusal.{Refusal}
 use Rattle.table.specs.declared.Checked.{Checked}
 use Rattle.table.specs.declared.Checked.the-variants.{Sound, Refused}
@@ -32,7 +31,7 @@ use Rattle.deflist.proofs.Theorems.{written-short}
 use Rattle.parameters.specs.Params.{listOf}
 use Rattle.bind.specs.FlatList.{FlatParam, flats}
 use Rattle.bind.specs.Job as binding
-use Rattle.bind.specs.Job.{isDef, argumentsAt, wordsOf, answered, answeredAt, bindOf, bound}
+use Rattle.bind.specs.Job.{isDef, argumentsAt, wordsOf, answeredAt, bindOf, bound}
 use Rattle.bind.specs.Reading.{Behind, behindCallee}
 use Rattle.bind.specs.declared.Bound.{Bound}
 use Rattle.bind.specs.declared.Bound.the-variants.{Accepted, Refused as Unbound}
@@ -43,10 +42,9 @@ use Rattle.arguments.specs.Written.{argumentsIn}
 use Rattle.bind.proofs.Room.{room-enough}
 use Rattle.namesakes.specs.Namesake.{Labelled, labelledIn, Report, reportOf, reportsFrom}
 use Rattle.namesakes.specs.Job as job
-use Rattle.namesakes.specs.Job.{labelledAt, entryOf, boundAt, boundOf, reportsAt, counted, namesakesOf, laid}
-use Rattle.namesakes.specs.Job.{listAfter, named}
+use Rattle.namesakes.specs.Job.{labelledAt, entryOf, boundAt, boundOf, reportsAt, namesakesOf, laid}
+use Rattle.namesakes.specs.Job.{listAfter}
 use Rattle.namesakes.specs.Reading.{flatsOf, Ready}
-use Rattle.namesakes.specs.declared.Named.the-variants.{Found, Refused as Unnamed}
 use Rattle.namesakes.proofs.Lists.{bare, labelled-behind, same-of}
 
 -- LAW: a call has as many arguments with names as arguments

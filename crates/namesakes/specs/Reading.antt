@@ -1,11 +1,10 @@
 -- What private functions promise of stretches. These are definitions that only their contracts use.
-use mathlib.Core.Path.{_≡_}
 use mathlib.Core.Bool.{Bool, true, false, _&&_}
 use mathlib.Core.List.{List}
 use Prim.Native.Nat.{ℕ, _*_, _≤_}
 use lib.ListN.{length}
 use lib.Dec.{leb}
-use Rattle.forest.specs.Forest.{recordBytes, nodeOf, kidsOf, forest}
+use Rattle.forest.specs.Forest.{recordBytes, nodeOf, forest}
 use Rattle.table.specs.Check.{mostBytes, Within, stretchOf}
 use Rattle.deflist.specs.Written.{paramsIn}
 use Rattle.deflist.specs.declared.Kind.{Kind}

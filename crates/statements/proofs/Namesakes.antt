@@ -6,8 +6,8 @@
 use mathlib.Core.Path.{_≡_}
 use mathlib.Core.Logic.{_↔_}
 use mathlib.Core.List.{List, [], _∷_}
-use Prim.Native.Nat.{ℕ, _*_, _<_}
-use lib.ListN.{length, take, drop}
+use Prim.Native.Nat.{ℕ}
+use lib.ListN.{length}
 use Rattle.table.specs.Numbers.{shortBuffer}
 use Rattle.table.specs.Answer.{accepted, refused}
 use Rattle.bind.specs.FlatList.{FlatParam}
@@ -52,8 +52,8 @@ pub exchanged-reported : (t names : List ℕ) (call def : ℕ) (words : List ℕ
     ∷ nodeOf (x .first) ∷ [])
 exchanged-reported = theorem.exchanged-reported
 
--- "By position before `/`, exchanging the two arguments of an accepted call with nothing reported, whose names are those
--- of their parameters, is reported."
+-- "By position before `/`, exchanging the two arguments of an accepted call with nothing reported, whose names are
+-- those of their parameters, is reported."
 -- In words: another call of the table whose arguments are alike, with the names of arguments j and l exchanged, is
 -- accepted, and has a row for each of the two.
 pub exchange-is-reported : (t names : List ℕ) (call other def : ℕ) (words : List ℕ) {vs : List ℕ}
@@ -67,8 +67,8 @@ pub exchange-is-reported : (t names : List ℕ) (call other def : ℕ) (words : 
 exchange-is-reported = theorem-exchanging.exchange-is-reported
 
 -- a def before `/`, a call and the same call with its arguments exchanged
--- In words: of `f(a, b)` nothing is reported, of `f(b, a)` both arguments; a list of seven words is too short; the ninth
--- word of a list stays.
+-- In words: of `f(a, b)` nothing is reported, of `f(b, a)` both arguments; a list of seven words is too short; the
+-- ninth word of a list stays.
 pub exchanged-example : (namesakesOf table names 7 1 8 ≡ accepted (0 ∷ []))
     × (namesakesOf table names 14 1 8 ≡ accepted (2 ∷ []))
     × (namesakesOf table names 14 1 7 ≡ refused shortBuffer [])

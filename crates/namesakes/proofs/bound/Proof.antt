@@ -14,7 +14,8 @@ bound-spec =
     let answer = c .before .before .before .answer in
     let back = c .before .before .before .before .before .before in
     let the-bind = back .before .bind in
-    let start = back .before .before .before .before .before .before .before in
+    let back2 = back .before .before .before .before .before .before in
+    let start = back2 .before in
     bound-ready _ _ _ _ start.args.list.now start.pre.0 the-bind.result start.pre.1 the-bind.ensures answer.given.1)
     (λ c. search needs)
     (λ c. search needs)
