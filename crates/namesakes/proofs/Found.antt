@@ -135,11 +135,9 @@ module _ (fs : List FlatParam) (ws : List ℕ) where
       let next : place + suc k ≡ place + 1 + k = omega arith in
       let r = reported (place + 1) qs k a q at n (rw next at far) in
       let these = reportOf ws (nodeIn (b .argument) .at) (getD ws place 0) (namesakeOf fs (b .name)) in
-      let row : rowOf (place + 1 + k) a q ≡ rowOf (place + suc k) a q = ap (λ (i : ℕ). rowOf i a q) (sym next) in (
-        length these + r .0,
-        equal (these ++ reportsFrom fs ws (place + 1) qs) (length these + r .0) row
-            (behind these (reportsFrom fs ws (place + 1) qs) (r .0) _ (r .1)),
-      )
+      let row : rowOf (place + 1 + k) a q ≡ rowOf (place + suc k) a q = ap (λ (i : ℕ). rowOf i a q) (sym next) in
+      let there = behind these (reportsFrom fs ws (place + 1) qs) (r .0) _ (r .1) in
+      (length these + r .0, equal (these ++ reportsFrom fs ws (place + 1) qs) (length these + r .0) row there)
 
   -- LAW: if each argument reaches its namesake, none is reported
   pub none-if : (place : ℕ) (qs : List Labelled)

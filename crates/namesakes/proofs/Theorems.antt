@@ -1,8 +1,8 @@
 -- Namesakes, in the user's words, for a call and a def that both jobs accept:
 --
---   None is reported exactly when every argument that has the name of an ordinary parameter reaches that parameter. Two
---   arguments that are exchanged are both reported. By position before `/`, exchanging the two arguments of an accepted
---   call with nothing reported, whose names are those of their parameters, is reported.
+--   None is reported exactly when every argument that has the name of an ordinary parameter reaches that parameter.
+--   Two arguments that are exchanged are both reported. By position before `/`, exchanging the two arguments of an
+--   accepted call with nothing reported, whose names are those of their parameters, is reported.
 --
 -- "Reaches" is what the binding job says: the words of its list at exit (`argumentWord` of the crate `reached`). The
 -- job's reports are those of these words (`count-is`, `list-is`); the rest is the law of lists (Found) and that names
@@ -201,9 +201,9 @@ module _ (t names : List ℕ) (call def : ℕ) (words : List ℕ) {vs : List ℕ
       x .apart (at-most-one t names call def words bound (x .param) j l _ _ at bt e (x .paramThere) (x .ordinary)) in
       let mine : parameterWord t names call def words (own j) ≡ nodeOf a =
       halves-agree t names call def words bound (own j) j (x .param) _ (x .paramThere) (x .ordinary) at .1 refl in
+      let agree = halves-agree t names call def words bound (own l) l (x .other) in
       let theirs : parameterWord t names call def words (own l) ≡ nodeOf b =
-      halves-agree t names call def words bound (own l) l (x .other) _ (x .otherThere) (x .otherOrdinary) bt .1 refl
-      in (
+      agree _ (x .otherThere) (x .otherOrdinary) bt .1 refl in (
         rw theirs at (is-reported j a (own l) (x .other) (x .firstThere) (x .firstName) (x .otherThere)
             (x .otherOrdinary) far),
         rw mine at (is-reported l b (own j) (x .param) (x .secondThere) (x .secondName) (x .paramThere) (x .ordinary)

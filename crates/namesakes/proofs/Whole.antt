@@ -1,8 +1,8 @@
 -- The reports of a call and a def in a table, and the job, return by return, in the terms of code. A call and a def
--- that are let in are let in by the binding too, because its 4,200 words are enough for any two nodes (`enters`). Their
--- binding is then the same (`words-same`). The words that `bind` leaves in zeros are those of the binding, and 0 behind
--- them, so that both say the same of every place (`padded`), and the reports are the same (`reads-same`). Assumes
--- nothing.
+-- that are let in are let in by the binding too, because its 4,200 words are enough for any two nodes (`enters`).
+-- Their binding is then the same (`words-same`). The words that `bind` leaves in zeros are those of the binding, and
+-- 0 behind them, so that both say the same of every place (`padded`), and the reports are the same (`reads-same`).
+-- Assumes nothing.
 use mathlib.Core.Path.{_≡_, refl, sym, ap, _∙_}
 use mathlib.Core.Bool.{Bool, true, false}
 use mathlib.Core.List.{List, [], _∷_, _++_}

@@ -71,8 +71,7 @@ starlark-bind-one table names call def list out r-is out-is list-is s-is out-are
 
 -- of `starlark_namesakes`
 pub starlark-namesakes-one : (table names : List ℕ) (call def : ℕ) (list out : List ℕ) {r s : ℕ}
-    {list-r list-s : List ℕ}
-    {out-r out-s : List ℕ} → r ≡ number (namesakesOf table names call def (length list))
+    {list-r list-s : List ℕ} {out-r out-s : List ℕ} → r ≡ number (namesakesOf table names call def (length list))
     → out-r ≡ laid (words (namesakesOf table names call def (length list))) 0 out
     → list-r ≡ reportsAfter table names call def list → s ≡ number (namesakesOf table names call def (length list))
     → out-s ≡ laid (words (namesakesOf table names call def (length list))) 0 out

@@ -53,8 +53,9 @@ pub exchanged-reported : (t names : List ℕ) (call def : ℕ) (words : List ℕ
 exchanged-reported = theorem.exchanged-reported
 
 -- "By position before `/`, exchanging the two arguments of an accepted call with nothing reported, whose names are
--- those of their parameters, is reported." In words: another call of the table whose arguments are alike, with the
--- names of arguments j and l exchanged, is accepted, and has a row for each of the two.
+-- those of their parameters, is reported."
+-- In words: another call of the table whose arguments are alike, with the names of arguments j and l exchanged, is
+-- accepted, and has a row for each of the two.
 pub exchange-is-reported : (t names : List ℕ) (call other def : ℕ) (words : List ℕ) {vs : List ℕ}
     → bindOf t names call def (length words) ≡ accepted vs
     → (list : List ℕ)
@@ -65,8 +66,9 @@ pub exchange-is-reported : (t names : List ℕ) (call other def : ℕ) (words : 
     × Reported (listAfter t names other def list) m (nodeOf (s .second) ∷ l ∷ j ∷ nodeOf (s .first) ∷ [])))
 exchange-is-reported = theorem-exchanging.exchange-is-reported
 
--- a def before `/`, a call and the same call with its arguments exchanged In words: of `f(a, b)` nothing is reported,
--- of `f(b, a)` both arguments; a list of seven words is too short; the ninth word of a list stays.
+-- a def before `/`, a call and the same call with its arguments exchanged
+-- In words: of `f(a, b)` nothing is reported, of `f(b, a)` both arguments; a list of seven words is too short; the
+-- ninth word of a list stays.
 pub exchanged-example : (namesakesOf table names 7 1 8 ≡ accepted (0 ∷ []))
     × (namesakesOf table names 14 1 8 ≡ accepted (2 ∷ []))
     × (namesakesOf table names 14 1 7 ≡ refused shortBuffer [])
