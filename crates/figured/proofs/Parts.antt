@@ -12,7 +12,8 @@ use Rattle.fields.proofs.Basics.{never}
 use Rattle.table.specs.Answer.{Answer, accepted, refused}
 use Rattle.tablefile.specs.Reading.{headerAt, contentAt, frontCheck}
 use Rattle.tablefile.proofs.Fronts.{header-front}
-use Rattle.figures.specs.Reporting.{windowCheck, stepCheck, told, stepOf, figuresAfter}
+use Rattle.figures.specs.Reporting.{windowCheck, stepCheck, told, stepOf}
+use Rattle.figures.specs.Reporting.{figuresAfter}
 use Rattle.figures.specs.declared.Stepped.the-variants.{Taken}
 use Rattle.figures.proofs.Windows.{fileIn, taken-least, front-window, content-window}
 

@@ -1,6 +1,6 @@
 -- A report that a refused file ended. What stands before that file is a whole report with the same counters
 -- (`report-before`), because each step before it sees the same without what follows. And a refusal other than 70 stays
--- with its place and counters whatever bytes follow (`report-stays`): a check that is not 70 has looked at blocks that
+-- with its place and counters whatever bytes follow (`report-same`): a check that is not 70 has looked at blocks that
 -- are there whole (`front-more`). Both by induction on how many bytes are left. Assumes nothing.
 use mathlib.Core.Path.{_≡_, refl, sym, ap, _∙_}
 use mathlib.Core.Bool.{Bool, true, false}
@@ -22,7 +22,7 @@ use Rattle.blocks.proofs.Parts.{judge-front}
 use Rattle.tablefile.specs.Reading.{headerAt, usedOf, contentAt, countsFit, blocksCheck, frontCheck, soundCheck}
 use Rattle.tablefile.proofs.Fronts.{header-front, first-is, fronted-then, taken-there}
 use Rattle.figures.specs.Reporting.{mostFiles, windowCheck, stepCheck, told, stepOf, figuresAfter, whole}
-use Rattle.figures.specs.Reporting.{endedBy, reportFrom}
+use Rattle.figures.specs.Reporting.{endedBy, reportFrom, zeros, reportOf}
 use Rattle.figures.specs.declared.Stepped.{Stepped}
 use Rattle.figures.specs.declared.Stepped.the-variants.{Taken, Refused}
 use Rattle.figures.specs.declared.Ending.{Ending}
@@ -162,8 +162,8 @@ blocks-long (suc n) number total bs vs e =
         → (judgeBlocks n (number + 1) (total - 504) (drop 512 bs) ≡ accepted vs → 512 * n ≤ length (drop 512 bs))
         → 512 * suc n ≤ length bs
     go (inr short) (accepted us) x-is f rest =
-        let bad : refused blockShort [] ≡ judge number (min 504 total) bs =
-        judge-short number (min 504 total) bs short in
+        let bad : refused blockShort [] ≡ judge number (min 504 total) bs
+        = judge-short number (min 504 total) bs short in
         never (cc)
     go (inl long) (accepted us) x-is f rest =
         let behind : 512 * n ≤ length (drop 512 bs) = rest f in
@@ -281,3 +281,26 @@ report-stays (suc j) at fs a b few k p gs e other =
         let some = eqb-false (length a) 0 z in
         report-more a b fs some h at
         ∙ rest m (taken-fits a fs some h) (sym (report-on at fs a some h) ∙ e)
+
+-- an input whose report a refusal ended
+module _ (a : List ℕ) {k p : ℕ} (ends : reportOf a .ending ≡ RefusedAt k p) where
+  ended-there : reportFrom 0 zeros a ≡ endedBy k p (reportOf a .figures)
+  unfolding reportOf
+  ended-there = ap (λ (e : Ending). record { figures = reportFrom 0 zeros a .figures; ending = e }) ends
+
+  -- THEOREM: what stands before the refused file has a whole report, with the same counters
+  pub report-before : reportOf (take p a) ≡ whole (reportOf a .figures)
+  unfolding reportOf
+  report-before =
+      let here : p - 0 ≡ p = omega arith in
+      rw here at (before-refused (length a) 0 zeros a (omega arith) ended-there .whole-there)
+
+  -- THEOREM: the place is one of the input
+  pub report-place : p ≤ length a
+  report-place = omega (arith, before-refused (length a) 0 zeros a (omega arith) ended-there .most)
+
+  -- THEOREM: a refusal other than 70 stays, with its place and the counters, whatever bytes follow
+  pub report-same : (k ≡ 70 → ⊥) → (b : List ℕ) → reportOf (a ++ b) ≡ reportOf a
+  unfolding reportOf
+  report-same other b =
+      report-stays (length a) 0 zeros a b (omega arith) k p (reportOf a .figures) ended-there other ∙ sym ended-there

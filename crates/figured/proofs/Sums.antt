@@ -18,8 +18,8 @@ use Rattle.figures.specs.Counting.{figuresOf}
 use Rattle.figures.specs.Adding.{held, added}
 use Rattle.figures.specs.Walking.{plus}
 use Rattle.table.specs.Numbers.{tooManyFiles}
-use Rattle.figures.specs.Reporting.{mostFiles, stepCheck, told, counted, stepOf, figuresAfter}
-use Rattle.figures.specs.Reporting.{whole, endedBy, reportFrom, zeros, reportOf}
+use Rattle.figures.specs.Reporting.{mostFiles, stepCheck, told, counted, stepOf}
+use Rattle.figures.specs.Reporting.{figuresAfter, whole, endedBy, reportFrom, zeros, reportOf}
 use Rattle.figures.specs.declared.Stepped.{Stepped}
 use Rattle.figures.specs.declared.Stepped.the-variants.{Taken, Refused}
 use Rattle.figures.specs.declared.Ending.{Ending}
@@ -32,7 +32,7 @@ use Rattle.figured.proofs.Joins.{report-joined}
 
 -- a step from other counters
 module _ (w fs : List ℕ) (some : length w ≡ 0 → ⊥) where
-  step-is : stepOf w fs ≡ told (stepCheck w fs) (headerAt w .taken)
+  pub step-is : stepOf w fs ≡ told (stepCheck w fs) (headerAt w .taken)
   unfolding stepOf
   step-is = rw (ne-eqb (length w) 0 some) refl
 

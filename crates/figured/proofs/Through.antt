@@ -20,8 +20,8 @@ use Rattle.blocks.proofs.Parts.{judge-front}
 use Rattle.tablefile.specs.Reading.{headerAt, usedOf, contentAt, countsFit, blocksCheck}
 use Rattle.tablefile.proofs.Fronts.{header-front, first-is, taken-is, counts-small}
 use Rattle.figures.specs.Counting.{figuresOf}
-use Rattle.figures.specs.Reporting.{mostFiles, windowCheck, stepCheck, counted, stepOf, figuresAfter, whole, afterStep}
-use Rattle.figures.specs.Reporting.{reportIn, reportFrom, reportOf}
+use Rattle.figures.specs.Reporting.{mostFiles, windowCheck, stepCheck, counted, stepOf}
+use Rattle.figures.specs.Reporting.{figuresAfter, whole, afterStep, reportIn, reportFrom, reportOf}
 use Rattle.figures.specs.declared.Stepped.{Stepped}
 use Rattle.figures.specs.declared.Stepped.the-variants.{Taken, Refused}
 use Rattle.figured.specs.Said.{windowBytes, throughIn, through}
@@ -131,3 +131,7 @@ module _ (room : ℕ → ℕ) (enough : (at : ℕ) → windowBytes ≤ room at) 
   pub report-through : (input : List ℕ) → through room input ≡ reportOf input
   unfolding through reportOf reportFrom
   report-through input = steps-through (length input) 0 _ input
+
+-- THEOREM: how many bytes that are
+pub window-bytes : windowBytes ≡ 59904
+window-bytes = refl

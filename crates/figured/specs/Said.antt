@@ -1,13 +1,19 @@
 -- What the sentences of W-214 speak of: two inputs joined, the same input through a buffer, counters that stay small.
 -- These are definitions.
+use mathlib.Core.Path.{_≡_}
 use mathlib.Core.Bool.{Bool, false}
-use mathlib.Core.List.{List}
+use mathlib.Core.List.{List, [], _∷_}
 use Prim.Native.Nat.{ℕ, zero, suc, _+_, _*_, _≤_}
 use lib.ListN.{length, getD, take, drop}
 use lib.Dec.{eqb}
 use Rattle.fields.specs.Choice.{if'}
+use Rattle.table.specs.Answer.{Answer, accepted, refused}
+use Rattle.table.specs.Check.{mostNodes, nodeFits}
+use Rattle.table.specs.declared.Wanted.the-variants.{Call}
+use Rattle.parameters.specs.Params.{paramsOf}
 use Rattle.blocks.specs.Block.{blockBytes}
 use Rattle.tablefile.specs.File.{mostBlocks}
+use Rattle.figures.specs.Counting.{one}
 use Rattle.figures.specs.Adding.{added}
 use Rattle.table.specs.Numbers.{tooManyFiles}
 use Rattle.figures.specs.Reporting.{mostFiles, stepOf, figuresAfter, whole, afterStep, zeros}
@@ -45,11 +51,29 @@ throughIn room (suc k) at figures left =
 unfoldable pub through : (ℕ → ℕ) → List ℕ → Reported
 through room input = throughIn room (length input) 0 zeros input
 
+-- a call, accepted or refused
+unfoldable pub callAt : List ℕ → ℕ → ℕ
+callAt t i = one (nodeFits t i Call)
+
+-- how many flat parameters a node has, if its list is accepted: the last of the values that the parameters job answers
+abbrev pub flatIn : Answer → ℕ
+flatIn (accepted vs) = getD vs 10 0
+flatIn (refused k vs) = 0
+
+unfoldable pub flatAt : List ℕ → List ℕ → ℕ → ℕ
+flatAt t names i = flatIn (paramsOf t names i mostNodes)
+
+-- the sum of some numbers
+unfoldable pub sumOf : List ℕ → ℕ
+sumOf [] = 0
+sumOf (n ∷ ns) = n + sumOf ns
+
 -- the most that a file adds to a counter: 48 parameters of a mode in each of 2,100 lists
 abbrev pub mostAdded : ℕ
 mostAdded = 100800
 
 -- counters that stay small: no more files than a report may have, and no counter above what so many files can add
 pub record Small (figures : List ℕ) : Type 0 where
+  pub all : length figures ≡ 32
   pub files : getD figures 0 0 ≤ mostFiles
   pub others : (i : ℕ) → getD figures i 0 ≤ mostAdded * getD figures 0 0

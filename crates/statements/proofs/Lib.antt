@@ -24,6 +24,7 @@ pub mod Writer
 pub mod Rescue
 pub mod Books
 pub mod FilePass
+pub mod Figures
 pub mod FString
 pub mod InC
 pub mod Examples

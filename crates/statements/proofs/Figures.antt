@@ -1,0 +1,181 @@
+-- W-214: THE LINE'S FIGURES
+--
+-- Theorems of crate `figured` over the report of files one after another: `reportOf` is what `figures::report` answers,
+-- `stepOf` and `figuresAfter` are what `figures::step` answers and leaves in the counters. Each is proved by citing the
+-- theorem. Assumes nothing.
+use mathlib.Core.Path.{_≡_}
+use mathlib.Core.Bool.{false}
+use mathlib.Core.List.{List, [], _∷_, _++_}
+use Prim.Native.Nat.{ℕ, _+_, _*_, _^_, _<_, _≤_}
+use lib.ListN.{length, getD, take}
+use Rattle.deflist.specs.Unpack.{modePosOnly, modePosOrName, modeNameOnly, modeArgs, modeKwargs}
+use Rattle.table.specs.Numbers.{blockShort, tooManyFiles}
+use Rattle.validate.specs.Job.{errorsOf}
+use Rattle.blocks.specs.Block.{blockBytes}
+use Rattle.tablefile.specs.Reading.{contentAt}
+use Rattle.figures.specs.Counting.{modeAt, acceptedAt, refusedAt, over, numbersOf, errorCounts, figuresOf}
+use Rattle.figures.specs.Reporting.{mostFiles, stepOf, figuresAfter, whole, endedBy, zeros, reportOf}
+use Rattle.figures.specs.declared.Stepped.the-variants.{Taken, Refused as RefusedStep}
+use Rattle.figures.specs.declared.Ending.the-variants.{Whole, Refused}
+use Rattle.figures.proofs.Running as theorem-running
+use Rattle.figured.specs.Said.{summed, endedBy76, windowBytes, through, callAt, flatAt, sumOf, mostAdded}
+use Rattle.figured.proofs.Sums as theorem-sums
+use Rattle.figured.proofs.Through as theorem-through
+use Rattle.figured.proofs.Stops as theorem-stops
+use Rattle.figured.proofs.Totals as theorem-totals
+use Rattle.figured.proofs.Bounds as theorem-bounds
+use Rattle.figured.proofs.Ends as theorem-ends
+
+-- "An empty input holds no file and gives zeros"
+-- In words: the report of no bytes is whole, and its 32 counters are 0.
+pub empty-report : reportOf [] ≡ whole zeros
+empty-report = theorem-ends.empty-report
+
+-- bytes after a file's last block begin the next file, however few they are
+-- In words: an input that has a byte and is shorter than a block is ended by 70 at its first byte, with all counters 0.
+pub short-report : (a : List ℕ)
+    → (length a ≡ 0 → ⊥)
+    → length a < blockBytes
+    → reportOf a ≡ endedBy blockShort 0 zeros
+short-report = theorem-ends.short-report
+
+-- "a single byte does too (70)": such an input, with the numbers
+-- In words: the report of one byte, 0, is ended by 70 at place 0.
+pub one-byte : reportOf (0 ∷ []) ≡ endedBy 70 0 zeros
+one-byte = theorem-ends.one-byte
+
+-- figures of parts may be added
+-- In words: where the first of two inputs has no refused file, and 76 does not end the report of both joined, that
+-- report is the sum of the two reports, and the place of the second's refused file grows by the first's length.
+pub report-sums : (a b : List ℕ)
+    → reportOf a .ending ≡ Whole
+    → endedBy76 (reportOf (a ++ b) .ending) ≡ false
+    → reportOf (a ++ b) ≡ summed (length a) (reportOf a) (reportOf b)
+report-sums = theorem-sums.report-sums
+
+-- inputs of any length may be read through a buffer: one step
+-- In words: a step answers to the first n bytes of what is left as to all of it, for any n from `windowBytes` on.
+pub window-step : (n : ℕ) (left : List ℕ)
+    → windowBytes ≤ n
+    → (figures : List ℕ)
+    → (length left ≡ 0 → ⊥)
+    → stepOf (take n left) figures ≡ stepOf left figures
+window-step = theorem-through.window-step
+
+-- inputs of any length may be read through a buffer: the counters
+-- In words: such a step leaves the same counters.
+pub window-after : (n : ℕ) (left : List ℕ)
+    → windowBytes ≤ n
+    → (figures : List ℕ)
+    → (length left ≡ 0 → ⊥)
+    → figuresAfter (take n left) figures ≡ figuresAfter left figures
+window-after = theorem-through.window-after
+
+-- inputs of any length may be read through a buffer: the whole report
+-- In words: the steps of an input, each of which sees the first bytes of what is left, give its report, if the buffer
+-- holds at least `windowBytes` bytes at each place.
+pub report-through : (room : ℕ → ℕ)
+    → ((at : ℕ) → windowBytes ≤ room at)
+    → (input : List ℕ)
+    → through room input ≡ reportOf input
+report-through = theorem-through.report-through
+
+-- how large such a buffer is
+-- In words: `windowBytes` is 59,904.
+pub window-bytes : windowBytes ≡ 59904
+window-bytes = theorem-through.window-bytes
+
+-- "Files before it are counted, that one not at all"
+-- In words: where a refused file ends the report of an input at a place, the report of the bytes before that place is
+-- whole, with the same counters.
+pub report-before : (a : List ℕ) {number place : ℕ}
+    → reportOf a .ending ≡ Refused number place
+    → reportOf (take place a) ≡ whole (reportOf a .figures)
+report-before = theorem-stops.report-before
+
+-- the place of a refused file
+-- In words: it is not behind the end of the input.
+pub report-place : (a : List ℕ) {number place : ℕ}
+    → reportOf a .ending ≡ Refused number place
+    → place ≤ length a
+report-place = theorem-stops.report-place
+
+-- a refusal does not depend on what follows, but for 70, which may say that a file goes on in the next input
+-- In words: where a number other than 70 ends the report of an input, the report of that input with any bytes behind it
+-- is the same.
+pub report-same : (a : List ℕ) {number place : ℕ}
+    → reportOf a .ending ≡ Refused number place
+    → (number ≡ 70 → ⊥)
+    → (b : List ℕ)
+    → reportOf (a ++ b) ≡ reportOf a
+report-same = theorem-stops.report-same
+
+-- "Calls accepted and refused together are all calls"
+-- In words: of any table, calls accepted and calls refused add up to the number of nodes of kind 22.
+pub calls-all : (t names : List ℕ) → over t (acceptedAt t names) + over t (refusedAt t names) ≡ over t (callAt t)
+calls-all = theorem-totals.calls-all
+
+-- "modes summed are the flat counts of the accepted lists"
+-- In words: the five modes of a table add up to the flat counts that the parameters job answers for its nodes, over the
+-- lists that it accepts.
+pub modes-all : (t names : List ℕ)
+    → over t (modeAt modePosOnly t names)
+    + (over t (modeAt modePosOrName t names)
+    + (over t (modeAt modeNameOnly t names)
+    + (over t (modeAt modeArgs t names)
+    + over t (modeAt modeKwargs t names))))
+    ≡ over t (flatAt t names)
+modes-all = theorem-totals.modes-all
+
+-- "errors summed are the totals of the module pass"
+-- In words: the errors of each number add up to the number of errors that the module pass finds.
+pub errors-all : (t names dialect : List ℕ)
+    → sumOf (errorCounts (numbersOf (errorsOf t names dialect))) ≡ length (errorsOf t names dialect)
+errors-all = theorem-totals.errors-all
+
+-- "sums saturate at 64 bits in the definition, and from zeros this never happens": what a file adds
+-- In words: a file that a step accepts adds at most `mostAdded` to a counter.
+pub file-few : (window figures : List ℕ)
+    → (length window ≡ 0 → ⊥)
+    → {n : ℕ}
+    → stepOf window figures ≡ Taken n
+    → (i : ℕ)
+    → getD (figuresOf (contentAt window)) i 0 ≤ mostAdded
+file-few = theorem-bounds.file-few
+
+-- sums that are never held: a step In words: of 32 counters, with at most 4,294,967,295 files and no counter above
+-- `mostAdded` for each file, a step that accepts a file leaves the plain sums.
+pub step-plain : (window figures : List ℕ)
+    → (length window ≡ 0 → ⊥)
+    → {n : ℕ}
+    → stepOf window figures ≡ Taken n
+    → length figures ≡ 32
+    → getD figures 0 0 ≤ mostFiles
+    → ((i : ℕ) → getD figures i 0 ≤ mostAdded * getD figures 0 0)
+    → (i : ℕ)
+    → getD (figuresAfter window figures) i 0 ≡ getD figures i 0 + getD (figuresOf (contentAt window)) i 0
+step-plain window figures some takes all files others =
+    theorem-bounds.step-plain window figures some takes record { all = all; files = files; others = others }
+
+-- sums that are never held: the counters of every report are such
+-- In words: a report has 32 counters, at most 4,294,967,295 files, and no counter above `mostAdded` for each file.
+pub figures-small : (input : List ℕ)
+    → (length (reportOf input .figures) ≡ 32)
+    × (getD (reportOf input .figures) 0 0 ≤ mostFiles)
+    × ((i : ℕ) → getD (reportOf input .figures) i 0 ≤ mostAdded * getD (reportOf input .figures) 0 0)
+figures-small input =
+    let small = theorem-bounds.figures-small input in
+    (small .all, small .files, small .others)
+
+-- sums that are never held: 64 bits are enough
+-- In words: every counter of a report is below 2^64.
+pub figures-fit : (input : List ℕ) (i : ℕ) → getD (reportOf input .figures) i 0 < 2 ^ 64
+figures-fit = theorem-bounds.figures-fit
+
+-- "76 first, with one byte left after 4,294,967,295 files"
+-- In words: from so many files on, a step refuses any bytes by 76 and changes no counter.
+pub step-many : (window figures : List ℕ)
+    → (length window ≡ 0 → ⊥)
+    → mostFiles ≤ getD figures 0 0
+    → (RefusedStep tooManyFiles ≡ stepOf window figures) × (figures ≡ figuresAfter window figures)
+step-many = theorem-running.step-many
