@@ -1,21 +1,26 @@
 -- PRODUCT 4: NAMESAKES
 --
 -- The theorems of crate `namesakes`, over the answer of `namesakes::namesakes`, the rows of its list at exit, and what
--- the binding job says of the same call and def. What the record `Reported` holds stands as a product. Each is proved
--- by citing the theorem. Assumes nothing.
+-- the binding job says of the same call and def. Each is proved by citing the theorem. Assumes nothing.
 use mathlib.Core.Path.{_≡_}
+use mathlib.Core.Bool.{true}
 use mathlib.Core.Logic.{_↔_}
 use mathlib.Core.List.{List, [], _∷_}
-use Prim.Native.Nat.{ℕ}
-use lib.ListN.{length}
+use Prim.Native.Nat.{ℕ, _*_, _<_}
+use lib.ListN.{length, take, drop}
+use Rattle.forest.specs.Forest.{Node}
 use Rattle.table.specs.Numbers.{shortBuffer}
 use Rattle.table.specs.Answer.{accepted, refused}
+use Rattle.table.specs.Check.{nodeFits}
+use Rattle.table.specs.declared.Wanted.the-variants.{Call}
+use Rattle.deflist.specs.Unpack.{modePosOnly}
+use Rattle.arguments.specs.Written.{positional}
 use Rattle.bind.specs.FlatList.{FlatParam}
-use Rattle.bind.specs.Job.{bindOf}
+use Rattle.bind.specs.Job.{bindOf, argumentsAt}
 use Rattle.reached.specs.Said.{IsAt, Ordinary, flatsAt, argumentWord}
 use Rattle.namesakes.specs.Namesake.{label, Labelled}
 use Rattle.namesakes.specs.Job.{labelledAt, namesakesOf, listAfter}
-use Rattle.namesakes.specs.Said.{nodeOf, Reported, Exchanged, Swapped}
+use Rattle.namesakes.specs.Said.{nodeOf, Alike}
 use Rattle.namesakes.specs.Example.{table, names, room}
 use Rattle.namesakes.proofs.Theorems as theorem
 use Rattle.namesakes.proofs.Exchanging as theorem-exchanging
@@ -43,14 +48,40 @@ pub exchanged-reported : (t names : List ℕ) (call def : ℕ) (words : List ℕ
     → bindOf t names call def (length words) ≡ accepted vs
     → (list : List ℕ) {n : ℕ}
     → namesakesOf t names call def (length list) ≡ accepted (n ∷ [])
-    → (j l : ℕ) (x : Exchanged t names call def words j l)
-    → Reported (listAfter t names call def list) n
-    (nodeOf (x .first) ∷ argumentWord t names call def words j ∷ argumentWord t names call def words l
-    ∷ nodeOf (x .second) ∷ [])
-    × Reported (listAfter t names call def list) n
-    (nodeOf (x .second) ∷ argumentWord t names call def words l ∷ argumentWord t names call def words j
-    ∷ nodeOf (x .first) ∷ [])
-exchanged-reported = theorem.exchanged-reported
+    → (j l : ℕ)
+    → (j ≡ l → ⊥)
+    → (a b : Labelled)
+    → IsAt (labelledAt t names call) j a
+    → IsAt (labelledAt t names call) l b
+    → (p q : FlatParam)
+    → IsAt (flatsAt t names def) (argumentWord t names call def words j) p
+    → IsAt (flatsAt t names def) (argumentWord t names call def words l) q
+    → Ordinary p
+    → Ordinary q
+    → a .name ≡ label (q .name)
+    → b .name ≡ label (p .name)
+    → ((r : ℕ) × ((r < n) × (take 4 (drop (4 * r) (listAfter t names call def list))
+    ≡ nodeOf a ∷ argumentWord t names call def words j ∷ argumentWord t names call def words l ∷ nodeOf b ∷ [])))
+    × ((r : ℕ) × ((r < n) × (take 4 (drop (4 * r) (listAfter t names call def list))
+    ≡ nodeOf b ∷ argumentWord t names call def words l ∷ argumentWord t names call def words j ∷ nodeOf a ∷ [])))
+exchanged-reported t names call def words bound list found j l apart a b a-at b-at p q p-at q-at p-is q-is a-name
+    b-name =
+    let both = theorem.exchanged-reported t names call def words bound list found j l (record {
+      apart = apart;
+      first = a;
+      second = b;
+      firstThere = a-at;
+      secondThere = b-at;
+      param = p;
+      other = q;
+      paramThere = p-at;
+      otherThere = q-at;
+      ordinary = p-is;
+      otherOrdinary = q-is;
+      firstName = a-name;
+      secondName = b-name;
+    }) in
+    ((both .0 .number, (both .0 .below, both .0 .there)), (both .1 .number, (both .1 .below, both .1 .there)))
 
 -- "By position before `/`, exchanging the two arguments of an accepted call with nothing reported, whose names are
 -- those of their parameters, is reported."
@@ -60,11 +91,67 @@ pub exchange-is-reported : (t names : List ℕ) (call other def : ℕ) (words : 
     → bindOf t names call def (length words) ≡ accepted vs
     → (list : List ℕ)
     → namesakesOf t names call def (length list) ≡ accepted (0 ∷ [])
-    → (j l : ℕ) (s : Swapped t names call other def j l)
+    → nodeFits t other Call ≡ true
+    → Alike (argumentsAt t names call) (argumentsAt t names other)
+    → (j l : ℕ)
+    → (j ≡ l → ⊥)
+    → (a b : Labelled)
+    → IsAt (labelledAt t names call) j a
+    → IsAt (labelledAt t names call) l b
+    → (r s : Node)
+    → a .argument ≡ positional r
+    → b .argument ≡ positional s
+    → (p q : FlatParam)
+    → IsAt (flatsAt t names def) j p
+    → IsAt (flatsAt t names def) l q
+    → p .mode ≡ modePosOnly
+    → q .mode ≡ modePosOnly
+    → a .name ≡ label (p .name)
+    → b .name ≡ label (q .name)
+    → (x y : Labelled)
+    → IsAt (labelledAt t names other) j x
+    → IsAt (labelledAt t names other) l y
+    → x .name ≡ b .name
+    → y .name ≡ a .name
     → (m : ℕ) × ((namesakesOf t names other def (length list) ≡ accepted (m ∷ []))
-    × (Reported (listAfter t names other def list) m (nodeOf (s .first) ∷ j ∷ l ∷ nodeOf (s .second) ∷ [])
-    × Reported (listAfter t names other def list) m (nodeOf (s .second) ∷ l ∷ j ∷ nodeOf (s .first) ∷ [])))
-exchange-is-reported = theorem-exchanging.exchange-is-reported
+    × (((i : ℕ) × ((i < m) × (take 4 (drop (4 * i) (listAfter t names other def list))
+    ≡ nodeOf x ∷ j ∷ l ∷ nodeOf y ∷ [])))
+    × ((i : ℕ) × ((i < m) × (take 4 (drop (4 * i) (listAfter t names other def list))
+    ≡ nodeOf y ∷ l ∷ j ∷ nodeOf x ∷ [])))))
+exchange-is-reported t names call other def words bound list none fits alike j l apart a b a-at b-at r s a-is b-is p q
+    p-at q-at p-mode q-mode a-name b-name x y x-at y-at x-name y-name =
+    let e = theorem-exchanging.exchange-is-reported t names call other def words bound list none j l (record {
+      isACall = fits;
+      alike = alike;
+      apart = apart;
+      own = record {
+        argument = a;
+        there = a-at;
+        node = r;
+        byPlace = a-is;
+        param = p;
+        paramThere = p-at;
+        posOnly = p-mode;
+        name = a-name;
+      };
+      owns = record {
+        argument = b;
+        there = b-at;
+        node = s;
+        byPlace = b-is;
+        param = q;
+        paramThere = q-at;
+        posOnly = q-mode;
+        name = b-name;
+      };
+      first = x;
+      second = y;
+      firstThere = x-at;
+      secondThere = y-at;
+      firstName = x-name;
+      secondName = y-name;
+    }) in
+    (e .0, (e .1, ((e .2 .number, (e .2 .below, e .2 .there)), (e .3 .number, (e .3 .below, e .3 .there)))))
 
 -- a def before `/`, a call and the same call with its arguments exchanged
 -- In words: of `f(a, b)` nothing is reported, of `f(b, a)` both arguments; a list of seven words is too short; the
