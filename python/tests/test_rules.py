@@ -71,7 +71,7 @@ class Rule(CommandTest):
 
     def test_what_is_printed(self):
         said = ("13 NO_DEFAULT_AFTER_DEFAULT\nmeaning: a parameter without a default stands after one that has a default\n"
-                "given by: params, bind, module, audit, file\nexample: a script; `ducat check --dialect all FILE`\n    def f(a=1, b): pass\n")
+                "given by: params, bind, namesakes, module, audit, file\nexample: a script; `ducat check --dialect all FILE`\n    def f(a=1, b): pass\n")
         for word in ("13", "no_default_after_default", "NO_DEFAULT_AFTER_DEFAULT"):
             self.says(0, said, "", "rule", word)
         for number in numbers.WORDS:
