@@ -12,6 +12,7 @@ put-held-spec =
     (λ c κs. search needs)
     (λ c κs. search needs)
     (λ c.  -- returns
-    let start = c .before .before .before .before in
-    held-laid _ start.args.out.now (c .before .before .put-front .ensures) (c .before .stated-edition .ensures)
+    let start = c .before .before .before .before .before .before in
+    let front = c .before .before .before .put-front in
+    held-laid _ start.args.out.now front.ensures (c .before .before .stated-edition .ensures)
     (c .put-edition .ensures)))

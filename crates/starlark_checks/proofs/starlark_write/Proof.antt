@@ -10,4 +10,8 @@ starlark-write-spec =
     (tie.spec
     (λ c κs. search needs)
     (λ c κs. search needs)
-    (λ c. rw (c .before .stated-of .ensures) at (c .write-stated .ensures)))  -- returns
+    (λ c. search needs)
+    (λ c.  -- returns
+    let wrote = c .before .before .write-stated in
+    let stated = c .before .before .before .before .before .stated-of in
+    rw (stated.ensures) at (wrote.ensures)))
