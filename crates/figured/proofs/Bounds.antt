@@ -17,7 +17,8 @@ use Rattle.table.specs.Answer.{Answer, accepted, refused, passes, isRefused}
 use Rattle.table.specs.Check.{mostNodes, nodeFits}
 use Rattle.table.specs.declared.Wanted.the-variants.{Parameters, Call}
 use Rattle.table.proofs.Answers.{passed-both, test-passed}
-use Rattle.table.proofs.Entering.{given-passed, given-known}
+use Rattle.table.proofs.Entering.{given-known}
+use Rattle.table.proofs.Ruling.{rules-known, rules-passed}
 use Rattle.deflist.specs.Written.{Param, kindIn}
 use Rattle.deflist.specs.Unpack.{nextState, firstSlash, positionalOnly, firstState, modeOf, modesFrom, modes}
 use Rattle.deflist.specs.declared.Kind.{Kind}
@@ -31,7 +32,7 @@ use Rattle.validate.specs.Job.{errorsOf}
 use Rattle.validate.proofs.Theorems.{errors-few}
 use Rattle.blocks.specs.Block.{demand}
 use Rattle.tablefile.specs.File.{Content}
-use Rattle.tablefile.specs.Reading.{headerAt, contentAt, frontCheck, soundCheck}
+use Rattle.tablefile.specs.Reading.{headerAt, contentAt, frontCheck, soundCheck, editionRead}
 use Rattle.figures.specs.Counting.{one, occurrences, occurrencesFrom, total, nodesOf, listAt, modeAt, acceptedAt}
 use Rattle.figures.specs.Counting.{refusedAt, over, numbersOf, errorCounts, tableFigures, figuresOf}
 use Rattle.figures.specs.Adding.{most64, added}
@@ -228,8 +229,9 @@ module _ (w fs : List ℕ) (some : length w ≡ 0 → ⊥) {n : ℕ} (takes : st
       let passed = passed-both (demand (ltb (getD fs 0 0) mostFiles) tooManyFiles) (λ _. windowCheck w)
       (step-passed .1) in
       let sound = passed-both (frontCheck w) (λ _. soundCheck c) (passed .2) in
-      let known = given-passed (c .table) (c .names) (c .dialect) (sound .2) in
-      given-known (c .table) (c .names) (c .dialect) (known .1) .0 .most
+      let ruled = rules-passed (c .table) (c .names) (c .dialect) (editionRead c) (sound .2) in
+      let known = rules-known (c .table) (c .names) (c .dialect) (ruled .2) in
+      given-known (c .table) (c .names) (c .dialect) (known .0) .0 .most
 
   -- THEOREM: a file that a step accepts adds at most 100,800 to a counter
   pub file-few : (i : ℕ) → getD (figuresOf (contentAt w)) i 0 ≤ mostAdded
@@ -241,7 +243,7 @@ module _ (w fs : List ℕ) (some : length w ≡ 0 → ⊥) {n : ℕ} (takes : st
   unfolding tableFigures
   file-one = refl
 
-  file-long : length (figuresOf (contentAt w)) ≡ 32
+  pub file-long : length (figuresOf (contentAt w)) ≡ 32
   unfolding tableFigures errorCounts occurrencesFrom
   file-long = refl
 

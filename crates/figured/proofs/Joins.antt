@@ -82,8 +82,8 @@ pub report-joined : (k at : ℕ) (fs a b : List ℕ) → length a ≤ k → (gs 
 report-joined zero at fs a b few gs e = joined-none at fs a b (omega (arith, few)) gs e
 report-joined (suc k) at fs a b few gs e =
     go (eqb (length a) 0) refl (stepOf a fs) refl
-    (λ n fits f. report-joined k (at + n) (figuresAfter a fs) (drop n a) b
-    (omega (arith, few, fits, length-drop n a)) gs f)
+    (λ n fits f. report-joined k (at + n) (figuresAfter a fs) (drop n a) b (omega (arith, few, fits, length-drop n a))
+    gs f)
   where
     Rest : ℕ → Type 0
     Rest n = (1 ≤ n) × (n ≤ length a) → reportFrom (at + n) (figuresAfter a fs) (drop n a) ≡ whole gs

@@ -6,3 +6,4 @@ pub mod Sums
 pub mod Totals
 pub mod Bounds
 pub mod Ends
+pub mod Counted

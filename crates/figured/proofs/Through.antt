@@ -132,6 +132,6 @@ module _ (room : ℕ → ℕ) (enough : (at : ℕ) → windowBytes ≤ room at) 
   unfolding through reportOf reportFrom
   report-through input = steps-through (length input) 0 _ input
 
--- THEOREM: how many bytes that are
+-- THEOREM: that window is 59,904 bytes
 pub window-bytes : windowBytes ≡ 59904
 window-bytes = refl

@@ -1,5 +1,5 @@
--- What the sentences of W-214 speak of: two inputs joined, the same input through a buffer, counters that stay small.
--- These are definitions.
+-- What the sentences of W-214 speak of: two inputs joined, the same input through a buffer, what figures add up to,
+-- counters that stay small. These are definitions.
 use mathlib.Core.Path.{_≡_}
 use mathlib.Core.Bool.{Bool, false}
 use mathlib.Core.List.{List, [], _∷_}
@@ -30,7 +30,7 @@ later n (Refused k at) = Refused k (n + at)
 abbrev pub summed : ℕ → Reported → Reported → Reported
 summed n r s = record { figures = added (r .figures) (s .figures); ending = later n (s .ending) }
 
--- a report that 76 did not end
+-- whether 76 ended a report
 abbrev pub endedBy76 : Ending → Bool
 endedBy76 Whole = false
 endedBy76 (Refused k at) = eqb k tooManyFiles

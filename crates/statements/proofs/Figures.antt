@@ -7,12 +7,17 @@ use mathlib.Core.Path.{_≡_}
 use mathlib.Core.Bool.{false}
 use mathlib.Core.List.{List, [], _∷_, _++_}
 use Prim.Native.Nat.{ℕ, _+_, _*_, _^_, _<_, _≤_}
-use lib.ListN.{length, getD, take}
+use lib.ListN.{length, getD, take, replicate}
 use Rattle.deflist.specs.Unpack.{modePosOnly, modePosOrName, modeNameOnly, modeArgs, modeKwargs}
 use Rattle.table.specs.Numbers.{blockShort, tooManyFiles}
+use Rattle.table.specs.Answer.{accepted}
 use Rattle.validate.specs.Job.{errorsOf}
 use Rattle.blocks.specs.Block.{blockBytes}
-use Rattle.tablefile.specs.Reading.{contentAt}
+use Rattle.tablefile.specs.File.{Content, fileOf}
+use Rattle.tablefile.specs.Reading.{contentAt, soundCheck}
+use Rattle.tablefile.proofs.Accepted.{SoundContent}
+use Rattle.tablefile.proofs.Example.{content}
+use Rattle.figures.specs.Adding.{added}
 use Rattle.figures.specs.Counting.{modeAt, acceptedAt, refusedAt, over, numbersOf, errorCounts, figuresOf}
 use Rattle.figures.specs.Reporting.{mostFiles, stepOf, figuresAfter, whole, endedBy, zeros, reportOf}
 use Rattle.figures.specs.declared.Stepped.the-variants.{Taken, Refused as RefusedStep}
@@ -25,11 +30,43 @@ use Rattle.figured.proofs.Stops as theorem-stops
 use Rattle.figured.proofs.Totals as theorem-totals
 use Rattle.figured.proofs.Bounds as theorem-bounds
 use Rattle.figured.proofs.Ends as theorem-ends
+use Rattle.figured.proofs.Counted as theorem-counted
 
 -- "An empty input holds no file and gives zeros"
 -- In words: the report of no bytes is whole, and its 32 counters are 0.
 pub empty-report : reportOf [] ≡ whole zeros
 empty-report = theorem-ends.empty-report
+
+-- a file is counted, whatever stands behind it
+-- In words: a step over the file of table, names and dialect, bytes that pass 1 to 5, with any bytes behind it, takes
+-- that file and adds its figures, if there are fewer than 4,294,967,295 files.
+pub file-step : (c : Content) (rest figures : List ℕ)
+    → soundCheck c ≡ accepted []
+    → ((i : ℕ) → getD (c .table) i 0 < 256)
+    → ((i : ℕ) → getD (c .names) i 0 < 256)
+    → ((i : ℕ) → getD (c .dialect) i 0 < 256)
+    → getD figures 0 0 < mostFiles
+    → (stepOf (fileOf c ++ rest) figures ≡ Taken (length (fileOf c)))
+    × (figuresAfter (fileOf c ++ rest) figures ≡ added figures (figuresOf c))
+file-step c rest figures sound t n d room =
+    let s : SoundContent c = record { sound = sound; table-bytes = t; names-bytes = n; dialect-bytes = d } in
+    (theorem-counted.file-step c s rest figures room, theorem-counted.file-after c s rest figures room)
+
+-- a file is counted: its report
+-- In words: the report of such a file by itself is whole, and its counters are the figures of what the file holds.
+pub file-report : (c : Content)
+    → soundCheck c ≡ accepted []
+    → ((i : ℕ) → getD (c .table) i 0 < 256)
+    → ((i : ℕ) → getD (c .names) i 0 < 256)
+    → ((i : ℕ) → getD (c .dialect) i 0 < 256)
+    → reportOf (fileOf c) ≡ whole (figuresOf c)
+file-report c sound t n d =
+    theorem-counted.file-report c record { sound = sound; table-bytes = t; names-bytes = n; dialect-bytes = d }
+
+-- a file is counted: one such file, with the numbers
+-- In words: the report of the file of `x = 1` is whole: one file, four nodes, and every other counter 0.
+pub example-report : reportOf (fileOf content) ≡ whole (1 ∷ 4 ∷ replicate 30 0)
+example-report = theorem-counted.example-report
 
 -- bytes after a file's last block begin the next file, however few they are
 -- In words: an input that has a byte and is shorter than a block is ended by 70 at its first byte, with all counters 0.
@@ -143,8 +180,9 @@ pub file-few : (window figures : List ℕ)
     → getD (figuresOf (contentAt window)) i 0 ≤ mostAdded
 file-few = theorem-bounds.file-few
 
--- sums that are never held: a step In words: of 32 counters, with at most 4,294,967,295 files and no counter above
--- `mostAdded` for each file, a step that accepts a file leaves the plain sums.
+-- sums that are never held: a step
+-- In words: of 32 counters, with at most 4,294,967,295 files and no counter above `mostAdded` for each file, a step
+-- that accepts a file leaves the plain sums.
 pub step-plain : (window figures : List ℕ)
     → (length window ≡ 0 → ⊥)
     → {n : ℕ}

@@ -151,7 +151,16 @@ exchange-is-reported t names call other def words bound list none fits alike j l
       firstName = x-name;
       secondName = y-name;
     }) in
-    (e .0, (e .1, ((e .2 .number, (e .2 .below, e .2 .there)), (e .3 .number, (e .3 .below, e .3 .there)))))
+    let rows = e .1 .1 in (
+      e .0,
+      (
+        e .1 .0,
+        (
+          (rows .0 .number, (rows .0 .below, rows .0 .there)),
+          (rows .1 .number, (rows .1 .below, rows .1 .there)),
+        ),
+      ),
+    )
 
 -- a def before `/`, a call and the same call with its arguments exchanged
 -- In words: of `f(a, b)` nothing is reported, of `f(b, a)` both arguments; a list of seven words is too short; the
