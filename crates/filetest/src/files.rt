@@ -91,7 +91,8 @@ fn say_held(l: Loaded) {
     say_number(l.names_len as u64);
     say(b", dialect bytes ");
     say_number(l.dialect_len as u64);
-    say_edition(l.edition);
+    let edition = l.edition;
+    say_edition(edition);
     say(b", taken ");
     say_number(l.taken as u64);
 }
@@ -130,12 +131,13 @@ fn say_written(l: Loaded, file: &[u8]) {
     let table = l.table;
     let names = l.names;
     let dialect = l.dialect;
+    let edition = l.edition;
     let mut again = [0u8; MOST_FILE];
     let written = writer::write(
         front(&table, l.table_len),
         front(&names, l.names_len),
         front(&dialect, l.dialect_len),
-        l.edition,
+        edition,
         &mut again,
     );
     match written {

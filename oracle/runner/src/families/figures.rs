@@ -115,7 +115,7 @@ fn refused_files() -> Vec<Vec<u8>> {
     zeros.table.chunks_exact_mut(RECORD_BYTES).for_each(|record| record[18..20].fill(0));
     let mut deep = Encoded::default();
     deep.write(&chain(&mut Rng::new(1, 1), MOST_DEPTH + 1), &PLAIN);
-    let deep = Contents { table: deep.table, names: deep.names, dialect: Vec::new() };
+    let deep = Contents { table: deep.table, names: deep.names, dialect: Vec::new(), edition: None };
     vec![
         good[..good.len() - 1].to_vec(),
         changed(700, 1, false),
@@ -127,14 +127,16 @@ fn refused_files() -> Vec<Vec<u8>> {
         file::write(&zeros),
         file::write(&deep),
         file::write(&contents(2, 3, &[9; 9])),
+        file::write(&Contents { edition: Some(3), ..contents(2, 3, &STANDARD) }),
     ]
 }
 
-/// Good files: the example, the largest, one in each dialect, and one without a name.
+/// Good files: the example, one of edition 2, the largest, one in each dialect, and one without a name.
 fn good_files() -> Vec<Contents> {
-    let example = Contents { table: example_table(), names: b"abc".to_vec(), dialect: STANDARD.to_vec() };
+    let example = Contents { table: example_table(), names: b"abc".to_vec(), dialect: STANDARD.to_vec(), edition: None };
     vec![
         example.clone(),
+        Contents { edition: Some(2), ..example.clone() },
         Contents { dialect: ALL_OPTIONS_INTERNAL.to_vec(), ..example.clone() },
         Contents { dialect: EXTENDED.to_vec(), ..example },
         contents(1, 0, &[]),
@@ -200,7 +202,9 @@ fn random_file(rng: &mut Rng, number: u64, dialects: &[Vec<u8>]) -> Contents {
     };
     let mut encoded = Encoded::default();
     write_fitting(&mut encoded, &cells, &style(number));
-    Contents { table: encoded.table, names: encoded.names, dialect: dialects[rng.below(dialects.len())].clone() }
+    let dialect = dialects[rng.below(dialects.len())].clone();
+    let edition = [None, Some(1), Some(2)][if dialect.is_empty() { 0 } else { rng.below(3) }];
+    Contents { table: encoded.table, names: encoded.names, dialect, edition }
 }
 
 /// Joins of one to seven random files. In every third one a file is damaged, in every ninth its table or its dialect.
