@@ -26,7 +26,12 @@ counts = record { «num_pos» = 1; «num_named» = 1; star = At 2; «star_star»
 -- the arguments are in order
 pub ordered : Ordered (argumentsOf names (treeOf 1 (stretchOf table 1))) counts
 unfolding stretchOf kindAt argumentOf argumentsIn field sizeOf kidsOf restOf forestIn forest kindOf nameOf
-ordered = record { kinds = refl; star-at = refl; kwargs-at = refl; distinct = λ i j before within e. omega (arith, before, within) }
+ordered = record {
+  kinds = refl;
+  star-at = refl;
+  kwargs-at = refl;
+  distinct = λ i j before within e. omega (arith, before, within);
+}
 
 -- so the call is accepted: one positional, one named, a star at place 2 and a `**` at place 3
 pub answer : callOf table names 1 ≡ accepted (1 ∷ 1 ∷ 1 ∷ 2 ∷ 1 ∷ 3 ∷ [])
