@@ -12,11 +12,13 @@ statements or expressions alone, and with parameters and arguments of every kind
 sides of each limit (W-208): as the root, as its child and further below, where the number of its top-level statement is the right one.
 """
 import itertools
+import pathlib
 import re
 import sys
 
-from repository import CRATES, ROOT
-from tables import tables, trees
+sys.path.append(str(pathlib.Path(__file__).resolve().parent / "gate"))
+from repository import CRATES, ROOT  # noqa: E402
+from tables import tables, trees  # noqa: E402
 
 FOLDER = CRATES / "cases"
 DOCUMENTS = [ROOT.parent / "shared" / "docs" / name for name in ("01-scope.md", "02-change-requests.md")]

@@ -11,10 +11,12 @@ numbers.py          says whether they agree, number by number and name by name (
 import re
 import sys
 
-import interfaces
-import kinds
 from repository import CRATES, ROOT
-from tables import tables
+
+sys.path.append(str(ROOT / "tools"))
+import interfaces  # noqa: E402
+import kinds  # noqa: E402
+from tables import tables  # noqa: E402
 
 # document 01, "Numbers given back" and "The file and the program"; document 02
 GIVEN = [*range(1, 8), *range(10, 20), *range(20, 25), *range(30, 34), *range(40, 46), *range(50, 65), *range(70, 77), *range(80, 85), 90, 91,

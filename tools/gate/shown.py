@@ -6,14 +6,14 @@ root. ROOM in a command is a temporary folder. README's first command is such a 
 listed here; of its second one README shows parts. So are files of samples/ that hold what a command prints. Status 1, with a line for each difference, where one differs; so where a
 document shows nothing.
 """
-import pathlib
 import re
 import shlex
 import subprocess
 import sys
 import tempfile
 
-ROOT = pathlib.Path(__file__).resolve().parent.parent
+from repository import ROOT
+
 DOCUMENTS = ("docs/COMMANDS.md",)
 MARKED = re.compile(r"^<!-- shown: (.+) -->\n((?:    .*\n|\n(?=    ))+)", re.M)
 FIRST = ("README.md", "./ducat check samples/example.star", """    nodes 6

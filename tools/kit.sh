@@ -1,8 +1,8 @@
 # shellcheck shell=sh
-# Where the Rattle kit is, how a program that rt has built is run, and what a crate stands on. For scripts of sh: . tools/kit
+# Where the Rattle kit is, how a program that rt has built is run, and what a crate stands on. For scripts of sh: . tools/kit.sh
 #
 # Sets kit (the kit's folder), kit_own (what it has for this machine), kit_toolchain (compiler and loader). Where there is no rt it sets
-# kit= and returns 1. The Python tools have the same in tools/repository.py.
+# kit= and returns 1. The Python tools have the same in tools/gate/repository.py.
 kit=
 command -v rt >/dev/null 2>&1 || return 1
 kit=${kit_known:-$(dirname "$(dirname "$(rt doc)")")} # a script that is run thousands of times is told the folder

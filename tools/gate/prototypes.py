@@ -15,10 +15,10 @@ import ctypes
 import re
 import sys
 
-import interfaces
 from repository import CRATES, ROOT
 
-sys.path.insert(0, str(ROOT / "python"))
+sys.path[:0] = [str(ROOT / "python"), str(ROOT / "tools")]
+import interfaces  # noqa: E402
 from ducatmuffin import library  # noqa: E402
 
 CODE = CRATES / "starlark_checks" / "src" / "lib.rt"
@@ -47,9 +47,13 @@ ELSEWHERE = {"VERSION", "VERSION_MAJOR", "VERSION_MINOR", "VERSION_PATCH", "STAC
 FAULTS = []
 
 
-def report(text):
-    """A fault."""
-    FAULTS.append(text)
+def fault(words):
+    """A message; every message is made here."""
+    return words
+
+
+def report(message):
+    FAULTS.append(message)
 
 
 def found_in(path, pattern):
@@ -81,28 +85,28 @@ def of_header():
 def header_functions(code):
     header = of_header()
     for name in sorted(set(code) ^ set(header)):
-        report(f"include/starlark.h: starlark_{name} is in the {'code' if name in code else 'header'} alone")
+        report(fault(f"include/starlark.h: starlark_{name} is in the {'code' if name in code else 'header'} alone"))
     for name in sorted(set(code) & set(header)):
         if header[name] != in_c(code[name]):
-            report(f"include/starlark.h: the parameters of starlark_{name} are not the code's: {', '.join(a + b for a, b in in_c(code[name]))}")
+            report(fault(f"include/starlark.h: the parameters of starlark_{name} are not the code's: {', '.join(a + b for a, b in in_c(code[name]))}"))
 
 
 def package_functions(code):
     """The ctypes signatures, and the order of the numbers that the methods pass."""
     for name in sorted(set(code) ^ set(library.FUNCTIONS)):
-        report(f"python/ducatmuffin/library.py: starlark_{name} is in {'the code' if name in code else 'FUNCTIONS'} alone")
+        report(fault(f"python/ducatmuffin/library.py: starlark_{name} is in {'the code' if name in code else 'FUNCTIONS'} alone"))
     for name in sorted(set(code) & set(library.FUNCTIONS)):
         wanted = [IN_PYTHON.get(kind, [ctypes.c_void_p]) for kind, _ in in_c(code[name])]
         found = library.FUNCTIONS[name]
         if len(found) != len(wanted) or any(kind not in may for kind, may in zip(found, wanted)):
-            report(f"python/ducatmuffin/library.py: FUNCTIONS has other types for starlark_{name} than the code")
+            report(fault(f"python/ducatmuffin/library.py: FUNCTIONS has other types for starlark_{name} than the code"))
     methods = [part for one in ast.parse(PACKAGE.read_text()).body if isinstance(one, ast.ClassDef) and one.name == "Library" for part in one.body]
     for method in (part for part in methods if isinstance(part, ast.FunctionDef) and part.name in code):
         order = scalars(code[method.name])
         passed = [[word.arg for word in method.args.args]]
         passed += [names_in(call) for call in ast.walk(method) if isinstance(call, ast.Call)]
         if any(in_order(names, order) != sorted(in_order(names, order)) for names in passed):
-            report(f"python/ducatmuffin/library.py: {method.name} has {' and '.join(order)} in another order than the code")
+            report(fault(f"python/ducatmuffin/library.py: {method.name} has {' and '.join(order)} in another order than the code"))
 
 
 def scalars(parameters):
@@ -126,16 +130,16 @@ def wrapper_functions(code):
         wanted = {at: of for at, (_, of) in enumerate(in_c(parameters)) if of in scalars(parameters)}
         calls = [re.split(r",\s*", words.strip().rstrip(",")) for words in re.findall(rf"\bstarlark_{name}\(((?:[^()]|\(\))*)\)", text)]
         if not calls:
-            report(f"bindings/rust/src/interface.rs: starlark_{name} is not called")
+            report(fault(f"bindings/rust/src/interface.rs: starlark_{name} is not called"))
         for words in calls:
             if any(at >= len(words) or words[at] != of for at, of in wanted.items()):
-                report(f"bindings/rust/src/interface.rs: starlark_{name} is not called with {', '.join(wanted.values())} where the code has them")
+                report(fault(f"bindings/rust/src/interface.rs: starlark_{name} is not called with {', '.join(wanted.values())} where the code has them"))
     for own, words, body in re.findall(r"^pub fn (\w+)\(([^)]*)\) -> u32 \{\n(.*?)^\}", text, re.M | re.S):
         called = re.search(r"\bstarlark_(\w+)\(", body)
         order = scalars(code.get(called[1], [])) if called else []
         places = in_order(re.findall(r"(\w+):", words), order)
         if places != sorted(places):
-            report(f"bindings/rust/src/interface.rs: {own} takes {' and '.join(order)} in another order than the code")
+            report(fault(f"bindings/rust/src/interface.rs: {own} takes {' and '.join(order)} in another order than the code"))
 
 
 # ---- constants
@@ -161,11 +165,11 @@ def constants():
     for name, text in said.items():
         if name in wanted:
             if whole(text) != wanted[name]:
-                report(f"include/starlark.h: STARLARK_{name} is {text}, and {wanted[name]} in the code")
+                report(fault(f"include/starlark.h: STARLARK_{name} is {text}, and {wanted[name]} in the code"))
         elif name not in interfaces.IN_CODE and name not in ELSEWHERE:
-            report(f"include/starlark.h: nothing says where STARLARK_{name} comes from")
+            report(fault(f"include/starlark.h: nothing says where STARLARK_{name} comes from"))
     for name in sorted({*wanted, *interfaces.IN_CODE} - set(said)):
-        report(f"include/starlark.h: STARLARK_{name} is not there")
+        report(fault(f"include/starlark.h: STARLARK_{name} is not there"))
 
 
 def number(path, name):
@@ -188,17 +192,17 @@ def enums():
     """The enums that are written by hand, and the places of figures."""
     editions = dict(re.findall(r"\(eqb n (\d+)\) \(λ _\. Known (One|Two)\)", (CRATES / "dialect" / "specs" / "Editions.antt").read_text()))
     if enum_of("edition") != {{"One": "1", "Two": "2"}[of]: int(word) for word, of in editions.items()}:
-        report("include/starlark.h: enum starlark_edition has not the editions of crates/dialect/specs/Editions.antt")
+        report(fault("include/starlark.h: enum starlark_edition has not the editions of crates/dialect/specs/Editions.antt"))
     words = dict(re.findall(r"\(eqb kind (\d+)\) \(λ _\. (text|str|repr)", (CRATES / "fstring" / "specs" / "Words.antt").read_text()))
     parts = {of.upper(): int(word) for word, of in words.items()}
     parts["NONE"] = ({0, 1, 2, 3} - set(parts.values())).pop()
     if enum_of("part") != parts:
-        report("include/starlark.h: enum starlark_part has not the words of crates/fstring/specs/Words.antt")
+        report(fault("include/starlark.h: enum starlark_part has not the words of crates/fstring/specs/Words.antt"))
     places = {case: number("figures/src/lib.rt", case) for case in ("FILES", "NODES", "LISTS", "CALLS_ACCEPTED", "CALLS_REFUSED")}
     places |= {"MODE_POS_ONLY": number("figures/src/lib.rt", "MODES"), "ERROR_10": number("figures/src/lib.rt", "ERRORS")}
     for case, place in places.items():
         if enum_of("figure").get(case) != place:
-            report(f"include/starlark.h: STARLARK_FIGURE_{case} is not {place}, where crates/figures/src/lib.rt has it")
+            report(fault(f"include/starlark.h: STARLARK_FIGURE_{case} is not {place}, where crates/figures/src/lib.rt has it"))
 
 
 # ---- docs/FORMAT.md
@@ -237,15 +241,15 @@ def fields():
         found = page_fields(head)
         for one in wanted:
             if one not in found:
-                report(f"docs/FORMAT.md, \"{head}\": the code reads the field {one[2] or 'of zeros'} from byte {one[0]} to {one[1]}")
+                report(fault(f"docs/FORMAT.md, \"{head}\": the code reads the field {one[2] or 'of zeros'} from byte {one[0]} to {one[1]}"))
         if [(begin, end) for begin, end, _ in found] != [(begin, end) for begin, end, _ in wanted]:
-            report(f"docs/FORMAT.md, \"{head}\": its fields do not follow each other as in the code")
+            report(fault(f"docs/FORMAT.md, \"{head}\": its fields do not follow each other as in the code"))
 
 
-def main():
+def main(_):
     code = of_code()
     if not code:
-        report("crates/starlark_checks/src/lib.rt: no function is found")
+        report(fault("crates/starlark_checks/src/lib.rt: no function is found"))
     header_functions(code)
     package_functions(code)
     wrapper_functions(code)
@@ -258,4 +262,4 @@ def main():
 
 
 if __name__ == "__main__":
-    sys.exit(main())
+    sys.exit(main(sys.argv[1:]))

@@ -22,7 +22,8 @@ import threading
 import time
 from typing import NamedTuple, Optional, Tuple
 
-ROOT = pathlib.Path(__file__).resolve().parent.parent
+from repository import ROOT
+
 REQUIRED = ROOT / ".ci" / "steps"
 PUBLISHED = ROOT.parent / "shared" / "docs" / "src" / "src" / "lib.rs"
 
@@ -61,15 +62,15 @@ def data(kind, text, made):
 
 
 STEPS = [
-    Step("gate", "the gate reports a step that fails, is lost or skips itself without need", python("tools/try_gate.py")),
-    Step("promises", "every public function has its promise, its theorem and its wrong answer", python("tools/promises.py")),
-    Step("try-promises", "a removed promise is reported", python("tools/try_promises.py")),
+    Step("gate", "the gate reports a step that fails, is lost or skips itself without need", python("tools/tests/try_gate.py")),
+    Step("promises", "every public function has its promise, its theorem and its wrong answer", python("tools/gate/promises.py")),
+    Step("try-promises", "a removed promise is reported", python("tools/tests/try_promises.py")),
     Step("layout", "every file is in the formatter's layout", ("rt", "fmt", "--check")),
-    Step("numbers", "the numbers and kinds in documents, code and definitions agree", python("tools/numbers.py")),
-    Step("format", "docs/FORMAT.md is true, and its example is the sample", python("tools/format.py")),
-    Step("try-native", "native-lib reports what is proved, and makes nothing of what is not", ("tools/try_native",)),
+    Step("numbers", "the numbers and kinds in documents, code and definitions agree", python("tools/gate/numbers.py")),
+    Step("format", "docs/FORMAT.md is true, and its example is the sample", python("tools/gate/format.py")),
+    Step("try-native", "native-lib reports what is proved, and makes nothing of what is not", ("tools/tests/try_native.sh",)),
     Step("samples", "the samples are what their texts give", ("sh", "-c", "exec python3 tools/tables.py files samples/*.txt --check")),
-    Step("try-tables", "what is wrong with a line of cases is reported", python("tools/try_tables")),
+    Step("try-tables", "what is wrong with a line of cases is reported", python("tools/tests/try_tables.py")),
     Step("tablecheck-data", "tablecheck is run on a sample", data("file", "samples/example.txt", "crates/tablecheck/data/example.table")),
     Step("tablerescue-data", "tablerescue is run on a sample", data("file", "samples/lost.txt", "crates/tablerescue/data/lost.table")),
     Step(
@@ -88,12 +89,12 @@ STEPS = [
         python("tools/tables.py", "cases", "crates/cases/cases.txt", "crates/cases/kinds.txt", "crates/cases/data/cases.bin", "--check"),
     ),
     Step("planted", "every fault for the port can be planted", ("oracle/faults-port", "--check")),
-    Step("cited", "what the documents cite is there", python("tools/cited.py")),
-    Step("statements", "docs/STATEMENTS.md is what the statements say, and no other theorem is named", python("tools/statements_page.py", "--check")),
-    Step("imports", "no file imports what it does not use", python("tools/imports.py")),
-    Step("lines", "no line is longer than allowed, and no `.before` chain", python("tools/lines.py")),
-    Step("try-lines", "a long line and a long chain are reported", python("tools/lines.py", "--try")),
-    Step("flake8", "flake8 finds no fault in the Python files", ("flake8", "--config", "tools/flake8.ini", ".", "ducat", "bench/command", "oracle/faults-port"), ("flake8",)),
+    Step("cited", "what the documents cite is there", python("tools/gate/cited.py")),
+    Step("statements", "docs/STATEMENTS.md is what the statements say, and no other theorem is named", python("tools/gate/statements_page.py", "--check")),
+    Step("imports", "no file imports what it does not use", python("tools/gate/imports.py")),
+    Step("lines", "no line is longer than allowed, and no `.before` chain", python("tools/gate/lines.py")),
+    Step("try-lines", "a long line and a long chain are reported", python("tools/gate/lines.py", "--try")),
+    Step("flake8", "flake8 finds no fault in the Python files", ("flake8", "--config", "tools/gate/flake8.ini", ".", "ducat", "bench/command", "oracle/faults-port"), ("flake8",)),
     # rt ci is the verdict. It waits for all of a batch before it starts the next, so batches of four keep two processors busier.
     Step(
         "proofs",
@@ -105,17 +106,17 @@ STEPS = [
     Step(
         "wrong",
         "the prover refuses every wrong answer",
-        python("tools/wrong_answers.py"),
+        python("tools/gate/wrong_answers.py"),
         lane=WRONG,
         counts=r"(\d+) wrong answers refused, (\d+) not",
     ),
     Step(
         "weaker",
-        "a weaker theorem does not prove its statement (two modules; tools/weaker.py tries all)",
-        python("tools/weaker.py", "Demand3", "Rescue", "--records", "1"),
+        "a weaker theorem does not prove its statement (two modules; tools/gate/weaker.py tries all)",
+        python("tools/gate/weaker.py", "Demand3", "Rescue", "--records", "1"),
         lane=WRONG,
     ),
-    Step("try-wrong", "an edit that shows nothing is called bad", python("tools/wrong_answers.py", "--try", "tools/bad-edits"), lane=WRONG),
+    Step("try-wrong", "an edit that shows nothing is called bad", python("tools/gate/wrong_answers.py", "--try", "tools/tests/bad-edits"), lane=WRONG),
     Step("native", "the library is proved and compiled for this machine", ("./ducat", "build"), lane=BESIDE),
     Step(
         "python",
@@ -125,7 +126,7 @@ STEPS = [
         counts=r"(\d+) tests passed, (\d+) failed",
     ),
     Step("speed", "ducat checks scripts no slower than 1.2 times flake8, and its cost is linear", python("-I", "-S", "python/tests/speed_scripts.py"), ("flake8",), BESIDE),
-    Step("programs", "tablecheck, tablerescue and tablefigures read, print and replace what they must", python("tools/try_programs.py"), lane=BESIDE),
+    Step("programs", "tablecheck, tablerescue and tablefigures read, print and replace what they must", python("tools/tests/try_programs.py"), lane=BESIDE),
     Step("against", "ducat prints and writes what the three programs do, byte by byte", python("-I", "-S", "python/tests/against_programs.py"), lane=BESIDE),
     Step("books", "the book functions answer as a model with a map of entries does", python("oracle/books"), lane=BESIDE),
     Step("namesakes", "the namesakes job answers as calls of Python do", python("oracle/namesakes"), lane=BESIDE),
@@ -138,11 +139,11 @@ STEPS = [
         python("bench/figures"),
         lane=BESIDE,
     ),
-    Step("shown", "the commands print what the documents show", python("tools/shown.py"), lane=BESIDE),
+    Step("shown", "the commands print what the documents show", python("tools/gate/shown.py"), lane=BESIDE),
     Step("faults", "the comparison finds a fault of each job, and is not empty", ("oracle/faults", "--gate"), ORACLE, BESIDE),
     Step("compare", "the port answers as the crate does (quick run)", ("oracle/compare",), ORACLE, BESIDE),
     Step("examples", "the examples in C and Rust print what they must; the stack is as measured", ("bindings/run",), ("cc", "cargo", "rustc"), BESIDE),
-    Step("install", "the installed library is compiled against and run", ("tools/try_install",), ("cc",), BESIDE),
+    Step("install", "the installed library is compiled against and run", ("tools/tests/try_install.sh",), ("cc",), BESIDE),
 ]
 
 
@@ -186,11 +187,11 @@ class Gate:
         """A fault for each name that is in one of the two lists alone, and for each that is there twice."""
         listed = [step.name for step in self.steps]
         for name in sorted(set(demanded) - set(listed)):
-            self.fail(f"the step {name} of .ci/steps is not in tools/gate.py")
+            self.fail(f"the step {name} of .ci/steps is not in tools/gate/gate.py")
         for name in sorted(set(listed) - set(demanded)):
-            self.fail(f"the step {name} of tools/gate.py is not in .ci/steps")
+            self.fail(f"the step {name} of tools/gate/gate.py is not in .ci/steps")
         for name in sorted({name for name in listed if listed.count(name) > 1}):
-            self.fail(f"the step {name} is in tools/gate.py more than once")
+            self.fail(f"the step {name} is in tools/gate/gate.py more than once")
 
     def fail(self, text):
         self.failed += 1
