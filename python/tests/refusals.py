@@ -23,7 +23,7 @@ CASES = [
     (2, "table", "(Break)", b"a" * 8065),
     (3, "table", "(Assign (Identifier x))"),
     (4, "table", "(OtherSimple ^64<(Not >(Int)^64<)>)"),
-    (5, "type", "(OtherSimple (Identifier x))", ALL, 3, 1, ("b", 1)),
+    (5, "type", "(OtherSimple (Identifier x))", ALL[:8], 1, 1, ("b", 1)),
     (6, "call", "(Break)", 0),
     (7, "params", "(Def (Normal a) (Break))", 0, ("b", 0)),
     (10, "params", "(Def (Slash) (Normal a) (Break))", 0, ("b", 3)),
