@@ -67,6 +67,7 @@ STEPS = [
     Step("try-promises", "a removed promise is reported", python("tools/tests/try_promises.py")),
     Step("layout", "every file is in the formatter's layout", ("rt", "fmt", "--check")),
     Step("numbers", "the numbers and kinds in documents, code and definitions agree", python("tools/gate/numbers.py")),
+    Step("prototypes", "header, package and wrapper have the code's functions, constants and fields", python("tools/gate/prototypes.py")),
     Step("format", "docs/FORMAT.md is true, and its example is the sample", python("tools/gate/format.py")),
     Step("try-native", "native-lib reports what is proved, and makes nothing of what is not", ("tools/tests/try_native.sh",)),
     Step("samples", "the samples are what their texts give", ("sh", "-c", "exec python3 tools/tables.py files samples/*.txt --check")),

@@ -7,6 +7,7 @@ prototypes.py    says whether they agree (exit status 1 if not)
   pointer and a length. tools/interfaces.py compares the header with the declarations for Rust.
 - The package's ctypes signatures have the same types, and its methods pass the numbers (node, call, def, zone, ...) in the code's order. So
   do the calls of bindings/rust/src/interface.rs.
+- What the header says of `out` for each number is what bindings/c/refusals has, the record of a C program that runs one case of each.
 - Each constant of the header, and each enum that is not made by tools/interfaces.py from a list, is the code's or the definitions'.
 - docs/FORMAT.md: the fields of a record, of a block, of block 0 and of a book's entry are where the code reads them.
 """
@@ -142,6 +143,56 @@ def wrapper_functions(code):
             report(fault(f"bindings/rust/src/interface.rs: {own} takes {' and '.join(order)} in another order than the code"))
 
 
+# ---- what a refusal writes into `out`
+
+
+def numbers_of(text):
+    """The numbers of '1, 2, 70 to 75 and 90'."""
+    return [n for first, last in re.findall(r"(\d+)(?: to (\d+))?", text) for n in range(int(first), int(last or first) + 1)]
+
+
+def words_said():
+    """Which words of `out` each number writes, by the header: numbers to places, and under "all others" those of the rest."""
+    text = re.search(r"\* `out`, twelve words\n(.*?)^ \*   Every word that is not named", interfaces.HEADER.read_text(), re.M | re.S)
+    rows, said = [], {}
+    for line in text[1].splitlines() if text else []:
+        label, words = line[5:19].strip(), line[19:]
+        if label:
+            rows.append([label, words])
+        else:
+            rows[-1][1] += " " + words
+    for label, words in rows:
+        places = set() if words.startswith("nothing") else {int(place) for place in re.findall(r"out\[(\d+)\]", words)}
+        also = re.search(r"; so for (.*)$", words)
+        if label == "all others":
+            said[label] = places
+        elif label[0].isdigit():
+            said.update({n: places for n in numbers_of(label) + numbers_of(also[1] if also else "")})
+    return said
+
+
+def recorded_words():
+    """The words of `out` that each number left, by the record: a dot for one that stayed. Numbers of lists and notices, which are no refusals,
+    are left out."""
+    record = (ROOT / "bindings" / "c" / "refusals").read_text()
+    return {int(n): out.split() for n, out in re.findall(r"^(\d+) .*; out (.*)$", record, re.M)}
+
+
+def out_words():
+    said, recorded = words_said(), recorded_words()
+    if "all others" not in said or len(recorded) < 2:
+        report(fault("include/starlark.h: what is said of `out` cannot be read, or bindings/c/refusals has no record"))
+    for number, words in recorded.items():
+        places = {at for at, word in enumerate(words) if word != "."}
+        wanted = {0, 1} if number == 63 else said.get(number, said.get("all others", set()))  # 63: as said at starlark_fstring_read
+        if places != wanted:
+            report(fault(f"include/starlark.h: {number} writes the words {sorted(places)} of `out`, and the header says {sorted(wanted)}"))
+    earlier = re.search(r"out\[3\] STARLARK_NONE; but for (\d+) and (\d+),", interfaces.HEADER.read_text())
+    carrying = [number for number, words in recorded.items() if words[3] not in (".", "none")]
+    if not earlier or carrying != [int(number) for number in earlier.groups()]:
+        report(fault(f"include/starlark.h: the numbers that carry an earlier node are {carrying}"))
+
+
 # ---- constants
 
 
@@ -253,6 +304,7 @@ def main(_):
     header_functions(code)
     package_functions(code)
     wrapper_functions(code)
+    out_words()
     constants()
     enums()
     fields()
