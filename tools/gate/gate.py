@@ -91,6 +91,7 @@ STEPS = [
     ),
     Step("planted", "every fault for the port can be planted", ("oracle/faults-port", "--check")),
     Step("cited", "what the documents cite is there", python("tools/gate/cited.py")),
+    Step("counted", "the counts in the documents are what is counted, and nothing else counts there", python("tools/gate/counted.py")),
     Step("statements", "docs/STATEMENTS.md is what the statements say, and no other theorem is named", python("tools/gate/statements_page.py", "--check")),
     Step("imports", "no file imports what it does not use", python("tools/gate/imports.py")),
     Step("lines", "no line is longer than allowed, and no `.before` chain", python("tools/gate/lines.py")),
