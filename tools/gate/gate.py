@@ -90,6 +90,7 @@ STEPS = [
         python("tools/tables.py", "cases", "crates/cases/cases.txt", "crates/cases/kinds.txt", "crates/cases/data/cases.bin", "--check"),
     ),
     Step("planted", "every fault for the port can be planted", ("oracle/faults-port", "--check")),
+    Step("planted-steps", "every fault for a step can be planted", python("tools/tests/faults.py", "--check")),
     Step("cited", "what the documents cite is there", python("tools/gate/cited.py")),
     Step("counted", "the counts in the documents are what is counted, and nothing else counts there", python("tools/gate/counted.py")),
     Step("statements", "docs/STATEMENTS.md is what the statements say, and no other theorem is named", python("tools/gate/statements_page.py", "--check")),
