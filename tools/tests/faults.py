@@ -160,7 +160,8 @@ class Copy:
         except subprocess.TimeoutExpired:
             return 2, f"the step did not end in {SECONDS} s"
         lines = [line for line in said.stdout.splitlines() if line.strip()]
-        telling = [line for line in lines if not line.startswith(("==", "test:"))]
+        telling = [line for line in lines if line.startswith(("FAIL:", "ERROR:")) or "prints something else" in line]
+        telling = telling or [line for line in lines if not line.startswith(("==", "test:"))]
         return said.returncode, (telling or lines or [""])[0][:160]
 
     def passes(self, step):
