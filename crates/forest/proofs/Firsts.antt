@@ -1,5 +1,8 @@
--- What a search for a name finds: the first in its list, and where indices rise, one that is smaller than what follows.
--- Assumes nothing.
+-- What a search for a name finds, for any list that is searched entry by entry (`Searches`). It finds the first entry
+-- that has the name (`found-first`; the induction is on the list: the first entry has it, or the rest decides). In a
+-- list in which no entry repeats an earlier name (`Fresh`), the first is also the only one (`only-one`): a later entry
+-- of that name would find the first among those before it, which stays found with more behind it (`found-more`). Where
+-- the indices of a list rise, an earlier entry has the smaller index (`rising-before`). Assumes nothing.
 use mathlib.Core.Path.{_≡_, refl, sym, ap, _∙_}
 use mathlib.Core.Bool.{Bool, true, false}
 use mathlib.Core.List.{List, [], _∷_, _++_, append-assoc, append-nil}

@@ -1,5 +1,9 @@
--- Laws of marks: how a name's number is made, and that a name whose place does not tell of it is a new one.
--- Assumes nothing.
+-- Marks never hide an earlier name. A name has a place and a mark, both from its hash; noting a name writes its mark
+-- there, or `several` if another mark was there (`joined`). So a place never loses what it says: every name that was
+-- noted before still may stand (`noted-still`), and the new one does too (`noted-self`). Hence a name that may not
+-- stand is none of the noted ones (`not-noted`), and a search among them finds nothing (`Known`, kept from entry to
+-- entry by `known-named` and `known-other`). Cite `known-new`. The hash itself is a loop over eight bytes at a time
+-- (`Hashing`). Assumes nothing.
 use mathlib.Core.Path.{_≡_, refl, sym, _∙_}
 use mathlib.Core.Bool.{Bool, true, false, _||_}
 use mathlib.Core.List.{List, [], _∷_, _++_}

@@ -1,5 +1,9 @@
--- Laws of stretches and of the forest that a stretch is. They hold for any bytes; every walk cites them. Assumes
--- nothing.
+-- A stretch of records is a forest, for any bytes. It is empty, or its first node with that node's children and what
+-- follows it (`forest-none`, `forest-tree`): the definition counts down some fuel, and any fuel that is enough gives
+-- the same forest (`forestIn-enough`, by induction on the fuel), so nobody else sees it. To show something of every
+-- stretch, use `forest-induction`: children and rest are shorter. With it the nodes of the forest are the records of
+-- the stretch in order (`nodes-records`), as many as there are (`count-forest`). Walks cite `each-cut` and `kids-cut`,
+-- which are in the terms of code, and lists `roots-on`.
 use mathlib.Core.Path.{_≡_, refl, sym, ap, _∙_}
 use mathlib.Core.Bool.{Bool, true, false}
 use mathlib.Core.List.{List, [], _∷_, _++_}
