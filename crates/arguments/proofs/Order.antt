@@ -1,4 +1,8 @@
--- What the walk keeps: no internal error arises, and an accepted list is in order with distinct names. Assumes nothing.
+-- What the walk over the arguments keeps (`Order`): the kinds so far are so many positional, then named, then a star,
+-- then a `**`, as the counts say, and what belongs to a later stage is not there yet (`Free`). A fine argument keeps
+-- it, kind by kind and stage by stage (`walked-more`). So the places that `unpack` would find taken are free, and its
+-- internal errors never arise (`no-internal-error`); and an accepted list is in order with distinct names
+-- (`unpacked-ordered`). Both are by induction on the arguments that are left. Assumes nothing.
 use mathlib.Core.Path.{_≡_, refl, sym, ap, _∙_}
 use mathlib.Core.Bool.{false}
 use mathlib.Core.List.{List, [], _∷_, _++_, append-assoc, append-nil}

@@ -1,4 +1,6 @@
--- The promises of the call job and of its rule have one answer. Assumes nothing.
+-- Two answers of `call` or `judge` that meet the promise are equal. The promise fixes what the answer means, and no two
+-- answers mean the same (`called-injective`): the counts are the first two values, and a place has one value or two, so
+-- the star and the `**` are read off one after the other (`place-one`). Assumes nothing.
 use mathlib.Core.Path.{_≡_, refl, ap}
 use mathlib.Core.List.{List, [], _++_}
 use Prim.Native.Nat.{ℕ}

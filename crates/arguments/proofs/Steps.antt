@@ -1,4 +1,7 @@
--- Laws of single functions, one for each return, in the terms of code. Assumes nothing.
+-- One law for each return of the functions that judge a single argument: its kind, the tests of the stage, the rules 20
+-- to 24, the span of a name, and what a refusal carries. The tests before a return are known, so the definition
+-- computes; nothing here recurs. The last laws put the rule of a list behind the checks of `judge` and `call`. Assumes
+-- nothing.
 use mathlib.Core.Path.{_≡_, refl, sym, ap, _∙_}
 use mathlib.Core.Bool.{Bool, true, false}
 use mathlib.Core.List.{List, [], _∷_, _++_}

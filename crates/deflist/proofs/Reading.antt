@@ -1,4 +1,9 @@
--- Reading the written list from a stretch, step by step, for any bytes. Assumes nothing.
+-- Reading the written list from a stretch, for any bytes. A stretch begins with no parameter (`list-end`), or with one
+-- and then the parameters of the rest (`list-on`). So a loop that steps over one parameter a turn keeps that what is
+-- left of the stretch is what is left of the list (`Reading`: start, on, end). Four loops do so and cite it: the search
+-- for `/` (`Slashing`), counting (`Counting`), counting up to a limit (`Limiting`) and stepping over n parameters
+-- (`Skipping`). None of them reads names or indices, so their promises hold for all; each has its start, on and end.
+-- Assumes nothing.
 use mathlib.Core.Path.{_≡_, refl, sym, ap, _∙_}
 use mathlib.Core.Bool.{Bool, true, false}
 use mathlib.Core.List.{List, [], _∷_, _++_}

@@ -1,6 +1,7 @@
--- What def.rs leaves to the reader: its internal errors never arise, whatever the list; and what is counted is no more
--- than the list is long, so that "Too many parameters" (def.rs:171) and the unwraps (280, 305, 346) cannot fire in a
--- table of 2,100 nodes. Assumes nothing.
+-- What def.rs leaves to the reader. Its internal errors never arise, whatever the list (`no-internal-error`): the walk
+-- stays clear (Steps' `clear-on`), and the last rule accepts or refuses (`at-end`). And what is counted is no more than
+-- the list is long (`accepted-bounded`), so that "Too many parameters" (def.rs:171) and the unwraps (280, 305, 346)
+-- cannot fire in a table of 2,100 nodes. Both are by induction on the list, for any state before it. Assumes nothing.
 use mathlib.Core.Path.{_≡_, refl, sym, ap, _∙_}
 use mathlib.Core.Bool.{Bool, true, false}
 use mathlib.Core.List.{List, [], _∷_, _++_}

@@ -1,4 +1,9 @@
--- The walk of code over a stretch is unpack's over the written list. Assumes nothing.
+-- The walk of code over the records of a stretch gives what `unpack` gives for the written parameters. Both keep the
+-- same state, so after n records the code is where `unpack` is after the first n parameters (`Judging`, its field
+-- `same`). The induction is the loop: a turn passes (`judge-on`) or stops (`judge-stop`), because the check of code is
+-- that of `unpack`: 11 first, then the rule of the kind. The search for 11 is skipped only where the marks show that
+-- the name is new (`meets-new`, forest's `known-new`). After the last parameter 17 and 18 look at what follows a bare
+-- `*` (`star-last`, `star-normal`, `star-other`). Cite `judge-list`. Assumes nothing.
 use mathlib.Core.Path.{_≡_, refl, sym, ap, _∙_}
 use mathlib.Core.Bool.{Bool, true, false, _&&_}
 use mathlib.Core.List.{List, [], _∷_, _++_, append-nil}

@@ -1,5 +1,8 @@
--- In a sound table the written list of a def or lambda is every parameter among its children, in order. Assumes
--- nothing.
+-- In a sound table the written list of a def or lambda is every parameter among its children, in order, and nothing
+-- else (`all-listed`). The list takes the parameters at the front of the children. A sound def has classes as its row
+-- says: parameters first, then perhaps a return type and its body, none of which is a parameter (`def-classes`,
+-- `lambda-classes`, from soundness's `node-classes`). So taking those at the front takes all (`leading`; the induction
+-- is on their number).
 use mathlib.Core.Path.{_≡_, refl, sym, ap, _∙_}
 use mathlib.Core.Bool.{Bool, true, false}
 use mathlib.Core.Logic.{_⊎_, inl, inr}

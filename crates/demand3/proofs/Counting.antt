@@ -1,4 +1,8 @@
--- What unpack counts along the parts of a cut, where the `*` stands, and the modes. Assumes nothing.
+-- What the walk of `unpack` leaves at the end of a cut's list, part by part: the counts (`counts-either`,
+-- `counts-pos`), the position of the bare `*` (`star-either`, `star-pos`), the verdict on what follows it
+-- (`finish-tail`), and the modes (`modes-either`, `modes-pos`). For each there is a law without `/` and one with it.
+-- Ordinary parameters only add to the counts, by induction on them (`counts-ordinary` and its like); the star and
+-- `**kwargs` are single steps, so they compute. Assumes nothing.
 use mathlib.Core.Path.{_≡_, refl, ap, _∙_}
 use mathlib.Core.List.{List, [], _∷_, _++_}
 use Prim.Native.Nat.{ℕ, suc, _+_}

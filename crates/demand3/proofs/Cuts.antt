@@ -1,4 +1,9 @@
--- A list is accepted exactly when it has a good cut; the cut is unique; what is counted and the modes are the cut's.
+-- A list is accepted exactly when it has a good cut. From right to left (`cut-accepted`): a cut's list keeps the rules
+-- (Shapes) and repeats no name (Names), so the walk goes to its end (Walks), where the counts are the cut's (Counting).
+-- From left to right (`accepted-cut`): an accepted list keeps the rules, so it has the form of a cut (`loose-cut`), and
+-- what follows the `*` is then as a good cut has it (`good-star`). The cut is unique because it can be read off the
+-- list: `cutOf (join c) ≡ c`. No induction here; cite `cut-accepted`, `accepted-cut`, `cut-modes`,
+-- `join-injective`.
 -- Assumes nothing.
 use mathlib.Core.Path.{_≡_, refl, sym, ap, ap₂, _∙_, subst}
 use mathlib.Core.Bool.{Bool, true, false}

@@ -1,4 +1,8 @@
--- The laws of cuts, carried over to the job's answer and to the buffer at exit. Assumes nothing.
+-- The laws of cuts, carried over to the answer of the job and to the buffer at exit. In a sound table with room enough
+-- (`Given`) the answer is that of the list: 19 if it is too long (`long-answer`), else accepted exactly if it has a cut
+-- (`has-cut`, `cut-answer`). The buffer at exit is then the cut's modes and behind them what was there, so each index
+-- has the mode of its range (`modes-there`) and the other bytes stay (`others-stay`, `as-long`). The values of the
+-- answer are the cut's ranges, so its own five ranges are these (`answer-is`). Nothing recurs here. Assumes nothing.
 use mathlib.Core.Path.{_≡_, refl, sym, ap, _∙_}
 use mathlib.Core.Bool.{true}
 use mathlib.Core.Logic.{_⊎_, inl, inr}

@@ -1,4 +1,8 @@
--- Lists that keep the rules have the form of a cut, and lists of that form keep the rules. Assumes nothing.
+-- Lists that keep the rules of the kinds have the form of a cut, and lists of that form keep them. The induction is on
+-- the list, one law for each state, from the last to the first: after `**kwargs` nothing may follow (`last-rules`),
+-- after a star ordinary parameters and perhaps `**kwargs` (`named-rules`), after `/` or without it anything of the
+-- second part on (`either-rules`), and before `/` the first part, or there is no `/` at all (`pos-rules`). The way back
+-- is `rules-either` and `rules-pos`, with where the first `/` is (`slash-at`, `none-either`). Assumes nothing.
 use mathlib.Core.Path.{_≡_, refl, ap}
 use mathlib.Core.Bool.{Bool, true, false, _||_}
 use mathlib.Core.Logic.{_⊎_, inl, inr}

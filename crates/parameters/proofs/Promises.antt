@@ -1,4 +1,6 @@
--- Two answers of the job, with the buffers they leave, that meet its promise coincide. Assumes nothing.
+-- Two answers of a public function that meet its promise are equal, and so are the buffers that the job leaves. Each
+-- promise is an equation, of the answer or of what it means; no two answers mean the same, because their values give
+-- back every field. Assumes nothing.
 use mathlib.Core.Path.{_≡_, refl, sym, ap}
 use mathlib.Core.List.{List}
 use Prim.Native.Nat.{ℕ}

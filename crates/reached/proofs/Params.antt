@@ -1,4 +1,9 @@
--- Where the parameters of an accepted list stand, by their modes, and what a name finds. Assumes nothing.
+-- The parameters of an accepted list, by their modes, and what a name finds. An accepted list has a good cut, and each
+-- flat parameter has the mode of its range (demand3's `modes-by-range`). So the first num_positional are PosOnly or
+-- PosOrName, later ones are not, and `*args` and `**kwargs` are where the counts say (`Stands`, shown by `stands`). The
+-- search by name finds a parameter that can be called by that name (`name-found`), and misses only if there is none
+-- (`name-missed`); both are by induction on the parameters. No two parameters have one name (`one-name`). Assumes
+-- nothing.
 use mathlib.Core.Path.{_≡_, refl, sym, ap, _∙_}
 use mathlib.Core.Bool.{Bool, true, false, _&&_, _||_}
 use mathlib.Core.Logic.{_⊎_, inl, inr}

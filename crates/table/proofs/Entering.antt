@@ -1,5 +1,9 @@
--- How a job is let in, in the terms of code: on a node (1 to 4, 6), in a dialect (1 to 5), and what it knows then.
--- Assumes nothing.
+-- How a job begins, in the terms of code: on a node it gives 1 to 4 and 6, in a dialect 1 to 5. Each return of `enter`
+-- and `enter_dialect` is one law (`entry-refused` to `entry-passed`, `given-refused` to `given-bad`): the check is
+-- known, so the definition computes. What a job then knows is `entry-sound` (the check passed and the node fits) and
+-- `given-known` (the table is clean and the bytes are the dialect's), by cases on both steps. Jobs cite `job-refused`
+-- and `job-rule` at their returns, and `job-long`, `job-within`, `job-small` for the bounds of their stretch. Assumes
+-- nothing.
 use mathlib.Core.Path.{_≡_, refl, sym, ap, _∙_}
 use mathlib.Core.Bool.{Bool, true, false}
 use mathlib.Core.List.{List, []}

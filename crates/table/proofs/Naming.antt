@@ -1,4 +1,8 @@
--- Names of entries: the test of code, the search among those side by side, and where it finds one. Assumes nothing.
+-- The search for a name among the entries side by side. The loop keeps that the search among the entries that are left
+-- gives the whole answer (`Searching`): the first entry has the name (`search-here`), or the rest decides
+-- (`search-on`). Code reads one record of 24 bytes for that, and the record's index plays no part (`name-anywhere`). So
+-- the same entry is found wherever the stretch begins, its index counted from there (`first-shifted`), and what is
+-- found lies within the stretch (`first-within`); both are by `forest-induction`, on the siblings. Assumes nothing.
 use mathlib.Core.Path.{_≡_, refl, sym, ap, _∙_}
 use mathlib.Core.Bool.{Bool, true, false, _&&_}
 use mathlib.Core.List.{List, _∷_}

@@ -1,4 +1,6 @@
--- Two answers that meet the promise of a public function coincide. Assumes nothing.
+-- Two answers of a public function that meet its promise are equal. A promise is an equation of the answer (fields'
+-- `coincide`), or of what the answer means; then no two answers mean the same (Answers' `refusal-injective` and the
+-- others, by `coincide-by`). Assumes nothing.
 use mathlib.Core.Path.{_≡_}
 use mathlib.Core.Bool.{Bool}
 use mathlib.Core.List.{List, _∷_, _++_}
