@@ -39,7 +39,7 @@ answer-ordered l c e = go (unpack l) refl e
     go (repeatedName i r) h e = never (cc)
     go internalError h e = never (cc)
 
--- THEOREM: in a table that passes the check, a call whose arguments stand in order with distinct names is accepted,
+-- THEOREM: in a table that passes the check, a call whose arguments are in order with distinct names is accepted,
 -- with their counts and places
 pub ordered-accepted : (t names : List ℕ) (i : ℕ) (c : CallArgs) {vs : List ℕ} → checkOf t names ≡ accepted vs
     → nodeFits t i Call ≡ true → Ordered (argumentsOf names (treeOf i (stretchOf t i))) c

@@ -88,7 +88,7 @@ run-counted before (p ∷ ps) w o f d =
     (f .1) (rw append-snoc d)
     ∙ rw long refl
 
--- so many positional counted, so many named, then a star and a `**`
+-- m positional ones counted, m named ones, then a star and a `**`
 positional-counted : (m p n i : ℕ) (ks : List Kind)
     → counted (counts p n Nothing Nothing) i (replicate m Positional ++ ks)
     ≡ counted (counts (p + m) n Nothing Nothing) (i + m) ks

@@ -1,4 +1,4 @@
--- What the walk over the arguments keeps (`Order`): the kinds so far are so many positional, then named, then a star,
+-- What the walk over the arguments keeps (`Order`): the kinds so far are positional, then named, then a star,
 -- then a `**`, as the counts say, and what belongs to a later stage is not there yet (`Free`). A fine argument keeps
 -- it, kind by kind and stage by stage (`walked-more`). So the places that `unpack` would find taken are free, and its
 -- internal errors never arise (`no-internal-error`); and an accepted list is in order with distinct names
@@ -103,7 +103,7 @@ module _ (ks : List Kind) (c : CallArgs) where
       kwargs-at = omega (arith, rw no-kwargs at (order-total o));
     }
 
--- LAW: an argument that keeps its rule was not given before, and stands in order
+-- LAW: an argument that keeps its rule was not given before, and is in order
 pub more : (ks : List Kind) (s : ArgsStage) (c : CallArgs) (k : Kind) (f : Found) → rule s f k ≡ Fine → Order ks s c
     → (taken c k ≡ false) × Order (ks ++ k ∷ []) (nextStage s k) (count c (length ks) k)
 more ks AtPositional c Positional f e o = (refl, more-positional ks c o)

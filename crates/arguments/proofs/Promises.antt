@@ -16,7 +16,7 @@ use Rattle.arguments.specs.declared.CallArgs.{CallArgs}
 use Rattle.arguments.specs.declared.Called.{Called}
 use Rattle.arguments.specs.declared.Called.the-variants.{Accepted, Refused}
 
--- two places side by side are told apart by their values
+-- two places side by side are determined by their values
 place-one : (p q : Place) (l m : List ℕ) → placeValues p ++ l ≡ placeValues q ++ m → (p ≡ q) × (l ≡ m)
 place-one (At i) (At j) l m e = let at : i ≡ j = cc in let rest : l ≡ m = cc in (ap At at, rest)
 place-one (At i) Nothing l m e = never (cc)

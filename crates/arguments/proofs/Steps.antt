@@ -110,7 +110,7 @@ rule-named s f h r-is = rw h r-is
 rest-short : (l : List ℕ) (c : ℕ) → length l < 24 → length (take (length l - c) (drop c l)) < 24
 rest-short l c h = simp (length-take, length-drop) (omega arith)
 
--- the arguments of a call stand behind its first child
+-- the arguments of a call follow its first child
 pub call-answer : (ns : List ℕ) (i : ℕ) (t : List ℕ) {e c : ℕ} {a : Answer} → e ≡ spanOf t
     → c ≡ spanOf (take (e - 24) (drop 24 t))
     → a ≡ outcomeAnswer (unpack (argumentsIn ns (forest (i + 1 + c / 24)

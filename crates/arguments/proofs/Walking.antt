@@ -159,7 +159,7 @@ unfoldable pub searches : Searches firstSame hasName
 unfolding firstSame
 searches = record { node = λ p. nodeIn p .at; none = λ x. refl; first = λ x p l. refl }
 
--- the marks know an argument more: a named one is noted; one that may not stand is new
+-- the marks know one argument more: a named one is noted; a name that they do not show is new
 module _ (ns : List ℕ) {marks : List ℕ} {before : List Argument} (known : Known firstSame marks before) (left : List ℕ)
     {k : ℕ} (k-is : k ≡ nodeOf 0 left .kind) where
   pub meets-none : (k ≡ kindNamed → ⊥) → Meets ns before left marks Nothing

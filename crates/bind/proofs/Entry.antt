@@ -118,7 +118,7 @@ module _ (t ns : List ℕ) (call def room : ℕ) {e : Checked} (e-is : checked e
         le-leb (length (listOf t ns def) + length (argumentsAt t ns call)) room (omega (arith, p-is ns, q-is ns)),
       ) refl
 
--- what is known once they are let in
+-- what is known once these checks are passed
 pub record Entered (t ns : List ℕ) (call def n : ℕ) : Type 0 where
   pub sound : checkOf t ns ≡ accepted []
   pub callFits : nodeFits t call Call ≡ true

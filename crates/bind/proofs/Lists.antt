@@ -65,7 +65,7 @@ module _ (ns : List ℕ) (i : ℕ) (t : List ℕ) where
       go Star = refl
       go StarStar = refl
 
-  -- the arguments of a call stand behind its first child
+  -- the arguments of a call follow its first child
   pub args-behind : argumentsIn ns (forest (i + 1 + spanOf (kidsOf t) / 24) (behindCallee t))
       ≡ argumentsOf ns (treeOf i t)
   unfolding argumentsIn behindCallee

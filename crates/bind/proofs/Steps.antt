@@ -44,7 +44,7 @@ module _ (t : List ℕ) (i : ℕ) where
   unfolding isDef
   def-here h k-is = ap (λ (x : ℕ). eqb x kindDef) k-is ∙ rw (tail-part (24 * i) t, lt-ltb i (length t / 24) h) refl
 
--- what stands behind a callee
+-- what follows a callee
 pub behind-part : (t : List ℕ) {kids : List ℕ} {e : ℕ} → kids ≡ kidsOf t → e ≡ spanOf kids
     → take (length kids - e) (drop e kids) ≡ behindCallee t
 unfolding behindCallee

@@ -1,7 +1,7 @@
--- Which argument reaches which parameter (W-204; docs/RULES.md): 80, then the arguments in turn, 81, 82 and 83, then 84.
--- These are definitions.
--- The words of a binding are one for each flat parameter, the node of the argument that it takes, and then one for each
--- argument, the flat index that it reached. All are 0 at first; an argument is never node 0.
+-- Which argument reaches which parameter (W-204; docs/RULES.md): 80, then the arguments in turn, 81, 82 and 83, then
+-- 84. The words of a binding are one for each flat parameter, the node of the argument that it takes, and then one for
+-- each argument, the flat index that it reached. All are 0 at first; an argument is never node 0. These are
+-- definitions.
 use mathlib.Core.Bool.{Bool, true, false, not, _&&_, _||_}
 use mathlib.Core.List.{List, [], _∷_}
 use Prim.Native.Nat.{ℕ, _+_}

@@ -76,7 +76,7 @@ list-on ns i t {e} h e-is =
     let yes : eqb (classOf (nodeOf 0 t .kind)) parameter ≡ true = and-right (leb 24 (length t)) _ h in
     rw (forest-tree i t (listed-long t h), yes, rest-part e t e-is, e-is) refl
 
--- what stands at a place of a list
+-- what is at a place of a list
 pub record Next {A : Type 0} (w : List A) (n : ℕ) (p : A) (ps : List A) : Type 0 where
   pub within : n < length w
   pub rest : drop (n + 1) w ≡ ps
@@ -209,7 +209,7 @@ module _ {kids left : List ℕ} {n : ℕ} (s : Counting kids left n) {l : Bool} 
       let none-left = read-end (s .reads ns i) (sym l-is ∙ l-no) in
       omega (arith, s .reads ns i .upto, length-drop n (paramsIn ns (forest i kids)), ap length none-left)
 
--- The same up to a limit: as long as the list goes on, one more than n stand in it
+-- The same up to a limit: while the list goes on, it has at least one more than n
 pub record Limiting (most : ℕ) (kids left : List ℕ) (n : ℕ) : Type 0 where
   pub counts : Counting kids left n
   pub few : n ≤ most

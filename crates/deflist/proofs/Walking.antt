@@ -85,7 +85,7 @@ unfoldable pub searches : Searches firstSame hasName
 unfolding firstSame
 searches = record { node = λ p. nodeIn p .at; none = λ x. refl; first = λ x p l. refl }
 
--- the marks know a parameter more: `*` and `/` have no name, others are noted; one that may not stand is new
+-- the marks know one parameter more: `*` and `/` have no name, others are noted; a name that they do not show is new
 module _ (ns : List ℕ) {marks : List ℕ} {before : List Param} (known : Known firstSame marks before) (left : List ℕ)
     {k : Kind} (k-is : k ≡ kindHere left) {b : Bool} (b-is : b ≡ isNamed k) where
   pub meets-none : (m : ℕ) → b ≡ false → Meets ns before left marks m Nothing
@@ -433,7 +433,7 @@ module _ (ns kids : List ℕ) (first : ℕ) {b : Bool} (b-is : b ≡ beginsWithS
           ∙ ap (λ (x : Flat). run [] (start x) (paramsIn ns (forest first kids)))
           (ap positionalOnly (sym (s-is .first ns first)) ∙ sym only-is)
 
--- a node's list stands in its children
+-- a node's list is in its children
 module _ (t : List ℕ) (node : ℕ) {kids : List ℕ} (kids-are : kids ≡ kidsOf t) where
   pub judge-room : 24 * (node + 1) + length kids ≤ 24 * (node + 1) + length t
   judge-room = omega (arith, ap length kids-are ∙ length-kids t)

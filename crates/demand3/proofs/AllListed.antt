@@ -69,7 +69,7 @@ module _ (t names : List ℕ) (i : ℕ) (sound : checkOf t names ≡ accepted []
   kind-kept : nodeOf i (stretchOf t i) .kind ≡ nodeOf i (drop (24 * i) t) .kind
   kind-kept = ap (λ (n : Node). n .kind) (record-kept t names i sound within)
 
-  -- the classes of its children are those that its row wants of so many
+  -- the classes of its children are those that its row requires of this number of children
   here-classes : classes kids
       ≡ wanted (kindOf (nodeOf i (stretchOf t i) .kind) .kids (nodeOf i (stretchOf t i) .detail))
       (length (classes kids))

@@ -122,7 +122,7 @@ counts-pos only qs x ms s k =
     counts-ordinary BeforeSlash (plain 0 only) qs _ ∙ counts-either (0 + length (ordinary qs)) only ms s k
     ∙ ap (λ (y : ℕ). withTail (y + length (ordinary ms)) only s k) none-before
 
--- where the `*` stands
+-- the position of the `*`
 abbrev pub starPlace : Star → ℕ → WrittenPlace
 starPlace noStar i = NoWritten
 starPlace (bare r qs) i = AtWritten (writtenAt i)
@@ -169,7 +169,7 @@ from-star r [] noKwargs o = refl
 from-star r [] (withKwargs x n) o = refl
 from-star r (q ∷ qs) k o = refl
 
--- LAW: the end of a walk over what stands before the star, and the star's part
+-- LAW: the end of a walk over what is before the star, and the star's part
 pub finish-tail : (front : List Param) (s : Star) (k : Last) (c : Counts)
     → finish (front ++ tail s k) (starPlace s (length front)) c ≡ starVerdict s k (accepted c)
 unfolding finish

@@ -105,7 +105,7 @@ module _ (t names : List ℕ) (node : ℕ) (ms : List ℕ) (given : Given t name
         → (a : Counted) × (r ≡ Accepted a) × RangesAre a (cutRanges c)
     answer-has-the-ranges = job.answer-is t names node ms given few c cut
 
-    -- "and each flat parameter's mode is written and is its range's": in the lent buffer afterwards
+    -- "and each flat parameter's mode is written and is its range's": in the buffer afterwards
     pub modes-are-the-ranges : ByRange (cutRanges c) (modesAfter t names node ms)
     modes-are-the-ranges = job.modes-there t names node ms given few c cut
 

@@ -143,7 +143,7 @@ names-fresh before (kwargs r n ∷ ps) f = (
   names-fresh (before ++ kwargs r n ∷ []) ps (rw names-append (f .1)),
 )
 
--- distinct from k on: no name from k on stands before
+-- distinct from k on: no name from k on comes before
 abbrev DistinctFrom : ℕ → List Name → Type 0
 DistinctFrom k ns = (i j : ℕ) → i < j → j < length ns → k ≤ j → getD ns i [] ≡ getD ns j [] → ⊥
 

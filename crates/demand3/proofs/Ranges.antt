@@ -200,7 +200,7 @@ mid-in pre n v post ms a e q i h g = ap (λ (x : List ℕ). getD x i 0) e
 pub modes-length : (p : Parts) → length (partModes p) ≡ rangesOf p .kwargs .upto
 modes-length p = simp (length-append, length-replicate) (omega arith)
 
--- LAW: where the modes stand at the front of a buffer, each flat parameter's mode is its range's
+-- LAW: where the modes are at the front of a buffer, each flat parameter's mode is its range's
 pub modes-by-range : (p : Parts) (rest : List ℕ) → ByRange (rangesOf p) (partModes p ++ rest)
 modes-by-range p rest =
     let a = length (p .posOnly) in

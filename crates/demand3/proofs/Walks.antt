@@ -31,7 +31,7 @@ abbrev pub Fresh : List Param → List Param → Type 0
 Fresh before [] = Unit {0}
 Fresh before (p ∷ ps) = (repeats before p ≡ Nothing) × Fresh (before ++ p ∷ []) ps
 
--- what is counted, and where the `*` stands, at the end
+-- what is counted, and the position of the `*`, at the end
 abbrev pub countsFrom : State → Counts → List Param → Counts
 countsFrom s c [] = c
 countsFrom s c (p ∷ ps) = countsFrom (nextState s (kindIn p)) (count s c (kindIn p)) ps

@@ -116,7 +116,7 @@ module _ {A : Type 0} (index : A → ℕ) where
   rising-to m [] q ps r = r .0
   rising-to m (p ∷ l) q ps r = omega (arith, r .0, rising-to (index p + 1) l q ps (r .1))
 
-  -- LAW: what stands before another has the smaller index
+  -- LAW: what comes before another has the smaller index
   pub rising-before : (m : ℕ) (l : List A) (p : A) (k : List A) (q : A) (ps : List A)
       → Rising index m ((l ++ p ∷ k) ++ q ∷ ps) → index p < index q
   rising-before m [] p k q ps r = omega (arith, rising-to (index p + 1) k q ps (r .1))

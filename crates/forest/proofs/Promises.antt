@@ -49,7 +49,7 @@ source-one t = coincide
 pub span-one : (t : List ℕ) {r s : ℕ} → r ≡ spanOf t → s ≡ spanOf t → r ≡ s
 span-one t = coincide
 
--- of `names::name`, whose answer is a part of the lent names
+-- of `names::name`, whose answer is a part of the name bytes
 pub name-one : (names t : List ℕ) {r s : List ℕ} → r ≡ nameOf names (nodeOf 0 t) → s ≡ nameOf names (nodeOf 0 t)
     → r ≡ s
 name-one names t = coincide
@@ -58,7 +58,7 @@ name-one names t = coincide
 pub same-bytes-one : (a b : List ℕ) {r s : Bool} → r ≡ same a b → s ≡ same a b → r ≡ s
 same-bytes-one a b = coincide
 
--- of `marks::note`, which writes in the lent marks
+-- of `marks::note`, which also writes the marks
 pub note-one : (marks name : List ℕ) {r s : Bool} {marks-r marks-s : List ℕ} → r ≡ mayStand marks name
     → marks-r ≡ noted marks name → s ≡ mayStand marks name → marks-s ≡ noted marks name
     → (r ≡ s) × (marks-r ≡ marks-s)

@@ -116,7 +116,7 @@ count-forest =
     (λ i bs s. rw (forest-none i bs s) (omega arith))
     (λ i bs big ks rs. rw (forest-tree i bs big) (omega (arith, length-kids bs, length-rest bs)))
 
--- LAWS for a rule over what stands side by side, in the terms of code: `all` is `one` at each tree, joined from the
+-- LAWS for a rule over trees side by side, in the terms of code: `all` is `one` at each tree, joined from the
 -- left
 module _ {A : Type 0} (all : Forest → A) (i e : ℕ) (bs : List ℕ) where
   pub kids-cut : e ≡ spanOf bs → all (forest (i + 1) (take (e - 24) (drop 24 bs)))
@@ -129,7 +129,7 @@ module _ {A : Type 0} (all : Forest → A) (i e : ℕ) (bs : List ℕ) where
   each-cut one join then-is big h = rw (rest-part e bs h, h)
       (ap all (forest-tree i bs big) ∙ then-is (treeOf i bs) (forest (i + spanOf bs / 24) (restOf bs)))
 
--- LAW: what stands side by side in a stretch is nothing, or its first node and what stands after it
+-- LAW: the nodes side by side in a stretch are none, or its first node and those after it
 pub roots-none : (i : ℕ) (bs : List ℕ) → length bs < 24 → roots (forest i bs) ≡ []
 unfolding roots
 roots-none i bs h = rw (forest-none i bs h) refl

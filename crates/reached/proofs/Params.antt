@@ -53,7 +53,7 @@ pub same-at : {A : Type 0} (l : List A) (i : ℕ) (x y : A) → IsAt l i x → I
 same-at (z ∷ l) zero x y e f = sym e ∙ f
 same-at (z ∷ l) (suc i) x y e f = same-at l i x y e f
 
--- the mode of a flat parameter stands among the modes
+-- the mode of a flat parameter is among the modes
 mode-in : (fs : List FlatParam) (i : ℕ) (p : FlatParam) → IsAt fs i p
     → p .mode ≡ getD (map (λ (p : FlatParam). p .mode) fs) i 0
 mode-in (q ∷ fs) zero p e = ap (λ (x : FlatParam). x .mode) (sym e)
@@ -63,7 +63,7 @@ pub mode-at : (ps : List Param) (i : ℕ) (p : FlatParam) → IsAt (flats ps) i 
 unfolding flats modes
 mode-at ps i p e = mode-in (flats ps) i p e ∙ ap (λ (l : List ℕ). getD l i 0) (flats-modes _ ps)
 
--- where positional parameters, `*args` and `**kwargs` of an accepted list stand
+-- where positional parameters, `*args` and `**kwargs` of an accepted list are
 pub record Stands (ps : List Param) (c : Counts) : Type 0 where
   pub few : c .«num_positional» .0 ≤ length (flats ps)
   pub front : (i : ℕ) → i < c .«num_positional» .0

@@ -187,7 +187,7 @@ pub star-stars : (d : DefParamIndices) (fs : List FlatParam) (k i : ℕ) (r : No
 unfolding reaches
 star-stars d fs k i r e = never (cc)
 
--- in an accepted call no named argument stands before a positional one
+-- in an accepted call no named argument comes before a positional one
 abbrev NoPositional : List Kind → Type 0
 NoPositional [] = Unit {0}
 NoPositional (k ∷ ks) = (k ≡ Positional → ⊥) × NoPositional ks

@@ -9,7 +9,7 @@ use Rattle.table.specs.Answer.{Answer, accepted, refusedAt}
 use Rattle.deflist.specs.Written.{Param, normal, noArgs, slash, args, kwargs}
 use Rattle.arguments.specs.Written as written
 
--- a record: its node, and a span that tells it from all others
+-- a record: its node, and a span that no other record has
 abbrev pub nodeAt : ℕ → Node
 nodeAt i = record {
   at = i;

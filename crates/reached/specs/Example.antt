@@ -1,5 +1,5 @@
--- A call and a def to which W-204 applies: `def f(a, /, b=1, *args, c, **k): pass` and `f(1, 2, 3, c=4, d=5)`, record by
--- record. The def is of source file 1 and the call of source file 2 (W-208). These are definitions.
+-- A call and a def to which W-204 applies, record by record: `def f(a, /, b=1, *args, c, **k): pass` and `f(1, 2, 3,
+-- c=4, d=5)`. The def is of source file 1 and the call of source file 2 (W-208). These are definitions.
 use mathlib.Core.Bool.{true, false}
 use mathlib.Core.List.{List, [], _∷_, _++_}
 use Prim.Native.Nat.{ℕ}

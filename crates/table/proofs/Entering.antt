@@ -69,7 +69,7 @@ module _ (t names : List ℕ) {f : Checked} (f-is : checked f ≡ checkOf t name
       unfolding givenOf
       given-bad h = rw (passed, ← x-is, h) refl
 
--- LAW: what a job on a node knows once it is let in: the table passes the check, and the node fits
+-- LAW: what a job on a node knows once 1 to 4 and 6 are passed: the table passes the check, and the node fits
 pub entry-sound : (w : Wanted) (t names : List ℕ) (i : ℕ) {vs : List ℕ} → entryCheck w t names i ≡ accepted vs
     → (checkOf t names ≡ accepted []) × (nodeFits t i w ≡ true)
 unfolding entryCheck
@@ -82,13 +82,13 @@ entry-sound w t names i {vs} e = go (checkOf t names) (nodeFits t i w) refl refl
     go (accepted us) false sound fits h = never (cc)
     go (refused n us) b sound fits h = never (cc)
 
--- and so is a job let in
+-- and with these 1 to 4 and 6 are passed
 pub sound-entry : (w : Wanted) (t names : List ℕ) (i : ℕ) → checkOf t names ≡ accepted [] → nodeFits t i w ≡ true
     → entryCheck w t names i ≡ accepted []
 unfolding entryCheck
 sound-entry w t names i sound fits = rw (sound, fits) refl
 
--- LAW: what a job in a dialect knows once it is let in: the table is clean, and the bytes are the dialect's
+-- LAW: what a job in a dialect knows once 1 to 5 are passed: the table is clean, and the bytes are the dialect's
 pub given-known : (t names bytes : List ℕ) {d : Dialect} → givenOf t names bytes ≡ inDialect d
     → Clean t names × (fromBytes bytes ≡ Valid d)
 unfolding givenOf

@@ -137,7 +137,7 @@ first-shifted e ns x first =
         step true = refl
         step false = rs n
 
--- LAW: what is found stands within the stretch
+-- LAW: what is found is within the stretch
 pub first-within : (e : Entries) (ns x : List ℕ) (k : ℕ) (t : List ℕ) (n i : ℕ)
     → firstNamed e ns x (take n (roots (forest k t))) ≡ At i → 24 * i + 24 ≤ 24 * k + length t
 unfolding firstNamed

@@ -53,12 +53,12 @@ pub deep-under-root-one : (t : List ℕ) {r s : Found} → r ≡ firstDeep 1 (fo
     → r ≡ s
 deep-under-root-one t = coincide
 
--- of `stretch`, whose answer is a part of the lent table
+-- of `stretch`, whose answer is a part of the table
 pub stretch-one : (table : List ℕ) (node : ℕ) {r s : List ℕ} → r ≡ stretchOf table node → s ≡ stretchOf table node
     → r ≡ s
 stretch-one table node = coincide
 
--- of `within`, whose answer is a part of the lent bytes
+-- of `within`, whose answer is a part of the bytes
 pub within-one : (t : List ℕ) {r s : List ℕ} → r ≡ take mostBytes t → s ≡ take mostBytes t → r ≡ s
 within-one t = coincide
 
