@@ -1,7 +1,7 @@
 -- The packed rows and rules of code say what specs/Kinds.antt says. Each arm of code is one computed equation
--- (`row-arm`), and a number that is none of the kinds has no row (`row-none`): code has tested that it differs from each
--- kind's number (`Apart`), so the search among the kinds ends empty, by induction on the kinds. Below that is what a
--- packed rule says of each child: child j of n is among the first, between, or among the last (`class-wanted`), and
+-- (`row-arm`), and a number that is none of the kinds has no row (`row-none`): code has tested that it differs from
+-- each kind's number (`Apart`), so the search among the kinds ends empty, by induction on the kinds. Below that is what
+-- a packed rule says of each child: child j of n is among the first, between, or among the last (`class-wanted`), and
 -- code finds the same class (`at-front`, `at-middle`, `at-back`).
 use mathlib.Core.Path.{_≡_, refl, sym, ap, _∙_}
 use mathlib.Core.Bool.{Bool, true, false, _&&_, _||_}
