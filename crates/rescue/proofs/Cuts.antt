@@ -1,6 +1,7 @@
--- What the cut to k children is: its root is the old one but for the size, and its children are the first k of the old
--- ones (`cut-children`, by forest-firsts of forest). Nothing is asked of the table but that it has whole records, so
--- that no law below speaks of sound children. Assumes nothing.
+-- The cut of a table to k children: its root is the old one except for the size, and its children are the first k of
+-- the old ones (`cut-children`, by forest's `forest-firsts`). The only premise is that the table has whole records,
+-- so no law here needs sound children. Changing the size touches bytes 16 and 17 of the root alone, which no other
+-- field and no child reads. Assumes nothing.
 use mathlib.Core.Path.{_≡_, refl, sym, ap, _∙_}
 use mathlib.Core.Logic.{_⊎_, inl, inr, ⊎-elim}
 use mathlib.Core.List.{List}

@@ -1,7 +1,8 @@
--- What a program reads of a file, 59,904 bytes or more, is enough for a file of any length: 117 blocks are the most
--- that a header speaks of. Where the counts fit, all that is judged, held and kept of the first n bytes is that of the
--- whole (by the laws of a part in blocks); where they do not, both are 90. So the answer is the same but for the bytes
--- after the last block, which are counted on (`read-enough`), and so is the buffer (`file-enough`). Assumes nothing.
+-- A program reads the first 59,904 bytes of a file, or more; that is enough for a file of any length, because a
+-- header describes at most 117 blocks. If the counts are within the limits, everything that is judged, read and kept
+-- depends on the first n bytes alone (the laws of parts in blocks); if not, both answers are 90. So the answer is the
+-- same but for the number of bytes after the last block, to which the unread bytes are added (`read-enough`), and the
+-- buffer is the same (`file-enough`). Assumes nothing.
 use mathlib.Core.Path.{_≡_, refl, sym, ap, _∙_}
 use mathlib.Core.Bool.{Bool, true, false, and-false}
 use mathlib.Core.List.{List, [], _∷_}

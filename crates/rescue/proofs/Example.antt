@@ -1,7 +1,7 @@
--- What the claims about a damaged file suppose can be met: a file with good blocks whose third record is unsound, a
--- Break with a detail. Its blocks do not pass, and the rescue keeps the first of its two statements. The same with
--- wrong file numbers (W-208): a child's is where the rescue cuts, and nothing is kept under a root that has one. All is
--- computed. Assumes nothing.
+-- The hypotheses of the claims on damaged files can be met: a file with good blocks whose third record, a Break with
+-- a detail, is unsound. Its blocks do not pass, and the rescue keeps the first of its two statements. The same with
+-- wrong source file numbers (W-208): the rescue cuts before a child with a wrong number, and keeps nothing under a
+-- root that has one. All is computed. Assumes nothing.
 use mathlib.Core.Path.{_≡_, refl}
 use mathlib.Core.Bool.{false}
 use mathlib.Core.List.{List, [], _∷_, _++_, map}

@@ -1,8 +1,8 @@
--- Which cuts pass. A child is `keepable` by itself, in the context of its table: a statement whose nodes are sound,
--- have the number of one source file, and are not too deep. The cut to k children passes exactly where the root's
--- fields are sound, its file number is 0, and each of its first k children is keepable (`cut-accepted`,
--- `cut-keepable`): the check of the cut is one of its forest (any-clean and clean-any of soundness), and that is the
--- root and these children. Inductions are on the forest. Assumes nothing.
+-- Which cuts pass. Whether a child is `keepable` depends on the child and its table: it is a statement whose nodes
+-- are sound, have the number of one source file, and are not too deep. The cut to k children passes exactly if the
+-- root's fields are sound, its source file number is 0, and each of its first k children is keepable (`cut-accepted`,
+-- `cut-keepable`). For the check of the cut is a check of its forest (soundness's `any-clean` and `clean-any`), which
+-- is the root and these children. The inductions are on the forest. Assumes nothing.
 use mathlib.Core.Path.{_≡_, refl, sym, ap, _∙_}
 use mathlib.Core.Bool.{Bool, true, false, _&&_}
 use mathlib.Core.List.{List, [], append-nil}

@@ -1,7 +1,8 @@
--- The job, in the terms of code: what each refusal and the answer are, and what the parts ask for. `Ready` says that
--- the header is good and what the names are, `Goods` what the good records are, and `Keeping` what is kept of them;
--- from there on the definition's three tests are those of code. The file is written, or copied where the blocks pass:
--- then it is these blocks (`lay-whole`, by whole-file of Keeping). Assumes nothing.
+-- Laws of the job, one for each `return`. Three records carry what is known from function to function: `Ready` (the
+-- header is good, and what the names are), `Goods` (the records in good blocks) and `Keeping` (the table that is
+-- kept). From there on the three tests of the definition are those of the code: 90, 91 and 7. The output is written
+-- by the writer, or copied if the blocks pass; then the kept file is these blocks (`lay-whole`, by Keeping's
+-- `whole-file`). No induction. Assumes nothing.
 use mathlib.Core.Path.{_≡_, refl, sym, ap, _∙_}
 use mathlib.Core.Bool.{Bool, true, false, _&&_}
 use mathlib.Core.List.{List, [], _∷_, _++_}

@@ -1,8 +1,8 @@
--- What is kept is sound, and the reader reads it back. Both cases of the definition are left behind here:
--- `kept-checked` says that the table passes 1 to 4 and `kept-small` that it is made of bytes, whether all is kept or a
--- cut; from there on the file's own laws speak of `kept bs`. Where the blocks pass, `kept bs` is what they hold, so
--- that its file is these blocks (`whole-file`, by front-is-file of tablefile); and they pass exactly where the good
--- records are all and pass 1 to 4 (`whole-is`), which is what code tests. Assumes nothing.
+-- What is kept is sound, and the reader reads it back. The definition has two cases, all or a cut; `kept-checked`
+-- (the table passes 1 to 4) and `kept-small` (it consists of bytes) hold in both, so the laws of files then apply to
+-- `kept bs` itself. If the blocks pass, `kept bs` is their content and its file is these blocks (`whole-file`, by
+-- tablefile's `front-is-file`). The blocks pass exactly if the good records are all records of the header and pass 1
+-- to 4 (`whole-is`), which is what the code tests. Assumes nothing.
 use mathlib.Core.Path.{_≡_, refl, sym, ap, _∙_}
 use mathlib.Core.Bool.{Bool, true, false, _&&_}
 use mathlib.Core.Logic.{⊎-elim}

@@ -1,6 +1,7 @@
--- The largest number of leading children that can be kept. Fewer pass where more do (`fewer-pass`); so one walk that
--- counts the leading keepable children, and one check of that cut, find the largest: it is that number where the check
--- is passed (`kept-is`) and none where it is not, since then the root is at fault (`kept-none`). Assumes nothing.
+-- The largest number of leading children that can be kept. If k children pass, so do fewer (`fewer-pass`). So one
+-- walk that counts the leading keepable children, and one check of that cut, find the largest number: it is that
+-- count if the check is passed (`kept-is`), and 0 if not, because then the root is at fault (`kept-none`). The
+-- induction is on the number of children (`largest`). Assumes nothing.
 use mathlib.Core.Path.{_≡_, refl, sym, ap, _∙_}
 use mathlib.Core.Bool.{Bool, true, false}
 use mathlib.Core.Logic.{⊎-elim}

@@ -1,4 +1,9 @@
--- Laws of the small functions, in the terms of code: what each answers at each of its returns. Assumes nothing.
+-- Laws of the small functions, one for each `return`. `count` keeps that the counted nodes and those of the rest are
+-- all (`count-roots`). `good_bytes` keeps that the bytes of the blocks so far, and those of the good blocks of the
+-- rest, are those of all good blocks (`Gathering`); one block is judged a turn, and the first bad one ends it
+-- (`gather-stop`). `head_good` tests block 0, the counts, the dialect, the edition and the name blocks in the order
+-- of the definition (`head-zero` to `head-passed`). `can_keep`, `sound`, `all_sound` and `statements` are case
+-- distinctions. No induction beyond the loops. Assumes nothing.
 use mathlib.Core.Path.{_≡_, refl, sym, ap, _∙_}
 use mathlib.Core.Bool.{Bool, true, false, _&&_}
 use mathlib.Core.List.{List}

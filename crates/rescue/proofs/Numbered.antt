@@ -1,7 +1,7 @@
--- Source file numbers in a rescue (W-208). What is kept passes the table check, so that its numbers are sound: a child
--- with a wrong one is where the rescue cuts (`kept-files`). A cut passes only where the root has no number and each
--- child is keepable (`cut-keepable`), so nothing is kept under a root that has one (`numbered-root`), nor of a file
--- that is older than the numbers (`old-zeros`: its first child has 0). Assumes nothing.
+-- Source file numbers in a rescue (W-208). What is kept passes the table check, so its numbers are sound: the rescue
+-- cuts before a child with a wrong number (`kept-files`). A cut passes only if the root has number 0 and each child
+-- is keepable (Greedy's `cut-keepable`). So nothing is kept under a root with a number (`numbered-root`), nor of a
+-- file that is older than the numbers, because its first child has 0 (`old-zeros`). Assumes nothing.
 use mathlib.Core.Path.{_≡_, ap}
 use mathlib.Core.Bool.{true, false}
 use mathlib.Core.List.{List}

@@ -1,7 +1,7 @@
--- The claims of specs/Claims.antt, proved for every input. An accepted answer says that the header is good, that
--- something is kept, and that it fits (`says`); a refusal says which of the tests failed first. What is kept is one
--- definition, so each claim is a law about `kept bs`: largest by the laws of the search, read back and given back by
--- the file's laws. Assumes nothing.
+-- The claims of specs/Claims.antt, proved for every input. An accepted answer implies that the header is good, that
+-- something is kept, and that it fits (`says`); a refusal names the first of these tests that failed. What is kept is
+-- one definition, so each claim is a law about `kept bs`: that it is the largest follows from Largest, that it is
+-- read back and given back unchanged from Keeping and the laws of files. Assumes nothing.
 use mathlib.Core.Path.{_≡_, refl, sym, ap, _∙_}
 use mathlib.Core.Bool.{Bool, true, false}
 use mathlib.Core.Logic.{⊎-elim}

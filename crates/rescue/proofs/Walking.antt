@@ -1,8 +1,8 @@
--- The walk along the root's children, in the terms of code. A child's stretch taken by itself decodes to the child
--- alone (`child-forest`), so what code finds in that stretch says whether the child can be kept (`child-test`, by
--- statement-parts of soundness); where it stands does not matter (sound-anywhere and files-anywhere of soundness,
--- flat-anywhere of table). The walk keeps: the bytes done and the leading ones of what is left are the leading ones of
--- all. Assumes nothing.
+-- The walk along the root's children. The records of a child, taken by themselves, decode to that child alone
+-- (`child-forest`). So what the code finds in them decides whether the child can be kept (`child-test`, by
+-- soundness's `statement-parts`); the place of the child does not matter (soundness's `sound-anywhere` and
+-- `files-anywhere`, table's `flat-anywhere`). The invariant: the bytes done, and the leading keepable ones of the
+-- rest, are the leading keepable bytes of the whole. Each turn adds one child or stops. Assumes nothing.
 use mathlib.Core.Path.{_≡_, refl, sym, ap, _∙_}
 use mathlib.Core.Bool.{Bool, true, false, _&&_, and-true}
 use mathlib.Core.List.{List, []}
