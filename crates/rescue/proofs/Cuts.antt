@@ -50,7 +50,7 @@ module _ (k : ℕ) (t : List ℕ) (some : 24 ≤ length t) (whole : 24 * (length
   abbrev pub cutNodes : ℕ
   cutNodes = 1 + count (firsts k (children t))
 
-  -- the first k children stand within the root's
+  -- the first k children lie within those of the root
   inside : 24 * count (firsts k (children t)) ≤ spanOf t - 24
   inside = omega (arith, firsts-count k (children t), count-forest 1 (kidsOf t), length-kids t)
 
@@ -101,7 +101,7 @@ module _ (k : ℕ) (t : List ℕ) (some : 24 ≤ length t) (whole : 24 * (length
     cut-field 4 20 (inr (omega arith)) (omega arith),
   ) refl
 
-  -- LAW: the cut's children are the first k
+  -- LAW: the children of the cut are the first k
   kids-cut : kidsOf (cutTo k t) ≡ take (24 * count (firsts k (children t))) (kidsOf t)
   unfolding kidsOf cutTo
   kids-cut =

@@ -27,7 +27,7 @@ unfolding resized
 take-resized m n t big = take-set-lt n (set t 16 (m % 256)) 17 (m / 256) (omega arith)
     ∙ ap (λ (x : List ℕ). set x 17 (m / 256)) (take-set-lt n t 16 (m % 256) (omega arith))
 
--- nothing is kept
+-- the returns at which nothing is kept
 front-none : (t names u : List ℕ) → childrenKept t names ≡ 0 → Front (largestCut t names) u 0
 unfolding largestCut
 front-none t names u e = record { size = rw e refl; front = rw e refl }

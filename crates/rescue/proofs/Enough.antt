@@ -51,7 +51,7 @@ later-steps true true false d p q r s t = refl
 later-steps true false c d p q r s t = refl
 later-steps false b c d p q r s t = refl
 
--- the first n bytes of a file, as many as the largest has, or more
+-- the first n bytes of a file, where n is at least the length of the largest file
 module _ (bs : List ℕ) (n : ℕ) (big : 512 * mostBlocks ≤ n) where
   abbrev h : ℕ
   h = headerAt bs .first
@@ -72,7 +72,7 @@ module _ (bs : List ℕ) (n : ℕ) (big : 512 * mostBlocks ≤ n) where
   zero-same : judge 0 (usedOf (headerAt bs)) (take n bs) ≡ judge 0 (usedOf (headerAt bs)) bs
   zero-same = judge-front 0 (usedOf (headerAt bs)) n bs (omega arith)
 
-  -- where the counts fit, the blocks are among them
+  -- if the counts are within the limits, these bytes contain the blocks
   module _ (fit : countsFit (headerAt bs .nodes) (headerAt bs .names) ≡ true) where
     name-blocks : blocksFor (headerAt bs .names) ≤ 16
     unfolding blocksFor
@@ -142,7 +142,7 @@ module _ (bs : List ℕ) (n : ℕ) (big : 512 * mostBlocks ≤ n) where
         (later-steps (headGood bs) (leb 1 (length (tableKept bs))) (leb (size bs room) room) _ _ _ _ _ _
         ∙ rw more (sym (rescue-is bs room)))
 
-  -- and where they do not, both are 90
+  -- if they are not, both answers are 90
   module _ (unfit : countsFit (headerAt bs .nodes) (headerAt bs .names) ≡ false) where
     head-first : headGood (take n bs) ≡ false
     unfolding headGood
@@ -155,7 +155,7 @@ module _ (bs : List ℕ) (n : ℕ) (big : 512 * mostBlocks ≤ n) where
     answer-unfit : (room : ℕ) → later (length bs - n) (rescueOf (take n bs) room) ≡ rescueOf bs room
     answer-unfit room = rw (bad-head (take n bs) room head-first) (sym (bad-head bs room head-whole))
 
-  -- LAW: the answer is the same, but that more bytes are counted
+  -- LAW: the answer is the same except for the number of bytes after the last block
   pub answer-same : (room : ℕ) → later (length bs - n) (rescueOf (take n bs) room) ≡ rescueOf bs room
   answer-same room = go (countsFit (headerAt bs .nodes) (headerAt bs .names)) refl
     where
@@ -164,7 +164,7 @@ module _ (bs : List ℕ) (n : ℕ) (big : 512 * mostBlocks ≤ n) where
       go true fit = answer-fit fit room
       go false unfit = answer-unfit unfit room
 
-  -- THEOREM: the answer to the first n bytes, with the bytes behind them counted on, is the answer to all of them
+  -- THEOREM: the answer for the first n bytes, with the number of the other bytes added, is the answer for all
   pub read-enough : (r : Rescued) (room : ℕ) → rescued r ≡ rescueOf (take n bs) room
       → rescued (moreOf (length bs - n) r) ≡ rescueOf bs room
   read-enough r room e = means r ∙ ap (later (length bs - n)) e ∙ answer-same room
@@ -173,7 +173,7 @@ module _ (bs : List ℕ) (n : ℕ) (big : 512 * mostBlocks ≤ n) where
       means (Accepted k) = refl
       means (Refused why) = refl
 
-  -- and the buffer is left alike
+  -- the buffer at exit is the same
   pub file-enough : (buffer : List ℕ) → fileAfter (take n bs) buffer ≡ fileAfter bs buffer
   unfolding fileAfter
   file-enough buffer = go (countsFit (headerAt bs .nodes) (headerAt bs .names)) refl

@@ -39,12 +39,12 @@ use Rattle.rescue.proofs.Keeping.{whole-is, kept-is, whole-kept, whole-
 use Rattle.rescue.proofs.Keeping.{good-content, good-length, good-whole}
 use Rattle.rescue.proofs.Theorems.{said, bad-head, kept-nothing, short-room}
 
--- a refusal leaves the buffer
+-- a refusal leaves the buffer unchanged
 keeps : (bs file : List ℕ) {n : ℕ} {vs : List ℕ} → refused n vs ≡ rescueOf bs (length file) → file ≡ fileAfter bs file
 unfolding fileAfter
 keeps bs file e = rw (← e) refl
 
--- 90
+-- 90: the header is not good
 module _ (bs : List ℕ) {q : Bool} (q-is : q ≡ headGood bs) (bad : q ≡ false) where
   pub head-refused : (room : ℕ) → refused badHeader [] ≡ rescueOf bs room
   head-refused room = sym (bad-head bs room (sym q-is ∙ bad))

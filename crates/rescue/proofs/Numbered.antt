@@ -29,7 +29,7 @@ use Rattle.rescue.proofs.Greedy.{each, keepable-is, Passed, cut-keepabl
 use Rattle.rescue.proofs.Keeping.{good-some, good-whole, kept-checked}
 use Rattle.rescue.proofs.Theorems.{all-says, nothing-can-be-kept}
 
--- the first of some children that can be kept has a number
+-- the first of the children that can be kept has a source file number
 first-number : (m j : ℕ) (row : List ℕ) → 1 ≤ j → j ≤ length (roots (forest 1 row))
     → each (keepable m) (firsts j (forest 1 row)) ≡ true → (24 ≤ length row) × (1 ≤ nodeOf 1 row .file)
 unfolding roots each firsts fileSound

@@ -12,7 +12,7 @@ use Rattle.rescue.specs.declared.Rescued.{Rescued}
 use Rattle.rescue.specs.declared.Rescued.the-variants.{Accepted, Refused}
 use Rattle.rescue.specs.Job.{rescueOf, fileAfter, rescued}
 
--- no two answers mean the same
+-- no two answers have the same meaning
 pub rescued-injective : (r s : Rescued) → rescued r ≡ rescued s → r ≡ s
 rescued-injective (Accepted k) (Accepted l) e =
     let bytes : k .bytes ≡ l .bytes = cc in

@@ -24,7 +24,7 @@ use Rattle.table.specs.Depth.{firstDeep, deepIn}
 use Rattle.table.proofs.Anywhere.{clear-or, flat-anywhere}
 use Rattle.rescue.specs.Steps.{keepable, keepableAt, leading, leadingBytes}
 
--- the child that a stretch begins with, and its own stretch
+-- the first child of a stretch, and its own records
 module _ (m : ℕ) (left : List ℕ) (big : 24 ≤ length left) (whole : 24 * (length left / 24) ≡ length left) (i : ℕ)
   where
     abbrev c : List ℕ
@@ -68,7 +68,7 @@ module _ (m : ℕ) (left : List ℕ) (big : 24 ≤ length left) (whole : 24 * (l
     class-is : classOf (nodeOf i left .kind) ≡ classOf (nodeOf 0 c .kind)
     class-is = sym (ap classOf (getD-take (spanOf left) left 0 0 (omega arith)))
 
-    -- LAW: the test of code is that of the child
+    -- LAW: the test of the code is that of the definition
     pub child-test : keepable m child ≡ keepableAt m c
     unfolding keepable keepableAt
     child-test = rw (class-is, sound-is, flat-is) refl
@@ -91,7 +91,7 @@ pub leading-fits : (p : Tree → Bool) (i : ℕ) (bs : List ℕ) → leadingByte
 unfolding leadingBytes
 leading-fits p i bs = omega (arith, firsts-count (leading p (forest i bs)) (forest i bs), count-forest i bs)
 
--- the walk: done bytes are behind it, and left are before it
+-- the invariant of `leading`: the bytes done, and the rest
 pub record Walking (m : ℕ) (row left : List ℕ) (done : ℕ) : Type 0 where
   pub sum : done + length left ≡ length row
   pub whole : 24 * (length left / 24) ≡ length left
