@@ -64,7 +64,7 @@ def merged(found):
 
 def of_kinds(text):
     """The faults of the kinds' table."""
-    known = kinds.read((CRATES / "cases" / "document01.txt").read_text())
+    known = kinds.read((CRATES / "cases" / "sentences.txt").read_text())
     table, faults = rows(text, "Number | Kind"), []
     if [(int(number), word) for number, word, *_ in table] != sorted(WORD.items()):
         return ["the kinds are not those of the package in their order"]

@@ -325,9 +325,9 @@ ABOUT = {
     "new": "Makes a book of empty places.",
 }
 MORE = ("A refusal prints `refused NUMBER`:\n"
-        "  95  a book has an unsound length, block or entry, or the entry to be added is unsound\n"
-        "  96  a book has an entry for the same zone and setting twice, or the entry to be added is there already\n"
-        "  97  neither book has a fitting entry, or there is none to remove\n"
+        "  95  a book has an invalid length, block or entry, or the entry to be added is invalid\n"
+        "  96  a book has two entries for the same zone and setting, or the entry to be added is already there\n"
+        "  97  neither book has a matching entry, or there is none to remove\n"
         "  98  the book has no empty place\n"
         "\n"
         "Exit status: 0; 1 for 97 and 98; 2 for 95 and 96, a file that cannot be read or written, wrong usage, or no library.")

@@ -188,7 +188,7 @@ class Forms(CommandTest):
 
     def test_refused_and_unreadable(self):
         self.says(2, "refused 72\n", None, "check", "--against", "all", "samples/damaged.table")
-        self.says(2, "refused 5\n", "ducat: samples/clean.table: refused 5: the dialect bytes give no dialect, or the edition is neither 1 nor 2, or stands without a dialect: the bytes are 2 0 0 0 0 0 0 0 0\n",
+        self.says(2, "refused 5\n", "ducat: samples/clean.table: refused 5: the dialect bytes are not a dialect, or the edition is neither 1 nor 2, or there is an edition and no dialect: the bytes are 2 0 0 0 0 0 0 0 0\n",
                   "check", "--against", "200000000", "samples/clean.table")
         self.says(2, "", "ducat: samples/missing.table: No such file or directory\n", "check", "--against", "all", "samples/missing.table")
 

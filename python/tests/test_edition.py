@@ -9,7 +9,7 @@ from ducatmuffin import numbers, table
 
 SCRIPT = "x: a.type = 1\ny: b.type[int, str] = 2\nz: c.type[int] = 3\n"
 BAN = "a path in a type ends in `.type`, which edition 2 allows"
-WORDS_5 = "the dialect bytes give no dialect, or the edition is neither 1 nor 2, or stands without a dialect"
+WORDS_5 = "the dialect bytes are not a dialect, or the edition is neither 1 nor 2, or there is an edition and no dialect"
 EXTENDED = numbers.DIALECTS["extended"]
 
 

@@ -150,7 +150,7 @@ class Limits(CommandTest):
         path = self.put("large.star", "pass\n" * 2200 + "def f(a, b=1, a):\n    break\n")
         first = f"{path}:2201:15: 11 a parameter has the name of an earlier one"
         self.says(1, f"nodes 2207, in 2 tables\n{first}\n    def f(a, b=1, a):\n                  ^\n{path}:2201:7: note: the earlier parameter\n"
-                  f"    def f(a, b=1, a):\n          ^\n{path}:2202:5: 55 `break` stands outside a `for` loop\n        break\n        ^^^^^\nerrors 2\n", STEP,
+                  f"    def f(a, b=1, a):\n          ^\n{path}:2202:5: 55 `break` is outside a `for` loop\n        break\n        ^^^^^\nerrors 2\n", STEP,
                   "check", path)
         ran = self.says(1, None, STEP, "check", "--explain", "--dialect", "all", path)
         self.assertEqual(ran.out.splitlines()[0], "nodes 2207, in 2 tables, dialect all")

@@ -5,7 +5,7 @@ import support
 from command import CommandTest
 from ducatmuffin.places import Source
 
-WORDS = ": 55 `break` stands outside a `for` loop"
+WORDS = ": 55 `break` is outside a `for` loop"
 # a script, spans in it, and what is printed of an error at each
 CARETS = [
     # a tab, wide characters, one that combines, a mark that turns the direction, a byte that is not a character
@@ -116,10 +116,10 @@ class Scripts(CommandTest):
     """--script, and the script beside a table file."""
 
     PLACED = """nodes 6
-{0}:1:15: 13 a parameter without a default stands after one that has a default
+{0}:1:15: 13 a parameter without a default follows one that has a default
     def f(a, b=1, c):
                   ^
-{0}:2:3: 55 `break` stands outside a `for` loop
+{0}:2:3: 55 `break` is outside a `for` loop
       break
       ^^^^^
 errors 2

@@ -70,15 +70,18 @@ class Rule(CommandTest):
                          [1, 2, 3, 4, 6, 7, 63, 64, *range(70, 77), 90, 91, *range(95, 99)])
 
     def test_what_is_printed(self):
-        said = ("13 NO_DEFAULT_AFTER_DEFAULT\nmeaning: a parameter without a default stands after one that has a default\n"
+        said = ("13 NO_DEFAULT_AFTER_DEFAULT\nmeaning: a parameter without a default follows one that has a default\n"
+                "rule: Before a star, each parameter after one with a default has a default too. A `/` does not end this rule, a star does. "
+                "Reported at the parameter without a default.\nfrom: def.rs, line 207: positional parameter after non positional\n"
                 "given by: params, bind, namesakes, module, audit, file\nexample: a script; `ducat check --dialect all FILE`\n    def f(a=1, b): pass\n")
         for word in ("13", "no_default_after_default", "NO_DEFAULT_AFTER_DEFAULT"):
             self.says(0, said, "", "rule", word)
         for number in numbers.WORDS:
             ran = self.says(0, None, "", "rule", str(number))
-            self.assertTrue(ran.out.startswith(f"{number} {numbers.NUMBERS[number]}\nmeaning: {numbers.WORDS[number]}\ngiven by: "), ran.out)
+            self.assertTrue(ran.out.startswith(f"{number} {numbers.NUMBERS[number]}\nmeaning: {numbers.WORDS[number]}\nrule: {rules.RULES[number].text}\nfrom: "), ran.out)
             rule = json.loads(self.run_ducat("rule", "--json", str(number)).out)["rule"]
             self.assertEqual((rule["number"], rule["words"], ", ".join(rule["given_by"])), (number, numbers.WORDS[number], numbers.GIVEN[number]))
+            self.assertEqual((rule["rule"], rules.Source(**rule["source"])), rules.RULES[number])
         for word in ("0", "8", "99", "13a", "-1", "", "1" * 30):
             self.assertEqual(self.run_ducat("rule", "--", word).status, 2)
 
