@@ -16,7 +16,7 @@
  * come in: a table that is not sound is refused, and no input makes a function read or write outside what it is lent.
  *
  * What every function does
- *   It returns document 01's number: 0 accepted, anything else a refusal. The answer's values go into `out`.
+ *   It returns 0 (accepted) or the number of a refusal (docs/RULES.md). The values of the answer go into `out`.
  *   It keeps nothing between calls and allocates nothing, so threads may call at the same time on memory of their own.
  *
  * `out`, twelve words

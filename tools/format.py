@@ -4,7 +4,7 @@
 format.py           says whether the page is true where a tool can tell (exit status 1 if not)
 format.py --write   first writes the example anew
 
-Held: the kinds with their children, details and names, to document 01's sentences as tools/kinds.py reads them; the switches and rows of the
+Held: the kinds with their children, details and names, to the sentences of crates/cases/sentences.txt as tools/kinds.py reads them; the switches and rows of the
 dialects, to crates/dialect/src/lib.rt and the package; the limits, to the constants of include/starlark.h; whether every record counts in
 the depth, to crates/table/specs/Depth.antt; the example.
 """

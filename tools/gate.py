@@ -81,7 +81,7 @@ STEPS = [
     ),
     Step("filetest-data", "filetest damages a sample", data("file", "samples/parameters.txt", "crates/filetest/data/parameters.table")),
     Step("filetest-files", "filetest reads the files of its list", data("filecases", "crates/filetest/files.txt", "crates/filetest/data/files.bin")),
-    Step("kinds", "the cases of each kind are what document 01's sentences give", python("tools/kinds.py", "--check")),
+    Step("kinds", "the cases of each kind are what its sentences give", python("tools/kinds.py", "--check")),
     Step(
         "cases",
         "the requests of the cases are those of their texts",

@@ -346,7 +346,7 @@ def check_parser():
     parser = make_parser("check", CHECK, f"{AGAINST}\n\n{CHECK_MORE}")
     parser.add_argument("paths", metavar="PATH", nargs="*")
     parser.add_argument("--module", action="store_true",
-                        help="run the module pass alone (10 to 19 and 50 to 61), as the program of document 01; its own order is kept")
+                        help="run the module pass alone (10 to 19 and 50 to 61) and keep its order")
     parser.add_argument("--explain", action="store_true", help="say what each number means, with nodes, kinds, dialect and places in X.star "
                         "beside X.table; of a table with several source file numbers in X.N.star for each number N")
     parser.add_argument("--quiet", action="store_true", help="print nothing: the exit status is the answer; why an input is not read is still said")

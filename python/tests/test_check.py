@@ -212,7 +212,7 @@ files 4, with errors 2, refused 1, not read 0, errors 4
         self.says(2, "refused 4\n", None, "check", deep)
 
     def test_the_earlier_place(self):
-        """11 and 22 name the first use: with --explain, and never among document 01's lines."""
+        """11 and 22 name the first use: with --explain, and never without it."""
         self.assertEqual(support.sample("whole.out").decode(), self.run_ducat("check", "--module", "samples/whole.table").out)
         self.assertIn("22 1 87 90\n", self.run_ducat("check", "samples/whole.table").out)
         path = self.put("whole", support.sample("whole.table"))
