@@ -128,7 +128,7 @@ Every number that a command or a function gives: what it means, its rule, where 
 `ducat rule NUMBER` prints the same, and the tests run every example.
 
 *From* cites a line of a file of the Rust crate {rules.CRATE}, with the words of that line, or a section of a document here for a rule that the
-crate does not have. The crate's files are `src/syntax/def.rs`, `call.rs`, `grammar_util.rs`, `type_expr.rs` and `validate.rs`.
+crate does not have. The crate's files are `def.rs`, `call.rs`, `grammar_util.rs`, `type_expr.rs` and `validate.rs` in its folder src/syntax.
 
 *Given by* lists jobs. `ducat check` runs `audit` and, for a table file, `read`; `ducat check --module` runs `module`, and for a table file `file`; `ducat bind` runs `bind` and `namesakes`;
 `ducat rescue`, `ducat write`, `ducat book` and `ducat figures` run the jobs of their names. [include/starlark.h](../include/starlark.h) has a function for each job.

@@ -99,7 +99,7 @@ def twice(book):
     for entry in entries(book):
         key = entry.zone, entry.setting
         if key in seen:
-            return f"zone {entry.zone} and setting {entry.setting} stand at place {seen[key]} and at place {entry.place}"
+            return f"zone {entry.zone} and setting {entry.setting} are at place {seen[key]} and at place {entry.place}"
         seen[key] = entry.place
     return None
 
@@ -276,7 +276,7 @@ def new(library, options, out):
     try:
         descriptor = os.open(options.out, os.O_WRONLY | os.O_CREAT | os.O_EXCL | os.O_CLOEXEC, 0o666)
     except FileExistsError:
-        raise Failed(f"{options.out}: it is there already, and a book is not overwritten") from None
+        raise Failed(f"{options.out}: it exists, and a book is not overwritten") from None
     except OSError as error:
         raise Failed(f"{options.out}: {inputs.reason(error)}") from None
     try:

@@ -733,4 +733,4 @@ def load(path: Optional[str] = None) -> Library:
             return Library(place)
     if checkout():
         raise LibraryMissing(f"the library is not built: there is no {places[0]}; `ducat build` makes it")
-    raise LibraryMissing(f"the installation is not whole: there is no {places[0]}; tools/install PREFIX puts it there")
+    raise LibraryMissing(f"the installation is incomplete: there is no {places[0]}; tools/install PREFIX puts it there")

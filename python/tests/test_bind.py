@@ -206,7 +206,7 @@ class Files(BindTest):
                             ((TAKE, TAKE, "--call", "21", "--def", "1"), "--call and --def need one table file"),
                             (("samples/take.star", "--call", "21", "--def", "1"), "--call and --def need one table file"),
                             (("--script", "samples/take.star", "samples/take.star"), "--script needs one table file"),
-                            (("--dialect", "all", TAKE), "--dialect is for scripts"), (("--dialect", "basic", "samples/take.star"), "no dialect is called")):
+                            (("--dialect", "all", TAKE), "--dialect is for scripts"), (("--dialect", "basic", "samples/take.star"), "basic is not a dialect")):
             ran = self.run_ducat("bind", *words)
             self.assertEqual((ran.status, ran.out, len(ran.err.splitlines())), (2, "", 1), words)
             self.assertIn(said, ran.err)

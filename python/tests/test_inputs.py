@@ -142,7 +142,7 @@ errors 2
 
     def test_dialects(self):
         path = self.put("plan.star", PLAN)
-        self.says(2, "", "ducat: --dialect: no dialect is called basic: standard, extended, all, none or nine digits\n",
+        self.says(2, "", "ducat: --dialect: basic is not a dialect: standard, extended, all, none or nine digits\n",
                   "check", "--dialect", "basic", path)
         self.says(2, "", "ducat: --dialect is for scripts: a table file has its own dialect\n", "check", "--dialect", "all", "samples/clean.table")
         self.says(2, "refused 5\n", f"{STEP}ducat: {path}: refused 5: the dialect bytes are not a dialect, or the edition is neither 1 nor 2, or there is an edition and no dialect: the bytes are 1 1 1 0 0 3 1 0 0\n",

@@ -138,7 +138,7 @@ errors 2
                   "samples/example.table")
         self.says(2, "", "ducat: samples: Is a directory\n", "check", "--script", "samples", "samples/example.table")
         self.says(2, "", None, "check", "samples/example.table", "--script")
-        self.says(2, "", "ducat: --script is for table files: a script that is checked is its own\n", "check", "--script", "samples/clean.star",
+        self.says(2, "", "ducat: --script is for table files, not for scripts\n", "check", "--script", "samples/clean.star",
                   "samples/clean.star")
 
 

@@ -130,7 +130,7 @@ class Diff(CommandTest):
         self.put("take.star", "def f(a, /): pass\nf(a)\nf(a=1)\nf()\nx = [" + "1, " * 2200 + "f(1)]\n")
         new = self.run_of("new.json", "bind", script)
         self.says(1, f"new: {script}:4:1, def {script}:1:1: refused 84: {numbers.WORDS[84]}\n"
-                  f"new: {script}:5:6606, def {script}:1:1: not judged: a table has at most 2100, and here are 2212 nodes\nnew 2, gone 0, same 1\n", "",
+                  f"new: {script}:5:6606, def {script}:1:1: not judged: a table has at most 2100, and this has 2212 nodes\nnew 2, gone 0, same 1\n", "",
                   "diff", old, new)
         joined = self.run_of("joined.json", "bind", "--join", "samples/joined.1.star", "samples/joined.2.star")
         ran = self.says(1, None, "", "diff", old, joined)
