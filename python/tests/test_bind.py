@@ -198,11 +198,11 @@ class Files(BindTest):
         self.assertTrue(ran.out.endswith("bound 5, refused 1, without a def 0, namesakes 6\n"))
 
     def test_words_that_are_wrong(self):
-        for words, said in (((), "no FILE is named"), ((TAKE, "--call", "1"), "--call and --def go together"),
+        for words, said in (((), "no FILE is given"), ((TAKE, "--call", "1"), "--call and --def go together"),
                             ((TAKE, "--call", "x", "--def", "1"), "a node is a number"),
                             ((TAKE, "--call", "-1", "--def", "1"), ""), ((TAKE, "--nothing"), "unrecognized arguments: --nothing"),
                             ((TAKE, "--script"), "expected one argument"),
-                            (("--script", "samples/take.star", TAKE, "--call", "21", "--def", "1"), "--script pairs calls and defs by itself"),
+                            (("--script", "samples/take.star", TAKE, "--call", "21", "--def", "1"), "--script pairs calls and defs: it cannot be used"),
                             ((TAKE, TAKE, "--call", "21", "--def", "1"), "--call and --def need one table file"),
                             (("samples/take.star", "--call", "21", "--def", "1"), "--call and --def need one table file"),
                             (("--script", "samples/take.star", "samples/take.star"), "--script needs one table file"),

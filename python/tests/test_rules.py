@@ -149,7 +149,7 @@ class Diff(CommandTest):
         for other in (self.run_of("1", "check", "--module", "samples/example.table"), self.run_of("2", "bind", "samples/take.star"),
                       self.run_of("3", "check", "--against", "all", "samples/clean.table")):
             ran = self.says(2, "", None, "diff", run, other)
-            self.assertIn("are not two of the same run", ran.err)
+            self.assertIn("are not runs of the same command and options", ran.err)
         ran = self.says(2, "", None, "diff", run, self.run_of("4", "dump", "samples/example.table"))
         self.assertIn("this is version 1 of `ducat dump`", ran.err)
         self.says(2, "", "ducat: standard input (`-`) is named twice\n", "diff", "-", "-")
