@@ -163,7 +163,7 @@ def words_said():
             rows[-1][1] += " " + words
     for label, words in rows:
         places = set() if words.startswith("nothing") else {int(place) for place in re.findall(r"out\[(\d+)\]", words)}
-        also = re.search(r"; so for (.*)$", words)
+        also = re.search(r"; the same for (.*)$", words)
         if label == "all others":
             said[label] = places
         elif label[0].isdigit():

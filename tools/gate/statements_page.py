@@ -54,7 +54,7 @@ def page():
         opening = lines[: next(i for i, l in enumerate(lines) if not l.startswith("--"))]
         files = {alias: (crate, file) for crate, file, alias in re.findall(r"^use Rattle·(\w+)\.proofs\.(\w+) as (theorem\S*)$", text, re.M)}
         if len({crate for crate, _ in files.values()}) != 1:
-            wrong.append(f"{name}: it cites theorems of {len({crate for crate, _ in files.values()})} crates; tools/weaker.py can try those of one")
+            wrong.append(f"{name}: it cites theorems of {len({crate for crate, _ in files.values()})} crates; tools/gate/weaker.py can try those of one")
         out += [f"## {words(opening[:1]).capitalize() if words(opening[:1]).isupper() else words(opening[:1])}", "", words(opening[2:]), ""]
         used = set()
         for i, line in enumerate(lines):
