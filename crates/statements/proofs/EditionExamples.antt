@@ -1,6 +1,7 @@
 -- W-212, PATHS THAT END IN TYPE: AN EXAMPLE
 --
--- The statement `t: t.type = 1` of crate `examples` as a table, whose type is node 2, with each number. Assumes nothing.
+-- The statement `t: t.type = 1` of the crate `examples` as a table, whose type is node 2, with each number. Assumes
+-- nothing.
 use mathlib.Core.Path.{_≡_}
 use mathlib.Core.List.{[], _∷_}
 use Rattle.table.specs.Numbers.{badDialect, dotTypeBan}
