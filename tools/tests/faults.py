@@ -93,6 +93,7 @@ def listed():
 
 def checked(chosen):
     """Each fault applies, and has a step of the gate; no name stands twice."""
+    FAULTS.clear()
     names, steps = [one.name for one in listed()], {step.name for step in gate.STEPS}
     for one in chosen:
         why = one.applied(ROOT)[1]
