@@ -262,7 +262,7 @@ static void figures(const char *words, size_t damaged, size_t more) {
     uint32_t out[STARLARK_WORDS];
     uint64_t counts[STARLARK_FIGURES], steps[STARLARK_FIGURES] = {0};
     static uint8_t input[3 * STARLARK_FILE_BYTES];
-    size_t one = script_file(input, STARLARK_DIALECT_EXTENDED, 9, STARLARK_FILE_BYTES), length = 2 * one + more, at = 0;
+    size_t one = script_file(input, STARLARK_DIALECT_EXTENDED, 9, STARLARK_NONE, STARLARK_FILE_BYTES), length = 2 * one + more, at = 0;
     memcpy(input + one, input, one);
     memcpy(input + 2 * one, input, more);
     if (damaged < length) input[damaged] ^= 1;
