@@ -10,7 +10,7 @@
 //! let mut nodes = [0; 24];
 //! (nodes[0], nodes[16], nodes[18]) = (Kind::Break.into(), 1, 1);
 //! let mut file = [0; FILE_BYTES];
-//! let length = Table { nodes: &nodes, names: &[] }.write(&[], &mut file)?;
+//! let length = Table { nodes: &nodes, names: &[] }.write(&[], None, &mut file)?;
 //! let input = [&file[..length], &file[..length], &[0]].concat();
 //! let report = figures::report(&input);
 //! assert_eq!((report.figures.files, report.figures.error(Number::BreakMisplaced)), (2, Some(2)));
