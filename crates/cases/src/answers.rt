@@ -7,6 +7,7 @@ use dialect::Dialect;
 use dialect::DialectTypes;
 use forest::RECORD;
 use libc::STDOUT_FILENO;
+use namesakes::Named;
 use parameters::Counted;
 use parameters::Range;
 use parameters::Unpacked;
@@ -19,7 +20,8 @@ use targets::Targeted;
 use types::Shaped;
 use validate::Listed;
 
-// What a request asks: its job, how long its parts are, and the job's node; of a binding the Def's beside the Call's.
+// What a request asks: its job, how long its parts are, and the job's node; of a binding and of namesakes the Def's
+// beside the Call's.
 // The edition of the type rules stands where the Def's node does.
 pub struct Asked {
     pub job: u16,
@@ -331,6 +333,30 @@ fn say_bind(table: &[u8], names: &[u8], call: usize, def: usize, room: usize) {
     say_words(list);
 }
 
+fn say_named(n: Named) {
+    match n {
+        Named::Found(count) => {
+            say(b"reported ");
+            say_number(count as u64);
+        }
+        Named::Refused(r) => say_refusal(r),
+    }
+}
+
+// The namesakes job, and its list of words afterwards, in the same way.
+fn say_namesakes(table: &[u8], names: &[u8], call: usize, def: usize, room: usize) {
+    let mut space = [9u32; 64];
+    let lent: &mut [u32] = &mut space;
+    if lent.len() < room {
+        return;
+    }
+    let list = &mut lent[0..room];
+    let n = namesakes::namesakes(table, names, call, def, list);
+    say_named(n);
+    say(b", words");
+    say_words(list);
+}
+
 fn say_formatted(w: fstring::Written) {
     match w {
         fstring::Written::Accepted { length, enabled } => {
@@ -419,8 +445,8 @@ fn say_parts(text: &[u8], room: usize, texts_room: usize) {
 }
 
 // 0 is a heading, 1 the table check, 2 a job's node, 3 the bytes of a dialect, 4 a call's arguments, 5 parameters, 6 a
-// target, 7 an assignment, 8 a type, 9 a module, 10 a binding, 11 an audit, 12 a format text, 13 its parts. Of a format
-// text the texts stand where a table does, and the words of its parts where names do.
+// target, 7 an assignment, 8 a type, 9 a module, 10 a binding, 11 an audit, 12 a format text, 13 its parts, 14
+// namesakes. Of a format text the texts stand where a table does, and the words of its parts where names do.
 pub(crate) fn answer(a: Asked, table: &[u8], names: &[u8], dialect: &[u8]) {
     let job = a.job;
     match job {
@@ -436,6 +462,7 @@ pub(crate) fn answer(a: Asked, table: &[u8], names: &[u8], dialect: &[u8]) {
         11 => say_audit(table, names, dialect, a.edition, a.room),
         12 => say_format(table, names, dialect, a.room),
         13 => say_parts(table, a.room, a.def),
+        14 => say_namesakes(table, names, a.node, a.def, a.room),
         _ => say(b""),
     }
 }
