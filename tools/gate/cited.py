@@ -1,8 +1,8 @@
 #!/usr/bin/env python3
-"""Holds the documents to the repository: every path that they name is there, and every name that they cite stands in the file named before it.
+"""Compares the documents with the repository: every path that they name exists, and every name that they cite is in the file named before it.
 
 In a table or a sentence, `crates/a/b.antt`: `x`, `y` cites x and y of that file; a later `C.antt`: `z` is a file of the same folder. A path may
-leave crates/ out. Links are looked up too. Status 1, with a line for each fault, where something is not so.
+omit crates/. Links are checked too. Prints a line for each fault, and the exit status is then 1.
 """
 import re
 import sys
@@ -10,7 +10,7 @@ import sys
 import repository
 
 DOCUMENTS = ["README.md", "samples/README.md", *(f"docs/{name}.md" for name in ("COMMANDS", "CONTRIBUTING", "CRATES", "DECISIONS", "DIFFERENCES", "FORMAT",
-                                                                              "JSON", "PROOFS"))]
+                                                                              "JSON", "PROOFS", "RULES"))]
 PATH = re.compile(r"^[\w./+-]+\.(?:antt|rt|py|txt|tsv|md|h|c|rs|list|sha256)$")
 
 

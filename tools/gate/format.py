@@ -1,12 +1,12 @@
 #!/usr/bin/env python3
-"""Holds docs/FORMAT.md to the repository, and makes the example at its end from samples/example.table.
+"""Compares docs/FORMAT.md with the repository, and makes the example at its end from samples/example.table.
 
-format.py           says whether the page is true where a tool can tell (exit status 1 if not)
-format.py --write   first writes the example anew
+format.py           reports whether the page agrees (exit status 1 if not)
+format.py --write   first writes the example
 
-Held: the kinds with their children, details and names, to document 01's sentences as tools/kinds.py reads them; the switches and rows of the
-dialects, to crates/dialect/src/lib.rt and the package; the limits, to the constants of include/starlark.h; whether every record counts in
-the depth, to crates/table/specs/Depth.antt; the example.
+Compared: the kinds with their children, details and names, with crates/cases/sentences.txt as tools/kinds.py reads it; the switches and rows of the
+dialects, with crates/dialect/src/lib.rt and the package; the limits, with the constants of include/starlark.h; which records count in the depth,
+with crates/table/specs/Depth.antt; the example, with the sample.
 """
 import re
 import struct
@@ -66,7 +66,7 @@ def merged(found):
 
 def of_kinds(text):
     """The faults of the kinds' table."""
-    known = kinds.read((CRATES / "cases" / "document01.txt").read_text())
+    known = kinds.read((CRATES / "cases" / "sentences.txt").read_text())
     table, faults = rows(text, "Number | Kind"), []
     if [(int(number), word) for number, word, *_ in table] != sorted(WORD.items()):
         return ["the kinds are not those of the package in their order"]
@@ -99,7 +99,7 @@ def of_dialects(text):
     if any(tables.DIALECTS[name.lower()] != bytes(map(int, row)) for name, row in zip(names, numbers)):
         faults.append("the package has other rows of dialects than crates/dialect")
     meant = re.search(r"^const NONE_GIVEN: Name = Name::(\w+);", code, re.M)[1]
-    if f"no dialect bytes are given, {meant} is meant" not in text:
+    if f"**No dialect.** No dialect bytes mean {meant}." not in text:
         faults.append(f"no dialect bytes mean {meant}")
     return faults
 
@@ -116,7 +116,7 @@ def of_limits(text):
 
 
 def of_depth(text):
-    """The faults of what is said of the depth."""
+    """The faults of the sentence on the depth."""
     defined = (CRATES / "table" / "specs" / "Depth.antt").read_text()
     counted = re.findall(r"^    if' \(eqb class (\w+)\) \(λ _\. 1\)", defined, re.M)
     said = re.search(r"A (\w+) or an (\w+) is one deeper than its parent; a parameter or an argument has the depth of its parent\.", text)

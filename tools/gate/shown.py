@@ -17,10 +17,10 @@ from repository import ROOT
 DOCUMENTS = ("docs/COMMANDS.md",)
 MARKED = re.compile(r"^<!-- shown: (.+) -->\n((?:    .*\n|\n(?=    ))+)", re.M)
 FIRST = ("README.md", "./ducat check samples/example.star", """    nodes 6
-    samples/example.star:1:15: 13 a parameter without a default stands after one that has a default
+    samples/example.star:1:15: 13 a parameter without a default follows one that has a default
         def f(a, b=1, c):
                       ^
-    samples/example.star:2:3: 55 `break` stands outside a `for` loop
+    samples/example.star:2:3: 55 `break` is outside a `for` loop
           break
           ^^^^^
     errors 2

@@ -2,8 +2,9 @@
 """Makes docs/STATEMENTS.md of crates/statements, so that page and crate cannot differ.
 
 statements_page.py            writes the page
-statements_page.py --check    status 1 where the page is not what the crate says, where a statement lacks a sentence or its words, or where
-                              README.md, docs/PROOFS.md or a landing note names a theorem to users that no statement restates
+statements_page.py --check    status 1 where the page is not what the crate says, where a statement lacks a sentence or its words, where a
+                              module cites theorems of several crates, or where README.md, docs/PROOFS.md or a landing note names a
+                              theorem to users that no statement restates
 
 A module of crates/statements/proofs opens with a comment: its title in capitals, an empty line, an introduction. Above each public statement
 stands a comment: the user's sentence, and from 'In words:' on what the statement says. The page has, in the order of Lib.antt, the sentence,
@@ -52,6 +53,8 @@ def page():
         lines = text.split("\n")
         opening = lines[: next(i for i, l in enumerate(lines) if not l.startswith("--"))]
         files = {alias: (crate, file) for crate, file, alias in re.findall(r"^use Rattle·(\w+)\.proofs\.(\w+) as (theorem\S*)$", text, re.M)}
+        if len({crate for crate, _ in files.values()}) != 1:
+            wrong.append(f"{name}: it cites theorems of {len({crate for crate, _ in files.values()})} crates; tools/gate/weaker.py can try those of one")
         out += [f"## {words(opening[:1]).capitalize() if words(opening[:1]).isupper() else words(opening[:1])}", "", words(opening[2:]), ""]
         used = set()
         for i, line in enumerate(lines):
