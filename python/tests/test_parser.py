@@ -203,7 +203,6 @@ def nested(self, name):
     self.assertEqual(sys.getrecursionlimit(), before)
 
 
-@support.each(nested, [(name,) for name in DEEP], "nested")
 class Collector(unittest.TestCase):
     """The parser pauses the collector of cycles. Afterwards it is as it was, also where the script is rejected."""
 
@@ -222,6 +221,7 @@ class Collector(unittest.TestCase):
                 self.assertEqual((rejected, gc.isenabled()), (rejects, before), script)
 
 
+@support.each(nested, [(name,) for name in DEEP], "nested")
 class Nested(unittest.TestCase):
     """Deep nesting and long lists give a table or an error, never a RecursionError."""
 
