@@ -90,6 +90,7 @@ STEPS = [
         python("tools/tables.py", "cases", "crates/cases/cases.txt", "crates/cases/kinds.txt", "crates/cases/data/cases.bin", "--check"),
     ),
     Step("planted", "every fault for the comparison can be planted in the code", ("oracle/faults-port", "--check")),
+    Step("planted-steps", "every fault for a step of the gate can be planted", python("tools/tests/faults.py", "--check")),
     Step("cited", "every path, link and name that the documents cite exists", python("tools/gate/cited.py")),
     Step("counted", "every count in the documents is written by the tool that counts", python("tools/gate/counted.py")),
     Step("statements", "docs/STATEMENTS.md has the statements of the crate statements, and every theorem that is named is restated", python("tools/gate/statements_page.py", "--check")),
