@@ -1,12 +1,12 @@
 #!/usr/bin/env python3
-"""Ends the rescuing program by KILL, many times, and looks at OUT.
+"""Ends the rescuing program by KILL, many times, and checks OUT.
 
 end_rescue.py ROUNDS IN RESCUED COMMAND...    COMMAND is what runs the program, up to its three arguments; IN is a damaged file, RESCUED what
                                               is to be rescued of it
 
-Half of the rounds are ended after a time that is drawn at random from as long as a run takes, the others as soon as the new file stands
+Half of the rounds are ended after a random part of the time that a run takes, the others as soon as the new file is
 beside OUT, or a little later: while the program writes, flushes and renames. In each second round IN is OUT. While a round runs and after
-it OUT must be byte for byte the old file or the new one. The exit status is 1 if it ever was not, or where the rounds show nothing: where
+it OUT must be byte for byte the old file or the new one. The exit status is 1 if it ever was not, or if the rounds show nothing:
 none was ended before OUT was replaced with a part beside it, or none was ended after.
 """
 import os

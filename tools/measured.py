@@ -1,14 +1,14 @@
 #!/usr/bin/env python3
-"""Writes what was measured into docs/measured, so that no number there is copied by hand.
+"""Writes measurements into docs/measured, so that no number there is copied by hand.
 
-A document holds sections between the lines '<!-- measured: NAME -->' and '<!-- end -->'; what stands between them is this tool's. Each section
-says when it was measured, on what machine, and at which commit.
+A document has sections between the lines '<!-- measured: NAME -->' and '<!-- end -->', which this tool writes. Each section
+states when it was measured, on which machine, and at which commit.
 
 measured.py gate LOG       from the log of ./test (target/test.log): its steps, and its crates one by one
 measured.py quick LOG      from the output of oracle/compare: the jobs of each family
 measured.py long LOG       from the output of oracle/compare --long
 measured.py faults LOG     from the output of oracle/faults-port: each planted fault and where it showed
-measured.py jobs LOG       from the output of bench/run: its tables as they stand
+measured.py jobs LOG       from the output of bench/run: its tables
 measured.py stack LOG      from the log of ./test or the output of bindings/run: the stack that each job needs
 measured.py sizes          lines and characters of code, definitions and proofs, crate by crate; reads the crates themselves
 """
