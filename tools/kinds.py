@@ -5,7 +5,7 @@ kinds.py            writes crates/cases/kinds.txt (cases in words) and, below it
 kinds.py --check    only reports whether they are what the sentences give and, where the scope and the requests are present, whether these have
                     the sentences
 
-The sentences are in crates/cases/sentences.txt; tools/format.py compares them with docs/FORMAT.md. Nothing here is taken from the definitions or
+The sentences are in crates/cases/sentences.txt; tools/gate/format.py compares them with docs/FORMAT.md. Nothing here is taken from the definitions or
 the code, so a mistake that is in both of them is found. For each kind and detail: valid children, and children with one or two dropped, changed or
 added; the largest detail and one more; a name where none is allowed, and no name where one is required; the kind in the place of each class.
 Then each kind and detail with its records at the largest depth and one deeper (W-206): under statements or expressions alone, and with
@@ -13,11 +13,13 @@ parameters and arguments of every kind in between. Then each kind with source fi
 its child and further below, where the number of its top-level statement is the right one.
 """
 import itertools
+import pathlib
 import re
 import sys
 
-from repository import CRATES, ROOT
-from tables import tables, trees
+sys.path.append(str(pathlib.Path(__file__).resolve().parent / "gate"))
+from repository import CRATES, ROOT  # noqa: E402
+from tables import tables, trees  # noqa: E402
 
 FOLDER = CRATES / "cases"
 DOCUMENTS = [ROOT.parent / "shared" / "docs" / name for name in ("01-scope.md", "02-change-requests.md")]

@@ -21,7 +21,10 @@ import re
 import struct
 import sys
 
-sys.path.insert(0, str(pathlib.Path(__file__).resolve().parent.parent / "python"))
+sys.path.append(str(pathlib.Path(__file__).resolve().parent / "gate"))
+from repository import ROOT  # noqa: E402
+
+sys.path.insert(0, str(ROOT / "python"))
 from ducatmuffin import table as tables  # noqa: E402
 from ducatmuffin.table import TextError, demand, file_of, table_of, trees  # noqa: E402
 

@@ -1,5 +1,5 @@
-// Which argument of a call reaches which parameter of a def: document 02's W-204, over the parameter list of def.rs and
-// the arguments of call.rs as the crates below read them.
+// Which argument of a call reaches which parameter of a def (W-204). The parameter list is read as def.rs reads it, and
+// the arguments as call.rs does: the crates `deflist` and `arguments`.
 use arguments::Called;
 use deflist::Flat;
 use deflist::Kind;
@@ -61,8 +61,9 @@ pub enum Bound {
 // Room for the words of every binding: a word for each flat parameter and for each argument.
 const MOST_WORDS: usize = 2 * MOST_NODES;
 
-// The call and the def at two nodes: 1 to 4, 6, 7, 10 to 19, 20 to 24, 80 to 84; or the flat count and the number of
-// arguments, with a word for each flat parameter and for each argument at the front of the list.
+// Binds the call and the def at two nodes. Returns the flat count and the number of arguments, with a word for each
+// flat parameter and for each argument at the front of the list; or a refusal: 1 to 4, 6, 7, 10 to 19, 20 to 24, 80 to
+// 84.
 pub fn bind(table: &[u8], names: &[u8], call: usize, def: usize, list: &mut [u32]) -> Bound
     ensures { λ r. ⌜ bound r ≡
         bindOf (now (table .entry)) (now (names .entry)) call def (length (now (list .entry))) ⌝ }
@@ -87,7 +88,7 @@ pub fn is_def(table: &[u8], node: usize) -> bool
     forest::kind(&table[a..]) == kinds::DEF
 }
 
-// The arguments of the call that a stretch begins with: what stands behind its callee.
+// The arguments of the first call of a stretch: what follows its callee.
 fn behind_callee(t: &[u8]) -> &[u8]
     ensures { λ r. ⌜ now r ≡ behindCallee (now (t .entry)) ⌝ }
 {
@@ -96,7 +97,7 @@ fn behind_callee(t: &[u8]) -> &[u8]
     &kids[e..]
 }
 
-// The node of the first of them.
+// The node of the first argument.
 fn first_argument(t: &[u8], call: usize) -> usize
     requires { ⌜ Within call (now t) ⌝ }
     ensures { λ r. ⌜ r ≡ call + 1 + spanOf (kidsOf (now (t .entry))) / recordBytes ⌝ }
@@ -104,7 +105,7 @@ fn first_argument(t: &[u8], call: usize) -> usize
     call + 1 + forest::span(deflist::children(t)) / RECORD
 }
 
-// How many parameters a list has, marks counted.
+// The number of parameters of a list, marks counted.
 fn written(params: &[u8]) -> usize
     ensures { λ r. ⌜ ((names : List ℕ) (i : ℕ) → r ≡ length (paramsIn names (forest i (now (params .entry))))) ⌝ }
     ensures { λ r. ⌜ recordBytes * r ≤ length (now (params .entry)) ⌝ }
@@ -119,7 +120,7 @@ fn written(params: &[u8]) -> usize
     n
 }
 
-// How many arguments there are.
+// The number of arguments.
 fn count(args: &[u8]) -> usize
     ensures { λ r. ⌜ ((names : List ℕ) (i : ℕ) → r ≡ length (argumentsIn names (forest i (now (args .entry))))) ⌝ }
     ensures { λ r. ⌜ recordBytes * r ≤ length (now (args .entry)) ⌝ }
@@ -134,7 +135,7 @@ fn count(args: &[u8]) -> usize
     n
 }
 
-// Whether the argument that a stretch begins with is a star or a `**`.
+// Whether the first argument of a stretch is a star or a `**`.
 fn is_star(t: &[u8]) -> bool
     ensures { λ r. ⌜ r ≡ isStar (kindAt (nodeOf 0 (now (t .entry)) .kind)) ⌝ }
 {
@@ -146,7 +147,7 @@ fn is_star(t: &[u8]) -> bool
     }
 }
 
-// 80, where first is the node of the first argument.
+// 80 (a star or `**` argument); `first` is the node of the first argument.
 fn first_star(args: &[u8], first: usize) -> Checked
     requires { ⌜ Behind first (now args) ⌝ }
     ensures { λ r. ⌜ ((names : List ℕ) → checked r ≡
@@ -165,7 +166,7 @@ fn first_star(args: &[u8], first: usize) -> Checked
     Checked::Sound
 }
 
-// Whether a parameter of a kind is called by its name, from a state on.
+// Whether a parameter of a kind can be called by its name, in this state.
 fn nameable(state: State, kind: Kind) -> bool
     ensures { λ r. ⌜ r ≡ nameableOf state kind ⌝ }
 {
@@ -190,7 +191,7 @@ fn past_slash(state: State) -> bool
     }
 }
 
-// How many flat parameters one of a kind is.
+// The number of flat parameters of one of a kind: 0 for a mark, else 1.
 fn flats_of(kind: Kind) -> u32
     ensures { λ r. ⌜ (r ≡ flatsOf kind) × (r ≤ 1) ⌝ }
 {
@@ -203,7 +204,7 @@ fn flats_of(kind: Kind) -> u32
     }
 }
 
-// Whether the parameter that a stretch begins with is called by this name.
+// Whether the first parameter of a stretch can be called by this name.
 fn takes(names: &[u8], name: &[u8], t: &[u8], state: State, kind: Kind) -> bool
     ensures { λ r. ⌜ r ≡
         (nameableOf state kind
@@ -215,7 +216,7 @@ fn takes(names: &[u8], name: &[u8], t: &[u8], state: State, kind: Kind) -> bool
     forest::names::same_bytes(forest::names::name(names, t), name)
 }
 
-// The flat index of the parameter that is called by this name, where so many are positional only.
+// The flat index of the parameter that can be called by this name; the first `only` are positional only.
 fn find(names: &[u8], name: &[u8], params: &[u8], only: u32) -> Place
     requires { ⌜ length (now params) ≤ mostBytes ⌝ }
     ensures { λ r. ⌜ ((i : ℕ) → r ≡
@@ -268,7 +269,7 @@ fn by_name(found: Place, kwargs: Place) -> Reach
     }
 }
 
-// What argument k reaches, which a stretch begins with.
+// What argument k reaches; it is the first argument of the stretch.
 fn reaches(names: &[u8], params: &[u8], d: DefParamIndices, k: u32, t: &[u8]) -> Reach
     requires { ⌜ length (now params) ≤ mostBytes ⌝ }
     ensures { λ r. ⌜ ((i j : ℕ) → r ≡
@@ -308,7 +309,7 @@ fn word(words: &[u32], i: usize) -> u32
     words[i]
 }
 
-// Writes a word, if there is one at that place.
+// Writes a word, if the list has one at that place.
 fn store(words: &mut [u32], i: usize, value: u32)
     ensures { λ r. ⌜ now (words .exit) ≡ set (now (words .entry)) i value ⌝ }
 {
@@ -318,7 +319,7 @@ fn store(words: &mut [u32], i: usize, value: u32)
     words[i] = value;
 }
 
-// An argument fills an ordinary parameter: 83, or both words.
+// An argument fills an ordinary parameter: 83 if the parameter is filled, else writes both words.
 fn filling(i: u32, at: u32, t: &[u8], place: usize, words: &mut [u32]) -> Checked
     ensures { λ r. ⌜ stored r (now (words .exit)) ≡
         turnOf place (Fills i) (kindAt (nodeOf 0 (now (t .entry)) .kind)) (nodeOf at (now (t .entry)))
@@ -332,7 +333,7 @@ fn filling(i: u32, at: u32, t: &[u8], place: usize, words: &mut [u32]) -> Checke
     Checked::Sound
 }
 
-// The argument that a stretch begins with, at a node, whose own word stands at a place: 81, 82, 83, or its words.
+// The turn of the first argument of a stretch, whose own word is at `place`: 81, 82, 83, or writes its words.
 fn turn(reach: Reach, at: u32, t: &[u8], place: usize, words: &mut [u32]) -> Checked
     ensures { λ r. ⌜ stored r (now (words .exit)) ≡
         turnOf place reach (kindAt (nodeOf 0 (now (t .entry)) .kind)) (nodeOf at (now (t .entry)))
@@ -348,7 +349,7 @@ fn turn(reach: Reach, at: u32, t: &[u8], place: usize, words: &mut [u32]) -> Che
     }
 }
 
-// The arguments in turn, the first of which is the node first, where flat is the flat count: 81, 82, 83, or their
+// The arguments in turn, the first of which is the node `first`; `flat` is the flat count: 81, 82, 83, or writes their
 // words.
 fn along(
     names: &[u8],
@@ -381,7 +382,7 @@ fn along(
     Checked::Sound
 }
 
-// Whether a parameter of a kind may not stay empty, and its word says that it is.
+// Whether a parameter of a kind must not stay empty, and its word says that it is empty.
 fn is_empty(kind: Kind, w: u32) -> bool
     ensures { λ r. ⌜ r ≡ isEmpty kind w ⌝ }
 {
@@ -394,7 +395,7 @@ fn is_empty(kind: Kind, w: u32) -> bool
     }
 }
 
-// 84, where first is the node of the first parameter.
+// 84 (an ordinary parameter left empty); `first` is the node of the first parameter.
 fn first_empty(params: &[u8], first: usize, words: &[u32]) -> Checked
     requires { ⌜ Behind first (now params) ⌝ }
     ensures { λ r. ⌜ ((names : List ℕ) (s : StateType) → checked r ≡
@@ -426,7 +427,8 @@ fn first_of(a: Checked, b: Checked) -> Checked
     }
 }
 
-// 80, then 81 to 83, then 84, or all words; param and first are the nodes of the first parameter and argument.
+// 80, then 81 to 83, then 84, or writes all words; `param` and `first` are the nodes of the first parameter and
+// argument.
 fn fill(
     names: &[u8],
     params: &[u8],
@@ -461,7 +463,7 @@ fn write(words: &[u32], list: &mut [u32])
     }
 }
 
-// How many parameters the def at a node has, marks counted.
+// The number of parameters of the def at a node, marks counted.
 fn parameter_count(table: &[u8], def: usize) -> usize
     ensures { λ r. ⌜ ((names : List ℕ) → r ≡ length (listOf (now (table .entry)) names def)) ⌝ }
     ensures { λ r. ⌜ recordBytes * r ≤ length (now (table .entry)) ⌝ }
@@ -469,7 +471,7 @@ fn parameter_count(table: &[u8], def: usize) -> usize
     written(deflist::children(table::stretch(table, def)))
 }
 
-// How many arguments the call at a node has.
+// The number of arguments of the call at a node.
 fn argument_count(table: &[u8], call: usize) -> usize
     ensures { λ r. ⌜ ((names : List ℕ) → r ≡ length (argumentsAt (now (table .entry)) names call)) ⌝ }
     ensures { λ r. ⌜ recordBytes * r ≤ length (now (table .entry)) ⌝ }
@@ -477,7 +479,7 @@ fn argument_count(table: &[u8], call: usize) -> usize
     count(behind_callee(table::stretch(table, call)))
 }
 
-// The words of the call and the def at two nodes: 80 to 84, or all of them.
+// The words of the call and the def at two nodes: 80 to 84, or writes all of them.
 fn fill_words(
     table: &[u8],
     names: &[u8],
@@ -525,8 +527,8 @@ fn is_refused(found: Checked) -> bool
     }
 }
 
-// The words of a call and a def that keep their own rules, in a part of some space: 80 to 84, or they are written at
-// the front of the list.
+// Binds a call and a def that keep their own rules, in a part of `space`: 80 to 84, or writes the words to the front of
+// the list.
 fn lay(
     table: &[u8],
     names: &[u8],
@@ -552,7 +554,7 @@ fn lay(
     found
 }
 
-// The answer, by the check of the binding.
+// The answer for the check of the binding.
 fn answer(found: Checked, flat: u32, many: u32) -> Bound
     ensures { λ r. ⌜ bound r ≡ answered (checked found) flat many ⌝ }
 {
@@ -562,7 +564,7 @@ fn answer(found: Checked, flat: u32, many: u32) -> Bound
     }
 }
 
-// The binding of a call and a def that keep their own rules, by the help of some space.
+// Binds a call and a def that keep their own rules, with `space` for the words.
 fn bind_in(
     table: &[u8],
     names: &[u8],
@@ -587,7 +589,7 @@ fn bind_in(
     answer(found, c.flat, many as u32)
 }
 
-// The same, with room for the words of every binding.
+// The same with space for the words of any binding.
 fn bind_kept(
     table: &[u8],
     names: &[u8],
@@ -626,7 +628,7 @@ fn enter(table: &[u8], names: &[u8], call: usize, def: usize, room: usize) -> Ch
     Checked::Sound
 }
 
-// What is counted in a def's list, unless the list or the call is refused.
+// The counts of a def's list, unless the list or the call is refused.
 fn both(unpacked: Unpacked, called: Called) -> Unpacked
     ensures { λ r. ⌜ r ≡ bothOf unpacked called ⌝ }
 {

@@ -9,7 +9,7 @@ use mathlib.Core.List.{List, [], _∷_, _++_}
 use Prim.Native.Nat.{ℕ, _+_, _*_, _^_, _<_, _≤_}
 use lib.ListN.{length, getD, take, replicate}
 use Rattle.deflist.specs.Unpack.{modePosOnly, modePosOrName, modeNameOnly, modeArgs, modeKwargs}
-use Rattle.table.specs.Numbers.{blockShort, tooManyFiles}
+use Rattle.table.specs.Numbers.{blockShort}
 use Rattle.table.specs.Answer.{accepted}
 use Rattle.validate.specs.Job.{errorsOf}
 use Rattle.blocks.specs.Block.{blockBytes}
@@ -20,9 +20,8 @@ use Rattle.tablefile.proofs.Example.{content}
 use Rattle.figures.specs.Adding.{added}
 use Rattle.figures.specs.Counting.{modeAt, acceptedAt, refusedAt, over, numbersOf, errorCounts, figuresOf}
 use Rattle.figures.specs.Reporting.{mostFiles, stepOf, figuresAfter, whole, endedBy, zeros, reportOf}
-use Rattle.figures.specs.declared.Stepped.the-variants.{Taken, Refused as RefusedStep}
+use Rattle.figures.specs.declared.Stepped.the-variants.{Taken}
 use Rattle.figures.specs.declared.Ending.the-variants.{Whole, Refused}
-use Rattle.figures.proofs.Running as theorem-running
 use Rattle.figured.specs.Said.{summed, endedBy76, windowBytes, through, callAt, flatAt, sumOf, mostAdded}
 use Rattle.figured.proofs.Sums as theorem-sums
 use Rattle.figured.proofs.Through as theorem-through
@@ -209,11 +208,3 @@ figures-small input =
 -- In words: every counter of a report is below 2^64.
 pub figures-fit : (input : List ℕ) (i : ℕ) → getD (reportOf input .figures) i 0 < 2 ^ 64
 figures-fit = theorem-bounds.figures-fit
-
--- "76 first, with one byte left after 4,294,967,295 files"
--- In words: from so many files on, a step refuses any bytes by 76 and changes no counter.
-pub step-many : (window figures : List ℕ)
-    → (length window ≡ 0 → ⊥)
-    → mostFiles ≤ getD figures 0 0
-    → (RefusedStep tooManyFiles ≡ stepOf window figures) × (figures ≡ figuresAfter window figures)
-step-many = theorem-running.step-many

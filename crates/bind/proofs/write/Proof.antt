@@ -1,4 +1,4 @@
--- `bind::write` meets its contract: the words that are written stand at the front. Assumes nothing.
+-- `bind::write` meets its contract: the words that are written are at the front. Assumes nothing.
 use Prim.Native.Nat.{_-_}
 use lib.ListN.{length}
 use Rattle.bind.proofs.Loops.{Laying, lay-start, lay-on, lay-end}

@@ -22,7 +22,8 @@ import threading
 import time
 from typing import NamedTuple, Optional, Tuple
 
-ROOT = pathlib.Path(__file__).resolve().parent.parent
+from repository import ROOT
+
 REQUIRED = ROOT / ".ci" / "steps"
 PUBLISHED = ROOT.parent / "shared" / "docs" / "src" / "src" / "lib.rs"
 
@@ -61,15 +62,15 @@ def data(kind, text, made):
 
 
 STEPS = [
-    Step("gate", "the gate reports a step that fails, is missing, or skips itself without a reason", python("tools/try_gate.py")),
-    Step("promises", "every public function has a contract, a theorem and wrong answers", python("tools/promises.py")),
-    Step("try-promises", "a removed promise is reported", python("tools/try_promises.py")),
+    Step("gate", "the gate reports a step that fails, is missing, or skips itself without a reason", python("tools/tests/try_gate.py")),
+    Step("promises", "every public function has a contract, a theorem and wrong answers", python("tools/gate/promises.py")),
+    Step("try-promises", "a removed promise is reported", python("tools/tests/try_promises.py")),
     Step("layout", "rt fmt would change no file", ("rt", "fmt", "--check")),
-    Step("numbers", "the numbers, rules and kinds in documents, code, definitions and interfaces agree", python("tools/numbers.py")),
-    Step("format", "docs/FORMAT.md agrees with code and definitions, and its example is the sample", python("tools/format.py")),
-    Step("try-native", "native-lib reports what is proved, and refuses to compile what is not", ("tools/try_native",)),
+    Step("numbers", "the numbers, rules and kinds in documents, code, definitions and interfaces agree", python("tools/gate/numbers.py")),
+    Step("format", "docs/FORMAT.md agrees with code and definitions, and its example is the sample", python("tools/gate/format.py")),
+    Step("try-native", "native-lib reports what is proved, and refuses to compile what is not", ("tools/tests/try_native.sh",)),
     Step("samples", "the sample tables are those of their texts", ("sh", "-c", "exec python3 tools/tables.py files samples/*.txt --check")),
-    Step("try-tables", "tables.py reports a wrong line of cases", python("tools/try_tables")),
+    Step("try-tables", "tables.py reports a wrong line of cases", python("tools/tests/try_tables.py")),
     Step("tablecheck-data", "the input of tablecheck is a sample", data("file", "samples/example.txt", "crates/tablecheck/data/example.table")),
     Step("tablerescue-data", "the input of tablerescue is a sample", data("file", "samples/lost.txt", "crates/tablerescue/data/lost.table")),
     Step(
@@ -88,12 +89,12 @@ STEPS = [
         python("tools/tables.py", "cases", "crates/cases/cases.txt", "crates/cases/kinds.txt", "crates/cases/data/cases.bin", "--check"),
     ),
     Step("planted", "every fault for the comparison can be planted in the code", ("oracle/faults-port", "--check")),
-    Step("cited", "every path, link and name that the documents cite exists", python("tools/cited.py")),
-    Step("statements", "docs/STATEMENTS.md has the statements of the crate statements, and every theorem that is named is restated", python("tools/statements_page.py", "--check")),
-    Step("imports", "no file has an unused import", python("tools/imports.py")),
-    Step("lines", "line length and `.before` chains are within their limits", python("tools/lines.py")),
-    Step("try-lines", "lines.py reports a long line and a long chain", python("tools/lines.py", "--try")),
-    Step("flake8", "flake8 finds no fault in the Python files", ("flake8", "--config", "tools/flake8.ini", ".", "ducat", "bench/command", "oracle/faults-port"), ("flake8",)),
+    Step("cited", "every path, link and name that the documents cite exists", python("tools/gate/cited.py")),
+    Step("statements", "docs/STATEMENTS.md has the statements of the crate statements, and every theorem that is named is restated", python("tools/gate/statements_page.py", "--check")),
+    Step("imports", "no file has an unused import", python("tools/gate/imports.py")),
+    Step("lines", "line length and `.before` chains are within their limits", python("tools/gate/lines.py")),
+    Step("try-lines", "lines.py reports a long line and a long chain", python("tools/gate/lines.py", "--try")),
+    Step("flake8", "flake8 finds no fault in the Python files", ("flake8", "--config", "tools/gate/flake8.ini", ".", "ducat", "bench/command", "oracle/faults-port"), ("flake8",)),
     # rt ci is the verdict. It waits for all of a batch before it starts the next, so batches of four keep two processors busier.
     Step(
         "proofs",
@@ -105,17 +106,17 @@ STEPS = [
     Step(
         "wrong",
         "the prover refuses every wrong answer (an edit of the code)",
-        python("tools/wrong_answers.py"),
+        python("tools/gate/wrong_answers.py"),
         lane=WRONG,
         counts=r"(\d+) wrong answers refused, (\d+) not",
     ),
     Step(
         "weaker",
-        "a weaker theorem does not prove its statement (two modules; tools/weaker.py tries all)",
-        python("tools/weaker.py", "Demand3", "Rescue", "--records", "1"),
+        "a weaker theorem does not prove its statement (two modules; tools/gate/weaker.py tries all)",
+        python("tools/gate/weaker.py", "Demand3", "Rescue", "--records", "1"),
         lane=WRONG,
     ),
-    Step("try-wrong", "an edit that shows nothing is reported as bad", python("tools/wrong_answers.py", "--try", "tools/bad-edits"), lane=WRONG),
+    Step("try-wrong", "an edit that shows nothing is reported as bad", python("tools/gate/wrong_answers.py", "--try", "tools/tests/bad-edits"), lane=WRONG),
     Step("native", "the library is proved and compiled for this machine", ("./ducat", "build"), lane=BESIDE),
     Step(
         "python",
@@ -125,7 +126,7 @@ STEPS = [
         counts=r"(\d+) tests passed, (\d+) failed",
     ),
     Step("speed", "ducat checks scripts in at most 1.2 times the time of flake8, and its time is linear", python("-I", "-S", "python/tests/speed_scripts.py"), ("flake8",), BESIDE),
-    Step("programs", "tablecheck, tablerescue and tablefigures read, print and replace files as specified", python("tools/try_programs.py"), lane=BESIDE),
+    Step("programs", "tablecheck, tablerescue and tablefigures read, print and replace files as specified", python("tools/tests/try_programs.py"), lane=BESIDE),
     Step("against", "ducat prints and writes the same bytes as the three programs", python("-I", "-S", "python/tests/against_programs.py"), lane=BESIDE),
     Step("books", "the book functions agree with a model that uses a map of entries", python("oracle/books"), lane=BESIDE),
     Step("namesakes", "the namesakes job agrees with calls in Python", python("oracle/namesakes"), lane=BESIDE),
@@ -138,11 +139,11 @@ STEPS = [
         python("bench/figures"),
         lane=BESIDE,
     ),
-    Step("shown", "the commands print the output that the documents show", python("tools/shown.py"), lane=BESIDE),
+    Step("shown", "the commands print the output that the documents show", python("tools/gate/shown.py"), lane=BESIDE),
     Step("faults", "the comparison finds a planted fault of each job, and is not empty", ("oracle/faults", "--gate"), ORACLE, BESIDE),
     Step("compare", "the port gives the same answers as the crate (quick run)", ("oracle/compare",), ORACLE, BESIDE),
     Step("examples", "the examples in C and Rust print the expected output; the stack is as measured", ("bindings/run",), ("cc", "cargo", "rustc"), BESIDE),
-    Step("install", "a program is compiled against the installed library and run", ("tools/try_install",), ("cc",), BESIDE),
+    Step("install", "a program is compiled against the installed library and run", ("tools/tests/try_install.sh",), ("cc",), BESIDE),
 ]
 
 
@@ -186,11 +187,11 @@ class Gate:
         """A fault for each name that is in one of the two lists alone, and for each that is there twice."""
         listed = [step.name for step in self.steps]
         for name in sorted(set(demanded) - set(listed)):
-            self.fail(f"the step {name} of .ci/steps is not in tools/gate.py")
+            self.fail(f"the step {name} of .ci/steps is not in tools/gate/gate.py")
         for name in sorted(set(listed) - set(demanded)):
-            self.fail(f"the step {name} of tools/gate.py is not in .ci/steps")
+            self.fail(f"the step {name} of tools/gate/gate.py is not in .ci/steps")
         for name in sorted({name for name in listed if listed.count(name) > 1}):
-            self.fail(f"the step {name} is in tools/gate.py more than once")
+            self.fail(f"the step {name} is in tools/gate/gate.py more than once")
 
     def fail(self, text):
         self.failed += 1

@@ -12,9 +12,13 @@ import sys
 import tempfile
 
 import end_rescue
-import repository
-from repository import ROOT
-from tables import tables
+
+sys.path.append(str(pathlib.Path(__file__).resolve().parent.with_name("gate")))
+import repository  # noqa: E402
+from repository import ROOT  # noqa: E402
+
+sys.path.append(str(ROOT / "tools"))
+from tables import tables  # noqa: E402
 
 SAMPLES = ROOT / "samples"
 ROUNDS = 100  # how often the rescue is ended by KILL

@@ -1,5 +1,5 @@
 #!/usr/bin/env python3
-"""Tries tools/promises.py itself: plants faults in a copy of the texts that it reads, one at a time, and demands that each is told.
+"""Tries tools/gate/promises.py itself: plants faults in a copy of the texts that it reads, one at a time, and demands that each is told.
 
 A planted fault counts as told where promises.py fails and says a line that it did not say of the copy as it was, with the words that are
 expected. The last line is 'N planted faults told, M not'; status 0 where M is 0.
@@ -11,8 +11,9 @@ import subprocess
 import sys
 import tempfile
 
-import promises
-import repository
+sys.path.append(str(pathlib.Path(__file__).resolve().parent.with_name("gate")))
+import promises  # noqa: E402
+import repository  # noqa: E402
 
 
 CLAUSE = r"    ensures .*?⌝ \}\n"  # an 'ensures', on one line or several
@@ -204,7 +205,7 @@ PLANTED = [
 def copy_into(folder):
     """The texts that promises.py reads, and the tool itself."""
     files = [repository.ROOT / "crates.txt", promises.DOCUMENT]
-    files += [repository.ROOT / "tools" / name for name in ("repository.py", "contracts.py", "promises.py")]
+    files += [repository.ROOT / "tools" / "gate" / name for name in ("repository.py", "contracts.py", "promises.py")]
     for name in repository.crates():
         home = repository.CRATES / name
         files += [p for part in ("src", "specs", "wrong", "must-fail") for p in (home / part).rglob("*") if p.is_file()]
@@ -217,7 +218,7 @@ def copy_into(folder):
 
 def told(copy):
     """What promises.py says of the copy: its status and its lines."""
-    done = subprocess.run([sys.executable, str(copy / "tools" / "promises.py")], capture_output=True, text=True)
+    done = subprocess.run([sys.executable, str(copy / "tools" / "gate" / "promises.py")], capture_output=True, text=True)
     return done.returncode, done.stdout.splitlines()
 
 

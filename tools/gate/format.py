@@ -12,13 +12,15 @@ import re
 import struct
 import sys
 
-import kinds
 from repository import CRATES, ROOT
-from tables import tables
+
+sys.path.append(str(ROOT / "tools"))
+import kinds  # noqa: E402
+from tables import tables  # noqa: E402
 
 PAGE = ROOT / "docs" / "FORMAT.md"
 SAMPLE, SCRIPT = ROOT / "samples" / "example.table", ROOT / "samples" / "example.star"
-FIRST, LAST = (f"<!-- made by tools/format.py: {where} here -->\n" for where in ("from", "to"))
+FIRST, LAST = (f"<!-- made by tools/gate/format.py: {where} here -->\n" for where in ("from", "to"))
 WORD = {number: word for word, number in tables.KIND.items()}
 CLASS = {"S": "statement", "E": "expression", "P": "parameter", "A": "argument"}
 PART = re.compile(r"(?:\[([\d, ]+): )?(\((\w) \3\)\*|\w)(?:\*|\{(\d+),(\d*)\})?\]?")
@@ -185,7 +187,7 @@ def main():
         made = example()
         PAGE.write_text(above + FIRST + made + LAST + below)
     faults = of_kinds(text) + of_dialects(text) + of_limits(text) + of_depth(text)
-    faults += [] if made == example() else ["the example is not samples/example.table (tools/format.py --write makes it)"]
+    faults += [] if made == example() else ["the example is not samples/example.table (tools/gate/format.py --write makes it)"]
     told = "docs/FORMAT.md: its kinds, dialects, limits and example are those of the repository"
     print("\n".join(f"docs/FORMAT.md: {fault}" for fault in faults) or told)
     return 1 if faults else 0

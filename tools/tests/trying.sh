@@ -1,7 +1,7 @@
 # shellcheck shell=sh disable=SC2034,SC2154
 # What the scripts share that try a tool at the root: a folder, faults, and runs that are held to what is expected.
 #
-# Such a script is at the root by now, sets try (its own name) and tool, and reads this: . tools/trying. Then it has
+# Such a script sets try (its own name) and tool, and reads this first: . "$(dirname "$0")/trying.sh". Then it is at the root, and has
 #   room                              a folder for what is made, which is gone when the script ends
 #   faults, tried                     how many faults were told, how many runs were held to something
 #   fault WORDS                       tells a fault
@@ -11,6 +11,10 @@
 #   says STATUS ARG...                the same, where it prints what is on standard input, and says nothing
 #   made NAME                         makes the table file $room/NAME of a text on standard input
 #   in_readme FILE WORDS              README shows these lines, each with four spaces before it
+cd "$(dirname "$0")" || exit 2
+until [ -f crates.txt ]; do
+    [ "$PWD" != / ] && cd .. || exit 2
+done
 room=$(mktemp -d) || exit 2
 trap 'rm -rf "$room"' EXIT
 faults=0 tried=0 input=

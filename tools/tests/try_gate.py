@@ -12,8 +12,9 @@ import sys
 import tempfile
 import time
 
-import gate
-from gate import BESIDE, FIRST, PROOFS, WRONG, Gate, Step
+sys.path.append(str(pathlib.Path(__file__).resolve().parent.with_name("gate")))
+import gate  # noqa: E402
+from gate import BESIDE, FIRST, PROOFS, WRONG, Gate, Step  # noqa: E402
 
 FAULTS = []
 TRIED = []
@@ -76,14 +77,14 @@ def counts():
 
 def lists():
     steps = [sh("one", "true"), sh("two", "true")]
-    tried("a step is lost", steps[:1], ["one", "two"], "1 passed, 1 failed", 1, ["the step two of .ci/steps is not in tools/gate.py"])
-    tried("a step is not demanded", steps, ["one"], "2 passed, 1 failed", 1, ["the step two of tools/gate.py is not in .ci/steps"])
-    tried("a step is listed twice", [*steps, steps[0]], ["one", "two"], "3 passed, 1 failed", 1, ["one is in tools/gate.py more than once"])
+    tried("a step is lost", steps[:1], ["one", "two"], "1 passed, 1 failed", 1, ["the step two of .ci/steps is not in tools/gate/gate.py"])
+    tried("a step is not demanded", steps, ["one"], "2 passed, 1 failed", 1, ["the step two of tools/gate/gate.py is not in .ci/steps"])
+    tried("a step is listed twice", [*steps, steps[0]], ["one", "two"], "3 passed, 1 failed", 1, ["one is in tools/gate/gate.py more than once"])
     tried("a step of no lane", [steps[0], steps[1]._replace(lane="nowhere")], None, "1 passed, 1 failed", 1, ["the step two was not run"])
     names = [step.name for step in gate.STEPS]
     TRIED.append("the gate's own lists")
     if names != gate.required():
-        FAULTS.append("tools/gate.py and .ci/steps have different steps, or another order")
+        FAULTS.append("tools/gate/gate.py and .ci/steps have different steps, or another order")
     for step in gate.STEPS:  # a name that is misspelt in `needs` or `lane` would be noticed only when it matters
         if step.lane not in gate.LANES or any(need not in gate.NEEDS for need in step.needs):
             FAULTS.append(f"{step.name}: its lane or a need is not known")

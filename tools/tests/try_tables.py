@@ -3,11 +3,15 @@
 written. The tests of the package try the text of a table file (python/tests/test_table.py).
 """
 import os
+import pathlib
 import subprocess
 import sys
 import tempfile
 
-TOOL = os.path.join(os.path.dirname(os.path.abspath(__file__)), "tables.py")
+sys.path.append(str(pathlib.Path(__file__).resolve().parent.with_name("gate")))
+from repository import ROOT  # noqa: E402
+
+TOOL = str(ROOT / "tools" / "tables.py")
 # lines of cases: what is made, a way of making it, and what is said
 CASES = [
     ("cases", "a name | check | (Break x)", None), ("cases", "none | check | (Identifier)", None), ("cases", "detail | check | (Break:255)", None),

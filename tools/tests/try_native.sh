@@ -1,12 +1,13 @@
 #!/bin/sh
 # Runs tools/native-lib with a made-up kit whose rt proves two crates and refuses the third: each crate is told as it is proved, rt's last words
 # are passed on, the exit status is 1, and no archive is made.
-cd "$(dirname "$0")/.." || exit 2
-room=$(mktemp -d) || exit 2
-trap 'rm -rf "$room"' EXIT
+# shellcheck disable=SC2034
+try=try_native tool=tools/native-lib
+# shellcheck source=tools/tests/trying.sh
+. "$(dirname "$0")/trying.sh"
 own=$room/kit/on/$(uname -m)
 mkdir -p "$room/tools" "$room/crates/upper/src" "$room/crates/lower" "$own/bin" "$room/bin" || exit 2
-cp tools/native-lib tools/kit "$room/tools/"
+cp tools/native-lib tools/kit.sh "$room/tools/"
 printf '%s\n' 'base:' 'middle: base' 'lower: middle' 'upper: lower' >"$room/crates.txt"
 true >"$room/crates/upper/src/lib.rt"
 printf '#!/bin/sh\nexit 1\n' >"$own/bin/rattle"
@@ -36,11 +37,6 @@ rt: base proved (5 s)
 rt: middle proved (unchanged since it was last proved)
 rt: lower NOT PROVED (exit 1, 1 s)
 END
-faults=0
-fault() {
-    echo "try_native: $*"
-    faults=$((faults + 1))
-}
 [ "$status" -eq 1 ] || fault "exit status $status, expected 1"
 [ ! -s "$room/out" ] || fault "printed $(cat "$room/out")"
 diff "$room/expected" "$room/err" || fault "said something else than expected"

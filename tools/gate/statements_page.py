@@ -2,26 +2,27 @@
 """Makes docs/STATEMENTS.md from crates/statements, so that page and crate cannot differ.
 
 statements_page.py            writes the page
-statements_page.py --check    status 1 if the page is not what the crate gives, if a statement lacks a sentence or its words, or if
-                              README.md, docs/PROOFS.md or a landing note names a theorem to users that no statement restates
+statements_page.py --check    status 1 if the page is not what the crate gives, if a statement lacks a sentence or its words, if a module
+                              cites theorems of several crates, or if README.md, docs/PROOFS.md or a landing note names a theorem to
+                              users that no statement restates
 
 A module of crates/statements/proofs opens with a comment: its title in capitals, an empty line, an introduction. Above each public statement
 there is a comment: the user's sentence, and from 'In words:' on the statement in words. The page has, in the order of Lib.antt, the sentence,
 the statement (only its lines are indented by their parentheses), the words, and the theorem that proves it; then where each
 name is defined.
 """
-import pathlib
 import re
 import sys
 
-ROOT = pathlib.Path(__file__).resolve().parent.parent
+from repository import ROOT
+
 FOLDER = ROOT / "crates" / "statements" / "proofs"
 PAGE = ROOT / "docs" / "STATEMENTS.md"
 HEAD = """# What is proved, statement by statement
 
-This page is made from crates/statements by tools/statements_page.py; `./test statements` compares the two. Each statement is proved there by citing the
+This page is made from crates/statements by tools/gate/statements_page.py; `./test statements` compares the two. Each statement is proved there by citing the
 theorem that is named below it. Nothing is abbreviated: every hypothesis is an arrow, and every claim of a conclusion is written out. So a
-theorem that assumed more or claimed less would not prove its statement (tools/weaker.py tries that).
+theorem that assumed more or claimed less would not prove its statement (tools/gate/weaker.py tries that).
 
 Read `A → B` as "if A then B", `(x : A) →` as "for every x of A", `(x : A) ×` as "there is an x of A with", `×` as "and", `⊎` as "or",
 `↔` as "if and only if", `≡` as "is", `⊥` as "impossible". `getD l i 0` is number i of the list l, or 0 after its end.
@@ -52,6 +53,8 @@ def page():
         lines = text.split("\n")
         opening = lines[: next(i for i, l in enumerate(lines) if not l.startswith("--"))]
         files = {alias: (crate, file) for crate, file, alias in re.findall(r"^use Rattle·(\w+)\.proofs\.(\w+) as (theorem\S*)$", text, re.M)}
+        if len({crate for crate, _ in files.values()}) != 1:
+            wrong.append(f"{name}: it cites theorems of {len({crate for crate, _ in files.values()})} crates; tools/gate/weaker.py can try those of one")
         out += [f"## {words(opening[:1]).capitalize() if words(opening[:1]).isupper() else words(opening[:1])}", "", words(opening[2:]), ""]
         used = set()
         for i, line in enumerate(lines):
@@ -88,7 +91,7 @@ def page():
     return "\n".join(out).rstrip("\n") + "\n", wrong, count
 
 
-# theorems of other kinds, each with its own page or step: of one answer (docs/PROMISES.md, tools/promises.py)
+# theorems of other kinds, each with its own page or step: of one answer (docs/PROMISES.md, tools/gate/promises.py)
 ONE_ANSWER = re.compile(r".*-one$|.*-injective$")
 # crates whose theorems stand for themselves: closed instances of what theorems suppose
 INSTANCES = {"Example.antt"}

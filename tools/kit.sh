@@ -1,8 +1,8 @@
 # shellcheck shell=sh
-# Where the Rattle kit is, how to run a program that rt has built, and which crates a crate uses. For sh scripts: . tools/kit
+# Where the Rattle kit is, how to run a program that rt has built, and which crates a crate uses. For sh scripts: . tools/kit.sh
 #
 # Sets kit (the kit's folder), kit_own (what it has for this machine), kit_toolchain (compiler and loader). Without rt it sets
-# kit= and returns 1. The Python tools have the same in tools/repository.py.
+# kit= and returns 1. The Python tools have the same in tools/gate/repository.py.
 kit=
 command -v rt >/dev/null 2>&1 || return 1
 kit=${kit_known:-$(dirname "$(dirname "$(rt doc)")")} # a script that runs thousands of times gets the folder from its caller

@@ -4,12 +4,11 @@
 # installed Python package and runs the installed ducat, moved and without the repository. Then what tools/install must refuse.
 # STARLARK_LIB names another folder than target/native for the library.
 # Exit status: 0 all is as it must be; 1 something is not; 3 skipped: there is no C compiler.
-cd "$(dirname "$0")/.." || exit 2
 command -v cc >/dev/null 2>&1 || { echo "try_install: skipped for want of cc"; exit 3; }
 # shellcheck disable=SC2034
 try=try_install tool=tools/install
-# shellcheck source=tools/trying
-. tools/trying
+# shellcheck source=tools/tests/trying.sh
+. "$(dirname "$0")/trying.sh"
 prefix="$room/a place"
 folder=${STARLARK_LIB:-target/native}
 version=$(sed -n 's/^#define STARLARK_VERSION "\(.*\)"$/\1/p' include/starlark.h)

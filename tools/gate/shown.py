@@ -6,14 +6,14 @@ root. ROOM in a command is a temporary folder. README's first command is such a 
 parts of the output. Files of samples/ that have the output of a command are listed here too. Prints a line for each difference, and for a document
 that shows nothing; the exit status is then 1.
 """
-import pathlib
 import re
 import shlex
 import subprocess
 import sys
 import tempfile
 
-ROOT = pathlib.Path(__file__).resolve().parent.parent
+from repository import ROOT
+
 DOCUMENTS = ("docs/COMMANDS.md",)
 MARKED = re.compile(r"^<!-- shown: (.+) -->\n((?:    .*\n|\n(?=    ))+)", re.M)
 FIRST = ("README.md", "./ducat check samples/example.star", """    nodes 6

@@ -10,6 +10,8 @@ import os
 import re
 import sys
 
+from repository import ROOT
+
 WIDTH = 120
 CHAIN = 4
 WAYPOINT = 6
@@ -75,5 +77,5 @@ def tried():
 
 
 if __name__ == '__main__':
-    os.chdir(os.path.join(os.path.dirname(os.path.abspath(__file__)), '..'))
+    os.chdir(ROOT)
     sys.exit(tried() if sys.argv[1:] == ['--try'] else check(sys.argv[1:] or ['crates']))

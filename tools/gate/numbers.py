@@ -14,11 +14,13 @@ numbers.py --write  first writes docs/RULES.md
 import re
 import sys
 
-import interfaces
-import kinds
 from repository import CRATES, ROOT
-from tables import tables
-from ducatmuffin import rules
+
+sys.path.append(str(ROOT / "tools"))
+import interfaces  # noqa: E402
+import kinds  # noqa: E402
+from tables import tables  # noqa: E402
+from ducatmuffin import rules  # noqa: E402
 
 # the numbers, in the order of docs/RULES.md
 GIVEN = [*range(1, 8), *range(10, 20), *range(20, 25), *range(30, 34), *range(40, 46), *range(50, 65), *range(70, 77), *range(80, 85), 90, 91,
@@ -122,7 +124,7 @@ SECTIONS = [
 ]
 TOP = f"""# Rules
 
-<!-- made by tools/numbers.py --write from docs/numbers.tsv and python/ducatmuffin/rules.py -->
+<!-- made by tools/gate/numbers.py --write from docs/numbers.tsv and python/ducatmuffin/rules.py -->
 
 Every number that a command or a function gives: what it means, its rule, where the rule comes from, which jobs give it, and an example that gives it.
 `ducat rule NUMBER` prints the same, and the tests run every example.
@@ -162,7 +164,7 @@ def of_rules(write):
         return ["python/ducatmuffin/rules.py: its numbers are not those of docs/numbers.tsv"]
     if write:
         PAGE.write_text(page(rows))
-    faults = [] if PAGE.exists() and PAGE.read_text() == page(rows) else ["docs/RULES.md is not what the lists give (tools/numbers.py --write makes it)"]
+    faults = [] if PAGE.exists() and PAGE.read_text() == page(rows) else ["docs/RULES.md is not what the lists give (tools/gate/numbers.py --write makes it)"]
     for number, (_, source) in rules.RULES.items():
         if source.line and PUBLISHED.exists() and source.words not in (PUBLISHED / source.file).read_text().splitlines()[source.line - 1]:
             faults.append(f"python/ducatmuffin/rules.py: {number}: line {source.line} of {source.file} does not have: {source.words}")
