@@ -22,7 +22,7 @@
  * `out`, twelve words
  *   accepted      as described at each function
  *   3, 4          out[0] the node
- *   1, 2, 5, 6, 7 nothing; nor for 64, 70 to 75, 90, 91, 97 and 98
+ *   1, 2, 5, 6, 7 nothing; the same for 64, 70 to 75, 90, 91, 97 and 98
  *   76            nothing; starlark_figures puts the position of the refused file into out[0] and out[1], whatever the number
  *   62, 63        as described at starlark_fstring_write and starlark_fstring_read; 62 is a notice, not a refusal
  *   95, 96        out[0] the book, 0 the zone book, 1 the line book; but 95 of starlark_book_blank nothing

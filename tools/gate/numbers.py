@@ -16,11 +16,11 @@ import sys
 
 from repository import CRATES, ROOT
 
-sys.path.append(str(ROOT / "tools"))
+sys.path[:0] = [str(ROOT / "tools"), str(ROOT / "python")]
 import interfaces  # noqa: E402
 import kinds  # noqa: E402
-from tables import tables  # noqa: E402
 from ducatmuffin import rules  # noqa: E402
+from tables import tables  # noqa: E402
 
 # the numbers, in the order of docs/RULES.md
 GIVEN = [*range(1, 8), *range(10, 20), *range(20, 25), *range(30, 34), *range(40, 46), *range(50, 65), *range(70, 77), *range(80, 85), 90, 91,

@@ -84,6 +84,10 @@ def check(room):
         by_name, by_input = run([*command("tablecheck"), str(place)]), run(command("tablecheck"), input=data)
         must(f"tablecheck, {words}, by name", (by_name.stdout, by_name.stderr) == (expected.encode(), b""), by_name.stdout[:200])
         must(f"tablecheck, {words}, from standard input", by_input.stdout == expected.encode(), by_input.stdout[:200])
+    place.write_bytes(file_of("dialect: 110000010\n(If (Int) (Statements ^2097<(Load)>))\n"))
+    printed = run([*command("tablecheck"), str(place)]).stdout.decode().splitlines()
+    must("tablecheck, a list of thousands: the number of its lines", len(printed) == 1 + 4194 + 1, len(printed))
+    must("tablecheck, a list of thousands: its last lines", printed[-2:] == ["59 1 2099 2100", "errors 4194"], printed[-2:])
     gone = run([*command("tablecheck"), "no such file"])
     must("tablecheck, no file", gone.stdout == b"" and b"No such file" in gone.stderr, gone)
 

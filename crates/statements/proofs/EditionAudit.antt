@@ -1,7 +1,7 @@
 -- W-212, PATHS THAT END IN TYPE: THE AUDIT
 --
--- Theorems of crate `audit` over its list of errors by the two editions. That a list has no 44 is an arrow over its
--- numbers; 0 stands for what is behind the end of the list. Each is proved by citing the theorem. Assumes nothing.
+-- Theorems of the crate `audit` about its list of errors in the two editions. That a list has no 44 is an arrow over
+-- its numbers; 0 is read past the end of the list. Each statement is proved by citing the theorem. Assumes nothing.
 use mathlib.Core.Path.{_≡_}
 use mathlib.Core.List.{List, [], _∷_, map}
 use Prim.Native.Nat.{ℕ, suc}
@@ -20,29 +20,29 @@ no-bans [] h = tt
 no-bans (e ∷ es) h = (h 0, no-bans es (λ i. h (suc i)))
 
 -- "so 44 isn't given", and nothing else changes: the audit's errors
--- In words: where the audit's list by edition 1 has no 44, the list by edition 2 is the same.
+-- In words: if the audit's list in edition 1 has no 44, the list in edition 2 is the same.
 pub same-errors : (t names bytes : List ℕ)
     → ((i : ℕ) → getD (map (λ (e : Err). e .number) (allErrors t names bytes 1)) i 0 ≡ dotTypeBan → ⊥)
     → allErrors t names bytes 2 ≡ allErrors t names bytes 1
 same-errors t names bytes free = theorem.list-same t names bytes (no-bans (allErrors t names bytes 1) free)
 
 -- the audit's answer
--- In words: where the audit's list by edition 1 has no 44, the answer by edition 2 is the same.
+-- In words: if the audit's list in edition 1 has no 44, the answer in edition 2 is the same.
 pub same-total : (t names bytes : List ℕ)
     → ((i : ℕ) → getD (map (λ (e : Err). e .number) (allErrors t names bytes 1)) i 0 ≡ dotTypeBan → ⊥)
     → auditOf t names bytes 2 ≡ auditOf t names bytes 1
 same-total t names bytes free = theorem.job-same t names bytes (no-bans (allErrors t names bytes 1) free)
 
 -- the words that the audit leaves
--- In words: where the audit's list by edition 1 has no 44, the words at exit are the same by edition 2.
+-- In words: if the audit's list in edition 1 has no 44, the words at exit are the same in edition 2.
 pub same-words : (t names bytes words : List ℕ)
     → ((i : ℕ) → getD (map (λ (e : Err). e .number) (allErrors t names bytes 1)) i 0 ≡ dotTypeBan → ⊥)
     → auditAfter t names bytes 2 words ≡ auditAfter t names bytes 1 words
 same-words t names bytes words free =
     theorem.words-same t names bytes (no-bans (allErrors t names bytes 1) free) words
 
--- the same of bytes that nobody has checked
--- In words: of any bytes, in any dialect, a list of the audit's pass by edition 1 without 44 is that by edition 2.
+-- the same for bytes that are not checked first
+-- In words: for any bytes, in any dialect, a list of the audit's pass in edition 1 without 44 is the list in edition 2.
 pub same-pass : (d : Dialect) (names t : List ℕ)
     → ((i : ℕ) → getD (map (λ (e : Err). e .number) (auditErrors d One names t)) i 0 ≡ dotTypeBan → ⊥)
     → auditErrors d Two names t ≡ auditErrors d One names t

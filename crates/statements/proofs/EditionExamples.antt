@@ -1,6 +1,7 @@
 -- W-212, PATHS THAT END IN TYPE: AN EXAMPLE
 --
--- The statement `t: t.type = 1` of crate `examples` as a table, whose type is node 2, by each number. Assumes nothing.
+-- The statement `t: t.type = 1` of the crate `examples` as a table, whose type is node 2, with each number. Assumes
+-- nothing.
 use mathlib.Core.Path.{_≡_}
 use mathlib.Core.List.{[], _∷_}
 use Rattle.table.specs.Numbers.{badDialect, dotTypeBan}
@@ -20,11 +21,11 @@ pub second-reads : typeShapeOf typedPath typeName [] 2 2 2 ≡ accepted []
 second-reads = theorem.second-reads
 
 -- 0 as an edition
--- In words: 0 is no edition, and the answer is 5.
+-- In words: 0 is not an edition, and the answer is 5.
 pub zero-is-none : typeShapeOf typedPath typeName [] 0 2 2 ≡ refused badDialect []
 zero-is-none = theorem.zero-is-none
 
 -- 3 as an edition
--- In words: 3 is no edition, and the answer is 5.
+-- In words: 3 is not an edition, and the answer is 5.
 pub three-is-none : typeShapeOf typedPath typeName [] 3 2 2 ≡ refused badDialect []
 three-is-none = theorem.three-is-none

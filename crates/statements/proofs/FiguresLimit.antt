@@ -1,7 +1,7 @@
 -- W-214, THE LINE'S FIGURES: NO FILE AFTER 4,294,967,295 FILES
 --
--- The theorem of crate `figures` on 76: `stepOf` and `figuresAfter` are what `figures::step` answers and leaves in the
--- counters. It is proved by citing the theorem. Assumes nothing.
+-- The theorem of the crate `figures` about 76: `stepOf` and `figuresAfter` are what `figures::step` answers and leaves
+-- in the counters. Assumes nothing.
 use mathlib.Core.Path.{_≡_}
 use mathlib.Core.List.{List}
 use Prim.Native.Nat.{ℕ, _≤_}
