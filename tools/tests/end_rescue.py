@@ -84,7 +84,7 @@ def main(words):
             return 1
         for number in range(int(words[0])):
             rounds.run(room, number, longest)
-    print(f"end_rescue: ended {words[0]} times: OUT was the old file {rounds.old} times, the new one {rounds.new} times; the new one stood "
+    print(f"end_rescue: ended {words[0]} times: OUT was the old file {rounds.old} times, the new one {rounds.new} times; the new one was "
           f"beside it {rounds.beside} times, not yet whole {rounds.parts} times; {rounds.looks} looks meanwhile")
     if not rounds.beside or not rounds.new:
         print("end_rescue: the rounds show nothing: none was ended with the new file beside OUT, or none after")
