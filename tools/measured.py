@@ -1,8 +1,8 @@
 #!/usr/bin/env python3
-"""Writes what was measured into docs/measured, so that no number there is copied by hand.
+"""Writes measurements into docs/measured, so that no number there is copied by hand.
 
-A document holds sections between the lines '<!-- measured: NAME -->' and '<!-- end -->'; what stands between them is this tool's. Each section
-says when it was measured, on what machine, and at which commit.
+A document has sections between the lines '<!-- measured: NAME -->' and '<!-- end -->', which this tool writes. Each section
+states when it was measured, on which machine, and at which commit.
 
 measured.py gate LOG       from the log of ./test (target/test.log): its steps, and its crates one by one
 measured.py quick LOG      from the output of oracle/compare: the jobs of each family
@@ -43,7 +43,7 @@ def gate(log):
     tried = {}
     for crate in re.findall(r"^rt: must-fail (\w+)/\w+: refused", log, re.M):
         tried[crate] = tried.get(crate, 0) + 1
-    tries = log.partition("test: wrong:")[0]  # behind it the tool tries itself with bad edits
+    tries = log.partition("test: wrong:")[0]  # after it the tool tries itself with bad edits
     wrong = {crate: rest for crate, *rest in re.findall(r"^wrong (\w+): (\d+) edits in (\d+) checks, (\d+) s$", tries, re.M)}
     rows = [(f"`{c}`", checks.get(c, ""), tried.get(c, 0), *wrong.get(c, ("0", "0", "0"))) for c in repository.crates()]
     sums = ["all", *(sum(int(row[i] or 0) for row in rows) for i in range(1, 6))]
@@ -53,7 +53,7 @@ def gate(log):
 
 
 def families(log):
-    """The families of oracle/compare: six columns of numbers behind each name."""
+    """The families of oracle/compare: six columns of numbers after each name."""
     rows = re.findall(r"^(.+?) +" + r" +".join([r"(\d+)"] * 6) + "$", log, re.M)
     head = ["family", "jobs", "judged by the crate", "by the model alone", "refused with 1 to 7", "other comparisons", "differ"]
     last = re.findall(r"^compare: (.*)$", log, re.M)[-1]
