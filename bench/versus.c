@@ -1,8 +1,9 @@
-/* versus ROUNDS all|each LIBRARY... -- FILE...: times the same jobs of several shared libraries on the same table files in one process.
+/* versus ROUNDS turn|again|each LIBRARY... -- FILE...: times the same jobs of several shared libraries on the same table files in one process.
  * The jobs: the table check, the module pass and the audit in Extended, a file to its errors. In a round every library does a job on each file once,
  * so that no table is in turn twice; the libraries take turns. For each file the least time of all rounds counts, so that other work on the machine
- * matters little. Given are nanoseconds a node, and behind them the ratio to the first library. `all` is a row for each job, the sum over all files
- * by the sum of their nodes; `each` a row for each file. All libraries must answer alike, else it ends with 1. */
+ * matters little. Given are nanoseconds a node, and behind them the ratio to the first library. `turn` is a row for each job, the sum over all files
+ * by the sum of their nodes; `again` the same, but a file is done four times before it is timed, as a benchmark of one table does; `each` is a row
+ * for each file by itself. All libraries must answer alike, else it ends with 1. */
 #define _GNU_SOURCE
 #include <dlfcn.h>
 #include <stdio.h>
@@ -32,6 +33,7 @@ struct input {
 static struct library libraries[MOST_LIBRARIES];
 static struct input inputs[MOST_FILES];
 static size_t library_count, input_count;
+static int before; /* how often a file is done before it is timed */
 static uint32_t errors[STARLARK_AUDIT_WORDS * STARLARK_AUDIT_ERRORS], out[STARLARK_WORDS];
 
 static void fail(const char *what, const char *of) {
@@ -122,6 +124,8 @@ static void row(const char *name, int job, size_t first, size_t end, int rounds)
     for (int round = 0; round < rounds; round++)
         for (size_t l = 0; l < library_count; l++)
             for (size_t i = first; i < end; i++) {
+                for (int again = 0; again < before; again++)
+                    run(&libraries[l], &inputs[i], job);
                 double began = now();
                 run(&libraries[l], &inputs[i], job);
                 double took = now() - began;
@@ -148,11 +152,16 @@ int main(int argc, char **argv) {
             open_library(argv[at]);
     for (at++; at < argc && input_count < MOST_FILES; at++)
         read_file(argv[at]);
-    for (size_t i = 0; i < (strcmp(argv[2], "each") ? 1 : input_count); i++)
+    int each = !strcmp(argv[2], "each");
+    before = strcmp(argv[2], "again") ? 0 : 4;
+    for (size_t i = 0; i < (each ? input_count : 1); i++) {
+        char name[80];
+        const char *slash = strrchr(inputs[i].path, '/');
+        snprintf(name, sizeof name, "%s", each ? slash ? slash + 1 : inputs[i].path : before ? "corpus, each repeated" : "corpus, each in turn");
+        if (each && strrchr(name, '.'))
+            *strrchr(name, '.') = 0;
         for (int job = 0; job < JOBS; job++)
-            if (strcmp(argv[2], "each"))
-                row("all", job, 0, input_count, atoi(argv[1]));
-            else
-                row(strrchr(inputs[i].path, '/') ? strrchr(inputs[i].path, '/') + 1 : inputs[i].path, job, i, i + 1, atoi(argv[1]));
+            row(name, job, each ? i : 0, each ? i + 1 : input_count, atoi(argv[1]));
+    }
     return 0;
 }

@@ -93,7 +93,7 @@ STEPS = [
     Step("imports", "no file imports what it does not use", python("tools/imports.py")),
     Step("lines", "no line is longer than allowed, and no `.before` chain", python("tools/lines.py")),
     Step("try-lines", "a long line and a long chain are reported", python("tools/lines.py", "--try")),
-    Step("flake8", "flake8 finds no fault in the Python files", ("flake8", "--config", "tools/flake8.ini", ".", "ducat", "bench/command", "oracle/faults-port"), ("flake8",)),
+    Step("flake8", "flake8 finds no fault in the Python files", ("flake8", "--config", "tools/flake8.ini", ".", "ducat", "bench/command", "bench/corpus", "oracle/faults-port"), ("flake8",)),
     # rt ci is the verdict. It waits for all of a batch before it starts the next, so batches of four keep two processors busier.
     Step(
         "proofs",

@@ -9,6 +9,8 @@ measured.py quick LOG      from the output of oracle/compare: the jobs of each f
 measured.py long LOG       from the output of oracle/compare --long
 measured.py faults LOG     from the output of oracle/faults-port: each planted fault and where it showed
 measured.py jobs LOG       from the output of bench/run: its tables as they stand
+measured.py corpus LOG     from the output of bench/run --corpus
+measured.py versus LOG     from the output of bench/versus
 measured.py stack LOG      from the log of ./test or the output of bindings/run: the stack that each job needs
 measured.py sizes          lines and characters of code, definitions and proofs, crate by crate; reads the crates themselves
 """
@@ -21,7 +23,8 @@ import sys
 
 import repository
 
-PLACES = {"gate": "GATE", "quick": "COMPARISON", "long": "COMPARISON", "faults": "FAULTS", "jobs": "BENCHMARKS", "stack": "STACK", "sizes": "SIZES"}
+PLACES = {"gate": "GATE", "quick": "COMPARISON", "long": "COMPARISON", "faults": "FAULTS", "jobs": "BENCHMARKS", "corpus": "BENCHMARKS",
+          "versus": "BENCHMARKS", "stack": "STACK", "sizes": "SIZES"}
 
 
 def table(head, rows):
@@ -77,6 +80,11 @@ def jobs(log):
     return log[log.index("|"):].strip() if "|" in log else log.strip()
 
 
+def whole(log):
+    """What a benchmark prints, as it stands."""
+    return log.strip()
+
+
 def sizes(_):
     """Lines without blank ones and comments, and all characters of the files, of code, definitions and proofs."""
     rows, sums = [], [0] * 6
@@ -110,7 +118,8 @@ def main(words):
     if not words or words[0] not in PLACES or len(words) != (1 if words[0] == "sizes" else 2):
         sys.exit(__doc__)
     log = open(words[1], encoding="utf-8").read() if words[1:] else ""
-    write(words[0], {"gate": gate, "quick": families, "long": families, "faults": faults, "jobs": jobs, "stack": stack, "sizes": sizes}[words[0]](log))
+    write(words[0], {"gate": gate, "quick": families, "long": families, "faults": faults, "jobs": jobs, "corpus": whole, "versus": whole,
+                     "stack": stack, "sizes": sizes}[words[0]](log))
 
 
 if __name__ == "__main__":
