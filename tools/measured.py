@@ -8,6 +8,8 @@ measured.py gate LOG       from the log of ./test (target/test.log): its steps, 
 measured.py quick LOG      from the output of oracle/compare: the jobs of each family
 measured.py long LOG       from the output of oracle/compare --long
 measured.py jobs LOG       from the output of bench/run: its tables as they stand
+measured.py corpus LOG     from the output of bench/run --corpus
+measured.py versus LOG     from the output of bench/versus
 measured.py stack LOG      from the log of ./test or the output of bindings/run: the stack that each job needs
 measured.py sizes          lines and characters of code, definitions and proofs, crate by crate; reads the crates themselves
 
@@ -24,7 +26,8 @@ import sys
 sys.path.append(str(pathlib.Path(__file__).resolve().parent / "gate"))
 import repository  # noqa: E402
 
-PLACES = {"gate": "GATE", "quick": "COMPARISON", "long": "COMPARISON", "faults": "FAULTS", "steps": "FAULTS", "jobs": "BENCHMARKS", "stack": "STACK", "sizes": "SIZES"}
+PLACES = {"gate": "GATE", "quick": "COMPARISON", "long": "COMPARISON", "faults": "FAULTS", "steps": "FAULTS", "jobs": "BENCHMARKS", "corpus": "BENCHMARKS",
+          "versus": "BENCHMARKS", "stack": "STACK", "sizes": "SIZES"}
 
 
 def table(head, rows):
@@ -71,6 +74,11 @@ def jobs(log):
     return log[log.index("|"):].strip() if "|" in log else log.strip()
 
 
+def whole(log):
+    """What a benchmark prints, as it stands."""
+    return log.strip()
+
+
 def sizes(_):
     """Lines without blank ones and comments, and all characters of the files, of code, definitions and proofs."""
     rows, sums = [], [0] * 6
@@ -101,7 +109,7 @@ def write(name, text):
 
 
 def main(words):
-    makers = {"gate": gate, "quick": families, "long": families, "jobs": jobs, "stack": stack, "sizes": sizes}
+    makers = {"gate": gate, "quick": families, "long": families, "jobs": jobs, "corpus": whole, "versus": whole, "stack": stack, "sizes": sizes}
     if not words or words[0] not in makers or len(words) != (1 if words[0] == "sizes" else 2):
         sys.exit(__doc__)
     log = open(words[1], encoding="utf-8").read() if words[1:] else ""

@@ -97,7 +97,7 @@ STEPS = [
     Step("imports", "no file has an unused import", python("tools/gate/imports.py")),
     Step("lines", "line length and `.before` chains are within their limits", python("tools/gate/lines.py")),
     Step("try-lines", "lines.py reports a long line and a long chain", python("tools/gate/lines.py", "--try")),
-    Step("flake8", "flake8 finds no fault in the Python files", ("flake8", "--config", "tools/gate/flake8.ini", ".", "ducat", "bench/command", "oracle/faults-port"), ("flake8",)),
+    Step("flake8", "flake8 finds no fault in the Python files", ("flake8", "--config", "tools/gate/flake8.ini", ".", "ducat", "bench/command", "bench/corpus", "oracle/faults-port"), ("flake8",)),
     # rt ci is the verdict. It waits for all of a batch before it starts the next, so batches of four keep two processors busier.
     Step(
         "proofs",
