@@ -236,7 +236,8 @@ module _ (flat : ℕ) (d : DefParamIndices) (fs : List FlatParam)
 
   -- where the first argument does not fill it, the rest decides
   origin-behind : (k : ℕ) (ws : List ℕ) (a : Argument) (qs : List Argument) (us : List ℕ) (s : Step k ws a qs us)
-      (i : ℕ) → i < flat → (reaches d fs k a ≡ Fills i → ⊥) → Origin (k + 1) (s .words) qs us i → Origin k ws (a ∷ qs) us i
+      (i : ℕ) → i < flat → (reaches d fs k a ≡ Fills i → ⊥) → Origin (k + 1) (s .words) qs us i
+      → Origin k ws (a ∷ qs) us i
   origin-behind k ws a qs us s i h n (inl x) =
       inl (x ∙ took-other (flat + k) a ws (s .words) (reaches d fs k a) i (s .turned) (λ m. absurd (omega arith)) n)
   origin-behind k ws a qs us s i h n (inr x) =
