@@ -132,6 +132,17 @@ module _ (flat : ℕ) (d : DefParamIndices) (fs : List FlatParam)
       before = inl (x .full);
     }
 
+    stopped-here : (n : ℕ) (vs : List ℕ) → Halts (reaches d fs k a) a ws n → vs ≡ spanned (nodeIn a)
+        → Stopped d fs k ws (a ∷ qs) n vs
+    stopped-here n vs h v = record {
+      number = 0;
+      argument = a;
+      there = refl;
+      why = stops-here n h;
+      carries = v;
+      before = λ j b l at x. absurd (omega arith);
+    }
+
     -- or goes on with the words us
     module _ (us : List ℕ) (t : turn (flat + k) (reaches d fs k a) (kindIn a) (nodeIn a) ws ≡ accepted us) where
       -- a word that its turn does not write was there before
@@ -193,6 +204,16 @@ module _ (flat : ℕ) (d : DefParamIndices) (fs : List FlatParam)
           rw mine at (took (flat + k) (reaches d fs k a) a ws us t)
       passed m rest (suc j) b h at x = rest j b (omega arith) at (rw (next j) x)
 
+      stopped-later : (n : ℕ) (vs : List ℕ) → Stopped d fs (k + 1) us qs n vs → Stopped d fs k ws (a ∷ qs) n vs
+      stopped-later n vs s = record {
+        number = suc (s .number);
+        argument = s .argument;
+        there = s .there;
+        why = later n (s .number) (s .argument) (s .why);
+        carries = s .carries;
+        before = passed (s .number) (s .before);
+      }
+
   -- LAW: a refused walk stops at an argument, for one of the two reasons
   pub stop-at : (k : ℕ) (ws : List ℕ) (qs : List Argument) (n : ℕ) (vs : List ℕ)
       → along flat d fs k ws qs ≡ refused n vs → Stopped d fs k ws qs n vs
@@ -205,22 +226,9 @@ module _ (flat : ℕ) (d : DefParamIndices) (fs : List FlatParam)
           → andWith y (λ us. along flat d fs (k + 1) us qs) ≡ refused n vs
           → ((us : List ℕ) → along flat d fs (k + 1) us qs ≡ refused n vs → Stopped d fs (k + 1) us qs n vs)
           → Stopped d fs k ws (a ∷ qs) n vs
-      go (refused m us) t e rest = let s = turn-stops (flat + k) (reaches d fs k a) a ws (t ∙ e) in record {
-        number = 0;
-        argument = a;
-        there = refl;
-        why = stops-here k ws a qs n (s .0);
-        carries = s .1;
-        before = λ j b h at x. absurd (omega arith);
-      }
-      go (accepted us) t e rest = let s = rest us e in record {
-        number = suc (s .number);
-        argument = s .argument;
-        there = s .there;
-        why = later k ws a qs us t n (s .number) (s .argument) (s .why);
-        carries = s .carries;
-        before = passed k ws a qs us t (s .number) (s .before);
-      }
+      go (refused m us) t e rest = let s = turn-stops (flat + k) (reaches d fs k a) a ws (t ∙ e) in
+          stopped-here k ws a qs n vs (s .0) (s .1)
+      go (accepted us) t e rest = stopped-later k ws a qs us t n vs (rest us e)
 
 -- a star fills nothing
 pub stars : (d : DefParamIndices) (fs : List FlatParam) (k i : ℕ) (r : Node) → reaches d fs k (args r) ≡ Fills i → ⊥
