@@ -15,13 +15,13 @@ PATH = re.compile(r"^[\w./+-]+\.(?:antt|rt|py|txt|tsv|md|h|c|rs|list|sha256)$")
 
 
 def found(path, folder):
-    """The file that a document means: as it stands, under crates/, or beside the file that was named before."""
+    """The file that a document names: from the root, under crates/, or beside the file that was named before."""
     places = [repository.ROOT / path, repository.CRATES / path] + ([folder / path] if folder else [])
     return next((place for place in places if place.exists()), None)
 
 
 def cited(text):
-    """The citations of a line: each path with the names behind it. A colon starts the names, anything but a comma or 'and' ends them."""
+    """The citations of a line: each path with the names after it. A colon starts the names, anything but a comma or 'and' ends them."""
     path, names, last = None, [], 0
     for match in re.finditer(r"`([^`]+)`", text):
         between, word = text[last:match.start()], match.group(1)

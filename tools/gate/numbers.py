@@ -83,7 +83,7 @@ def of_numbers():
     faults += differing("crates/table/specs/Numbers.antt", definitions, said_of("table/specs/Numbers.antt", r"^(\w+) = (\d+)$"))
     given = given_by_jobs()
     if given.pop("version", None):
-        faults.append("include/starlark.h: starlark_version gives a number, and it is no job")
+        faults.append("include/starlark.h: starlark_version gives a number, but it is not a job")
     if sorted(given) != sorted(JOBS):
         return [*faults, f"include/starlark.h: its jobs are not those of docs/numbers.tsv: {sorted(given)}"], 0
     for number, _, _, by in rows:

@@ -92,7 +92,7 @@ def listed():
 
 
 def checked(chosen):
-    """Each fault applies, and has a step of the gate; no name stands twice."""
+    """Each fault applies, and has a step of the gate; no name is listed twice."""
     FAULTS.clear()
     names, steps = [one.name for one in listed()], {step.name for step in gate.STEPS}
     for one in chosen:
@@ -102,7 +102,7 @@ def checked(chosen):
         if one.step.partition(" ")[0] not in steps:
             FAULTS.append(fault(f"{one.name}: there is no step {one.step}"))
         if names.count(one.name) > 1:
-            FAULTS.append(fault(f"{one.name} stands twice"))
+            FAULTS.append(fault(f"{one.name} is listed twice"))
     if not chosen:
         FAULTS.append(fault("the list is empty"))
     print("\n".join(f"faults.list: {words}" for words in FAULTS) or f"faults.py: {len(chosen)} faults can be planted")

@@ -1,8 +1,8 @@
 #!/usr/bin/env python3
 """Tries tools/gate/promises.py itself: plants faults in a copy of the texts that it reads, one at a time, and demands that each is told.
 
-A planted fault counts as told where promises.py fails and says a line that it did not say of the copy as it was, with the words that are
-expected. The last line is 'N planted faults told, M not'; status 0 where M is 0.
+A planted fault counts as reported if promises.py fails and prints a line that it did not print for the unchanged copy, with the words that are
+expected. The last line is 'N planted faults reported, M not'; status 0 where M is 0.
 """
 import pathlib
 import re
@@ -20,7 +20,7 @@ CLAUSE = r"    ensures .*?⌝ \}\n"  # an 'ensures', on one line or several
 
 
 class Unplanted(Exception):
-    """A fault that has no place in the sources as they stand."""
+    """A fault that has no place in the current sources."""
 
 
 def changed(file, old, new):
@@ -61,7 +61,7 @@ def deleted(crate, keep):
 
 
 def edited(crate, file, old, new):
-    """A plant: a wrong answer more, whose text must stand in the crate's file."""
+    """A plant: another wrong answer, whose text must be in the crate's file."""
     def plant(copy):
         if old not in (copy / "crates" / crate / file).read_text():
             raise Unplanted(f"{crate}/{file} has no such text")
@@ -86,7 +86,7 @@ def without_ensures(file, function):
 
 
 def moved_edits(crate, function, file, old, new):
-    """A plant: every wrong answer in a function's body stands in a function that it calls."""
+    """A plant: every wrong answer in a function's body is moved into a function that it calls."""
     def plant(copy):
         of_crate = promises.Crate(crate)
         labels = of_crate.own_edits(next(f for f in of_crate.public if f.path == function))
@@ -110,7 +110,7 @@ def theorems(crate):
 NO_SHAPES_PROMISE = changed(source("shapes"), r"^    ensures (?:(?!⌝ \}).)*shapes \.exit.*?⌝ \}\n", "")
 MADE_UP = "fn made_up(n: u32) -> u32 {\n    n\n}\n"
 
-# the words of a fault, its plant, and a pattern of the line that must tell it
+# the words of a fault, its plant, and a pattern of the line that must report it
 PLANTED = [
     ("every 'ensures' of starlark_assignment deleted",
      without_ensures(source("starlark_checks"), "starlark_assignment"),
@@ -177,25 +177,25 @@ PLANTED = [
      "docs/PROMISES.md lacks a line that the sources give"),
     ("the wrong answers of a function moved to one that it calls",
      moved_edits("table", "check", "src/depth.rt", "if MOST_DEPTH < here {", "if 65 < here {"),
-     "table::check: no wrong answer .* stands in its body"),
+     "table::check: no wrong answer .* is in its body"),
     ("a wrong answer in a contract",
      created("crates/fields/wrong/planted.edit", "file: src/lib.rt\nold: r ≡ field 2 (\nnew: r ≡ field 4 (\n"),
-     "fields: a text that the wrong answer planted changes stands in no function's body"),
+     "fields: a text that the wrong answer planted changes is in no function's body"),
     ("the wrong answers of a crate without code deleted but for one",
      deleted("audited", 1),
      "audited: it has no code, and fewer than two wrong answers"),
     ("a wrong answer of a crate without code in a comment",
      edited("demand3", "specs/Cut.antt", "-- the parts joined", "-- the parts"),
-     "demand3: a text that the wrong answer planted changes stands in no definition"),
+     "demand3: a text that the wrong answer planted changes is in no definition"),
     ("a wrong answer of a crate without code in an import",
      edited("demand3", "specs/Cut.antt", "use mathlib.Core.Path.{_≡_", "use mathlib.Core.Path.{refl, _≡_"),
-     "demand3: a text that the wrong answer planted changes stands in no definition"),
+     "demand3: a text that the wrong answer planted changes is in no definition"),
     ("a wrong answer of a crate without code in a theorem",
      edited("demand3", "proofs/Demand3.antt", "holders (cutRanges c) i ≡ 1", "holders (cutRanges c) i ≡ 2"),
-     "demand3: a text that the wrong answer planted changes stands in no definition"),
+     "demand3: a text that the wrong answer planted changes is in no definition"),
     ("a wrong answer of `statements` in a proof",
      edited("statements", "proofs/Examples.antt", "how-many = theorem.how-many", "how-many = theorem.examples"),
-     "statements: a text that the wrong answer planted changes stands in no definition"),
+     "statements: a text that the wrong answer planted changes is in no definition"),
     ("a wrong answer of `statements` not in the document",
      edited("statements", "proofs/Examples.antt", "pub how-many : length table ≡ 14", "pub how-many : length table ≡ 13"),
      "docs/PROMISES.md lacks a line that the sources give .*planted"),
@@ -234,7 +234,7 @@ def main():
                 status, lines = told(copy)
                 good = status == 1 and any(re.search(expected, line) for line in lines if line not in before)
                 right += good
-                print(f"planted: {words}: {'told' if good else 'NOT TOLD'}")
+                print(f"planted: {words}: {'reported' if good else 'NOT REPORTED'}")
             except (Unplanted, TypeError, StopIteration, FileNotFoundError) as none:
                 planted = []
                 print(f"planted: {words}: COULD NOT BE PLANTED: {none}")
@@ -244,7 +244,7 @@ def main():
                     shutil.copyfile(original, copy / file)
                 else:
                     (copy / file).unlink()
-    print(f"{right} planted faults told, {len(PLANTED) - right} not")
+    print(f"{right} planted faults reported, {len(PLANTED) - right} not")
     return 0 if right == len(PLANTED) else 1
 
 

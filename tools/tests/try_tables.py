@@ -12,7 +12,7 @@ sys.path.append(str(pathlib.Path(__file__).resolve().parent.with_name("gate")))
 from repository import ROOT  # noqa: E402
 
 TOOL = str(ROOT / "tools" / "tables.py")
-# lines of cases: what is made, a way of making it, and what is said
+# lines of cases: what is made, how, and the message
 CASES = [
     ("cases", "a name | check | (Break x)", None), ("cases", "none | check | (Identifier)", None), ("cases", "detail | check | (Break:255)", None),
     ("cases", "spans | check | (Break span=9-4)", None), ("cases", "nothing | check", None),
@@ -21,18 +21,18 @@ CASES = [
     ("cases", "a | check | (Break pad=1)", ":1: Break: there is no field pad"),
     ("cases", "# heading\n\na | chek | (Break)", ":3: no job is called chek"),
     ("cases", "# heading\na | check colour | (Break)", ":2: no wish is called colour"),
-    ("cases", "a | check names=x | (Break)", ":1: x is not a number"), ("cases", "a", ":1: a case is: label | what is asked | tree"),
-    ("cases", "a | check | (Break) | b", ":1: a case is: label | what is asked | tree"),
+    ("cases", "a | check names=x | (Break)", ":1: x is not a number"), ("cases", "a", ":1: a case is: label | request | tree"),
+    ("cases", "a | check | (Break) | b", ":1: a case is: label | request | tree"),
     ("cases", "a | check bits=12x | (Break)", ":1: 12x is not made of digits"),
     ("cases", "# heading\na | check | (Brake)", ":2: no kind is called Brake"),
     ("filecases", "a name | | (Break x)", None), ("filecases", "a | cut=3", ":1: a case is: label | what is done to the file | tree"),
     ("filecases", "# heading\na | byte=1 | (Break)", ":2: 1 is not 2 numbers"),
     ("filecases", "a | colour=1 | (Break)", ":1: there is no colour to be done to a file"),
     ("filecases", "a | byte=1024:1 | (Break)", ":1: 1024 is more than 1023")]
-# other words, and how what is said begins
+# other words, and how the message begins
 OTHERS = [
     (("file", "no.txt", "out"), "no.txt: "), (("file", ".", "out"), ".: "), (("cases", "/dev/null", "no/out"), "no/out: "),
-    (("file", "t.txt"), "Data of the gate's programs"), (("filecases", "t.txt", "other", "--check"), "other: is NOT what comes of t.txt")]
+    (("file", "t.txt"), "Makes the data of the gate's programs"), (("filecases", "t.txt", "other", "--check"), "other: is NOT what comes of t.txt")]
 
 
 def run(words, room):

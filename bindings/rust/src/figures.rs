@@ -1,4 +1,4 @@
-//! Figures: counts over table files that stand one after another in one input.
+//! Figures: counts over the table files of one input, one after another.
 //!
 //! An empty input holds no file. Bytes after a file's last block begin the next file. A file that is refused ends the report: the files before it are
 //! counted, and the report has its number and the position of its first byte.
