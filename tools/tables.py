@@ -29,7 +29,7 @@ from ducatmuffin import table as tables  # noqa: E402
 from ducatmuffin.table import TextError, demand, file_of, table_of, trees  # noqa: E402
 
 JOBS = {"check": 1, "node": 2, "dialect": 3, "call": 4, "params": 5, "target": 6, "assignment": 7, "type": 8, "module": 9, "bind": 10,
-        "audit": 11, "format": 12, "parts": 13}
+        "audit": 11, "format": 12, "parts": 13, "namesakes": 14}
 numbers = tables._numbers
 WANTED = {"parameters": 1, "call": 2, "assignment": 3, "expression": 4}
 

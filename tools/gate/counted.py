@@ -83,6 +83,7 @@ def unwritten(text):
 
 
 def main(words):
+    FAULTS.clear()
     marked = 0
     for document in DOCUMENTS:
         path = ROOT / document

@@ -90,13 +90,14 @@ STEPS = [
         python("tools/tables.py", "cases", "crates/cases/cases.txt", "crates/cases/kinds.txt", "crates/cases/data/cases.bin", "--check"),
     ),
     Step("planted", "every fault for the comparison can be planted in the code", ("oracle/faults-port", "--check")),
+    Step("planted-steps", "every fault for a step of the gate can be planted", python("tools/tests/faults.py", "--check")),
     Step("cited", "every path, link and name that the documents cite exists", python("tools/gate/cited.py")),
     Step("counted", "every count in the documents is written by the tool that counts", python("tools/gate/counted.py")),
     Step("statements", "docs/STATEMENTS.md has the statements of the crate statements, and every theorem that is named is restated", python("tools/gate/statements_page.py", "--check")),
     Step("imports", "no file has an unused import", python("tools/gate/imports.py")),
     Step("lines", "line length and `.before` chains are within their limits", python("tools/gate/lines.py")),
     Step("try-lines", "lines.py reports a long line and a long chain", python("tools/gate/lines.py", "--try")),
-    Step("flake8", "flake8 finds no fault in the Python files", ("flake8", "--config", "tools/gate/flake8.ini", ".", "ducat", "bench/command", "oracle/faults-port"), ("flake8",)),
+    Step("flake8", "flake8 finds no fault in the Python files", ("flake8", "--config", "tools/gate/flake8.ini", ".", "ducat", "bench/command", "bench/corpus", "oracle/faults-port"), ("flake8",)),
     # rt ci is the verdict. It waits for all of a batch before it starts the next, so batches of four keep two processors busier.
     Step(
         "proofs",

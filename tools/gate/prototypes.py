@@ -298,6 +298,7 @@ def fields():
 
 
 def main(_):
+    FAULTS.clear()
     code = of_code()
     if not code:
         report(fault("crates/starlark_checks/src/lib.rt: no function is found"))

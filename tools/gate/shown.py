@@ -55,7 +55,10 @@ def indented(text):
     return re.sub(r"^(?=.)", "    ", text, flags=re.M)
 
 
-def main():
+def main(words):
+    if "--help" in words:
+        print(__doc__.strip())
+        return 0
     faults = []
     readme = (ROOT / FIRST[0]).read_text()
     shown = [FIRST]
@@ -82,4 +85,4 @@ def main():
 
 
 if __name__ == "__main__":
-    sys.exit(main())
+    sys.exit(main(sys.argv[1:]))
