@@ -22,7 +22,9 @@ import threading
 import time
 from typing import NamedTuple, Optional, Tuple
 
-ROOT = pathlib.Path(__file__).resolve().parent.parent
+from reports import fault
+from repository import ROOT
+
 REQUIRED = ROOT / ".ci" / "steps"
 PUBLISHED = ROOT.parent / "shared" / "docs" / "src" / "src" / "lib.rs"
 
@@ -62,14 +64,13 @@ def data(kind, text, made):
 
 STEPS = [
     Step("gate", "the gate reports a step that fails, is lost or skips itself without need", python("tools/try_gate.py")),
+    Step("try-checks", "every check script reports a planted fault for each message that it can give", python("tools/try_checks.py")),
     Step("promises", "every public function has its promise, its theorem and its wrong answer", python("tools/promises.py")),
-    Step("try-promises", "a removed promise is reported", python("tools/try_promises.py")),
     Step("layout", "every file is in the formatter's layout", ("rt", "fmt", "--check")),
     Step("numbers", "the numbers and kinds in documents, code and definitions agree", python("tools/numbers.py")),
     Step("format", "docs/FORMAT.md is true, and its example is the sample", python("tools/format.py")),
     Step("try-native", "native-lib reports what is proved, and makes nothing of what is not", ("tools/try_native",)),
     Step("samples", "the samples are what their texts give", ("sh", "-c", "exec python3 tools/tables.py files samples/*.txt --check")),
-    Step("try-tables", "what is wrong with a line of cases is reported", python("tools/try_tables")),
     Step("tablecheck-data", "tablecheck is run on a sample", data("file", "samples/example.txt", "crates/tablecheck/data/example.table")),
     Step("tablerescue-data", "tablerescue is run on a sample", data("file", "samples/lost.txt", "crates/tablerescue/data/lost.table")),
     Step(
@@ -92,7 +93,6 @@ STEPS = [
     Step("statements", "docs/STATEMENTS.md is what the statements say, and no other theorem is named", python("tools/statements_page.py", "--check")),
     Step("imports", "no file imports what it does not use", python("tools/imports.py")),
     Step("lines", "no line is longer than allowed, and no `.before` chain", python("tools/lines.py")),
-    Step("try-lines", "a long line and a long chain are reported", python("tools/lines.py", "--try")),
     Step("flake8", "flake8 finds no fault in the Python files", ("flake8", "--config", "tools/flake8.ini", ".", "ducat", "bench/command", "oracle/faults-port"), ("flake8",)),
     # rt ci is the verdict. It waits for all of a batch before it starts the next, so batches of four keep two processors busier.
     Step(
@@ -186,11 +186,11 @@ class Gate:
         """A fault for each name that is in one of the two lists alone, and for each that is there twice."""
         listed = [step.name for step in self.steps]
         for name in sorted(set(demanded) - set(listed)):
-            self.fail(f"the step {name} of .ci/steps is not in tools/gate.py")
+            self.fail(fault(f"the step {name} of .ci/steps is not in tools/gate.py"))
         for name in sorted(set(listed) - set(demanded)):
-            self.fail(f"the step {name} of tools/gate.py is not in .ci/steps")
+            self.fail(fault(f"the step {name} of tools/gate.py is not in .ci/steps"))
         for name in sorted({name for name in listed if listed.count(name) > 1}):
-            self.fail(f"the step {name} is in tools/gate.py more than once")
+            self.fail(fault(f"the step {name} is in tools/gate.py more than once"))
 
     def fail(self, text):
         self.failed += 1
@@ -279,7 +279,7 @@ class Gate:
             less = less or int(status != 0 or more == 0)
         self.passed += more
         self.failed += less
-        came = f"{more} passed" if step.counts and not less else "passed" if not less else f"FAILED, status {status}"
+        came = f"{more} passed" if step.counts and not less else "passed" if not less else fault(f"FAILED, status {status}")
         self.say(f"test: {step.name}: {came} ({seconds} s)")
 
     def run(self, step):
@@ -336,7 +336,7 @@ class Gate:
             self.report_beside(room, results)
         for step in self.steps:
             if step.name not in self.ended:
-                self.fail(f"the step {step.name} was not run")
+                self.fail(fault(f"the step {step.name} was not run"))
 
     def run_some(self, names):
         for step in self.steps:
@@ -365,7 +365,7 @@ def main(words):
         return 0
     unknown = [word for word in words if word not in names]
     if unknown:
-        print(f"test: there is no step {unknown[0]}; ./test --list prints the names", file=sys.stderr)
+        print(fault(f"test: there is no step {unknown[0]}; ./test --list prints the names"), file=sys.stderr)
         return 2
     if words:
         gate = Gate(STEPS)

@@ -8,6 +8,7 @@ import re
 import sys
 
 import repository
+from reports import ended, fault
 
 USE = re.compile(r"^((?:pub )?(?:ghost )?use )([^\s{;]+?)(?:\.\{([^}]*)\}|((?: as \S+)?))(;?)\n", re.M)
 COMMENT = {".antt": re.compile(r"--.*"), ".rt": re.compile(r"//.*")}
@@ -53,17 +54,16 @@ def kept(text, suffix):
 
 
 def main(words):
-    faults = 0
+    faults = []
     for path in sorted(p for p in repository.CRATES.rglob("*") if p.suffix in COMMENT):
         text = path.read_text()
         new, gone = kept(text, path.suffix)
         if gone:
-            faults += len(gone)
-            print(f"{path.relative_to(repository.ROOT)}: {', '.join(gone)}")
+            faults.append(fault(f"{path.relative_to(repository.ROOT)} imports and does not use {', '.join(gone)}"))
             if words == ["--write"]:
                 path.write_text(new)
-    print(f"imports.py: {faults} imported names are not used")
-    return 1 if faults and words != ["--write"] else 0
+    status = ended(faults, "imports.py: every imported name is used")
+    return 0 if words == ["--write"] else status
 
 
 if __name__ == "__main__":

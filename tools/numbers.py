@@ -13,6 +13,7 @@ import sys
 
 import interfaces
 import kinds
+from reports import ended, fault
 from repository import CRATES, ROOT
 from tables import tables
 
@@ -39,9 +40,9 @@ def said_of(path, pattern):
     return [(int(number), name) for name, number in re.findall(pattern, (CRATES / path).read_text(), re.M)]
 
 
-def differing(path, wanted, found):
-    """A fault where a file's list is not the wanted one."""
-    return [f"{path} differs: {sorted(set(wanted) ^ set(found)) or 'in its order'}"] if wanted != found else []
+def difference(wanted, found):
+    """In what a list that is not the wanted one differs, in words."""
+    return f"differs: {sorted(set(wanted) ^ set(found)) or 'in its order'}"
 
 
 def ranges(text):
@@ -58,8 +59,6 @@ def given_by_jobs():
         given[job] = set(ranges(", ".join(listed)))
     # a file is checked by the program and by starlark_check_file; the reader refuses with 74 what 1 and 2 would refuse
     given["file"] = given["module"] - {1, 2} | set(range(70, 76))
-    if given.pop("check_file", None) != given["file"]:
-        given["check_file, which does not give what the program does,"] = set()
     return given
 
 
@@ -67,23 +66,28 @@ def of_numbers():
     """The faults of the numbers given back."""
     head, *rows = [line.split("\t") for line in (ROOT / "docs" / "numbers.tsv").read_text().splitlines()]
     if head != HEAD or any(len(row) != len(HEAD) or not row[2].strip() for row in rows):
-        return [f"docs/numbers.tsv: a row is not {', '.join(HEAD)}"], 0
+        return [fault(f"docs/numbers.tsv: a row is not {', '.join(HEAD)}")], 0
     table = [(int(number), name) for number, name, _, _ in rows]
     faults = []
     if [number for number, _ in table] != GIVEN:
-        faults.append("docs/numbers.tsv: its numbers are not those of document 01 in their order")
-    faults += differing("crates/table/src/numbers.rt", table, said_of("table/src/numbers.rt", r"^pub const (\w+): u32 = (\d+);"))
-    definitions = [(number, camel(name)) for number, name in table]
-    faults += differing("crates/table/specs/Numbers.antt", definitions, said_of("table/specs/Numbers.antt", r"^(\w+) = (\d+)$"))
+        faults.append(fault("docs/numbers.tsv: its numbers are not those of document 01 in their order"))
+    code = said_of("table/src/numbers.rt", r"^pub const (\w+): u32 = (\d+);")
+    if code != table:
+        faults.append(fault(f"crates/table/src/numbers.rt {difference(table, code)}"))
+    definitions, specs = [(number, camel(name)) for number, name in table], said_of("table/specs/Numbers.antt", r"^(\w+) = (\d+)$")
+    if specs != definitions:
+        faults.append(fault(f"crates/table/specs/Numbers.antt {difference(definitions, specs)}"))
     given = given_by_jobs()
+    if given.pop("check_file", None) != given["file"]:
+        faults.append(fault("include/starlark.h: starlark_check_file does not give the numbers that the program gives"))
     if given.pop("version", None):
-        faults.append("include/starlark.h: starlark_version gives a number, and it is no job")
+        faults.append(fault("include/starlark.h: starlark_version gives a number, and it is no job"))
     if sorted(given) != sorted(JOBS):
-        return [*faults, f"include/starlark.h: its jobs are not those of docs/numbers.tsv: {sorted(given)}"], 0
+        return [*faults, fault(f"include/starlark.h: its jobs are not those of docs/numbers.tsv: {sorted(given)}")], 0
     for number, _, _, by in rows:
         wanted = ", ".join(job for job in JOBS if int(number) in given[job])
         if by != wanted:
-            faults.append(f"docs/numbers.tsv: {number} is given by '{by}', by the header and document 01 '{wanted}'")
+            faults.append(fault(f"docs/numbers.tsv: {number} is given by '{by}', by the header and document 01 '{wanted}'"))
     return faults, len(table)
 
 
@@ -91,22 +95,26 @@ def of_kinds():
     """The faults of the kinds' numbers."""
     code = said_of("soundness/src/kinds.rt", r"^pub const (\w+): u8 = (\d+);")
     specs = said_of("soundness/specs/KindNumbers.antt", r"^kind(\w+) = (\d+)$")
-    words = [(number, word) for word, number in tables.KIND.items()]
-    faults = differing("crates/soundness/specs/KindNumbers.antt", words, specs)
+    words, faults = [(number, word) for word, number in tables.KIND.items()], []
+    if specs != words:
+        faults.append(fault(f"crates/soundness/specs/KindNumbers.antt {difference(words, specs)}"))
     classes = {number: kind.own for number, kind in kinds.read((kinds.FOLDER / "document01.txt").read_text()).items()}
     table = [tuple(line.split("\t")) for line in (ROOT / "docs" / "kinds.tsv").read_text().splitlines()]
-    faults += differing("docs/kinds.tsv", [("number", "name", "class")] + [(str(n), word, classes[n]) for n, word in words], table)
-    return faults + differing("crates/soundness/src/kinds.rt", words, [(number, capitals(name)) for number, name in code]), len(words)
+    wanted = [("number", "name", "class")] + [(str(n), word, classes[n]) for n, word in words]
+    if table != wanted:
+        faults.append(fault(f"docs/kinds.tsv {difference(wanted, table)}"))
+    in_code = [(number, capitals(name)) for number, name in code]
+    if in_code != words:
+        faults.append(fault(f"crates/soundness/src/kinds.rt {difference(words, in_code)}"))
+    return faults, len(words)
 
 
-def main():
+def main(_):
     (faults, count), (more, known) = of_numbers(), of_kinds()
     faults += more
     faults += [] if faults else interfaces.faults()
-    told = f"docs/numbers.tsv: its {count} numbers, names and jobs, and the {known} kinds, are those of code, definitions, header and wrapper"
-    print("\n".join(faults) or told)
-    return 1 if faults else 0
+    return ended(faults, f"docs/numbers.tsv: its {count} numbers, names and jobs, and the {known} kinds, are those of code, definitions, header and wrapper")
 
 
 if __name__ == "__main__":
-    sys.exit(main())
+    sys.exit(main(sys.argv[1:]))

@@ -9,7 +9,13 @@ import platform
 import re
 import subprocess
 
-ROOT = pathlib.Path(__file__).resolve().parent.parent
+
+def root():
+    """The repository's folder: the one above this file that has crates.txt."""
+    return next(folder for folder in pathlib.Path(__file__).resolve().parents if (folder / "crates.txt").exists())
+
+
+ROOT = root()
 CRATES = ROOT / "crates"
 HEAD = r"(?:pub(?:\(crate\))? )?(?:extern \"C\" )?fn "  # how a function begins
 

@@ -10,11 +10,12 @@ stands a comment: the user's sentence, and from 'In words:' on what the statemen
 the statement as it stands (only its lines are indented by their parentheses), the words, and the theorem that proves it; then where each
 name is defined.
 """
-import pathlib
 import re
 import sys
 
-ROOT = pathlib.Path(__file__).resolve().parent.parent
+from reports import ended, fault
+from repository import ROOT
+
 FOLDER = ROOT / "crates" / "statements" / "proofs"
 PAGE = ROOT / "docs" / "STATEMENTS.md"
 HEAD = """# What is proved, statement by statement
@@ -71,7 +72,7 @@ def page():
                 stop += 1
             cited = re.findall(r"(?<![^\s(])(theorem[^\s.()]*)\.([^\s()]+)", "\n".join(lines[end:stop]))
             if not (sentence and said and cited):
-                wrong.append(f"{name}.{m.group(1)}: no sentence, no words, or no theorem")
+                wrong.append(fault(f"{name}.{m.group(1)}: no sentence, no words, or no theorem"))
             count += 1
             out += [sentence.strip(), "", "```text", *laid(lines[i:end]), "```", "", f"{said[:1].upper() + said[1:]}", ""]
             crate, file = files[cited[0][0]] if cited else ("", "")
@@ -95,7 +96,7 @@ INSTANCES = {"Example.antt"}
 
 
 def unrestated():
-    """The theorems that the documents name to users and no statement cites: (document, name, file). Where the document names the file before
+    """The theorems that the documents name to users and no statement cites. Where the document names the file before
     the theorem, that file's theorem must be restated; else one of that name."""
     restated, public = {}, {}
     for path in FOLDER.glob("*.antt"):
@@ -113,29 +114,22 @@ def unrestated():
             for name in re.findall(r"`([^`\s]+)`", names):
                 seen.add(name)
                 if file in public.get(name, ()) and file not in restated.get(name, ()):
-                    yield document.relative_to(ROOT), name, file
+                    yield fault(f"{document.relative_to(ROOT)} names {name} of {file}, which no statement restates")
         for name in dict.fromkeys(re.findall(r"`([a-z0-9]+(?:-[a-z0-9]+)+)`", text)):
             if name in public and name not in restated and name not in seen and not ONE_ANSWER.fullmatch(name):
-                yield document.relative_to(ROOT), name, min(public[name])
+                yield fault(f"{document.relative_to(ROOT)} names {name} of no file, as {min(public[name])} has it, which no statement restates")
 
 
-def main():
+def main(words):
     text, wrong, count = page()
-    for w in wrong:
-        print(f"statements_page.py: {w}")
-    if "--check" in sys.argv:
-        same = PAGE.exists() and PAGE.read_text() == text
-        if not same:
-            print("statements_page.py: docs/STATEMENTS.md is not what crates/statements says")
-        named = list(unrestated())
-        for document, name, file in named:
-            print(f"statements_page.py: {document} names {name} of {file}, which no statement restates")
-        print(f"statements_page.py: {count} statements, {len(named)} theorems named and not restated")
-        sys.exit(0 if same and not wrong and not named else 1)
-    PAGE.write_text(text)
-    print(f"statements_page.py: {count} statements")
-    sys.exit(1 if wrong else 0)
+    if words == ["--check"]:
+        if not PAGE.exists() or PAGE.read_text() != text:
+            wrong.append(fault("docs/STATEMENTS.md is not what crates/statements says"))
+        wrong += unrestated()
+    else:
+        PAGE.write_text(text)
+    return ended(wrong, f"statements_page.py: {count} statements, and every theorem that the documents name is restated", "statements_page.py: ")
 
 
 if __name__ == "__main__":
-    main()
+    sys.exit(main(sys.argv[1:]))
