@@ -467,9 +467,20 @@ IN_PROMISES = [
             "docs/PROMISES.md lacks a line that the sources give .*planted"),
 ]
 
+LIST = "oracle/port-faults.list"
+IN_FAULTS = [
+    Planted("a fault twice", changed(LIST, r"^(fields/half_factor[^\n]*\n)", r"\1\1"), "fields/half_factor stands twice"),
+    Planted("another call", changed(LIST, r"\| call \w+", "| call nowhere"), "there is no call nowhere"),
+    Planted("a wrong answer that is not in the list", changed(LIST, r"^fields/half_factor[^\n]*\n", ""), "fields/half_factor is a wrong answer, and nothing says"),
+    Planted("an edit that is gone", removed("crates/fields/wrong/half_factor.edit"), "there is no edit fields/half_factor"),
+    Planted("an edit whose text is not there", changed("crates/fields/wrong/half_factor.edit", r"^old: ", "old: x"), "fields/half_factor: its text is not there once"),
+    Planted("no such edit", nothing, "there is no such edit in the list", ("--check", "nowhere")),
+]
+
 WHOLE = ("README.md", ".ci/steps", ".pre-commit-hooks.yaml", "docs", "include", "bindings", "python/ducatmuffin", "samples", "crates", "oracle/*", "python/tests",
          "bench/*", "test", "ducat", "NOTICE")
 PROMISED = ("docs/PROMISES.md", "crates/*/src", "crates/*/specs", "crates/*/wrong", "crates/*/must-fail", "crates/*/proofs/*.antt")
+PORT = ("oracle/faults-port", "oracle/*.list", "oracle/plant", "python/ducatmuffin", "crates/*/src", "crates/*/specs", "crates/*/wrong", "crates/*/must-fail")
 FEW = ("crates/fields",)
 
 CHECKS = [
@@ -483,5 +494,6 @@ CHECKS = [
     Check("lines.py", (), IN_LINES, FEW),
     Check("tables.py", ("files", "samples/example.txt", "--check"), IN_TABLES, LISTED),
     Check("shown.py", (), IN_SHOWN, ("README.md", "docs/*", "samples/*"), command),
+    Check("faults-port", ("--check",), IN_FAULTS, PORT),
     Check("promises.py", (), IN_PROMISES, PROMISED, also=("contracts.py",)),
 ]

@@ -1,5 +1,6 @@
 """What a trial of a check script is made of: planted faults, and the copy of the repository in which they are planted."""
 import contextlib
+import importlib.machinery
 import importlib.util
 import io
 import os
@@ -34,6 +35,11 @@ class Check(NamedTuple):
     reads: Tuple[str, ...]
     prepare: Optional[Callable] = None
     also: Tuple[str, ...] = ()
+
+
+def script(root, name):
+    """A check script of a repository or of a copy of it."""
+    return next(path for folder in ("tools", "oracle") for path in (root / folder).rglob(name))
 
 
 class Room:
@@ -86,13 +92,13 @@ class Room:
     # running a script
 
     def tool(self, name):
-        """A script of tools/ or of a folder in it."""
-        return next((self.root / "tools").rglob(name))
+        """A script of tools/ or of a folder in it, or of oracle/."""
+        return script(self.root, name)
 
     @contextlib.contextmanager
     def inside(self):
         """The process as the script has it: its folder, its modules, its path."""
-        names = {path.stem for path in (self.root / "tools").rglob("*.py")}
+        names = {"faults-port", *(path.stem for path in (self.root / "tools").rglob("*.py"))}
         here, path, writes = os.getcwd(), sys.path[:], sys.dont_write_bytecode
         others = {name: sys.modules.pop(name) for name in list(sys.modules) if name.partition(".")[0] in {*names, "ducatmuffin"}}
         if any(file.endswith(".py") for file in self.changed):
@@ -114,9 +120,10 @@ class Room:
         """The module of a script, as the copy has it."""
         path = self.tool(script)
         if path.stem not in sys.modules:
-            spec = importlib.util.spec_from_file_location(path.stem, path)
+            loader = importlib.machinery.SourceFileLoader(path.stem, str(path))
+            spec = importlib.util.spec_from_loader(path.stem, loader)
             sys.modules[path.stem] = importlib.util.module_from_spec(spec)
-            spec.loader.exec_module(sys.modules[path.stem])
+            loader.exec_module(sys.modules[path.stem])
         return sys.modules[path.stem]
 
     def run(self, script, argv):

@@ -5,12 +5,13 @@ try_checks.py              every script
 try_checks.py SCRIPT...    these scripts by themselves: promises.py
 
 tools/planted.py and tools/planted_prover.py list the planted faults: what is planted, and a pattern of the message that must come, or None
-where the script must accept what is planted. A planted fault counts where the script ends with status 1 and prints the message. One that has no place in the
-files as they are fails the trial as NOT PLANTED. The scripts are run in this process, and so is the prover's part of two of them, which is made up.
+where the script must accept what is planted. A planted fault counts where the script ends with status 1 or 2 and prints the message. One that has
+no place in the files as they are fails the trial as NOT PLANTED. The scripts are run in this process, and so is the prover's part of two of them,
+which is made up.
 
 The trial measures itself. Every message is made by reports.fault, and each call of it that the syntax of a script has must be reached by a planted
-fault; nor may a script report in another way. Every Python script of tools/ that a step of the gate runs must be here, but for trials and
-programs that TRIALS lists. The last line is 'N planted faults reported, M messages, K faults'; status 0 where K is 0.
+fault; nor may a script report in another way. Every Python script of tools/ and oracle/ that a step of the gate runs must be here, but for those
+of TRIALS. The last line is 'N planted faults reported, M messages, K faults'; status 0 where K is 0.
 """
 import pathlib
 import re
@@ -22,10 +23,10 @@ import planted
 import planted_prover
 import reports
 from repository import ROOT
-from trial import Room, Unplanted
+from trial import Room, Unplanted, script
 
-# scripts of steps that are trials themselves
-TRIALS = {"try_checks.py", "try_gate.py", "try_programs.py"}
+# scripts of steps that are trials themselves, of the gate and of the programs, and comparisons with a model
+TRIALS = {"try_checks.py", "try_gate.py", "try_programs.py", "books", "namesakes"}
 
 
 def short(text):
@@ -48,7 +49,7 @@ def tried(check, room):
             all_reached |= reached
             if message is None and status != 0:
                 faults.append(f"{check.script}: {words}: NOT ACCEPTED, status {status}:\n{short(text)}")
-            elif message is not None and (status != 1 or not re.search(message, text, re.M)):
+            elif message is not None and (status not in (1, 2) or not re.search(message, text, re.M)):
                 faults.append(f"{check.script}: {words}: NOT REPORTED, status {status}:\n{short(text)}")
             else:
                 good += 1
@@ -58,11 +59,11 @@ def tried(check, room):
     return faults, good, all_reached
 
 
-def unmeasured(scripts, reached, folder=ROOT / "tools"):
+def unmeasured(scripts, reached, root=ROOT):
     """The faults of the measure: messages that no planted fault reaches, and those that are not made by `fault`. And the number of messages."""
     faults, count = [], 0
     for name in scripts:
-        path = next(folder.rglob(name))
+        path = script(root, name)
         lines = path.read_text().splitlines()
         count += len(reports.calls(path))
         for line in reports.unreached(path, {(str(path), line) for file, line in reached if file == name}):
@@ -74,7 +75,8 @@ def unmeasured(scripts, reached, folder=ROOT / "tools"):
 
 def without_trial(scripts):
     """The scripts of the gate's steps that have no trial."""
-    run = {pathlib.Path(word).name for step in gate.STEPS for word in step.command if re.match(r"tools/.*\.py$", word)}
+    files = {ROOT / word for step in gate.STEPS for word in step.command if re.match(r"(?:tools|oracle)/", word)}
+    run = {path.name for path in files if path.is_file() and b"python" in path.read_bytes().partition(b"\n")[0]}
     return [f"{name}: a step of the gate runs it, and no fault is planted for it" for name in sorted(run - set(scripts) - TRIALS)]
 
 
@@ -114,7 +116,7 @@ def of_itself(folder):
         found = [one for one in faults if one.startswith(f"made_up.py: {words}:")]
         if len(found) != bool(said) or not all(said in one for one in found):
             yield f"the trial itself: {words}: {found or 'not reported'}"
-    lines, _ = unmeasured(["made_up.py"], reached, room.root / "tools")
+    lines, _ = unmeasured(["made_up.py"], reached, room.root)
     if [line.rpartition(": ")[0] for line in sorted(lines)] != MEASURED:
         yield f"the trial itself: the measure finds {lines}"
 
