@@ -18,7 +18,7 @@ def is_used(name, body):
     """Whether a name stands in a text: a word by itself, an operator by its parts."""
     parts = [part for part in name.strip("«»").split("_") if part]
     if name.startswith("_") or name.endswith("_") and not re.match(r"\w", name):
-        return all(re.search(r"(?<!\S)[(]?" + re.escape(part), body) or part in body for part in parts)
+        return all(part in body for part in parts)
     word = re.escape(name.strip("«»"))
     return re.search(rf"(?<![\w'′«-]){word}(?![\w'′»-])|«{word}»", body) is not None
 

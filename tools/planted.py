@@ -101,6 +101,7 @@ IN_INTERFACES = [
     Planted("words with a quotation mark", changed(NUMBERS, r"^(4\tTOO_DEEP\t)", r'\1"deep" '), "neither a comment nor a string of C may hold these words"),
     Planted("a dialect more in the code", changed("crates/dialect/src/lib.rt", r"^    AllOptionsInternal,\n", "    AllOptionsInternal,\n    Other,\n"),
             "its dialects are not those of tools/interfaces.py"),
+    Planted("a dialect of eight switches in the code", changed("crates/dialect/src/lib.rt", r"^    \[1, ([\d, ]+)\],$", r"    [\1],"), "its dialects are not those of tools/interfaces.py"),
     Planted("a dialect twice in the header", changed(HEADER, r"^(#define STARLARK_DIALECT_ALL .*?\n)", r"\1\1"), "has STARLARK_DIALECT_ALL 2 times"),
     Planted("an enum that the header lacks", changed(HEADER, r"^enum starlark_mode \{", "enum starlark_modes {"), "has the enum starlark_mode 0 times"),
     *(Planted(f"a change of {file}", changed(file, old, new), rf"{re.escape(file)} is not what the lists give") for file, old, new in (
@@ -113,6 +114,10 @@ IN_INTERFACES = [
         ("bindings/raw/Cargo.toml", r'^(version = ")[^"]*'), ("python/ducatmuffin/__init__.py", r'^(__version__ = ")[^"]*'))),
     Planted("another version in the definitions", changed("crates/starlark_checks/specs/Version.antt", r"^(version = versionOf \d+ \d+ )\d+", r"\g<1>99"),
             r"Version\.antt: the version is not"),
+    Planted("no version in the definitions", changed("crates/starlark_checks/specs/Version.antt", r"^version = versionOf", "version = made"), r"Version\.antt: the version is not"),
+    Planted("no version in the package", changed("python/ducatmuffin/__init__.py", r"^__version__ = ", "VERSION = "), r"__init__\.py: the version is not"),
+    Planted("a limit that the Rust crate lacks", changed("bindings/rust/src/lib.rs", r"^pub const NODES: usize", "const NODES: usize"), "NODES is not the header's STARLARK_NODES"),
+    Planted("a limit that the code lacks", changed("crates/table/src/lib.rt", r"const MOST_NODES: ", "const NODES_MOST: "), "STARLARK_NODES is not MOST_NODES"),
     Planted("a limit of the Rust crate", changed("bindings/rust/src/lib.rs", r"^pub const NODES: usize = .*?;", "pub const NODES: usize = 2101;"),
             "NODES is not the header's STARLARK_NODES"),
     Planted("a limit of the code", changed("crates/table/src/lib.rt", r"(const MOST_NODES: \w+ = )[^;]*", r"\g<1>2101"), "STARLARK_NODES is not MOST_NODES"),
@@ -131,6 +136,7 @@ IN_FORMAT = [
     Planted("a detail", changed(FORMAT, r"^(\| 2 \| Def \| [^|]* \| )1", r"\g<1>2"), "Def: the largest detail is 1"),
     Planted("a name of a kind that has none", changed(FORMAT, r"^(\| 2 \| Def \| [^|]* \| 1 \|) \|", r"\1 yes |"), "Def: whether it has a name"),
     Planted("children", changed(FORMAT, r"^(\| 23 \| Index \| E E) ", r"\1 E "), "Index: its children with detail 0"),
+    Planted("children in another order", changed(FORMAT, r"^(\| 3 \| For \| E) E S ", r"\1 S E "), "For: its children with detail 0"),
     Planted("children with a detail alone", changed(FORMAT, r"^(\| 2 \| Def \| P\* \[)1", r"\g<1>0"), "Def: its children with detail 1"),
     Planted("two switches exchanged", exchanged(FORMAT, r"\| \d \| enable_[^\n]*"), "the switches are not those of crates/dialect in their order"),
     Planted("a dialect of another name", changed(FORMAT, r"^(\| Byte \| Switch [^\n]* )Extended ", r"\1Wide "), "the names of the three rows are not those of crates/dialect"),
@@ -140,9 +146,11 @@ IN_FORMAT = [
     *(Planted(f"the limit of {what}", changed(FORMAT, rf"^(\| {what}[^|]*\| [\d,]+ \| )[\d,]+", r"\g<1>1"), f"the limit of {what} is")
       for what in ("nodes", "bytes of the table", "name bytes", "size", "source file number of a top-level statement", "depth", "bytes of a table file")),
     Planted("what counts in the depth", changed(FORMAT, "A statement or an expression is one deeper", "A statement or an argument is one deeper"), "what counts in the depth"),
+    Planted("no sentence of the depth", changed(FORMAT, " is one deeper than its parent;", " is deeper than its parent;"), "what counts in the depth"),
     Planted("the example", changed(FORMAT, r"(from here -->.*?^\| 0 to 3 \| `)00", r"\g<1>01"), "the example is not samples/example.table"),
     Planted("the script of the example", changed("samples/example.star", "break", "brake"), "the example is not samples/example.table"),
     Planted("a sum of the sample", byte_changed("samples/example.table", 508), "block 0 of samples/example.table is not a block"),
+    Planted("the number of name bytes of the sample", byte_changed("samples/example.table", 6), "do not hold the names and nodes that its header has"),
     Planted("the number of nodes of the sample", byte_changed("samples/example.table", 4), "do not hold the names and nodes that its header has"),
 ]
 
@@ -223,6 +231,9 @@ IN_IMPORTS = [
     Planted("a name that stands in a comment alone", all_of(changed(SPECS, r"\A", "use lib.Made.{meadow}\n"), added(SPECS, "-- meadow\n")), "does not use meadow"),
     Planted("a name that is a part of another", all_of(changed(SPECS, r"\A", "use lib.Made.{meadow}\n"), added(SPECS, "pub meadows : ℕ\n")), "does not use meadow"),
     Planted("an operator", changed(SPECS, r"\A", "use lib.Made.{_⊗_}\n"), "does not use _⊗_"),
+    Planted("an operator in front", changed(SPECS, r"\A", "use lib.Made.{¬_}\n"), "does not use ¬_"),
+    Planted("operators that are used", all_of(changed(SPECS, r"\A", "use lib.Made.{_⊗_, ¬_}\n"), added(SPECS, "pub other : ¬ (ℕ ⊗ ℕ)\n")), None),
+    Planted("a name that ends in an underscore", all_of(changed(SPECS, r"\A", "use lib.Made.{meadow_}\n"), added(SPECS, "pub meadow : ℕ\n")), "does not use meadow_"),
     Planted("a name that is used", all_of(changed(SPECS, r"\A", "use lib.Made.{meadow}\n"), added(SPECS, "pub other : meadow\n")), None),
     Planted("a name that is handed on", changed(SPECS, r"\A", "pub use lib.Made.{meadow}\n"), None),
 ]
@@ -288,8 +299,8 @@ IN_TABLES = [
 
 # ---- shown.py
 
-DUCAT = """#!/bin/sh
-cat "$(dirname "$0")/printed/$(printf %s "$*" | sed 's#/tmp/[^ ]*/##' | tr ' /' '__')"
+DUCAT = r"""#!/bin/sh
+cat "$(dirname "$0")/printed/$(printf %s "$*" | sed 's#\( \)/[^ ]*/#\1#' | tr ' /' '__')"
 """
 
 
