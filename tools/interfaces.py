@@ -6,14 +6,16 @@ interfaces.py --write   first writes anew what is made
 
 Made: the enums and the dialects of include/starlark.h; include/starlark_names.h; bindings/rust/src/made.rs; python/ducatmuffin/numbers.py.
 Compared: the version, which the header has, the Rust crates, the Python package and the code; the header's constants with those of the code
-and of bindings/rust/src/lib.rs; its functions with the declarations of bindings/raw/src/lib.rs. tools/numbers.py compares the two lists with
+and of bindings/rust/src/lib.rs; its functions with the declarations of bindings/raw/src/lib.rs. tools/gate/numbers.py compares the two lists with
 the code.
 """
+import pathlib
 import re
 import sys
 
-from reports import ended, fault
-from repository import CRATES, ROOT
+sys.path.append(str(pathlib.Path(__file__).resolve().parent / "gate"))
+from reports import ended, fault  # noqa: E402
+from repository import CRATES, ROOT  # noqa: E402
 
 HEADER, NAMES = ROOT / "include" / "starlark.h", ROOT / "include" / "starlark_names.h"
 RUST, RAW = ROOT / "bindings" / "rust", ROOT / "bindings" / "raw"

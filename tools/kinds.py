@@ -1,38 +1,41 @@
 #!/usr/bin/env python3
-"""Cases for each kind of record, made of document 01's own sentences, with the answers that these demand.
+"""Makes cases for each kind of record from sentences about the kinds, with the answers that the sentences require.
 
-kinds.py            write crates/cases/kinds.txt (cases in words) and, below its heading, the end of crates/cases/stdout (their answers)
-kinds.py --check    only say whether they are what the sentences give, and, where documents 01 and 02 are at hand, whether they have the sentences
+kinds.py            writes crates/cases/kinds.txt (cases in words) and, below its heading, the end of crates/cases/stdout (their answers)
+kinds.py --check    only reports whether they are what the sentences give and, where the scope and the requests are present, whether these have
+                    the sentences
 
-The sentences stand in crates/cases/document01.txt. They are read here by themselves: nothing is taken from the definitions or the code,
-so a mistake that stands in both of them shows. Of each kind and detail: children as they must be, and with one dropped, changed or added,
-or two; the largest detail and one more; a name where none may be, and none where one must be; the kind in the place of each class.
-And each kind and detail with all that stands under it at the largest depth and one deeper, counted as document 02 has it (W-206): under
-statements or expressions alone, and with parameters and arguments of every kind on the way. And each kind with source file numbers on both
-sides of each limit (W-208): as the root, as its child and further below, where the number of its top-level statement is the right one.
+The sentences are in crates/cases/sentences.txt; tools/gate/format.py compares them with docs/FORMAT.md. Nothing here is taken from the definitions or
+the code, so a mistake that is in both of them is found. For each kind and detail: valid children, and children with one or two dropped, changed or
+added; the largest detail and one more; a name where none is allowed, and no name where one is required; the kind in the place of each class.
+Then each kind and detail with its records at the largest depth and one deeper (W-206): under statements or expressions alone, and with
+parameters and arguments of every kind in between. Then each kind with source file numbers on both sides of each limit (W-208): as the root, as
+its child and further below, where the number of its top-level statement is the right one.
 """
 import itertools
+import pathlib
 import re
 import sys
 
-from reports import ended, fault
-from repository import CRATES, ROOT
-from tables import tables, trees
+sys.path.append(str(pathlib.Path(__file__).resolve().parent / "gate"))
+from reports import ended, fault  # noqa: E402
+from repository import CRATES, ROOT  # noqa: E402
+from tables import tables, trees  # noqa: E402
 
 FOLDER = CRATES / "cases"
 DOCUMENTS = [ROOT.parent / "shared" / "docs" / name for name in ("01-scope.md", "02-change-requests.md")]
-HEADING = "# 3: each kind, by document 01's sentences (made by tools/kinds.py)"
-DEEP = "# 4: each kind at the largest depth and one deeper, by document 02's sentence (made by tools/kinds.py)"
-FILES = "# 3: each kind with source file numbers on both sides of each limit, by document 02's sentences (made by tools/kinds.py)"
+HEADING = "# 3: each kind, by the sentences of its rule (made by tools/kinds.py)"
+DEEP = "# 4: each kind at the largest depth and one deeper (made by tools/kinds.py)"
+FILES = "# 3: each kind with source file numbers on both sides of each limit (made by tools/kinds.py)"
 NUMBER = tables.KIND
 WORD = {number: word for word, number in NUMBER.items()}
 
-# document 01's largest depth, and what document 02 (W-206) counts: "statements and expressions only; a parameter or argument record has its
+# the largest depth of docs/FORMAT.md, and what is counted (W-206): "statements and expressions only; a parameter or argument record has its
 # parent's depth"
 MOST_DEPTH = 64
 COUNTED = ("statement", "expression")
-# what may stand above a record of a class, one deeper each: its own class alone, and, turn by turn, what has parameters and arguments too.
-# {} is the record; a parameter or an argument stands in the last.
+# what may be above a record of a class, each one level deeper: its own class alone, and, in turn, kinds that have parameters and arguments.
+# {} is the record; a parameter or an argument is in the last.
 ALONE = {"statement": ["(Statements {})"], "expression": ["(Not {})"]}
 MIXED = {"statement": ["(Def (Normal a) (NoArgs) (Normal b) {})", "(For (Int) (Int) {})", "(If (Int) {})", "(IfElse (Int) (Break) {})"],
          "expression": ["(Call (Int) (Positional {}))", "(Lambda (Normal:2 a {}) (Int))", "(Call (Int) (Named a {}))",
@@ -41,7 +44,7 @@ MIXED = {"statement": ["(Def (Normal a) (NoArgs) (Normal b) {})", "(For (Int) (I
 OWNER = {"statement": [("{}", "statement")], "expression": [("{}", "expression")], "argument": [("(Call (Int) {})", "expression")],
          "parameter": [("(Def {} (Break))", "statement"), ("(Lambda {} (Int))", "expression")]}
 
-# a child of each class, and where a record of each class may stand: what is around it, and its index there
+# a child of each class, and where a record of each class may be: what is around it, and its index there
 CHILD = {"statement": "(Break)", "expression": "(Int)", "parameter": "(NoArgs)", "argument": "(ArgsArg (Int))"}
 PLACE = {"statement": ("{}", 0), "expression": ("(OtherSimple {})", 1), "parameter": ("(Def {} (Break))", 1),
          "argument": ("(OtherSimple (Call (Int) {}))", 3)}
@@ -49,11 +52,11 @@ PLACE = {"statement": ("{}", 0), "expression": ("(OtherSimple {})", 1), "paramet
 HOLDER = {"statement": ("(Statements {})", 0), "expression": ("(OtherSimple {})", 0), "parameter": ("(Def {} (Break))", 0),
           "argument": ("(OtherSimple (Call (Int) {}))", 1)}
 
-# document 01's words for one child
+# the words of the sentences for one child
 ONE = {"statement": ["body statement", "statement"],
        "expression": ["target", "over", "condition", "value", "object", "callee", "return type", "type", "default", "body expression",
                       "one expression each"]}
-SOME = 3  # stands for any number
+SOME = 3  # is tried for "any number"
 
 
 class Unknown(Exception):
@@ -61,7 +64,7 @@ class Unknown(Exception):
 
 
 def counts(words, own):
-    """A part of a rule as a class, and how many of it may stand there: as a test, and as the numbers that are tried."""
+    """A part of a rule as a class, and how many children of it are allowed: as a test, and as the numbers that are tried."""
     for one, known in ONE.items():
         if words in known:
             return one, lambda n: n == 1, [1]
@@ -84,18 +87,18 @@ def counts(words, own):
         return own, lambda n: numbers[0] <= n, [numbers[0], numbers[0] + 1, numbers[0] + SOME]
     if re.fullmatch(r"\d+( each for \d+ to \d+)?", words):
         return own, lambda n: n == numbers[0], [numbers[0]]
-    raise Unknown(fault(f"document 01's words are not known here: {words}"))
+    raise Unknown(fault(f"unknown words in a sentence: {words}"))
 
 
 class Kind:
-    """A kind: its number, class, rule of children in words, largest detail, and whether a name and a position stand on it."""
+    """A kind: its number, class, rule of children in words, largest detail, and whether it has a name and a position."""
 
     def __init__(self, number, own, rule):
         self.number, self.own, self.rule = number, own, rule
         self.details, self.named, self.placed = int("detail 1" in rule), False, False
 
     def parts(self, detail):
-        """The parts of the rule that count for a detail."""
+        """The parts of the rule that apply to a detail."""
         found = []
         for part in self.rule.partition(";")[0].split(", "):
             words, mark, given = part.partition(" if ")
@@ -238,7 +241,7 @@ def depths(tree, kinds):
 
 
 def at_depth(deepest, record, own, levels, kinds):
-    """A tree in words with so many levels around the record that its deepest node is as deep as said."""
+    """A tree in words, with as many levels around the record as give its deepest node the depth `deepest`."""
     root = "(OtherSimple {})" if own == "expression" else "{}"
     times, left = divmod(deepest - max(depths(root.format(record), kinds)), len(levels))
     for part, turns in (levels, times), (levels[:left], 1):
@@ -261,8 +264,8 @@ def deep_of_kind(kind, kinds, cases):
 
 
 def first_wrong_file(tree, limits):
-    """The first record whose source file number is wrong, or None. Down the tree, as document 02 says it: a root Statements has 0 and its
-    children are the top-level statements; another root is one itself; each has a number within the limits, and all under it has the same."""
+    """The first record whose source file number is wrong, or None. Down the tree, as the sentences have it: a root Statements has 0 and its
+    children are the top-level statements; another root is one itself; each has a number within the limits, and all records under it have the same."""
     root, = trees(tree)
     nodes = list(tables.preorder([root]))
     tops = root.children if root.kind == NUMBER["Statements"] else [root]
@@ -320,7 +323,7 @@ def made(text):
 
 
 def main(words):
-    text = (FOLDER / "document01.txt").read_text()
+    text = (FOLDER / "sentences.txt").read_text()
     try:
         cases, answers, count = made(text)
     except Unknown as unknown:
@@ -331,15 +334,15 @@ def main(words):
     if words != ["--check"]:
         for path, wanted in files.items():
             path.write_text(wanted)
-    faults = [fault(f"{path.relative_to(ROOT)} is NOT what the documents' sentences give") for path, wanted in files.items()
+    faults = [fault(f"{path.relative_to(ROOT)} is NOT what the sentences give") for path, wanted in files.items()
               if not path.exists() or path.read_text() != wanted]
     at_hand = all(document.exists() for document in DOCUMENTS)
     if at_hand:
         documents = "".join(document.read_text() for document in DOCUMENTS)
         quoted = [line for line in text.splitlines() if not line.startswith("#")]
-        faults += [fault(f"documents 01 and 02 have no such words: {line}") for line in quoted if line not in documents]
-    where = "which stand in them" if at_hand else "which could not be held to them here"
-    return ended(faults, f"crates/cases: {count} cases and answers are what the sentences of documents 01 and 02 give, {where}")
+        faults += [fault(f"neither the scope nor a request has these words: {line}") for line in quoted if line not in documents]
+    where = "which are those of the scope and the requests" if at_hand else "which were not compared: the scope and the requests are not present"
+    return ended(faults, f"crates/cases: {count} cases and answers are what the sentences give, {where}")
 
 
 if __name__ == "__main__":

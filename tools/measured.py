@@ -14,12 +14,14 @@ measured.py sizes          lines and characters of code, definitions and proofs,
 """
 import datetime
 import os
+import pathlib
 import platform
 import re
 import subprocess
 import sys
 
-import repository
+sys.path.append(str(pathlib.Path(__file__).resolve().parent / "gate"))
+import repository  # noqa: E402
 
 PLACES = {"gate": "GATE", "quick": "COMPARISON", "long": "COMPARISON", "faults": "FAULTS", "jobs": "BENCHMARKS", "stack": "STACK", "sizes": "SIZES"}
 

@@ -20,8 +20,9 @@ import re
 import struct
 import sys
 
-from reports import Fault, ended, fault
-from repository import ROOT
+sys.path.append(str(pathlib.Path(__file__).resolve().parent / "gate"))
+from reports import Fault, ended, fault  # noqa: E402
+from repository import ROOT  # noqa: E402
 
 sys.path.insert(0, str(ROOT / "python"))
 from ducatmuffin import table as tables  # noqa: E402

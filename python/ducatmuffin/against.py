@@ -14,7 +14,7 @@ SWITCHES = ("enable_def", "enable_lambda", "enable_load", "enable_keyword_only_a
 TOP_LEVEL = SWITCHES.index("enable_top_level_stmt")
 PASS = "module pass (10 to 19 and 50 to 61):"
 OTHERS = "other jobs, in the new dialect:"
-NOT_TIED = "enable_top_level_stmt opens and there were errors, so no theorem ties the two lists"
+NOT_TIED = "enable_top_level_stmt opens and there were errors, so no theorem relates the two lists"
 
 
 def row(dialect):
@@ -40,7 +40,7 @@ def lacking(first, second):
         else:
             out.append(error)
     if at < len(second):
-        raise AssertionError("the errors in the new dialect are no part of those in the old one, which crates/opening proves that they are")
+        raise AssertionError("the errors in the new dialect are not a part of those in the old one, though crates/opening proves that they are")
     return out
 
 

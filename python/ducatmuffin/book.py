@@ -99,7 +99,7 @@ def twice(book):
     for entry in entries(book):
         key = entry.zone, entry.setting
         if key in seen:
-            return f"zone {entry.zone} and setting {entry.setting} stand at place {seen[key]} and at place {entry.place}"
+            return f"zone {entry.zone} and setting {entry.setting} are at place {seen[key]} and at place {entry.place}"
         seen[key] = entry.place
     return None
 
@@ -276,7 +276,7 @@ def new(library, options, out):
     try:
         descriptor = os.open(options.out, os.O_WRONLY | os.O_CREAT | os.O_EXCL | os.O_CLOEXEC, 0o666)
     except FileExistsError:
-        raise Failed(f"{options.out}: it is there already, and a book is not overwritten") from None
+        raise Failed(f"{options.out}: it exists, and a book is not overwritten") from None
     except OSError as error:
         raise Failed(f"{options.out}: {inputs.reason(error)}") from None
     try:
@@ -325,9 +325,9 @@ ABOUT = {
     "new": "Makes a book of empty places.",
 }
 MORE = ("A refusal prints `refused NUMBER`:\n"
-        "  95  a book has an unsound length, block or entry, or the entry to be added is unsound\n"
-        "  96  a book has an entry for the same zone and setting twice, or the entry to be added is there already\n"
-        "  97  neither book has a fitting entry, or there is none to remove\n"
+        "  95  a book has an invalid length, block or entry, or the entry to be added is invalid\n"
+        "  96  a book has two entries for the same zone and setting, or the entry to be added is already there\n"
+        "  97  neither book has a matching entry, or there is none to remove\n"
         "  98  the book has no empty place\n"
         "\n"
         "Exit status: 0; 1 for 97 and 98; 2 for 95 and 96, a file that cannot be read or written, wrong usage, or no library.")

@@ -1,4 +1,4 @@
-"""ducat check: table files and scripts, each with every job (or, with --module, as the program of document 01), in one process or several."""
+"""ducat check: table files and scripts, each with every job (or, with --module, with the module pass alone), in one process or several."""
 from . import dialects, inputs, reasons, scripts
 from .library import Error, Errors, Refusal
 from .numbers import KINDS, NODE_BYTES, WORDS
@@ -146,7 +146,7 @@ class Checker:
         return self.rendered(self.found(one))
 
     def module_file(self, one):
-        """The shortest way: the program of document 01 on a table file."""
+        """The shortest way: the module pass on a table file, as the program tablecheck runs it."""
         try:
             data = inputs.read(one, inputs.TABLE_MOST)
         except (OSError, ValueError) as error:

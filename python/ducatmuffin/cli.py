@@ -14,8 +14,8 @@ Checks Starlark scripts and their node tables with a proved library.
 
   ducat check PATH...                          check table files, scripts and folders
   ducat bind FILE...                           which argument of a call reaches which parameter of a def
-  ducat report PATH... -o OUT                  a page, in HTML, with all errors and every call drawn
-  ducat rescue IN -o OUT                       keep what can be kept of a damaged table file
+  ducat report PATH... -o OUT                  write an HTML page with all errors and a drawing of each call
+  ducat rescue IN -o OUT                       recover the intact statements of a damaged table file
   ducat write TABLE NAMES [--dialect D [--edition N]] -o OUT
                                                a table file from raw bytes
   ducat table INPUT... -o OUT                  a table file from scripts, or from the text form of a table
@@ -23,7 +23,7 @@ Checks Starlark scripts and their node tables with a proved library.
   ducat dump FILE                              the text form of a table file
   ducat book COMMAND ...                       dialects by zone and setting: lookup, add, remove, list, show, new
   ducat figures [PATH...]                      counts over table files: nodes, lists, calls, errors
-  ducat rule NUMBER                            what a number means, which jobs give it, and an example
+  ducat rule NUMBER                            what a number means, its rule, and an example
   ducat diff OLD.json NEW.json                 the errors that only one of two runs has
   ducat build [--unproved]                     prove and compile the library
 
@@ -31,23 +31,23 @@ Checks Starlark scripts and their node tables with a proved library.
   -h, --help    print this
 
 The first command proves and compiles the library, which takes some minutes and needs the Rattle kit (rt).
-Exit status: 0 no errors; 1 errors; 2 an input is refused or cannot be read, wrong usage, no library, or output that cannot be written. Of
-several inputs the highest counts. INT, TERM and HUP end the command as they end others."""
+Exit status: 0 no errors; 1 errors; 2 an input is refused or cannot be read, wrong usage, no library, or output that cannot be written. With
+several inputs it is the highest of theirs. INT, TERM and HUP end the command in the usual way."""
 
 CHECK = """Checks each PATH: a table file, a script, or a folder, which is searched for *.table and scripts. `-` is
 standard input.
 
 A script is a file whose name ends in .star, .bzl, .sky, .bazel or .BUILD, or is BUILD, BUCK or WORKSPACE, or
-matches a GLOB of --as-script. Any other file is a table file. Of a folder, hidden folders and links to
-folders are skipped.
+matches a GLOB of --as-script. Any other file is a table file. Hidden folders and links to folders are
+skipped.
 
-Every job is run on every node that it fits, so `errors 0` means that the whole checker accepts: parameter
-lists (10 to 19), call arguments (20 to 24), targets and assignments (30 to 33), types (40 to 45), and the
-module pass (50 to 61). Types are read by the edition of a table file, 1 where it has none, or by --edition
-for scripts; edition 2 does not give 44. Not covered: whether a name is defined, what a value is, which def a call reaches (see
-`ducat bind`), what load names, and whether the dialect has f-strings; in a table file also the targets of
-comprehensions, which a table does not mark. Nothing can be switched off: there is no option and no comment
-that leaves out a rule.
+Every check runs on every node that it applies to, so `errors 0` means that all of them accept: parameter lists
+(10 to 19), call arguments (20 to 24), targets and assignments (30 to 33), types (40 to 45), the module pass (50
+to 61) and, for scripts, f-strings (62). Types are read by the edition of the table file, or edition 1 if it has
+none; for scripts by --edition. Edition 2 does not give 44. Not covered: whether a name is defined, what a value
+is, which def a call reaches (see `ducat bind`) and what load names; in a table file also the targets of
+comprehensions and f-strings, which a table does not mark. No option and no comment switches a rule off.
+`ducat rule NUMBER` explains a number.
 
 For a table file this prints
   nodes N                  the number of nodes
@@ -55,10 +55,10 @@ For a table file this prints
                            bytes from 0
   errors N                 the number of errors
 or, for a file that is damaged or whose table is not sound, the one line
-  refused K                and on standard error what is wrong
+  refused K                and the reason on standard error
 Errors are sorted by file, begin, end and number. For a script an error is PATH:LINE:COLUMN: NUMBER and its
 words, with the line and carets. A script that is not Starlark has the one error PATH:LINE:COLUMN: syntax: and
-what is wrong. With several inputs the name of each comes first, and a line of totals last.
+the reason. With several inputs the name of each comes first, and a line of totals last.
 
 With --join all scripts are one table: the statements of the first, then those of the second, and so on. Their
 source file numbers count from 1 in the order given."""
@@ -67,12 +67,12 @@ AGAINST = """With --against DIALECT each input is checked in its own dialect and
 one to the other does to the errors of the module pass (10 to 19 and 50 to 61):
   opens SWITCH...             the switches that DIALECT permits and the input's own dialect does not, or nothing
   an error in a line          each error that the move takes out, in the usual form
-  taken out N, left M         how many these are, and how many errors the module pass has in DIALECT
+  taken out N, left M         the number of these, and the number of errors of the module pass in DIALECT
 and then the errors of the other jobs in DIALECT, with `other errors N`. Where top-level statements open and there were
-errors, no theorem ties the two lists, and in place of the errors both totals are printed. Where DIALECT does not
+errors, no theorem relates the two lists, and both totals are printed instead of the errors. Where DIALECT does not
 permit all that the input's own dialect does, the one line is
   no opening, closes SWITCH...
-The exit status is that of DIALECT: 0 no job has an error in it; 1 one has; 2 also where it is no opening."""
+The exit status is that of DIALECT: 0 it has no error; 1 it has errors; 2 also where the move is not an opening."""
 
 CHECK_MORE = """No more than 59,905 bytes of a table file are read, one more than the largest has, and no more than 16,777,216
 of a script. A script's table is made by ducat's own parser; that step is not proved. A script of more than
@@ -80,10 +80,10 @@ of a script. A script's table is made by ducat's own parser; that step is not pr
 tables` says so.
 
 Exit status: 0 no errors; 1 errors; 2 an input is refused or cannot be read, a top-level statement is larger
-than a table may be, nothing is found in a PATH, wrong usage, no library, or output that cannot be written. Of
-several inputs the highest counts."""
+than a table may be, nothing is found in a PATH, wrong usage, no library, or output that cannot be written. With
+several inputs it is the highest of theirs."""
 
-BIND = """Says which argument of each call reaches which parameter. FILE is a table file or a script; `-` is standard
+BIND = """Reports which argument of each call reaches which parameter. FILE is a table file or a script; `-` is standard
 input.
 
 For a script, for scripts that are joined with --join, or for a table file with --script, each call of a name is
@@ -92,24 +92,24 @@ paired with every def of that name in the scripts:
   NAME, MODE: default                             it takes none, and has a default
   *NAME, MODE: ARGUMENT (PLACE); ...              what a star parameter collects, or none
   refused K, ARGUMENT (PLACE)                     the call does not fit the def, or one of them is wrong
-An argument whose name, or whose field's name, is that of an ordinary parameter and that reaches another one is
-a namesake. Two are exchanged where each has the name of the parameter that the other reaches:
+A namesake is an argument that has the name of an ordinary parameter, or a field of that name, and reaches another
+one. Two arguments are exchanged if each has the name of the parameter that the other reaches:
   namesake: X (PLACE) reaches P, though there is a parameter X
   exchanged: X (PLACE) reaches Y, and Y (PLACE) reaches X
 With --strict the status is then 1, unless an expectation states it.
 
-A table file alone gives its defs and calls with their nodes; --call and --def then name two of them. A call
-of a call, such as outer(1)(2), and a method call are listed as such and bound to no def.
+For a table file without --script the defs and calls are listed with their nodes; --call and --def select one of
+each. A call of a call, such as outer(1)(2), and a method call are listed as such and not bound.
 
-Which argument reaches which parameter is proved. Which call is paired with which def is not: a name that
-means another function at the call is not seen."""
+Which argument reaches which parameter is proved. Which call is paired with which def is not: they are paired by
+name alone, even if the name means another function at the call."""
 
 BIND_MORE = """With --expect DEF.PARAMETER=NAME every call of DEF must pass NAME, a name or a path as zone.tracks, to PARAMETER. Each
-input is judged by itself; --join judges several scripts as one. Judged are calls whose callee is the name DEF.
+input is judged separately; --join judges several scripts as one. Calls whose callee is the name DEF are judged.
 This prints
   expect DEF.PARAMETER=NAME: met by N calls
   expect DEF.PARAMETER=NAME: not met              and below it each reason with its place
-It is not met where a call passes something else or is refused or not judged; DEF is defined twice or never, or
+It is not met if a call passes something else or is refused or not judged; DEF is defined twice or never, or
 is never called, or has no such PARAMETER; DEF is used other than as a callee; a parameter, a target or a load
 binds or renames DEF; a method of the name DEF is called; or the input is refused, cannot be read or is not
 Starlark. A table file needs --script: a table has no names of defs.
@@ -122,14 +122,14 @@ expectation is not met, or with --strict there is a namesake that no expectation
 cannot be read, a node is not a Call or not a Def (6), a pair is not judged, the script is not the table's, wrong
 usage, no library, or output that cannot be written."""
 
-REPORT = """Writes to OUT one page of HTML about each PATH (a table file, a script or a folder, as for `ducat check`), without
-script and without anything that is loaded:
-  refused tables, and what is known of them
+REPORT = """Writes to OUT one HTML page about each PATH (a table file, a script or a folder, as for `ducat check`). The page has
+no JavaScript and loads nothing:
+  refused tables, with the reasons
   expectations, where there are any (see `ducat bind --help`)
   the figures of their tables (see `ducat figures --help`), and the number of inputs of each dialect
   with --books which dialect each zone has at each setting
   each script's text with its errors marked, and each call drawn with lines from its arguments to the parameters
-  that they reach; exchanged ones have a colour and a pattern of their own
+  that they reach; exchanged ones have another colour and pattern
 and prints the totals of `ducat check` and
   written N     the number of bytes of the page"""
 
@@ -138,28 +138,27 @@ that no expectation states; 2 an input is refused or cannot be read, nothing is 
 judged, wrong usage, no library, or OUT cannot be written. Where the books give no dialect for --zone and --setting the
 status is that of `ducat book lookup`, and OUT is as it was."""
 
-RESCUE = """Writes to OUT a sound table file with what can be kept of the damaged table file IN (`-` is standard input),
-and prints
-  statements S    the number of statements that are kept, the first ones of the outermost list (1 where the table is one other statement)
+RESCUE = """Writes to OUT a sound table file with the statements that can be recovered from the damaged table file IN (`-` is
+standard input), and prints
+  statements S    the number of statements that are kept: the first ones of the outermost list, or 1 for a table of one statement
   nodes N         the number of nodes that are kept
   dropped D       the number of nodes that the header of IN counts and that are lost
   bytes B         the number of bytes after the last block that the header counts
-or, where nothing can be kept, the one line
-  refused 90      the first block, or one with names, is bad
-  refused 91      no statement is whole in good blocks
-and then OUT is as it was. A sound file is written as it is, without the bytes after it. IN may be OUT."""
+or, if nothing can be kept, the one line
+  refused 90      the first block, or one with names, is damaged
+  refused 91      no statement is intact
+and leaves OUT unchanged. A sound file is written unchanged, without the bytes after it. IN may be OUT."""
 
 RESCUE_MORE = """Exit status: 0 nothing is lost (dropped 0 and bytes 0); 1 something is lost; 2 it is refused, IN cannot be
 read or OUT not written, wrong usage, or no library."""
 
-ATOMIC = """OUT is at each moment the old file or the whole new one. A script's name as OUT is refused."""
+ATOMIC = """OUT is replaced at once: it is never a part of the new file. The name of a script is refused as OUT."""
 
-WRITE = """Writes to OUT the table file of a node table (24 bytes for each node) and of the bytes that its names are in,
-and prints
+WRITE = """Writes to OUT the table file of a node table (24 bytes for each node) and its name bytes, and prints
   written N     the number of bytes of the file
-or, where they are not sound, the one line
+or, if they are not sound, the one line
   refused K     1 to 5
-and then OUT is as it was. TABLE and NAMES are files of raw bytes; one of them may be `-`, standard input."""
+and leaves OUT unchanged. TABLE and NAMES are files of raw bytes; one of them may be `-`, standard input."""
 
 TABLE = """Writes to OUT the table file of INPUT: a script, or the text form of a table, as `ducat dump` prints it and
 docs/FORMAT.md describes it. `-` is standard input: a text, or with --stdin-filename a script. A script is
@@ -168,7 +167,7 @@ read by ducat's own parser; that step is not proved.
 Several scripts are joined: the statements of the first, then those of the second, and so on, become one table.
 Each statement has the source file number of its script, which counts from 1, or from --number, in the order
 given, and positions in that script. A script or a join of more than 2,100 nodes or 8,064 name bytes has no table:
-its size is said, and nothing is written.
+its size is reported, and nothing is written.
 
 With --compare FILE nothing is written. This prints
   same N                          FILE is the table of the scripts: N nodes
@@ -201,7 +200,7 @@ Exit status: 0; 1 for 97 and 98; 2 otherwise."""
 
 FIGURES = """Counts over table files that are joined into one input, in the order given. PATH is a table file, or a folder, which is
 searched for *.table as `ducat check` does; `-`, or no PATH, is standard input. Bytes after a file's last block begin the next
-file, also where it goes on in the next PATH. This prints
+file, even if it continues in the next PATH. This prints
   files N              the number of table files
   nodes N              of nodes
   lists N              of parameter lists, each Def and each Lambda
@@ -216,27 +215,28 @@ Such a file ends the report: the files before it are counted, and nothing of it 
 With --add each PATH is a report that `ducat figures --json` printed, and this prints their sum, as of one input. Only the
 last of them may have ended with a refusal."""
 
-FIGURES_MORE = """Any length is read in the same memory. A file that cannot be read is reported, and no report is printed.
+FIGURES_MORE = """An input of any length is read in the same memory. If a file cannot be read, the reason is printed and no report.
 
-Exit status: 0 the report is whole; 2 a refusal ended it, something cannot be read or written, nothing is found in a
+Exit status: 0 the report is complete; 2 a refusal ended it, something cannot be read or written, nothing is found in a
 folder, wrong usage, or no library. Errors in the tables do not change it."""
 
-RULE = """Prints what NUMBER means, which jobs give it, and an example that gives it: a script, or a table in text form where no
-script does. NUMBER may also be a name, as NO_DEFAULT_AFTER_DEFAULT."""
+RULE = """Prints what NUMBER means, its rule, the line of the crate's file that the rule comes from, which jobs give it, and an
+example that gives it: a script or, where no script does, a table in text form. NUMBER may also be a name, such as
+NO_DEFAULT_AFTER_DEFAULT. docs/RULES.md has all numbers."""
 
 DIFF = """Compares the JSON of two runs of `ducat check`, or of `ducat bind` (--json; docs/JSON.md). `-` is standard input. This
 prints
   new: PATH:LINE:COLUMN: NUMBER and its words     an error that only NEW has
   gone: ...                                       an error that only OLD has
-  new N, gone N, same N                           how many these are, and how many both have
-An error is the same where its input, its number, its source file number and its bytes are the same. One that has
+  new N, gone N, same N                           the number of each, and of those that both have
+An error is the same if its input, its number, its source file number and its bytes are the same. One that has
 moved in its script is gone from its old place and new at the other. An input that is refused, is not read or has
 no table counts as an error.
 
 Exit status: 0 nothing is new; 1 something is; 2 one of them cannot be read or is not the JSON of a whole run, they
 are not two of the same command with the same options, or wrong usage."""
 
-BUILD = """Proves and compiles the library, if it is not current. Every command does this by itself when it must; an
+BUILD = """Proves and compiles the library, if it is not current. Every command of a checkout does this when needed; an
 installed ducat never does."""
 
 
@@ -317,7 +317,7 @@ def add_stdin_filename(parser):
 
 def add_as_script(parser):
     parser.add_argument("--as-script", metavar="GLOB", action="append", default=[],
-                        help="take a file whose name or path matches as a script; may be repeated")
+                        help="treat a file whose name or path matches as a script; may be repeated")
 
 
 def add_script(parser, words):
@@ -326,7 +326,7 @@ def add_script(parser, words):
 
 
 def add_join(parser):
-    parser.add_argument("--join", action="store_true", help="take the scripts as one table, numbered from 1 in the order given")
+    parser.add_argument("--join", action="store_true", help="treat the scripts as one table, numbered from 1 in the order given")
 
 
 def add_list(parser):
@@ -346,20 +346,20 @@ def check_parser():
     parser = make_parser("check", CHECK, f"{AGAINST}\n\n{CHECK_MORE}")
     parser.add_argument("paths", metavar="PATH", nargs="*")
     parser.add_argument("--module", action="store_true",
-                        help="run the module pass alone (10 to 19 and 50 to 61), as the program of document 01; its own order is kept")
-    parser.add_argument("--explain", action="store_true", help="say what each number means, with nodes, kinds, dialect and places in X.star "
+                        help="run the module pass alone (10 to 19 and 50 to 61) and keep its order")
+    parser.add_argument("--explain", action="store_true", help="print what each number means, with nodes, kinds, dialect and places in X.star "
                         "beside X.table; of a table with several source file numbers in X.N.star for each number N")
-    parser.add_argument("--quiet", action="store_true", help="print nothing: the exit status is the answer; why an input is not read is still said")
+    parser.add_argument("--quiet", action="store_true", help="print nothing: the exit status is the answer; reasons why an input is not read are still printed")
     parser.add_argument("--bad-only", action="store_true", help="print only inputs that have errors, are refused or cannot be read")
     add_join(parser)
     add_script(parser, "the script of the table files, for lines and columns")
     add_dialect(parser, "of scripts; a table file has its own")
     add_edition(parser, "for scripts (default: 1); a table file has its own")
-    parser.add_argument("--against", metavar="DIALECT", help="say what the move to DIALECT, which must permit all that the input's own does, does to its "
-                        "errors; a name or nine digits as for --dialect")
+    parser.add_argument("--against", metavar="DIALECT", help="report which errors a move to DIALECT removes; DIALECT must permit all that the input's own "
+                        "dialect does, and is a name or nine digits as for --dialect")
     add_books(parser)
     parser.add_argument("--exclude", metavar="GLOB", action="append", default=[],
-                        help="leave out what a search finds and whose name or path matches; may be repeated")
+                        help="skip files found in a folder whose name or path matches; may be repeated")
     add_as_script(parser)
     add_list(parser)
     add_stdin_filename(parser)
@@ -408,7 +408,7 @@ def bind_parser():
     add_join(parser)
     add_script(parser, "the script of one table file: names of defs, texts, lines and columns")
     add_expect(parser)
-    parser.add_argument("--explain", action="store_true", help="say what each number means")
+    parser.add_argument("--explain", action="store_true", help="print what each number means")
     add_dialect(parser, "of scripts; a table file has its own")
     add_as_script(parser)
     add_list(parser)
@@ -424,7 +424,7 @@ def add_expect(parser):
                         help="every call of DEF must pass NAME to PARAMETER; may be repeated")
     parser.add_argument("--expectations", metavar="FILE", help="read expectations from FILE (`-` is standard input), one in a line; # begins a comment")
     parser.add_argument("--strict", action="store_true",
-                        help="end with 1 where an argument has the name of a parameter and reaches another one, unless an expectation states it")
+                        help="exit with 1 if an argument has the name of a parameter and reaches another one, unless an expectation states it")
 
 
 def report_parser():
@@ -438,7 +438,7 @@ def report_parser():
     add_edition(parser, "for scripts (default: 1); a table file has its own")
     add_books(parser, "show which dialect each zone has at each setting; with --zone and --setting also ")
     parser.add_argument("--exclude", metavar="GLOB", action="append", default=[],
-                        help="leave out what a search finds and whose name or path matches; may be repeated")
+                        help="skip files found in a folder whose name or path matches; may be repeated")
     add_as_script(parser)
     add_list(parser)
     add_stdin_filename(parser)
@@ -451,7 +451,7 @@ def rescue_parser():
     parser = make_parser("rescue", RESCUE, f"{ATOMIC}\n\n{RESCUE_MORE}")
     parser.add_argument("input", metavar="IN")
     add_output(parser)
-    parser.add_argument("--explain", action="store_true", help="say what each number means, and which statements are kept and lost")
+    parser.add_argument("--explain", action="store_true", help="print what each number means, and which statements are kept and lost")
     add_script(parser, "the script of the table: names and lines of statements, with --explain and in JSON")
     add_format(parser)
     return parser
@@ -472,7 +472,7 @@ def table_parser():
     parser = make_parser("table", TABLE, ATOMIC)
     parser.add_argument("inputs", metavar="INPUT", nargs="+")
     add_output(parser, required=False)
-    parser.add_argument("--compare", metavar="FILE", help="write nothing: say whether the table file FILE is the table of the scripts")
+    parser.add_argument("--compare", metavar="FILE", help="write nothing: report whether the table file FILE is the table of the scripts")
     parser.add_argument("--number", metavar="N", type=file_number, help="the source file number of the first script; the others follow (default: 1)")
     parser.add_argument("--parts", action="store_true",
                         help="OUT is a folder, new or empty: a table file of each top-level statement, 0001.table and so on")
@@ -500,7 +500,7 @@ def dump_parser():
 def figures_parser():
     parser = make_parser("figures", FIGURES, FIGURES_MORE)
     parser.add_argument("paths", metavar="PATH", nargs="*")
-    parser.add_argument("--explain", action="store_true", help="say what each count and each number means, and which PATH a refused file is in")
+    parser.add_argument("--explain", action="store_true", help="print what each count and each number means, and which PATH a refused file is in")
     parser.add_argument("--jobs", metavar="N", type=positive, default=1, help="use N processes; the output is the same")
     parser.add_argument("--add", action="store_true", help="add reports that --json printed")
     parser.add_argument("--format", choices=("text", "json", "csv"), default="text",
@@ -527,7 +527,7 @@ def diff_parser():
 def build_parser():
     parser = make_parser("build", BUILD)
     parser.add_argument("--unproved", action="store_true",
-                        help="compile in seconds without a proof, into target/unproved; every command then says that its library is not proved")
+                        help="compile in seconds without a proof, into target/unproved; every command then reports that its library is not proved")
     add_format(parser)
     return parser
 
@@ -603,7 +603,7 @@ def joined(options, found):
     """The inputs of a run with --join as one."""
     from . import inputs
     if options.script:
-        raise Failed("--script is for table files: a script that is joined is its own")
+        raise Failed("--script is for table files, not for scripts that are joined")
     for one in found:
         if not one.script:
             raise Failed(f"--join is for scripts, and {one.name} is {'a folder' if os.path.isdir(one.path or '') else 'taken as a table file'}")
@@ -644,10 +644,10 @@ def found_in(options, configured, paths, folders=True):
 def check(words, out):
     options = parse(check_parser(), words)
     if not options.paths and options.files_from is None:
-        raise Failed("no PATH is named (`ducat check --help` says how)")
+        raise Failed("no PATH is given (`ducat check --help` says how)")
     if options.against is not None:
         if options.module:
-            raise Failed("--against runs the module pass and the other jobs: --module is not for it")
+            raise Failed("--against runs the module pass and the other jobs: it cannot be used with --module")
         options.against = dialect_word(options.against, "--against") or b""
     books_fit(options)
     configured = Configured(options)
@@ -658,7 +658,7 @@ def check(words, out):
         raise Failed("--dialect is for scripts: a table file has its own dialect")
     edition_fits(options, configured)
     if options.script and any(one.script for one in search.found):
-        raise Failed("--script is for table files: a script that is checked is its own")
+        raise Failed("--script is for table files, not for scripts")
     scripts = scripts_named(options.script, not options.quiet)
     library = open_library()
     json, books = machine(options.format), {}
@@ -691,7 +691,7 @@ def edition_fits(options, configured):
     if options.edition is None:
         return
     if getattr(options, "module", False):
-        raise Failed("--edition is for types, which the module pass does not read: --module is not for it")
+        raise Failed("--edition is for types, which the module pass does not read: it cannot be used with --module")
     if options.files_from is None and not any(could_be_script(path, options.stdin_filename, configured.as_script) for path in options.paths):
         raise Failed("--edition is for scripts: a table file has its own edition")
 
@@ -708,7 +708,7 @@ def books_fit(options, alone=False):
     if any(given) and not all(given) and not (alone and given == [True, False, False]):
         raise Failed("--books, --zone and --setting go together")
     if all(given) and (options.dialect is not None or getattr(options, "against", None) is not None):
-        raise Failed("--books gives the dialect: --dialect and --against are not for it")
+        raise Failed("--books gives the dialect: it cannot be used with --dialect or --against")
     if options.books:
         once(*options.books, *options.paths, *([options.files_from] if options.files_from is not None else []))
 
@@ -723,7 +723,7 @@ def could_be_script(path, stdin_filename, as_script):
 def bind(words, out):
     options = parse(bind_parser(), words)
     if not options.files and options.files_from is None:
-        raise Failed("no FILE is named (`ducat bind --help` says how)")
+        raise Failed("no FILE is given (`ducat bind --help` says how)")
     if (options.call is None) != (options.def_ is None):
         raise Failed("--call and --def go together")
     configured = Configured(options)
@@ -732,7 +732,7 @@ def bind(words, out):
     if options.join and found:
         found = joined(options, found)
     if expectations and options.call is not None:
-        raise Failed("an expectation is of a def by its name: --call and --def are not for it")
+        raise Failed("an expectation names a def: it cannot be used with --call and --def")
     if expectations and not options.script:
         for one in found:
             if not one.script:
@@ -741,7 +741,7 @@ def bind(words, out):
     if single and (len(found) != 1 or found[0].script):
         raise Failed(f"{single} {'need' if options.call is not None else 'needs'} one table file")
     if options.call is not None and options.script:
-        raise Failed("--script pairs calls and defs by itself: --call and --def are not for it")
+        raise Failed("--script pairs calls and defs: it cannot be used with --call and --def")
     if configured.given and found and not any(one.script for one in found):
         raise Failed("--dialect is for scripts: a table file has its own dialect")
     scripts = scripts_named(options.script)
@@ -757,7 +757,7 @@ def bind(words, out):
 def report(words, out):
     options = parse(report_parser(), words)
     if not options.paths and options.files_from is None:
-        raise Failed("no PATH is named (`ducat report --help` says how)")
+        raise Failed("no PATH is given (`ducat report --help` says how)")
     books_fit(options, alone=True)
     configured = Configured(options)
     edition_fits(options, configured)
@@ -767,10 +767,10 @@ def report(words, out):
     if options.join and search.found:
         search.found = joined(options, search.found)
     if options.script and any(one.script for one in search.found):
-        raise Failed("--script is for table files: a script that is checked is its own")
+        raise Failed("--script is for table files, not for scripts")
     taken = [part.path for one in search.found for part in getattr(one, "scripts", [one])] + (options.books or [])
     if any(is_same(options.out, path) for path in taken):
-        raise Failed(f"-o {options.out}: it is an input, and the page would take its place")
+        raise Failed(f"-o {options.out}: it is an input, and the page would overwrite it")
     scripts, library = scripts_named(options.script), open_library()
     if options.zone is not None:
         from . import book
@@ -892,12 +892,12 @@ def dump(words, out):
 def book(words, out):
     from . import book as job
     if not words:
-        raise Failed("no command of `ducat book` is named (`ducat book --help` says which there are)")
+        raise Failed("no command of `ducat book` is given (`ducat book --help` lists them)")
     if words[0] in ("-h", "--help"):
         out.write(BOOK.encode() + b"\n")
         return 0
     if words[0] not in job.RUN:
-        raise Failed(f"there is no command book {words[0]} (`ducat book --help` says which there are)")
+        raise Failed(f"there is no command book {words[0]} (`ducat book --help` lists them)")
     options = parse(job.parser_of(words[0], make_parser), words[1:])
     if words[0] == "new":
         named_out(options.out)
@@ -914,9 +914,9 @@ def figures(words, out):
     once(*options.paths)
     if options.add:
         if not options.paths:
-            raise Failed("no report is named (`ducat figures --help` says how)")
+            raise Failed("no report is given (`ducat figures --help` says how)")
         if options.jobs > 1:
-            raise Failed("--jobs is not for --add")
+            raise Failed("--jobs cannot be used with --add")
         return job.add(options.paths, options, out, head("figures", None, added=True) if options.format == "json" else None)
     from . import inputs
     search = inputs.Search(scripts=False)

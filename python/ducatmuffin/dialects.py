@@ -16,7 +16,7 @@ def of(word):
         return DIALECTS[word.lower()]
     if re.fullmatch(f"[0-9]{{{DIALECT_BYTES}}}", word):
         return bytes(int(digit) for digit in word)
-    raise ValueError(f"no dialect is called {word}: {FORM}")
+    raise ValueError(f"{word} is not a dialect: {FORM}")
 
 
 def name_of(dialect):

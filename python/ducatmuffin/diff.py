@@ -103,7 +103,7 @@ def run(options, out, front):
     (old, before, first), (new, after, second) = read(options.old), read(options.new)
     for key in ("command", "module", "against"):
         if old.get(key) != new.get(key):
-            raise Failed(f"{options.old} and {options.new} are not two of the same run: {key} differs")
+            raise Failed(f"{options.old} and {options.new} are not runs of the same command and options: {key} differs")
     came, went = lacking(after, before), lacking(before, after)
     same = sum(map(len, after.values())) - len(came)
     status = int(bool(came))

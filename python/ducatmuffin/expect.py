@@ -31,7 +31,7 @@ def expectation(text, where):
     """An expectation, or Failed, which says where it stands."""
     found = FORM.fullmatch(text)
     if not found:
-        raise Failed(f"{where}: {text or 'nothing'} is no expectation: DEF.PARAMETER=NAME is needed, where NAME is a name or a path as zone.tracks")
+        raise Failed(f"{where}: {text or 'nothing'} is not an expectation: DEF.PARAMETER=NAME is needed, where NAME is a name or a path such as zone.tracks")
     return Expectation(text, *found.groups())
 
 

@@ -105,13 +105,13 @@ def table_of(root: Node, files: Sequence[int]) -> Exported:
             if over is None and reached > numbers.NAME_BYTES:
                 over = number
     if len(nodes) > numbers.NODES:
-        raise Beyond(numbers.NODES, nodes[numbers.NODES], f"a table has at most {numbers.NODES}, and here are {len(nodes)} nodes")
+        raise Beyond(numbers.NODES, nodes[numbers.NODES], f"a table has at most {numbers.NODES}, and this has {len(nodes)} nodes")
     if over is not None:
-        raise Beyond(over, nodes[over], f"a table has at most {numbers.NAME_BYTES}, and here are {reached} bytes of names")
+        raise Beyond(over, nodes[over], f"a table has at most {numbers.NAME_BYTES}, and this has {reached} bytes of names")
     deepest = max(depths)
     if deepest > numbers.DEPTH:
         first = next(number for number, depth in enumerate(depths) if depth > numbers.DEPTH)
-        raise Beyond(first, nodes[first], f"a table has at most {numbers.DEPTH}, and here are {deepest} levels below each other")
+        raise Beyond(first, nodes[first], f"a table has at most {numbers.DEPTH}, and this has {deepest} nested levels")
     sizes = _sizes(nodes)
     fstrings = [(number, node.parts) for number, node in enumerate(nodes) if node.kind == F_STRING]
     return Exported(_records(nodes, sizes, _files(root, sizes, files), known), b"".join(names), _targets(nodes), fstrings)

@@ -267,7 +267,7 @@ class Lexer:
             digits, octal = found[1] or found[2], found[3]
             code = int(digits, 16) if digits else 0
             if 0xD800 <= code < 0xE000 or code > 0x10FFFF:
-                raise NotStarlark(f"an escape that is no character: {found[0].decode()}", at, found.end())
+                raise NotStarlark(f"an escape that is not a character: {found[0].decode()}", at, found.end())
             if octal and kind == BYTES and int(octal, 8) > 255:
-                raise NotStarlark(f"an escape that is no byte: {found[0].decode()}", at, found.end())
+                raise NotStarlark(f"an escape that is not a byte: {found[0].decode()}", at, found.end())
         return found.end()

@@ -84,7 +84,7 @@ class Edition(enum.IntEnum):
 
 @dataclass(frozen=True)
 class Refusal:
-    """Why a job refuses: document 01's number, what it means, and what it carries. None where a number does not carry it. `file` is the source file
+    """Why a job refuses: a number of docs/RULES.md, its meaning, and what it carries. None where a number does not carry it. `file` is the source file
     number of the node, which every refusal with a span has."""
     number: int
     words: str
@@ -733,4 +733,4 @@ def load(path: Optional[str] = None) -> Library:
             return Library(place)
     if checkout():
         raise LibraryMissing(f"the library is not built: there is no {places[0]}; `ducat build` makes it")
-    raise LibraryMissing(f"the installation is not whole: there is no {places[0]}; tools/install PREFIX puts it there")
+    raise LibraryMissing(f"the installation is incomplete: there is no {places[0]}; tools/install PREFIX puts it there")

@@ -1,6 +1,6 @@
 """Why a table file is refused, in words beyond its number.
 
-Nothing is decided here. For 3 the library names the record, and this says which of document 01's rules that record breaks. For 70 to 73 the
+Nothing is decided here. For 3 the library names the record, and this module says which rule of docs/FORMAT.md that record breaks. For 70 to 73 the
 library is asked about the first blocks: it answers 70 until the bad one is among them.
 """
 import struct

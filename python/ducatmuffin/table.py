@@ -269,7 +269,7 @@ def trees(text: str, line: int = 1) -> List[Node]:
         elif token == "(":
             opened = True
         elif len(way) == 1:
-            raise TextError(line, f"{token} stands in no tree")
+            raise TextError(line, f"{token} is outside a tree")
         elif token == ")":
             way.pop()
         else:
@@ -369,7 +369,7 @@ def _same_name(node, given):
 def _found(text, script, begin, end, node):
     """Where a text stands in a part of a script: its begin and its end."""
     at = script.find(text, begin, end)
-    demand(0 <= at, f"`{text.decode()}` does not stand between {begin} and {end} of the script", node)
+    demand(0 <= at, f"`{text.decode()}` is not between {begin} and {end} of the script", node)
     return at, at + len(text)
 
 
@@ -433,7 +433,7 @@ def dialect_of(word: str) -> Optional[bytes]:
     row = DIALECTS.get(word.lower())
     if row is None:
         known = re.fullmatch("[01]{5}[012][01]{3}", word)
-        demand(known, f"{word} is no dialect: a name, or nine numbers, 0 or 1 and the sixth up to 2")
+        demand(known, f"{word} is not a dialect: a name is needed, or nine numbers, 0 or 1, the sixth 0 to 2")
         row = bytes(int(digit) for digit in word)
     return row or None
 
@@ -458,7 +458,7 @@ def dialect_name(dialect: Optional[bytes]) -> str:
 def _edition(word, dialect, off):
     """An edition, or where the rules are off any byte."""
     edition, = _numbers(word, None, [255])
-    demand(off or edition in EDITIONS, f"{edition} is no edition: 1 or 2")
+    demand(off or edition in EDITIONS, f"{edition} is not an edition: 1 or 2")
     demand(dialect, "an edition, and no dialect: a file without a dialect has none")
     return edition
 
@@ -505,7 +505,7 @@ def read_text(text: str, script: Optional[Callable[[str], bytes]] = None) -> Tex
     demand(roots or off and "script" not in said, "there is no tree")
     demand(len(roots) < 2, "a second tree", roots[-1] if roots else None)
     if "script" in said:
-        demand(script, "a script is named, and none is at hand")
+        demand(script, "the text names a script, and none is given")
         place(roots[0], script(said["script"][0]))
     for node in preorder(roots):
         demand("script" in said or node.quote is None, "a quote, and no script is named", node)

@@ -98,7 +98,7 @@ def checked(paths):
 
 
 def lines_of(answer):
-    """What the program of document 01 prints of an answer of the library."""
+    """What the program tablecheck prints for an answer of the library."""
     if isinstance(answer, Refusal):
         return f"refused {answer.number}\n".encode()
     errors = "".join(f"{error.number} {error.file} {error.begin} {error.end}\n" for error in answer.errors)

@@ -9,7 +9,7 @@ from ducatmuffin import against, dialects, numbers, table
 
 PASS = "module pass (10 to 19 and 50 to 61):\n"
 OTHERS = "other jobs, in the new dialect:\n"
-NOT_TIED = "enable_top_level_stmt opens and there were errors, so no theorem ties the two lists"
+NOT_TIED = "enable_top_level_stmt opens and there were errors, so no theorem relates the two lists"
 ALL_NINE = ("enable_def, enable_lambda, enable_load, enable_keyword_only_arguments, enable_positional_only_arguments, enable_types, "
             "enable_load_reexport, enable_top_level_stmt, enable_f_strings")
 # each of the six errors that an opening may take out, a 55 that stays, and a call that only another job refuses
@@ -188,14 +188,14 @@ class Forms(CommandTest):
 
     def test_refused_and_unreadable(self):
         self.says(2, "refused 72\n", None, "check", "--against", "all", "samples/damaged.table")
-        self.says(2, "refused 5\n", "ducat: samples/clean.table: refused 5: the dialect bytes give no dialect, or the edition is neither 1 nor 2, or stands without a dialect: the bytes are 2 0 0 0 0 0 0 0 0\n",
+        self.says(2, "refused 5\n", "ducat: samples/clean.table: refused 5: the dialect bytes are not a dialect, or the edition is neither 1 nor 2, or there is an edition and no dialect: the bytes are 2 0 0 0 0 0 0 0 0\n",
                   "check", "--against", "200000000", "samples/clean.table")
         self.says(2, "", "ducat: samples/missing.table: No such file or directory\n", "check", "--against", "all", "samples/missing.table")
 
     def test_words_that_do_not_fit(self):
-        self.says(2, "", "ducat: --against: no dialect is called wide: standard, extended, all, none or nine digits\n",
+        self.says(2, "", "ducat: --against: wide is not a dialect: standard, extended, all, none or nine digits\n",
                   "check", "--against", "wide", "samples/clean.table")
-        self.says(2, "", "ducat: --against runs the module pass and the other jobs: --module is not for it\n",
+        self.says(2, "", "ducat: --against runs the module pass and the other jobs: it cannot be used with --module\n",
                   "check", "--module", "--against", "all", "samples/clean.table")
 
 

@@ -103,7 +103,7 @@ defs 3, calls 6
         self.pair(0, "trains, by place only: trains (node 23, file 1, bytes 149 to 155)\ntracks, by place only: tracks (node 25, file 1, bytes 157 to 163)\n",
                   TAKE, 21, 1)
         self.pair(1, "refused 82 1 174 187\n", TAKE, 28, 1)
-        self.pair(1, "refused 82 1 174 187: no parameter takes a named argument, and there is no `**kwargs`\n", TAKE, 28, 1, "--explain")
+        self.pair(1, "refused 82 1 174 187: a named argument matches no parameter, and there is no `**kwargs`\n", TAKE, 28, 1, "--explain")
         self.pair(0, "trains, by place or name: trains=tracks (node 32, file 1, bytes 189 to 202)\n"
                   "tracks, by place or name: tracks=trains (node 30, file 1, bytes 174 to 187)\n"
                   "exchanged: trains (node 31, file 1, bytes 181 to 187) reaches tracks, and tracks (node 33, file 1, bytes 196 to 202) reaches trains\n",
@@ -162,13 +162,13 @@ e, by name only: default
         path = self.made("refusals", REFUSALS)
         for call, def_ in ((1, 12), (12, 40), (12, 43), (43, 1), (12, 2100), (12, 4294967295), (12, 18446744073709551616), (10 ** 26 - 1, 1)):
             self.pair(2, "refused 6\n", path, call, def_)
-        self.pair(2, "refused 6: the node asked for is beyond the table, or of the wrong kind\n", path, 0, 0, "--explain")
+        self.pair(2, "refused 6: the node is beyond the table, or of the wrong kind\n", path, 0, 0, "--explain")
 
 
 class Files(BindTest):
     def test_refused(self):
         self.says(2, "refused 72\n", None, "bind", "samples/damaged.table")
-        self.says(2, "refused 70: the file ends before a block is whole, block 2: the file ends after 1500 bytes, 476 bytes into this block\n"
+        self.says(2, "refused 70: the file ends before a block is complete, block 2: the file ends after 1500 bytes, 476 bytes into this block\n"
                   "hint: its 1500 bytes are not a multiple of 512, so this is not a whole table file\n", "",
                   "bind", "--explain", "samples/cut.table", "--call", "1", "--def", "2")
         self.says(2, "refused 3\n", None, "bind", "samples/unsound.table", "--script", "samples/unsound.star")
@@ -198,15 +198,15 @@ class Files(BindTest):
         self.assertTrue(ran.out.endswith("bound 5, refused 1, without a def 0, namesakes 6\n"))
 
     def test_words_that_are_wrong(self):
-        for words, said in (((), "no FILE is named"), ((TAKE, "--call", "1"), "--call and --def go together"),
+        for words, said in (((), "no FILE is given"), ((TAKE, "--call", "1"), "--call and --def go together"),
                             ((TAKE, "--call", "x", "--def", "1"), "a node is a number"),
                             ((TAKE, "--call", "-1", "--def", "1"), ""), ((TAKE, "--nothing"), "unrecognized arguments: --nothing"),
                             ((TAKE, "--script"), "expected one argument"),
-                            (("--script", "samples/take.star", TAKE, "--call", "21", "--def", "1"), "--script pairs calls and defs by itself"),
+                            (("--script", "samples/take.star", TAKE, "--call", "21", "--def", "1"), "--script pairs calls and defs: it cannot be used"),
                             ((TAKE, TAKE, "--call", "21", "--def", "1"), "--call and --def need one table file"),
                             (("samples/take.star", "--call", "21", "--def", "1"), "--call and --def need one table file"),
                             (("--script", "samples/take.star", "samples/take.star"), "--script needs one table file"),
-                            (("--dialect", "all", TAKE), "--dialect is for scripts"), (("--dialect", "basic", "samples/take.star"), "no dialect is called")):
+                            (("--dialect", "all", TAKE), "--dialect is for scripts"), (("--dialect", "basic", "samples/take.star"), "basic is not a dialect")):
             ran = self.run_ducat("bind", *words)
             self.assertEqual((ran.status, ran.out, len(ran.err.splitlines())), (2, "", 1), words)
             self.assertIn(said, ran.err)
@@ -292,7 +292,7 @@ class Json(BindTest):
         self.assertEqual(first["parameters"][0], {"name": "trains", "mode": "by place only", "default": False, "arguments": [
             {"node": 23, "file": 1, "begin": 149, "end": 155, "line": 8, "column": 10}]})
         self.assertEqual(second["refused"], {
-            "number": 82, "words": "no parameter takes a named argument, and there is no `**kwargs`", "node": 30,
+            "number": 82, "words": "a named argument matches no parameter, and there is no `**kwargs`", "node": 30,
             "kind": {"number": 61, "name": "Named"}, "file": 1, "begin": 174, "end": 187, "line": 9, "column": 10})
 
     def test_list_and_pair(self):

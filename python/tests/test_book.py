@@ -136,7 +136,7 @@ class Commands(BookTest):
         self.put("twice", self.sealed(bytes(good), 0, 0))
         ran = self.run_ducat("book", "lookup", "--explain", self.at("twice"), LINE, "7", "4")
         self.assertEqual(ran.status, 2)
-        self.assertIn("zone 7 and setting 3 stand at place 0 and at place 1", ran.out)
+        self.assertIn("zone 7 and setting 3 are at place 0 and at place 1", ran.out)
 
     def test_the_other_book_is_not_read(self):
         self.books()

@@ -13,8 +13,8 @@ STATUS = {"clean": 0, "cut": 2, "damaged": 2, "edition": 1, "edition-bad": 2, "e
 ALL = "the whole checker accepts: the module pass, and every job on every node that it fits"
 MODULE = "none of 10 to 19 and 50 to 61; 20 to 45 (calls, targets, types) are not looked for with --module"
 LOOKS = "hint: this looks like a script; `ducat check` takes it under a name that ends in .star, with --as-script, or with --stdin-filename\n"
-DEFAULT = "a parameter without a default stands after one that has a default"
-BREAK = "`break` stands outside a `for` loop"
+DEFAULT = "a parameter without a default follows one that has a default"
+BREAK = "`break` is outside a `for` loop"
 LARGEST = "dialect: Standard\n(Statements ^64<(OtherSimple (Identifier " + "0" * 126 + "))> ^1970<(OtherSimple)> (Break))"
 
 
@@ -90,7 +90,7 @@ class Inputs(CommandTest):
 
     def test_more_bytes_than_are_read(self):
         over = support.sample("clean.table") + bytes(100000)
-        self.says(2, "refused 75\n", "ducat: -: refused 75: bytes stand behind the last block: 57857 bytes or more after block 3\n",
+        self.says(2, "refused 75\n", "ducat: -: refused 75: there are bytes after the last block: 57857 bytes or more after block 3\n",
                   "check", "-", input=over)
 
     def test_all_errors_are_printed(self):
@@ -188,7 +188,7 @@ files 4, with errors 2, refused 1, not read 0, errors 4
         self.assertEqual(sum(line.startswith("samples/") and line.endswith(":") for line in out.splitlines()), 20)
 
     def test_what_is_no_table_file_is_told_as_what_it_looks_like(self):
-        short = "refused 70: the file ends before a block is whole, block "
+        short = "refused 70: the file ends before a block is complete, block "
         self.says(2, short + "2: the file ends after 1500 bytes, 476 bytes into this block\n"
                   "hint: its 1500 bytes are not a multiple of 512, so this is not a whole table file\n", "", "check", "--explain", "samples/cut.table")
         self.says(2, short + "0: the file is empty\n", "", "check", "--explain", self.put("nothing", b""))
@@ -199,7 +199,7 @@ files 4, with errors 2, refused 1, not read 0, errors 4
         readme = self.put("README.md", b"text " * 300)
         self.says(2, "refused 72: the sum of a block is wrong, so a byte is damaged, block 0\n" + LOOKS, "", "check", "--explain", readme)
         over = self.put("over", support.sample("clean.table") + bytes(10))
-        self.says(2, "refused 75: bytes stand behind the last block: 10 bytes after block 3\n"
+        self.says(2, "refused 75: there are bytes after the last block: 10 bytes after block 3\n"
                   "hint: its 2058 bytes are not a multiple of 512, so this is not a whole table file\n", "", "check", "--explain", over)
 
     def test_nodes_of_refusals(self):
@@ -212,7 +212,7 @@ files 4, with errors 2, refused 1, not read 0, errors 4
         self.says(2, "refused 4\n", None, "check", deep)
 
     def test_the_earlier_place(self):
-        """11 and 22 name the first use: with --explain, and never among document 01's lines."""
+        """11 and 22 name the first use: with --explain, and never without it."""
         self.assertEqual(support.sample("whole.out").decode(), self.run_ducat("check", "--module", "samples/whole.table").out)
         self.assertIn("22 1 87 90\n", self.run_ducat("check", "samples/whole.table").out)
         path = self.put("whole", support.sample("whole.table"))
@@ -234,7 +234,7 @@ files 4, with errors 2, refused 1, not read 0, errors 4
 
 class Limit(CommandTest):
     """A parameter list has at most 48 entries, marks counted: 19 at the Def or Lambda."""
-    WORDS = "the parameter list has more than 48 entries, marks counted"
+    WORDS = "the parameter list has more than 48 entries, `*` and `/` counted"
 
     def list_of(self, many, front="", back=""):
         """A def with a list of so many entries, and a lambda with the same."""

@@ -56,7 +56,7 @@ class Config(CommandTest):
     def test_what_is_wrong_with_it(self):
         for text, said in (("[ducat]\ndialct = all\n", "there is no key dialct, only dialect, exclude, as-script, expect"),
                            ("[duct]\n", "there is no section [duct], only [ducat]"),
-                           ("[ducat]\ndialect = basic\n", "no dialect is called basic"), ("dialect = all\n", "no section headers"),
+                           ("[ducat]\ndialect = basic\n", "basic is not a dialect"), ("dialect = all\n", "no section headers"),
                            (b"[ducat]\nexclude = \xff\n", "not UTF-8"), ("[ducat]\ndialect=all\ndialect=all\n", "already exists"),
                            ("#" * (2 ** 20 + 1), "more than 1,048,576 bytes")):
             self.put("ducat.ini", text)

@@ -9,7 +9,7 @@ from ducatmuffin import numbers, table
 
 SCRIPT = "x: a.type = 1\ny: b.type[int, str] = 2\nz: c.type[int] = 3\n"
 BAN = "a path in a type ends in `.type`, which edition 2 allows"
-WORDS_5 = "the dialect bytes give no dialect, or the edition is neither 1 nor 2, or stands without a dialect"
+WORDS_5 = "the dialect bytes are not a dialect, or the edition is neither 1 nor 2, or there is an edition and no dialect"
 EXTENDED = numbers.DIALECTS["extended"]
 
 
@@ -83,7 +83,7 @@ class Scripts(EditionTest):
         path = self.script()
         for word in ("0", "3", "257", "one", "", "1 "):
             self.says(2, "", "ducat: argument --edition: an edition is 1 or 2 (`ducat check --help` says how)\n", "check", "--edition", word, path)
-        self.says(2, "", "ducat: --edition is for types, which the module pass does not read: --module is not for it\n",
+        self.says(2, "", "ducat: --edition is for types, which the module pass does not read: it cannot be used with --module\n",
                   "check", "--edition", "2", "--module", path)
         self.says(2, "", "ducat: --edition is for scripts: a table file has its own edition\n", "check", "--edition", "2", "samples/edition.table")
         for command in ("bind", "dump"):

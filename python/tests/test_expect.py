@@ -166,14 +166,14 @@ class Words(ExpectTest):
     def test_what_is_wrong(self):
         path = self.put("a.star", DEF)
         held, other = self.put("held", "\norder=x\n"), self.put("other", b"\xff\n")
-        for words, said in (((path, "--expect", "order"), "--expect: order is no expectation: DEF.PARAMETER=NAME is needed"),
-                            ((path, "--expect", "order.a.b=c"), "no expectation"), ((path, "--expect", "order.a=c d"), "no expectation"),
-                            ((path, "--expect", "order.a=1"), "no expectation"), ((path, "--expect", ""), "nothing is no expectation"),
-                            ((path, "--expectations", held), f"{held}:2: order=x is no expectation"), ((path, "--expectations", other), "not UTF-8"),
+        for words, said in (((path, "--expect", "order"), "--expect: order is not an expectation: DEF.PARAMETER=NAME is needed"),
+                            ((path, "--expect", "order.a.b=c"), "is not an expectation"), ((path, "--expect", "order.a=c d"), "is not an expectation"),
+                            ((path, "--expect", "order.a=1"), "is not an expectation"), ((path, "--expect", ""), "nothing is not an expectation"),
+                            ((path, "--expectations", held), f"{held}:2: order=x is not an expectation"), ((path, "--expectations", other), "not UTF-8"),
                             ((path, "--expectations", "missing"), "missing: No such file or directory"),
                             ((path, "--expect", "f.a=b", "--expect", "f.a=c"), "f.a=b and f.a=c cannot both be met"),
                             (("samples/take.table", "--expect", "f.a=b"), "needs --script for the table file samples/take.table"),
-                            (("samples/take.table", "--call", "21", "--def", "1", "--expect", "f.a=b"), "--call and --def are not for it"),
+                            (("samples/take.table", "--call", "21", "--def", "1", "--expect", "f.a=b"), "it cannot be used with --call and --def"),
                             (("-", "--expectations", "-"), "standard input (`-`) is named twice")):
             ran = self.run_ducat("bind", *words)
             self.assertEqual((ran.status, ran.out, len(ran.err.splitlines())), (2, "", 1), words)

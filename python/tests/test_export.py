@@ -206,7 +206,7 @@ JUDGED = [("def f(a=1, b): pass", 13), ("f(a=1, 2)", 20), ("f() = 1", 30)]
 TOO_LARGE = [
     ("x = " + "n" * 256, "1:5", "a name of 256 bytes, and a table has names of 255 at most"),
     ("x = " + "(" * 300 + ")" * 300, "1:105", "nested too deeply: this parser follows 200 levels of expressions and blocks in each other"),
-    ("x = " + "-" * 9000 + "1", "1:2103", "a table has at most 2100, and here are 9003 nodes"),
+    ("x = " + "-" * 9000 + "1", "1:2103", "a table has at most 2100, and this has 9003 nodes"),
 ]
 
 
@@ -224,12 +224,12 @@ MOST_CALLS = (numbers.DEPTH - 2) // (1 + tables.weight(numbers.KIND["Positional"
 LETTERS = [f"n{number:02}".ljust(126, "_") for number in range(64)]
 # the largest script within a limit, the smallest beyond it, where that is refused, and what is said
 LIMITS = [
-    ("pass\n" * 2099, "pass\n" * 2100, "2100:1", "at most 2100, and here are 2101 nodes"),
-    ("\n".join(LETTERS), "\n".join(LETTERS + ["a"]), "65:1", "at most 8064, and here are 8065 bytes of names"),
-    ("\n".join(LETTERS * 5), "\n".join(LETTERS * 5 + ["a"]), "321:1", "at most 8064, and here are 8065 bytes of names"),
-    (lists(63), lists(64), "1:64", "at most 64, and here are 65 levels"),
-    (calls(MOST_CALLS), calls(MOST_CALLS + 1), "1", "at most 64, and here are 6"),
-    ("x = " + "-" * 62 + "1", "x = " + "-" * 63 + "1", "1:68", "at most 64, and here are 65 levels"),
+    ("pass\n" * 2099, "pass\n" * 2100, "2100:1", "at most 2100, and this has 2101 nodes"),
+    ("\n".join(LETTERS), "\n".join(LETTERS + ["a"]), "65:1", "at most 8064, and this has 8065 bytes of names"),
+    ("\n".join(LETTERS * 5), "\n".join(LETTERS * 5 + ["a"]), "321:1", "at most 8064, and this has 8065 bytes of names"),
+    (lists(63), lists(64), "1:64", "at most 64, and this has 65 nested levels"),
+    (calls(MOST_CALLS), calls(MOST_CALLS + 1), "1", "at most 64, and this has 6"),
+    ("x = " + "-" * 62 + "1", "x = " + "-" * 63 + "1", "1:68", "at most 64, and this has 65 nested levels"),
     ("n" * 255, "n" * 256, "1:1", "a name of 256 bytes"),
 ]
 

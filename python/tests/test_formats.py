@@ -166,7 +166,7 @@ class Lines(CommandTest):
                   "check", "--format", "gcc", "samples/damaged.table", "samples/no.table")
         path = self.put("x.star", "x = \n")
         self.says(1, f"{path}:1:5: error: syntax: unexpected end of line [syntax]\n", STEP, "check", "--format", "gcc", path)
-        self.says(1, "samples/take.star:9:10: error: no parameter takes a named argument, and there is no `**kwargs` [82]\n"
+        self.says(1, "samples/take.star:9:10: error: a named argument matches no parameter, and there is no `**kwargs` [82]\n"
                   "samples/take.star:9:5: note: the call\nsamples/take.star:1:1: note: the def\n"
                   "samples/take.star:10:10: warning: tracks reaches trains, though there is a parameter tracks [namesake]\n"
                   "samples/take.star:10:18: note: it is exchanged with this argument\nsamples/take.star:1:1: note: the def\n"

@@ -77,10 +77,10 @@ errors 1
 
     def test_a_wrong_order_reaches_the_checker(self):
         self.says(1, """nodes 6
-samples/example.star:1:15: 13 a parameter without a default stands after one that has a default
+samples/example.star:1:15: 13 a parameter without a default follows one that has a default
     def f(a, b=1, c):
                   ^
-samples/example.star:2:3: 55 `break` stands outside a `for` loop
+samples/example.star:2:3: 55 `break` is outside a `for` loop
       break
       ^^^^^
 errors 2
@@ -142,10 +142,10 @@ errors 2
 
     def test_dialects(self):
         path = self.put("plan.star", PLAN)
-        self.says(2, "", "ducat: --dialect: no dialect is called basic: standard, extended, all, none or nine digits\n",
+        self.says(2, "", "ducat: --dialect: basic is not a dialect: standard, extended, all, none or nine digits\n",
                   "check", "--dialect", "basic", path)
         self.says(2, "", "ducat: --dialect is for scripts: a table file has its own dialect\n", "check", "--dialect", "all", "samples/clean.table")
-        self.says(2, "refused 5\n", f"{STEP}ducat: {path}: refused 5: the dialect bytes give no dialect, or the edition is neither 1 nor 2, or stands without a dialect: the bytes are 1 1 1 0 0 3 1 0 0\n",
+        self.says(2, "refused 5\n", f"{STEP}ducat: {path}: refused 5: the dialect bytes are not a dialect, or the edition is neither 1 nor 2, or there is an edition and no dialect: the bytes are 1 1 1 0 0 3 1 0 0\n",
                   "check", "--dialect", "111003100", path)
         for word, name in (("none", "extended (none is given)"), ("STANDARD", "standard"), ("111112111", "all"), ("111000000", "111000000")):
             self.assertIn(f"nodes 14, dialect {name}\n", self.run_ducat("check", "--explain", "--dialect", word, path).out)

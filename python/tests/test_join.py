@@ -147,7 +147,7 @@ class Check(JoinTest):
     def test_wrong_usage(self):
         self.wrong("--join is for scripts, and samples/take.table is taken as a table file", "check", "--join", LINE, "samples/take.table")
         self.wrong("--join is for scripts, and samples is a folder", "check", "--join", "samples")
-        self.wrong("--script is for table files: a script that is joined is its own", "check", "--script", LINE, *JOIN)
+        self.wrong("--script is for table files, not for scripts that are joined", "check", "--script", LINE, *JOIN)
         self.wrong("source file numbers end at 999, and the last of 1000 scripts from 1 on would be 1000", "check", "--join", *[LINE] * 1000)
         self.wrong("standard input (`-`) is named twice", "check", "--join", "-", "-", "--stdin-filename", "x.star")
 

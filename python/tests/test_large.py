@@ -150,7 +150,7 @@ class Limits(CommandTest):
         path = self.put("large.star", "pass\n" * 2200 + "def f(a, b=1, a):\n    break\n")
         first = f"{path}:2201:15: 11 a parameter has the name of an earlier one"
         self.says(1, f"nodes 2207, in 2 tables\n{first}\n    def f(a, b=1, a):\n                  ^\n{path}:2201:7: note: the earlier parameter\n"
-                  f"    def f(a, b=1, a):\n          ^\n{path}:2202:5: 55 `break` stands outside a `for` loop\n        break\n        ^^^^^\nerrors 2\n", STEP,
+                  f"    def f(a, b=1, a):\n          ^\n{path}:2202:5: 55 `break` is outside a `for` loop\n        break\n        ^^^^^\nerrors 2\n", STEP,
                   "check", path)
         ran = self.says(1, None, STEP, "check", "--explain", "--dialect", "all", path)
         self.assertEqual(ran.out.splitlines()[0], "nodes 2207, in 2 tables, dialect all")
@@ -165,20 +165,20 @@ class Limits(CommandTest):
         self.assertIn(first, ran.out)
         ran = self.says(1, None, STEP, "check", "--against", "all", "--dialect", "standard", path)
         self.assertEqual(ran.out.splitlines()[0], "nodes 2207, in 2 tables")
-        self.assertIn("so no theorem ties the two lists: before 2, after 2\n", ran.out)
+        self.assertIn("so no theorem relates the two lists: before 2, after 2\n", ran.out)
         ran = self.says(1, None, STEP, "check", "--against", "all", path)
         self.assertIn("taken out 0, left 2\n", ran.out)
 
     def test_a_table_is_not_written(self):
         path, out = self.put("large.star", "pass\n" * 2100), self.at("out.table")
-        said = f"{STEP}ducat: {path}:2100:1: a table has at most 2100, and here are 2101 nodes\n"
+        said = f"{STEP}ducat: {path}:2100:1: a table has at most 2100, and this has 2101 nodes\n"
         self.says(2, "", said, "table", path, "-o", out)
         self.put("out.table", b"old")
         self.says(2, "", said, "table", path, "-o", out)
         self.assertEqual(self.read("out.table"), b"old")
         self.says(2, "", said, "table", path, "--compare", "samples/example.table")
         small = self.put("small.star", "pass\n" * 2099)
-        self.says(2, "", f"{STEP}ducat: {path}:1:1: a table has at most 2100, and here are 4200 nodes\n", "table", small, path, "-o", out)
+        self.says(2, "", f"{STEP}ducat: {path}:1:1: a table has at most 2100, and this has 4200 nodes\n", "table", small, path, "-o", out)
         self.alone()
 
 
@@ -213,18 +213,18 @@ class Bind(CommandTest):
         ran = self.run_ducat("bind", path)
         self.assertEqual(ran.status, 2)
         self.assertIn("4:1 f(1), def 1:1\n    a, by place or name: 1 (4:3)\n", ran.out)
-        self.assertIn("15:1 f([1, 2, 3, 4, 5]), def 1:1\n    not judged: a table has at most 2100, and here are 2105 nodes\n", ran.out)
+        self.assertIn("15:1 f([1, 2, 3, 4, 5]), def 1:1\n    not judged: a table has at most 2100, and this has 2105 nodes\n", ran.out)
         self.assertEqual(ran.out.splitlines()[-1], "bound 11, refused 0, without a def 0, not judged 1")
         ran = self.run_ducat("bind", "--json", path)
         told = json.loads(ran.out)
         entry, = told["inputs"]
         self.assertEqual((ran.status, told["status"], entry["verdict"], entry["totals"]["not_judged"]), (2, 2, "not judged", 1))
-        self.assertEqual(entry["pairs"][-1]["not_judged"], "a table has at most 2100, and here are 2105 nodes")
+        self.assertEqual(entry["pairs"][-1]["not_judged"], "a table has at most 2100, and this has 2105 nodes")
         self.assertEqual((entry["pairs"][-1]["call"]["line"], entry["pairs"][-1]["def"]["line"]), (15, 1))
 
     def test_a_statement_that_is_too_large(self):
         path = self.put("one.star", "def f(a): pass\nx = [f(1), " + "1, " * 2200 + "]\nf(2)\n")
-        self.says(2, "2:6 f(1), def 1:1\n    not judged: a table has at most 2100, and here are 2211 nodes\n3:1 f(2), def 1:1\n"
+        self.says(2, "2:6 f(1), def 1:1\n    not judged: a table has at most 2100, and this has 2211 nodes\n3:1 f(2), def 1:1\n"
                   "    a, by place or name: 2 (3:3)\nbound 1, refused 0, without a def 0, not judged 1\n", STEP, "bind", path)
 
 

@@ -5,7 +5,7 @@ import support
 from command import CommandTest
 from ducatmuffin.places import Source
 
-WORDS = ": 55 `break` stands outside a `for` loop"
+WORDS = ": 55 `break` is outside a `for` loop"
 # a script, spans in it, and what is printed of an error at each
 CARETS = [
     # a tab, wide characters, one that combines, a mark that turns the direction, a byte that is not a character
@@ -116,10 +116,10 @@ class Scripts(CommandTest):
     """--script, and the script beside a table file."""
 
     PLACED = """nodes 6
-{0}:1:15: 13 a parameter without a default stands after one that has a default
+{0}:1:15: 13 a parameter without a default follows one that has a default
     def f(a, b=1, c):
                   ^
-{0}:2:3: 55 `break` stands outside a `for` loop
+{0}:2:3: 55 `break` is outside a `for` loop
       break
       ^^^^^
 errors 2
@@ -138,7 +138,7 @@ errors 2
                   "samples/example.table")
         self.says(2, "", "ducat: samples: Is a directory\n", "check", "--script", "samples", "samples/example.table")
         self.says(2, "", None, "check", "samples/example.table", "--script")
-        self.says(2, "", "ducat: --script is for table files: a script that is checked is its own\n", "check", "--script", "samples/clean.star",
+        self.says(2, "", "ducat: --script is for table files, not for scripts\n", "check", "--script", "samples/clean.star",
                   "samples/clean.star")
 
 

@@ -28,13 +28,13 @@ class Words(CommandTest):
 
     def test_help_says_what_is_covered(self):
         text = " ".join(self.run_ducat("check", "--help").out.split())
-        for covered in ("10 to 19", "20 to 24", "30 to 33", "40 to 45", "50 to 61", "Not covered", "there is no option and no comment that leaves out a rule",
+        for covered in ("10 to 19", "20 to 24", "30 to 33", "40 to 45", "50 to 61", "Not covered", "No option and no comment switches a rule off",
                         "59,905", "16,777,216"):
             self.assertIn(covered, text)
 
     def test_wrong_words(self):
         for words, said in (((), "no command is named"), (("chek",), "there is no command chek"), (("--nothing",), "there is no option --nothing"),
-                            (("check",), "no PATH is named"), (("check", "--nothing", "x"), "unrecognized arguments: --nothing"),
+                            (("check",), "no PATH is given"), (("check", "--nothing", "x"), "unrecognized arguments: --nothing"),
                             (("check", "--modul", "x"), "unrecognized arguments: --modul"), (("check", "--format", "xml", "x"), "invalid choice"),
                             (("write", "a", "-o", "x"), "NAMES"), (("table", "a"), "one of -o and --compare is needed"), (("build", "x"), "unrecognized arguments: x"),
                             (("check", "--x\nerrors"), "unrecognized arguments: --x?errors")):

@@ -392,7 +392,7 @@ class Whole(ReportTest):
         self.assertEqual(["open" in one.attributes for one in self.report(0, self.at("all/0.star")).all("details")], [True])
 
     def test_words_and_files(self):
-        for words, said in ((("samples/take.star",), "the following arguments are required: -o"), (("-o", self.at("x.html")), "no PATH is named"),
+        for words, said in ((("samples/take.star",), "the following arguments are required: -o"), (("-o", self.at("x.html")), "no PATH is given"),
                             (("samples", "-o", "-"), "-o needs the name of a file"), (("samples", "-o", "x.star"), "this is a script's name"),
                             (("samples", "-o", self.at("x.html"), "--zone", "1"), "--books, --zone and --setting go together"),
                             (("samples/take.star", "-o", self.at("no/x.html")), "No such file or directory")):

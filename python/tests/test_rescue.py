@@ -100,13 +100,13 @@ class Refused(RescueTest):
         take = support.sample("take.table")
         for data, number in ((b"", 90), (take[:511], 90), (take[:1023], 90), (take[:1024], 91)):
             self.refused(f"refused {number}\n", f"refused {number}: ", self.put("in", data))
-        self.refused("refused 91\n", "the reader's answer is 70: the file ends before a block is whole, block 2", "samples/cut.table")
+        self.refused("refused 91\n", "the reader's answer is 70: the file ends before a block is complete, block 2", "samples/cut.table")
         self.refused("refused 91\n", "the reader's answer is 3: a record of the table is unsound, node 0", "samples/unsound.table")
         self.refused("refused 90\n", "the reader's answer is 72: the sum of a block is wrong, so a byte is damaged, block 1", "samples/damaged.table")
 
     def test_a_refusal_makes_no_file(self):
         ran = self.run_ducat("rescue", "--explain", "samples/cut.table", "-o", self.at("none"))
-        self.assertTrue(ran.out.startswith("refused 91: the blocks of a file to be rescued do not pass, and no child of its root can be kept"))
+        self.assertTrue(ran.out.startswith("refused 91: the file is damaged, and no child of its root can be kept"))
         self.assertEqual((ran.status, ran.err, os.path.exists(self.at("none"))), (2, "", False))
 
     def test_what_cannot_be_read_or_written(self):

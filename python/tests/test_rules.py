@@ -70,15 +70,18 @@ class Rule(CommandTest):
                          [1, 2, 3, 4, 6, 7, 63, 64, *range(70, 77), 90, 91, *range(95, 99)])
 
     def test_what_is_printed(self):
-        said = ("13 NO_DEFAULT_AFTER_DEFAULT\nmeaning: a parameter without a default stands after one that has a default\n"
+        said = ("13 NO_DEFAULT_AFTER_DEFAULT\nmeaning: a parameter without a default follows one that has a default\n"
+                "rule: Before a star, each parameter after one with a default has a default too. A `/` does not end this rule, a star does. "
+                "Reported at the parameter without a default.\nfrom: def.rs, line 207: positional parameter after non positional\n"
                 "given by: params, bind, namesakes, module, audit, file\nexample: a script; `ducat check --dialect all FILE`\n    def f(a=1, b): pass\n")
         for word in ("13", "no_default_after_default", "NO_DEFAULT_AFTER_DEFAULT"):
             self.says(0, said, "", "rule", word)
         for number in numbers.WORDS:
             ran = self.says(0, None, "", "rule", str(number))
-            self.assertTrue(ran.out.startswith(f"{number} {numbers.NUMBERS[number]}\nmeaning: {numbers.WORDS[number]}\ngiven by: "), ran.out)
+            self.assertTrue(ran.out.startswith(f"{number} {numbers.NUMBERS[number]}\nmeaning: {numbers.WORDS[number]}\nrule: {rules.RULES[number].text}\nfrom: "), ran.out)
             rule = json.loads(self.run_ducat("rule", "--json", str(number)).out)["rule"]
             self.assertEqual((rule["number"], rule["words"], ", ".join(rule["given_by"])), (number, numbers.WORDS[number], numbers.GIVEN[number]))
+            self.assertEqual((rule["rule"], rules.Source(**rule["source"])), rules.RULES[number])
         for word in ("0", "8", "99", "13a", "-1", "", "1" * 30):
             self.assertEqual(self.run_ducat("rule", "--", word).status, 2)
 
@@ -127,7 +130,7 @@ class Diff(CommandTest):
         self.put("take.star", "def f(a, /): pass\nf(a)\nf(a=1)\nf()\nx = [" + "1, " * 2200 + "f(1)]\n")
         new = self.run_of("new.json", "bind", script)
         self.says(1, f"new: {script}:4:1, def {script}:1:1: refused 84: {numbers.WORDS[84]}\n"
-                  f"new: {script}:5:6606, def {script}:1:1: not judged: a table has at most 2100, and here are 2212 nodes\nnew 2, gone 0, same 1\n", "",
+                  f"new: {script}:5:6606, def {script}:1:1: not judged: a table has at most 2100, and this has 2212 nodes\nnew 2, gone 0, same 1\n", "",
                   "diff", old, new)
         joined = self.run_of("joined.json", "bind", "--join", "samples/joined.1.star", "samples/joined.2.star")
         ran = self.says(1, None, "", "diff", old, joined)
@@ -146,7 +149,7 @@ class Diff(CommandTest):
         for other in (self.run_of("1", "check", "--module", "samples/example.table"), self.run_of("2", "bind", "samples/take.star"),
                       self.run_of("3", "check", "--against", "all", "samples/clean.table")):
             ran = self.says(2, "", None, "diff", run, other)
-            self.assertIn("are not two of the same run", ran.err)
+            self.assertIn("are not runs of the same command and options", ran.err)
         ran = self.says(2, "", None, "diff", run, self.run_of("4", "dump", "samples/example.table"))
         self.assertIn("this is version 1 of `ducat dump`", ran.err)
         self.says(2, "", "ducat: standard input (`-`) is named twice\n", "diff", "-", "-")

@@ -62,7 +62,7 @@ class Write(CommandTest):
         for word in ("standard", "111000100"):
             self.says(0, "written 1536\n", "", "write", *parts, "--dialect", word, "-o", self.at("out"))
             self.assertEqual(self.read("out"), support.sample("example.table"))
-        self.assertIn("no dialect is called basic", self.refused(0, *parts, "--dialect", "basic"))
+        self.assertIn("basic is not a dialect", self.refused(0, *parts, "--dialect", "basic"))
 
     def test_editions(self):
         """An edition is the 14th used byte; without --edition there is none. It needs a dialect."""
@@ -120,7 +120,7 @@ class Table(CommandTest):
         self.says(0, "nodes 34\nerrors 0\n", "", "check", self.at("out"))
         self.says(0, None, STEP, "table", "-", "--stdin-filename", "x.star", "-o", self.at("out"), input=b"pass\n")
         large, wrong = self.put("large.star", "pass\n" * 2100), self.put("wrong.star", "x = (1\n")
-        self.says(2, "", f"{STEP}ducat: {large}:2100:1: a table has at most 2100, and here are 2101 nodes\n", "table", large, "-o", self.at("none"))
+        self.says(2, "", f"{STEP}ducat: {large}:2100:1: a table has at most 2100, and this has 2101 nodes\n", "table", large, "-o", self.at("none"))
         for words in (("table", wrong, "-o", self.at("none")), ("dump", wrong)):
             self.says(1, "", f"{STEP}ducat: {wrong}:2:1: syntax: expected `)`, found end of script: the `(` of line 1 is not closed\n", *words)
         self.assertFalse(os.path.exists(self.at("none")))

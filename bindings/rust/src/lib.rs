@@ -87,7 +87,7 @@ pub struct Table<'a> {
     pub names: &'a [u8],
 }
 
-/// Why a job refuses: document 01's number, and what it carries. In words (`Display`) it is the number, what it means, and where it stands.
+/// Why a job refuses: a number of docs/RULES.md, and what it carries. As text (`Display`): the number, its meaning and its place.
 #[derive(Clone, Copy, Debug, PartialEq, Eq)]
 pub struct Refused {
     pub number: Number,

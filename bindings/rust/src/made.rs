@@ -15,23 +15,23 @@ pub enum Number {
     UnsoundRecord = 3,
     /// a statement or expression is more than 64 deep
     TooDeep = 4,
-    /// the dialect bytes give no dialect, or the edition is neither 1 nor 2, or stands without a dialect
+    /// the dialect bytes are not a dialect, or the edition is neither 1 nor 2, or there is an edition and no dialect
     BadDialect = 5,
-    /// the node asked for is beyond the table, or of the wrong kind
+    /// the node is beyond the table, or of the wrong kind
     WrongNode = 6,
-    /// the buffer for modes, shapes, words of a binding, a file, what a file holds, a format text or its parts is too short
+    /// a buffer is too short: for modes, shapes, the words of a binding, a file, the contents of a file, a format text or its parts
     ShortBuffer = 7,
     /// `/` is the first parameter
     SlashFirst = 10,
     /// a parameter has the name of an earlier one
     DuplicatedParameter = 11,
-    /// an ordinary parameter stands after `**kwargs`
+    /// an ordinary parameter follows `**kwargs`
     NormalAfterKwargs = 12,
-    /// a parameter without a default stands after one that has a default
+    /// a parameter without a default follows one that has a default
     NoDefaultAfterDefault = 13,
-    /// `*` or `*args` stands after another star or after `**kwargs`
+    /// `*` or `*args` follows another star or `**kwargs`
     StarAfterStar = 14,
-    /// `/` stands after another `/`, after a star or after `**kwargs`
+    /// `/` follows another `/`, a star or `**kwargs`
     MultipleSlash = 15,
     /// there is a second `**kwargs`
     MultipleKwargs = 16,
@@ -39,31 +39,31 @@ pub enum Number {
     StarLast = 17,
     /// `*` is followed by something other than an ordinary parameter
     NoNormalAfterStar = 18,
-    /// the parameter list has more than 48 entries, marks counted
+    /// the parameter list has more than 48 entries, `*` and `/` counted
     TooManyParameters = 19,
-    /// a positional argument stands after one that is not positional
+    /// a positional argument follows one that is not positional
     PositionalAfterNonPositional = 20,
-    /// a named argument stands after a star argument or after `**`
+    /// a named argument follows a star argument or `**`
     NamedAfterStar = 21,
     /// a named argument has the name of an earlier one
     RepeatedNamed = 22,
-    /// a star argument stands after another one or after `**`
+    /// a star argument follows another one or `**`
     SecondStar = 23,
     /// there is a second `**` argument
     SecondKwargs = 24,
     /// this cannot be assigned to
     InvalidLhs = 30,
-    /// a tuple or a list cannot stand on the left of an augmented assignment
+    /// a tuple or a list cannot be the left side of an augmented assignment
     InvalidModifyLhs = 31,
     /// an augmented assignment has a type
     TypeOnAugmented = 32,
     /// an assignment to a tuple or a list has a type
     TypeOnTuple = 33,
-    /// this is no type
+    /// this is not a type
     InvalidType = 40,
-    /// an empty list stands in a type
+    /// a type contains an empty list
     EmptyListInType = 41,
-    /// a dot in a type stands on something other than a path
+    /// a dot in a type follows something other than a path
     DotInType = 42,
     /// a path is expected before the brackets of a type
     ExpectingPath = 43,
@@ -81,27 +81,27 @@ pub enum Number {
     TopLevelFor = 53,
     /// the dialect has no `if` at top level
     TopLevelIf = 54,
-    /// `break` stands outside a `for` loop
+    /// `break` is outside a `for` loop
     BreakMisplaced = 55,
-    /// `continue` stands outside a `for` loop
+    /// `continue` is outside a `for` loop
     ContinueMisplaced = 56,
-    /// `return` stands outside a `def`
+    /// `return` is outside a `def`
     ReturnMisplaced = 57,
-    /// `load` stands below the top level
+    /// `load` is below the top level
     LoadNotAtTop = 58,
     /// the dialect has no `load`
     LoadNotPermitted = 59,
-    /// `...` stands in a dialect that has no types
+    /// `...` is used in a dialect that has no types
     EllipsisNotPermitted = 60,
     /// the dialect has no `lambda`
     LambdaNotPermitted = 61,
     /// the dialect has no f-strings
     FStringsDisabled = 62,
-    /// a brace of a format text starts none of `{{`, `}}`, `{}` and `{!r}`
+    /// a brace in a format text begins none of `{{`, `}}`, `{}` and `{!r}`
     StrayBrace = 63,
-    /// a part of a format text is broken, or the lengths of the texts do not add up to the text bytes
+    /// a part of a format text is broken, or the lengths of the texts do not add up to the number of text bytes
     BrokenPart = 64,
-    /// the file ends before a block is whole
+    /// the file ends before a block is complete
     BlockShort = 70,
     /// a block has the wrong number
     BlockNumber = 71,
@@ -111,29 +111,29 @@ pub enum Number {
     BlockUsed = 73,
     /// block 0 counts no node, more than 2,100 nodes, or more than 8,064 name bytes
     BlockCounts = 74,
-    /// bytes stand behind the last block
+    /// there are bytes after the last block
     BytesLeftOver = 75,
-    /// a file stands after 4,294,967,295 files of one input
+    /// the input has more than 4,294,967,295 files
     TooManyFiles = 76,
-    /// the call that is bound has a `*` or `**` argument
+    /// the call has a `*` or `**` argument, so it cannot be bound
     StarArgument = 80,
-    /// a positional argument is one too many, and there is no `*args`
+    /// there are too many positional arguments, and there is no `*args`
     TooManyPositional = 81,
-    /// no parameter takes a named argument, and there is no `**kwargs`
+    /// a named argument matches no parameter, and there is no `**kwargs`
     UnknownNamed = 82,
-    /// a named argument is for a parameter that is filled already
+    /// a named argument is for a parameter that is already filled
     AlreadyFilled = 83,
-    /// an ordinary parameter without default is left empty
+    /// an ordinary parameter without a default gets no argument
     EmptyParameter = 84,
-    /// block 0 or a name block of a file to be rescued is bad
+    /// block 0 or a name block is damaged, so nothing can be rescued
     BadHeader = 90,
-    /// the blocks of a file to be rescued do not pass, and no child of its root can be kept
+    /// the file is damaged, and no child of its root can be kept
     NothingKept = 91,
-    /// a book has an unsound length, block or entry, or the entry to be added is unsound
+    /// a book has an invalid length, block or entry, or the entry to be added is invalid
     BookUnsound = 95,
-    /// a book has an entry for the same zone and setting twice, or the entry to be added is there already
+    /// a book has two entries for the same zone and setting, or the entry to be added is already there
     EntryTwice = 96,
-    /// neither book has a fitting entry, or there is none to remove
+    /// neither book has a matching entry, or there is none to remove
     NoEntry = 97,
     /// the book has no empty place for the entry to be added
     NoEmptyPlace = 98,
@@ -296,31 +296,31 @@ pub const NUMBERS: [(Number, &str, &str); 65] = [
     (Number::NameBytes, "NAME_BYTES", "there are more than 8,064 name bytes"),
     (Number::UnsoundRecord, "UNSOUND_RECORD", "a record of the table is unsound"),
     (Number::TooDeep, "TOO_DEEP", "a statement or expression is more than 64 deep"),
-    (Number::BadDialect, "BAD_DIALECT", "the dialect bytes give no dialect, or the edition is neither 1 nor 2, or stands without a dialect"),
-    (Number::WrongNode, "WRONG_NODE", "the node asked for is beyond the table, or of the wrong kind"),
-    (Number::ShortBuffer, "SHORT_BUFFER", "the buffer for modes, shapes, words of a binding, a file, what a file holds, a format text or its parts is too short"),
+    (Number::BadDialect, "BAD_DIALECT", "the dialect bytes are not a dialect, or the edition is neither 1 nor 2, or there is an edition and no dialect"),
+    (Number::WrongNode, "WRONG_NODE", "the node is beyond the table, or of the wrong kind"),
+    (Number::ShortBuffer, "SHORT_BUFFER", "a buffer is too short: for modes, shapes, the words of a binding, a file, the contents of a file, a format text or its parts"),
     (Number::SlashFirst, "SLASH_FIRST", "`/` is the first parameter"),
     (Number::DuplicatedParameter, "DUPLICATED_PARAMETER", "a parameter has the name of an earlier one"),
-    (Number::NormalAfterKwargs, "NORMAL_AFTER_KWARGS", "an ordinary parameter stands after `**kwargs`"),
-    (Number::NoDefaultAfterDefault, "NO_DEFAULT_AFTER_DEFAULT", "a parameter without a default stands after one that has a default"),
-    (Number::StarAfterStar, "STAR_AFTER_STAR", "`*` or `*args` stands after another star or after `**kwargs`"),
-    (Number::MultipleSlash, "MULTIPLE_SLASH", "`/` stands after another `/`, after a star or after `**kwargs`"),
+    (Number::NormalAfterKwargs, "NORMAL_AFTER_KWARGS", "an ordinary parameter follows `**kwargs`"),
+    (Number::NoDefaultAfterDefault, "NO_DEFAULT_AFTER_DEFAULT", "a parameter without a default follows one that has a default"),
+    (Number::StarAfterStar, "STAR_AFTER_STAR", "`*` or `*args` follows another star or `**kwargs`"),
+    (Number::MultipleSlash, "MULTIPLE_SLASH", "`/` follows another `/`, a star or `**kwargs`"),
     (Number::MultipleKwargs, "MULTIPLE_KWARGS", "there is a second `**kwargs`"),
     (Number::StarLast, "STAR_LAST", "`*` is the last parameter"),
     (Number::NoNormalAfterStar, "NO_NORMAL_AFTER_STAR", "`*` is followed by something other than an ordinary parameter"),
-    (Number::TooManyParameters, "TOO_MANY_PARAMETERS", "the parameter list has more than 48 entries, marks counted"),
-    (Number::PositionalAfterNonPositional, "POSITIONAL_AFTER_NON_POSITIONAL", "a positional argument stands after one that is not positional"),
-    (Number::NamedAfterStar, "NAMED_AFTER_STAR", "a named argument stands after a star argument or after `**`"),
+    (Number::TooManyParameters, "TOO_MANY_PARAMETERS", "the parameter list has more than 48 entries, `*` and `/` counted"),
+    (Number::PositionalAfterNonPositional, "POSITIONAL_AFTER_NON_POSITIONAL", "a positional argument follows one that is not positional"),
+    (Number::NamedAfterStar, "NAMED_AFTER_STAR", "a named argument follows a star argument or `**`"),
     (Number::RepeatedNamed, "REPEATED_NAMED", "a named argument has the name of an earlier one"),
-    (Number::SecondStar, "SECOND_STAR", "a star argument stands after another one or after `**`"),
+    (Number::SecondStar, "SECOND_STAR", "a star argument follows another one or `**`"),
     (Number::SecondKwargs, "SECOND_KWARGS", "there is a second `**` argument"),
     (Number::InvalidLhs, "INVALID_LHS", "this cannot be assigned to"),
-    (Number::InvalidModifyLhs, "INVALID_MODIFY_LHS", "a tuple or a list cannot stand on the left of an augmented assignment"),
+    (Number::InvalidModifyLhs, "INVALID_MODIFY_LHS", "a tuple or a list cannot be the left side of an augmented assignment"),
     (Number::TypeOnAugmented, "TYPE_ON_AUGMENTED", "an augmented assignment has a type"),
     (Number::TypeOnTuple, "TYPE_ON_TUPLE", "an assignment to a tuple or a list has a type"),
-    (Number::InvalidType, "INVALID_TYPE", "this is no type"),
-    (Number::EmptyListInType, "EMPTY_LIST_IN_TYPE", "an empty list stands in a type"),
-    (Number::DotInType, "DOT_IN_TYPE", "a dot in a type stands on something other than a path"),
+    (Number::InvalidType, "INVALID_TYPE", "this is not a type"),
+    (Number::EmptyListInType, "EMPTY_LIST_IN_TYPE", "a type contains an empty list"),
+    (Number::DotInType, "DOT_IN_TYPE", "a dot in a type follows something other than a path"),
     (Number::ExpectingPath, "EXPECTING_PATH", "a path is expected before the brackets of a type"),
     (Number::DotTypeBan, "DOT_TYPE_BAN", "a path in a type ends in `.type`, which edition 2 allows"),
     (Number::TypesDisabled, "TYPES_DISABLED", "the dialect has no types"),
@@ -329,33 +329,33 @@ pub const NUMBERS: [(Number, &str, &str); 65] = [
     (Number::DefNotPermitted, "DEF_NOT_PERMITTED", "the dialect has no `def`"),
     (Number::TopLevelFor, "TOP_LEVEL_FOR", "the dialect has no `for` at top level"),
     (Number::TopLevelIf, "TOP_LEVEL_IF", "the dialect has no `if` at top level"),
-    (Number::BreakMisplaced, "BREAK_MISPLACED", "`break` stands outside a `for` loop"),
-    (Number::ContinueMisplaced, "CONTINUE_MISPLACED", "`continue` stands outside a `for` loop"),
-    (Number::ReturnMisplaced, "RETURN_MISPLACED", "`return` stands outside a `def`"),
-    (Number::LoadNotAtTop, "LOAD_NOT_AT_TOP", "`load` stands below the top level"),
+    (Number::BreakMisplaced, "BREAK_MISPLACED", "`break` is outside a `for` loop"),
+    (Number::ContinueMisplaced, "CONTINUE_MISPLACED", "`continue` is outside a `for` loop"),
+    (Number::ReturnMisplaced, "RETURN_MISPLACED", "`return` is outside a `def`"),
+    (Number::LoadNotAtTop, "LOAD_NOT_AT_TOP", "`load` is below the top level"),
     (Number::LoadNotPermitted, "LOAD_NOT_PERMITTED", "the dialect has no `load`"),
-    (Number::EllipsisNotPermitted, "ELLIPSIS_NOT_PERMITTED", "`...` stands in a dialect that has no types"),
+    (Number::EllipsisNotPermitted, "ELLIPSIS_NOT_PERMITTED", "`...` is used in a dialect that has no types"),
     (Number::LambdaNotPermitted, "LAMBDA_NOT_PERMITTED", "the dialect has no `lambda`"),
     (Number::FStringsDisabled, "F_STRINGS_DISABLED", "the dialect has no f-strings"),
-    (Number::StrayBrace, "STRAY_BRACE", "a brace of a format text starts none of `{{`, `}}`, `{}` and `{!r}`"),
-    (Number::BrokenPart, "BROKEN_PART", "a part of a format text is broken, or the lengths of the texts do not add up to the text bytes"),
-    (Number::BlockShort, "BLOCK_SHORT", "the file ends before a block is whole"),
+    (Number::StrayBrace, "STRAY_BRACE", "a brace in a format text begins none of `{{`, `}}`, `{}` and `{!r}`"),
+    (Number::BrokenPart, "BROKEN_PART", "a part of a format text is broken, or the lengths of the texts do not add up to the number of text bytes"),
+    (Number::BlockShort, "BLOCK_SHORT", "the file ends before a block is complete"),
     (Number::BlockNumber, "BLOCK_NUMBER", "a block has the wrong number"),
     (Number::BlockCheck, "BLOCK_CHECK", "the sum of a block is wrong, so a byte is damaged"),
     (Number::BlockUsed, "BLOCK_USED", "a block has the wrong number of used bytes, or a byte past them that is not zero"),
     (Number::BlockCounts, "BLOCK_COUNTS", "block 0 counts no node, more than 2,100 nodes, or more than 8,064 name bytes"),
-    (Number::BytesLeftOver, "BYTES_LEFT_OVER", "bytes stand behind the last block"),
-    (Number::TooManyFiles, "TOO_MANY_FILES", "a file stands after 4,294,967,295 files of one input"),
-    (Number::StarArgument, "STAR_ARGUMENT", "the call that is bound has a `*` or `**` argument"),
-    (Number::TooManyPositional, "TOO_MANY_POSITIONAL", "a positional argument is one too many, and there is no `*args`"),
-    (Number::UnknownNamed, "UNKNOWN_NAMED", "no parameter takes a named argument, and there is no `**kwargs`"),
-    (Number::AlreadyFilled, "ALREADY_FILLED", "a named argument is for a parameter that is filled already"),
-    (Number::EmptyParameter, "EMPTY_PARAMETER", "an ordinary parameter without default is left empty"),
-    (Number::BadHeader, "BAD_HEADER", "block 0 or a name block of a file to be rescued is bad"),
-    (Number::NothingKept, "NOTHING_KEPT", "the blocks of a file to be rescued do not pass, and no child of its root can be kept"),
-    (Number::BookUnsound, "BOOK_UNSOUND", "a book has an unsound length, block or entry, or the entry to be added is unsound"),
-    (Number::EntryTwice, "ENTRY_TWICE", "a book has an entry for the same zone and setting twice, or the entry to be added is there already"),
-    (Number::NoEntry, "NO_ENTRY", "neither book has a fitting entry, or there is none to remove"),
+    (Number::BytesLeftOver, "BYTES_LEFT_OVER", "there are bytes after the last block"),
+    (Number::TooManyFiles, "TOO_MANY_FILES", "the input has more than 4,294,967,295 files"),
+    (Number::StarArgument, "STAR_ARGUMENT", "the call has a `*` or `**` argument, so it cannot be bound"),
+    (Number::TooManyPositional, "TOO_MANY_POSITIONAL", "there are too many positional arguments, and there is no `*args`"),
+    (Number::UnknownNamed, "UNKNOWN_NAMED", "a named argument matches no parameter, and there is no `**kwargs`"),
+    (Number::AlreadyFilled, "ALREADY_FILLED", "a named argument is for a parameter that is already filled"),
+    (Number::EmptyParameter, "EMPTY_PARAMETER", "an ordinary parameter without a default gets no argument"),
+    (Number::BadHeader, "BAD_HEADER", "block 0 or a name block is damaged, so nothing can be rescued"),
+    (Number::NothingKept, "NOTHING_KEPT", "the file is damaged, and no child of its root can be kept"),
+    (Number::BookUnsound, "BOOK_UNSOUND", "a book has an invalid length, block or entry, or the entry to be added is invalid"),
+    (Number::EntryTwice, "ENTRY_TWICE", "a book has two entries for the same zone and setting, or the entry to be added is already there"),
+    (Number::NoEntry, "NO_ENTRY", "neither book has a matching entry, or there is none to remove"),
     (Number::NoEmptyPlace, "NO_EMPTY_PLACE", "the book has no empty place for the entry to be added"),
 ];
 

@@ -73,7 +73,7 @@ impl From<Number> for u32 {
 /// use starlark_checks::{Number, UnknownNumber};
 /// assert_eq!(Number::try_from(55), Ok(Number::BreakMisplaced));
 /// assert_eq!(u32::from(Number::BreakMisplaced), 55);
-/// assert_eq!(Number::BreakMisplaced.to_string(), "55: `break` stands outside a `for` loop");
+/// assert_eq!(Number::BreakMisplaced.to_string(), "55: `break` is outside a `for` loop");
 /// assert_eq!(Number::try_from(0), Err(UnknownNumber(0)));
 /// ```
 impl TryFrom<u32> for Number {

@@ -1,6 +1,7 @@
--- What an accepted call is, over the whole job: the table passes the check, the node is a call, and its arguments stand
--- in order with distinct names.
--- In both directions, with the counts and places of the answer. Assumes nothing.
+-- What an accepted call is, over the whole job: the table passes the check, the node is a call, and its arguments are
+-- in order with distinct names (`accepted-is-ordered`). Such a call is accepted, with the counts and places of its
+-- arguments (`ordered-accepted`), which are the only ones (`ordered-one`). The list itself is Order's and Converse's;
+-- here the steps before it are put in front, by cases on what they gave. Assumes nothing.
 use mathlib.Core.Path.{_≡_, refl, sym, ap, _∙_}
 use mathlib.Core.Bool.{true}
 use mathlib.Core.List.{List, []}
@@ -38,7 +39,7 @@ answer-ordered l c e = go (unpack l) refl e
     go (repeatedName i r) h e = never (cc)
     go internalError h e = never (cc)
 
--- THEOREM: in a table that passes the check, a call whose arguments stand in order with distinct names is accepted,
+-- THEOREM: in a table that passes the check, a call whose arguments are in order with distinct names is accepted,
 -- with their counts and places
 pub ordered-accepted : (t names : List ℕ) (i : ℕ) (c : CallArgs) {vs : List ℕ} → checkOf t names ≡ accepted vs
     → nodeFits t i Call ≡ true → Ordered (argumentsOf names (treeOf i (stretchOf t i))) c

@@ -1,5 +1,8 @@
--- A list of arguments in order with distinct names is accepted, with its counts and places: each argument may stand
--- where it stands, and counting them one after the other gives the counts. Assumes nothing.
+-- A list of arguments in order with distinct names is accepted, with its counts and places (`ordered-unpacked`). Each
+-- argument passes the rule of its kind at the stage that the walk has reached (`all-follow`), and repeats no name
+-- (Names' `names-new`), so the walk goes to the end and counts every argument (`run-counted`; the induction is on the
+-- arguments that are left). Counting p positional, n named, a star and a `**` in this order gives these numbers and
+-- places (`positional-counted`, `named-counted`, `stars-counted`). Assumes nothing.
 use mathlib.Core.Path.{_≡_, refl, sym, ap, _∙_}
 use mathlib.Core.Bool.{false}
 use mathlib.Core.List.{List, [], _∷_, _++_}
@@ -85,7 +88,7 @@ run-counted before (p ∷ ps) w o f d =
     (f .1) (rw append-snoc d)
     ∙ rw long refl
 
--- so many positional counted, so many named, then a star and a `**`
+-- m positional ones counted, m named ones, then a star and a `**`
 positional-counted : (m p n i : ℕ) (ks : List Kind)
     → counted (counts p n Nothing Nothing) i (replicate m Positional ++ ks)
     ≡ counted (counts (p + m) n Nothing Nothing) (i + m) ks

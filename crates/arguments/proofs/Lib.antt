@@ -7,3 +7,4 @@ pub mod Promises
 pub mod AcceptedCalls
 pub mod Twice
 pub mod Files
+pub mod Example

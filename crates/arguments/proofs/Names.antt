@@ -1,4 +1,8 @@
--- Names: the search among earlier arguments finds none exactly where the names stay distinct. Assumes nothing.
+-- The search among earlier arguments finds none exactly where the names stay distinct. It finds none exactly if the
+-- name is none of the earlier named arguments' (`none-absent`, `absent-none`; the induction is on the list). So an
+-- argument that repeats no name keeps the names distinct (`names-more`), and in a list of distinct names none repeats
+-- an earlier one (`names-new`). An argument that passes its check repeats no name (`fine-new`), because 22 is part of
+-- the rule for named arguments. Assumes nothing.
 use mathlib.Core.Path.{_≡_, refl, sym, ap, _∙_}
 use mathlib.Core.Bool.{Bool, true, false}
 use mathlib.Core.Logic.{⊎-elim}

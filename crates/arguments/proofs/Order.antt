@@ -1,4 +1,8 @@
--- What the walk keeps: no internal error arises, and an accepted list is in order with distinct names. Assumes nothing.
+-- What the walk over the arguments keeps (`Order`): the kinds so far are positional, then named, then a star,
+-- then a `**`, as the counts say, and what belongs to a later stage is not there yet (`Free`). A fine argument keeps
+-- it, kind by kind and stage by stage (`walked-more`). So the places that `unpack` would find taken are free, and its
+-- internal errors never arise (`no-internal-error`); and an accepted list is in order with distinct names
+-- (`unpacked-ordered`). Both are by induction on the arguments that are left. Assumes nothing.
 use mathlib.Core.Path.{_≡_, refl, sym, ap, _∙_}
 use mathlib.Core.Bool.{false}
 use mathlib.Core.List.{List, [], _∷_, _++_, append-assoc, append-nil}
@@ -99,7 +103,7 @@ module _ (ks : List Kind) (c : CallArgs) where
       kwargs-at = omega (arith, rw no-kwargs at (order-total o));
     }
 
--- LAW: an argument that keeps its rule was not given before, and stands in order
+-- LAW: an argument that keeps its rule was not given before, and is in order
 pub more : (ks : List Kind) (s : ArgsStage) (c : CallArgs) (k : Kind) (f : Found) → rule s f k ≡ Fine → Order ks s c
     → (taken c k ≡ false) × Order (ks ++ k ∷ []) (nextStage s k) (count c (length ks) k)
 more ks AtPositional c Positional f e o = (refl, more-positional ks c o)

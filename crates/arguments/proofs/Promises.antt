@@ -1,4 +1,6 @@
--- The promises of the call job and of its rule have one answer. Assumes nothing.
+-- Two answers of `call` or `judge` that meet the promise are equal. The promise fixes what the answer means, and no two
+-- answers mean the same (`called-injective`): the counts are the first two values, and a place has one value or two, so
+-- the star and the `**` are read off one after the other (`place-one`). Assumes nothing.
 use mathlib.Core.Path.{_≡_, refl, ap}
 use mathlib.Core.List.{List, [], _++_}
 use Prim.Native.Nat.{ℕ}
@@ -14,7 +16,7 @@ use Rattle.arguments.specs.declared.CallArgs.{CallArgs}
 use Rattle.arguments.specs.declared.Called.{Called}
 use Rattle.arguments.specs.declared.Called.the-variants.{Accepted, Refused}
 
--- two places side by side are told apart by their values
+-- two places side by side are determined by their values
 place-one : (p q : Place) (l m : List ℕ) → placeValues p ++ l ≡ placeValues q ++ m → (p ≡ q) × (l ≡ m)
 place-one (At i) (At j) l m e = let at : i ≡ j = cc in let rest : l ≡ m = cc in (ap At at, rest)
 place-one (At i) Nothing l m e = never (cc)

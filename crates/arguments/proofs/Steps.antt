@@ -1,4 +1,7 @@
--- Laws of single functions, one for each return, in the terms of code. Assumes nothing.
+-- One law for each return of the functions that judge a single argument: its kind, the tests of the stage, the rules 20
+-- to 24, the span of a name, and what a refusal carries. The tests before a return are known, so the definition
+-- computes; nothing here recurs. The last laws put the rule of a list behind the checks of `judge` and `call`. Assumes
+-- nothing.
 use mathlib.Core.Path.{_≡_, refl, sym, ap, _∙_}
 use mathlib.Core.Bool.{Bool, true, false}
 use mathlib.Core.List.{List, [], _∷_, _++_}
@@ -107,7 +110,7 @@ rule-named s f h r-is = rw h r-is
 rest-short : (l : List ℕ) (c : ℕ) → length l < 24 → length (take (length l - c) (drop c l)) < 24
 rest-short l c h = simp (length-take, length-drop) (omega arith)
 
--- the arguments of a call stand behind its first child
+-- the arguments of a call follow its first child
 pub call-answer : (ns : List ℕ) (i : ℕ) (t : List ℕ) {e c : ℕ} {a : Answer} → e ≡ spanOf t
     → c ≡ spanOf (take (e - 24) (drop 24 t))
     → a ≡ outcomeAnswer (unpack (argumentsIn ns (forest (i + 1 + c / 24)

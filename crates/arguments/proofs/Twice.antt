@@ -1,4 +1,4 @@
--- What 22 tells: the only earlier argument of an equal name, which has a smaller node; and 22 alone carries an earlier
+-- What 22 means: the only earlier argument of an equal name, which has a smaller node; and 22 alone carries an earlier
 -- node. `unpack` reads the arguments from the left and stops at the first name that it has seen (`run-told`). So among
 -- those that are read no name comes twice (`Fresh`), and the first that has the name is the only one (forest's
 -- `only-one`). Assumes nothing.

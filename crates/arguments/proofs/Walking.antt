@@ -1,4 +1,9 @@
--- The search among earlier arguments and the walk over all of them, in the terms of code. Assumes nothing.
+-- The walk of code over the records behind a callee gives what `unpack` gives for the written arguments. After n
+-- records the code is where `unpack` is after n arguments (`Walking`, its field `rest`). A turn is refused
+-- (`walk-refused`) or goes on (`walk-on`), because the check of code is that of `unpack`: the search for 22 among
+-- records is the search among arguments (`list-entries`, by induction on the siblings), and it is skipped only where
+-- the marks show that the name is new (`meets-new`). At the end as many are counted as there are (`walk-end`, Order's
+-- `order-total`). Assumes nothing.
 use mathlib.Core.Path.{_≡_, refl, sym, ap, _∙_}
 use mathlib.Core.Bool.{Bool, true, false, _&&_}
 use mathlib.Core.List.{List, [], _∷_, _++_}
@@ -154,7 +159,7 @@ unfoldable pub searches : Searches firstSame hasName
 unfolding firstSame
 searches = record { node = λ p. nodeIn p .at; none = λ x. refl; first = λ x p l. refl }
 
--- the marks know an argument more: a named one is noted; one that may not stand is new
+-- the marks know one argument more: a named one is noted; a name that they do not show is new
 module _ (ns : List ℕ) {marks : List ℕ} {before : List Argument} (known : Known firstSame marks before) (left : List ℕ)
     {k : ℕ} (k-is : k ≡ nodeOf 0 left .kind) where
   pub meets-none : (k ≡ kindNamed → ⊥) → Meets ns before left marks Nothing

@@ -24,7 +24,7 @@ abbrev pub one : Place → Kind → List Kind
 one (At i) k = k ∷ []
 one Nothing k = []
 
--- so many positional, then so many named, then the star, then the `**`
+-- the positional ones, then the named ones, then the star, then the `**`, in the numbers that c has
 abbrev pub inOrder : CallArgs → List Kind
 inOrder a = replicate (a .«num_pos») Positional
     ++ (replicate (a .«num_named») Named ++ (one (a .star) Args ++ one (a .«star_star») KwArgs))
@@ -42,8 +42,8 @@ namesOf (named r n ∷ ps) = n ∷ namesOf ps
 namesOf (args r ∷ ps) = namesOf ps
 namesOf (kwargs r ∷ ps) = namesOf ps
 
--- a list of arguments in order, so many as c says, with the star and the `**` at the places that c says, and with
--- distinct names
+-- a list of arguments in order, in the numbers that c has, with the star and the `**` at the places that c has, and
+-- with distinct names
 pub record Ordered (l : List Argument) (c : CallArgs) : Type 0 where
   pub kinds : kindsOf l ≡ inOrder c
   pub star-at : Placed (c .star) (c .«num_pos» + c .«num_named»)

@@ -136,7 +136,7 @@ abbrev pub bit : Bool → ℕ
 bit true = 1
 bit false = 0
 
--- how many arguments are counted
+-- the number of arguments that are counted
 abbrev pub total : CallArgs → ℕ
 total c = c .«num_pos» + c .«num_named» + bit (given (c .star)) + bit (given (c .«star_star»))
 

@@ -26,7 +26,8 @@ placeValues Nothing = 0 ∷ 0 ∷ []
 abbrev pub callValues : CallArgs → List ℕ
 callValues a = a .«num_pos» ∷ a .«num_named» ∷ placeValues (a .star) ++ placeValues (a .«star_star»)
 
--- a name's span: it ends at its position plus its length, as far as 32 bits go, and in a sound table always
+-- the span of a name: it ends at its position plus its length, or at the largest number of 32 bits, which a sound table
+-- never reaches
 abbrev pub nameStop : Node → ℕ
 nameStop r = min (r .source + r .nameLen) 4294967295
 
@@ -37,24 +38,24 @@ nameSpan r = record { begin = r .source; end = nameStop r; file = r .file }
 abbrev pub refusedAtName : ℕ → Node → ℕ → Answer
 refusedAtName n r i = refused n (r .at ∷ spanValues (nameSpan r) ++ i ∷ [])
 
--- what the check of an argument answers
+-- the answer for the check of an argument
 abbrev pub checkAnswer : Check → Node → Answer
 checkAnswer Fine r = accepted []
 checkAnswer (Broken n) r = refusedAt n r
 checkAnswer (Repeated i) r = refusedAtName repeatedNamed r i
 
--- the answer to a list; an internal error has no number in document 01, and never arises
+-- the answer for a list; an internal error has no number of its own, and never arises
 abbrev pub outcomeAnswer : Outcome → Answer
 outcomeAnswer (unpacked a) = accepted (callValues a)
 outcomeAnswer (refusedWith n r) = refusedAt n r
 outcomeAnswer (repeatedName i r) = refusedAtName repeatedNamed r i
 outcomeAnswer internalError = refused 0 []
 
--- the answer to a call
+-- the answer for a call
 unfoldable pub callAnswer : List ℕ → Tree → Answer
 callAnswer names t = outcomeAnswer (unpack (argumentsOf names t))
 
--- the job: 1 2 3 4, 6, then 20 to 24
+-- the job: 1 to 4, 6, then 20 to 24
 abbrev pub callOf : List ℕ → List ℕ → ℕ → Answer
 callOf t names i = onNode Call (callAnswer names) t names i
 

@@ -1,4 +1,4 @@
--- What code says of the arguments while it reads them. These are definitions.
+-- Results of code while it reads the arguments. These are definitions.
 use mathlib.Core.Path.{_≡_}
 use mathlib.Core.List.{List, [], _∷_, _++_}
 use Prim.Native.Nat.{ℕ, _<_}
@@ -26,8 +26,8 @@ pub record Earlier (x : Name) (before : List Argument) (f : Found) : Type 0 wher
   pub says : f ≡ firstSame x before
   pub small : SmallFound f
 
--- what is said of the name of the argument that `left` begins with, whatever its index: the first of those before it
--- that has an equal one; and the marks then know it too
+-- the result for the name of the first argument of `left`, whatever its index: the first of those before it that has an
+-- equal name; and the marks then know it too
 pub record Meets (names : List ℕ) (before : List Argument) (left marks : List ℕ) (f : Found) : Type 0 where
   pub says : (i : ℕ) → f ≡ repeats before (argumentOf names (nodeOf i left))
   pub small : SmallFound f

@@ -37,7 +37,7 @@ kindIn (named r n) = Named
 kindIn (args r) = Args
 kindIn (kwargs r) = KwArgs
 
--- the kind of argument that a record's kind says
+-- the kind of argument of a record, from its kind
 unfoldable pub kindAt : ℕ → Kind
 kindAt k =
     if' (eqb k kindPositional) (λ _. Positional) (λ _.
@@ -60,7 +60,7 @@ unfoldable pub argumentsIn : List ℕ → Forest → List Argument
 argumentsIn names none = []
 argumentsIn names (node r ks then ts) = argumentOf names r ∷ argumentsIn names ts
 
--- those of a call: what stands behind its callee
+-- the arguments of a call: what follows its callee
 abbrev pub argumentsOf : List ℕ → Tree → List Argument
 argumentsOf names (node r none) = []
 argumentsOf names (node r (c then ks)) = argumentsIn names ks

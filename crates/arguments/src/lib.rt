@@ -30,7 +30,7 @@ ghost use Rattle.arguments.specs.Call.{nextStage, count as countOf, adva
 ghost use Rattle.arguments.specs.Reading.{SmallCheck, Earlier, Meets};
 ghost use Rattle.arguments.specs.Job.{nameStop, nameSpan, checkAnswer, outcomeAnswer, callAnswer, called, callOf};
 
-// Where unpack stands among the arguments, in this order.
+// The stage of unpack: how far it is in the arguments, in this order.
 pub enum ArgsStage {
     Positional,
     Named,
@@ -46,7 +46,7 @@ pub enum Kind {
     KwArgs,
 }
 
-// What a list of arguments is: how many are positional and named, and the places of star and `**`.
+// A list of arguments in numbers: how many are positional and named, and the places of the star and the `**`.
 pub struct CallArgs {
     pub num_pos: u32,
     pub num_named: u32,
@@ -60,8 +60,8 @@ pub struct Walk {
     pub counts: CallArgs,
 }
 
-// What the check of one argument gives: nothing, the number of a refusal at it, or 22, at its name, with the node of
-// the earlier argument.
+// The result of checking one argument: fine, the number of a refusal at it, or 22 at its name with the node of the
+// earlier argument.
 pub enum Check {
     Fine,
     Broken(u32),
@@ -74,7 +74,7 @@ pub enum Called {
     Refused(Refusal),
 }
 
-// The call job: 1 2 3 4, 6, then 20 to 24; or what the arguments are.
+// The call job: 1 to 4, 6, then 20 to 24; or the arguments in numbers.
 pub fn call(table: &[u8], names: &[u8], node: usize) -> Called
     ensures { λ r. ⌜ called r ≡ callOf (now (table .entry)) (now (names .entry)) node ⌝ }
 {
@@ -85,8 +85,8 @@ pub fn call(table: &[u8], names: &[u8], node: usize) -> Called
     arguments(table::stretch(table, node), names, node)
 }
 
-// The call that a stretch begins with, for who has checked the table before: 20 to 24, or what the arguments are. Its
-// first record has the index node. It takes any bytes, and reads none where they are no part of a table.
+// The first call of a stretch, for callers that have checked the table: 20 to 24, or the arguments in numbers. Its
+// first record has the index `node`. Takes any bytes; a stretch that cannot be a part of a table is not read.
 pub fn judge(names: &[u8], t: &[u8], node: u32) -> Called
     ensures { λ r. ⌜ called r ≡ callAnswer (now (names .entry)) (treeOf node (headedOf node (now (t .entry)))) ⌝ }
 {
@@ -101,7 +101,7 @@ pub fn judge(names: &[u8], t: &[u8], node: u32) -> Called
     arguments(t, names, node as usize)
 }
 
-// The arguments of the call that a stretch begins with: what stands behind its callee.
+// The arguments of the first call of a stretch: what follows its callee.
 fn arguments(t: &[u8], names: &[u8], node: usize) -> Called
     requires { ⌜ Headed node (now t) ⌝ }
     ensures { λ r. ⌜ called r ≡ callAnswer (now (names .entry)) (treeOf node (now (t .entry))) ⌝ }
@@ -112,8 +112,8 @@ fn arguments(t: &[u8], names: &[u8], node: usize) -> Called
     unpack(&kids[c..], names, node + 1 + c / RECORD)
 }
 
-// CallArgsUnpack::unpack of a list of arguments, the first of which is the node first, with as many marks as are worth
-// their place.
+// CallArgsUnpack::unpack of a list of arguments, the first of which is the node `first`. The number of marks depends
+// on the length of the list.
 fn unpack(args: &[u8], names: &[u8], first: usize) -> Called
     requires { ⌜ Within first (now args) ⌝ }
     ensures { λ r. ⌜ called r ≡
@@ -129,7 +129,7 @@ fn unpack(args: &[u8], names: &[u8], first: usize) -> Called
     in_turn(args, names, first, &mut none[0..0])
 }
 
-// The same, with marks for many arguments, and for some.
+// The same with MANY marks, and with SOME.
 fn with_many(args: &[u8], names: &[u8], first: usize) -> Called
     requires { ⌜ Within first (now args) ⌝ }
     ensures { λ r. ⌜ called r ≡
@@ -148,7 +148,7 @@ fn with_some(args: &[u8], names: &[u8], first: usize) -> Called
     in_turn(args, names, first, &mut noted)
 }
 
-// The arguments in turn; the names are noted in the lent marks.
+// The arguments in turn. Notes their names in the marks.
 fn in_turn(args: &[u8], names: &[u8], first: usize, noted: &mut [u8]) -> Called
     requires { ⌜ Within first (now args) ⌝ }
     ensures { λ r. ⌜ called r ≡
@@ -184,7 +184,7 @@ fn in_turn(args: &[u8], names: &[u8], first: usize, noted: &mut [u8]) -> Called
     Called::Accepted(counts)
 }
 
-// A broken argument is refused, with its span; a repeated name with the name's, and with the earlier argument.
+// A broken argument is refused with its span; a repeated name with the span of the name and the earlier argument.
 fn refused(c: Check, at: u32, t: &[u8]) -> Checked
     requires { ⌜ SmallCheck c ⌝ }
     ensures { λ r. ⌜ checked r ≡ checkAnswer c (nodeOf at (now (t .entry))) ⌝ }
@@ -216,7 +216,7 @@ fn name_stop(t: &[u8]) -> u32
     begin + len
 }
 
-// The span of the name of the argument that a stretch begins with; the source file is the argument's.
+// The span of the name of the first argument of a stretch; the source file is the argument's.
 fn name_span(t: &[u8]) -> Span
     ensures { λ r. ⌜ r ≡ nameSpan (nodeOf 0 (now (t .entry))) ⌝ }
 {
@@ -227,7 +227,7 @@ fn name_span(t: &[u8]) -> Span
     }
 }
 
-// The kind of the argument that a stretch begins with.
+// The kind of the first argument of a stretch.
 fn kind_of(t: &[u8]) -> Kind
     ensures { λ r. ⌜ r ≡ kindAt (nodeOf 0 (now (t .entry)) .kind) ⌝ }
 {
@@ -275,7 +275,7 @@ fn in_kwargs(stage: ArgsStage) -> bool
     }
 }
 
-// The node of the first of n arguments that is named and has this name; first is the node of the first of them.
+// The node of the first of n arguments that is named and has this name; `first` is the node of the first of them.
 fn earlier(names: &[u8], name: &[u8], args: &[u8], first: usize, n: usize) -> Found
     requires { ⌜ Within first (now args) × (n ≤ length (argumentsIn (now names) (forest first (now args)))) ⌝ }
     ensures { λ r. ⌜ Earlier (now (name .entry))
@@ -288,8 +288,8 @@ fn earlier(names: &[u8], name: &[u8], args: &[u8], first: usize, n: usize) -> Fo
     }
 }
 
-// The first of the n arguments before it whose name the argument that left begins with repeats. Its name is noted, and
-// where the marks do not tell of it, nothing is searched.
+// The first of the n arguments before it that has the name of the first argument of `left`. Notes that name; where the
+// marks show that it is new, nothing is searched.
 fn repeated(
     names: &[u8],
     args: &[u8],
@@ -315,7 +315,7 @@ fn repeated(
     earlier(names, name, args, first, n)
 }
 
-// 20.
+// 20 (positional after another kind).
 fn positional_rule(stage: ArgsStage) -> Check
     ensures { λ r. ⌜ r ≡ positionalRule stage ⌝ }
 {
@@ -325,7 +325,7 @@ fn positional_rule(stage: ArgsStage) -> Check
     Check::Fine
 }
 
-// 22, for what the search among the earlier names found.
+// 22 (a repeated name), from the result of the search among earlier names.
 fn new_name(found: Found) -> Check
     ensures { λ r. ⌜ r ≡ newName found ⌝ }
 {
@@ -335,7 +335,7 @@ fn new_name(found: Found) -> Check
     }
 }
 
-// 21, then 22.
+// 21 (named after a star or `**`), then 22.
 fn named_rule(stage: ArgsStage, found: Found) -> Check
     ensures { λ r. ⌜ r ≡ namedRule stage found ⌝ }
 {
@@ -345,7 +345,7 @@ fn named_rule(stage: ArgsStage, found: Found) -> Check
     new_name(found)
 }
 
-// 23.
+// 23 (a second star, or a star after `**`).
 fn args_rule(stage: ArgsStage) -> Check
     ensures { λ r. ⌜ r ≡ argsRule stage ⌝ }
 {
@@ -355,7 +355,7 @@ fn args_rule(stage: ArgsStage) -> Check
     Check::Fine
 }
 
-// 24.
+// 24 (a second `**`).
 fn kwargs_rule(stage: ArgsStage) -> Check
     ensures { λ r. ⌜ r ≡ kwargsRule stage ⌝ }
 {
@@ -365,7 +365,7 @@ fn kwargs_rule(stage: ArgsStage) -> Check
     Check::Fine
 }
 
-// The rule of an argument's kind, for what the search among the earlier names found.
+// The rule of an argument's kind, from the result of the search among earlier names.
 fn check_argument(stage: ArgsStage, found: Found, kind: Kind) -> Check
     ensures { λ r. ⌜ r ≡ ruleOf stage found kind ⌝ }
 {
@@ -388,7 +388,7 @@ fn next_stage(stage: ArgsStage, kind: Kind) -> ArgsStage
     }
 }
 
-// What is counted at an argument of a kind, which stands at this place among the arguments.
+// The counts after an argument of a kind, at this place among the arguments.
 fn count(c: CallArgs, place: u32, kind: Kind) -> CallArgs
     requires { ⌜ (c .«num_pos» < 4294967295) × (c .«num_named» < 4294967295) ⌝ }
     ensures { λ r. ⌜ r ≡ countOf c place kind ⌝ }
@@ -425,7 +425,7 @@ fn count(c: CallArgs, place: u32, kind: Kind) -> CallArgs
     }
 }
 
-// All that is kept after an argument of a kind, which stands at this place among the arguments.
+// The state after an argument of a kind, at this place among the arguments.
 fn advance(w: Walk, place: u32, kind: Kind) -> Walk
     requires { ⌜ (w .counts .«num_pos» < 4294967295) × (w .counts .«num_named» < 4294967295) ⌝ }
     ensures { λ r. ⌜ r ≡ advanceOf w place kind ⌝ }

@@ -1,5 +1,8 @@
--- How many refusals there can be: two at a record at most, so that no count overflows. And refusals of trees in turn.
--- Assumes nothing.
+-- How many refusals there can be, so that no count overflows: a record has at most two, one by its kind and one by its
+-- role (`there-few`), because a job gives one answer. There are as many trees as nodes (`count-tree`, by induction on
+-- the tree), so a part of the table of n bytes has at most n / 12 refusals (`each-few`, `tree-few`). The refusals of
+-- two lists of trees are those of each (`refusals-append`, by induction on the first list). Cite `each-few`, `tree-few`
+-- and `refusals-append`. Assumes nothing.
 use mathlib.Core.Path.{_≡_, refl, sym}
 use mathlib.Core.Bool.{Bool, true, false}
 use mathlib.Core.List.{List, [], _∷_, _++_, append-assoc}
@@ -30,7 +33,7 @@ use Rattle.audit.specs.declared.Roles.{Roles}
 use Rattle.audit.specs.Roles.{rolesOf, roleOf, rolesAfter, Placed, kindIn, placedTree, placed}
 use Rattle.audit.specs.Refusals.{answerErrors, kindErrors, roleErrors, refusedThere, refusals}
 
--- an answer is told once at most, and so is a parameter list
+-- an answer gives at most one error, and so does a parameter list
 answer-few : (a : Answer) → length (answerErrors a) ≤ 1
 answer-few (accepted vs) = omega arith
 answer-few (refused n vs) = omega arith
@@ -67,7 +70,7 @@ module _ (d : Dialect) (edition : Edition) (names : List ℕ) where
     role-few d edition names (p .role) (p .tree),
   )
 
-  -- LAW: refusals of trees, and of others: those of each, and no more than two at a tree
+  -- LAW: the refusals of two lists of trees are those of each; a tree has at most two
   pub refusals-append : (ps qs : List Placed)
       → refusals d edition names (ps ++ qs) ≡ refusals d edition names ps ++ refusals d edition names qs
   unfolding refusals
@@ -101,7 +104,7 @@ mutual
     count-placed (rolesAfter roles) ts,
   )
 
--- the same for what code walks: a stretch, and its first tree
+-- the same for a part t of the table, and for its first tree
 module _ (d : Dialect) (edition : Edition) (names : List ℕ) (i : ℕ) (t : List ℕ) where
   pub each-few : (roles : Roles) → 12 * length (refusals d edition names (placed roles (forest i t))) ≤ length t
   each-few roles = omega (

@@ -1,8 +1,8 @@
--- The audit by the two editions (W-212): a list of errors without 44 is the same in both. The audit's list is made of
--- the module pass's errors, which do not look at the edition, and of what each job refuses at each record. Of these the
--- type job alone looks at the edition, and there types' `type-lifted` says that its answers are the same but for 44. A
--- list without 44 has no part with 44, so the lists are equal part by part (`parts-same`). Cite `audit-same` and
--- `job-same`. Assumes nothing.
+-- The audit in the two editions (W-212): an error list without 44 is the same in both. The list is made of the errors
+-- of the module pass, which do not depend on the edition, and of the refusals of the jobs at each record. Of the jobs
+-- only the type job depends on the edition, and types' `type-lifted` says that its answers are the same except 44. A
+-- list without 44 has no part with 44, so the lists are equal part by part (`parts-same`); the induction is on the list
+-- of trees (`refusals-same`). Cite `audit-same` and `job-same`. Assumes nothing.
 use mathlib.Core.Path.{_≡_, refl, ap}
 use mathlib.Core.List.{List, [], _∷_, _++_}
 use Prim.Native.Nat.{ℕ}
@@ -33,12 +33,12 @@ abbrev pub NoBans : List Err → Type 0
 NoBans [] = Unit {0}
 NoBans (e ∷ es) = (e .number ≡ dotTypeBan → ⊥) × NoBans es
 
--- both parts of a list without 44 are such
+-- both parts of a list without 44 are without 44
 bans-apart : (es fs : List Err) → NoBans (es ++ fs) → NoBans es × NoBans fs
 bans-apart [] fs h = (tt, h)
 bans-apart (e ∷ es) fs h = let rest = bans-apart es fs (h .1) in ((h .0, rest .0), rest .1)
 
--- two lists, part by part: the first parts and the rests are the same where the list of edition 1 has no 44
+-- two lists that are the same part by part, if the list of edition 1 has no 44
 parts-same : (es : List Err) {fs es₂ fs₂ : List Err} → (NoBans es → es₂ ≡ es) → (NoBans fs → fs₂ ≡ fs)
     → NoBans (es ++ fs)
     → es₂ ++ fs₂ ≡ es ++ fs
@@ -48,7 +48,7 @@ parts-same es {fs} first rest h =
     let b = rest (apart .1) in
     λ i. a i ++ b i
 
--- what an answer gives
+-- the errors of an answer
 answer-same : (x y : Answer) → Lifted x y → NoBans (answerErrors x) → answerErrors y ≡ answerErrors x
 answer-same (accepted vs) y l h = ap answerErrors (l .same tt)
 answer-same (refused n vs) y l h = ap answerErrors (l .same (h .0))
@@ -73,14 +73,14 @@ module _ (d : Dialect) (names : List ℕ) where
   refusals-same [] h = refl
   refusals-same (p ∷ ps) h = parts-same (refusedThere d One names p) (there-same p) (refusals-same ps) h
 
-  -- THEOREM: of any bytes, a list of errors by edition 1 without 44 is that by edition 2
+  -- THEOREM: for any bytes, an error list of edition 1 without 44 is the list of edition 2
   pub audit-same : (t : List ℕ) → NoBans (auditErrors d One names t)
       → auditErrors d Two names t ≡ auditErrors d One names t
   unfolding auditErrors
   audit-same t = parts-same (kept Own (passErrors d names t)) (λ _. refl)
       (refusals-same (placed Nowhere (forest 0 (take mostBytes t))))
 
--- THEOREM: the same of the job: where edition 1 lists no 44, edition 2 gives the same list, the same answer, refusals
+-- THEOREM: the same for the job: if edition 1 lists no 44, edition 2 gives the same list and the same answer, refusals
 -- included, and leaves the same words
 module _ (t names bytes : List ℕ) (free : NoBans (allErrors t names bytes 1)) where
   pub list-same : allErrors t names bytes 2 ≡ allErrors t names bytes 1

@@ -1,4 +1,9 @@
--- Laws of the audit as a job, in the terms of code: one for each return. Assumes nothing.
+-- The audit as a job: the tests 1 to 5 give a refusal, which stores nothing (`job-refused`), or a dialect and an
+-- edition, in which the pass runs (`job-total`). The pass stores the errors of the module pass first, and then the
+-- refusals of the jobs in the words that are still free; together these are `auditErrors` (`pass-all`, by errors'
+-- `stores-both`). The module pass stores its errors in the form Own, which has the same words as the form Audit
+-- (`own-words`, by induction on the errors). The sums fit, because a table has at most 4,200 errors of the module pass
+-- (`own-few`). The proofs of audit and pass cite these laws. Assumes nothing.
 use mathlib.Core.Path.{_≡_, refl, sym, _∙_}
 use mathlib.Core.List.{List, [], _∷_}
 use Prim.Native.Nat.{ℕ, _+_, _≤_}
@@ -27,13 +32,13 @@ use Rattle.audit.specs.Roles.{placed}
 use Rattle.audit.specs.Refusals.{refusals}
 use Rattle.audit.specs.Job.{auditErrors, allErrors, auditOf, auditAfter}
 
--- LAW: the module pass's own errors have the words of the audit
+-- LAW: errors in the form Own have the same words as in the form Audit
 own-words : (es : List Err) (xs : List ℕ) → stored Own es xs ≡ stored Audit es xs
 unfolding stored
 own-words [] xs = refl
 own-words (e ∷ es) xs = rw (own-words es (drop (width Audit) xs)) refl
 
--- the module pass's part: it is stored as the audit stores, and it is little
+-- the errors of the module pass, stored as the audit stores them; there are at most 4,200
 module _ (d : Dialect) (names t : List ℕ) {m : ℕ} (m-is : m ≡ length (kept Own (passErrors d names t))) where
   own-stores : (xs : List ℕ) {ys : List ℕ} → ys ≡ stored Own (kept Own (passErrors d names t)) xs
       → Stores Audit (kept Own (passErrors d names t)) xs m ys
@@ -49,7 +54,7 @@ module _ (d : Dialect) (names t : List ℕ) {m : ℕ} (m-is : m ≡ length (kept
     length-take 50400 t,
   )
 
-  -- and then what the jobs refuse, over as much as a table has at most
+  -- and then the refusals of the jobs, in at most as many bytes as a table has
   pub pass-all : (edition : Edition) (xs : List ℕ) {ys : List ℕ} → ys ≡ stored Own (kept Own (passErrors d names t)) xs
       → {at : ℕ} → at ≡ freeAt Audit m ys → {w : List ℕ} → w ≡ take 50400 t → {n : ℕ} {zs : List ℕ}
       → Stores Audit (refusals d edition names (placed Nowhere (forest 0 w))) (after at ys) n zs
@@ -59,7 +64,7 @@ module _ (d : Dialect) (names t : List ℕ) {m : ℕ} (m-is : m ≡ length (kept
   pass-all edition xs words at-is w-is rest =
       let both = stores-both _ _ (own-stores xs words) at-is (rw w-is at rest) in (both .count, both .words)
 
--- what the promises say where the job refuses, and where it does not
+-- the two contracts of the job, for an answer r and words ys at exit
 abbrev pub Promised : List ℕ → List ℕ → List ℕ → ℕ → List ℕ → Answer → List ℕ → Type 0
 Promised t names bytes n xs r ys = (r ≡ auditOf t names bytes n) × (ys ≡ auditAfter t names bytes n xs)
 

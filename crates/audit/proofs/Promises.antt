@@ -1,4 +1,6 @@
--- Two answers that meet the promise of a public function coincide, and so do the two lists of words. Assumes nothing.
+-- The contract of each public function leaves one answer: two answers that meet it are equal, and so are the two lists
+-- of words at exit, for every input. The contracts equate the meaning of the answer, or the answer itself, and the
+-- words with definitions; no two answers have the same meaning (`listed-injective` of validate). Assumes nothing.
 use mathlib.Core.Path.{_≡_}
 use mathlib.Core.List.{List}
 use Prim.Native.Nat.{ℕ}

@@ -1,4 +1,9 @@
--- Laws of what is refused at one record, in the terms of code: one for each return. Assumes nothing.
+-- The refusals at one record, one law for each `return` of records.rt. A refusal becomes an error with the node and
+-- span that it carries (`error-bare`, `error-placed`, `error-spanned`), and is stored if there is room (`push-none`,
+-- `push-one`). The kind of the record decides which job runs: a parameter list, a call or an assignment (`kind-def` ..
+-- `kind-other`). Its role decides whether the target or the type job runs (`role-target`, `role-type`, `role-plain`).
+-- Each job reads the bytes as its own crate promises, and the record is part of a table, so the tree is the same
+-- (table's `headed-all`). There is no induction. Both together are `there-both`. Assumes nothing.
 use mathlib.Core.Path.{_≡_, refl, sym, ap, _∙_}
 use mathlib.Core.Bool.{false}
 use mathlib.Core.List.{List, [], _++_}
@@ -53,7 +58,7 @@ use Rattle.audit.proofs.Bounds.{there-few}
 abbrev noSpan : Span
 noSpan = record { begin = 0; end = 0; file = 0 }
 
--- a refusal is stored, if there is one
+-- storing a refusal, if there is one
 module _ {c : Checked} (xs : List ℕ) where
   pub push-none : c ≡ Sound → StoresFew Audit 1 (answerErrors (checked c)) xs 0 xs
   push-none h = record { few = omega arith; stores = rw h (stores-none xs) }
@@ -74,7 +79,7 @@ module _ {why : Refusal} where
       → err n k s ≡ refusedErr (numberOf why) (carried why)
   error-spanned h = rw h refl
 
--- an answer of a job, as far as it is a refusal
+-- the refusal in the answer of a job
 module _ {why : Refusal} where
   pub call-refused : {a : Called} → a ≡ NoCall why → answerErrors (refusal why) ≡ answerErrors (called a)
   call-refused h = rw h refl
@@ -85,7 +90,7 @@ module _ {why : Refusal} where
   pub type-refused : {a : Shaped} → a ≡ NoType why → answerErrors (refusal why) ≡ answerErrors (shaped a)
   type-refused h = rw h refl
 
--- what is said of a list
+-- the error of a parameter list
 module _ {j k : Judged} (j-is : j ≡ k) where
   pub list-none : {c : Counts} → j ≡ Accepted c → answerErrors (accepted []) ≡ unpackError k
   list-none h = rw (← j-is, h) refl
@@ -156,7 +161,7 @@ module _ (d : Dialect) (edition : Edition) (names : List ℕ) (i : ℕ) (t : Lis
   unfolding roleErrors
   role-type here h c c-is es-is = es-is ∙ ap answerErrors (rw (headed-all i t here) at c-is) ∙ rw h refl
 
--- both
+-- both jobs, in this order
 pub there-both : (d : Dialect) (edition : Edition) (names : List ℕ) (role : Role) (i : ℕ) (t : List ℕ)
     {es fs : List Err} → es ≡ kindErrors names (treeOf i t) → fs ≡ roleErrors d edition names role (treeOf i t)
     → {xs ys zs : List ℕ} {m n at : ℕ} → Stores Audit es xs m ys → at ≡ freeAt Audit m ys

@@ -1,6 +1,8 @@
--- What users of the audit rely on: a refusal changes no word, the total is at most four times the node count, and a
--- list with room for that many errors holds all: 42,000 words are enough for every table. Crate `audited` says when the
--- list is empty. Assumes nothing.
+-- What users of the audit rely on: a refusal changes no word (`refusal-keeps`); the total is at most four times the
+-- number of nodes (`total-few`), because a record has at most two errors of the module pass and two refusals; and a
+-- list with room for that many errors holds all of them (`list-holds-all`). A table has at most 2,100 nodes, so 42,000
+-- words are enough for every table (`list-has-room`). There is no induction here; Bounds has it. The crate `audited`
+-- says when the list is empty. Assumes nothing.
 use mathlib.Core.Path.{_≡_, refl}
 use mathlib.Core.List.{List, [], _∷_, _++_}
 use Prim.Native.Nat.{ℕ, _*_, _/_, _≤_}
@@ -74,7 +76,7 @@ module _ (t names bytes : List ℕ) (n : ℕ) where
       go (unruled k vs) h = never (cc)
 
   -- THEOREM: a list of words with room for four errors for each node holds all errors, one after the other, and its
-  -- other words stay
+  -- other words are unchanged
   pub list-holds-all : (xs : List ℕ) → width Audit * (4 * (length t / 24)) ≤ length xs
       → auditAfter t names bytes n xs ≡ allWords Audit (allErrors t names bytes n)
       ++ drop (width Audit * length (allErrors t names bytes n)) xs

@@ -1,4 +1,10 @@
--- Laws of the walk over a stretch, in the terms of code: one for each return and for the loop. Assumes nothing.
+-- The walk of the audit visits every record in table order with its role, as `placed` of specs/Roles lists them.
+-- roles_of and role_of make the tests of the definitions (`roles-for` .. `role-return`). A record's own refusals come
+-- first, then those of its children, if it has any (`record-leaf`, `record-on`). Siblings are a loop, whose invariant
+-- is `Auditing`: of the whole list, the refusals of what is left come next, and those before are stored (errors'
+-- `Turns`). It holds at the start, each sibling keeps it, because the refusals of siblings are those of the first tree
+-- and of the rest (`each-cut`), and at the end nothing is left (`each-start`, `each-on`, `each-end`). The sums fit by
+-- Bounds. Assumes nothing.
 use mathlib.Core.Path.{_≡_, refl, ap, _∙_}
 use mathlib.Core.Bool.{_||_}
 use mathlib.Core.List.{List, [], _++_, append-nil}
@@ -28,7 +34,7 @@ use Rattle.audit.specs.Roles.{ifTyped, rolesOf, roleOf, rolesAfter, plac
 use Rattle.audit.specs.Refusals.{refusedThere, refusals}
 use Rattle.audit.proofs.Bounds.{refusals-append, each-few, tree-few}
 
--- which children have a role, by a record's kind and detail
+-- which children of a record have a role, by its kind and detail
 module _ {k m : ℕ} (k-is : k ≡ m) where
   pub roles-for : (d : ℕ) → k ≡ kindFor → TargetFirst ≡ rolesOf m d
   unfolding rolesOf
@@ -73,7 +79,7 @@ module _ {k m : ℕ} (k-is : k ≡ m) where
     unfolding rolesOf
     roles-kwargs h r-is = r-is ∙ rw (← k-is, h, d-is) refl
 
--- the role of a return type
+-- the role of a child of a Def that has a return type
 module _ (k : ℕ) {c : ℕ} (c-is : c ≡ classOf k) where
   pub return-type : c ≡ expression → AsType ≡ roleOf ReturnType k
   return-type h = rw (← c-is, h) refl
@@ -84,11 +90,11 @@ module _ (k : ℕ) {c : ℕ} (c-is : c ≡ classOf k) where
 pub role-return : {roles : Roles} (k : ℕ) {r : Role} → roles ≡ ReturnType → r ≡ roleOf ReturnType k → r ≡ roleOf roles k
 role-return k h r-is = r-is ∙ rw h refl
 
--- the children of the first record, as code makes their stretch
+-- the children of the first record of t, as the code cuts them out
 abbrev made : ℕ → List ℕ → List ℕ
 made e t = take (e - 24) (drop 24 t)
 
--- a record by itself, and then all below it, if there is any
+-- a record's own refusals, and then those of all records below it
 module _ (d : Dialect) (edition : Edition) (names : List ℕ) (role : Role) (i : ℕ) (t : List ℕ) {e : ℕ}
     (e-is : e ≡ spanOf t) {m : ℕ}
     {xs ys : List ℕ} (own : Stores Audit (refusedThere d edition names (placedAs role (treeOf i t))) xs m ys) where
@@ -108,13 +114,14 @@ module _ (d : Dialect) (edition : Edition) (names : List ℕ) (role : Role) (i :
   unfolding refusals placed
   record-on roles-are at-is z = stores-both _ _ own at-is (rw (kids-part e t e-is, roles-are) at z)
 
--- a tree is told little
+-- a tree has few refusals
 pub tree-short : (d : Dialect) (edition : Edition) (names : List ℕ) (role : Role) (i : ℕ) (t : List ℕ) {xs ys : List ℕ}
     {n : ℕ}
     → Stores Audit (refusals d edition names (placedTree role (treeOf i t))) xs n ys → 12 * n ≤ 24 + length t
 tree-short d edition names role i t q = omega (arith, stores-few _ q, tree-few d edition names i t role)
 
--- records side by side in a loop: of the whole, those of what is left of t come next, in the roles that are left
+-- the invariant of the loop over siblings: of `whole`, the refusals of what is left of t come next, in the roles that
+-- are left
 pub record Auditing (d : Dialect) (edition : Edition) (names : List ℕ) (whole : List Err) (t xs₀ left : List ℕ)
     (place : ℕ) (roles : Roles)
     (total : ℕ) (xs : List ℕ) : Type 0 where
@@ -124,7 +131,7 @@ pub record Auditing (d : Dialect) (edition : Edition) (names : List ℕ) (whole 
   pub few : total ≤ 4200
   pub turns : Turns Audit whole xs₀ (refusals d edition names (placed roles (forest place left))) total xs
 
--- LAW: those of a stretch are those of its first tree, and of what follows it
+-- LAW: the refusals of siblings are those of the first tree, and of the siblings after it
 each-cut : (d : Dialect) (edition : Edition) (names : List ℕ) (roles : Roles) (i e : ℕ) (t : List ℕ) → 24 ≤ length t
     → e ≡ spanOf t
     → refusals d edition names (placed roles (forest i t))

@@ -16,31 +16,31 @@ use Rattle.audit.specs.declared.Roles.the-variants.{Nowhere}
 use Rattle.audit.specs.Roles.{placed}
 use Rattle.audit.specs.Refusals.{refusals}
 
--- what the jobs refuse, record by record; the first records themselves have no role
+-- the refusals of the jobs, record by record; the top records have no role
 abbrev pub refusalsIn : Dialect → Edition → List ℕ → Forest → List Err
 refusalsIn d edition names ts = refusals d edition names (placed Nowhere ts)
 
--- the errors of any bytes in a dialect and by an edition, unchecked: the module pass's without 10 to 19, then what the
--- jobs refuse, of as many records as a table has at most
+-- the errors of any bytes in a dialect and an edition, without 1 to 5: those of the module pass without 10 to 19, then
+-- the refusals of the jobs, in at most as many records as a table has
 unfoldable pub auditErrors : Dialect → Edition → List ℕ → List ℕ → List Err
 auditErrors d edition names t = kept Own (passErrors d names t) ++ refusalsIn d edition names
     (forest 0 (take mostBytes t))
 
--- the errors in the dialect and by the edition that the job is given; a job that is turned away has none
+-- the errors in the given dialect and edition; a job that 1 to 5 refuse has none
 abbrev pub auditIn : Ruling → List ℕ → List ℕ → List Err
 auditIn (byRules d edition) names t = auditErrors d edition names t
 auditIn (unruled n vs) names t = []
 
--- the same by the edition of the number n
+-- the same for the number n of an edition
 unfoldable pub allErrors : List ℕ → List ℕ → List ℕ → ℕ → List Err
 allErrors t names bytes n = auditIn (rulesOf t names bytes (editionOf n)) names t
 
--- the answer: a refusal, or how many errors there are, whether they fit or not
+-- the answer: a refusal, or the number of errors, whether they fit or not
 abbrev pub auditOf : List ℕ → List ℕ → List ℕ → ℕ → Answer
 auditOf t names bytes n =
     inRules (rulesOf t names bytes (editionOf n)) (λ _ _. accepted (length (allErrors t names bytes n) ∷ []))
 
--- the words of the most errors that a table has: four errors for each of 2,100 nodes
+-- the number of words for the largest number of errors of a table: four errors for each of 2,100 nodes
 abbrev pub enoughWords : ℕ
 enoughWords = width Audit * (4 * mostNodes)
 

@@ -1,4 +1,4 @@
--- What the jobs refuse at a record: by its kind, and by its role where it stands. These are definitions.
+-- The refusals of the jobs at a record: by its kind, and by its role. These are definitions.
 use mathlib.Core.List.{List, [], _∷_, _++_}
 use Prim.Native.Nat.{ℕ}
 use lib.ListN.{getD}
@@ -22,7 +22,7 @@ use Rattle.audit.specs.declared.Role.{Role}
 use Rattle.audit.specs.declared.Role.the-variants.{AsTarget, AsType, Plain}
 use Rattle.audit.specs.Roles.{Placed, kindIn}
 
--- a refusal as an error: its number, and of what it carries the node, and the begin, the end and the file of the span
+-- a refusal as an error: its number, and from its values the node and the begin, the end and the file of the span
 abbrev pub refusedErr : ℕ → List ℕ → Err
 refusedErr n vs = err n (getD vs 0 0) (record { begin = getD vs 1 0; end = getD vs 2 0; file = getD vs 3 0 })
 
@@ -37,13 +37,13 @@ kindErrors names t =
     if' (wants Call (kindIn t)) (λ _. answerErrors (callAnswer names t)) (λ _.
     if' (wants Assignment (kindIn t)) (λ _. answerErrors («check_assignment» t)) (λ _. [])))
 
--- the job of its role: a target; a type, in the dialect and by the edition
+-- the job of its role: a target, or a type in the dialect and the edition
 unfoldable pub roleErrors : Dialect → Edition → List ℕ → Role → Tree → List Err
 roleErrors d edition names AsTarget t = answerErrors (counted 0 t)
 roleErrors d edition names AsType t = answerErrors («dialect_check_type» edition names (d .«enable_types») t)
 roleErrors d edition names Plain t = []
 
--- both, in this order; and those of trees in turn
+-- both, in this order; then the refusals of several trees in turn
 unfoldable pub refusedThere : Dialect → Edition → List ℕ → Placed → List Err
 refusedThere d edition names p = kindErrors names (p .tree) ++ roleErrors d edition names (p .role) (p .tree)
 

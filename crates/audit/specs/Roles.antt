@@ -1,4 +1,4 @@
--- Which records stand as a target or as a type, and all trees of a table with the role that they have there. These are
+-- Which records are a target or a type by their place, and all trees of a table with their roles. These are
 -- definitions.
 use mathlib.Core.Bool.{Bool, _||_}
 use mathlib.Core.List.{List, [], _∷_, _++_}
@@ -14,13 +14,13 @@ use Rattle.audit.specs.declared.Role.the-variants.{AsTarget, AsType, Pla
 use Rattle.audit.specs.declared.Roles.{Roles}
 use Rattle.audit.specs.declared.Roles.the-variants.{Nowhere, TargetFirst, TypeFirst, TypeSecond, ReturnType}
 
--- a type stands among the children
+-- the roles if the record has a type, else none
 abbrev pub ifTyped : Bool → Roles → Roles
 ifTyped typed roles = if' typed (λ _. roles) (λ _. Nowhere)
 
--- which children of a record of a kind, with a detail, have a role: the target of a For stands first; the return type
--- of a Def is its child that is an expression; the type of an Assign or AssignModify stands second, that of a Normal,
--- an Args or a KwArgs first
+-- which children of a record have a role, by its kind and detail: the target of a For is its first child; the return
+-- type of a Def is its child that is an expression; the type of an Assign or AssignModify is its second child, that of
+-- a Normal, an Args or a KwArgs the first
 unfoldable pub rolesOf : ℕ → ℕ → Roles
 rolesOf k d =
     if' (eqb k kindFor) (λ _. TargetFirst) (λ _.
@@ -30,7 +30,7 @@ rolesOf k d =
     if' (eqb k kindArgsParam || eqb k kindKwArgsParam) (λ _. ifTyped (eqb d 1) TypeFirst) (λ _.
     Nowhere)))))
 
--- the role of the next of those children, by its kind, and the roles of those after it
+-- the role of the next child, by its kind, and the roles of the children after it
 abbrev pub roleOf : Roles → ℕ → Role
 roleOf Nowhere k = Plain
 roleOf TargetFirst k = AsTarget
@@ -45,7 +45,7 @@ rolesAfter TypeFirst = Nowhere
 rolesAfter TypeSecond = TypeFirst
 rolesAfter ReturnType = ReturnType
 
--- a tree, and the role of its first record where it stands
+-- a tree, and the role of its first record
 pub record Placed : Type 0 where
   pub role : Role
   pub tree : Tree

@@ -1,6 +1,6 @@
-// The audit: every job on every node that it fits, over a table that is checked once. First the module pass's errors
-// without those of parameter lists, then record by record what the jobs refuse there, stored in a lent list of words as
-// far as they fit, and counted in any case.
+// The audit: every job on every node that it fits, in a table that is checked once. First come the errors of the module
+// pass without those of parameter lists, then the refusals of the jobs, record by record. All are counted; those that
+// fit are stored in a lent list of words.
 mod places;
 mod records;
 mod walk;
@@ -17,14 +17,14 @@ ghost use Rattle.errors.specs.declared.Listing.the-variants.{Audit};
 ghost use Rattle.validate.specs.Job.{listed};
 ghost use Rattle.audit.specs.Job.{auditErrors, auditOf, auditAfter};
 
-// What a record is where it stands, beside its kind.
+// The role of a record, which its parent gives it.
 pub enum Role {
     AsTarget,
     AsType,
     Plain,
 }
 
-// Which of some children side by side have a role.
+// Which of some siblings have a role.
 pub enum Roles {
     Nowhere,
     TargetFirst,
@@ -33,8 +33,8 @@ pub enum Roles {
     ReturnType, // the one that is an expression
 }
 
-// The audit, by the edition of a number. A list that is too short for all errors holds the first that fit whole, and is
-// no refusal.
+// The audit in an edition, which is given by its number. A list that is too short for all errors gets the first that
+// fit whole; this is not a refusal.
 pub fn audit(table: &[u8], names: &[u8], dialect: &[u8], edition: u32, errors: &mut [u32]) -> Listed
     ensures { λ r. ⌜ listed r ≡ auditOf (now (table .entry)) (now (names .entry)) (now (dialect .entry)) edition ⌝ }
     ensures { λ r. ⌜ now (errors .exit) ≡
@@ -53,8 +53,8 @@ pub fn audit(table: &[u8], names: &[u8], dialect: &[u8], edition: u32, errors: &
     }
 }
 
-// The audit alone, for who has checked 1 to 5 before: how many errors there are. It takes any bytes, and looks at no
-// more of them than a table has at most.
+// The audit alone, for callers that have checked 1 to 5: returns the number of errors. It accepts any bytes, and reads
+// at most as many as a table has.
 pub fn pass(table: &[u8], names: &[u8], d: Dialect, edition: Edition, errors: &mut [u32]) -> u32
     ensures { λ r. ⌜ r ≡ length (auditErrors d edition (now (names .entry)) (now (table .entry))) ⌝ }
     ensures { λ r. ⌜ now (errors .exit) ≡

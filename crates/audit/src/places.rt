@@ -1,4 +1,4 @@
-// Which records stand as a target or as a type.
+// Which records are a target or a type by their place.
 use crate::Role;
 use crate::Roles;
 use soundness::classes;
@@ -8,7 +8,7 @@ ghost use Rattle.forest.specs.Forest.{nodeOf};
 ghost use Rattle.audit.specs.Roles.{ifTyped, rolesOf, roleOf, rolesAfter};
 ghost use Rattle.audit.specs.declared.Roles.the-variants.{ReturnType};
 
-// Roles, where a type stands among the children.
+// The roles if the record has a type, else none.
 fn if_typed(typed: bool, roles: Roles) -> Roles
     ensures { λ r. ⌜ r ≡ ifTyped typed roles ⌝ }
 {
@@ -18,7 +18,7 @@ fn if_typed(typed: bool, roles: Roles) -> Roles
     Roles::Nowhere
 }
 
-// Which children of the record that a stretch begins with have a role.
+// Which children of the first record of t have a role.
 pub(crate) fn roles_of(t: &[u8]) -> Roles
     ensures { λ r. ⌜ r ≡ rolesOf (nodeOf 0 (now (t .entry)) .kind) (nodeOf 0 (now (t .entry)) .detail) ⌝ }
 {
@@ -35,7 +35,7 @@ pub(crate) fn roles_of(t: &[u8]) -> Roles
     }
 }
 
-// The role of the return type of a Def, among its children.
+// The role of a child of a Def that has a return type: the expression is the type.
 fn if_expression(t: &[u8]) -> Role
     ensures { λ r. ⌜ r ≡ roleOf ReturnType (nodeOf 0 (now (t .entry)) .kind) ⌝ }
 {
@@ -45,7 +45,7 @@ fn if_expression(t: &[u8]) -> Role
     Role::Plain
 }
 
-// The role of the next child, which begins a stretch.
+// The role of the next child, which is at the start of t.
 pub(crate) fn role_of(roles: Roles, t: &[u8]) -> Role
     ensures { λ r. ⌜ r ≡ roleOf roles (nodeOf 0 (now (t .entry)) .kind) ⌝ }
 {
@@ -58,7 +58,7 @@ pub(crate) fn role_of(roles: Roles, t: &[u8]) -> Role
     }
 }
 
-// The roles of those after it.
+// The roles of the children after it.
 pub(crate) fn roles_after(roles: Roles) -> Roles
     ensures { λ r. ⌜ r ≡ rolesAfter roles ⌝ }
 {

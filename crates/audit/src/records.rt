@@ -1,4 +1,5 @@
-// What the jobs refuse at one record: the job of its kind, then the job of its role. Each is asked by its own crate.
+// The refusals of the jobs at one record: the job of its kind, then the job of its role. Each job is a call of its own
+// crate.
 use crate::Role;
 use arguments::Called;
 use deflist::Fault;
@@ -68,7 +69,7 @@ fn error_of(why: Refusal) -> Err
     }
 }
 
-// A refusal, if there is one, is stored where there is room for it, and counted in any case.
+// Stores a refusal, if there is one and it fits, and counts it in any case.
 fn push_refusal(found: Checked, errors: &mut [u32]) -> usize
     ensures { λ r. ⌜ StoresFew Audit 1 (answerErrors (checked found)) (now (errors .entry)) r (now (errors .exit)) ⌝ }
 {
@@ -78,7 +79,7 @@ fn push_refusal(found: Checked, errors: &mut [u32]) -> usize
     }
 }
 
-// A call's answer, a target's or an assignment's, and a type's, as far as they are refusals.
+// The refusal, if there is one, in the answer about a call, a target or an assignment, and a type.
 fn of_call(answer: Called) -> Checked
     ensures { λ r. ⌜ answerErrors (checked r) ≡ answerErrors (called answer) ⌝ }
 {
@@ -106,7 +107,7 @@ fn of_type(answer: Shaped) -> Checked
     }
 }
 
-// A refusal of a parameter list; the node that stood before is not told.
+// The error of a parameter list; the earlier node is not reported.
 fn of_fault(f: Fault) -> Checked
     requires { ⌜ f .node < 2 ^ 32 ⌝ }
     ensures { λ r. ⌜ answerErrors (checked r) ≡ unpackError (Refused f) ⌝ }
@@ -133,7 +134,7 @@ fn of_list(names: &[u8], t: &[u8], at: u32) -> Checked
     }
 }
 
-// The job of the kind of the record that a stretch begins with.
+// The job of the kind of the first record of t.
 fn by_kind(names: &[u8], t: &[u8], at: u32) -> Checked
     requires { ⌜ Headed at (now t) ⌝ }
     ensures { λ r. ⌜ answerErrors (checked r) ≡ kindErrors (now (names .entry)) (treeOf at (now (t .entry))) ⌝ }
@@ -161,7 +162,7 @@ fn by_role(d: Dialect, edition: Edition, names: &[u8], role: Role, t: &[u8], at:
     }
 }
 
-// Both, in this order.
+// Both jobs, in this order.
 pub(crate) fn check_there(
     d: Dialect,
     edition: Edition,

@@ -1,5 +1,5 @@
-// The walk of the audit: every record in table order, with the role that it has where it stands. Records side by side
-// are taken in a loop, and children by recursion.
+// The walk of the audit: every record in table order, with its role. Siblings are visited in a loop, and children by
+// recursion.
 use crate::Role;
 use crate::Roles;
 use crate::places;
@@ -18,7 +18,7 @@ ghost use Rattle.validate.specs.Inner.{StoresFew};
 ghost use Rattle.audit.specs.Roles.{placedTree, placed};
 ghost use Rattle.audit.specs.Refusals.{refusals};
 
-// The record that a stretch begins with, in its role, and then all below it. Its tree takes e bytes.
+// The first record of t, in its role, and then all records below it. Its tree has e bytes.
 fn check_record(
     d: Dialect,
     edition: Edition,
@@ -53,7 +53,7 @@ fn check_record(
     own + below
 }
 
-// The records side by side in a stretch whose first record has the index at, in turn.
+// The sibling records in t, in turn; the first has the index at.
 pub(crate) fn check_each(
     d: Dialect,
     edition: Edition,

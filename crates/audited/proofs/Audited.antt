@@ -1,6 +1,9 @@
--- "`errors 0` means that the whole checker passes": the list of the audit is empty exactly where the module pass has no
--- error and every job accepts every node that it fits. Over every table, every dialect and every edition that pass 1 to
--- 5. Assumes nothing.
+-- The sentence "`errors 0` means that the whole checker passes": the list of the audit is empty exactly if the module
+-- pass has no error and every job accepts every node that it fits, for every table, dialect and edition that pass 1 to
+-- 5. The list has two parts (`parts`). The second part is empty exactly if no tree is refused, and by Jobs a tree is
+-- not refused exactly if every job accepts its node. The first part leaves out 10 to 19, but these are among the
+-- refusals of the second (Own). There is no induction here. Cite `zero-passes` and `passes-zero` for the answers of the
+-- jobs. Assumes nothing.
 use mathlib.Core.Path.{_≡_, refl, sym, ap, _∙_}
 use mathlib.Core.List.{List, [], _∷_, _++_}
 use Prim.Native.Nat.{ℕ, _/_}
@@ -40,7 +43,7 @@ use Rattle.audited.proofs.Nodes.{Here, all-here}
 use Rattle.audited.proofs.Roled.{Roled, all-roled}
 use Rattle.audited.proofs.Jobs.{refused-accepts, accepts-refused, kind-none}
 
--- THEOREM: the trees that the audit looks at are those of all records of the table, each once and in order
+-- THEOREM: the trees that the audit visits are those of all records of the table, each once and in order
 pub every-node : (t : List ℕ) → rootsIn (placed Nowhere (forest 0 t)) ≡ records (length t / 24) 0 t
 every-node t = placed-roots Nowhere (forest 0 t) ∙ nodes-records 0 t
 
@@ -67,7 +70,7 @@ module _ (t names bytes : List ℕ) (n : ℕ) {d : Dialect} {edition : Edition}
   both-empty e =
       none-both (kept Own («validate_module» d names (forest 0 t))) (refusals d edition names trees) (sym parts ∙ e)
 
-  -- what is known of every tree: it is a node's, and its class fits its role
+  -- what is known about every tree: it is the tree of a node, and its class fits its role
   abbrev Seen : Placed → Type 0
   Seen p = Here t p × Roled p
 
@@ -76,21 +79,21 @@ module _ (t names bytes : List ℕ) (n : ℕ) {d : Dialect} {edition : Edition}
       all-join {P = Here t} {Q = Roled} {R = Seen} (λ p here fit. (here, fit)) trees (all-here clean Nowhere)
       (all-roled clean)
 
-  -- THEOREM: where the list is empty, the module pass has no error
+  -- THEOREM: if the list is empty, the module pass has no error
   pub empty-module : allErrors t names bytes n ≡ [] → errorsOf t names bytes ≡ []
   empty-module e =
       let two = both-empty e in
       let quiet = all-map (kind-none d edition names) trees (none-refused d edition names trees (two .1)) in
       module-is ∙ sym (own-module d names (forest 0 t) (forest-passes names Nowhere (forest 0 t) quiet)) ∙ two .0
 
-  -- THEOREM: and every job accepts every node
+  -- THEOREM: if the list is empty, every job accepts every node
   pub empty-accepts : allErrors t names bytes n ≡ [] → AllAccept t names bytes n
   empty-accepts e =
       let two = both-empty e in
       all-join (λ p both none. refused-accepts t names bytes n g p (both .0) (both .1) none) trees seen-all
       (none-refused d edition names trees (two .1))
 
-  -- THEOREM: where the module pass has no error and every job accepts every node, the list is empty
+  -- THEOREM: if the module pass has no error and every job accepts every node, the list is empty
   pub accepts-empty : errorsOf t names bytes ≡ [] → AllAccept t names bytes n → allErrors t names bytes n ≡ []
   accepts-empty none accepts =
       let quiet = all-join (λ p both a. accepts-refused t names bytes n g p (both .0) (both .1) a) trees seen-all
@@ -115,15 +118,15 @@ let-in t names bytes n {vs} e = go (rulesOf t names bytes (editionOf n)) refl e
     go (byRules d edition) g e = (d, edition, g)
     go (unruled m ws) g e = never-passed e
 
--- LAW: so its number is an edition
+-- LAW: the number of an audit that is not refused is that of an edition
 pub audit-known : (t names bytes : List ℕ) (n : ℕ) {vs : List ℕ} → auditOf t names bytes n ≡ accepted vs
     → (edition : Edition) × (editionOf n ≡ Known edition)
 audit-known t names bytes n e = let k = let-in t names bytes n e in
     (k .1, rules-known t names bytes (k .2) .1)
 
--- the same over the answers of the two jobs
+-- the same about the answers of the two jobs
 module _ (t names bytes : List ℕ) (n : ℕ) where
-  -- THEOREM: where the audit answers 0 errors, the module job does, and every job accepts every node
+  -- THEOREM: if the audit returns 0 errors, so does the module job, and every job accepts every node
   pub zero-passes : auditOf t names bytes n ≡ accepted (0 ∷ [])
       → (moduleOf t names bytes ≡ accepted (0 ∷ [])) × AllAccept t names bytes n
   zero-passes e =
@@ -136,7 +139,7 @@ module _ (t names bytes : List ℕ) (n : ℕ) where
         empty-accepts t names bytes n g empty,
       )
 
-  -- THEOREM: and only there, for a number that is an edition
+  -- THEOREM: the converse, for a number that is an edition
   pub passes-zero : {edition : Edition} → editionOf n ≡ Known edition → moduleOf t names bytes ≡ accepted (0 ∷ [])
       → AllAccept t names bytes n → auditOf t names bytes n ≡ accepted (0 ∷ [])
   passes-zero {edition} known e accepts = go (givenOf t names bytes) refl e

@@ -1,11 +1,9 @@
--- "`errors 0` means that the whole checker passes", with the targets and types named by the children of each record:
--- the first child of every For is accepted as a target, and every return type, every type of an assignment and every
--- type of a parameter as a type.
---
--- The audit gives each tree a role where it stands (`placed`). The trees of a role are, record by record, the children
--- that specs/Checked.antt names (`targets-are`, `types-are`): shown for each kind. So what holds of every tree in the
--- role holds of every such child, and the other way round (`forth`, `back`), by induction on the forest.
--- Assumes nothing.
+-- The sentence "`errors 0` means that the whole checker passes", with the targets and types named by the children of
+-- each record: the first child of every For is accepted as a target, and every return type, every type of an assignment
+-- and every type of a parameter as a type. The audit gives each tree a role (`placed`). The trees of a role are, record
+-- by record, the children that specs/Checked.antt names (`targets-are`, `types-are`, by cases on the kind). So what
+-- holds of every tree in the role holds of every such child, and conversely (`forth`, `back`, by induction on the
+-- forest). Cite `zero-checks-all` and `checks-all-zero`. Assumes nothing.
 use mathlib.Core.Path.{_≡_, refl, sym}
 use mathlib.Core.Bool.{Bool, true, false, _||_}
 use mathlib.Core.List.{List, [], _∷_, _++_}
@@ -58,7 +56,7 @@ pub each-map : {A : Type 0} {P Q : A → Type 0} → ((x : A) → P x → Q x) �
 each-map f [] a = tt
 each-map f (x ∷ xs) a = (f x (a .0), each-map f xs (a .1))
 
--- what holds of the first records holds of the trees
+-- what holds of the first record of each tree, as a list of records and as a list of trees
 roots-all : (P : Node → Type 0) (ps : List Placed) → All (λ p. P (rootIn (p .tree))) ps → Each P (rootsIn ps)
 unfolding rootsIn
 roots-all P [] a = tt
@@ -69,7 +67,7 @@ unfolding rootsIn
 all-roots P [] a = tt
 all-roots P (p ∷ ps) a = (a .0, all-roots P ps (a .1))
 
--- of trees that stand in these roles, those whose role passes a test
+-- of trees with these roles, those whose role passes a test
 unfoldable roled : (Role → Bool) → Roles → Forest → List Tree
 roled test roles none = []
 roled test roles (t then ts) =
@@ -86,7 +84,7 @@ first-back : (P : Tree → Type 0) (b : Bool) (t : Tree) (l : List Tree) → Eac
 first-back P true t l a = (λ e. a .0, a .1)
 first-back P false t l a = (λ e. never (cc), a)
 
--- LAW: over all trees of a forest they are the children that a definition names for each record
+-- LAW: in all trees of a forest these are the children that a definition names for each record
 module _ (test : Role → Bool) (these : ℕ → ℕ → Forest → List Tree)
     (are : (k d : ℕ) (ks : Forest) → these k d ks ≡ roled test (rolesOf k d) ks) (P : Tree → Type 0) where
   abbrev Q : Placed → Type 0
@@ -211,7 +209,7 @@ targets-are k d ks = go (eqb k kindFor) (eqb k kindDef) (eqb k kindAssign || eqb
     go false false false false true = no-target-if (eqb d 1) TypeFirst ks (no-target-type ks)
     go false false false false false = sym (no-target-after ks)
 
--- LAW: the types among them
+-- LAW: the types among the children of a record, kind by kind
 no-type-after : (ks : Forest) → roled isType Nowhere ks ≡ []
 unfolding roled
 no-type-after none = refl
@@ -287,14 +285,14 @@ module _ (t names bytes : List ℕ) (n : ℕ) where
   abbrev There : Placed → Type 0
   There p = Accepts t names bytes n (rootIn (p .tree) .at) (p .role)
 
-  -- a tree in its place is accepted as a target where it is one, and as a type where it is one
+  -- a tree is accepted as a target if it has that role, and as a type if it has that role
   abbrev AsTargets : Placed → Type 0
   AsTargets p = isTarget (p .role) ≡ true → Target (p .tree)
 
   abbrev AsTypes : Placed → Type 0
   AsTypes p = isType (p .role) ≡ true → Typed (p .tree)
 
-  -- THEOREM: where the audit answers 0 errors, the module job does, every node is accepted by the jobs that fit its
+  -- THEOREM: if the audit returns 0 errors, so does the module job, every node is accepted by the jobs that fit its
   -- kind, and every target and every type is accepted as one
   pub zero-checks-all : auditOf t names bytes n ≡ accepted (0 ∷ [])
       → (moduleOf t names bytes ≡ accepted (0 ∷ []))
@@ -314,7 +312,7 @@ module _ (t names bytes : List ℕ) (n : ℕ) where
       (all-map {P = There} {Q = AsTypes} (λ p a h. a .type (type-role (p .role) h)) trees (z .1)) in
       (z .0, rw (every-node t) at nodes, targets .1, types .1)
 
-  -- THEOREM: and only there, for a number that is an edition
+  -- THEOREM: the converse, for a number that is an edition
   pub checks-all-zero : {edition : Edition} → editionOf n ≡ Known edition → moduleOf t names bytes ≡ accepted (0 ∷ [])
       → Each (λ r. Fitting t names (r .at)) (records (length t / 24) 0 t)
       → Each (λ u. isAccepted (targetOf t names (rootIn u .at)) ≡ true) (everywhere targetsOf (forest 0 t))

@@ -1,4 +1,8 @@
--- Laws of what holds of every tree in its place, and of refusals of which there are none. Assumes nothing.
+-- General laws for the theorems of this crate: about what holds of every tree that the audit visits (`All`, over joined
+-- lists: `all-both`, `all-left`, `all-right`; over consequences: `all-map`, `all-join`), and about lists of refusals
+-- that are empty: there are none exactly if no tree has one (`none-refused`, `refused-none`). The inductions are on the
+-- list of trees. The trees that the audit visits are those of all nodes, each once and in table order (`placed-roots`,
+-- by induction on the trees). Assumes nothing.
 use mathlib.Core.Path.{_≡_, refl, ap, _∙_}
 use mathlib.Core.Bool.{Bool, true, false, _||_}
 use mathlib.Core.List.{List, [], _∷_, _++_}
@@ -27,7 +31,7 @@ module _ (P : Placed → Type 0) where
   all-right [] qs a = a
   all-right (p ∷ ps) qs a = all-right ps qs (a .1)
 
--- what follows from one thing, or from two, follows everywhere
+-- if P implies Q at every tree, All P implies All Q; the same for two premises
 pub all-map : {P Q : Placed → Type 0} → ((p : Placed) → P p → Q p) → (ps : List Placed) → All P ps → All Q ps
 all-map f [] a = tt
 all-map f (p ∷ ps) a = (f p (a .0), all-map f ps (a .1))
@@ -42,7 +46,7 @@ pub either : {P : Type 0} (a b : Bool) → (a || b) ≡ true → (a ≡ true →
 either true b e f g = f refl
 either false b e f g = g e
 
--- two lists joined are empty where both are
+-- two joined lists are empty exactly if both are
 pub none-both : {A : Type 0} (xs ys : List A) → xs ++ ys ≡ [] → (xs ≡ []) × (ys ≡ [])
 none-both [] ys e = (refl, e)
 none-both (x ∷ xs) ys e = never (cc)
@@ -50,7 +54,7 @@ none-both (x ∷ xs) ys e = never (cc)
 pub both-none : {A : Type 0} {xs ys : List A} → xs ≡ [] → ys ≡ [] → xs ++ ys ≡ []
 both-none x-is y-is = rw (x-is, y-is) refl
 
--- LAW: there are no refusals exactly where there is none at any tree
+-- LAW: there are no refusals exactly if there is none at any tree
 module _ (d : Dialect) (edition : Edition) (names : List ℕ) where
   pub none-refused : (ps : List Placed) → refusals d edition names ps ≡ []
       → All (λ p. refusedThere d edition names p ≡ []) ps
@@ -65,13 +69,13 @@ module _ (d : Dialect) (edition : Edition) (names : List ℕ) where
   refused-none [] a = refl
   refused-none (p ∷ ps) a = both-none (a .0) (refused-none ps (a .1))
 
--- the first records of trees, and of others
+-- the first records of two lists of trees
 roots-append : (ps qs : List Placed) → rootsIn (ps ++ qs) ≡ rootsIn ps ++ rootsIn qs
 unfolding rootsIn
 roots-append [] qs = refl
 roots-append (p ∷ ps) qs = ap (λ (l : List Node). rootIn (p .tree) ∷ l) (roots-append ps qs)
 
--- LAW: the trees in their places are those of all nodes, each once, in table order
+-- LAW: the trees that the audit visits are those of all nodes, each once, in table order
 mutual
   unfolding placed rootsIn nodes
 

@@ -1,7 +1,8 @@
--- Every error of the module pass's list and of the audit's has the source file number of the record that it names. An
--- error is told at a node of the forest, or is a job's refusal at one (the jobs' laws `Told`); and every node of the
--- forest of a table, whatever its bytes, is the record of its index (forest's `nodes-records`). The inductions are on
--- the trees, along the definitions of the two lists. Cite `module-filed` and `audit-filed`. Assumes nothing.
+-- Every error of the module pass's list and of the audit's list has the source file number of the record that it names.
+-- An error is reported at a node of the forest, or is a job's refusal at one (the laws `Told` of the jobs' crates); and
+-- every node of the forest of a table, whatever its bytes, is the record of its index (forest's `nodes-records`). The
+-- inductions are on the trees, along the definitions of the two lists. Cite `module-filed` and `audit-filed`. Assumes
+-- nothing.
 use mathlib.Core.Path.{_≡_, refl, sym, ap, _∙_}
 use mathlib.Core.Bool.{Bool, true, false, not}
 use mathlib.Core.List.{List, [], _∷_, _++_}

@@ -1,4 +1,9 @@
--- What the audit asks of a tree in its place is what the jobs ask of its node. Assumes nothing.
+-- The audit has no refusal at a tree exactly if every job accepts the tree's node (`refused-accepts`,
+-- `accepts-refused`). A job on a node of a sound table reads the node's tree: the tests before its rule pass, and its
+-- part of the table is that tree (`on-node`, `params-is`, `type-is`). The audit applies the same rules to the same
+-- tree, so a job accepts exactly if the audit has no error from it, by kind (`list-is` .., `kind-quiet`) and by role
+-- (`as-target`, `as-type`, `role-quiet`). There is no induction; that the trees are the same is Nodes' `all-here`.
+-- Assumes nothing.
 use mathlib.Core.Path.{_≡_, refl, sym, ap, _∙_}
 use mathlib.Core.Bool.{Bool, true, false}
 use mathlib.Core.List.{List, []}
@@ -152,7 +157,7 @@ module _ (t names bytes : List ℕ) (n : ℕ) {d : Dialect} {edition : Edition}
   unfolding wants
   expression-is h = eq-eqb (classOf (kindIn tree)) expression h
 
-  -- what is told of a role
+  -- the errors of each role
   target-told : roleErrors d edition names AsTarget tree ≡ answerErrors (counted 0 tree)
   unfolding roleErrors
   target-told = refl
@@ -182,7 +187,7 @@ module _ (t names bytes : List ℕ) (n : ℕ) {d : Dialect} {edition : Edition}
       ∙ quiet-accepted («dialect_check_type» edition names (d .«enable_types») tree) (sym type-told ∙ e)
   as-type Plain is fit e room enough = never (cc)
 
-  -- LAW: where nothing is told of the node's tree, every job accepts the node
+  -- LAW: if the node's tree has no error, every job accepts the node
   tree-accepts : (role : Role) → Fits role (classOf (kindIn tree)) → kindErrors names tree ≡ []
       → roleErrors d edition names role tree ≡ [] → Accepts t names bytes n i role
   tree-accepts role fit kind-none role-none = record {
@@ -202,7 +207,7 @@ module _ (t names bytes : List ℕ) (n : ℕ) {d : Dialect} {edition : Edition}
     type = λ role-is. as-type role role-is fit role-none;
   }
 
-  -- LAW: and where every job accepts it, nothing is told
+  -- LAW: if every job accepts the node, its tree has no error
   role-quiet : (role : Role) → Fits role (classOf (kindIn tree)) → Accepts t names bytes n i role
       → roleErrors d edition names role tree ≡ []
   role-quiet AsTarget fit a =
@@ -227,7 +232,7 @@ module _ (t names bytes : List ℕ) (n : ℕ) {d : Dialect} {edition : Edition}
       (λ h. accepted-quiet («check_assignment» tree)
       (sym (ap isAccepted (on-node Assignment «check_assignment» h)) ∙ a .assignment (fits-is Assignment ∙ h)))
 
--- LAWS: the audit has no refusal at a tree exactly where every job accepts the tree's node
+-- LAWS: the audit has no refusal at a tree exactly if every job accepts the tree's node
 module _ (t names bytes : List ℕ) (n : ℕ) {d : Dialect} {edition : Edition}
     (g : rulesOf t names bytes (editionOf n) ≡ byRules d edition) (p : Placed) (here : Here t p)
     (fit : Roled p) where
@@ -260,7 +265,7 @@ module _ (t names bytes : List ℕ) (n : ℕ) {d : Dialect} {edition : Edition}
       both-none (told-same ∙ accepts-kind t names bytes n g at (here .inside) a)
       (role-same ∙ role-quiet t names bytes n g at (here .inside) (p .role) fit-there a)
 
--- then there is none by its kind either
+-- if there is no refusal at a tree, there is none by its kind
 pub kind-none : (d : Dialect) (edition : Edition) (names : List ℕ) (p : Placed) → refusedThere d edition names p ≡ []
     → kindErrors names (p .tree) ≡ []
 unfolding refusedThere

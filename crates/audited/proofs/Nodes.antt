@@ -1,5 +1,8 @@
--- In a sound table every tree in its place is the tree of a node: the one that a job on that node reads. Assumes
--- nothing.
+-- In a sound table every tree that the audit visits is the tree of a node: the tree that a job on that node reads
+-- (`all-here`). The audit cuts the table into parts, and a job cuts out the node's own part; both read the same
+-- records, because in a sound table a node's size lies within its part (`kids-at`, `rest-at`, `tree-at`). The induction
+-- is on the number of records of a part (`all-in`): the first node, the records below it, and the records after it.
+-- Cite `all-here`. Assumes nothing.
 use mathlib.Core.Path.{_≡_, refl, sym, _∙_}
 use mathlib.Core.List.{List}
 use Prim.Native.Nat.{ℕ, zero, suc, _+_, _-_, _*_, _/_, _<_, _≤_}
@@ -20,7 +23,7 @@ use Rattle.deflist.specs.Written.{rootIn}
 use Rattle.audited.specs.Said.{All}
 use Rattle.audited.proofs.Everywhere.{all-both}
 
--- a tree in its place is that of a node of the table
+-- a tree that the audit visits is the tree of a node of the table
 pub record Here (t : List ℕ) (p : Placed) : Type 0 where
   pub inside : rootIn (p .tree) .at < length t / 24
   pub same : p .tree ≡ treeOf (rootIn (p .tree) .at) (stretchOf t (rootIn (p .tree) .at))
@@ -33,7 +36,7 @@ module _ {t names : List ℕ} (c : Clean t names) where
   part-long : (i m : ℕ) → i + m ≤ length t / 24 → length (part t i m) ≡ 24 * m
   part-long i m room = length-take-le (24 * m) (drop (24 * i) t) (simp length-drop (omega (arith, c .whole)))
 
-  -- the first node of a part, whose size is s: its children and what follows
+  -- the first node of a part has the size s: its children, and the records after it
   module _ (i m : ℕ) {s : ℕ} (room : i + m ≤ length t / 24) (s-is : s ≡ sizeOf (drop (24 * i) t)) (least : 1 ≤ s)
       (most : s ≤ m) where
     part-size : sizeOf (part t i m) ≡ s
@@ -69,7 +72,7 @@ module _ {t names : List ℕ} (c : Clean t names) where
           a,
         ) refl
 
-  -- a node's tree in a part is its tree in its own stretch
+  -- the tree of a node is the same in a part and in the node's own part
   tree-at : (i m : ℕ) {s : ℕ} → i + m ≤ length t / 24 → s ≡ sizeOf (drop (24 * i) t) → 1 ≤ s → s ≤ m
       → treeOf i (part t i m) ≡ treeOf i (stretchOf t i)
   tree-at i m {s} room s-is least most =
@@ -82,7 +85,7 @@ module _ {t names : List ℕ} (c : Clean t names) where
         node-take i (24 * s) (drop (24 * i) t) (omega arith),
       ) refl
 
-  -- the induction over parts of the table
+  -- the induction on the number of records of a part
   all-none : (roles : Roles) (i : ℕ) (bs : List ℕ) → length bs < 24 → All (Here t) (placed roles (forest i bs))
   unfolding placed
   all-none roles i bs h = rw (forest-none i bs h) tt
@@ -123,7 +126,7 @@ module _ {t names : List ℕ} (c : Clean t names) where
       all-cut roles i bs big (record { inside = omega arith; same = tree-at i m room refl least most })
       (rw kids-are kids) (rw (rest-is, after) rest)
 
-  -- LAW: every tree of a sound table in its place is that of a node
+  -- LAW: every tree of a sound table that the audit visits is the tree of a node
   pub all-here : (roles : Roles) → All (Here t) (placed roles (forest 0 t))
   all-here roles =
       let n : ℕ = length t / 24 in

@@ -1,4 +1,8 @@
--- Where the audit refuses nothing by kind, no parameter list of the table is refused. Assumes nothing.
+-- If the audit refuses nothing by kind at any tree, every parameter list of the table passes (`forest-passes`). The
+-- audit leaves the errors of parameter lists (10 to 19) out of the module pass's part and reports them at their Def or
+-- Lambda instead; this law says that nothing is lost by that. The job of a Def or Lambda is its parameter list
+-- (`list-of`), so no error there means that the list passes (`quiet-passes`). The induction is on the trees, with the
+-- roles of the audit. Assumes nothing.
 use mathlib.Core.Path.{_≡_, refl}
 use mathlib.Core.Bool.{Bool, true, false, not, _||_}
 use mathlib.Core.List.{List, []}
@@ -24,7 +28,7 @@ quiet-passes : (j : Judged) → unpackError j ≡ [] → passes j ≡ true
 quiet-passes (Accepted c) e = refl
 quiet-passes (Refused f) e = never (cc)
 
--- a test that is asked only where another holds
+-- a test b that is made only if a holds
 unless-asked : (a b : Bool) → (a ≡ true → b ≡ true) → (not a || b) ≡ true
 unless-asked true b h = h refl
 unless-asked false b h = refl

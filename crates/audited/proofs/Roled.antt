@@ -1,5 +1,8 @@
--- In a sound table what stands as a target or as a type is an expression, so that the target and the type job fit it.
--- Assumes nothing.
+-- In a sound table every record with the role of a target or a type is an expression, so the target job and the type
+-- job fit it (`all-roled`). A role comes from the kind and detail of the parent, and the same kind and detail say which
+-- children a sound record has (soundness' `wanted`). For each kind with roles these two agree (`for-fits` ..
+-- `kwargs-fits`, together `kids-fit`). The induction is on the tree, with the roles that are left (`tree-roled`,
+-- `forest-roled`). Cite `all-roled`. Assumes nothing.
 use mathlib.Core.Path.{_≡_, refl}
 use mathlib.Core.Bool.{Bool, true, false, _||_}
 use mathlib.Core.List.{List, [], _∷_}
@@ -24,13 +27,13 @@ use Rattle.audit.specs.Roles.{ifTyped, rolesOf, roleOf, rolesAfter, Placed, kin
 use Rattle.audited.specs.Said.{All}
 use Rattle.audited.proofs.Everywhere.{all-both, either}
 
--- a record of a class may stand in a role
+-- a record of class c may have a role
 abbrev pub Fits : Role → ℕ → Type 0
 Fits AsTarget c = c ≡ expression
 Fits AsType c = c ≡ expression
 Fits Plain c = Unit {0}
 
--- children of these classes may stand in these roles
+-- children of these classes may have these roles
 abbrev FirstFits : List ℕ → Type 0
 FirstFits [] = Unit {0}
 FirstFits (c ∷ cs) = c ≡ expression
@@ -46,7 +49,7 @@ AllFit TypeFirst cs = FirstFits cs
 AllFit TypeSecond cs = SecondFits cs
 AllFit ReturnType cs = Unit {0}
 
--- the next child, and those after it
+-- the next child fits its role, and those after it fit theirs
 return-fits : (b : Bool) (c : ℕ) → eqb c expression ≡ b → Fits (if' b (λ _. AsType) (λ _. Plain)) c
 return-fits true c e = eqb-true c expression e
 return-fits false c e = tt
@@ -64,7 +67,7 @@ first-fits : (roles : Roles) (t : Tree) (ts : Forest) → AllFit roles (classes 
 unfolding classes
 first-fits roles (node r ks) ts h = next-fits roles (r .kind) (classes ts) h
 
--- the children that a kind wants may stand in its roles
+-- the children that a kind has in a sound table fit its roles
 typed-fits : (cs : List ℕ) (b : Bool) (roles : Roles) → (b ≡ true → AllFit roles cs) → AllFit (ifTyped b roles) cs
 typed-fits cs true roles h = h refl
 typed-fits cs false roles h = tt
@@ -134,7 +137,7 @@ module _ (cs : List ℕ) (k d : ℕ) (are : cs ≡ wanted (kindOf k .kids d) (le
           (λ is. kwargs-fits (eqb-true k kindKwArgsParam is) (one h))
       go false f-is false false a-is false n-is false v-is = tt
 
--- a tree in its place has a class that fits its role
+-- a tree has a class that fits its role
 abbrev pub Roled : Placed → Type 0
 Roled p = Fits (p .role) (classOf (kindIn (p .tree)))
 

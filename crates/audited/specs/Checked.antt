@@ -1,5 +1,5 @@
--- Which nodes the audit checks as a target and as a type, in words of their own: by the children of each record,
--- without the roles that the audit counts on. These are definitions.
+-- Which nodes the audit checks as a target and as a type, stated by the children of each record, without the roles that
+-- the audit uses. These are definitions.
 use mathlib.Core.Path.{_≡_}
 use mathlib.Core.Bool.{Bool, true, _||_}
 use mathlib.Core.List.{List, [], _∷_, _++_}
@@ -33,13 +33,13 @@ expressionsOf none = []
 expressionsOf (t then ts) =
     if' (eqb (classOf (kindIn t)) expression) (λ _. t ∷ expressionsOf ts) (λ _. expressionsOf ts)
 
--- a record of kind k and detail d has these children as targets: a For its first. The target of an Assign is checked
--- with the Assign, by the assignment job
+-- the children of a record of kind k and detail d that are targets: the first child of a For. The target of an Assign
+-- is checked with the Assign, by the assignment job
 unfoldable pub targetsOf : ℕ → ℕ → Forest → List Tree
 targetsOf k d ks = if' (eqb k kindFor) (λ _. firstOf ks) (λ _. [])
 
--- and these as types, where it has one: a Def its return type, which is its only expression; an Assign or AssignModify
--- its second; a Normal, Args or KwArgs parameter its first
+-- the children that are types, if the record has a type: the return type of a Def, which is its only expression; the
+-- second child of an Assign or AssignModify; the first child of a Normal, Args or KwArgs parameter
 abbrev pub ifTyped : Bool → List Tree → List Tree
 ifTyped typed ts = if' typed (λ _. ts) (λ _. [])
 
@@ -51,7 +51,7 @@ typesOf k d ks =
     if' (eqb k kindArgsParam || eqb k kindKwArgsParam) (λ _. ifTyped (eqb d 1) (firstOf ks)) (λ _.
     []))))
 
--- those of every record of some trees
+-- the children that `these` names, of every record of some trees
 unfoldable mutual
   pub everywhere : (ℕ → ℕ → Forest → List Tree) → Forest → List Tree
   everywhere these none = []

@@ -1,4 +1,4 @@
--- The words of the audit's sentence: every job accepts every node that it is asked of. These are definitions.
+-- The words of the sentence about the audit: every job accepts every node that it fits. These are definitions.
 use mathlib.Core.Path.{_≡_}
 use mathlib.Core.Bool.{Bool, true, false}
 use mathlib.Core.List.{List, [], _∷_}
@@ -23,7 +23,7 @@ abbrev pub isAccepted : Answer → Bool
 isAccepted (accepted vs) = true
 isAccepted (refused n vs) = false
 
--- something holds of every tree in its place
+-- something holds of every tree in a list
 abbrev pub All : (Placed → Type 0) → List Placed → Type 0
 All P [] = Unit {0}
 All P (p ∷ ps) = P p × All P ps
@@ -33,9 +33,9 @@ unfoldable pub rootsIn : List Placed → List Node
 rootsIn [] = []
 rootsIn (p ∷ ps) = rootIn (p .tree) ∷ rootsIn ps
 
--- every job that fits node i of a table accepts it, where a job with a buffer has room, types are read by the edition
--- of the number n, and i has this role: its parameters if it is a Def or Lambda, its arguments if it is a Call, its
--- target and type if it is an Assign or AssignModify; as a target if it is one, and as a type if it is one
+-- every job that fits node i of a table accepts it, if a job with a buffer has room, where n is the number of the
+-- edition and i has this role: its parameters if it is a Def or Lambda, its arguments if it is a Call, its target and
+-- type if it is an Assign or AssignModify; the node itself as a target or as a type, if that is its role
 pub record Accepts (t names bytes : List ℕ) (n i : ℕ) (role : Role) : Type 0 where
   pub params : nodeFits t i Parameters ≡ true → (room : ℕ) → length (listOf t names i) ≤ room
       → isAccepted (paramsOf t names i room) ≡ true
@@ -45,7 +45,7 @@ pub record Accepts (t names bytes : List ℕ) (n i : ℕ) (role : Role) : Type 0
   pub type : role ≡ AsType → (room : ℕ) → length (stretchOf t i) / recordBytes ≤ room
       → isAccepted (typeShapeOf t names bytes n i room) ≡ true
 
--- every node of a table is accepted so, in the role that it has where it stands
+-- every node of a table is accepted in this sense, in its role
 abbrev pub AllAccept : List ℕ → List ℕ → List ℕ → ℕ → Type 0
 AllAccept t names bytes n =
     All (λ p. Accepts t names bytes n (rootIn (p .tree) .at) (p .role)) (placed Nowhere (forest 0 t))

@@ -1,2 +1,2 @@
-// No code: when the list of the audit is empty, as theorems over all jobs. specs/Said.antt has the words that the
-// sentence needs, proofs/Audited.antt the sentence, part by part.
+// No code: theorems that say when the list of the audit is empty, in terms of all jobs. specs/Said.antt defines the
+// words of the sentence; proofs/Audited.antt has the sentence, part by part.

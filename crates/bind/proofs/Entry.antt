@@ -1,4 +1,9 @@
--- What comes before the binding, in the terms of code: 1 to 4, 6, 7, and what is known then. Assumes nothing.
+-- What comes before the binding, in the terms of code. `enter` gives 1 to 4 and 6 for the call, 6 for the def, and 7
+-- for a list without a word for each parameter and argument; each return is one law (`enter-refused` to
+-- `enter-passed`). The two counts of 7 read no names, so they hold for all (`params-counted`, `args-counted`). What is
+-- known then is the record `Entered` (`entered`, by cases on the steps); from it follow where the two stretches lie and
+-- what the parameter job and the call job answer (`params-say`, `call-say`). An accepted list has as many flat
+-- parameters as are counted (`flats-long`, by its cut). Assumes nothing.
 use mathlib.Core.Path.{_≡_, refl, sym, ap, _∙_}
 use mathlib.Core.Bool.{Bool, true, false, _&&_, _||_}
 use mathlib.Core.List.{List, []}
@@ -113,7 +118,7 @@ module _ (t ns : List ℕ) (call def room : ℕ) {e : Checked} (e-is : checked e
         le-leb (length (listOf t ns def) + length (argumentsAt t ns call)) room (omega (arith, p-is ns, q-is ns)),
       ) refl
 
--- what is known once they are let in
+-- what is known once these checks are passed
 pub record Entered (t ns : List ℕ) (call def n : ℕ) : Type 0 where
   pub sound : checkOf t ns ≡ accepted []
   pub callFits : nodeFits t call Call ≡ true

@@ -1,4 +1,9 @@
--- The arguments behind a callee and the flat parameters of a list, one by one, for any bytes. Assumes nothing.
+-- The arguments behind a callee and the flat parameters of a list, one at a time, for any bytes. A stretch has no
+-- argument (`args-end`), or one and then those of the rest (`args-on`); the arguments of a call are the stretch behind
+-- its first child (`args-behind`). One parameter more adds one flat parameter, or none for a mark, to the search by
+-- name and to the search for an empty one (`named-one`, `empty-one`: one case for each kind). The modes of the flat
+-- parameters are those of the list (`flats-modes`, by induction on it), so there are no more of them than parameters
+-- (`flats-short`). Assumes nothing.
 use mathlib.Core.Path.{_≡_, refl, ap}
 use mathlib.Core.Bool.{_&&_}
 use mathlib.Core.List.{List, [], _∷_, _++_, map}
@@ -60,7 +65,7 @@ module _ (ns : List ℕ) (i : ℕ) (t : List ℕ) where
       go Star = refl
       go StarStar = refl
 
-  -- the arguments of a call stand behind its first child
+  -- the arguments of a call follow its first child
   pub args-behind : argumentsIn ns (forest (i + 1 + spanOf (kidsOf t) / 24) (behindCallee t))
       ≡ argumentsOf ns (treeOf i t)
   unfolding argumentsIn behindCallee

@@ -1,4 +1,9 @@
--- The loops over arguments and over parameters: what is left decides. Assumes nothing.
+-- The loops of the binding. Each keeps that the rest decides: what the definition gives for the records that are left,
+-- with what is written so far, is what it gives for the whole list. Each is a record with laws for start, on and end:
+-- counting arguments (`Numbering`), the search for a star, 80 (`Starring`), the search by name (`Finding`), the search
+-- for an empty parameter, 84 (`Emptying`), the arguments in turn, 81 to 83 (`Turning`), and the words copied to the
+-- list or cleared (`Laying`, `Clearing`). What a loop does not read (names, index or state) its record leaves open.
+-- Assumes nothing.
 use mathlib.Core.Path.{_≡_, refl, sym, ap, _∙_}
 use mathlib.Core.Bool.{Bool, true, false, _&&_}
 use mathlib.Core.List.{List, [], _++_}

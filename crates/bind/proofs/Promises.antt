@@ -1,5 +1,6 @@
--- Two answers that meet the promise of a public function coincide; of the job, with the lists they leave. Assumes
--- nothing.
+-- Two answers of `bind` or `is_def` that meet the promise are equal, and so are the lists that the job leaves. The
+-- promise of `is_def` is an equation; that of `bind` fixes what its answer means, and no two answers mean the same
+-- (`bound-injective`).
 use mathlib.Core.Path.{_≡_, sym, ap}
 use mathlib.Core.Bool.{Bool}
 use mathlib.Core.List.{List}

@@ -1,4 +1,7 @@
--- Laws of single functions, one for each return, in the terms of code. Assumes nothing.
+-- One law for each return of the functions that handle a single parameter or argument: whether a node is a Def, the
+-- word at a place, what an argument reaches by its place or by its name, the number of one that reaches nothing, and an
+-- argument in its turn. The tests before a return are known, so the definition computes. Nothing here recurs. Assumes
+-- nothing.
 use mathlib.Core.Path.{_≡_, refl, sym, ap, _∙_}
 use mathlib.Core.Bool.{Bool, true, false, _&&_}
 use mathlib.Core.List.{List}
@@ -41,7 +44,7 @@ module _ (t : List ℕ) (i : ℕ) where
   unfolding isDef
   def-here h k-is = ap (λ (x : ℕ). eqb x kindDef) k-is ∙ rw (tail-part (24 * i) t, lt-ltb i (length t / 24) h) refl
 
--- what stands behind a callee
+-- what follows a callee
 pub behind-part : (t : List ℕ) {kids : List ℕ} {e : ℕ} → kids ≡ kidsOf t → e ≡ spanOf kids
     → take (length kids - e) (drop e kids) ≡ behindCallee t
 unfolding behindCallee

@@ -1,4 +1,8 @@
--- The binding of the lists at two nodes, and the job, return by return, in the terms of code. Assumes nothing.
+-- The binding of two lists and the job, return by return. The three checks 80, 81 to 83 and 84 in order give `binding`
+-- (`filled`). The parts of the table that code reads hold the lists that the definitions read (`words-bound`), and the
+-- words fit the space and the list (`kept-fits`, `kept-lent`). The own rules of def and call come first: what passes
+-- them is `Kept` (`rules-own`, by cases on both answers), and a refusal leaves the list (`lay-refused`,
+-- `bind-refused`). `bind` cites `bind-refused` and `bind-bound`. Assumes nothing.
 use mathlib.Core.Path.{_≡_, refl, sym, ap, _∙_}
 use mathlib.Core.Bool.{Bool, true, false}
 use mathlib.Core.List.{List, [], _∷_, _++_}

@@ -1,7 +1,7 @@
--- Which argument reaches which parameter, in document 02's words: 80, then the arguments in turn, 81, 82 and 83, then
--- 84. These are definitions.
--- The words of a binding are one for each flat parameter, the node of the argument that it takes, and then one for each
--- argument, the flat index that it reached. All are 0 at first; an argument is never node 0.
+-- Which argument reaches which parameter (W-204; docs/RULES.md): 80, then the arguments in turn, 81, 82 and 83, then
+-- 84. The words of a binding are one for each flat parameter, the node of the argument that it takes, and then one for
+-- each argument, the flat index that it reached. All are 0 at first; an argument is never node 0. These are
+-- definitions.
 use mathlib.Core.Bool.{Bool, true, false, not, _&&_, _||_}
 use mathlib.Core.List.{List, [], _∷_}
 use Prim.Native.Nat.{ℕ, _+_}
@@ -25,7 +25,7 @@ use Rattle.bind.specs.FlatList.{FlatParam}
 use Rattle.bind.specs.declared.Reach.{Reach}
 use Rattle.bind.specs.declared.Reach.the-variants.{Fills, Joins, Nowhere}
 
--- a PosOrName or a NameOnly parameter is called by its name; a PosOnly one, `*args` and `**kwargs` are not
+-- whether a parameter can be called by its name: PosOrName and NameOnly can; PosOnly, `*args` and `**kwargs` cannot
 abbrev pub calledByName : ℕ → Bool
 calledByName mode = eqb mode modePosOrName || eqb mode modeNameOnly
 
@@ -49,7 +49,7 @@ abbrev pub byName : Place → Place → Reach
 byName (At i) rest = Fills i
 byName Nothing rest = collected rest
 
--- what argument k reaches: in an accepted call the positional ones come first (20), so k is a positional one's number
+-- what argument k reaches: in an accepted call the positional ones come first (20), so k counts positional arguments
 unfoldable pub reaches : DefParamIndices → List FlatParam → ℕ → Argument → Reach
 reaches d fs k (positional r) = byPlace d k
 reaches d fs k (named r n) = byName (namedFrom 0 n fs) (d .kwargs)
@@ -63,7 +63,7 @@ unreached Named = unknownNamed
 unreached Args = starArgument
 unreached KwArgs = starArgument
 
--- an argument in its turn, whose own word stands at a place: 83 if its parameter is filled
+-- an argument in its turn, whose own word is at `place`: 83 if its parameter is filled
 unfoldable pub turn : ℕ → Reach → Kind → Node → List ℕ → Answer
 turn place (Fills i) k r ws =
     if' (ltb 0 (getD ws i 0)) (λ _. refusedAt alreadyFilled r) (λ _. accepted (set (set ws i (r .at)) place i))
@@ -75,7 +75,7 @@ abbrev pub andWith : Answer → (List ℕ → Answer) → Answer
 andWith (accepted ws) next = next ws
 andWith (refused n vs) next = refused n vs
 
--- the arguments in turn, the first of which is argument k, where flat is the flat count
+-- the arguments in turn, the first of which is argument k; `flat` is the flat count
 unfoldable pub along : ℕ → DefParamIndices → List FlatParam → ℕ → List ℕ → List Argument → Answer
 along flat d fs k ws [] = accepted ws
 along flat d fs k ws (a ∷ qs) =
@@ -92,7 +92,7 @@ unfoldable pub starCheck : List Argument → Answer
 starCheck [] = accepted []
 starCheck (a ∷ qs) = if' (isStar (kindIn a)) (λ _. refusedAt starArgument (nodeIn a)) (λ _. starCheck qs)
 
--- 84: the first parameter that may not stay empty and is, where the first one has the index i
+-- 84: the first parameter that must not stay empty and is empty, where the first one has the index i
 unfoldable pub emptyCheck : ℕ → List FlatParam → List ℕ → Answer
 emptyCheck i [] ws = accepted []
 emptyCheck i (p ∷ ps) ws =

@@ -33,7 +33,7 @@ defaultIn (kwargs r n) = true
 abbrev pub flatParam : Param → ℕ → FlatParam
 flatParam p m = record { node = nodeIn p; name = nameIn p; default = defaultIn p; mode = m }
 
--- the flat parameters from a state on: one for each mode, so that a mark is none
+-- the flat parameters from a state on: one for each mode, so a mark gives none
 unfoldable pub flatsFrom : State → List Param → List FlatParam
 flatsFrom s [] = []
 flatsFrom s (p ∷ ps) = map (flatParam p) (modeOf s (kindIn p)) ++ flatsFrom (nextState s (kindIn p)) ps

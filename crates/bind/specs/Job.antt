@@ -1,4 +1,4 @@
--- The job: its answer and the lent list afterwards, for every input. These are definitions.
+-- The job: its answer and the list afterwards, for every input. These are definitions.
 use mathlib.Core.Bool.{Bool, _&&_}
 use mathlib.Core.List.{List, [], _∷_, _++_}
 use Prim.Native.Nat.{ℕ, _+_, _*_, _/_}
@@ -25,7 +25,7 @@ use Rattle.bind.specs.Binding.{binding}
 use Rattle.bind.specs.declared.Bound.{Bound}
 use Rattle.bind.specs.declared.Bound.the-variants.{Accepted, Refused}
 
--- 6: the def is within the table, and a Def; a Lambda is none
+-- 6 unless the def is within the table and a Def; a Lambda is not accepted
 unfoldable pub isDef : List ℕ → ℕ → Bool
 isDef t i = ltb i (length t / recordBytes) && eqb (nodeOf i (drop (recordBytes * i) t) .kind) kindDef
 
@@ -36,7 +36,7 @@ defCheck t i = if' (isDef t i) (λ _. accepted []) (λ _. refused wrongNode [])
 abbrev pub roomCheck : ℕ → List Param → List Argument → Answer
 roomCheck room ps qs = if' (leb (length ps + length qs) room) (λ _. accepted []) (λ _. refused shortBuffer [])
 
--- 10 to 19, as the job on the parameters answers them; else by what is counted
+-- 10 to 19, as the parameter job gives them; else the answer for what is counted
 abbrev pub counting : def.Outcome → (Counted → Answer) → Answer
 counting (def.accepted c) next = next (countedOf c)
 counting (def.refused n r) next = answerOf (def.refused n r)
@@ -47,7 +47,7 @@ counting (def.internal e r) next = answerOf (def.internal e r)
 abbrev pub noWords : Counted → List Argument → List ℕ
 noWords c qs = replicate (c .flat + length qs) 0
 
--- the written list of the def whose record this is, and arguments: 10 to 19, 20 to 24, 80 to 84; or the words
+-- the written list of the def whose record this is, and its arguments: 10 to 19, 20 to 24, 80 to 84; or the words
 unfoldable pub listsBound : Node → List Param → List Argument → Answer
 listsBound owner ps qs =
     counting (limited owner ps) (λ c.
@@ -82,7 +82,7 @@ answeredAt a t names call def = answered a (length (flats (listOf t names def)))
 unfoldable pub bindOf : List ℕ → List ℕ → ℕ → ℕ → ℕ → Answer
 bindOf t names call def room = answeredAt (wordsOf t names call def room) t names call def
 
--- the list afterwards: the words at its front and the rest as it was; a refusal leaves it
+-- the list afterwards: the words at its front and the rest unchanged; a refusal changes nothing
 abbrev pub laid : Answer → List ℕ → List ℕ
 laid (accepted ws) list = ws ++ drop (length ws) list
 laid (refused n vs) list = list

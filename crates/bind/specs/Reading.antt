@@ -1,5 +1,4 @@
--- What private functions promise of stretches and of the words so far. These are definitions that only their contracts
--- use.
+-- What private functions promise about stretches and the words so far. Only their contracts use these definitions.
 use mathlib.Core.Path.{_≡_}
 use mathlib.Core.Bool.{Bool, true, false, not, _&&_}
 use mathlib.Core.List.{List, []}
@@ -27,15 +26,15 @@ use Rattle.bind.specs.FlatList.{FlatParam, flatsFrom, flats}
 use Rattle.bind.specs.Binding.{binding}
 use Rattle.bind.specs.Job.{noWords, argumentsAt}
 
--- what stands behind a node's head lies within the largest table and a record
+-- what follows a node's record lies within the largest table and one record more
 abbrev pub Behind : ℕ → List ℕ → Type 0
 Behind i t = recordBytes * i + length t ≤ mostBytes + recordBytes
 
--- the arguments of the call that a stretch begins with: what stands behind its first child
+-- the arguments of the first call of a stretch: what follows its first child
 unfoldable pub behindCallee : List ℕ → List ℕ
 behindCallee t = restOf (kidsOf t)
 
--- a parameter of a kind is called by its name, from a state on
+-- whether a parameter of a kind can be called by its name, in a state
 abbrev pub nameable : State → Kind → Bool
 nameable s (Normal default) = seenSlash s
 nameable s NoArgs = false
@@ -43,7 +42,7 @@ nameable s Slash = false
 nameable s Args = false
 nameable s KwArgs = false
 
--- how many flat parameters one of a kind is
+-- the number of flat parameters of one of a kind
 abbrev pub flatsOf : Kind → ℕ
 flatsOf (Normal default) = 1
 flatsOf NoArgs = 0
@@ -51,7 +50,7 @@ flatsOf Slash = 0
 flatsOf Args = 1
 flatsOf KwArgs = 1
 
--- it may not stay empty, and its word is 0
+-- whether it must not stay empty and its word is 0
 abbrev pub isEmpty : Kind → ℕ → Bool
 isEmpty (Normal default) w = not default && eqb w 0
 isEmpty NoArgs w = false
@@ -59,7 +58,7 @@ isEmpty Slash w = false
 isEmpty Args w = false
 isEmpty KwArgs w = false
 
--- the flat parameters of a stretch whose first record has the index i, where so many are positional only
+-- the flat parameters of a stretch whose first record has the index i; the first `only` are positional only
 unfoldable pub flatsIn : ℕ → List ℕ → ℕ → List ℕ → List FlatParam
 flatsIn only names i params = flatsFrom (firstState (flatAt only)) (paramsIn names (forest i params))
 
@@ -102,7 +101,7 @@ abbrev pub isRefused : Checked → Bool
 isRefused Sound = false
 isRefused (Refused r) = true
 
--- what a def's list and a call answer together
+-- the answer of a def's list and a call together
 unfoldable pub both : Unpacked → Called → Unpacked
 both (Unfit r) k = Unfit r
 both (Accepted c) (Ordered a) = Accepted c

@@ -1,5 +1,10 @@
--- Theorems of single blocks, over the number and the used bytes: a block that passes is the block of its content and
--- nothing else, that block passes, and any one changed byte of it gives 72. Assumes nothing.
+-- Theorems of a single block, for any number and content. `Passing` lists the five facts that `judge` tests;
+-- `passing` and `passes` turn acceptance into them and back. The block of a content passes (`block-passes`), because
+-- each of its fields is read back from where it was written. Conversely a block that passes is the block of its
+-- content (`passed-is-block`): its number, used bytes, content, zeros and sum are fixed, and these are all of its 512
+-- bytes. If one byte changes, the sum or the stored sum changes but not both, so the block is refused with 72
+-- (`changed-block`). The only induction is over the zeros after the content. Cite these three theorems. Assumes
+-- nothing.
 use mathlib.Core.Path.{_≡_, refl, sym, ap, _∙_}
 use mathlib.Core.Bool.{Bool, true, false, _&&_}
 use mathlib.Core.Logic.{⊎-elim}
@@ -26,7 +31,7 @@ use Rattle.fields.proofs.Spelling.{length-bytes, field-behind, field-before, fi
 use Rattle.fields.proofs.Spelling.{field-outside, field-changed}
 use Rattle.blocks.proofs.Sums.{weighed-front, weighed-outside, weighed-changed, sum-small}
 
--- what the judgement of a block demands
+-- the facts that the judgement of a block tests
 pub record Passing (number used : ℕ) (bs : List ℕ) : Type 0 where
   pub long : 512 ≤ length bs
   pub check : sumOf (take 512 bs) ≡ field 4 (take 512 bs) 508
@@ -34,7 +39,7 @@ pub record Passing (number used : ℕ) (bs : List ℕ) : Type 0 where
   pub said : field 2 (take 512 bs) 2 ≡ used
   pub padding : zeros (drop (4 + used) (take 508 (take 512 bs))) ≡ true
 
--- five demands and what follows them
+-- five tests and what follows them: if the whole is accepted, each test is passed
 met : (a b c d f : Bool) (next : Unit {0} → Answer)
     → andThen (andThen (demand a blockShort)
     (λ _. andThen (demand b blockCheck) (λ _. andThen (demand c blockNumber) (λ _. demand (d && f) blockUsed))))
@@ -93,7 +98,7 @@ sum-front : (f l : List ℕ) → 508 ≤ length f → sumOf (f ++ l) ≡ sumOf f
 unfolding sumOf
 sum-front f l h = weighed-front 508 f l h
 
--- zeros, and nothing else
+-- a list that passes the test for zeros consists of zeros
 zeros-are : (l : List ℕ) → zeros l ≡ true → l ≡ replicate (length l) 0
 unfolding zeros
 zeros-are [] e = refl
@@ -119,7 +124,7 @@ module _ (number : ℕ) (content : List ℕ) (fits : length content ≤ 504) whe
   unfolding blockOf
   length-block = simp (length-append, length-bytes, length-front) refl
 
-  -- what stands behind its first four bytes
+  -- the bytes from byte 4 on
   front-content : drop 4 (beforeSum number content) ≡ content ++ replicate (504 - length content) 0
   unfolding beforeSum
   front-content =
@@ -135,7 +140,7 @@ module _ (number : ℕ) (content : List ℕ) (fits : length content ≤ 504) whe
       ap (take 508) (append-assoc (beforeSum number content) sum rest)
       ∙ take-at (beforeSum number content) (sum ++ rest) 508 length-front
 
-  -- LAW: its content stands there, and zeros behind it
+  -- LAW: bytes 4 to 507 are the content and then zeros
   pub content-there : (rest : List ℕ) → take 504 (drop 4 (blockOf number content ++ rest)) ≡ content
       ++ replicate (504 - length content) 0
   content-there rest = sym (drop-take 4 508 (blockOf number content ++ rest)) ∙ ap (drop 4) (block-front rest)
@@ -240,8 +245,8 @@ passed-is-block number used bs fits small p =
     ∙ ap (bytesOf 4) (sym (p .check) ∙ sum) in
     sym (take-append-drop 508 b) ∙ rw (s, front) refl
 
--- THEOREM: any one byte of a block that passes changed to any other value gives 72, whatever number and used bytes are
--- then asked for
+-- THEOREM: if any one byte of a block that passes is changed, the block is refused with 72, whatever number and used
+-- bytes are expected
 pub changed-block : (number used : ℕ) (bs : List ℕ) (i v : ℕ) → Passing number used bs → i < 512
     → (v ≡ getD bs i 0 → ⊥) → (number′ used′ : ℕ) → judge number′ used′ (set bs i v) ≡ refused blockCheck []
 unfolding judge examine sumOf
@@ -262,7 +267,7 @@ changed-block number used bs i v p h other number′ used′ =
       ne-eqb (weighed 508 (set b i v)) (field 4 (set b i v) 508) wrong,
     ) refl
 
--- LAW: a byte behind a block does not matter to it
+-- LAW: a byte after a block does not affect its judgement
 pub judge-outside : (number used : ℕ) (bs : List ℕ) (i v : ℕ) → 512 ≤ i
     → judge number used (set bs i v) ≡ judge number used bs
 unfolding judge

@@ -1,6 +1,8 @@
--- The good blocks of a run. They are counted, and what they hold is the content of a shorter run (`held-content`): the
--- reader's own copying serves, and nothing is gathered. A run passes exactly where all its blocks are counted
--- (`all-good`, `good-all`). Inductions are on the number of blocks. Assumes nothing.
+-- The good blocks of a run are those before its first bad or missing block. There are at most as many as the run has,
+-- and all their bytes are present (`good-there`). A run passes exactly if all its blocks are good (`good-all`,
+-- `all-good`). The first g blocks of a run hold the first 504 * g bytes of its content, which is the content of a
+-- shorter run (`held-content`). So a rescue reads the good part with the ordinary reader. Every induction is on the
+-- number of blocks: one block is judged, and the rest is a run that begins 512 bytes later. Assumes nothing.
 use mathlib.Core.Path.{_≡_, refl, sym, ap, _∙_}
 use mathlib.Core.Bool.{Bool, true, false}
 use mathlib.Core.List.{List, [], _++_}
@@ -17,13 +19,13 @@ use Rattle.blocks.specs.Run.{blocksFor, judgeBlocks, goodBlocks, content
 use Rattle.blocks.proofs.Blocks.{passing-then, take-min}
 use Rattle.blocks.proofs.Runs.{contents-long}
 
--- a block that passes is there
+-- a block that passes is present whole
 pub block-long : (number used : ℕ) (bs : List ℕ) → passes (judge number used bs) ≡ true → 512 ≤ length bs
 block-long number used bs e =
     let is = passes-is (judge number used bs) e in
     passing-then number used bs (λ _. accepted []) (rw (is .1) refl) .0 .long
 
--- LAW: the good blocks are among those that are asked for, and they are there
+-- LAW: there are at most n good blocks, and all their bytes are present
 pub good-there : (n number total : ℕ) (bs : List ℕ)
     → (goodBlocks n number total bs ≤ n) × (512 * goodBlocks n number total bs ≤ length bs)
 unfolding goodBlocks
@@ -41,7 +43,7 @@ good-there (suc n) number total bs = go (passes (judge number (min 504 total) bs
         (omega (arith, rest .0), omega (arith, rest .1, length-drop 512 bs))
     go false e rest = (omega arith, omega arith)
 
--- LAW: a run passes exactly where all its blocks are good
+-- LAW: a run passes exactly if all its blocks are good
 pub good-all : (n number total : ℕ) (bs : List ℕ) → passes (judgeBlocks n number total bs) ≡ true
     → goodBlocks n number total bs ≡ n
 unfolding judgeBlocks goodBlocks
@@ -91,7 +93,7 @@ contents-first (suc g) (suc n) bs h there =
     let rest = contents-first g n (drop 512 bs) (omega arith) (simp length-drop (omega arith)) in
     rw (both, take-add 504 (504 * g) (a ++ r), take-at a r 504 long, drop-at a r 504 long, rest) refl
 
--- how many bytes g blocks of a run hold
+-- the number of content bytes in the first g blocks of a run
 abbrev pub held : ℕ → ℕ → ℕ
 held g total = min (504 * g) total
 
@@ -99,7 +101,7 @@ pub held-blocks : (g total : ℕ) → g ≤ blocksFor total → blocksFor (held 
 unfolding blocksFor
 held-blocks g total h = omega arith
 
--- LAW: the first g blocks hold the front of the run's content
+-- LAW: the first g blocks hold the first bytes of the run's content
 module _ (g total : ℕ) (bs : List ℕ) (few : g ≤ blocksFor total) (there : 512 * g ≤ length bs) where
   pub held-content : take (504 * g) (contentOf total bs) ≡ contentOf (held g total) bs
   unfolding contentOf

@@ -1,4 +1,8 @@
--- Laws of the judgement of a block, in the terms of code. Assumes nothing.
+-- One law for each `return` of `padded`, `examine` and `judge`. `padded` walks the padding byte by byte; its
+-- invariant (`Padding`) says that the bytes from place p on decide the answer, so a byte that is not zero ends it
+-- with false (`pad-stop`) and byte 508 with true (`pad-end`). `examine` tests 72, 71 and 73 in the order of the
+-- definition, so each law rewrites by the tests that came before (`examine-check` to `examine-passed`). `judge` adds
+-- the test of the length (`judge-short`, `judge-long`). No induction. Assumes nothing.
 use mathlib.Core.Path.{_≡_, refl, sym, ap, _∙_}
 use mathlib.Core.Bool.{Bool, true, false, _&&_}
 use mathlib.Core.List.{List, []}
@@ -14,7 +18,7 @@ use Rattle.table.specs.Numbers.{blockShort, blockNumber, blockCheck, blockUsed}
 use Rattle.table.specs.Answer.{Answer, accepted, refused}
 use Rattle.blocks.specs.Block.{sumOf, zeros, demand, examine, judge}
 
--- the padding: what is left decides
+-- the invariant of `padded`: the bytes from place p on decide
 pub record Padding (b : List ℕ) (from p : ℕ) : Type 0 where
   pub long : length b ≡ 512
   pub left : zeros (drop p (take 508 b)) ≡ zeros (drop from (take 508 b))
@@ -39,7 +43,7 @@ module _ {b : List ℕ} {from p : ℕ} (s : Padding b from p) where
   unfolding zeros
   pad-end h = rw (drop-of-length-le (take 508 b) {i = p} (simp length-take (omega arith))) at (s .left)
 
--- the demands, one after the other
+-- the tests of `examine`, in their order
 module _ (number used : ℕ) (b : List ℕ) {s w n : ℕ} (s-is : s ≡ sumOf b) (w-is : w ≡ field 4 b 508)
     (n-is : n ≡ field 2 b 0) where
   pub examine-check : eqb s w ≡ false → refused blockCheck [] ≡ examine number used b

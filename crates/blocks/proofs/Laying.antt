@@ -1,7 +1,8 @@
--- Laws of bytes laid over a buffer. The loop stores them one after another: after i of them the buffer is the old one
--- with those pasted over it (`Putting`), and at the end all are laid (`put-end`). What is laid where it fits is
--- `over` (`laid-fits`), what does not fit changes nothing (`laid-away`), and no length changes (`length-laid`).
--- Assumes nothing.
+-- Laws of bytes that are written over part of a buffer. The loop stores one byte a turn: after i turns the buffer is
+-- the old one with the first i bytes pasted over it (`Putting`), and at the end with all of them (`put-end`). Bytes
+-- that fit are written by `over` (`laid-fits`), bytes that do not fit change nothing (`laid-away`), and the length
+-- stays the same in both cases (`length-laid`). `put-away`, `put-room` and `put-whole` are the laws of `put`. Assumes
+-- nothing.
 use mathlib.Core.Path.{_≡_, refl, sym, ap, _∙_}
 use mathlib.Core.Bool.{Bool, true, false}
 use mathlib.Core.Logic.{⊎-elim}
@@ -18,7 +19,7 @@ use Rattle.fields.proofs.Basics.{le-or-lt}
 use Rattle.fields.proofs.Over.{length-over}
 use Rattle.blocks.specs.Laid.{laidAt}
 
--- the first i of some bytes stand in out from a place on, and all else is as it was in d
+-- out has the first i of the bytes from place `at` on; every other byte is that of d
 pub record Putting (d bytes : List ℕ) (at : ℕ) (out : List ℕ) (i : ℕ) : Type 0 where
   pub upto : i ≤ length bytes
   pub room : at + length bytes ≤ length d
@@ -61,7 +62,7 @@ module _ (at : ℕ) (bs d : List ℕ) where
       (λ (h : length d < at + length bs). ap length (laid-away h))
       (le-or-lt (at + length bs) (length d))
 
--- the test, as code makes it
+-- the test for room, as the code computes it
 pub fits-not : (at n room : ℕ) → room < at → false ≡ leb (at + n) room
 fits-not at n room h = sym (lt-leb (at + n) room (omega arith))
 
@@ -71,7 +72,7 @@ fits-is at n room h = ⊎-elim
     (λ (k : room - at < n). lt-leb n (room - at) k ∙ sym (lt-leb (at + n) room (omega arith)))
     (le-or-lt n (room - at))
 
--- the two returns
+-- the two returns of `put`
 module _ (at : ℕ) (bs d : List ℕ) {t : Bool} (t-is : t ≡ leb (at + length bs) (length d)) where
   pub put-away : t ≡ false → d ≡ laidAt at bs d
   unfolding laidAt

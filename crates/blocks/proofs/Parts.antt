@@ -1,7 +1,8 @@
--- Blocks at the front of some bytes are judged, counted and read by their own bytes: any n bytes that hold them say the
--- same (`judge-front` to `contents-front`; for a run from a place on `run-front`, `goods-front`, `content-front`). A
--- block is its first 512 bytes, and what follows is the part without them; so the inductions are on the number of
--- blocks. And what blocks hold are bytes where they are (`bytes-content`). Assumes nothing.
+-- Blocks depend on their own bytes alone. If the first n bytes of a list contain k blocks, then these blocks are
+-- judged, counted and read from those n bytes as from the whole list (`judge-front`, `blocks-front`, `good-front`,
+-- `contents-front`); for a run that begins at a later byte cite `run-front`, `goods-front` and `content-front`. The
+-- inductions are on the number of blocks: a block is the first 512 bytes, and the other blocks follow after it. The
+-- last law says that the content read from bytes consists of bytes (`bytes-content`). Assumes nothing.
 use mathlib.Core.Path.{_≡_, refl, sym, ap, _∙_}
 use mathlib.Core.Logic.{⊎-elim}
 use mathlib.Core.List.{List}
@@ -16,7 +17,7 @@ use Rattle.fields.proofs.Spelling.{Bytes, bytes-take, bytes-drop, bytes-append}
 use Rattle.blocks.specs.Block.{judge}
 use Rattle.blocks.specs.Run.{blocksFor, judgeBlocks, judgeRun, goodBlocks, contents, contentOf}
 
--- a block, n blocks, the good ones and what they hold, in bytes that begin with them
+-- one block, k blocks, their good ones and their contents, read from the first n bytes
 pub judge-front : (number used n : ℕ) (bs : List ℕ) → 512 ≤ n → judge number used (take n bs) ≡ judge number used bs
 unfolding judge
 judge-front number used n bs h = rw (long, take-take 512 n bs h) refl
@@ -59,7 +60,7 @@ contents-front (suc k) n bs h = rw (
   contents-front k (n - 512) (drop 512 bs) (omega arith),
 ) refl
 
--- LAW: the run from a place on, in a part that holds it
+-- LAW: a run that begins at byte a, read from the first n bytes if these contain it
 module _ (total a n : ℕ) (bs : List ℕ) (holds : a + 512 * blocksFor total ≤ n) where
   pub run-front : (number : ℕ) → judgeRun number total (drop a (take n bs)) ≡ judgeRun number total (drop a bs)
   unfolding judgeRun
@@ -76,7 +77,7 @@ module _ (total a n : ℕ) (bs : List ℕ) (holds : a + 512 * blocksFor total �
   content-front = rw (drop-take a n bs)
       (ap (take total) (contents-front (blocksFor total) (n - a) (drop a bs) (omega arith)))
 
--- what is read of bytes are bytes
+-- contents that are read from bytes are bytes
 bytes-contents : (n : ℕ) (bs : List ℕ) → Bytes bs → Bytes (contents n bs)
 unfolding contents
 bytes-contents zero bs small = λ i. omega arith

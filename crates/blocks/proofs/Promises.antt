@@ -1,4 +1,7 @@
--- Two answers that meet the promise of a public function coincide. Assumes nothing.
+-- Each public function has one answer: two answers that meet its promise are equal, and so are the buffers at exit.
+-- For most functions the promise is an equation, so `coincide` suffices. `judge` and `judge_run` promise what their
+-- answer means; no two values of `Judged` have the same meaning (`judged-injective`), so `coincide-by` applies.
+-- Assumes nothing.
 use mathlib.Core.Path.{_≡_, refl}
 use mathlib.Core.List.{List, _++_}
 use Prim.Native.Nat.{ℕ, min}

@@ -1,5 +1,9 @@
--- Laws of runs of blocks, in the terms of code, and theorems: a run that passes is the run of its content, that run
--- passes, and any one changed byte of it gives 72. Assumes nothing.
+-- Runs of blocks: a content of any length, cut into pieces of 504 bytes. A run is its first block followed by the run
+-- of the rest (`blocks-more`, `run-more`), so every induction is on the number of blocks and each step is a theorem
+-- of Blocks. Theorems: a run that passes is the run of its content (`passed-is-run`), the run of a content passes
+-- (`run-passes`) and holds that content (`run-holds`), and one changed byte makes it 72 (`changed-run`). The loop of
+-- `judge_run` keeps that judging the remaining blocks gives the whole answer (`Running`). `content-none` to
+-- `content-whole` are the four returns of `content`. Assumes nothing.
 use mathlib.Core.Path.{_≡_, refl, sym, ap, _∙_}
 use mathlib.Core.Logic.{⊎-elim}
 use mathlib.Core.List.{List, [], _∷_, _++_, append-assoc, append-nil}
@@ -23,7 +27,7 @@ use Rattle.blocks.proofs.Blocks.{passing, passing-then, passes, take-mi
 use Rattle.blocks.proofs.Blocks.{content-there, block-passes, passed-is-block, changed-block, judge-outside}
 use Rattle.fields.proofs.Spelling.{Bytes, bytes-take, bytes-drop}
 
--- a byte behind the first n
+-- a change at or after byte n, seen from byte n on
 pub drop-set : (n : ℕ) (l : List ℕ) (i v : ℕ) → n ≤ i → drop n (set l i v) ≡ set (drop n l) (i - n) v
 drop-set n l i v h = let at : i ≡ n + (i - n) = omega arith in
     ap (λ (x : ℕ). drop n (set l x v)) at ∙ drop-set-add n l (i - n) v
@@ -32,7 +36,7 @@ pub getD-behind : (n : ℕ) (l : List ℕ) (i : ℕ) → n ≤ i → getD (drop 
 getD-behind n l i h = let at : n + (i - n) ≡ i = omega arith in
     getD-drop n l (i - n) 0 ∙ ap (λ (x : ℕ). getD l x 0) at
 
--- one block and the others
+-- the first block and the others
 pub blocks-more : (total : ℕ) → 0 < total → blocksFor total ≡ suc (blocksFor (total - 504))
 unfolding blocksFor
 blocks-more total h = omega arith
@@ -47,7 +51,7 @@ pub run-none : (number : ℕ) (bs : List ℕ) → judgeRun number 0 bs ≡ accep
 unfolding judgeRun judgeBlocks blocksFor
 run-none number bs = refl
 
--- the loop: what is left decides
+-- the invariant of `judge_run`: judging the remaining blocks gives the whole answer
 pub record Running (bs : List ℕ) (first total : ℕ) (left : List ℕ) (number more : ℕ) : Type 0 where
   pub room : 512 * number + length left ≤ 512 * first + length bs
   pub same : judgeRun number more left ≡ judgeRun first total bs
@@ -96,7 +100,7 @@ pub length-run : (number : ℕ) (content : List ℕ) → length (runOf number co
 unfolding runOf
 length-run number content = length-blocks (blocksFor (length content)) number content
 
--- the contents of n blocks that are there: 504 bytes each
+-- the contents of n blocks that are present: 504 bytes each
 pub contents-long : (n : ℕ) (bs : List ℕ) → 512 * n ≤ length bs → length (contents n bs) ≡ 504 * n
 unfolding contents
 contents-long zero bs h = refl
@@ -105,7 +109,7 @@ contents-long (suc n) bs h =
     * n = contents-long n (drop 512 bs) (simp length-drop (omega arith)) in
     simp (length-append, length-take-le 504 (drop 4 bs) (simp length-drop (omega arith)), r) (omega arith)
 
--- the content of a run that is there: as long as asked for
+-- the content of a run that is present has the expected length
 pub content-long : (total : ℕ) (bs : List ℕ) → 512 * blocksFor total ≤ length bs
     → length (contentOf total bs) ≡ total
 unfolding contentOf blocksFor
@@ -116,7 +120,7 @@ pub content-nothing : (bs : List ℕ) → contentOf 0 bs ≡ []
 unfolding contentOf
 content-nothing bs = refl
 
--- what stands in the first block, and in the others
+-- the content in the first block, and in the others
 module _ (n total : ℕ) (bs : List ℕ) (h : 512 ≤ length bs) where
   full : length (take 504 (drop 4 bs)) ≡ 504
   full = length-take-le 504 (drop 4 bs) (simp length-drop (omega arith))
@@ -136,7 +140,7 @@ module _ (n total : ℕ) (bs : List ℕ) (h : 512 ≤ length bs) where
       drop-take 504 total (take 504 (drop 4 bs) ++ others)
       ∙ ap (take (total - 504)) (drop-at (take 504 (drop 4 bs)) others 504 full)
 
--- LAW: the content of one block and of the others
+-- LAW: the content of a run is that of its first block and then that of the others
 content-more : (total : ℕ) (bs : List ℕ) → 0 < total → 512 ≤ length bs
     → contentOf total bs ≡ take (min 504 total) (drop 4 bs) ++ contentOf (total - 504) (drop 512 bs)
 unfolding contentOf
@@ -145,7 +149,7 @@ content-more total bs more h =
     rw (blocks-more total more) (sym (take-append-drop 504 (take total (contents (suc n) bs)))
     ∙ rw (first-part n total bs h, other-part n total bs h) refl)
 
--- LAW: the same by number: the content of the block with a number, and of those behind it
+-- LAW: the same with block numbers: the content of block `number`, then that of the blocks after it
 pub content-next : (total number : ℕ) (file : List ℕ) → 0 < total → 512 * (number + 1) ≤ length file
     → contentOf total (drop (512 * number) file)
     ≡ take (min 504 total) (contentIn number file) ++ contentOf (total - 504) (drop (512 * (number + 1)) file)
@@ -159,14 +163,14 @@ content-next total number file more h =
       at,
     ) refl
 
--- a block that is there has 504 bytes of content
+-- a block that is present has 504 bytes of content
 pub content-full : (number : ℕ) (file : List ℕ) → 512 * (number + 1) ≤ length file
     → length (contentIn number file) ≡ 504
 unfolding contentIn
 content-full number file h =
     length-take-le 504 (drop 4 (drop (512 * number) file)) (simp (length-drop, length-drop) (omega arith))
 
--- the block with a number, in the terms of code
+-- the returns of `content`: no block, fewer than 4 bytes, fewer than 508, all
 module _ (file : List ℕ) (number : ℕ) where
   pub content-none : length file / 512 < number → take (0 - 0) file ≡ contentIn number file
   unfolding contentIn
@@ -195,7 +199,7 @@ module _ (file : List ℕ) (number : ℕ) where
     unfolding contentIn
     content-whole = rw cut refl
 
--- LAW: a run that passes is there
+-- LAW: a run that passes is present whole
 blocks-long : (n number total : ℕ) (bs : List ℕ) → judgeBlocks n number total bs ≡ accepted [] → 512 * n ≤ length bs
 unfolding judgeBlocks
 blocks-long zero number total bs e = omega arith
@@ -260,7 +264,7 @@ passed-is-run number total bs small e =
     ∙ ap (λ (n : ℕ). blocksOf (blocksFor n) number (contentOf total bs))
     (sym (content-long total bs (run-long number total bs e)))
 
--- THEOREM: the run of a content passes, and its content is there
+-- THEOREM: the run of a content passes, and it holds that content
 blocks-pass : (n number : ℕ) (content rest : List ℕ) → n ≡ blocksFor (length content) → Bytes content
     → number + n ≤ 65536 → judgeBlocks n number (length content) (blocksOf n number content ++ rest) ≡ accepted []
 unfolding judgeBlocks blocksOf blocksFor
@@ -325,7 +329,7 @@ pub run-holds : (number : ℕ) (content rest : List ℕ)
 unfolding contentOf runOf blocksFor
 run-holds number content rest = blocks-hold (blocksFor (length content)) number content rest (omega arith)
 
--- LAW: a byte behind a run does not matter to it
+-- LAW: a byte after a run does not affect its judgement
 blocks-outside : (n number total : ℕ) (bs : List ℕ) (i v : ℕ) → 512 * n ≤ i
     → judgeBlocks n number total (set bs i v) ≡ judgeBlocks n number total bs
 unfolding judgeBlocks
@@ -343,7 +347,7 @@ pub run-outside : (number total : ℕ) (bs : List ℕ) (i v : ℕ) → 512 * blo
 unfolding judgeRun
 run-outside number total bs i v h = blocks-outside (blocksFor total) number total bs i v h
 
--- THEOREM: any one byte of a run that passes changed to any other value gives 72
+-- THEOREM: if any one byte of a run that passes is changed, the run is refused with 72
 changed-blocks : (n number total : ℕ) (bs : List ℕ) (i v : ℕ) → judgeBlocks n number total bs ≡ accepted []
     → i < 512 * n → (v ≡ getD bs i 0 → ⊥) → judgeBlocks n number total (set bs i v) ≡ refused blockCheck []
 unfolding judgeBlocks

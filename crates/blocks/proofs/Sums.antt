@@ -1,6 +1,8 @@
--- Laws of the sum of a block: what it depends on, its bound, and that one changed byte changes it. The loops keep the
--- sum over the places so far (`Summed`); that of `sum` ends where the bytes do, because past the end nothing is
--- weighed (`sum-clipped`). Assumes nothing.
+-- Laws of the sum of a block, which weighs the byte at place p by p + 1. The sum over n places depends on those bytes
+-- alone (`weighed-front`, `weighed-outside`) and fits 32 bits (`sum-small`). Changing one byte moves the sum by its
+-- factor times the difference (`moved`, by induction on the number of places), so a changed byte changes the sum
+-- (`weighed-changed`, the law to cite). The loops keep the sum over the places so far (`Summed`, `Summing`); places
+-- past the end count as zero, so `sum` may stop there (`sum-clipped`). Assumes nothing.
 use mathlib.Core.Path.{_≡_, refl, sym, ap, _∙_}
 use mathlib.Core.Logic.{⊎-elim}
 use mathlib.Core.List.{List, _++_}
@@ -14,7 +16,7 @@ use Rattle.fields.proofs.Basics.{le-or-lt}
 use Rattle.blocks.specs.Block.{weighed, sumOf}
 use Rattle.fields.proofs.Spelling.{Bytes}
 
--- what a byte adds
+-- the bound of what one byte adds
 pub weight-small : (n p x : ℕ) → p < n → x < 256 → (p + 1) * x ≤ n * 255
 weight-small n p x h k = mul-le-mul {n₂ = n} {m₂ = 255} (omega arith) (omega arith)
 
@@ -31,7 +33,7 @@ weighed-outside (suc p) l i v h =
     let other : p ≡ i → ⊥ = λ e. omega arith in
     rw (weighed-outside p l i v (omega arith), getD-set-other l i p v 0 other) refl
 
--- its bound
+-- the bound of the sum
 pub weighed-small : (n : ℕ) (l : List ℕ) → n ≤ 508 → Bytes l → weighed n l ≤ 129540 * n
 unfolding weighed
 weighed-small zero l h small = omega arith
@@ -45,7 +47,7 @@ pub sum-small : (l : List ℕ) → Bytes l → sumOf l < 4294967296
 unfolding sumOf
 sum-small l small = omega (arith, weighed-small 508 l (omega arith) small)
 
--- a changed byte moves the sum by its factor
+-- a changed byte moves the sum by its factor times the difference
 moved : (n : ℕ) (l : List ℕ) (i v : ℕ) → i < n → i < length l
     → weighed n (set l i v) + (i + 1) * getD l i 0 ≡ weighed n l + (i + 1) * v
 unfolding weighed
@@ -87,7 +89,7 @@ module _ {b : List ℕ} {sum p : ℕ} (s : Summed b sum p) where
     pub sum-fits : sum + w < 2 ^ 32
     sum-fits = omega (arith, sum-on .is, weighed-small (p + 1) b (omega arith) (s .small))
 
--- past the end there is nothing to weigh
+-- places past the end add nothing
 weighed-past : (k : ℕ) (b : List ℕ) → weighed (length b + k) b ≡ weighed (length b) b
 unfolding weighed
 weighed-past zero b = rw (add-zero (length b)) refl
@@ -106,7 +108,7 @@ sum-clipped b = ⊎-elim
     rw e (sym (rw n at (weighed-past (508 - length b) b))))
     (le-or-lt 508 (length b))
 
--- the loop of a sum goes over as many places as are there, and at most 508
+-- the loop of `sum` stops at place 508, or at the end of the bytes if that comes first
 pub record Summing (b : List ℕ) (n sum p : ℕ) : Type 0 where
   pub clipped : n ≡ min 508 (length b)
   pub before : p ≤ n

@@ -1,5 +1,5 @@
--- Blocks of 512 bytes, little-endian: 0-1 number, 2-3 used bytes, 4-507 content, 508-511 the sum. These are
--- definitions.
+-- Blocks of 512 bytes, little-endian (docs/FORMAT.md, a table file): bytes 0-1 the number, 2-3 the number of used
+-- bytes, 4-507 the content, 508-511 the sum. These are definitions.
 use mathlib.Core.Bool.{Bool, true, _&&_}
 use mathlib.Core.List.{List, [], _∷_, _++_}
 use Prim.Native.Nat.{ℕ, zero, suc, _+_, _*_, _-_}
@@ -12,7 +12,7 @@ use Rattle.table.specs.Answer.{Answer, accepted, refused, andThen}
 use Rattle.blocks.specs.declared.Judged.{Judged}
 use Rattle.blocks.specs.declared.Judged.the-variants.{Passed, Refused}
 
--- a block's bytes, and how many of them are content
+-- the size of a block, and that of its content
 abbrev pub blockBytes : ℕ
 blockBytes = 512
 
@@ -32,7 +32,7 @@ weighed (suc p) b = weighed p b + weightOf p (getD b p 0)
 unfoldable pub sumOf : List ℕ → ℕ
 sumOf b = weighed 508 b
 
--- what stands before the sum: the number, the used bytes, the content, and zeros past the used part
+-- the 508 bytes before the sum: the number, the number of used bytes, the content, and zeros after it
 unfoldable pub beforeSum : ℕ → List ℕ → List ℕ
 beforeSum number content = bytesOf 2 number
     ++ (bytesOf 2 (length content) ++ (content ++ replicate (contentBytes - length content) 0))
@@ -46,25 +46,25 @@ unfoldable pub zeros : List ℕ → Bool
 zeros [] = true
 zeros (x ∷ l) = eqb x 0 && zeros l
 
--- a demand that is met, or refused by its number
+-- accepted if the test is passed, else refused with this number
 abbrev pub demand : Bool → ℕ → Answer
 demand met number = if' met (λ _. accepted []) (λ _. refused number [])
 
--- the demands on the 512 bytes of a block that is to have this number and so many used bytes: 72 check, 71 number, 73
--- used bytes or padding
+-- the tests of the 512 bytes of a block, given its expected number and number of used bytes: 72 (the sum), 71 (the
+-- number), 73 (the used bytes or the zeros after them)
 unfoldable pub examine : ℕ → ℕ → List ℕ → Answer
 examine number used b =
     andThen (demand (eqb (sumOf b) (field 4 b 508)) blockCheck) (λ _.
     andThen (demand (eqb (field 2 b 0) number) blockNumber) (λ _.
     demand (eqb (field 2 b 2) used && zeros (drop (4 + used) (take 508 b))) blockUsed))
 
--- the block at the front of some bytes, which is to have this number and so many used bytes: 70 short, then the demands
--- on its 512 bytes
+-- the first 512 bytes as a block with this expected number and number of used bytes: 70 if there are fewer than 512,
+-- then the tests above
 unfoldable pub judge : ℕ → ℕ → List ℕ → Answer
 judge number used bs = andThen (demand (leb blockBytes (length bs)) blockShort)
     (λ _. examine number used (take blockBytes bs))
 
--- what the answers of code mean
+-- the meaning of the code's answers
 abbrev pub judged : Judged → Answer
 judged Passed = accepted []
 judged (Refused n) = refused n []

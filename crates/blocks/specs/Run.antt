@@ -1,5 +1,5 @@
--- Runs of blocks: a content of any length, 504 bytes a block; only the last may be partly used, and the numbers run on.
--- These are definitions.
+-- Runs of blocks (docs/FORMAT.md, a table file): a content of any length, 504 bytes in each block. Only the last
+-- block may be partly used, and the block numbers increase by one. These are definitions.
 use mathlib.Core.List.{List, [], _++_}
 use Prim.Native.Nat.{ℕ, zero, suc, _+_, _*_, _-_, _/_, min}
 use lib.ListN.{length, take, drop}
@@ -7,7 +7,7 @@ use Rattle.fields.specs.Choice.{if'}
 use Rattle.table.specs.Answer.{Answer, accepted, passes, andThen}
 use Rattle.blocks.specs.Block.{blockBytes, contentBytes, blockOf, judge}
 
--- how many blocks a content of this length fills: none if it is empty
+-- the number of blocks for a content of this length: 0 if it is empty
 unfoldable pub blocksFor : ℕ → ℕ
 blocksFor total = (total + 503) / contentBytes
 
@@ -21,8 +21,8 @@ blocksOf (suc n) number content = blockOf number (take contentBytes content)
 unfoldable pub runOf : ℕ → List ℕ → List ℕ
 runOf number content = blocksOf (blocksFor (length content)) number content
 
--- n blocks, judged one after the other, that are numbered from this number on and are to hold so many bytes: each uses
--- 504, or what is left
+-- n blocks judged one after the other, numbered from this number on, that must hold `total` bytes: each uses 504, or
+-- the rest if it is less
 unfoldable pub judgeBlocks : ℕ → ℕ → ℕ → List ℕ → Answer
 judgeBlocks zero number total bs = accepted []
 judgeBlocks (suc n) number total bs = andThen (judge number (min contentBytes total) bs)
@@ -32,7 +32,7 @@ judgeBlocks (suc n) number total bs = andThen (judge number (min contentBytes to
 unfoldable pub judgeRun : ℕ → ℕ → List ℕ → Answer
 judgeRun number total bs = judgeBlocks (blocksFor total) number total bs
 
--- how many of n such blocks are good, before the first that is bad or missing
+-- the number of good blocks among n such blocks, before the first that is bad or missing
 unfoldable pub goodBlocks : ℕ → ℕ → ℕ → List ℕ → ℕ
 goodBlocks zero number total bs = 0
 goodBlocks (suc n) number total bs =
@@ -48,6 +48,6 @@ contents (suc n) bs = take contentBytes (drop 4 bs) ++ contents n (drop blockByt
 unfoldable pub contentIn : ℕ → List ℕ → List ℕ
 contentIn number file = take contentBytes (drop 4 (drop (blockBytes * number) file))
 
--- the content, of this length, that the run at the front of some bytes holds
+-- the content of this length in the run at the front of some bytes
 unfoldable pub contentOf : ℕ → List ℕ → List ℕ
 contentOf total bs = take total (contents (blocksFor total) bs)

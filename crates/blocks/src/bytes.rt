@@ -1,4 +1,4 @@
-// Bytes written into lent memory: bytes laid over others, and numbers as bytes, the low one first.
+// Writing bytes into a buffer, and numbers as bytes, the low byte first.
 ghost use mathlib.Core.Path.{_≡_};
 ghost use mathlib.Core.List.{_++_};
 ghost use Prim.Native.Nat.{_+_, _≤_};
@@ -8,7 +8,7 @@ ghost use Rattle.fields.specs.Field.{bytesOf};
 ghost use Rattle.fields.specs.Over.{over};
 ghost use Rattle.blocks.specs.Laid.{laidAt, lowByte};
 
-// Lays bytes over others from a place on. Where they do not fit there, nothing changes.
+// Writes bytes into a buffer from a place on. If they do not fit there, nothing changes.
 pub fn put(bytes: &[u8], at: usize, out: &mut [u8])
     ensures { λ r. ⌜ now (out .exit) ≡ laidAt at (now (bytes .entry)) (now (out .entry)) ⌝ }
 {
@@ -18,7 +18,7 @@ pub fn put(bytes: &[u8], at: usize, out: &mut [u8])
     lay(bytes, at, out)
 }
 
-// Two numbers, two bytes each.
+// Two numbers as two bytes each.
 pub fn pair(a: usize, b: usize) -> [u8; 4]
     ensures { λ r. ⌜ r ≡ bytesOf 2 a ++ bytesOf 2 b ⌝ }
 {
@@ -36,14 +36,14 @@ pub fn quad(n: u32) -> [u8; 4]
     [low(a), low(b), low(c), low(d)]
 }
 
-// A number's low byte.
+// The low byte of a number.
 pub fn low(n: usize) -> u8
     ensures { λ r. ⌜ r ≡ lowByte n ⌝ }
 {
     (n % 256) as u8
 }
 
-// Whether n bytes that begin at a place fit into a buffer of `room` bytes.
+// Whether n bytes from place `at` on fit into a buffer of `room` bytes.
 fn fits(at: usize, n: usize, room: usize) -> bool
     ensures { λ r. ⌜ r ≡ leb (at + n) room ⌝ }
 {
@@ -53,7 +53,7 @@ fn fits(at: usize, n: usize, room: usize) -> bool
     n <= room - at
 }
 
-// Lays bytes over others, where they fit.
+// Writes bytes that fit into a buffer from a place on.
 fn lay(bytes: &[u8], at: usize, out: &mut [u8])
     requires { ⌜ at + length (now bytes) ≤ length (now out) ⌝ }
     ensures { λ r. ⌜ now (out .exit) ≡ over at (now (bytes .entry)) (now (out .entry)) ⌝ }

@@ -1,4 +1,4 @@
-// Blocks of 512 bytes: number, used bytes, content and sum, judged one by one or as a run.
+// Blocks of 512 bytes, each with a number, used bytes, content and sum (docs/FORMAT.md), judged one by one or as a run.
 pub mod bytes;
 
 use table::numbers;
@@ -8,18 +8,19 @@ ghost use lib.ListN.{length, take, drop};
 ghost use Rattle.blocks.specs.Block.{blockBytes, contentBytes, weightOf, sumOf, zeros, examine, judge, judged};
 ghost use Rattle.blocks.specs.Run.{blocksFor, judgeRun, contentIn};
 
-// A block's bytes, and how many of them are content.
+// The size of a block, and that of its content.
 pub const BLOCK_BYTES: usize = 512;
 
 pub const CONTENT_BYTES: usize = 504;
 
-// The judgement of blocks: they pass, or are refused by a number.
+// The judgement of blocks: they pass, or are refused with a number.
 pub enum Judged {
     Passed,
     Refused(u32),
 }
 
-// The block at the front of some bytes, which is to have this number and this count of used bytes: 70, 72, 71, 73.
+// Judges the block at the front of some bytes, given its expected number and number of used bytes. Refuses with 70
+// (short), 72 (the sum), 71 (the number) or 73 (the used bytes or the zeros after them), in this order.
 pub fn judge(bytes: &[u8], number: usize, used: usize) -> Judged
     ensures { λ r. ⌜ judged r ≡ judge number used (now (bytes .entry)) ⌝ }
 {
@@ -30,7 +31,7 @@ pub fn judge(bytes: &[u8], number: usize, used: usize) -> Judged
     examine(&b, number, used)
 }
 
-// The blocks that hold total bytes, 504 each, numbered from first on: each is judged in turn.
+// Judges the blocks that hold `total` bytes, 504 in each, numbered from `first` on.
 pub fn judge_run(bytes: &[u8], first: u16, total: usize) -> Judged
     ensures { λ r. ⌜ judged r ≡ judgeRun first total (now (bytes .entry)) ⌝ }
 {
@@ -50,7 +51,7 @@ pub fn judge_run(bytes: &[u8], first: u16, total: usize) -> Judged
     Judged::Passed
 }
 
-// How many blocks hold total bytes.
+// The number of blocks that `total` bytes need.
 pub fn blocks_for(total: usize) -> usize
     ensures { λ r. ⌜ r ≡ blocksFor total ⌝ }
 {
@@ -60,7 +61,7 @@ pub fn blocks_for(total: usize) -> usize
     total / CONTENT_BYTES + 1
 }
 
-// How many bytes the first block of a run uses, where `more` bytes are still to be stored.
+// The content bytes of the next block when `more` are left: 504, or `more` if less.
 pub fn used_here(more: usize) -> usize
     ensures { λ r. ⌜ r ≡ min contentBytes more ⌝ }
 {
@@ -70,7 +71,7 @@ pub fn used_here(more: usize) -> usize
     CONTENT_BYTES
 }
 
-// The content of the block with this number in a file: its 504 bytes, or as many as are there.
+// The content of the block with this number in a file: its 504 bytes, or fewer if the file ends before.
 pub fn content(bytes: &[u8], number: usize) -> &[u8]
     ensures { λ r. ⌜ now r ≡ contentIn number (now (bytes .entry)) ⌝ }
 {
@@ -87,7 +88,7 @@ pub fn content(bytes: &[u8], number: usize) -> &[u8]
     &block[4..508]
 }
 
-// The 512 bytes at the front, from 512 zero bytes.
+// A copy of the first 512 bytes.
 fn first_block(bytes: &[u8]) -> [u8; BLOCK_BYTES]
     requires { ⌜ blockBytes ≤ length (now bytes) ⌝ }
     ensures { λ r. ⌜ r ≡ take blockBytes (now (bytes .entry)) ⌝ }
@@ -101,7 +102,7 @@ fn first_block(bytes: &[u8]) -> [u8; BLOCK_BYTES]
     b
 }
 
-// The demands on the 512 bytes of a block: 72, 71, 73.
+// Tests the 512 bytes of a block: 72, 71, 73.
 fn examine(b: &[u8], number: usize, used: usize) -> Judged
     requires { ⌜ length (now b) ≡ blockBytes ⌝ }
     ensures { λ r. ⌜ judged r ≡ examine number used (now (b .entry)) ⌝ }
@@ -124,15 +125,15 @@ fn examine(b: &[u8], number: usize, used: usize) -> Judged
     Judged::Passed
 }
 
-// What the byte at a place adds to the sum of a block.
+// What byte x at place p adds to the sum of a block.
 pub fn weight(p: u16, x: u8) -> u32
     ensures { λ r. ⌜ r ≡ weightOf p x ⌝ }
 {
     (p as u32 + 1) * (x as u32)
 }
 
-// The sum of (p + 1) times byte p over p = 0 to 507, in 32 bits: it is below 33 million. What stands past the end
-// counts as zero.
+// The sum of (p + 1) times byte p over p = 0 to 507. It is below 33 million, so it fits 32 bits. Bytes past the end
+// count as zero.
 pub fn sum(b: &[u8]) -> u32
     ensures { λ r. ⌜ r ≡ sumOf (now (b .entry)) ⌝ }
 {
@@ -146,7 +147,7 @@ pub fn sum(b: &[u8]) -> u32
     sum
 }
 
-// How many of n bytes are summed: 508 at most.
+// The number of bytes to sum: n, but at most 508.
 fn summed(n: usize) -> usize
     ensures { λ r. ⌜ r ≡ min 508 n ⌝ }
 {
@@ -156,7 +157,7 @@ fn summed(n: usize) -> usize
     508
 }
 
-// Whether the content is zero from a place on.
+// Whether the content is zero from byte `from` on.
 fn padded(b: &[u8], from: usize) -> bool
     requires { ⌜ length (now b) ≡ blockBytes ⌝ }
     ensures { λ r. ⌜ r ≡ zeros (drop from (take 508 (now (b .entry)))) ⌝ }

@@ -1,7 +1,8 @@
--- THEOREM 4, there and back: removing what was just added finds the place that was written (`remove-finds`) and
--- restores the book byte for byte (`add-remove`), because both books pass and have the same entry at every place
--- (`same-book`); adding what was just removed gives the same set of entries (`remove-add`, `remove-add-back`). And a
--- zone above 65,535 fits nowhere (`wide-zone`). Assumes nothing.
+-- THEOREM 4, a change and its reverse. Removing the entry that was just added finds the place that was written
+-- (`remove-finds`) and restores the book byte for byte (`add-remove`): both books pass and have the same entry at
+-- every place, and the entries determine the bytes (Whole's `same-book`). Adding the entry that was just removed is
+-- accepted, because it was sound and no other place has its zone and setting, and gives the same set of entries
+-- (`remove-add`, `remove-add-back`). A zone above 65,535 matches no entry (`wide-zone`). Assumes nothing.
 use mathlib.Core.Path.{_≡_, refl, sym, ap, _∙_}
 use mathlib.Core.Bool.{Bool, true, false}
 use mathlib.Core.Logic.{_⊎_, ⊎-elim}
@@ -36,7 +37,7 @@ use Rattle.booked.proofs.Changes.{entry-setting}
 use Rattle.booked.proofs.Changes.{few, valid, Removed, remove-passes, room-found}
 use Rattle.booked.proofs.Whole.{same-book}
 
--- a zone above 65,535 fits nowhere
+-- a zone above 65,535 matches no entry
 pub wide-zone : (zone asked : ℕ) (book : List ℕ) → Bytes book → 65536 ≤ zone → NoneFits zone asked book
 unfolding field entryAt
 wide-zone zone asked book small wide q f =
@@ -57,7 +58,7 @@ put-bytes book p e small small-e =
     over-bytes (512 * (p / 21) + 508) (bytesOf 4 (sumOf (blockAt mid (p / 21)))) mid
     (bytes-spelled 4 (sumOf (blockAt mid (p / 21)))) (over-bytes (placeAt p) e book small-e small)
 
--- zeros, and nothing else
+-- a list that passes the test for zeros consists of zeros
 zeros-are : (l : List ℕ) → zeros l ≡ true → l ≡ replicate (length l) 0
 unfolding zeros
 zeros-are [] e = refl
@@ -132,7 +133,7 @@ module _ (line : Bool) (book : List ℕ) (zone setting : ℕ) (dialect : List �
   pub add-then-remove : removeIn line new zone setting ≡ Placed (bookNumber line) p
   add-then-remove = remove-finds line new zone setting p after (high .fitting .inside) is-for
 
-  -- byte for byte
+  -- the book is restored byte for byte
   pub add-remove : putEntry new p (replicate 24 0) ≡ book
   unfolding soundPlace zeros entryOf
   add-remove =
@@ -166,7 +167,7 @@ module _ (line : Bool) (book : List ℕ) (zone setting : ℕ) (dialect : List �
       ∙ put-other book p (entryOf zone setting dialect) (is-added .inside) entry-long q other)
       (le-or-lt p q))
 
--- an entry is spelled by its parts
+-- an entry is put together from its parts
 pub entry-again : (line : Bool) (e : List ℕ) → length e ≡ 24 → Bytes e → soundEntry line e ≡ true
     → entryOf (zoneOf e) (settingOf e) (dialectOf e) ≡ e
 unfolding entryOf soundEntry

@@ -1,8 +1,8 @@
--- The best place of a book that passes 95 and 96 is the one place whose entry fits and is highest. Why: going over the
--- places, no fitting setting is above the best so far (`best-over`), and the best so far fits (`best-fits`); in a sound
--- book every setting is at least 1, so that 0 means none (`best-none`); and where no zone and setting stands twice, two
--- highest places are one (`one-place`). The induction is on the number of places. Cite `best-highest`, `highest-best`,
--- `best-none`, `none-best`. Assumes nothing.
+-- The best place of a book that passes 95 and 96 is the one place whose entry fits and has the highest setting. Going
+-- over the places, no fitting setting is above the best so far (`best-over`), and the best so far fits (`best-fits`).
+-- In a sound book every setting is at least 1, so 0 means that there is none (`best-none`). No zone and setting
+-- occurs twice, so two highest places are the same place (`one-place`). The induction is on the number of places.
+-- Cite `best-highest`, `highest-best`, `best-none` and `none-best`. Assumes nothing.
 use mathlib.Core.Path.{_≡_, refl, sym, ap, _∙_}
 use mathlib.Core.Bool.{Bool, true, false, _&&_, not}
 use mathlib.Core.Logic.{⊎-elim}
@@ -23,7 +23,7 @@ use Rattle.books.specs.Lookup.{fits, bestSetting, bestIn}
 use Rattle.books.proofs.Laws.{every-stop, some-stop}
 use Rattle.booked.specs.Said.{Passing, Fitting, Highest}
 
--- THEOREM: such a book is accepted, and no other
+-- THEOREM: a book is accepted exactly if it passes 95 and 96
 pub passing-judged : (line : Bool) (book : List ℕ) → judgeBook line book ≡ 0 → Passing line book
 unfolding judgeBook
 passing-judged line book = go (soundBook line book) (twiceIn book (placesOf book)) refl refl
@@ -60,7 +60,7 @@ module _ (zone asked : ℕ) (book : List ℕ) where
     le-leb (settingOf (entryAt book p)) asked (f .upto),
   ) refl
 
-  -- no fitting setting is above the best one's
+  -- no fitting setting is above that of the best place
   best-over : (n q : ℕ) → q < n → fits zone asked (entryAt book q) ≡ true
       → settingOf (entryAt book q) ≤ bestSetting book (bestIn zone asked book n)
   unfolding bestIn bestSetting
@@ -91,7 +91,7 @@ module _ (zone asked : ℕ) (book : List ℕ) where
           clash e (ap (λ (x : ℕ). fits zone asked (entryAt book x)) same ∙ f))
           (λ (k : q < n). before k) (le-or-lt n q)
 
-  -- the best one fits
+  -- the best place fits
   best-fits : (n p : ℕ) → bestIn zone asked book n ≡ suc p → (p < n) × (fits zone asked (entryAt book p) ≡ true)
   unfolding bestIn
   best-fits zero p e = absurd (omega arith)
@@ -109,7 +109,7 @@ module _ (zone asked : ℕ) (book : List ℕ) where
       go true f false before g = let b = before g in (omega (arith, b .0), b .1)
       go false f l before g = let b = before g in (omega (arith, b .0), b .1)
 
--- what stands at a place of a sound book
+-- the entry at a place of a sound book
 module _ {line : Bool} {book : List ℕ} (b : Passing line book) where
   pub places-sound : soundPlaces line book (placesOf book) ≡ true
   unfolding soundBook
@@ -168,7 +168,7 @@ module _ {line : Bool} {book : List ℕ} (b : Passing line book) where
               (fitting-fits zone asked book q g));
         }
 
-    -- LAW: where there is no best place, none fits
+    -- LAW: if there is no best place, no place fits
     pub best-none : bestIn zone asked book (placesOf book) ≡ 0 → (q : ℕ) → Fitting zone asked book q → ⊥
     unfolding bestSetting
     best-none e q g =
@@ -184,7 +184,7 @@ module _ {line : Bool} {book : List ℕ} (b : Passing line book) where
         go zero e = absurd (best-none e p (h .fitting))
         go (suc q) e = e ∙ ap suc (one-place q p (best-highest q e) h)
 
-    -- LAW: where none fits, there is no best place
+    -- LAW: if no place fits, there is no best place
     pub none-best : ((q : ℕ) → Fitting zone asked book q → ⊥) → bestIn zone asked book (placesOf book) ≡ 0
     none-best n = go (bestIn zone asked book (placesOf book)) refl
       where

@@ -1,9 +1,9 @@
 -- W-213, additions and removals, over both books. The book of an entry is the line book for zone 0 and the zone book
--- for every other zone, so each theorem has these two cases, and in each one book stays as it is and the other is
--- what `Changes`, `Back` and `Kept` show of one book. Demand 4: `added-found`, `added-elsewhere`, `added-removed`,
+-- for every other zone. So each theorem has these two cases: in each, one book stays unchanged, and the other is as
+-- `Changes`, `Back` and `Kept` show for one book. Demand 4: `added-found`, `added-elsewhere`, `added-removed`,
 -- `removed-added`, `removed-room`. Demand 5: `added-passes`, `removed-passes`, `blanked-passes`, `added-apart`,
--- `removed-apart`, `added-refused`, `removed-refused`; and the other book is not looked at: `add-unread`,
--- `remove-unread`. `Bytes` and settings below 2^32 are what code knows of its bytes and numbers. Assumes nothing.
+-- `removed-apart`, `added-refused`, `removed-refused`; the other book is not read: `add-unread`, `remove-unread`.
+-- `Bytes` and settings below 2^32 are what the code knows of its inputs. Assumes nothing.
 use mathlib.Core.Path.{_≡_, refl, sym, ap, _∙_}
 use mathlib.Core.Bool.{Bool, true, false}
 use mathlib.Core.List.{List, [], _∷_}
@@ -58,7 +58,7 @@ valid-small : (dialect : List ℕ) → validBytes dialect ≡ true → Bytes dia
 unfolding validBytes
 valid-small dialect e = within-bytes limits dialect limits-small e
 
--- what is added is valid
+-- the dialect bytes of an accepted addition are valid
 added-small : (line : Bool) (book : List ℕ) (zone setting : ℕ) (dialect : List ℕ) (b p : ℕ)
     → addIn line book zone setting dialect ≡ Placed b p → Bytes dialect
 added-small line book zone setting dialect b p e =
@@ -81,7 +81,7 @@ remove-is : (zb lb : List ℕ) (n setting : ℕ) → removeOf zb lb (suc n) sett
 unfolding removeOf
 remove-is zb lb n setting = rw (off n) refl
 
--- the book of an entry after an addition that is accepted, and after such a removal
+-- the book of an entry after an accepted addition, and after an accepted removal
 line-added : (zb lb : List ℕ) (setting : ℕ) (dialect : List ℕ) {b p : ℕ} → addOf zb lb 0 setting dialect ≡ Placed b p
     → lineAdded zb lb 0 setting dialect ≡ putEntry lb p (entryOf 0 setting dialect)
 unfolding addOf lineAdded lineAfter
@@ -139,7 +139,7 @@ added-found zb lb (suc n) setting dialect b p e small bytes-z bytes-l both =
     rw (zone-added zb lb n setting dialect e, line-stays zb lb n setting dialect, off n)
     (found .0, rw (found .0) (found .1))
 
--- and every lookup that does not reach the new place is as before
+-- every lookup that does not reach the new place is unchanged
 pub added-elsewhere : (zb lb : List ℕ) (zone setting : ℕ) (dialect : List ℕ) (b p : ℕ)
     → addOf zb lb zone setting dialect ≡ Placed b p → setting < 4294967296 → Bytes zb → Bytes lb → BothPass zb lb
     → (z asked : ℕ)
@@ -157,7 +157,7 @@ added-elsewhere zb lb (suc n) setting dialect b p e small bytes-z bytes-l both z
     add-zone-elsewhere zb lb (suc n) setting dialect b p f (own n) small bytes-z
     (added-small false zb (suc n) setting dialect b p f) (both .line) z asked other)
 
--- removing what was just added finds it, and restores both books byte for byte
+-- removing the entry that was just added finds it, and restores both books byte for byte
 pub record Restored (zb lb : List ℕ) (zone setting : ℕ) (answer : Changed) (zb′ lb′ : List ℕ) : Type 0 where
   pub answered : removeOf zb′ lb′ zone setting ≡ answer
   pub zoneBook : zoneRemoved zb′ lb′ zone setting ≡ zb
@@ -202,7 +202,7 @@ added-removed zb lb (suc n) setting dialect b p e small bytes-z bytes-l =
     (restored-zone zb lb n setting b p (putEntry zb p (entryOf (suc n) setting dialect)) (rw number at found)
     (add-remove false zb (suc n) setting dialect b p f (own n) small bytes-z d))
 
--- adding what was just removed is accepted, and gives the same set of entries
+-- adding the entry that was just removed is accepted, and gives the same set of entries
 pub record AddedBack (zb lb : List ℕ) (zone setting : ℕ) (dialect zb′ lb′ : List ℕ) : Type 0 where
   pub place : ℕ
   pub accepts : addOf zb′ lb′ zone setting dialect ≡ Placed (bookNumber (isLine zone)) place
@@ -269,7 +269,7 @@ removed-room zb lb (suc n) setting b p e (suc m) s dialect same = λ f.
     remove-room false zb (suc n) setting b p r (suc m) s dialect
     (sym (add-is (putEntry zb p noEntryBytes) (lineRemoved zb lb (suc n) setting) m s dialect) ∙ g)
 
--- DEMAND 5: results pass 95 and 96
+-- DEMAND 5: the resulting books pass 95 and 96
 pub added-passes : (zb lb : List ℕ) (zone setting : ℕ) (dialect : List ℕ) (b p : ℕ)
     → addOf zb lb zone setting dialect ≡ Placed b p → setting < 4294967296 → Bytes zb → Bytes lb
     → Passing (isLine zone)
@@ -364,7 +364,7 @@ removed-refused zb lb zero setting other = (refl, after-refused (removeOf zb lb 
 removed-refused zb lb (suc n) setting other = rw (off n)
     (after-refused (removeOf zb lb (suc n) setting) noEntryBytes zb other, refl)
 
--- the other book is not looked at, and not changed
+-- the other book is not read and not changed
 pub add-unread : (zb lb zb′ lb′ : List ℕ) (zone setting : ℕ) (dialect : List ℕ)
     → bookOf zone zb lb ≡ bookOf zone zb′ lb′
     → addOf zb lb zone setting dialect ≡ addOf zb′ lb′ zone setting dialect
@@ -382,7 +382,7 @@ remove-unread zb lb zb′ lb′ (suc n) setting e =
     let same : zb ≡ zb′ = rw (off n) at e in
     rw (off n) (ap (λ (x : List ℕ). removeIn false x (suc n) setting) same)
 
--- the book that is not the entry's
+-- the book that the entry does not belong to
 abbrev pub otherOf : ℕ → List ℕ → List ℕ → List ℕ
 otherOf zone zb lb = if' (isLine zone) (λ _. zb) (λ _. lb)
 

@@ -1,7 +1,9 @@
--- THEOREMS of additions and removals (4 and 5 of the issue). An addition that is accepted has a book that passes, an
--- empty place, and an entry that stands nowhere (`added`); so the book passes afterwards (`add-passes`), the lookup
--- at that zone and setting gives the bytes added (`add-found`), and a lookup that does not end at the new place is as
--- before (`add-elsewhere`). The same for removals. Assumes nothing.
+-- THEOREMS 4 and 5 of W-213, for one book. An accepted addition has a book that passes, an empty place, and an entry
+-- that occurs nowhere in it (`added`). So the book passes afterwards (`add-passes`, by Kept), a lookup of that zone
+-- and setting gives the added bytes (`add-found`), because the new entry is the highest at its own setting, and a
+-- lookup that does not end at the new place is unchanged (`add-elsewhere`), because all other places are. The same
+-- holds for removals. The only inductions are over the places, for the first place that passes a test. Assumes
+-- nothing.
 use mathlib.Core.Path.{_≡_, refl, sym, ap, _∙_}
 use mathlib.Core.Bool.{Bool, true, false}
 use mathlib.Core.Logic.{⊎-elim}
@@ -34,7 +36,7 @@ use Rattle.booked.proofs.Best.{best-highest, best-none, highest-best, n
 use Rattle.booked.proofs.Lookups.{tells-zone, tells-line, both-pass, zone-zero, part-is-dialect}
 use Rattle.booked.proofs.Kept.{Fresh, put-passes}
 
--- the first place: the test holds there
+-- the test holds at the first place
 pub first-found : (test : ℕ → Bool) (n p : ℕ) → firstIn test n ≡ suc p → (p < n) × (test p ≡ true)
 unfolding firstIn
 first-found test zero p e = absurd (omega arith)
@@ -65,7 +67,7 @@ sound-taken line e s = go (zeros e) refl
         absurd (omega (arith, at 2, at 3, at 4, at 5))
     go false z = z
 
--- the entry to be added
+-- the entry to add
 module _ (zone setting : ℕ) (dialect : List ℕ) (few : zone < 65536) (small : setting < 4294967296)
     (valid : validBytes dialect ≡ true) where
   nine : length dialect ≡ 9
@@ -109,7 +111,7 @@ found-book : (number : ℕ) (line : Bool) (f b p : ℕ) → foundOr number line 
 found-book number line zero b p e = never (cc)
 found-book number line (suc q) b p e = cc
 
--- the book that an answer carries
+-- the book number in an answer
 pub added-book : (line : Bool) (book : List ℕ) (zone setting : ℕ) (dialect : List ℕ) (b p : ℕ)
     → addIn line book zone setting dialect ≡ Placed b p → b ≡ bookNumber line
 unfolding addIn placeToAdd
@@ -218,11 +220,11 @@ module _ (line : Bool) (book : List ℕ) (zone setting : ℕ) (dialect : List �
           most = λ q f. omega (arith, f .upto);
         }
 
-    -- THEOREM 4: the nine bytes at its place are those added
+    -- THEOREM 4: the nine bytes at its place are the added ones
     pub add-bytes : take 9 (drop (placeAt p + 6) new) ≡ dialect
     add-bytes = part-is-dialect new p ∙ ap dialectOf there ∙ entry-dialect zone setting dialect few small valid
 
-    -- other fitting entries were there before, and stay
+    -- the other fitting entries are those from before
     pub old-fitting : {z asked : ℕ} (q : ℕ) → (q ≡ p → ⊥) → Fitting z asked new q → Fitting z asked book q
     old-fitting q other f =
         let old : entryAt new q ≡ entryAt book q = put-other book p e (a .inside) long q other in
@@ -244,7 +246,7 @@ module _ (line : Bool) (book : List ℕ) (zone setting : ℕ) (dialect : List �
           upto = rw old (f .upto);
         }
 
-    -- THEOREM 4: where the new place is not the best, the best place is as before
+    -- THEOREM 4: if the new place is not the best, the best place is unchanged
     pub add-elsewhere : Passing line new → (z asked : ℕ) → (bestIn z asked new (placesOf new) ≡ suc p → ⊥)
         → bestIn z asked new (placesOf new) ≡ bestIn z asked book (placesOf book)
     add-elsewhere after z asked other = go (bestIn z asked new (placesOf new)) refl
@@ -265,7 +267,7 @@ module _ (line : Bool) (book : List ℕ) (zone setting : ℕ) (dialect : List �
             } in
             f ∙ sym (highest-best (a .passing) q before)
 
--- THEOREM 4, as lookups. The zone book after an addition: at that zone and setting, the bytes added
+-- THEOREM 4, as lookups. The zone book after an addition: a lookup of that zone and setting gives the added bytes
 pub add-zone-found : (zb lb : List ℕ) (zone setting : ℕ) (dialect : List ℕ) (b p : ℕ)
     → addIn false zb zone setting dialect ≡ Placed b p → belongs false zone ≡ true → setting < 4294967296 → Bytes zb
     → Bytes dialect → Passing true lb
@@ -279,7 +281,7 @@ add-zone-found zb lb zone setting dialect b p e own small bytes bytes-d l =
       add-bytes false zb zone setting dialect b p a own small,
     )
 
--- the line book after an addition: zone 0 is told by the line book alone
+-- the line book after an addition: zone 0 is looked up in the line book alone
 pub add-line-found : (zb lb : List ℕ) (setting : ℕ) (dialect : List ℕ) (b p : ℕ)
     → addIn true lb 0 setting dialect ≡ Placed b p → setting < 4294967296 → Bytes lb → Bytes dialect → Passing false zb
     → (lookupOf zb (putEntry lb p (entryOf 0 setting dialect)) 0 setting ≡ Line (placeAt p + 6))
@@ -292,7 +294,7 @@ add-line-found zb lb setting dialect b p e small bytes bytes-d z =
       add-bytes true lb 0 setting dialect b p a refl small,
     )
 
--- a lookup whose best place in the zone book is not the new one is as before
+-- a lookup whose best place in the zone book is not the new one is unchanged
 pub add-zone-elsewhere : (zb lb : List ℕ) (zone setting : ℕ) (dialect : List ℕ) (b p : ℕ)
     → addIn false zb zone setting dialect ≡ Placed b p → belongs false zone ≡ true → setting < 4294967296 → Bytes zb
     → Bytes dialect → Passing true lb → (z asked : ℕ)
@@ -326,7 +328,7 @@ pub record Removed (line : Bool) (book : List ℕ) (zone setting p : ℕ) : Type
   pub inside : p < placesOf book
   pub was : isFor zone setting (entryAt book p) ≡ true
 
--- where a test holds there is a first place
+-- if a test holds at some place, there is a first place
 pub first-none : (test : ℕ → Bool) (n p : ℕ) → p < n → test p ≡ true → firstIn test n ≡ 0 → ⊥
 unfolding firstIn
 first-none test zero p h e f = omega arith

@@ -1,9 +1,9 @@
--- What the theorems on books suppose can be met, and not only trivially. Two empty books of one block pass. An addition
--- to the zone book is accepted at place 0, and the lookup then tells that place; a lookup below its setting is 97, one
--- of another zone is as before, the same entry again is 96, and its removal gives the empty book back. Two zone books
--- with the entry of zone 7 at different places tell the same nine bytes, and so do two that have it at one place. The
--- books are computed; that each byte is below 256, and that one place alone has an entry of zone 7, is a test of all
--- bytes and of all places, and that is computed too. Assumes nothing.
+-- The hypotheses of the theorems on books can be met, and not only trivially. Two empty books of one block pass. An
+-- addition to the zone book is accepted at place 0, and the lookup then gives that place. A lookup below its setting
+-- is 97, one of another zone is unchanged, the same entry again is 96, and its removal gives the empty book back. Two
+-- zone books with the entry of zone 7 at different places give the same nine bytes, and so do two that have it at the
+-- same place. The books are computed, and so are the tests that each byte is below 256 and that only one place has an
+-- entry of zone 7. Assumes nothing.
 use mathlib.Core.Path.{_≡_, refl, sym, _∙_}
 use mathlib.Core.Bool.{Bool, true, false, _&&_, _||_, not}
 use mathlib.Core.List.{List, [], _∷_}
@@ -40,7 +40,7 @@ blank = blankBlocks 1
 abbrev pub dialect : List ℕ
 dialect = 1 ∷ replicate 8 0
 
--- the book with an entry of zone 7 for the setting 3, and the one with the line's entry for it
+-- the book with an entry of zone 7 for setting 3, and the line book with an entry for that setting
 abbrev pub seven : List ℕ
 seven = putEntry blank 0 (entryOf 7 3 dialect)
 
@@ -68,7 +68,7 @@ unfolding field bytesOf over within validBytes weighed sumOf beforeSum blockOf z
 blank-both =
     record { zone = record { sound = refl; once = refl }; line = record { sound = refl; once = refl } }
 
--- it is what 512 bytes become, whatever they were
+-- it is what `blank` makes of any 512 bytes
 pub blanked : Passing false (blankAfter (replicate 512 255))
 unfolding blankOf
 blanked = blanked-passes false (replicate 512 255) refl
@@ -80,20 +80,20 @@ unfolding field bytesOf over within validBytes weighed sumOf beforeSum blockOf z
     blankBlocks firstIn emptyAt placeToAdd addIn addOf
 accepts = refl
 
--- the books are then these
+-- the books after it
 pub is-added : (zoneAdded blank blank 7 3 dialect ≡ seven) × (lineAdded blank blank 7 3 dialect ≡ blank)
 unfolding field bytesOf over within validBytes weighed sumOf beforeSum blockOf zeros examine judge blocksFor judgeBlocks
     judgeRun every some entryAt soundEntry soundPlace soundPlaces soundBook isFor seenIn seenBefore again twiceIn
     blankBlocks entryOf renewed putEntry firstIn emptyAt placeToAdd addIn addOf zoneAfter lineAfter zoneAdded lineAdded
 is-added = (refl, refl)
 
--- DEMAND 4 speaks of it: its nine bytes are told, from byte 10 of the zone book on
+-- DEMAND 4 applies: the lookup gives its nine bytes, which begin at byte 10 of the zone book
 pub found : (lookupOf (zoneAdded blank blank 7 3 dialect) (lineAdded blank blank 7 3 dialect) 7 3 ≡ Zone 10)
     × (partOf (lookupOf (zoneAdded blank blank 7 3 dialect) (lineAdded blank blank 7 3 dialect) 7 3)
     (zoneAdded blank blank 7 3 dialect) (lineAdded blank blank 7 3 dialect) ≡ dialect)
 found = added-found blank blank 7 3 dialect 0 0 accepts (omega arith) blank-bytes blank-bytes blank-both
 
--- a lookup of zone 8 does not reach the place, and is as before
+-- a lookup of zone 8 does not reach the place, and is unchanged
 pub elsewhere : lookupOf (zoneAdded blank blank 7 3 dialect) (lineAdded blank blank 7 3 dialect) 8 5
     ≡ lookupOf blank blank 8 5
 unfolding field bytesOf over within validBytes weighed sumOf beforeSum blockOf zeros examine judge blocksFor judgeBlocks
@@ -108,7 +108,7 @@ pub restored : Restored blank blank 7 3 (Placed 0 0) (zoneAdded blank blank 7 3 
     (lineAdded blank blank 7 3 dialect)
 restored = added-removed blank blank 7 3 dialect 0 0 accepts (omega arith) blank-bytes blank-bytes
 
--- a removal that is accepted; what it removed is accepted again
+-- a removal that is accepted; adding the removed entry is accepted too
 pub seven-bytes : Bytes seven
 unfolding field bytesOf over weighed sumOf beforeSum blockOf blankBlocks entryOf renewed putEntry
 seven-bytes = small-bytes seven refl
@@ -123,7 +123,7 @@ pub added-back : AddedBack seven blank 7 3 (dialectOf (entryAt seven 0)) (zoneRe
     (lineRemoved seven blank 7 3)
 added-back = removed-added seven blank 7 3 0 0 removes (omega arith) seven-bytes blank-bytes
 
--- DEMAND 5 speaks of refusals: the same entry again is 96, one that is not there 97, and no book changes
+-- DEMAND 5 on refusals: the same entry again is 96, removing a missing one is 97, and no book changes
 pub twice : addOf seven blank 7 3 dialect ≡ Refused 96 0
 unfolding field bytesOf over within validBytes weighed sumOf beforeSum blockOf zeros examine judge blocksFor judgeBlocks
     judgeRun every some entryAt soundEntry soundPlace soundPlaces soundBook isFor seenIn seenBefore again twiceIn
@@ -144,7 +144,7 @@ pub missing-stays : (zoneRemoved blank blank 7 3 ≡ blank) × (lineRemoved blan
 missing-stays = removed-refused blank blank 7 3 (λ b p e.
     let no : Bare 97 ≡ Placed b p = sym missing ∙ e in never (cc))
 
--- LOOKUPS: one above the setting tells the same place, one below it is 97; with the entry in the line book, that one
+-- LOOKUPS: one above the setting gives the same place, one below it is 97; with the entry in the line book, that entry
 pub seven-passing : Passing false seven
 unfolding field bytesOf over within validBytes weighed sumOf beforeSum blockOf zeros examine judge blocksFor judgeBlocks
     judgeRun every some entryAt soundEntry soundPlace soundPlaces soundBook isFor seenIn seenBefore again twiceIn
@@ -248,7 +248,7 @@ pub bytes-same : partOf (lookupOf sevenFirst blank 7 3) sevenFirst blank
     ≡ partOf (lookupOf sevenLast blank 7 3) sevenLast blank
 bytes-same = same-part first-passing last-passing (blank-both .line) 7 3 first-in-last last-in-first
 
--- and at the same place: with the entry of zone 9 and without it
+-- at the same place: with the entry of zone 9 and without it
 pub kept-there : Keeps 7 seven sevenFirst
 unfolding field bytesOf over within validBytes weighed sumOf beforeSum blockOf zeros examine judge blocksFor judgeBlocks
     judgeRun every some entryAt soundEntry soundPlace soundPlaces soundBook isFor seenIn seenBefore again twiceIn

@@ -1,6 +1,6 @@
--- THEOREM 5: an empty book of 1 to 100 blocks passes 95 and 96 as either book (`blank-passes`). Why: each of its
--- blocks is the block of its number and 504 zero bytes, which passes (blocks' `block-passes`), and each place is a
--- piece of those zeros. The induction is on the blocks (`blank-drop`). Assumes nothing.
+-- THEOREM 5: an empty book of 1 to 100 blocks passes 95 and 96, as zone book and as line book (`blank-passes`). Each
+-- of its blocks is the block of its number and 504 zero bytes, which passes (blocks' `block-passes`), and each place
+-- is a piece of those zeros. The induction is on the blocks (`blank-drop`). Assumes nothing.
 use mathlib.Core.Path.{_≡_, refl, sym, ap, _∙_}
 use mathlib.Core.Bool.{Bool, true}
 use mathlib.Core.Logic.{⊎-elim}
@@ -41,7 +41,7 @@ zeros-take (suc n) (x ∷ l) e =
     and-both (eqb x 0) (zeros (take n l)) (and-left (eqb x 0) (zeros l) e)
     (zeros-take n l (and-right (eqb x 0) (zeros l) e))
 
--- a block stands where it begins
+-- the bytes from the beginning of a block on
 pub record Begins (book : List ℕ) (j : ℕ) : Type 0 where
   pub rest : List ℕ
   pub is : drop (512 * j) book ≡ blockOf j none ++ rest

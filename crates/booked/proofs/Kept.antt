@@ -1,7 +1,7 @@
--- A book that passes 95 and 96 passes them after a place is written with an entry that is sound and stands nowhere
--- else (`put-passes`; theorem 5). Why: a run passes exactly where each of its blocks does (`run-each`, `each-run`, by
--- induction on the blocks); the blocks but one are as before, and the one keeps its head and has the renewed sum; the
--- places but one are as before. Assumes nothing.
+-- A book that passes 95 and 96 passes them after a place is written with an entry that is sound and occurs nowhere
+-- else (`put-passes`; theorem 5). A run passes exactly if each of its blocks does (`run-each`, `each-run`, by
+-- induction on the blocks). All blocks but one are unchanged, and that one keeps its head and has the new sum. All
+-- places but one are unchanged too, so each is still sound, and no zone and setting occurs twice. Assumes nothing.
 use mathlib.Core.Path.{_≡_, refl, sym, ap, _∙_}
 use mathlib.Core.Bool.{Bool, true, false, _&&_, not}
 use mathlib.Core.Logic.{_⊎_, inl, inr, ⊎-elim}
@@ -33,7 +33,7 @@ use Rattle.booked.specs.Said.{Passing}
 use Rattle.booked.proofs.Parts.{part-before, part-behind, part-same, put-length, put-same, put-other}
 use Rattle.booked.proofs.Best.{apart, places-sound}
 
--- a run of full blocks passes exactly where each block does
+-- a run of full blocks passes exactly if each block does
 blocks-each : (n number : ℕ) (bs : List ℕ) → judgeBlocks n number (504 * n) bs ≡ accepted [] → (j : ℕ) → j < n
     → Block (number + j) 504 (drop (512 * j) bs)
 unfolding judgeBlocks
@@ -87,7 +87,7 @@ module _ (book : List ℕ) where
   unfolding judgeRun
   each-run f = rw (count, each-blocks (length book / 512) 0 book (λ j h. rw (zero-add j) (f j h))) refl
 
--- a block depends on its 512 bytes
+-- the judgement of a block depends on its 512 bytes alone
 block-same : (j : ℕ) (bs cs : List ℕ) → take 512 cs ≡ take 512 bs → 512 ≤ length cs → Block j 504 bs → Block j 504 cs
 block-same j bs cs e long b = record {
   long = long;
@@ -97,7 +97,7 @@ block-same j bs cs e long b = record {
   padding = rw e (b .padding);
 }
 
--- the sum depends on the first 508
+-- the sum depends on the first 508 bytes alone
 sum-front : (l : List ℕ) → 508 ≤ length l → sumOf l ≡ sumOf (take 508 l)
 unfolding sumOf
 sum-front l h = ap sumOf (sym (take-append-drop 508 l))
@@ -137,7 +137,7 @@ module _ (book : List ℕ) (p : ℕ) (e : List ℕ) (h : p < placesOf book) (lon
   mid-small = bytes-append (take (placeAt p) book) _ (bytes-take book (placeAt p) small)
       (bytes-append e _ small-e (bytes-drop book (placeAt p + length e) small))
 
-  -- another block is as before
+  -- every other block is unchanged
   other-block : (j : ℕ) → j < length book / 512 → (j ≡ k → ⊥)
       → take 512 (drop (512 * j) new) ≡ take 512 (drop (512 * j) book)
   other-block j inside other = ⊎-elim
@@ -150,7 +150,7 @@ module _ (book : List ℕ) (p : ℕ) (e : List ℕ) (h : p < placesOf book) (lon
       ∙ part-before (placeAt p) e book room (512 * j) 512 (omega arith))
       (le-or-lt k j)
 
-  -- the changed one: its head is kept, and the sum is right
+  -- the changed block keeps its head, and its sum is correct
   abbrev own : List ℕ
   own = take 512 (drop (512 * k) new)
 
@@ -239,7 +239,7 @@ same-or-other a b = ⊎-elim
     (λ (k : a < b). inr (λ (e : a ≡ b). omega arith)) (le-or-lt b a))
     (λ (h : b < a). inr (λ (e : a ≡ b). omega arith)) (le-or-lt a b)
 
--- no zone and setting twice: no two places with the same
+-- no zone and setting occurs twice: two places with the same are one place
 pub apart-once : (book : List ℕ) (n : ℕ)
     → ((p q : ℕ) → q < p → p < n → zeros (entryAt book p) ≡ false → zeros (entryAt book q) ≡ false
     → zoneOf (entryAt book q) ≡ zoneOf (entryAt book p) → settingOf (entryAt book q) ≡ settingOf (entryAt book p) → ⊥)

@@ -1,8 +1,8 @@
--- THEOREMS of the lookup. 1: it tells a book and a position exactly where a highest fitting entry stands, of the zone
--- book or, where none of its entries fits, of the line book; 97 exactly where none fits in either. 2: the part is the
--- nine bytes at that position, valid dialect bytes, and empty where the lookup is refused. 3: two zone books with the
--- same set of this zone's entries tell the same. All are over `Best`, which says what the best place is. Assumes
--- nothing.
+-- THEOREMS of the lookup. 1: it gives a book and a position exactly if a highest fitting entry is there: in the zone
+-- book or, if none of its entries fits, in the line book; it is 97 exactly if no entry of either fits. 2: the
+-- returned part is the nine bytes at that position, which are valid dialect bytes, and is empty if the lookup is
+-- refused. 3: two zone books with the same set of this zone's entries give the same bytes. All follow from Best,
+-- which characterizes the best place. Assumes nothing.
 use mathlib.Core.Path.{_≡_, refl, sym, ap, _∙_}
 use mathlib.Core.Bool.{Bool, true, false, not}
 use mathlib.Core.List.{List, []}
@@ -25,7 +25,7 @@ use Rattle.booked.specs.Said.{Passing, Fitting, Highest, NoneFits, Tells
 use Rattle.booked.proofs.Best.{best-highest, best-none, highest-best, none-best}
 use Rattle.booked.proofs.Best.{positive, entry-sound}
 
--- LAW: an answer that tells bytes, or 97, has two books that pass
+-- LAW: if the answer is a position or 97, both books pass
 module _ (zb lb : List ℕ) (zone asked : ℕ) where
   in-order : (a : Looked) → ((n b : ℕ) → a ≡ Refused n b → ⊥) → lookupOf zb lb zone asked ≡ a
       → Passing false zb × Passing true lb
@@ -75,7 +75,7 @@ module _ {zb lb : List ℕ} (z : Passing false zb) (l : Passing true lb) (zone a
   pub tells-zone : (at : ℕ) → Tells zone asked zb at → lookupOf zb lb zone asked ≡ Zone at
   tells-zone at t = both-pass ∙ rw (highest-best z (t .place) (t .highest), t .there) refl
 
-  -- the line book: exactly where no entry of the zone book fits
+  -- the line book: exactly if no entry of the zone book fits
   pub line-tells : (at : ℕ) → lookupOf zb lb zone asked ≡ Line at → NoneFits zone asked zb × Tells 0 asked lb at
   line-tells at e = go (bestIn zone asked zb (placesOf zb)) (bestIn 0 asked lb (placesOf lb)) refl refl
       (sym both-pass ∙ e)
@@ -91,7 +91,7 @@ module _ {zb lb : List ℕ} (z : Passing false zb) (l : Passing true lb) (zone a
   pub tells-line : (at : ℕ) → NoneFits zone asked zb → Tells 0 asked lb at → lookupOf zb lb zone asked ≡ Line at
   tells-line at n t = both-pass ∙ rw (none-best z n, highest-best l (t .place) (t .highest), t .there) refl
 
-  -- 97: exactly where none fits in either
+  -- 97: exactly if no entry of either book fits
   pub nothing-fits : lookupOf zb lb zone asked ≡ Nothing → NoneFits zone asked zb × NoneFits 0 asked lb
   nothing-fits e = go (bestIn zone asked zb (placesOf zb)) (bestIn 0 asked lb (placesOf lb)) refl refl
       (sym both-pass ∙ e)
@@ -105,7 +105,7 @@ module _ {zb lb : List ℕ} (z : Passing false zb) (l : Passing true lb) (zone a
   pub fits-nothing : NoneFits zone asked zb → NoneFits 0 asked lb → lookupOf zb lb zone asked ≡ Nothing
   fits-nothing n m = both-pass ∙ rw (none-best z n, none-best l m) refl
 
--- what never fits: zone 0 in the zone book, and setting 0
+-- zone 0 never fits in the zone book, and setting 0 fits nowhere
 pub zone-zero : {zb : List ℕ} → Passing false zb → (asked : ℕ) → NoneFits 0 asked zb
 unfolding soundEntry
 zone-zero {zb} z asked q f =
@@ -133,7 +133,7 @@ module _ (zb lb : List ℕ) {a : Looked} where
   pub part-of-nothing : a ≡ Nothing → partOf a zb lb ≡ []
   part-of-nothing e = rw e refl
 
--- the nine bytes at a place are its entry's
+-- the nine bytes at a place are those of its entry
 pub part-is-dialect : (book : List ℕ) (p : ℕ) → take 9 (drop (placeAt p + 6) book) ≡ dialectOf (entryAt book p)
 unfolding entryAt
 part-is-dialect book p =
@@ -141,7 +141,7 @@ part-is-dialect book p =
     let cut : drop 6 (take 24 tail) ≡ take 18 (drop 6 tail) = drop-take 6 24 tail in
     sym (ap (take 9) cut ∙ take-take 9 18 (drop 6 tail) (omega arith) ∙ ap (take 9) (drop-drop 6 (placeAt p) book))
 
--- what is told are valid dialect bytes, and so never empty
+-- the bytes of a lookup are valid dialect bytes, so they are never empty
 pub told-valid : {line : Bool} {book : List ℕ} → Passing line book → (zone asked at : ℕ) → Tells zone asked book at
     → validBytes (take 9 (drop at book)) ≡ true
 unfolding soundEntry
@@ -177,7 +177,7 @@ highest-moves {zone} {asked} {a} {b} w p high h = record {
       rw (h .is) (rw (g .is) at le);
 }
 
--- THEOREM 3: two zone books that pass and hold the same set of this zone's entries tell the same bytes, or the same 97
+-- THEOREM 3: two zone books that pass and have the same set of this zone's entries give the same bytes, or both 97
 module _ {a b lb : List ℕ} (pa : Passing false a) (pb : Passing false b) (l : Passing true lb) (zone asked : ℕ)
     (to : Within zone a b) (back : Within zone b a) where
   pub same-part : partOf (lookupOf a lb zone asked) a lb ≡ partOf (lookupOf b lb zone asked) b lb

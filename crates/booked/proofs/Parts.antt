@@ -1,7 +1,7 @@
--- What stands in a book after a place is written and its block's sum renewed: that entry there (`put-same`), every
--- other place as before (`put-other`), and the same length (`put-length`). Why: a place and a sum never overlap, nor
--- do two places (`places-apart`), so that each part of the new book is read before, in or behind what was laid over
--- it. Assumes nothing.
+-- The bytes of a book after a place is written and the sum of its block is renewed: the entry is at its place
+-- (`put-same`), every other place is unchanged (`put-other`), and so is the length (`put-length`). A place and a sum
+-- never overlap, and neither do two places (`places-apart`), so each part of the new book lies before, inside or
+-- after the bytes that were written. Assumes nothing.
 use mathlib.Core.Path.{_≡_, sym, ap, _∙_}
 use mathlib.Core.Logic.{_⊎_, ⊎-elim}
 use mathlib.Core.List.{List, _++_}
@@ -18,7 +18,7 @@ use Rattle.fields.specs.Over.{over}
 use Rattle.books.specs.Change.{blockAt, renewed, putEntry}
 use Rattle.fields.proofs.Over.{length-over, over-from}
 
--- parts of a buffer with bytes laid over it: before them, behind them, and they themselves
+-- parts of a buffer after bytes were written into it: before them, after them, and the bytes themselves
 module _ (at : ℕ) (b d : List ℕ) (h : at + length b ≤ length d) where
   pub part-before : (j m : ℕ) → j + m ≤ at → take m (drop j (over at b d)) ≡ take m (drop j d)
   unfolding over
@@ -74,7 +74,7 @@ module _ (book : List ℕ) (p : ℕ) (e : List ℕ) (h : p < placesOf book) (lon
   unfolding putEntry renewed
   put-length = length-over (512 * (p / 21) + 508) check mid sum-room ∙ mid-long
 
-  -- the renewed sum stands in no place
+  -- the new sum lies in no place
   past-sum : (q : ℕ) → entryAt (putEntry book p e) q ≡ entryAt mid q
   unfolding putEntry renewed entryAt
   past-sum q = ⊎-elim
@@ -83,12 +83,12 @@ module _ (book : List ℕ) (p : ℕ) (e : List ℕ) (h : p < placesOf book) (lon
       (part-behind (512 * (p / 21) + 508) check mid sum-room (placeAt q) (omega (arith, check-four))))
       (le-or-lt (q / 21) (p / 21))
 
-  -- LAW: the entry stands at its place
+  -- LAW: the entry is at its place
   pub put-same : entryAt (putEntry book p e) p ≡ e
   unfolding entryAt
   put-same = past-sum p ∙ part-same (placeAt p) e book mid-room 24 (sym long)
 
-  -- LAW: every other place is as before
+  -- LAW: every other place is unchanged
   pub put-other : (q : ℕ) → (q ≡ p → ⊥) → entryAt (putEntry book p e) q ≡ entryAt book q
   unfolding entryAt
   put-other q other = past-sum q ∙ ⊎-elim
@@ -98,7 +98,7 @@ module _ (book : List ℕ) (p : ℕ) (e : List ℕ) (h : p < placesOf book) (lon
       (λ (k : q < p). part-before (placeAt p) e book mid-room (placeAt q) 24 (places-apart q p k))
       (le-or-lt p q)
 
-  -- LAW: every stretch that meets neither the place nor the sum of its block is as before
+  -- LAW: every stretch that overlaps neither the place nor the sum of its block is unchanged
   pub put-outside : (j n : ℕ) → (j + n ≤ placeAt p) ⊎ (placeAt p + 24 ≤ j)
       → (j + n ≤ 512 * (p / 21) + 508) ⊎ (512 * (p / 21) + 512 ≤ j)
       → take n (drop j (putEntry book p e)) ≡ take n (drop j book)

@@ -1,7 +1,8 @@
--- Two books that pass, of the same length, with the same entry at every place, are the same bytes (`same-book`). Why:
--- a block that passes is the block of its number and content and nothing else (blocks' `passed-is-block`), and the
--- content is its 21 places. So removing what was just added restores the book byte for byte (`add-remove`). Assumes
--- nothing.
+-- Two books that pass, have the same length, and have the same entry at every place, are equal byte for byte
+-- (`same-book`). A block that passes is the block of its number and content (blocks' `passed-is-block`), and the
+-- content is its 21 places. Lists that agree piece by piece are equal, by induction on the number of pieces: of 24
+-- bytes in a content (`pieces24`), of 512 in a book (`pieces512`). So removing the entry that was just added restores
+-- the book (Back's `add-remove`). Assumes nothing.
 use mathlib.Core.Path.{_≡_, refl, sym, ap, _∙_}
 use mathlib.Core.Bool.{Bool, true}
 use mathlib.Core.List.{List}
@@ -19,7 +20,7 @@ use Rattle.books.specs.Book.{placesOf, placeAt, entryAt, soundLength, soundBloc
 use Rattle.booked.specs.Said.{Passing}
 use Rattle.booked.proofs.Kept.{run-each}
 
--- lists that agree piece by piece
+-- lists that agree piece by piece are equal
 pieces24 : (m : ℕ) (l k : List ℕ) → ((i : ℕ) → i < m → take 24 (drop (24 * i) l) ≡ take 24 (drop (24 * i) k))
     → take (24 * m) l ≡ take (24 * m) k
 pieces24 zero l k f = refl

@@ -1,2 +1,2 @@
-// No code: W-213 in the user's words, as theorems over the crate books. specs/Said.antt has the words that its
-// sentences need, proofs/Lookups.antt the lookup's sentences and proofs/Booked.antt those of additions and removals.
+// No code: theorems about the crate books that follow W-213 sentence by sentence. specs/Said.antt defines the words,
+// proofs/Lookups.antt has the sentences on lookups, and proofs/Booked.antt those on additions and removals.

@@ -1,5 +1,8 @@
--- Laws of an empty book: a block of 504 zero bytes is its head over zeros, and the sum; the blocks are laid over the
--- buffer one after another, so that the first k stand there and behind them what stood there. Assumes nothing.
+-- Laws of an empty book. An empty block is made in two steps: the number and 504 used bytes are written over zeros,
+-- then the sum. The result is the block of 504 zero bytes (`blank-block-is`), because the sum of the first 508 bytes
+-- does not depend on the four bytes after them. The loop writes one block a turn; its invariant `Blanking` says that
+-- the buffer begins with the first k empty blocks and is unchanged after them, so after n turns it is the empty book
+-- (`blank-end`). `blank-refused` to `blank-made` are the returns of `blank`. Assumes nothing.
 use mathlib.Core.Path.{_≡_, refl, sym, ap, _∙_}
 use mathlib.Core.Bool.{Bool, true, false}
 use mathlib.Core.List.{List, [], _++_, append-assoc, append-nil}
@@ -70,7 +73,7 @@ blank-long zero = refl
 blank-long (suc k) = simp length-append
     (omega (arith, blank-long k, length-block k (replicate 504 0) (omega (arith, zeros-long))))
 
--- the loop: the first k blocks stand there
+-- the invariant of the loop: the first k blocks are written
 pub record Blanking (d : List ℕ) (n : ℕ) (book : List ℕ) (k : ℕ) : Type 0 where
   pub all : length d ≡ 512 * n
   pub upto : k ≤ n
@@ -108,7 +111,7 @@ module _ {d : List ℕ} {n : ℕ} {book : List ℕ} {k : ℕ} (s : Blanking d n 
       drop-of-length-le d {i = length (blankBlocks n)} (omega (arith, blank-long n, s .all)) in
       (rw e at (s .is)) ∙ over-front (blankBlocks n) d ∙ rw (none, append-nil) refl
 
--- the answers
+-- the returns of `blank`
 module _ (book : List ℕ) {t : Bool} (t-is : t ≡ soundLength (length book)) where
   pub blank-refused : t ≡ false → 95 ≡ blankOf (length book)
   unfolding blankOf

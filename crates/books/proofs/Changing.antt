@@ -1,5 +1,9 @@
--- Laws of additions and removals in the terms of code: the search for the first place, an entry's bytes, the place
--- written and its block's sum renewed, the answers in order. Assumes nothing.
+-- Laws of additions and removals, one for each `return`. The searches keep that no earlier place passes the test
+-- (`Searching`), or which place is the first so far (`Finding`); `first-keeps`, by induction on the number of places,
+-- says that later places do not change the first one. `entry-built` puts the 24 bytes of an entry together,
+-- `put-entry-is` writes them and renews the block's sum. The tests 95, 96, 97 and 98 come in the order of the
+-- definition (`add-unsound` to `add-placed`, `remove-unsound` to `remove-placed`). At last the entry's book changes
+-- and the other book stays, by whether the zone is 0 (`zone-stays` to `zone-loses`). Assumes nothing.
 use mathlib.Core.Path.{_≡_, refl, sym, ap, _∙_}
 use mathlib.Core.Bool.{Bool, true, false, _&&_}
 use mathlib.Core.Logic.{⊎-elim}
@@ -30,7 +34,7 @@ use Rattle.books.specs.Change.{zoneAfter, lineAfter, zoneAdded, lineAdde
 use Rattle.books.specs.Change.{noEntryBytes}
 use Rattle.fields.proofs.Over.{over-front, over-next}
 
--- the first place: none before it, and it
+-- a place that passes the test after places that do not is the first one
 first-keeps : (test : ℕ → Bool) (n p : ℕ) → p < n → firstIn test p ≡ 0 → test p ≡ true → firstIn test n ≡ suc p
 unfolding firstIn
 first-keeps test zero p h none e = absurd (omega arith)
@@ -52,7 +56,7 @@ first-inside test (suc n) = go (firstIn test n) (test n) (first-inside test n)
     go zero false h = omega arith
     go (suc a) t h = omega arith
 
--- the loop: the test holds at none of the places before
+-- the invariant of a search that ends at the first place: no earlier place passes the test
 pub record Searching (test : ℕ → Bool) (n p : ℕ) : Type 0 where
   pub upto : p ≤ n
   pub none : firstIn test p ≡ 0
@@ -77,7 +81,7 @@ module _ {test : ℕ → Bool} {n p : ℕ} (s : Searching test n p) where
       let e : p ≡ n = omega (arith, s .upto) in
       record { is = sym (rw e at (s .none)); inside = omega arith }
 
--- the loop that remembers: the first of the places before
+-- the invariant of a search over all places: the first of the earlier places that passes the test
 pub record Finding (test : ℕ → Bool) (n first p : ℕ) : Type 0 where
   pub upto : p ≤ n
   pub inside : first ≤ p
@@ -87,7 +91,7 @@ pub find-start : (test : ℕ → Bool) (n : ℕ) → Finding test n 0 0
 unfolding firstIn
 find-start test n = record { upto = omega arith; inside = omega arith; is = refl }
 
--- one place more
+-- one more place does not change the first one
 first-on : (a p : ℕ) (t : Bool) → (t && eqb a 0) ≡ false → orElse a (if' t (λ _. suc p) (λ _. 0)) ≡ a
 first-on zero p true e = clash refl e
 first-on zero p false e = refl
@@ -123,7 +127,7 @@ pub find-end : {test : ℕ → Bool} {n first p : ℕ} → Finding test n first 
 find-end {test} {n} {first} {p} s h =
     let e : p ≡ n = omega (arith, s .upto) in record { is = rw e at (s .is); inside = rw e at (s .inside) }
 
--- an entry's bytes
+-- the 24 bytes of an entry
 pub entry-built : (zone setting : ℕ) (dialect : List ℕ) {z s o₁ o₂ o₃ : List ℕ} → length dialect ≡ 9
     → z ≡ bytesOf 2 zone → o₁ ≡ laidAt 0 z (replicate 24 0) → s ≡ bytesOf 4 setting → o₂ ≡ laidAt 2 s o₁
     → o₃ ≡ laidAt 6 dialect o₂ → o₃ ≡ entryOf zone setting dialect
@@ -160,7 +164,7 @@ pub may-nine : (zone setting : ℕ) (dialect : List ℕ) {m : Bool} → m ≡ ma
 may-nine zone setting dialect m-is e = valid-length dialect
     (and-right (leb zone 65535) _ (and-right (leb 1 setting) _ (sym m-is ∙ e)))
 
--- the place written, and the sum renewed
+-- the bytes are written at their place, and the sum of the block is renewed
 pub put-entry-is : (book : List ℕ) (p : ℕ) (e : List ℕ) {at : ℕ} {o₁ check o₂ : List ℕ} {s : ℕ}
     → (p < placesOf book) × (length e ≡ 24) → at ≡ placeAt p → o₁ ≡ laidAt at e book
     → s ≡ sumOf (take (512 * (p / 21) + 512 - 512 * (p / 21)) (drop (512 * (p / 21)) o₁)) → check ≡ bytesOf 4 s
@@ -181,7 +185,7 @@ unfolding entryOf
 entry-long zone setting dialect nine e-is =
     rw e-is (simp (length-append, length-bytes, length-replicate {A = ℕ}) (omega arith))
 
--- the answers in order
+-- the tests of an addition and of a removal, in their order
 module _ (line : Bool) (book : List ℕ) (zone setting : ℕ) {s : Bool} (s-is : s ≡ soundBook line book) where
   module _ {b : ℕ} (b-is : b ≡ bookNumber line) (f : s ≡ false) where
     pub add-unsound : Refused 95 b ≡ placeToAdd line book zone setting
@@ -232,7 +236,7 @@ module _ (line : Bool) (book : List ℕ) (zone setting : ℕ) {s : Bool} (s-is :
               let some : firstIn (emptyAt book) (placesOf book) ≡ suc (g - 1) = omega (arith, g-is .is, e) in
               rw (← s-is, sound, ← t-is, once, ← v-is, new, some, b-is) refl
 
--- a place that is told is in the book
+-- the place that is returned is in the book
 found-inside : (number : ℕ) (line : Bool) (n f : ℕ) → f ≤ n → (b p : ℕ) → foundOr number line f ≡ Placed b p → p < n
 found-inside number line n zero h b p e = never (cc)
 found-inside number line n (suc q) h b p e = let same : q ≡ p = cc in omega arith
@@ -270,7 +274,7 @@ module _ (line : Bool) (book : List ℕ) (zone setting : ℕ) {b p : ℕ} where
     pub remove-inside : j ≡ removeIn line book zone setting → p < placesOf book
     remove-inside j-is = remove-in (sym j-is ∙ e)
 
--- an addition: an entry that may not be added, or its place
+-- an addition: refused for the entry itself, or the answer of `place_to_add`
 module _ (line : Bool) (book : List ℕ) (zone setting : ℕ) (dialect : List ℕ) {m : Bool}
     (m-is : m ≡ mayAdd zone setting dialect) where
   pub add-away : m ≡ false → {b : ℕ} → b ≡ bookNumber line → Refused 95 b ≡ addIn line book zone setting dialect
@@ -289,7 +293,7 @@ pub removed : (line : Bool) (book : List ℕ) (zone setting : ℕ) {j : Changed}
     → {r : Changed} → j ≡ r → r ≡ removeIn line book zone setting
 removed line book zone setting j-is r-is = sym r-is ∙ j-is
 
--- which book: the line's for zone 0, and the other one stays
+-- the book that changes: the line book for zone 0, else the zone book; the other one stays
 module _ (zb lb : List ℕ) (zone setting : ℕ) (dialect : List ℕ) where
   module _ (h : zone ≡ 0) where
     pub zone-stays : zb ≡ zoneAdded zb lb zone setting dialect

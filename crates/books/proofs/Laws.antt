@@ -1,6 +1,8 @@
--- Laws in the terms of code, one for each return: pieces of bytes, an entry's tests, the loops over the places, the
--- answers in order. The loops say what holds of the places before (`Sounding`, `Unseen`, `Best`), so that each turn
--- is one step of `every`, `some` or `bestIn`. Assumes nothing.
+-- Laws of lookups and of the judgement of a book, one for each `return`. A loop over the places keeps a fact about
+-- the places before p: they are sound (`Sounding`), none is for the zone and setting (`Unseen`), the best of them is
+-- known (`Best`). Each turn is then one step of `every`, `some` or `bestIn`, and the last turn gives the definition's
+-- value. `book-length` to `judge-passed` are the tests of one book in their order, `look-zone` to `look-nothing`
+-- those of a lookup in both books. No induction is needed beyond these loops. Assumes nothing.
 use mathlib.Core.Path.{_≡_, refl, sym, ap, _∙_}
 use mathlib.Core.Bool.{Bool, true, false, _&&_, _||_, not}
 use mathlib.Core.Logic.{⊎-elim}
@@ -27,14 +29,14 @@ use Rattle.books.specs.declared.Looked.{Looked}
 use Rattle.books.specs.declared.Looked.the-variants.{Zone, Line, Refused, Nothing}
 use Rattle.fields.specs.Field.{field}
 
--- the zone of a book
+-- the zones that belong into each book
 pub belongs-line : (zone : ℕ) {line : Bool} → line ≡ true → eqb zone 0 ≡ belongs line zone
 belongs-line zone e = rw e refl
 
 pub belongs-zone : (zone : ℕ) {line : Bool} → line ≡ false → not (eqb zone 0) ≡ belongs line zone
 belongs-zone zone e = rw e refl
 
--- all bytes zero: what is left decides
+-- the invariant of `empty`: the bytes from p on decide
 pub record Zeroing (b : List ℕ) (p : ℕ) : Type 0 where
   pub left : zeros (drop p b) ≡ zeros b
 
@@ -56,7 +58,7 @@ module _ {b : List ℕ} {p : ℕ} (s : Zeroing b p) where
   unfolding zeros
   zero-end h = rw (drop-of-length-le b {i = p} h) at (s .left)
 
--- pieces
+-- the returns of `piece`: no bytes, fewer than n, n
 module _ (b : List ℕ) (at n : ℕ) where
   pub piece-none : length b < at → take (0 - 0) b ≡ take n (drop at b)
   piece-none h = rw (drop-of-length-le b {i = at} (omega arith)) (sym (take-nil n))
@@ -105,7 +107,7 @@ pub sound-place-is : (line : Bool) (e : List ℕ) {x y : Bool} → x ≡ zeros e
 unfolding soundPlace
 sound-place-is line e x-is y-is = rw (x-is, y-is) refl
 
--- a place that fails, and one that passes
+-- a place that fails a test, and one that passes it
 and-false : (a : Bool) → (a && false) ≡ false
 and-false true = refl
 and-false false = refl
@@ -133,7 +135,7 @@ unfolding some
 some-none test zero f = refl
 some-none test (suc n) f = rw (some-none test n (λ p h. f p (omega arith)), f n (omega arith)) refl
 
--- the loop over the places: those before are sound
+-- the invariant of `sound_places`: the earlier places are sound
 pub record Sounding (line : Bool) (book : List ℕ) (p : ℕ) : Type 0 where
   pub upto : p ≤ placesOf book
   pub sofar : soundPlaces line book p ≡ true
@@ -160,7 +162,7 @@ module _ {line : Bool} {book : List ℕ} {p : ℕ} (s : Sounding line book p) wh
   pub sounding-end : placesOf book ≤ p → true ≡ soundPlaces line book (placesOf book)
   sounding-end h = let e : p ≡ placesOf book = omega (arith, s .upto) in sym (rw e at (s .sofar))
 
--- those before are not for this zone and setting
+-- the invariant of `seen_in`: no earlier place is for this zone and setting
 pub record Unseen (zone setting : ℕ) (book : List ℕ) (n q : ℕ) : Type 0 where
   pub inside : n ≤ placesOf book
   pub upto : q ≤ n
@@ -190,7 +192,7 @@ module _ {zone setting : ℕ} {book : List ℕ} {n q : ℕ} (s : Unseen zone set
   pub unseen-end : n ≤ q → false ≡ seenIn zone setting book n
   unseen-end h = let e : q ≡ n = omega (arith, s .upto) in sym (rw e at (s .sofar))
 
--- the best of those before
+-- the invariant of `best_in`: the best of the earlier places
 pub record Best (zone asked : ℕ) (book : List ℕ) (best top p : ℕ) : Type 0 where
   pub upto : p ≤ placesOf book
   pub inside : best ≤ p
@@ -230,7 +232,7 @@ module _ {zone asked : ℕ} {book : List ℕ} {best top p : ℕ} (s : Best zone 
   best-end h = let e : p ≡ placesOf book = omega (arith, s .upto) in
       record { is = rw e at (s .is); inside = rw e at (s .inside) }
 
--- one book: the length, the blocks, the places; then what stands twice
+-- the tests of one book: the length, the blocks, the places; then repeated entries
 module _ (line : Bool) (book : List ℕ) {s : Bool} (s-is : s ≡ soundLength (length book)) where
   pub book-length : s ≡ false → false ≡ soundBook line book
   unfolding soundBook
@@ -245,7 +247,7 @@ module _ (line : Bool) (book : List ℕ) {s : Bool} (s-is : s ≡ soundLength (l
     unfolding soundBook
     book-places f t-is = rw (← s-is, long, ← b-is, f) t-is
 
--- a best place is inside the book
+-- the best place is inside the book
 pub best-place : {zone asked : ℕ} {book : List ℕ} {a : ℕ} → Chosen zone asked book a → 0 < a
     → placeAt (a - 1) + 24 ≤ length book
 best-place e h = omega (arith, e .inside)
@@ -264,7 +266,7 @@ module _ (line : Bool) (book : List ℕ) {s : Bool} (s-is : s ≡ soundBook line
     unfolding judgeBook
     judge-passed f = rw (← s-is, sound, ← t-is, f) refl
 
--- both books: the answers in order
+-- the tests of a lookup in both books, in their order
 module _ (zb lb : List ℕ) (zone asked : ℕ) {s : Bool} (s-is : s ≡ soundBook false zb) where
   pub look-zone : s ≡ false → Refused 95 0 ≡ lookupOf zb lb zone asked
   unfolding lookupOf
@@ -311,7 +313,7 @@ module _ (zb lb : List ℕ) (zone asked : ℕ) {s : Bool} (s-is : s ≡ soundBoo
                   let e : bestIn 0 asked lb (placesOf lb) ≡ 0 = omega (arith, d-is .is) in
                   sym (both ∙ rw (own, e) refl)
 
--- the part of an answer
+-- the part of a book that a lookup returns
 module _ (zb lb : List ℕ) (zone asked : ℕ) {a : Looked} (a-is : a ≡ lookupOf zb lb zone asked) where
   pub part-zone : {at : ℕ} → a ≡ Zone at → {r : List ℕ} → r ≡ take 9 (drop at zb)
       → r ≡ partOf (lookupOf zb lb zone asked) zb lb

@@ -1,8 +1,8 @@
--- The search for an entry that stands twice, with marks. The loop keeps that no entry of the places before stands
--- twice, and that the marks know those entries: six bytes that are not noted are those of none of them (`Once`). Two
--- entries with the same zone and setting have the same six bytes (`keys-same`), so an entry that is not noted was not
--- there before (`unseen`), and the search is spared (`again-is`). Cite `once-stop`, `once-on`, `once-end`. Assumes
--- nothing.
+-- The search for a repeated zone and setting, with marks. The loop keeps two facts about the places before p
+-- (`Once`): no zone and setting occurs twice there, and the marks cover those entries, so six bytes that are not
+-- marked belong to none of them. Two entries with the same zone and setting have the same six bytes (`keys-same`). So
+-- an entry that is not marked did not occur before (`unseen`), and the comparison with the earlier places can be left
+-- out (`again-is`). Cite `once-stop`, `once-on` and `once-end`. Assumes nothing.
 use mathlib.Core.Path.{_≡_, refl, sym, ap, _∙_}
 use mathlib.Core.Bool.{Bool, true, false, _&&_, not}
 use mathlib.Core.Logic.{⊎-elim}
@@ -28,7 +28,7 @@ use Rattle.books.specs.Book.{twiceIn}
 use Rattle.books.specs.Marked.{keyOf, mayRepeat, notedEntry}
 use Rattle.books.proofs.Laws.{some-stop, some-none}
 
--- a place is noted, as code does it
+-- a place is marked: the returns of `note`
 module _ (marks e : List ℕ) {x : Bool} (x-is : x ≡ zeros e) where
   pub empty-new : x ≡ true → false ≡ mayRepeat marks e
   unfolding mayRepeat
@@ -47,7 +47,7 @@ module _ (marks e : List ℕ) {x : Bool} (x-is : x ≡ zeros e) where
     unfolding notedEntry
     note-set m-is = m-is ∙ rw (← x-is, f, k-is) refl
 
--- an entry that may have been there before is searched for
+-- the returns of `again`: only an entry that may have occurred before is searched for
 module _ (book : List ℕ) (p : ℕ) {may : Bool} where
   pub again-not : may ≡ false → false ≡ (may && seenBefore book p)
   again-not f = rw f refl
@@ -96,7 +96,7 @@ noted-long marks e = go (zeros e)
     go true = refl
     go false = length-set marks _ _
 
--- the loop: the entries of the places before stand once, and the marks know them
+-- the invariant of the loop: no entry of the earlier places repeats another, and the marks cover them
 pub record Once (book first marks : List ℕ) (p : ℕ) : Type 0 where
   pub upto : p ≤ placesOf book
   pub long : length marks ≡ length first
@@ -116,7 +116,7 @@ once-start book marks small = record {
 }
 
 module _ {book first marks : List ℕ} {p : ℕ} (s : Once book first marks p) where
-  -- an entry that is not noted was not there before
+  -- an entry that is not marked did not occur before
   module _ (h : p < placesOf book) (new : mayStand marks (keyOf (entryAt book p)) ≡ false) where
     not-for : (q : ℕ) → q < p → isFor (zoneOf (entryAt book p)) (settingOf (entryAt book p)) (entryAt book q) ≡ false
     not-for q g = go (isFor (zoneOf (entryAt book p)) (settingOf (entryAt book p)) (entryAt book q)) refl
@@ -153,7 +153,7 @@ module _ {book first marks : List ℕ} {p : ℕ} (s : Once book first marks p) w
     unfolding twiceIn
     once-stop f = sym (some-stop (again book) (placesOf book) p h (sym again-is ∙ f))
 
-    -- the marks know this place too
+    -- the marks then cover this place too
     knows : (x : List ℕ) → mayStand (notedEntry marks (entryAt book p)) x ≡ false → (q : ℕ) → q < p + 1
         → zeros (entryAt book q) ≡ false → keyOf (entryAt book q) ≡ x → ⊥
     unfolding notedEntry
@@ -189,7 +189,7 @@ module _ {book first marks : List ℕ} {p : ℕ} (s : Once book first marks p) w
   pub once-long : length marks ≡ length first
   once-long = s .long
 
-  -- a place more is noted before the search
+  -- the place is marked before the search
   pub noted-once : (e : List ℕ) {m : List ℕ} → m ≡ notedEntry marks e → length m ≡ length first
   noted-once e m-is = ap length m-is ∙ noted-long marks e ∙ s .long
 

@@ -1,4 +1,6 @@
--- Two answers that meet the promise of a public function coincide. Assumes nothing.
+-- Each public function has one answer: two answers that meet its promise are equal, and so are the books at exit.
+-- Every promise is an equation, so each theorem is `coincide`, once for the answer and once for each book. Assumes
+-- nothing.
 use mathlib.Core.Path.{_≡_}
 use mathlib.Core.Bool.{Bool}
 use mathlib.Core.List.{List}

@@ -1,6 +1,6 @@
--- A book: 1 to 100 blocks of 512 bytes, each with 21 places of 24 bytes. A place is empty (all zero) or holds an entry:
--- zone (2 bytes), setting (4, at least 1), nine dialect bytes, nine zeros. What makes a book unsound (95), and what
--- makes it say something twice (96). These are definitions.
+-- A book (docs/FORMAT.md, Books): 1 to 100 blocks of 512 bytes, each with 21 places of 24 bytes. A place is empty
+-- (all zero) or holds an entry: zone (2 bytes), setting (4, at least 1), nine dialect bytes, nine zeros. A book is
+-- unsound (95), or has two entries with the same zone and setting (96), or passes. These are definitions.
 use mathlib.Core.Bool.{Bool, true, false, _&&_, _||_, not}
 use mathlib.Core.List.{List, [], _∷_}
 use Prim.Native.Nat.{ℕ, zero, suc, _+_, _*_, _/_, _%_}
@@ -14,7 +14,7 @@ use Rattle.table.specs.Answer.{Answer, accepted, refused}
 use Rattle.blocks.specs.Block.{zeros}
 use Rattle.blocks.specs.Run.{judgeRun}
 
--- whether a test holds at all of the first n places, at one of them
+-- whether a test holds at all of the first n places; whether it holds at one of them
 unfoldable pub every : (ℕ → Bool) → ℕ → Bool
 every test zero = true
 every test (suc p) = every test p && test p
@@ -23,7 +23,7 @@ unfoldable pub some : (ℕ → Bool) → ℕ → Bool
 some test zero = false
 some test (suc p) = some test p || test p
 
--- how many places a book has; where a place begins; the 24 bytes there
+-- the number of places of a book; the first byte of a place; the 24 bytes of a place
 abbrev pub placesOf : List ℕ → ℕ
 placesOf book = 21 * (length book / 512)
 
@@ -43,12 +43,12 @@ settingOf e = field 4 e 2
 abbrev pub dialectOf : List ℕ → List ℕ
 dialectOf e = take 9 (drop 6 e)
 
--- whether a zone belongs into this book: zone 0 into the line's, all others into the zone book
+-- whether a zone belongs into this book: zone 0 into the line book, all others into the zone book
 abbrev pub belongs : Bool → ℕ → Bool
 belongs true zone = eqb zone 0
 belongs false zone = not (eqb zone 0)
 
--- an entry that is sound in this book; a place that is: empty, or with such an entry
+-- an entry that is sound in this book; a place that is sound: empty, or with such an entry
 unfoldable pub soundEntry : Bool → List ℕ → Bool
 soundEntry line e =
     leb 1 (settingOf e) && (validBytes (dialectOf e) && (zeros (take 9 (drop 15 e)) && belongs line (zoneOf e)))
@@ -84,18 +84,19 @@ isFor zone setting e = not (zeros e) && (eqb (zoneOf e) zone && eqb (settingOf e
 unfoldable pub seenIn : ℕ → ℕ → List ℕ → ℕ → Bool
 seenIn zone setting book n = some (λ q. isFor zone setting (entryAt book q)) n
 
--- whether the zone and setting of a place stand at an earlier one; whether its entry, if it has one, was there before
+-- whether an earlier place has the zone and setting of this one; whether this place has an entry that repeats an
+-- earlier one
 unfoldable pub seenBefore : List ℕ → ℕ → Bool
 seenBefore book p = seenIn (zoneOf (entryAt book p)) (settingOf (entryAt book p)) book p
 
 unfoldable pub again : List ℕ → ℕ → Bool
 again book p = not (zeros (entryAt book p)) && seenBefore book p
 
--- 96: the same zone and setting twice among the first n places
+-- 96: two of the first n places have the same zone and setting
 unfoldable pub twiceIn : List ℕ → ℕ → Bool
 twiceIn book n = some (again book) n
 
--- the judgement of one book: 95, 96, or 0 where it passes both
+-- the judgement of one book: 95, 96, or 0 if it passes both
 unfoldable pub judgeBook : Bool → List ℕ → ℕ
 judgeBook line book =
     if' (soundBook line book) (λ _. if' (twiceIn book (placesOf book)) (λ _. entryTwice) (λ _. 0)) (λ _. bookUnsound)

@@ -18,7 +18,7 @@ use Rattle.books.specs.declared.Changed.the-variants.{Placed, Refused, B
 use Rattle.books.specs.Book.{placesOf, placeAt, entryAt, soundLength, soundBook}
 use Rattle.books.specs.Book.{isFor, seenIn, twiceIn}
 
--- the first of n places where a test holds, counted from 1; 0 where it holds at none
+-- the first of n places where a test holds, counted from 1; 0 if it holds at none
 abbrev pub orElse : ℕ → ℕ → ℕ
 orElse zero b = b
 orElse (suc a) b = suc a
@@ -39,7 +39,7 @@ pub record First (test : ℕ → Bool) (n r : ℕ) : Type 0 where
   pub is : r ≡ firstIn test n
   pub inside : r ≤ n
 
--- an entry's 24 bytes
+-- the 24 bytes of an entry
 unfoldable pub entryOf : ℕ → ℕ → List ℕ → List ℕ
 entryOf zone setting dialect = ((bytesOf 2 zone ++ bytesOf 4 setting) ++ dialect) ++ replicate 9 0
 
@@ -51,7 +51,7 @@ noEntryBytes = replicate 24 0
 abbrev pub mayAdd : ℕ → ℕ → List ℕ → Bool
 mayAdd zone setting dialect = leb 1 setting && (leb zone 65535 && validBytes dialect)
 
--- the book with these 24 bytes at a place, and the sum of that place's block renewed
+-- the book with these 24 bytes at a place and the new sum of that place's block
 abbrev pub blockAt : List ℕ → ℕ → List ℕ
 blockAt book k = take 512 (drop (512 * k) book)
 
@@ -61,17 +61,18 @@ renewed book k = over (512 * k + 508) (bytesOf 4 (sumOf (blockAt book k))) book
 unfoldable pub putEntry : List ℕ → ℕ → List ℕ → List ℕ
 putEntry book p e = renewed (over (placeAt p) e book) (p / 21)
 
--- the number of a book
+-- the number of a book: 1 the line book, 0 the zone book
 abbrev pub bookNumber : Bool → ℕ
 bookNumber true = 1
 bookNumber false = 0
 
--- a place that is found, counted from 1, or a bare number
+-- the place that was found, counted from 1, or a refusal that carries its number alone
 abbrev pub foundOr : ℕ → Bool → ℕ → Changed
 foundOr number line zero = Bare number
 foundOr number line (suc p) = Placed (bookNumber line) p
 
--- the place for an entry that may be added: 95 the book, 96 the book's own, 96 added again, 98
+-- the place for an entry that may be added: 95 (unsound book), 96 (the book repeats an entry, or already has this
+-- one), 98
 unfoldable pub placeToAdd : Bool → List ℕ → ℕ → ℕ → Changed
 placeToAdd line book zone setting =
     if' (soundBook line book) (λ _.
@@ -80,7 +81,7 @@ placeToAdd line book zone setting =
     foundOr noEmptyPlace line (firstIn (emptyAt book) (placesOf book)))))
     (λ _. Refused bookUnsound (bookNumber line))
 
--- adding to one book: 95 an entry that may not be added, which reads like 95 of the book; else its place
+-- adding to one book: 95 also for an entry that may not be added; else the place
 unfoldable pub addIn : Bool → List ℕ → ℕ → ℕ → List ℕ → Changed
 addIn line book zone setting dialect =
     if' (mayAdd zone setting dialect) (λ _. placeToAdd line book zone setting) (λ _. Refused bookUnsound
@@ -94,19 +95,19 @@ removeIn line book zone setting =
     foundOr noEntry line (firstIn (forAt zone setting book) (placesOf book))))
     (λ _. Refused bookUnsound (bookNumber line))
 
--- the book afterwards, for an answer and the 24 bytes that are written: a refusal changes nothing
+-- the book afterwards, given the answer and the 24 bytes to write: a refusal changes nothing
 abbrev pub after : Changed → List ℕ → List ℕ → List ℕ
 after (Placed b p) e book = putEntry book p e
 after (Refused n b) e book = book
 after (Bare n) e book = book
 
--- what an answer means
+-- the meaning of an answer
 abbrev pub changed : Changed → Answer
 changed (Placed b p) = accepted (b ∷ p ∷ [])
 changed (Refused n b) = refused n (b ∷ [])
 changed (Bare n) = refused n []
 
--- the book of a zone: the line's for zone 0
+-- the book of a zone: the line book for zone 0
 abbrev pub isLine : ℕ → Bool
 isLine zone = eqb zone 0
 
@@ -118,7 +119,7 @@ unfoldable pub removeOf : List ℕ → List ℕ → ℕ → ℕ → Changed
 removeOf zb lb zone setting = if' (isLine zone) (λ _. removeIn true lb zone setting)
     (λ _. removeIn false zb zone setting)
 
--- the two books afterwards: the other one stays
+-- the two books afterwards: the book of the other kind stays
 unfoldable pub zoneAfter : ℕ → Changed → List ℕ → List ℕ → List ℕ
 zoneAfter zone answer e zb = if' (isLine zone) (λ _. zb) (λ _. after answer e zb)
 
@@ -145,7 +146,7 @@ unfoldable pub blankBlocks : ℕ → List ℕ
 blankBlocks zero = []
 blankBlocks (suc k) = blankBlocks k ++ blockOf k (replicate 504 0)
 
--- an empty book in so many bytes: 95 unless they are 1 to 100 blocks
+-- an empty book of this length in bytes: 95 unless it is 1 to 100 blocks
 unfoldable pub blankOf : ℕ → ℕ
 blankOf n = if' (soundLength n) (λ _. 0) (λ _. bookUnsound)
 

@@ -1,5 +1,5 @@
--- The lookup: of this zone's entries in the zone book the one with the highest setting not above the one asked; where
--- none fits, of the line book's. These are definitions.
+-- The lookup: of the zone's entries in the zone book, the one with the highest setting that is not above the
+-- requested one. If none fits, the same of the line book. These are definitions.
 use mathlib.Core.Path.{_≡_}
 use mathlib.Core.Bool.{Bool, true, false, _&&_, not}
 use mathlib.Core.List.{List, [], _∷_}
@@ -15,16 +15,16 @@ use Rattle.books.specs.declared.Looked.the-variants.{Zone, Line, Refused
 use Rattle.books.specs.Book.{placesOf, placeAt, entryAt, zoneOf, settingOf}
 use Rattle.books.specs.Book.{soundBook, twiceIn}
 
--- an entry of this zone with a setting not above the one asked; an empty place is none
+-- an entry of this zone with a setting that is not above the requested one; an empty place never fits
 unfoldable pub fits : ℕ → ℕ → List ℕ → Bool
 fits zone asked e = not (zeros e) && (eqb (zoneOf e) zone && leb (settingOf e) asked)
 
--- the setting of a best place: 0 for none, else of place b - 1
+-- the setting of the best place: 0 if there is none, else that of place b - 1
 unfoldable pub bestSetting : List ℕ → ℕ → ℕ
 bestSetting book zero = 0
 bestSetting book (suc p) = settingOf (entryAt book p)
 
--- the best of the first n places, counted from 1: it fits, and none that fits has a higher setting; 0 where none fits
+-- the best of the first n places, counted from 1: it fits, and none that fits has a higher setting; 0 if none fits
 unfoldable pub bestIn : ℕ → ℕ → List ℕ → ℕ → ℕ
 bestIn zone asked book zero = 0
 bestIn zone asked book (suc p) =
@@ -37,7 +37,7 @@ pub record Chosen (zone asked : ℕ) (book : List ℕ) (best : ℕ) : Type 0 whe
   pub is : best ≡ bestIn zone asked book (placesOf book)
   pub inside : best ≤ placesOf book
 
--- what the best place of the zone book and the best of the line book tell: where the nine bytes begin
+-- the answer, given the best place of the zone book and that of the line book: where the nine bytes begin
 abbrev pub told : ℕ → ℕ → Looked
 told (suc p) b = Zone (placeAt p + 6)
 told zero (suc p) = Line (placeAt p + 6)
@@ -54,14 +54,14 @@ lookupOf zoneBook lineBook zone asked =
     (λ _. Refused bookUnsound 1))
     (λ _. Refused bookUnsound 0)
 
--- what an answer means: 0 or 1 for the book and where the nine bytes begin in it; 95 and 96 with the book; 97
+-- the meaning of an answer: 0 or 1 for the book and where the nine bytes begin in it; 95 and 96 with the book; 97
 abbrev pub looked : Looked → Answer
 looked (Zone at) = accepted (0 ∷ at ∷ [])
 looked (Line at) = accepted (1 ∷ at ∷ [])
 looked (Refused n book) = refused n (book ∷ [])
 looked Nothing = refused noEntry []
 
--- the nine bytes of an answer, as they stand in their book; none where it is refused
+-- the nine bytes of an answer in their book; no bytes if it is refused
 abbrev pub partOf : Looked → List ℕ → List ℕ → List ℕ
 partOf (Zone at) zoneBook lineBook = take 9 (drop at zoneBook)
 partOf (Line at) zoneBook lineBook = take 9 (drop at lineBook)

@@ -1,4 +1,4 @@
-// Changes of one book: an entry added or removed, judged first and then written; an empty book.
+// Changes of one book: adding and removing an entry, which is judged first and then written; making an empty book.
 use crate::Changed;
 use crate::places;
 use crate::search;
@@ -14,7 +14,7 @@ ghost use Rattle.books.specs.Book.{placesOf};
 ghost use Rattle.books.specs.Change.{entryOf, noEntryBytes, mayAdd, putEntry, addIn, removeIn, after};
 ghost use Rattle.books.specs.Change.{placeToAdd, bookNumber, blankBlocks};
 
-// Adds an entry to this book: judged first, then written.
+// Adds an entry to this book. It is judged first, so a refusal changes nothing.
 pub(crate) fn add_to(
     book: &mut [u8],
     line: bool,
@@ -40,7 +40,7 @@ pub(crate) fn add_to(
     }
 }
 
-// Removes an entry from this book: judged first, then written.
+// Removes an entry from this book. The removal is judged first, so a refusal changes nothing.
 pub(crate) fn remove_from(book: &mut [u8], line: bool, zone: u32, setting: u32) -> Changed
     ensures { λ r. ⌜ r ≡ removeIn line (now (book .entry)) zone setting ⌝ }
     ensures { λ r. ⌜ now (book .exit) ≡ after r noEntryBytes (now (book .entry)) ⌝ }
@@ -57,7 +57,7 @@ pub(crate) fn remove_from(book: &mut [u8], line: bool, zone: u32, setting: u32) 
     }
 }
 
-// Where an entry that may be added goes: 95, 96, 98, or the first empty place.
+// The place for an entry that may be added: the first empty one, or a refusal with 95, 96 or 98.
 fn place_to_add(book: &[u8], line: bool, zone: u32, setting: u32) -> Changed
     ensures { λ r. ⌜ r ≡ placeToAdd line (now (book .entry)) zone setting ⌝ }
 {
@@ -78,7 +78,7 @@ fn place_to_add(book: &[u8], line: bool, zone: u32, setting: u32) -> Changed
     Changed::Placed(book_number(line), first - 1)
 }
 
-// Where the entry to be removed stands: 95, 96, 97, or its place.
+// The place of the entry to remove, or a refusal with 95, 96 or 97.
 fn place_to_remove(book: &[u8], line: bool, zone: u32, setting: u32) -> Changed
     ensures { λ r. ⌜ r ≡ removeIn line (now (book .entry)) zone setting ⌝ }
 {
@@ -95,7 +95,7 @@ fn place_to_remove(book: &[u8], line: bool, zone: u32, setting: u32) -> Changed
     Changed::Placed(book_number(line), first - 1)
 }
 
-// The number of a book.
+// The number of a book: 1 the line book, 0 the zone book.
 fn book_number(line: bool) -> u32
     ensures { λ r. ⌜ r ≡ bookNumber line ⌝ }
 {
@@ -109,7 +109,7 @@ fn may_add(zone: u32, setting: u32, dialect: &[u8]) -> bool
     (1 <= setting) & ((zone <= 65535) & dialect::valid_bytes(dialect))
 }
 
-// An entry's 24 bytes.
+// The 24 bytes of an entry.
 fn entry_of(zone: u32, setting: u32, dialect: &[u8]) -> [u8; 24]
     requires { ⌜ length (now dialect) ≡ 9 ⌝ }
     ensures { λ r. ⌜ r ≡ entryOf zone setting (now (dialect .entry)) ⌝ }
@@ -156,7 +156,7 @@ pub(crate) fn blank_blocks(book: &mut [u8], n: usize)
     }
 }
 
-// The block of a number with 504 zero bytes.
+// The block with this number and 504 zero bytes.
 fn blank_block(k: usize) -> [u8; 512]
     ensures { λ r. ⌜ r ≡ blockOf k (replicate 504 0) ⌝ }
 {

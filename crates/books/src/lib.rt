@@ -1,5 +1,6 @@
-// The zone book and the line book: the dialect of a zone and a setting. A book is 1 to 100 blocks of 512 bytes with 21
-// places of 24 bytes each. The setting is an entry's edition; the type rules' edition is another thing.
+// The zone book and the line book: the dialect of a zone and a setting. A book is 1 to 100 blocks of 512 bytes with
+// 21 places of 24 bytes each (docs/FORMAT.md, Books). The setting edition has nothing to do with the edition of the
+// type rules.
 mod change;
 mod places;
 mod search;
@@ -13,8 +14,8 @@ ghost use Rattle.books.specs.Lookup.{lookupOf, partOf};
 ghost use Rattle.books.specs.Change.{addOf, zoneAdded, lineAdded, removeOf, zoneRemoved, lineRemoved};
 ghost use Rattle.books.specs.Change.{blankOf, blankAfter};
 
-// The answer of a lookup: where the nine bytes begin in the zone book or in the line book; 95 or 96 with the book, 0
-// the zone book and 1 the line book; or 97.
+// The answer of a lookup: the position of the nine bytes in the zone book or in the line book; 95 or 96 with the number
+// of the book (0 the zone book, 1 the line book); or 97 (no entry fits).
 pub enum Looked {
     Zone(usize),
     Line(usize),
@@ -22,16 +23,16 @@ pub enum Looked {
     Nothing,
 }
 
-// The answer of an addition or a removal: the book, 0 the zone book and 1 the line book, and the place, from 0 on; 95
-// or 96 with the book; 97 or 98.
+// The answer of an addition or a removal: the number of the book (0 the zone book, 1 the line book) and the place,
+// counted from 0; 95 or 96 with the number of the book; 97 or 98.
 pub enum Changed {
     Placed(u32, usize),
     Refused(u32, u32),
     Bare(u32),
 }
 
-// The nine dialect bytes as they stand in the zone book or, if it has none that fit, in the line book. Where the lookup
-// is refused the part is empty: never pass it on as dialect bytes, for no bytes mean Extended.
+// Returns the nine dialect bytes from the zone book or, if none of its entries fits, from the line book. If the lookup
+// is refused the part is empty. Do not use it as dialect bytes then: no dialect bytes mean Extended.
 pub fn lookup<'a>(zone_book: &'a [u8], line_book: &'a [u8], zone: u32, setting: u32) -> &'a [u8]
     ensures { λ r. ⌜ now r
         ≡ partOf (lookupOf (now («zone_book» .entry)) (now («line_book» .entry)) zone setting)
@@ -46,7 +47,8 @@ pub fn lookup<'a>(zone_book: &'a [u8], line_book: &'a [u8], zone: u32, setting: 
     }
 }
 
-// The lookup's answer: 95 zone book, 95 line book, 96 zone book, 96 line book, 97, or the book and the position.
+// Looks up a zone and a setting. Refuses, in this order, with 95 (unsound: zone book, then line book), 96 (repeated
+// entry: zone book, then line book) or 97 (no entry fits); else gives the book and the position.
 pub fn judge_lookup(zone_book: &[u8], line_book: &[u8], zone: u32, setting: u32) -> Looked
     ensures { λ r. ⌜ r ≡ lookupOf (now («zone_book» .entry)) (now («line_book» .entry)) zone setting ⌝ }
 {
@@ -73,7 +75,7 @@ pub fn judge_lookup(zone_book: &[u8], line_book: &[u8], zone: u32, setting: u32)
     Looked::Nothing
 }
 
-// One book: 95, 96, or 0 where it passes both. `line` says which book it is.
+// Judges one book: 95, 96, or 0 if it passes both. `line` is true for the line book.
 pub fn judge_book(book: &[u8], line: bool) -> u32
     ensures { λ r. ⌜ r ≡ judgeBook line (now (book .entry)) ⌝ }
 {
@@ -86,7 +88,7 @@ pub fn judge_book(book: &[u8], line: bool) -> u32
     0
 }
 
-// Adds an entry to its book, zone 0 to the line's: 95, 96, 98. The other book is not looked at.
+// Adds an entry to its book, zone 0 to the line book. Refuses with 95, 96 or 98. The other book is not read.
 pub fn add(
     zone_book: &mut [u8],
     line_book: &mut [u8],
@@ -107,7 +109,8 @@ pub fn add(
     change::add_to(zone_book, false, zone, setting, dialect)
 }
 
-// Removes the entry of exactly this zone and setting from its book: 95, 96, 97. The other book is not looked at.
+// Removes the entry of exactly this zone and setting from its book. Refuses with 95, 96 or 97. The other book is not
+// read.
 pub fn remove(zone_book: &mut [u8], line_book: &mut [u8], zone: u32, setting: u32) -> Changed
     ensures { λ r. ⌜ r ≡ removeOf (now («zone_book» .entry)) (now («line_book» .entry)) zone setting ⌝ }
     ensures { λ r. ⌜ now («zone_book» .exit)
@@ -121,7 +124,7 @@ pub fn remove(zone_book: &mut [u8], line_book: &mut [u8], zone: u32, setting: u3
     change::remove_from(zone_book, false, zone, setting)
 }
 
-// Makes an empty book of a buffer of 1 to 100 blocks, and answers 0; else 95, and the buffer stays.
+// Makes an empty book of a buffer of 1 to 100 blocks and returns 0. Any other length is 95, and the buffer stays.
 pub fn blank(book: &mut [u8]) -> u32
     ensures { λ r. ⌜ r ≡ blankOf (length (now (book .entry))) ⌝ }
     ensures { λ r. ⌜ now (book .exit) ≡ blankAfter (now (book .entry)) ⌝ }

@@ -8,7 +8,7 @@ ghost use Rattle.blocks.specs.Block.{zeros};
 ghost use Rattle.books.specs.Book.{placesOf, placeAt, entryAt, soundEntry, soundPlace, soundPlaces};
 ghost use Rattle.books.specs.Book.{soundLength, soundBlocks, soundBook, belongs};
 
-// Whether a book has a sound length, sound blocks and sound places: else 95.
+// Whether a book has a sound length, sound blocks and sound places; if not, it is refused with 95.
 pub(crate) fn sound_book(book: &[u8], line: bool) -> bool
     ensures { λ r. ⌜ r ≡ soundBook line (now (book .entry)) ⌝ }
 {
@@ -22,7 +22,7 @@ pub(crate) fn sound_book(book: &[u8], line: bool) -> bool
     sound_places(book, line)
 }
 
-// Whether so many bytes are 1 to 100 whole blocks.
+// Whether n bytes are 1 to 100 whole blocks.
 pub(crate) fn sound_length(n: usize) -> bool
     ensures { λ r. ⌜ r ≡ soundLength n ⌝ }
 {
@@ -72,7 +72,7 @@ fn sound_entry(e: &[u8], line: bool) -> bool
     (1 <= fields::word(e, 2)) & (valid & (padded & here))
 }
 
-// Whether a zone belongs into this book: zone 0 into the line's, all others into the zone book.
+// Whether a zone belongs into this book: zone 0 into the line book, all others into the zone book.
 fn belongs(line: bool, zone: u16) -> bool
     ensures { λ r. ⌜ r ≡ belongs line zone ⌝ }
 {
@@ -93,7 +93,7 @@ pub(crate) fn empty(e: &[u8]) -> bool
     true
 }
 
-// Where a place begins.
+// The first byte of a place.
 pub(crate) fn place_at(p: usize) -> usize
     requires { ⌜ placeAt p + 24 ≤ 18446744073709551615 ⌝ }
     ensures { λ r. ⌜ r ≡ placeAt p ⌝ }
@@ -110,7 +110,7 @@ pub(crate) fn entry(book: &[u8], p: usize) -> &[u8]
     &book[at..at + 24]
 }
 
-// The n bytes from a place on, or as many as are there.
+// The n bytes from `at` on, or fewer if the bytes end before.
 pub(crate) fn piece(bytes: &[u8], at: usize, n: usize) -> &[u8]
     ensures { λ r. ⌜ now r ≡ take n (drop at (now (bytes .entry))) ⌝ }
 {

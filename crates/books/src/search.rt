@@ -1,4 +1,4 @@
-// Searches over the places of a book: an entry that stands twice, the best one, the first empty place.
+// Searches over the places of a book: a repeated entry, the best entry, the first empty place.
 use crate::places;
 use blocks::BLOCK_BYTES;
 use forest::marks;
@@ -10,8 +10,8 @@ ghost use Rattle.books.specs.Marked.{mayRepeat, notedEntry};
 ghost use Rattle.books.specs.Lookup.{fits, Chosen};
 ghost use Rattle.books.specs.Change.{emptyAt, forAt, First};
 
-// Whether a zone and a setting stand twice in a book: else it passes 96. Empty places never count. Entries are noted in
-// marks, so that most are not compared with those before.
+// Whether two entries of a book have the same zone and setting (96). Empty places never count. Entries are recorded in
+// marks, so that most are not compared with the earlier ones.
 pub(crate) fn twice_in(book: &[u8]) -> bool
     ensures { λ r. ⌜ r ≡ twiceIn (now (book .entry)) (placesOf (now (book .entry))) ⌝ }
 {
@@ -19,7 +19,7 @@ pub(crate) fn twice_in(book: &[u8]) -> bool
     twice_among(book, &mut noted)
 }
 
-// The same, with entries noted in the lent marks, in which nothing is noted yet or whatever stands there.
+// The same, with the marks in a buffer of the caller. Its content at entry does not affect the answer.
 fn twice_among(book: &[u8], noted: &mut [u8]) -> bool
     ensures { λ r. ⌜ r ≡ twiceIn (now (book .entry)) (placesOf (now (book .entry))) ⌝ }
 {
@@ -35,8 +35,8 @@ fn twice_among(book: &[u8], noted: &mut [u8]) -> bool
     false
 }
 
-// Notes the entry of a place, and answers whether one for its zone and setting may have been noted before. An empty
-// place is not noted.
+// Marks the entry of a place, and returns whether an entry with its zone and setting may have been marked before. An
+// empty place is not marked.
 fn note(e: &[u8], noted: &mut [u8]) -> bool
     ensures { λ r. ⌜ r ≡ mayRepeat (now (noted .entry)) (now (e .entry)) ⌝ }
     ensures { λ r. ⌜ now (noted .exit) ≡ notedEntry (now (noted .entry)) (now (e .entry)) ⌝ }
@@ -47,7 +47,8 @@ fn note(e: &[u8], noted: &mut [u8]) -> bool
     marks::note(noted, places::piece(e, 0, 6))
 }
 
-// Whether the zone and setting of a place, which may stand at an earlier one, do.
+// Whether an earlier place has the zone and setting of this one. It is searched only if `may` says that there may be
+// one.
 fn again(book: &[u8], p: usize, may: bool) -> bool
     requires { ⌜ p < placesOf (now book) ⌝ }
     ensures { λ r. ⌜ r ≡ (may && seenBefore (now (book .entry)) p) ⌝ }
@@ -81,7 +82,7 @@ fn is_for(e: &[u8], zone: u32, setting: u32) -> bool
     !places::empty(e) & ((fields::half(e, 0) as u32 == zone) & (fields::word(e, 2) == setting))
 }
 
-// The best place of a zone for a setting, counted from 1; 0 where none fits.
+// The best place of a zone for a setting, counted from 1; 0 if none fits.
 pub(crate) fn best_in(book: &[u8], zone: u32, setting: u32) -> usize
     ensures { λ r. ⌜ Chosen zone setting (now (book .entry)) r ⌝ }
 {
@@ -101,14 +102,14 @@ pub(crate) fn best_in(book: &[u8], zone: u32, setting: u32) -> usize
     best
 }
 
-// Whether an entry is of this zone, and its setting is not above the one asked.
+// Whether an entry has this zone and a setting that is not above the requested one.
 fn fits(e: &[u8], zone: u32, setting: u32) -> bool
     ensures { λ r. ⌜ r ≡ fits zone setting (now (e .entry)) ⌝ }
 {
     !places::empty(e) & ((fields::half(e, 0) as u32 == zone) & (fields::word(e, 2) <= setting))
 }
 
-// The first empty place, counted from 1; 0 where there is none.
+// The first empty place, counted from 1; 0 if there is none.
 pub(crate) fn first_empty(book: &[u8]) -> usize
     ensures { λ r. ⌜ First (emptyAt (now (book .entry))) (placesOf (now (book .entry))) r ⌝ }
 {
@@ -125,7 +126,7 @@ pub(crate) fn first_empty(book: &[u8]) -> usize
     first
 }
 
-// The place of a zone and a setting, counted from 1; 0 where there is none.
+// The place of a zone and a setting, counted from 1; 0 if there is none.
 pub(crate) fn first_for(book: &[u8], zone: u32, setting: u32) -> usize
     ensures { λ r. ⌜ First (forAt zone setting (now (book .entry))) (placesOf (now (book .entry))) r ⌝ }
 {

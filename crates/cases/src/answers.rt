@@ -1,4 +1,4 @@
-// The answer to one case, printed behind its label.
+// Prints the answer to one case after its label.
 use arguments::CallArgs;
 use arguments::Called;
 use bind::Bound;
@@ -19,8 +19,8 @@ use targets::Targeted;
 use types::Shaped;
 use validate::Listed;
 
-// What a request asks: its job, how long its parts are, and the job's node; of a binding the Def's beside the Call's.
-// The edition of the type rules stands where the Def's node does.
+// A request: its job, the lengths of its parts, and the job's node; a binding also has the node of the Def, beside that
+// of the Call. The edition of the type rules is in the same field as the node of the Def.
 pub struct Asked {
     pub job: u16,
     pub label: usize,
@@ -34,7 +34,7 @@ pub struct Asked {
     pub node: usize,
 }
 
-// The front of a buffer, as much of it as is there.
+// The first len bytes of a buffer; none if it is shorter.
 pub(crate) fn front(s: &[u8], len: usize) -> &[u8] {
     if len <= s.len() {
         return &s[0..len];
@@ -50,7 +50,7 @@ fn say_number(n: u64) {
     io::print_decimal(STDOUT_FILENO, n);
 }
 
-// A refusal as its number, the node that it carries, its span with the source file, and where its name stood first.
+// Prints a refusal: its number, its node, its span with the source file, and the earlier node of the same name.
 fn say_refusal(r: Refusal) {
     say_number(table::number(r) as u64);
     let node = table::node_of(r);
@@ -91,7 +91,7 @@ fn wanted(n: u16) -> Wanted {
     }
 }
 
-// Whether a job has its node: 6, or how many records its stretch has, and the class and the span of the first.
+// Whether a node fits a job: 6, or the number of records of its subtree, and the class and span of the first.
 fn say_node(table: &[u8], node: usize, wants: u16) {
     if !table::node_fits(table, node, wanted(wants)) {
         say(b"6");
@@ -118,7 +118,7 @@ fn types(t: DialectTypes) -> u64 {
     }
 }
 
-// A dialect as its nine numbers.
+// Prints a dialect as its nine numbers.
 fn say_dialect(d: Dialect) {
     say_number(bit(d.enable_def));
     say_number(bit(d.enable_lambda));
@@ -147,7 +147,7 @@ fn say_place(p: Place) {
     }
 }
 
-// What a list of arguments is: how many positional and named, and the places of star and `**`.
+// Prints a list of arguments: the numbers of positional and named ones, and the places of `*` and `**`.
 fn say_arguments(a: CallArgs) {
     let star = a.star;
     let star_star = a.star_star;
@@ -174,7 +174,7 @@ fn say_byte(b: u8) {
     say_number(b as u64);
 }
 
-// The bytes of a buffer, one behind the other.
+// Prints the bytes of a buffer, one after the other.
 fn say_bytes(s: &[u8]) {
     let n = s.len();
     let mut i = 0;
@@ -191,7 +191,7 @@ fn say_range(r: Range) {
     say_number(r.upto as u64);
 }
 
-// The five ranges of an accepted list, and its flat count.
+// Prints the five ranges of an accepted list, and its flat count.
 fn say_counted(c: Counted) {
     let i = c.indices;
     let n = c.flat as usize;
@@ -205,7 +205,7 @@ fn say_counted(c: Counted) {
     say_number(c.flat as u64);
 }
 
-// The parameter job, and the mode buffer afterwards.
+// Runs the parameter job, and prints the mode buffer at exit.
 fn say_params(table: &[u8], names: &[u8], node: usize, modes: &mut [u8]) {
     let u = parameters::params(table, names, node, modes);
     match u {
@@ -226,7 +226,7 @@ fn say_targeted(t: Targeted) {
     }
 }
 
-// The type job, and the shape buffer afterwards.
+// Runs the type job, and prints the shape buffer at exit.
 fn say_type(a: Asked, table: &[u8], names: &[u8], dialect: &[u8], shapes: &mut [u8]) {
     let s = shapes::type_shape(table, names, dialect, a.edition, a.node, shapes);
     match s {
@@ -237,7 +237,7 @@ fn say_type(a: Asked, table: &[u8], names: &[u8], dialect: &[u8], shapes: &mut [
     say_bytes(shapes);
 }
 
-// The jobs that are lent a buffer: it holds 9 in every byte, and is as long as the request says.
+// The jobs with a buffer: every byte of it is 9 at entry, and the request gives its length.
 fn say_lent(a: Asked, table: &[u8], names: &[u8], dialect: &[u8]) {
     let room = a.room;
     let mut space = [9u8; 2100];
@@ -257,7 +257,7 @@ fn say_word(w: u32) {
     say_number(w as u64);
 }
 
-// The words of a list, one behind the other.
+// Prints the words of a list, one after the other.
 fn say_words(s: &[u32]) {
     let n = s.len();
     let mut i = 0;
@@ -277,7 +277,8 @@ fn say_listed(l: Listed) {
     }
 }
 
-// The module job, and its list of words afterwards: it holds 9 in every word, and is as long as the request says.
+// Runs the module job, and prints its list of words at exit. Every word is 9 at entry, and the request gives the
+// length.
 fn say_module(table: &[u8], names: &[u8], dialect: &[u8], room: usize) {
     let mut space = [9u32; 64];
     let lent: &mut [u32] = &mut space;
@@ -303,7 +304,7 @@ fn say_bound(b: Bound) {
     }
 }
 
-// The audit, and its list of words afterwards, in the same way.
+// Runs the audit, and prints its list of words at exit, in the same way.
 fn say_audit(table: &[u8], names: &[u8], dialect: &[u8], edition: u32, room: usize) {
     let mut space = [9u32; 64];
     let lent: &mut [u32] = &mut space;
@@ -317,7 +318,8 @@ fn say_audit(table: &[u8], names: &[u8], dialect: &[u8], edition: u32, room: usi
     say_words(list);
 }
 
-// The binding job, and its list of words afterwards: it holds 9 in every word, and is as long as the request says.
+// Runs the binding job, and prints its list of words at exit. Every word is 9 at entry, and the request gives the
+// length.
 fn say_bind(table: &[u8], names: &[u8], call: usize, def: usize, room: usize) {
     let mut space = [9u32; 64];
     let lent: &mut [u32] = &mut space;
@@ -344,8 +346,8 @@ fn say_formatted(w: fstring::Written) {
     }
 }
 
-// The format text of parts, whose words stand in bytes, at most 14; and the buffer afterwards, which holds a dot in
-// every byte.
+// Writes the format text of parts, whose words are given as bytes, at most 14, and prints the buffer at exit. Every
+// byte of it is a dot at entry.
 fn say_format(texts: &[u8], parts: &[u8], dialect: &[u8], room: usize) {
     let words = [
         fields::word(parts, 0),
@@ -396,7 +398,7 @@ fn say_reading(r: fstring::Reading) {
     }
 }
 
-// The parts of a format text, and both buffers afterwards, which hold 9 in every word and a dot in every byte.
+// Reads the parts of a format text, and prints both buffers at exit. Every word is 9 and every byte is a dot at entry.
 fn say_parts(text: &[u8], room: usize, texts_room: usize) {
     let mut space = [9u32; 64];
     let mut more = [46u8; 64];
@@ -418,9 +420,9 @@ fn say_parts(text: &[u8], room: usize, texts_room: usize) {
     say(texts);
 }
 
-// 0 is a heading, 1 the table check, 2 a job's node, 3 the bytes of a dialect, 4 a call's arguments, 5 parameters, 6 a
-// target, 7 an assignment, 8 a type, 9 a module, 10 a binding, 11 an audit, 12 a format text, 13 its parts. Of a format
-// text the texts stand where a table does, and the words of its parts where names do.
+// Jobs: 0 a heading, 1 the table check, 2 a job's node, 3 the bytes of a dialect, 4 a call's arguments, 5 parameters, 6
+// a target, 7 an assignment, 8 a type, 9 a module, 10 a binding, 11 an audit, 12 a format text, 13 its parts. For a
+// format text, the text bytes are in the place of the table, and the words of its parts in the place of the names.
 pub(crate) fn answer(a: Asked, table: &[u8], names: &[u8], dialect: &[u8]) {
     let job = a.job;
     match job {

@@ -1,7 +1,7 @@
-// Runs the cases of data/cases.bin, a request each, and prints what the jobs answer: both sides of each limit and of
-// each rule.
-// The cases stand in words in cases.txt, and in kinds.txt, which tools/kinds.py makes of document 01's sentences;
-// tools/tables.py makes the requests of them, and the gate holds them together.
+// Runs the cases of data/cases.bin, a request each, and prints the answers of the jobs: both sides of each limit and of
+// each rule. The cases are written in cases.txt, and in kinds.txt, which tools/kinds.py generates from the sentences
+// about the kinds of records (docs/FORMAT.md); tools/tables.py generates the requests from both, and the gate checks
+// that they agree.
 mod answers;
 
 use answers::Asked;
@@ -23,7 +23,7 @@ fn head_of(head: &[u8]) -> Asked {
     }
 }
 
-// The next bytes of the file, put at the front of a buffer: whether they were all there.
+// Reads the next bytes of the file into the start of a buffer. Returns false if there were fewer.
 fn filled(fd: i32, space: &mut [u8], len: usize) -> bool {
     if space.len() < len {
         return false;
@@ -31,7 +31,7 @@ fn filled(fd: i32, space: &mut [u8], len: usize) -> bool {
     io::read_full(fd, &mut space[0..len]) == len
 }
 
-// One request: false at the end of the file.
+// Runs one request. Returns false at the end of the file.
 fn one(fd: i32) -> bool {
     let mut head = [0u8; 20];
     if !filled(fd, &mut head, 20) {
@@ -65,7 +65,7 @@ fn one(fd: i32) -> bool {
     true
 }
 
-// At most as many requests as the head's fields could number.
+// Runs all requests, at most as many as a field of the head can count.
 fn all(fd: i32) {
     let mut left = 65536u64;
     while 0 < left {

@@ -1,6 +1,7 @@
 -- "Too many parameters" (def.rs:171) and the unwraps (280, 305, 346) turn numbers into u32: the written position of
 -- `/`, the flat count and num_positional on the way. In no list, accepted or refused, is any of them larger than the
--- list is long. Assumes nothing.
+-- list is long (`counted-at-most`). The induction is on the list: each parameter adds at most one to each number
+-- (Steps' `bounded-on`), and the walk has read one parameter more. Assumes nothing.
 use mathlib.Core.Path.{_≡_, refl}
 use mathlib.Core.Bool.{Bool, true, false}
 use mathlib.Core.List.{List, [], _∷_, _++_}

@@ -1,4 +1,8 @@
--- The search for an earlier name among the parameters is that among entries. Assumes nothing.
+-- Code searches for an earlier name among the records of the children (table's `firstNamed`); `unpack` searches among
+-- the parameters read from them. Both find the same: a record has a name exactly if its parameter does, kind by kind
+-- (`named-kind`, `has-entry`), so the first n parameters are searched as the first n entries (`list-entries`; the
+-- induction is on the siblings). What is found is then an index of the table, within the children. `earlier` cites
+-- `earlier-room`, `earlier-at` and `earlier-none`. Assumes nothing.
 use mathlib.Core.Path.{_≡_, refl, sym, _∙_}
 use mathlib.Core.Bool.{Bool, true, false, not, _&&_, _||_}
 use mathlib.Core.List.{List, [], _∷_}

@@ -1,4 +1,6 @@
--- Laws of single functions, one for each return, in the terms of code. Assumes nothing.
+-- One law for each return of the small functions that read a stretch: `children`, `kind_of`, `listed` and the test of a
+-- name. Each return is behind tests of the record's kind or length, so with these tests known the definition computes.
+-- Cited by the proofs of those functions; nothing here recurs. Assumes nothing.
 use mathlib.Core.Path.{_≡_, refl, sym, _∙_}
 use mathlib.Core.Bool.{Bool, true, false, _&&_}
 use mathlib.Core.List.{List}

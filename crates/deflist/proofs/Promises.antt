@@ -1,4 +1,5 @@
--- Two answers that meet the promise of a public function coincide: each promise is an equation. Assumes nothing.
+-- Two answers of a public function that meet its promise are equal. Each promise is an equation, so each law is fields'
+-- `coincide`; a promise that holds for all names and indices is used at one of them. Assumes nothing.
 use mathlib.Core.Path.{_≡_}
 use mathlib.Core.Bool.{Bool}
 use mathlib.Core.List.{List}

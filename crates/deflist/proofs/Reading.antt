@@ -1,4 +1,9 @@
--- Reading the written list from a stretch, step by step, for any bytes. Assumes nothing.
+-- Reading the written list from a stretch, for any bytes. A stretch begins with no parameter (`list-end`), or with one
+-- and then the parameters of the rest (`list-on`). So a loop that steps over one parameter a turn keeps that what is
+-- left of the stretch is what is left of the list (`Reading`: start, on, end). Four loops do so and cite it: the search
+-- for `/` (`Slashing`), counting (`Counting`), counting up to a limit (`Limiting`) and stepping over n parameters
+-- (`Skipping`). None of them reads names or indices, so their promises hold for all; each has its start, on and end.
+-- Assumes nothing.
 use mathlib.Core.Path.{_≡_, refl, sym, ap, _∙_}
 use mathlib.Core.Bool.{Bool, true, false}
 use mathlib.Core.List.{List, [], _∷_, _++_}
@@ -71,7 +76,7 @@ list-on ns i t {e} h e-is =
     let yes : eqb (classOf (nodeOf 0 t .kind)) parameter ≡ true = and-right (leb 24 (length t)) _ h in
     rw (forest-tree i t (listed-long t h), yes, rest-part e t e-is, e-is) refl
 
--- what stands at a place of a list
+-- what is at a place of a list
 pub record Next {A : Type 0} (w : List A) (n : ℕ) (p : A) (ps : List A) : Type 0 where
   pub within : n < length w
   pub rest : drop (n + 1) w ≡ ps
@@ -204,7 +209,7 @@ module _ {kids left : List ℕ} {n : ℕ} (s : Counting kids left n) {l : Bool} 
       let none-left = read-end (s .reads ns i) (sym l-is ∙ l-no) in
       omega (arith, s .reads ns i .upto, length-drop n (paramsIn ns (forest i kids)), ap length none-left)
 
--- The same up to a limit: as long as the list goes on, one more than n stand in it
+-- The same up to a limit: while the list goes on, it has at least one more than n
 pub record Limiting (most : ℕ) (kids left : List ℕ) (n : ℕ) : Type 0 where
   pub counts : Counting kids left n
   pub few : n ≤ most

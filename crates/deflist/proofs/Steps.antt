@@ -1,4 +1,8 @@
--- One step of unpack, and the walk from one step to the next. Assumes nothing.
+-- One step of `unpack`, and the walk from one step to the next. A parameter that keeps the rule of its kind finds its
+-- place free: in each state, what comes later (`*`, `*args`, `**kwargs`) is not there yet (`Clear`; `free` goes through
+-- state and kind). So a fine check always gives the next state (`step-on`, `run-on`), which is clear again
+-- (`clear-on`), and the internal errors have no way to arise. A refusal stops the walk (`run-stop`, `run-again`). Each
+-- parameter adds at most one to what is counted (`bounded-on`). Assumes nothing.
 use mathlib.Core.Path.{_≡_, refl}
 use mathlib.Core.Bool.{Bool, true, false}
 use mathlib.Core.List.{List, [], _∷_, _++_}

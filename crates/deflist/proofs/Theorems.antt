@@ -1,6 +1,7 @@
--- What def.rs leaves to the reader: its internal errors never arise, whatever the list; and what is counted is no more
--- than the list is long, so that "Too many parameters" (def.rs:171) and the unwraps (280, 305, 346) cannot fire in a
--- table of 2,100 nodes. Assumes nothing.
+-- What def.rs leaves to the reader. Its internal errors never arise, whatever the list (`no-internal-error`): the walk
+-- stays clear (Steps' `clear-on`), and the last rule accepts or refuses (`at-end`). And what is counted is no more than
+-- the list is long (`accepted-bounded`), so that "Too many parameters" (def.rs:171) and the unwraps (280, 305, 346)
+-- cannot fire in a table of 2,100 nodes. Both are by induction on the list, for any state before it. Assumes nothing.
 use mathlib.Core.Path.{_≡_, refl, sym, ap, _∙_}
 use mathlib.Core.Bool.{Bool, true, false}
 use mathlib.Core.List.{List, [], _∷_, _++_}
@@ -48,7 +49,7 @@ refused≢accepted h = never (cc)
 pub repeated≢accepted : {P : Type 0} {i : ℕ} {r : Node} {c : Counts} → repeated i r ≡ accepted c → P
 repeated≢accepted h = never (cc)
 
--- what the last rule can give: what it was told, or a refusal
+-- what the last rule can give: the outcome before it, or a refusal
 after-star : {P : Type 0} (l : List Param) (o : Outcome) {x : Outcome} → fromStar l o ≡ x → (o ≡ x → P)
     → ((n : ℕ) (r : Node) → refused n r ≡ x → P) → P
 after-star [] o h f g = f h
@@ -116,7 +117,7 @@ run-bounded before u (p ∷ ps) k {c} clear b h = go (check before (u .state) (u
     go (Broken n) f rest = refused≢accepted (sym (run-stop before u p ps f) ∙ h)
     go (Repeated i) f rest = repeated≢accepted (sym (run-again before u p ps f) ∙ h)
 
--- the first `/` stands within the list
+-- the position of the first `/` is within the list
 pub slash-within : (i : ℕ) (l : List Param) → positionalOnly (slashFrom i l) .0 ≤ i + length l
 unfolding slashFrom
 slash-within i [] = omega arith
@@ -190,7 +191,7 @@ records-few most kids h = record {
   says = λ ns i. sym (le-ltb most (length (paramsIn ns (forest i kids))) (omega (arith, list-short ns i kids)));
 }
 
--- what was told to be accepted is
+-- what code returns as accepted is accepted
 pub told-accepted : (o : Outcome) {c : Counts} → told o ≡ Accepted c → o ≡ accepted c
 told-accepted (accepted c) e = cc
 told-accepted (refused n r) e = never (cc)
@@ -232,7 +233,7 @@ slash-none : firstSlash [] ≡ NoWritten
 unfolding slashFrom
 slash-none = refl
 
--- LAW: an accepted list's num_positional_only is where its first `/` stands
+-- LAW: an accepted list's num_positional_only is the position of its first `/`
 pub accepted-only : (l : List Param) {c : Counts} → unpack l ≡ accepted c
     → c .«num_positional_only» ≡ positionalOnly (firstSlash l)
 unfolding unpack

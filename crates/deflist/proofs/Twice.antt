@@ -1,4 +1,4 @@
--- What 11 tells: the only earlier parameter of an equal name, which has a smaller node. `unpack` reads the list from
+-- What 11 means: the only earlier parameter of an equal name, which has a smaller node. `unpack` reads the list from
 -- the left and stops at the first name that it has seen (`run-repeated`). So among those that are read no name comes
 -- twice (`Fresh`), and the first that has the name is the only one (forest's `only-one`). Cite `written-twice`. Assumes
 -- nothing.

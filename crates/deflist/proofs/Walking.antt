@@ -1,4 +1,9 @@
--- The walk of code over a stretch is unpack's over the written list. Assumes nothing.
+-- The walk of code over the records of a stretch gives what `unpack` gives for the written parameters. Both keep the
+-- same state, so after n records the code is where `unpack` is after the first n parameters (`Judging`, its field
+-- `same`). The induction is the loop: a turn passes (`judge-on`) or stops (`judge-stop`), because the check of code is
+-- that of `unpack`: 11 first, then the rule of the kind. The search for 11 is skipped only where the marks show that
+-- the name is new (`meets-new`, forest's `known-new`). After the last parameter 17 and 18 look at what follows a bare
+-- `*` (`star-last`, `star-normal`, `star-other`). Cite `judge-list`. Assumes nothing.
 use mathlib.Core.Path.{_≡_, refl, sym, ap, _∙_}
 use mathlib.Core.Bool.{Bool, true, false, _&&_}
 use mathlib.Core.List.{List, [], _∷_, _++_, append-nil}
@@ -80,7 +85,7 @@ unfoldable pub searches : Searches firstSame hasName
 unfolding firstSame
 searches = record { node = λ p. nodeIn p .at; none = λ x. refl; first = λ x p l. refl }
 
--- the marks know a parameter more: `*` and `/` have no name, others are noted; one that may not stand is new
+-- the marks know one parameter more: `*` and `/` have no name, others are noted; a name that they do not show is new
 module _ (ns : List ℕ) {marks : List ℕ} {before : List Param} (known : Known firstSame marks before) (left : List ℕ)
     {k : Kind} (k-is : k ≡ kindHere left) {b : Bool} (b-is : b ≡ isNamed k) where
   pub meets-none : (m : ℕ) → b ≡ false → Meets ns before left marks m Nothing
@@ -428,7 +433,7 @@ module _ (ns kids : List ℕ) (first : ℕ) {b : Bool} (b-is : b ≡ beginsWithS
           ∙ ap (λ (x : Flat). run [] (start x) (paramsIn ns (forest first kids)))
           (ap positionalOnly (sym (s-is .first ns first)) ∙ sym only-is)
 
--- a node's list stands in its children
+-- a node's list is in its children
 module _ (t : List ℕ) (node : ℕ) {kids : List ℕ} (kids-are : kids ≡ kidsOf t) where
   pub judge-room : 24 * (node + 1) + length kids ≤ 24 * (node + 1) + length t
   judge-room = omega (arith, ap length kids-are ∙ length-kids t)

@@ -10,7 +10,7 @@ use Rattle.table.specs.Numbers.{tooManyParameters}
 use Rattle.deflist.specs.Written.{Param}
 use Rattle.deflist.specs.Unpack.{Outcome, refused, unpack}
 
--- a list has at most so many entries
+-- the most entries of a list
 abbrev pub mostParameters : ℕ
 mostParameters = 48
 

@@ -1,4 +1,4 @@
--- The states that unpack comes through, whether the list is accepted or refused. These are definitions.
+-- The states that unpack passes through, whether the list is accepted or refused. These are definitions.
 use mathlib.Core.List.{List, [], _∷_, _++_}
 use Prim.Native.Nat.{ℕ}
 use Rattle.fields.specs.Choice.{if'}

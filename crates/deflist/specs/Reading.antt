@@ -1,4 +1,4 @@
--- What code asks of a stretch while it reads a list, and bounds of what it answers. These are definitions.
+-- What code tests in a stretch while it reads a list, and bounds of its results. These are definitions.
 use mathlib.Core.Path.{_≡_}
 use mathlib.Core.Bool.{Bool, true, false, _&&_}
 use mathlib.Core.List.{List, [], _∷_, _++_}
@@ -27,7 +27,7 @@ use Rattle.deflist.specs.declared.Judged.the-variants.{Accepted, Refused
 unfoldable pub isListed : List ℕ → Bool
 isListed t = leb recordBytes (length t) && eqb (classOf (nodeOf 0 t .kind)) parameter
 
--- the kind of the parameter that a stretch begins with
+-- the kind of the first parameter of a stretch
 unfoldable pub kindHere : List ℕ → Kind
 kindHere t = kindAt (nodeOf 0 t .kind) (nodeOf 0 t .detail)
 
@@ -50,7 +50,7 @@ isNormal Slash = false
 isNormal Args = false
 isNormal KwArgs = false
 
--- the `*`, if there is one, stands in the list
+-- the position of the `*`, if there is one, is within the list
 abbrev pub StarIn : List Param → WrittenPlace → Type 0
 StarIn w NoWritten = Unit {0}
 StarIn w (AtWritten i) = i .0 < length w
@@ -64,7 +64,7 @@ abbrev pub Inside : ℕ → Judged → Type 0
 Inside m (Accepted c) = Unit {0}
 Inside m (Refused f) = (f .node ≤ m) × NotPast m (f .earlier)
 
--- what code says for an outcome, where a refusal's node comes no later than m
+-- the result of code for an outcome, where a refusal's node comes no later than m
 pub record Says (o : Outcome) (m : ℕ) (r : Judged) : Type 0 where
   pub same : r ≡ told o
   pub inside : Inside m r
@@ -73,7 +73,7 @@ pub record Says (o : Outcome) (m : ℕ) (r : Judged) : Type 0 where
 pub record SlashAt (kids : List ℕ) (s : WrittenPlace) : Type 0 where
   pub first : (names : List ℕ) (i : ℕ) → s ≡ firstSlash (paramsIn names (forest i kids))
 
--- the list that a stretch begins with has more than `most` parameters; and so it is whatever the names and the index
+-- whether the list at the front of a stretch has more than `most` parameters; the same for all names and indices
 unfoldable pub isOver : ℕ → List ℕ → Bool
 isOver most kids = ltb most (length (paramsIn [] (forest 0 kids)))
 
@@ -86,7 +86,7 @@ pub record Skips (kids : List ℕ) (n r : ℕ) : Type 0 where
   pub rest : (names : List ℕ) (i : ℕ) → n ≤ length (paramsIn names (forest i kids))
       → drop n (paramsIn names (forest i kids)) ≡ paramsIn names (forest (i + r / recordBytes) (drop r kids))
 
--- what is said after the last parameter of a stretch, whatever the names
+-- the result after the last parameter of a stretch, whatever the names
 pub record Finishes (kids : List ℕ) (first : ℕ) (star : WrittenPlace) (c : Counts) (r : Judged) : Type 0 where
   pub says : (names : List ℕ) → StarIn (paramsIn names (forest first kids)) star
       → r ≡ told (finish (paramsIn names (forest first kids)) star c)
@@ -97,14 +97,14 @@ pub record Earlier (x : Name) (before : List Param) (m : ℕ) (f : Found) : Type
   pub says : f ≡ firstSame x before
   pub inside : NotPast m f
 
--- what is said of the name of the parameter that `left` begins with, whatever its index: the first of those before it
--- that has an equal one, no later than m; and the marks then know it too
+-- the result for the name of the first parameter of `left`, whatever its index: the first of those before it that has
+-- an equal name, no later than m; and the marks then know it too
 pub record Meets (names : List ℕ) (before : List Param) (left marks : List ℕ) (m : ℕ) (f : Found) : Type 0 where
   pub says : (i : ℕ) → f ≡ repeats before (paramOf names (nodeOf i left))
   pub inside : NotPast m f
   pub known : (i : ℕ) → Known firstSame marks (before ++ paramOf names (nodeOf i left) ∷ [])
 
--- bounds of what is counted in the first m parameters, where `/` stands no further than k
+-- bounds of what is counted in the first m parameters, where the position of `/` is at most k
 abbrev pub PlaceBelow : ℕ → FlatPlace → Type 0
 PlaceBelow m NoFlat = Unit {0}
 PlaceBelow m (AtFlat i) = i .0 ≤ m

@@ -1,4 +1,4 @@
--- What code answers for an outcome of unpack. These are definitions.
+-- What code returns for an outcome of unpack. These are definitions.
 use Prim.Native.Nat.{ℕ}
 use Rattle.forest.specs.Forest.{Node}
 use Rattle.forest.specs.declared.Found.{Found}
@@ -18,17 +18,17 @@ use Rattle.deflist.specs.declared.Judged.the-variants.{Accepted, Refused
 abbrev pub fault : ℕ → Node → Found → Fault
 fault n r f = record { number = n; node = r .at; span = spanAt r; earlier = f }
 
--- what the check of a parameter makes of its turn
+-- the turn of a parameter with this check
 abbrev pub turnOf : Check → Node → Turn
 turnOf Fine r = Passes
 turnOf (Broken n) r = Stops (fault n r Nothing)
 turnOf (Repeated i) r = Stops (fault duplicatedParameter r (At i))
 
--- 0 is no number of document 01: it would tell an internal error, and none arises
+-- 0 is not among the numbers of docs/RULES.md: it would report an internal error, and none arises
 abbrev pub internalError : ℕ
 internalError = 0
 
--- what the code answers for an outcome
+-- what code returns for an outcome
 abbrev pub told : Outcome → Judged
 told (accepted c) = Accepted c
 told (refused n r) = Refused (fault n r Nothing)

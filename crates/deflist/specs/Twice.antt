@@ -1,4 +1,4 @@
--- A parameter whose name an earlier one has: the definition, by itself, of what 11 tells. These are definitions.
+-- A parameter with the name of an earlier one: what 11 reports, defined by itself. These are definitions.
 use mathlib.Core.Path.{_≡_}
 use mathlib.Core.Bool.{true}
 use mathlib.Core.List.{List, _∷_, _++_}

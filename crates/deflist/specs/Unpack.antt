@@ -76,7 +76,7 @@ repeats before (slash r) = Nothing
 repeats before (args r n) = firstSame n before
 repeats before (kwargs r n) = firstSame n before
 
--- none without default after one with: seen_optional, and whether this one has a default
+-- 13: no default after a default; from seen_optional, and whether this one has a default
 abbrev pub defaultRule : Bool → Bool → Check
 defaultRule true true = Fine
 defaultRule true false = Broken noDefaultAfterDefault
@@ -219,7 +219,7 @@ pub data Outcome : Type 0 where
   repeated : ℕ → Node → Outcome
   internal : Internal → Node → Outcome
 
--- what follows the `*`: 17 nothing, at the `*`; 18 no Normal, at what stands there
+-- what follows the `*`: 17 if nothing does, at the `*`; 18 if it is no Normal, at that parameter
 abbrev pub normalNext : Param → Outcome → Outcome
 normalNext (normal r n d) fine = fine
 normalNext (noArgs r) fine = refused noNormalAfterStar r
@@ -263,12 +263,12 @@ slashFrom i (p ∷ ps) = if' (isSlash (kindIn p)) (λ _. AtWritten (writtenAt i)
 abbrev pub firstSlash : List Param → WrittenPlace
 firstSlash l = slashFrom 0 l
 
--- num_positional_only: the written position of the first `/` becomes a flat index, since no mark can stand before it
+-- num_positional_only: the written position of the first `/` is a flat index, since no mark can come before it
 abbrev pub positionalOnly : WrittenPlace → Flat
 positionalOnly NoWritten = flatAt 0
 positionalOnly (AtWritten i) = flatAt (i .0)
 
--- the state that a list begins in, and all that is known then
+-- the state in which a list begins, and all that is known then
 abbrev pub firstState : Flat → State
 firstState num_positional_only = if' (eqb (num_positional_only .0) 0) (λ _. SeenSlash) (λ _. BeforeSlash)
 
@@ -288,7 +288,7 @@ unpack (p ∷ ps) =
     if' (isSlash (kindIn p)) (λ _. refused slashFirst (nodeIn p)) (λ _.
     run [] (start (positionalOnly (firstSlash (p ∷ ps)))) (p ∷ ps))
 
--- the modes of document 01
+-- the modes of parameters: 1 PosOnly, 2 PosOrName, 3 NameOnly, 4 Args, 5 Kwargs
 abbrev pub modePosOnly : ℕ
 modePosOnly = 1
 

@@ -47,7 +47,7 @@ kindIn (kwargs r n) = KwArgs
 abbrev pub hasDefault : ℕ → Bool
 hasDefault detail = eqb detail 2 || eqb detail 3
 
--- the kind of parameter that a record's kind and detail say
+-- the kind of parameter of a record, from its kind and detail
 unfoldable pub kindAt : ℕ → ℕ → Kind
 kindAt k d =
     if' (eqb k kindNormal) (λ _. Normal (hasDefault d)) (λ _.

@@ -1,4 +1,4 @@
-// The parameter that a stretch begins with.
+// The first parameter of a stretch.
 use crate::Kind;
 use forest::RECORD;
 use soundness::classes;
@@ -21,7 +21,7 @@ fn has_default(detail: u8) -> bool
     (detail == 2) | (detail == 3)
 }
 
-// The kind of the parameter that a stretch begins with.
+// The kind of the first parameter of a stretch.
 pub fn kind_of(t: &[u8]) -> Kind
     ensures { λ r. ⌜ r ≡ kindHere (now (t .entry)) ⌝ }
 {

@@ -25,10 +25,10 @@ ghost use Rattle.deflist.specs.Limited.{limited};
 ghost use Rattle.deflist.specs.Told.{told};
 ghost use Rattle.deflist.specs.Reading.{Inside, Says};
 
-// A list has at most so many entries, marks counted.
+// The most entries of a list, marks counted.
 pub const MOST_PARAMETERS: usize = 48;
 
-// Where unpack stands in the list, in this order.
+// The state of unpack: how far it is in the list, in this order.
 pub enum State {
     Normal,
     SeenSlash, // after `/`, or there is none
@@ -78,8 +78,7 @@ pub struct Unpacking {
     pub counts: Counts,
 }
 
-// What the check of one parameter gives: nothing, the number of a refusal, or 11 with the node of the earlier
-// parameter.
+// The result of checking one parameter: fine, the number of a refusal, or 11 with the node of the earlier parameter.
 pub enum Check {
     Fine,
     Broken(u32),
@@ -94,19 +93,19 @@ pub struct Fault {
     pub earlier: Found,
 }
 
-// What becomes of a parameter in its turn.
+// The result of one turn: the walk goes on, or stops at this parameter.
 pub enum Turn {
     Passes,
     Stops(Fault),
 }
 
-// What unpack answers.
+// The result of unpack.
 pub enum Judged {
     Accepted(Counts),
     Refused(Fault),
 }
 
-// The children of the node that a stretch begins with.
+// The children of the first node of a stretch.
 pub fn children(t: &[u8]) -> &[u8]
     ensures { λ r. ⌜ now r ≡ kidsOf (now (t .entry)) ⌝ }
 {
@@ -117,8 +116,8 @@ pub fn children(t: &[u8]) -> &[u8]
     &t[RECORD..e]
 }
 
-// The written list of a node, whose stretch is lent: 19 at that node if it has more than MOST_PARAMETERS entries, else
-// what DefParams::unpack counts, or its first refusal.
+// The written list of the node whose subtree is the stretch: 19 at that node if the list has more than MOST_PARAMETERS
+// entries, else what DefParams::unpack counts, or its first refusal.
 pub fn judge(names: &[u8], t: &[u8], node: u32) -> Judged
     ensures { λ r. ⌜ r ≡
         told (limited (nodeOf node (now (t .entry))) (written (now (names .entry)) node (now (t .entry)))) ⌝ }
@@ -139,7 +138,7 @@ pub fn judge(names: &[u8], t: &[u8], node: u32) -> Judged
     walk::judge(names, t, node, &mut none[0..0])
 }
 
-// With marks of the names: a list has so few that some are enough.
+// The same with marks of the names. A list of at most MOST_PARAMETERS entries needs only SOME of them.
 fn with_marks(names: &[u8], t: &[u8], node: u32) -> Judged
     ensures { λ r. ⌜ Says (unpack (written (now (names .entry)) node (now (t .entry))))
         (node + 1 + length (now (t .entry)) / recordBytes) r ⌝ }

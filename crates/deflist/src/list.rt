@@ -36,8 +36,8 @@ pub(crate) fn first_slash(kids: &[u8]) -> WrittenPlace
     WrittenPlace::NoWritten
 }
 
-// What follows the node that a stretch begins with. Most parameters are one record; compiled code foresees it, and need
-// not wait for a size before it reads the next record.
+// What follows the first node of a stretch. Most parameters are one record; with a branch for them the processor can
+// read the next record before it knows the size.
 fn after(t: &[u8]) -> &[u8]
     requires { ⌜ recordBytes ≤ length (now t) ⌝ }
     ensures { λ r. ⌜ now r ≡ drop (spanOf (now (t .entry))) (now (t .entry)) ⌝ }
@@ -49,8 +49,8 @@ fn after(t: &[u8]) -> &[u8]
     &t[e..]
 }
 
-// Whether the list that a stretch begins with has more than `most` entries, marks counted. A stretch of no more records
-// is not read, nor are the entries after the first one too many.
+// Whether the list at the front of a stretch has more than `most` entries, marks counted. A stretch of at most `most`
+// records is not read, nor are the entries after the first one too many.
 pub fn has_more(kids: &[u8], most: usize) -> bool
     ensures { λ r. ⌜ r ≡ isOver most (now (kids .entry)) ⌝ }
     ensures { λ r. ⌜ Exceeds most (now (kids .entry)) r ⌝ }
@@ -71,7 +71,7 @@ pub fn has_more(kids: &[u8], most: usize) -> bool
     false
 }
 
-// How many bytes the first n parameters take.
+// The size in bytes of the first n parameters.
 pub(crate) fn skip(kids: &[u8], n: Written) -> usize
     ensures { λ r. ⌜ Skips (now (kids .entry)) (n .0) r ⌝ }
 {

@@ -1,7 +1,6 @@
 // The rules of the kinds, and what a parameter changes in the written list.
 //
-// Ported from src/syntax/def.rs of starlark_syntax 0.14.2, and changed: each rule answers its number or lets the
-// parameter pass.
+// Ported from src/syntax/def.rs of starlark_syntax 0.14.2, and changed: each rule returns its number or Fine.
 // Copyright 2018 The Starlark in Rust Authors. Copyright (c) Facebook, Inc. and its affiliates.
 // Licensed under Apache-2.0.
 use crate::Check;
@@ -46,7 +45,7 @@ pub(crate) fn is_normal(kind: Kind) -> bool
     }
 }
 
-// 13, before any star.
+// 13 (no default after a default), before any star.
 fn default_rule(optional: bool, default: bool) -> Check
     ensures { λ r. ⌜ r ≡ defaultRule optional default ⌝ }
 {
@@ -59,7 +58,7 @@ fn default_rule(optional: bool, default: bool) -> Check
     Check::Fine
 }
 
-// 12, then 13.
+// 12 (Normal after `**kwargs`), then 13.
 fn normal_rule(state: State, optional: bool, default: bool) -> Check
     ensures { λ r. ⌜ r ≡ normalRule state optional default ⌝ }
 {
@@ -71,7 +70,7 @@ fn normal_rule(state: State, optional: bool, default: bool) -> Check
     }
 }
 
-// 14.
+// 14 (`*` or `*args` after a star or `**kwargs`).
 fn star_rule(state: State) -> Check
     ensures { λ r. ⌜ r ≡ starRule state ⌝ }
 {
@@ -83,7 +82,7 @@ fn star_rule(state: State) -> Check
     }
 }
 
-// 15.
+// 15 (a second `/`).
 fn slash_rule(state: State) -> Check
     ensures { λ r. ⌜ r ≡ slashRule state ⌝ }
 {
@@ -95,7 +94,7 @@ fn slash_rule(state: State) -> Check
     }
 }
 
-// 16.
+// 16 (a second `**kwargs`).
 fn kwargs_rule(state: State) -> Check
     ensures { λ r. ⌜ r ≡ kwargsRule state ⌝ }
 {
@@ -150,8 +149,8 @@ pub(crate) fn next_star(star: WrittenPlace, i: Written, kind: Kind) -> WrittenPl
     }
 }
 
-// The count of positional-only parameters: the written position of `/` becomes a flat index, since no mark can stand
-// before it.
+// The count of positional-only parameters: the written position of `/` is a flat index, since no mark can come before
+// it.
 pub(crate) fn positional_only(slash: WrittenPlace) -> Flat
     ensures { λ r. ⌜ r ≡ positionalOnly slash ⌝ }
 {
@@ -161,7 +160,7 @@ pub(crate) fn positional_only(slash: WrittenPlace) -> Flat
     }
 }
 
-// What is kept before the first parameter.
+// The state before the first parameter.
 pub(crate) fn start(only: Flat) -> Unpacking
     ensures { λ r. ⌜ r ≡ startOf only ⌝ }
 {

@@ -1,4 +1,4 @@
-// The state that a list begins in, and what each parameter makes of it.
+// The state in which a list begins, and the next state after each parameter.
 //
 // Ported from src/syntax/def.rs of starlark_syntax 0.14.2, and changed: the state is a value that each parameter maps
 // to the next.
@@ -10,7 +10,7 @@ use crate::State;
 ghost use mathlib.Core.Path.{_≡_};
 ghost use Rattle.deflist.specs.Unpack.{nextState, firstState};
 
-// The state that a list begins in.
+// The state in which a list begins.
 pub fn first_state(only: Flat) -> State
     ensures { λ r. ⌜ r ≡ firstState only ⌝ }
 {

@@ -54,7 +54,7 @@ fn earlier(names: &[u8], name: &[u8], kids: &[u8], first: usize, n: Written) -> 
     }
 }
 
-// A refusal at the record that a stretch begins with, and the node of an earlier one.
+// A refusal at the first record of a stretch, with the node of an earlier parameter.
 pub(crate) fn fault(number: u32, node: usize, t: &[u8], earlier: Found) -> Fault
     ensures { λ r. ⌜ r ≡ faultOf number (nodeOf node (now (t .entry))) earlier ⌝ }
 {
@@ -66,8 +66,8 @@ pub(crate) fn fault(number: u32, node: usize, t: &[u8], earlier: Found) -> Fault
     }
 }
 
-// The first of the n parameters before it whose name the parameter that left begins with repeats. Its name is noted,
-// and where the marks do not tell of it, nothing is searched.
+// The first of the n parameters before it that has the name of the first parameter of `left`. Notes that name; where
+// the marks show that it is new, nothing is searched.
 fn repeated(
     names: &[u8],
     kids: &[u8],
@@ -94,7 +94,7 @@ fn repeated(
     earlier(names, name, kids, first, n)
 }
 
-// 11 before the rule of the kind.
+// 11 (a repeated name) before the rule of the kind.
 fn check(found: Found, state: State, optional: bool, kind: Kind) -> Check
     ensures { λ r. ⌜ r ≡ firstly found (ruleOf state optional kind) ⌝ }
 {
@@ -104,7 +104,7 @@ fn check(found: Found, state: State, optional: bool, kind: Kind) -> Check
     }
 }
 
-// What becomes of the parameter that a stretch begins with: 11, then the rule of its kind.
+// The turn of the first parameter of a stretch: 11, then the rule of its kind.
 fn turn(found: Found, state: State, optional: bool, kind: Kind, node: usize, t: &[u8]) -> Turn
     ensures { λ r. ⌜ r ≡ turnOf (firstly found (ruleOf state optional kind)) (nodeOf node (now (t .entry))) ⌝ }
 {
@@ -139,7 +139,7 @@ fn more_positional(state: State, n: Flat) -> Flat
     }
 }
 
-// What is counted at a parameter of a kind.
+// The counts after a parameter of a kind.
 fn count(state: State, c: Counts, kind: Kind) -> Counts
     requires { ⌜ (c .«num_positional» .0 < 2 ^ 63) × (c .flat .0 < 2 ^ 63) ⌝ }
     ensures { λ r. ⌜ r ≡ countOf state c kind ⌝ }
@@ -176,7 +176,7 @@ fn count(state: State, c: Counts, kind: Kind) -> Counts
     }
 }
 
-// All that is kept after a parameter of a kind, which stands at i in the written list.
+// The state after a parameter of a kind whose written position is i.
 fn advance(u: Unpacking, i: Written, kind: Kind) -> Unpacking
     requires { ⌜ (u .counts .«num_positional» .0 < 2 ^ 63) × (u .counts .flat .0 < 2 ^ 63) ⌝ }
     ensures { λ r. ⌜ r ≡ advanceOf u i kind ⌝ }
@@ -192,7 +192,7 @@ fn advance(u: Unpacking, i: Written, kind: Kind) -> Unpacking
     }
 }
 
-// 17 and 18, for the bare `*` at a written position.
+// 17 (`*` is last) and 18 (the entry after `*` is no Normal), for the bare `*` at a written position.
 fn after_star(kids: &[u8], first: usize, star: Written, counts: Counts) -> Judged
     requires { ⌜ recordBytes * first + length (now kids) < 2 ^ 64 ⌝ }
     ensures { λ r. ⌜ Finishes (now (kids .entry)) first (AtWritten star) counts r ⌝ }
@@ -227,7 +227,7 @@ fn finish(kids: &[u8], first: usize, star: WrittenPlace, counts: Counts) -> Judg
     }
 }
 
-// The parameters in turn, where only are positional only; their names are noted in the lent marks.
+// The parameters in turn, of which `only` are positional only. Notes their names in the marks.
 fn run(names: &[u8], kids: &[u8], first: usize, only: Flat, marks: &mut [u8]) -> Judged
     requires { ⌜ recordBytes * first + length (now kids) < 2 ^ 64 ⌝ }
     ensures { λ r. ⌜ Says (runOf [] (startOf only) (paramsIn (now (names .entry)) (forest first (now (kids .entry)))))
@@ -276,8 +276,8 @@ fn unpack(names: &[u8], kids: &[u8], first: usize, marks: &mut [u8]) -> Judged
     run(names, kids, first, rules::positional_only(slash), marks)
 }
 
-// DefParams::unpack of the written list of a node, whose stretch is lent: what is counted, or the first refusal. Names
-// are noted in the lent marks, whatever stands there.
+// DefParams::unpack of the written list of the node whose subtree is the stretch: the counts, or the first refusal.
+// Notes names in the marks; what the marks hold before does not change the answer.
 pub(crate) fn judge(names: &[u8], t: &[u8], node: u32, marks: &mut [u8]) -> Judged
     ensures { λ r. ⌜ Says (unpackOf (written (now (names .entry)) node (now (t .entry))))
         (node + 1 + length (now (t .entry)) / recordBytes) r ⌝ }

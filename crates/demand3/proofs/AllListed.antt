@@ -1,5 +1,8 @@
--- In a sound table the written list of a def or lambda is every parameter among its children, in order. Assumes
--- nothing.
+-- In a sound table the written list of a def or lambda is every parameter among its children, in order, and nothing
+-- else (`all-listed`). The list takes the parameters at the front of the children. A sound def has classes as its row
+-- says: parameters first, then perhaps a return type and its body, none of which is a parameter (`def-classes`,
+-- `lambda-classes`, from soundness's `node-classes`). So taking those at the front takes all (`leading`; the induction
+-- is on their number).
 use mathlib.Core.Path.{_≡_, refl, sym, ap, _∙_}
 use mathlib.Core.Bool.{Bool, true, false}
 use mathlib.Core.Logic.{_⊎_, inl, inr}
@@ -66,7 +69,7 @@ module _ (t names : List ℕ) (i : ℕ) (sound : checkOf t names ≡ accepted []
   kind-kept : nodeOf i (stretchOf t i) .kind ≡ nodeOf i (drop (24 * i) t) .kind
   kind-kept = ap (λ (n : Node). n .kind) (record-kept t names i sound within)
 
-  -- the classes of its children are those that its row wants of so many
+  -- the classes of its children are those that its row requires of this number of children
   here-classes : classes kids
       ≡ wanted (kindOf (nodeOf i (stretchOf t i) .kind) .kids (nodeOf i (stretchOf t i) .detail))
       (length (classes kids))

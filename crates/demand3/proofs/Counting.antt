@@ -1,4 +1,8 @@
--- What unpack counts along the parts of a cut, where the `*` stands, and the modes. Assumes nothing.
+-- What the walk of `unpack` leaves at the end of a cut's list, part by part: the counts (`counts-either`,
+-- `counts-pos`), the position of the bare `*` (`star-either`, `star-pos`), the verdict on what follows it
+-- (`finish-tail`), and the modes (`modes-either`, `modes-pos`). For each there is a law without `/` and one with it.
+-- Ordinary parameters only add to the counts, by induction on them (`counts-ordinary` and its like); the star and
+-- `**kwargs` are single steps, so they compute. Assumes nothing.
 use mathlib.Core.Path.{_≡_, refl, ap, _∙_}
 use mathlib.Core.List.{List, [], _∷_, _++_}
 use Prim.Native.Nat.{ℕ, suc, _+_}
@@ -118,7 +122,7 @@ counts-pos only qs x ms s k =
     counts-ordinary BeforeSlash (plain 0 only) qs _ ∙ counts-either (0 + length (ordinary qs)) only ms s k
     ∙ ap (λ (y : ℕ). withTail (y + length (ordinary ms)) only s k) none-before
 
--- where the `*` stands
+-- the position of the `*`
 abbrev pub starPlace : Star → ℕ → WrittenPlace
 starPlace noStar i = NoWritten
 starPlace (bare r qs) i = AtWritten (writtenAt i)
@@ -165,7 +169,7 @@ from-star r [] noKwargs o = refl
 from-star r [] (withKwargs x n) o = refl
 from-star r (q ∷ qs) k o = refl
 
--- LAW: the end of a walk over what stands before the star, and the star's part
+-- LAW: the end of a walk over what is before the star, and the star's part
 pub finish-tail : (front : List Param) (s : Star) (k : Last) (c : Counts)
     → finish (front ++ tail s k) (starPlace s (length front)) c ≡ starVerdict s k (accepted c)
 unfolding finish

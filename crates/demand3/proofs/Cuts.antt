@@ -1,4 +1,9 @@
--- A list is accepted exactly when it has a good cut; the cut is unique; what is counted and the modes are the cut's.
+-- A list is accepted exactly when it has a good cut. From right to left (`cut-accepted`): a cut's list keeps the rules
+-- (Shapes) and repeats no name (Names), so the walk goes to its end (Walks), where the counts are the cut's (Counting).
+-- From left to right (`accepted-cut`): an accepted list keeps the rules, so it has the form of a cut (`loose-cut`), and
+-- what follows the `*` is then as a good cut has it (`good-star`). The cut is unique because it can be read off the
+-- list: `cutOf (join c) ≡ c`. No induction here; cite `cut-accepted`, `accepted-cut`, `cut-modes`,
+-- `join-injective`.
 -- Assumes nothing.
 use mathlib.Core.Path.{_≡_, refl, sym, ap, ap₂, _∙_, subst}
 use mathlib.Core.Bool.{Bool, true, false}
@@ -138,7 +143,7 @@ unpack-some q qs x ms s k f d =
     (withTail (n + length (ordinary ms)) (flatAt n) s k)) whole (sym long)
     ∙ finish-tail front s k _
 
--- LAW: unpack of a cut's list, where one or more stand before `/`, no name is repeated and the default rule is kept
+-- LAW: unpack of a cut's list, with one or more before `/`, no repeated name and the default rule kept
 pub unpack-cut : (c : Cut) → SlashGood (c .before) → Fresh [] (join c)
     → Defaults false (firsts (c .before) ++ c .middle) → unpack (join c) ≡ verdict c
 unpack-cut c = go (c .before) (c .middle) (c .star) (c .last)
@@ -152,7 +157,7 @@ unpack-cut c = go (c .before) (c .middle) (c .star) (c .last)
     go (upToSlash (q ∷ qs) x) ms s k o f d = ap unpack (slash-form (q ∷ qs) x _)
         ∙ unpack-some q qs x ms s k (subst (Fresh []) (slash-form (q ∷ qs) x _) f) d
 
--- a `/` that is not first stands later
+-- a `/` that is not first comes later
 slash-later : (l : List Param) {w : Written} → Heads l → firstSlash l ≡ AtWritten w → 0 < w .0
 unfolding slashFrom
 slash-later [] h e = never (cc)

@@ -1,7 +1,7 @@
 -- DEMAND 3, in the user's words:
 --
 -- In a sound table, with a long enough mode buffer, the parameter list of a def or lambda is accepted exactly when it
--- has at most 48 written entries (document 02, W-211) and can be cut, in written order, into:
+-- has at most 48 written entries (W-211) and can be cut, in written order, into:
 -- nothing, or one or more ordinary parameters and `/`; ordinary parameters; nothing, or `*` with at least one ordinary
 -- parameter, or `*args` with any number;
 -- nothing or `**kwargs`; all names distinct; and in the first two parts none without default after one with. The cut is
@@ -10,9 +10,9 @@
 -- after the star, `**kwargs`. They follow in
 --   order and cover 0 to the flat count once, and each flat parameter's mode is written and is its range's.
 --
--- specs/Given.antt says what is given, specs/Cut.antt what a cut is and what is asked of it; neither speaks of unpack.
--- The job `parameters::params` promises to answer `paramsOf` and to leave `modesAfter` in the lent buffer, so each
--- theorem is about its answer and the buffer at exit. Assumes nothing.
+-- specs/Given.antt says what is given, specs/Cut.antt what a cut is and when it is good; neither mentions unpack. The
+-- job `parameters::params` promises to return `paramsOf` and to leave `modesAfter` in the buffer, so each theorem is
+-- about its answer and the buffer at exit. The proofs are in OverTheJob and Cuts. Assumes nothing.
 use mathlib.Core.Path.{_≡_, sym, ap, _∙_}
 use mathlib.Core.Logic.{_⊎_, _↔_}
 use mathlib.Core.List.{List, []}
@@ -105,7 +105,7 @@ module _ (t names : List ℕ) (node : ℕ) (ms : List ℕ) (given : Given t name
         → (a : Counted) × (r ≡ Accepted a) × RangesAre a (cutRanges c)
     answer-has-the-ranges = job.answer-is t names node ms given few c cut
 
-    -- "and each flat parameter's mode is written and is its range's": in the lent buffer afterwards
+    -- "and each flat parameter's mode is written and is its range's": in the buffer afterwards
     pub modes-are-the-ranges : ByRange (cutRanges c) (modesAfter t names node ms)
     modes-are-the-ranges = job.modes-there t names node ms given few c cut
 

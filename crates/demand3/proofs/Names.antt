@@ -1,4 +1,9 @@
--- Names and defaults: the tests of the walk are the conditions of a good cut. Assumes nothing.
+-- The tests of the walk are the conditions of a good cut. No parameter repeats a name before it (`Fresh`) exactly if
+-- all names are distinct (`fresh-iff`): the search among earlier names finds nothing exactly if the name is none of
+-- theirs, by induction on the list; and names that are each new, read from the left, are distinct, by induction on the
+-- names after those seen. The default rule holds along the ordinary parameters exactly if none without default comes
+-- after one with (`defaults-iff`; induction on the parameters, with a flag for a default so far). Cite these two.
+-- Assumes nothing.
 use mathlib.Core.Path.{_≡_, refl, sym, ap, _∙_}
 use mathlib.Core.Bool.{Bool, true, false, _||_}
 use mathlib.Core.Logic.{_↔_, ⊎-elim}
@@ -138,7 +143,7 @@ names-fresh before (kwargs r n ∷ ps) f = (
   names-fresh (before ++ kwargs r n ∷ []) ps (rw names-append (f .1)),
 )
 
--- distinct from k on: no name from k on stands before
+-- distinct from k on: no name from k on comes before
 abbrev DistinctFrom : ℕ → List Name → Type 0
 DistinctFrom k ns = (i j : ℕ) → i < j → j < length ns → k ≤ j → getD ns i [] ≡ getD ns j [] → ⊥
 

@@ -1,4 +1,8 @@
--- The laws of cuts, carried over to the job's answer and to the buffer at exit. Assumes nothing.
+-- The laws of cuts, carried over to the answer of the job and to the buffer at exit. In a sound table with room enough
+-- (`Given`) the answer is that of the list: 19 if it is too long (`long-answer`), else accepted exactly if it has a cut
+-- (`has-cut`, `cut-answer`). The buffer at exit is then the cut's modes and behind them what was there, so each index
+-- has the mode of its range (`modes-there`) and the other bytes stay (`others-stay`, `as-long`). The values of the
+-- answer are the cut's ranges, so its own five ranges are these (`answer-is`). Nothing recurs here. Assumes nothing.
 use mathlib.Core.Path.{_≡_, refl, sym, ap, _∙_}
 use mathlib.Core.Bool.{true}
 use mathlib.Core.Logic.{_⊎_, inl, inr}
@@ -45,7 +49,7 @@ list-fits t node h k = rw (lt-ltb node (length t / 24) h) (go k)
     go (inl e) = rw e refl
     go (inr e) = rw e refl
 
--- a node's record stands in front of its stretch
+-- a node's record is at the front of its stretch
 pub record-kept : (t names : List ℕ) (i : ℕ) → checkOf t names ≡ accepted [] → i < length t / 24
     → nodeOf i (stretchOf t i) ≡ nodeOf i (drop (24 * i) t)
 record-kept t names i sound within =
@@ -65,7 +69,7 @@ module _ (t names : List ℕ) (node : ℕ) (ms : List ℕ) (g : Given t names no
       let w = accepted-cut (listOf t names node) (p .outcome) in
       (p .few, (w .0, record { joins = w .1; good = w .2 }))
 
-  -- 19 at the node, as it stands in the table
+  -- 19 at the node, as it is in the table
   pub long-answer : mostParameters < length (listOf t names node)
       → paramsOf t names node (length ms) ≡ refusedAt tooManyParameters (nodeOf node (drop (24 * node) t))
   long-answer long =
@@ -78,7 +82,7 @@ module _ (t names : List ℕ) (node : ℕ) (ms : List ℕ) (g : Given t names no
         passed-accepted t names node (length ms) (g .sound) fits (g .room) few
         (ap unpack (sym (cut .joins)) ∙ cut-accepted c (cut .good)) ∙ ap accepted (cut-values c)
 
-    -- the buffer at exit: the cut's modes, then what stood there
+    -- the buffer at exit: the cut's modes, then what was there
     buffer : modesAfter t names node ms ≡ partModes (partsOf c) ++ drop (length (partModes (partsOf c))) ms
     unfolding modesAfter
     buffer =

@@ -1,5 +1,8 @@
--- The ranges of a cut: they are what unpack answers, cut the flat list into its parts, follow and cover, and each has
--- its mode. Assumes nothing.
+-- The five ranges of a cut. They are the values that the answer of `unpack` has (`cut-values`). The flat list is the
+-- five parts one after another, marks left out (`flat-join`; inductions on the parts), so each range cuts its own part
+-- out of it (`cut-parts`). Each range begins where the one before it ends (`ranges-follow`), so every index below the
+-- flat count is in exactly one of them (`ranges-cover`: count the ranges that hold it, from the left). The modes are
+-- runs of equal numbers in the same order, so each index has the mode of its range (`modes-by-range`). Assumes nothing.
 use mathlib.Core.Path.{_≡_, refl, ap, ap₂, _∙_}
 use mathlib.Core.Bool.{Bool, true, false, _&&_}
 use mathlib.Core.List.{List, [], _∷_, _++_, append-assoc, append-nil}
@@ -197,7 +200,7 @@ mid-in pre n v post ms a e q i h g = ap (λ (x : List ℕ). getD x i 0) e
 pub modes-length : (p : Parts) → length (partModes p) ≡ rangesOf p .kwargs .upto
 modes-length p = simp (length-append, length-replicate) (omega arith)
 
--- LAW: where the modes stand at the front of a buffer, each flat parameter's mode is its range's
+-- LAW: where the modes are at the front of a buffer, each flat parameter's mode is its range's
 pub modes-by-range : (p : Parts) (rest : List ℕ) → ByRange (rangesOf p) (partModes p ++ rest)
 modes-by-range p rest =
     let a = length (p .posOnly) in

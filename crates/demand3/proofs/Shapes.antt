@@ -1,4 +1,8 @@
--- Lists that keep the rules have the form of a cut, and lists of that form keep the rules. Assumes nothing.
+-- Lists that keep the rules of the kinds have the form of a cut, and lists of that form keep them. The induction is on
+-- the list, one law for each state, from the last to the first: after `**kwargs` nothing may follow (`last-rules`),
+-- after a star ordinary parameters and perhaps `**kwargs` (`named-rules`), after `/` or without it anything of the
+-- second part on (`either-rules`), and before `/` the first part, or there is no `/` at all (`pos-rules`). The way back
+-- is `rules-either` and `rules-pos`, with where the first `/` is (`slash-at`, `none-either`). Assumes nothing.
 use mathlib.Core.Path.{_≡_, refl, ap}
 use mathlib.Core.Bool.{Bool, true, false, _||_}
 use mathlib.Core.Logic.{_⊎_, inl, inr}
@@ -127,7 +131,7 @@ pub rules-pos : (o : Bool) (qs : List Ordinary) (x : Node) (ms : List Ordinary) 
 rules-pos o [] x ms s k d = (refl, rules-either o ms s k d)
 rules-pos o (q ∷ qs) x ms s k d = (d .0, rules-pos (o || q .default) qs x ms s k (d .1))
 
--- where the first `/` stands
+-- the position of the first `/`
 pub slash-at : (i : ℕ) (qs : List Ordinary) (x : Node) (l : List Param)
     → slashFrom i (ordinary qs ++ slash x ∷ l) ≡ AtWritten (writtenAt (i + length (ordinary qs)))
 unfolding slashFrom
@@ -135,7 +139,7 @@ slash-at i [] x l = let e : i + 0 ≡ i = omega arith in rw e refl
 slash-at i (q ∷ qs) x l = let e : i + suc (length (ordinary qs)) ≡ i + 1 + length (ordinary qs) = omega arith in
     rw e (slash-at (i + 1) qs x l)
 
--- it stands no earlier than the list is counted from
+-- it is no earlier than the list is counted from
 pub slash-from : (i : ℕ) (l : List Param) {w : Written} → slashFrom i l ≡ AtWritten w → i ≤ w .0
 unfolding slashFrom
 slash-from i [] e = never (cc)

@@ -1,4 +1,7 @@
--- unpack's walk, apart: the rules of the kinds, the names, and what is counted. Assumes nothing.
+-- The walk of `unpack`, taken apart. It accepts exactly if three things hold that do not depend on each other: every
+-- parameter keeps the rule of its kind (`Rules`), none repeats a name before it (`Fresh`), and the end of the walk
+-- accepts what was counted (`finish`). `run-accepted` leads there and `run-finished` back; both are by induction on the
+-- list, for any state before it, and cite deflist's Steps for one step. Assumes nothing.
 use mathlib.Core.Path.{_≡_, refl, sym, _∙_}
 use mathlib.Core.Bool.{Bool}
 use mathlib.Core.List.{List, [], _∷_, _++_, append-assoc, append-nil}
@@ -28,7 +31,7 @@ abbrev pub Fresh : List Param → List Param → Type 0
 Fresh before [] = Unit {0}
 Fresh before (p ∷ ps) = (repeats before p ≡ Nothing) × Fresh (before ++ p ∷ []) ps
 
--- what is counted, and where the `*` stands, at the end
+-- what is counted, and the position of the `*`, at the end
 abbrev pub countsFrom : State → Counts → List Param → Counts
 countsFrom s c [] = c
 countsFrom s c (p ∷ ps) = countsFrom (nextState s (kindIn p)) (count s c (kindIn p)) ps

@@ -1,5 +1,5 @@
--- The cut of a parameter list into parts, by itself: what the parts are, how they join, what is asked of them, and
--- their ranges. These are definitions.
+-- The cut of a parameter list into parts, by itself: what the parts are, how they join, when a cut is good, and the
+-- ranges of its parts. These are definitions.
 use mathlib.Core.Path.{_≡_}
 use mathlib.Core.Bool.{Bool, true, false, _&&_}
 use mathlib.Core.List.{List, [], _∷_, _++_}
@@ -84,7 +84,7 @@ namesOf (slash r ∷ ps) = namesOf ps
 namesOf (args r n ∷ ps) = n ∷ namesOf ps
 namesOf (kwargs r n ∷ ps) = n ∷ namesOf ps
 
--- none without default after one with
+-- no parameter without a default after one with a default
 abbrev pub defaultAt : List Ordinary → ℕ → Bool
 defaultAt [] i = false
 defaultAt (q ∷ qs) zero = q .default
@@ -107,7 +107,7 @@ StarGood noStar = Unit {0}
 StarGood (bare r qs) = Some qs
 StarGood (starred r n qs) = Unit {0}
 
--- what demand 3 asks of a cut
+-- a good cut, as demand 3 requires it
 pub record Good (c : Cut) : Type 0 where
   pub slash : SlashGood (c .before)
   pub star : StarGood (c .star)
@@ -174,7 +174,7 @@ cutFlat c = cutRanges c .kwargs .upto
 abbrev pub slice : {A : Type 0} → Range → List A → List A
 slice r l = take (r .upto - r .from) (drop (r .from) l)
 
--- how many of five ranges hold an index
+-- the number of the five ranges that hold an index
 abbrev pub holds : Range → ℕ → ℕ
 holds r i = if' (leb (r .from) i && ltb i (r .upto)) (λ _. 1) (λ _. 0)
 

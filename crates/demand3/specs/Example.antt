@@ -1,4 +1,4 @@
--- Two tables that demand 3 speaks of, record by record: `def f(a, /, b=1, *args, c, **k): pass`, and a def with 49
+-- Two tables to which demand 3 applies, record by record: `def f(a, /, b=1, *args, c, **k): pass`, and a def with 49
 -- parameters, one more than a list may have. These are definitions.
 use mathlib.Core.Bool.{true, false}
 use mathlib.Core.List.{List, [], _∷_, _++_}
@@ -33,7 +33,7 @@ table =
 abbrev pub names : List ℕ
 names = 97 ∷ 98 ∷ 97 ∷ 114 ∷ 103 ∷ 115 ∷ 99 ∷ 107 ∷ []
 
--- a lent buffer of eight bytes
+-- a buffer of eight bytes
 abbrev pub buffer : List ℕ
 buffer = replicate 8 255
 
@@ -64,7 +64,7 @@ cut = record {
   last = withKwargs (recordAt 7 kindKwArgsParam 0 1 7 27 30 1 1) (107 ∷ []);
 }
 
--- some bytes so many times over
+-- some bytes, repeated n times
 abbrev pub copies : ℕ → List ℕ → List ℕ
 copies zero bs = []
 copies (suc n) bs = bs ++ copies n bs

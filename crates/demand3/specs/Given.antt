@@ -17,7 +17,7 @@ use Rattle.parameters.specs.declared.Counted.{Counted}
 use Rattle.parameters.specs.Params.{listOf}
 use Rattle.demand3.specs.Cut.{Cut, join, Good, Ranges}
 
--- the records side by side that are parameters, wherever they stand among the others
+-- the records side by side that are parameters, wherever they are among the others
 unfoldable pub parametersIn : Forest → List Node
 parametersIn none = []
 parametersIn (node r ks then f) =

@@ -1,2 +1,2 @@
-// No code: demand 3 as theorems over the parameters job. specs/Cut.antt says what a cut is, proofs/Demand3.antt what is
-// proved of it.
+// No code: demand 3 as theorems about the parameters job. specs/Cut.antt defines a cut, proofs/Demand3.antt states the
+// theorems.

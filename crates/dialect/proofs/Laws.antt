@@ -1,4 +1,8 @@
--- What dialect bytes give, for every list of bytes: no bytes, nine valid ones, and all others. Assumes nothing.
+-- What dialect bytes mean, for every list of bytes. There are three cases: no bytes give Extended (`empty-given`), nine
+-- valid bytes give the record of those bytes (`valid-given`), and all other bytes give no dialect (`invalid-given`,
+-- `other-length`). The test of validity goes along the nine limits, so valid bytes are nine (`valid-length`, from
+-- Within). And nothing is lost: the nine numbers of the record are the bytes again (`row-of-record`), field by field,
+-- so two valid byte strings with one dialect are equal (`same-dialect`). Assumes nothing.
 use mathlib.Core.Path.{_≡_, refl, sym, ap, _∙_}
 use mathlib.Core.Bool.{Bool, true, false, false≢true}
 use mathlib.Core.List.{List, [], _∷_}

@@ -1,4 +1,5 @@
--- Two answers that meet the promise of a public function coincide. Assumes nothing.
+-- Two answers of a public function that meet its promise are equal. Each promise is an equation `r ≡ ...` over the
+-- arguments, so each law is fields' `coincide`. Assumes nothing.
 use mathlib.Core.Path.{_≡_}
 use mathlib.Core.Bool.{Bool}
 use mathlib.Core.List.{List}
@@ -18,7 +19,7 @@ use Rattle.dialect.specs.Editions.{editionOf, statedBytes, editionHeld}
 pub named-one : (name : Name) {r s : Dialect} → r ≡ dialectNamed name → s ≡ dialectNamed name → r ≡ s
 named-one name = coincide
 
--- of `from_bytes`, the bytes as lent
+-- of `from_bytes`
 pub from-bytes-one : (bytes : List ℕ) {r s : Decoded} → r ≡ fromBytes bytes → s ≡ fromBytes bytes → r ≡ s
 from-bytes-one bytes = coincide
 
@@ -27,7 +28,7 @@ pub permits-types-one : (types : DialectTypes) {r s : Bool} → r ≡ permitsTyp
     → r ≡ s
 permits-types-one types = coincide
 
--- of `valid_bytes`, the bytes as lent
+-- of `valid_bytes`
 pub valid-bytes-one : (bytes : List ℕ) {r s : Bool} → r ≡ validBytes bytes → s ≡ validBytes bytes → r ≡ s
 valid-bytes-one bytes = coincide
 
@@ -35,7 +36,7 @@ valid-bytes-one bytes = coincide
 pub edition-of-one : (number : ℕ) {r s : EditionRead} → r ≡ editionOf number → s ≡ editionOf number → r ≡ s
 edition-of-one number = coincide
 
--- of `edition_held`, the bytes as lent
+-- of `edition_held`
 pub edition-held-one : (bytes : List ℕ) (stated : Stated) {r s : EditionRead}
     → r ≡ editionHeld bytes (statedBytes stated) → s ≡ editionHeld bytes (statedBytes stated) → r ≡ s
 edition-held-one bytes stated = coincide

@@ -1,4 +1,7 @@
--- Numbers within limits are as many, and at each place at most the limit; and a list is its elements. Assumes nothing.
+-- Numbers that pass the test `within` against a list of limits: there are as many of them as limits (`within-length`),
+-- and each is at most its limit (`within-at`). Both are by induction on the two lists together, since `within` is a
+-- joined test at each place. A list is also its elements from a place on (`elements-drop`; the induction is on their
+-- number), by which Laws takes nine bytes apart. Assumes nothing.
 use mathlib.Core.Path.{_≡_, refl, sym, ap}
 use mathlib.Core.Bool.{Bool, true, false, _&&_, false≢true}
 use mathlib.Core.List.{List, [], _∷_}

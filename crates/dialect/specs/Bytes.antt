@@ -23,7 +23,7 @@ limits = 1 ∷ 1 ∷ 1 ∷ 1 ∷ 1 ∷ 2 ∷ 1 ∷ 1 ∷ 1 ∷ []
 unfoldable pub validBytes : List ℕ → Bool
 validBytes bytes = within limits bytes
 
--- no bytes give the dialect that is meant then, nine valid bytes give theirs, and all other bytes give none
+-- no bytes give the default dialect (`noneGiven`), nine valid bytes give their dialect, and all other bytes give none
 unfoldable pub fromBytes : List ℕ → Decoded
 fromBytes [] = Valid (dialectNamed noneGiven)
 fromBytes (b ∷ bs) = if' (validBytes (b ∷ bs)) (λ _. Valid (recordOf (b ∷ bs))) (λ _. Invalid)

@@ -14,12 +14,12 @@ use Rattle.fields.specs.Choice.{if'}
 unfoldable pub editionOf : ℕ → EditionRead
 editionOf n = if' (eqb n 1) (λ _. Known One) (λ _. if' (eqb n 2) (λ _. Known Two) (λ _. Unknown))
 
--- what a file holds of its edition: one number, or none
+-- what a file states of its edition: one number, or nothing
 abbrev pub statedBytes : Stated → List ℕ
 statedBytes (Number n) = n ∷ []
 statedBytes Nothing = []
 
--- the edition that holds in a file with these dialect bytes: none stated is the first; one that is stated needs dialect
+-- the edition of a file with these dialect bytes: the first if it states none; an edition that is stated needs dialect
 -- bytes before it
 unfoldable pub editionHeld : List ℕ → List ℕ → EditionRead
 editionHeld bytes [] = Known One

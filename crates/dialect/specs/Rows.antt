@@ -1,4 +1,4 @@
--- The dialects of src/dialect.rs: three rows of nine numbers, and the record that nine numbers stand for.
+-- The dialects of src/dialect.rs: three rows of nine numbers, and the record that nine numbers describe.
 -- Copyright 2018 The Starlark in Rust Authors. Copyright (c) Facebook, Inc. and its affiliates.
 -- Licensed under Apache-2.0; changed.
 use mathlib.Core.Bool.{Bool, true, false}
@@ -19,11 +19,11 @@ rowNamed Standard = 1 ∷ 1 ∷ 1 ∷ 0 ∷ 0 ∷ 0 ∷ 1 ∷ 0 ∷ 0 ∷ []
 rowNamed Extended = 1 ∷ 1 ∷ 1 ∷ 1 ∷ 0 ∷ 2 ∷ 1 ∷ 1 ∷ 0 ∷ []
 rowNamed AllOptionsInternal = 1 ∷ 1 ∷ 1 ∷ 1 ∷ 1 ∷ 2 ∷ 1 ∷ 1 ∷ 1 ∷ []
 
--- what a number of enable_types says: 0 Disable, 1 ParseOnly, 2 Enable
+-- the meaning of a number of enable_types: 0 Disable, 1 ParseOnly, 2 Enable
 abbrev pub typesOf : ℕ → DialectTypes
 typesOf n = if' (eqb n 0) (λ _. Disable) (λ _. if' (eqb n 1) (λ _. ParseOnly) (λ _. Enable))
 
--- whether a dialect with these types has them at all
+-- whether a dialect with this enable_types permits type annotations at all
 abbrev pub permitsTypes : DialectTypes → Bool
 permitsTypes Disable = false
 permitsTypes ParseOnly = true
@@ -47,6 +47,6 @@ recordOf row = record {
 abbrev pub dialectNamed : Name → Dialect
 dialectNamed name = recordOf (rowNamed name)
 
--- the dialect that is meant where none is given (W-207): the crate's Extended, which is not its Default
+-- the dialect of a table that gives none (W-207): the crate's Extended, which is not the crate's Default
 abbrev pub noneGiven : Name
 noneGiven = Extended

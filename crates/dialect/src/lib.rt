@@ -1,5 +1,5 @@
-// The dialect of a module: which language features are permitted. A dialect comes by its name, or from the nine bytes
-// of a table file. And the editions of the type rules (W-212), which come by a number.
+// The dialect of a module: which language features are permitted. A dialect has a name, or is read from the nine bytes
+// of a table file. Also the editions of the type rules (W-212), which are read from a number.
 //
 // Ported from src/dialect.rs of starlark_syntax 0.14.2, and changed: the named dialects are rows of numbers, and bytes
 // are read.
@@ -38,25 +38,25 @@ pub enum Name {
     AllOptionsInternal,
 }
 
-// What dialect bytes give: a dialect, or none where they are not valid.
+// The result of reading dialect bytes: a dialect, or Invalid.
 pub enum Decoded {
     Valid(Dialect),
     Invalid,
 }
 
-// The editions of the type rules. The second reads a path that ends in `type`, which the first bans.
+// The editions of the type rules. The second allows a path that ends in `type`; the first bans it.
 pub enum Edition {
     One,
     Two,
 }
 
-// What a number of an edition gives: the edition, or none for a number other than 1 and 2.
+// The result of reading an edition's number: the edition, or Unknown for a number other than 1 and 2.
 pub enum EditionRead {
     Known(Edition),
     Unknown,
 }
 
-// The edition that a file states by its number, which need be no edition, or nothing.
+// What a file states of its edition: a number, which may be no edition, or nothing.
 pub enum Stated {
     Number(u32),
     Nothing,
@@ -69,7 +69,7 @@ const DIALECTS: [[u8; 9]; 3] = [
     [1, 1, 1, 1, 1, 2, 1, 1, 1],
 ];
 
-// The dialect that is meant where none is given.
+// The dialect of a table that gives none.
 const NONE_GIVEN: Name = Name::Extended;
 
 // The dialect of a name.
@@ -80,7 +80,7 @@ pub fn named(name: Name) -> Dialect
     record_of(&row)
 }
 
-// The dialect that bytes give: nine bytes in the order of the fields of Dialect, or none at all.
+// Reads a dialect from nine bytes in the order of the fields of Dialect. No bytes give NONE_GIVEN.
 pub fn from_bytes(bytes: &[u8]) -> Decoded
     ensures { λ r. ⌜ r ≡ fromBytes (now (bytes .entry)) ⌝ }
 {
@@ -93,7 +93,7 @@ pub fn from_bytes(bytes: &[u8]) -> Decoded
     Decoded::Invalid
 }
 
-// Whether a dialect with these types has them at all.
+// Whether a dialect with this enable_types permits type annotations at all.
 pub fn permits_types(types: DialectTypes) -> bool
     ensures { λ r. ⌜ r ≡ permitsTypes types ⌝ }
 {
@@ -117,8 +117,8 @@ pub fn edition_of(number: u32) -> EditionRead
     EditionRead::Unknown
 }
 
-// The edition that holds in a file with these dialect bytes: the first where it states none. One that is stated needs
-// dialect bytes before it.
+// The edition of a file with these dialect bytes: the first if it states none. An edition that is stated needs dialect
+// bytes before it.
 pub fn edition_held(bytes: &[u8], stated: Stated) -> EditionRead
     ensures { λ r. ⌜ r ≡ editionHeld (now (bytes .entry)) (statedBytes stated) ⌝ }
 {
@@ -162,7 +162,7 @@ fn record_of(row: &[u8]) -> Dialect
     }
 }
 
-// What a number of enable_types says.
+// The meaning of a number of enable_types.
 fn types_of(number: u8) -> DialectTypes
     ensures { λ r. ⌜ r ≡ typesOf number ⌝ }
 {
@@ -175,7 +175,7 @@ fn types_of(number: u8) -> DialectTypes
     DialectTypes::Enable
 }
 
-// Whether bytes are the nine numbers of a dialect. No bytes are not, though they give one.
+// Whether bytes are the nine numbers of a dialect. The empty list is not, though `from_bytes` gives a dialect for it.
 pub fn valid_bytes(bytes: &[u8]) -> bool
     ensures { λ r. ⌜ r ≡ validBytes (now (bytes .entry)) ⌝ }
 {

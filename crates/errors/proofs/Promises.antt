@@ -1,4 +1,6 @@
--- Two answers that meet the promise of a public function coincide, and so do the two lists of words. Assumes nothing.
+-- The contract of each public function leaves one answer: two answers that meet it are equal, and so are the two lists
+-- of words at exit. `Stores` is two equations, one for the number returned and one for the list, so each follows from
+-- the other answer's by transitivity. Assumes nothing.
 use mathlib.Core.Path.{_≡_}
 use mathlib.Core.Bool.{Bool}
 use mathlib.Core.List.{List}

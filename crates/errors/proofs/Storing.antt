@@ -1,5 +1,10 @@
--- Laws of errors stored in a list of words of any form: what a check leaves, and checks of which each is lent the words
--- that are still free. Assumes nothing.
+-- A check counts all its errors and stores the first that fit whole; the next check gets only the words that are still
+-- free. This file shows that checks in a row store what one check of all their errors would store (`stores-both`; for a
+-- loop `turns-start`, `turns-on`, `turns-end`). The reason is `stored-append`: after the errors es the next error
+-- begins at the first free word, or at the end of the list. Its induction is on es: an error either fits and takes its
+-- words, or the list is full and nothing more is stored. The laws are stated once for the four forms of a list
+-- (`Listing`), over the number of words of an error and the errors that a form keeps. Cite `stores-both`, `stores-few`
+-- (a check counts no more than it finds) and `stored-all` (a list with room for all). Assumes nothing.
 use mathlib.Core.Path.{_≡_, refl, sym, ap, _∙_}
 use mathlib.Core.Bool.{Bool, true, false}
 use mathlib.Core.List.{List, [], _∷_, _++_, append-nil, append-assoc}
@@ -18,7 +23,7 @@ use Rattle.errors.specs.declared.Err.{Err}
 use Rattle.errors.specs.declared.Listing.{Listing}
 use Rattle.errors.specs.declared.Listing.the-variants.{Module, Own, Audit, Numbers}
 
--- LAW: what is kept of errors and others: what is kept of each; and it is no more than there are
+-- LAW: of two lists of errors, a form keeps what it keeps of each; it never keeps more errors than there are
 without-append : (es fs : List Err) → withoutLists (es ++ fs) ≡ withoutLists es ++ withoutLists fs
 unfolding withoutLists
 without-append [] fs = refl
@@ -59,7 +64,7 @@ kept-none Own = refl
 kept-none Audit = refl
 kept-none Numbers = refl
 
--- LAW: an error of a parameter list is not kept among the module pass's own, any other is
+-- LAW: the form Own does not keep an error of a parameter list, and keeps any other
 module _ (e : Err) {b : Bool} (b-is : b ≡ isListError (e .number)) where
   pub own-left : b ≡ true → kept Own (only e) ≡ []
   unfolding withoutLists
@@ -71,7 +76,7 @@ module _ (e : Err) {b : Bool} (b-is : b ≡ isListError (e .number)) where
 
 -- storing one error and then others
 module _ (l : Listing) where
-  -- an error has as many words as it says
+  -- an error has as many words as the form says
   words-width : (e : Err) → length (wordsOf l e) ≡ width l
   words-width e = go l
     where
@@ -81,7 +86,7 @@ module _ (l : Listing) where
       go Audit = refl
       go Numbers = refl
 
-  -- there is room for an error, or none
+  -- case split: there is room for one more error, or there is not
   room : {P : Type 0} (xs : List ℕ) → (width l ≤ length xs → P) → (length xs < width l → P) → P
   room {P} xs fits full = go (le-or-lt (width l) (length xs))
     where
@@ -98,7 +103,7 @@ module _ (l : Listing) where
     unfolding stored
     stored-full h = rw (lt-leb (width l) (length xs) h) refl
 
-  -- LAW: nothing is stored of no errors, and no word is added or taken
+  -- LAW: no error leaves the list as it is; storing keeps the length of the list
   pub stored-none : (xs : List ℕ) → stored l [] xs ≡ xs
   unfolding stored
   stored-none xs = refl
@@ -123,7 +128,7 @@ module _ (l : Listing) where
       some Audit = omega arith
       some Numbers = omega arith
 
-  -- LAW: where the first errors are stored, the next begin at the first free word, or at the end
+  -- LAW: after the first errors the next ones are stored from the first free word on, or nowhere if there is none
   pub stored-append : (es fs : List Err) (xs : List ℕ) →
       stored l (es ++ fs) xs ≡ take (min (width l * length es) (length xs)) (stored l es xs)
       ++ stored l fs (drop (min (width l * length es) (length xs)) (stored l es xs))
@@ -155,8 +160,8 @@ module _ (l : Listing) where
         append-nil xs,
       ) refl)
 
--- in the terms of code: where the free words begin after so many errors, a list from a place on, and a list that was
--- lent from a place on and has come back
+-- as the code computes them: where the free words begin after `count` errors, the part of a list from an index on, and
+-- a list whose part from an index on was lent and has come back as ys
 abbrev pub freeAt : Listing → ℕ → List ℕ → ℕ
 freeAt l count xs = min (width l * count) (length xs)
 
@@ -172,7 +177,7 @@ put-tail a s ys = simp (
   append-nil,
 )
 
--- LAW: errors of which none is kept leave every word; so does a check that finds nothing
+-- LAW: errors of which none is kept change no word; a check that finds nothing changes no word
 pub stores-nothing : {l : Listing} (es : List Err) (xs : List ℕ) → kept l es ≡ [] → Stores l es xs 0 xs
 stores-nothing {l} es xs nothing =
     record { count = rw nothing refl; words = rw nothing (sym (stored-none l xs)) }
@@ -180,7 +185,7 @@ stores-nothing {l} es xs nothing =
 pub stores-none : {l : Listing} (xs : List ℕ) → Stores l [] xs 0 xs
 stores-none {l} xs = stores-nothing [] xs (kept-none l)
 
--- LAW: two checks, of which the second is lent the words that the first leaves free
+-- LAW: two checks, where the second is lent the words that the first leaves free, store as one check of all errors
 pub stores-both : {l : Listing} (es fs : List Err) {xs ys zs : List ℕ} {m n at : ℕ} → Stores l es xs m ys
     → at ≡ freeAt l m ys → Stores l fs (after at ys) n zs
     → Stores l (es ++ fs) xs (m + n) (back at ys zs)
@@ -194,7 +199,7 @@ stores-both {l} es fs {xs} {ys} {zs} {m} {n} {at} s at-is q =
       words = put-tail at ys zs ∙ rw (z, s .words, a, both) (sym (stored-append l (kept l es) (kept l fs) xs));
     }
 
--- LAW: one error that is kept is its words, as code stores them one by one, where they fit, and nothing else
+-- LAW: one error that is kept: its words, stored one by one, if they fit; otherwise nothing
 module _ {l : Listing} (xs : List ℕ) (e : Err) (whole : kept l (only e) ≡ only e) where
   push-fits : width l ≤ length xs → Stores l (only e) xs 1 (sets xs 0 (wordsOf l e))
   push-fits h =
@@ -228,8 +233,7 @@ module _ (xs : List ℕ) (e : Err) where
   pub number-full : length xs < width Numbers → Stores Numbers (only e) xs 1 xs
   number-full = push-full xs e refl
 
--- LAW: an error of a parameter list leaves every word of the module pass's own; any other is stored as the audit stores
--- it
+-- LAW: in the form Own an error of a parameter list changes no word, and any other is stored as in the form Audit
 module _ (e : Err) {b : Bool} (b-is : b ≡ isListError (e .number)) {xs : List ℕ} where
   pub push-left : b ≡ true → Stores Own (only e) xs 0 xs
   push-left h = stores-nothing (only e) xs (own-left e b-is h)
@@ -238,7 +242,7 @@ module _ (e : Err) {b : Bool} (b-is : b ≡ isListError (e .number)) {xs : List 
   unfolding stored
   push-own h s = let whole = own-kept e b-is h in record { count = rw whole (s .count); words = rw whole (s .words) }
 
--- LAW: an error that is known is stored as such, and in a form that is known
+-- LAW: an equal error, or an equal form, is stored alike
 pub push-known : {l : Listing} {e f : Err} {m : ℕ} {xs ys : List ℕ} → e ≡ f → Stores l (only e) xs m ys
     → Stores l (only f) xs m ys
 push-known known s = rw (← known) s
@@ -259,14 +263,14 @@ pub unless-few : (b : Bool) (e : Err) → length (unlessIn b e) ≤ 1
 unless-few true e = omega arith
 unless-few false e = omega arith
 
--- LAW: a check counts no more than it finds
+-- LAW: a check counts no more errors than it finds
 pub stores-few : {l : Listing} (es : List Err) {xs ys : List ℕ} {m : ℕ} → Stores l es xs m ys → m ≤ length es
 stores-few {l} es q = omega (arith, q .count, kept-few l es)
 
 pub unless-one : {l : Listing} (b : Bool) (e : Err) {xs ys : List ℕ} {m : ℕ} → Stores l (unlessIn b e) xs m ys → m ≤ 1
 unless-one b e q = omega (arith, stores-few _ q, unless-few b e)
 
--- LAW: a list with room for all errors holds the words of each, and its other words stay
+-- LAW: a list with room for all errors gets the words of each, and its other words are unchanged
 abbrev pub allWords : Listing → List Err → List ℕ
 allWords l [] = []
 allWords l (e ∷ es) = wordsOf l e ++ allWords l es
@@ -283,8 +287,8 @@ stored-all l (e ∷ es) xs h =
     rw (stored-fits l e es xs (omega arith), next, skip)
     (sym (append-assoc (wordsOf l e) (allWords l es) (drop (width l * suc (length es)) xs)))
 
--- checks in a loop, each lent the words that those before it leave free: of all errors some are stored in the words
--- xs₀, which are now xs, and the rest is left
+-- the invariant of a loop of checks, each lent the words that those before it leave free: of `all` errors some are
+-- stored in the words xs₀, which are now xs, and `rest` is left
 pub record Turns (l : Listing) (all : List Err) (xs₀ : List ℕ) (rest : List Err) (total : ℕ)
     (xs : List ℕ) : Type 0 where
   pub done : List Err
@@ -305,7 +309,7 @@ module _ {l : Listing} {all : List Err} {xs₀ : List ℕ} {rest : List Err} {to
   pub turns-few : total ≤ length all
   turns-few = omega (arith, stores-few _ (t .stores), simp length-append at (ap length (t .same)))
 
-  -- LAW: the next check, which is told the first of what is left
+  -- LAW: the next check, which finds the first errors of what is left
   pub turns-on : {one more : List Err} → rest ≡ one ++ more → {at n : ℕ} {zs : List ℕ}
       → at ≡ freeAt l total xs → Stores l one (after at xs) n zs
       → Turns l all xs₀ more (total + n) (back at xs zs)

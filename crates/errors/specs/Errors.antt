@@ -1,5 +1,5 @@
--- Errors that stand at records, and how they lie in a lent list of words: its form says which errors are kept and which
--- words each has. These are definitions.
+-- Errors at records, and how they are stored in a lent list of words. The form of the list says which errors are kept
+-- and which words each has. These are definitions.
 use mathlib.Core.Path.{_≡_}
 use mathlib.Core.Bool.{Bool, true, false, _&&_}
 use mathlib.Core.List.{List, [], _∷_, _++_}
@@ -15,7 +15,7 @@ use Rattle.errors.specs.declared.Err.{Err}
 use Rattle.errors.specs.declared.Listing.{Listing}
 use Rattle.errors.specs.declared.Listing.the-variants.{Module, Own, Audit, Numbers}
 
--- an error: document 01's number, the index of a record, and a span
+-- an error: its number (docs/RULES.md), the index of a record, and a span
 abbrev pub err : ℕ → ℕ → Span → Err
 err n i s = record { number = n; node = i; span = s }
 
@@ -27,7 +27,7 @@ errAt n r = err n (r .at) (spanAt r)
 abbrev pub only : Err → List Err
 only e = e ∷ []
 
--- an error unless something is permitted, and one at a record
+-- an error unless something is permitted; the same for an error at a record
 abbrev pub unlessIn : Bool → Err → List Err
 unlessIn true e = []
 unlessIn false e = e ∷ []
@@ -44,14 +44,14 @@ unfoldable pub withoutLists : List Err → List Err
 withoutLists [] = []
 withoutLists (e ∷ es) = if' (isListError (e .number)) (λ _. withoutLists es) (λ _. e ∷ withoutLists es)
 
--- which errors a form keeps: the others are neither counted nor stored
+-- the errors that a form keeps; the others are neither counted nor stored
 abbrev pub kept : Listing → List Err → List Err
 kept Module es = es
 kept Own es = withoutLists es
 kept Audit es = es
 kept Numbers es = es
 
--- how many words an error has, how many with its node, and one where its number is all that is kept of it
+-- the number of words of an error: without its node, with it, and 1 where only its number is stored
 abbrev pub errorWords : ℕ
 errorWords = 4
 
@@ -64,7 +64,7 @@ width Own = auditWords
 width Audit = auditWords
 width Numbers = 1
 
--- its words: number, source file, begin and end; with the node one more; or the number alone
+-- the words of an error: number, source file, begin and end; then the node; or the number alone
 abbrev pub placeWords : Err → List ℕ
 placeWords e = e .number ∷ e .span .file ∷ e .span .begin ∷ e .span .end ∷ []
 
@@ -77,14 +77,14 @@ wordsOf Own e = nodeWords e
 wordsOf Audit e = nodeWords e
 wordsOf Numbers e = e .number ∷ []
 
--- a list of words after errors were stored in it: the first that fit whole, and every other word as it was
+-- a list of words after errors were stored in it: the first that fit whole; every other word is unchanged
 unfoldable pub stored : Listing → List Err → List ℕ → List ℕ
 stored l [] xs = xs
 stored l (e ∷ es) xs =
     if' (leb (width l) (length xs)) (λ _. wordsOf l e ++ stored l es (drop (width l) xs)) (λ _. xs)
 
--- what a check does that finds the errors es: it counts all that the form keeps, and stores those of them that fit into
--- the words xs, which become ys
+-- a check that finds the errors es: it counts all that the form keeps, and stores those of them that fit into the words
+-- xs, which become ys
 pub record Stores (l : Listing) (es : List Err) (xs : List ℕ) (total : ℕ) (ys : List ℕ) : Type 0 where
   pub count : total ≡ length (kept l es)
   pub words : ys ≡ stored l (kept l es) xs

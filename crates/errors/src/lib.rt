@@ -1,6 +1,6 @@
-// Errors in a lent list of words: storing one where it fits whole, and where the words begin that are still free.
-// A check is lent only the words that are still free, counts all its errors, and stores the first that fit. The list
-// has a form, which says how many words an error has, and which errors are left out.
+// Stores errors in a lent list of words. A check is lent only the words that are still free; it counts all its errors,
+// and stores the first that fit whole. The form of the list says how many words an error has, and which errors are left
+// out.
 use table::Span;
 use table::numbers;
 ghost use mathlib.Core.Path.{_≡_};
@@ -9,13 +9,13 @@ ghost use Rattle.forest.specs.Forest.{nodeOf};
 ghost use Rattle.errors.specs.Errors.{errAt, only, unless, isListError, width, Stores};
 ghost use Rattle.errors.specs.declared.Listing.the-variants.{Module, Own, Audit, Numbers};
 
-// How many words an error of the module pass has: its number, source file, begin and end.
+// Number of words of an error of the module pass: its number, source file, begin and end.
 pub const WIDTH: usize = 4;
 
-// How many it has with its node, which stands last.
+// Number of words of an error with its node, which comes last.
 pub const WIDTH_WITH_NODE: usize = WIDTH + 1;
 
-// An error: its number, the index of the record that it speaks of, and where it stands in the script.
+// An error: its number, the index of its record, and its place in the script.
 pub struct Err {
     pub number: u32,
     pub node: u32,
@@ -24,13 +24,13 @@ pub struct Err {
 
 // The form of a list of errors.
 pub enum Listing {
-    Module, // the module pass's: WIDTH words an error
-    Own, // the module pass's in the audit: with the node, and the errors of parameter lists, 10 to 19, are left out
-    Audit, // the audit's: with the node
-    Numbers, // the module pass's for who counts them: the number alone, one word an error
+    Module, // of the module pass: WIDTH words an error
+    Own, // of the module pass in the audit: with the node; errors of parameter lists, 10 to 19, are left out
+    Audit, // of the audit: with the node
+    Numbers, // of the module pass, for callers that count errors: the number alone, one word an error
 }
 
-// One error: stored where there is room for it, and counted in any case, if the form keeps it.
+// Stores one error if there is room for it, and counts it in any case, if the form keeps it.
 pub fn push(listing: Listing, e: Err, errors: &mut [u32]) -> usize
     ensures { λ r. ⌜ Stores listing (only e) (now (errors .entry)) r (now (errors .exit)) ⌝ }
 {
@@ -42,7 +42,7 @@ pub fn push(listing: Listing, e: Err, errors: &mut [u32]) -> usize
     }
 }
 
-// An error without its node.
+// Stores an error without its node.
 fn push_short(e: Err, errors: &mut [u32]) -> usize
     ensures { λ r. ⌜ Stores Module (only e) (now (errors .entry)) r (now (errors .exit)) ⌝ }
 {
@@ -56,7 +56,7 @@ fn push_short(e: Err, errors: &mut [u32]) -> usize
     1
 }
 
-// An error with its node.
+// Stores an error with its node.
 fn push_long(e: Err, errors: &mut [u32]) -> usize
     ensures { λ r. ⌜ Stores Audit (only e) (now (errors .entry)) r (now (errors .exit)) ⌝ }
 {
@@ -71,7 +71,7 @@ fn push_long(e: Err, errors: &mut [u32]) -> usize
     1
 }
 
-// The number of an error.
+// Stores the number of an error.
 fn push_number(e: Err, errors: &mut [u32]) -> usize
     ensures { λ r. ⌜ Stores Numbers (only e) (now (errors .entry)) r (now (errors .exit)) ⌝ }
 {
@@ -81,7 +81,7 @@ fn push_number(e: Err, errors: &mut [u32]) -> usize
     1
 }
 
-// An error with its node, unless it is an error of a parameter list.
+// Stores an error with its node, unless it is an error of a parameter list.
 fn push_own(e: Err, errors: &mut [u32]) -> usize
     ensures { λ r. ⌜ Stores Own (only e) (now (errors .entry)) r (now (errors .exit)) ⌝ }
 {
@@ -91,14 +91,14 @@ fn push_own(e: Err, errors: &mut [u32]) -> usize
     0
 }
 
-// Whether a number is one of parameter lists.
+// Whether a number is that of an error of parameter lists, 10 to 19.
 fn is_list_error(number: u32) -> bool
     ensures { λ r. ⌜ r ≡ isListError number ⌝ }
 {
     (numbers::SLASH_FIRST <= number) & (number <= numbers::TOO_MANY_PARAMETERS)
 }
 
-// The error of a number at the record that a stretch begins with; at is its index.
+// The error with a number at the first record of t, whose index is at.
 fn error_at(number: u32, t: &[u8], at: u32) -> Err
     ensures { λ r. ⌜ r ≡ errAt number (nodeOf at (now (t .entry))) ⌝ }
 {
@@ -109,7 +109,7 @@ fn error_at(number: u32, t: &[u8], at: u32) -> Err
     }
 }
 
-// An error at the record that a stretch begins with; at is its index.
+// Stores an error at the first record of t, whose index is at.
 pub fn push_at(listing: Listing, number: u32, t: &[u8], at: u32, errors: &mut [u32]) -> usize
     ensures { λ r. ⌜ Stores listing (only (errAt number (nodeOf at (now (t .entry))))) (now (errors .entry)) r
         (now (errors .exit)) ⌝ }
@@ -117,7 +117,7 @@ pub fn push_at(listing: Listing, number: u32, t: &[u8], at: u32, errors: &mut [u
     push(listing, error_at(number, t, at), errors)
 }
 
-// The same, unless something is permitted.
+// Stores an error at the first record of t, unless something is permitted.
 pub fn push_unless(
     listing: Listing,
     permitted: bool,
@@ -135,7 +135,7 @@ pub fn push_unless(
     push_at(listing, number, t, at, errors)
 }
 
-// Where the free words begin after so many errors: behind them, or at the end.
+// The index of the first free word after count errors in a list of len words; len if there is none.
 pub fn free(listing: Listing, len: usize, count: usize) -> usize
     ensures { λ r. ⌜ r ≡ min (width listing * count) len ⌝ }
 {
@@ -147,7 +147,7 @@ pub fn free(listing: Listing, len: usize, count: usize) -> usize
     }
 }
 
-// The same behind errors without their node, with it, and behind numbers.
+// The same for errors without their node, for errors with it, and for numbers.
 fn free_short(len: usize, count: usize) -> usize
     ensures { λ r. ⌜ r ≡ min (width Module * count) len ⌝ }
 {

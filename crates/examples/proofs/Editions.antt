@@ -1,6 +1,6 @@
--- The two editions on a table: the type of `t: t.type = 1` is 44 at the `t` before the dot by the first edition, and
--- accepted by the second; by no other number is it read. So each hypothesis of the theorems of W-212 can be met.
--- Everything is computed from the bytes of the table. Assumes nothing.
+-- The two editions on one table: the type of `t: t.type = 1` is refused by the first edition with 44 at the `t` before
+-- the dot, and accepted by the second; any other number of an edition is refused with 5. So each hypothesis of the
+-- theorems of W-212 can be met. Everything is computed from the bytes of the table (`refl`). Assumes nothing.
 use mathlib.Core.Path.{_≡_, refl}
 use mathlib.Core.List.{[], _∷_}
 use Rattle.fields.specs.Field.{field}
@@ -31,19 +31,19 @@ unfolding checkOf lengthSound firstUnsound firstFalse recordSound rootSound soun
     kindIn kindOf forestIn forest kidsOf restOf sizeOf field count same firstDeep classWeight weight
 sound = refl
 
--- EXAMPLE: by the first edition 44, at node 3, from 3 to 4 in source file 1
+-- EXAMPLE: the first edition refuses with 44, at node 3, from 3 to 4 in source file 1
 pub first-bans : typeShapeOf typedPath typeName [] 1 2 2 ≡ refused dotTypeBan (3 ∷ 3 ∷ 4 ∷ 1 ∷ [])
 unfolding typeShapeOf rulesOf editionOf givenOf fromBytes recordOf typeAt nodeFits wants kindIn kindOf stretchOf sizeOf
     field forestIn forest kidsOf restOf nameOf same «dialect_check_type» «unpack» formOf atNode «unpack_path» objectPath
 first-bans = rw sound refl
 
--- EXAMPLE: by the second edition it is accepted
+-- EXAMPLE: the second edition accepts it
 pub second-reads : typeShapeOf typedPath typeName [] 2 2 2 ≡ accepted []
 unfolding typeShapeOf rulesOf editionOf givenOf fromBytes recordOf typeAt nodeFits wants kindIn kindOf stretchOf sizeOf
     field forestIn forest kidsOf restOf nameOf same «dialect_check_type» «unpack» formOf atNode «unpack_path» objectPath
 second-reads = rw sound refl
 
--- EXAMPLE: 0 and 3 are no editions
+-- EXAMPLE: 0 and 3 are not editions
 pub zero-is-none : typeShapeOf typedPath typeName [] 0 2 2 ≡ refused badDialect []
 unfolding typeShapeOf rulesOf editionOf givenOf fromBytes
 zero-is-none = rw sound refl

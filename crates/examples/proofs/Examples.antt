@@ -1,5 +1,7 @@
--- Document 01's table of proved examples, all its rows in one statement; and the table of the second edition of the
--- type rules. Assumes nothing.
+-- The table of worked examples (specs/Table.antt), all rows in one theorem: each row shows what the definitions give,
+-- which the contracts of the jobs cite. The same for the table of the second edition of the type rules. Both sides
+-- compute to the same list (`refl`), for whatever record the def of the parameters has, because a list of at most 48
+-- entries does not read it. Cite `examples` and `second-edition`. Assumes nothing.
 use mathlib.Core.Path.{_≡_, refl}
 use mathlib.Core.List.{map}
 use lib.ListN.{length}

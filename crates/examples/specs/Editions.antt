@@ -1,11 +1,11 @@
--- The smallest module with a path that ends in `type` where a type stands: `t: t.type = 1`, five records. These are
+-- The smallest module with a type that is a path ending in `type`: `t: t.type = 1`, five records. These are
 -- definitions.
 use mathlib.Core.List.{List, [], _∷_, _++_}
 use Prim.Native.Nat.{ℕ}
 use Rattle.soundness.specs.KindNumbers.{kindAssign, kindDot, kindIdentifier, kindInt}
 
--- a record of 24 bytes in source file 1: its kind and detail, the length of its name, which stands at the front of the
--- names, where it begins and ends, how many nodes it covers
+-- a record of 24 bytes in source file 1: its kind and detail, the length of its name, which is at the start of the
+-- names, its begin and end, and the number of its nodes
 abbrev pub recordOf : ℕ → ℕ → ℕ → ℕ → ℕ → ℕ → List ℕ
 recordOf kind detail name begin stop size =
     (kind ∷ detail ∷ name ∷ 0 ∷ 0 ∷ 0 ∷ 0 ∷ 0 ∷ [])

@@ -1,5 +1,5 @@
--- Document 01's table of proved examples: a row for each, on the definitions that the promises cite; and a second
--- table, of what the second edition of the type rules reads otherwise (W-212). These are definitions.
+-- A table of worked examples of the rules (docs/RULES.md), on the definitions that the contracts cite; and a second
+-- table, of the types that the second edition of the type rules reads differently (W-212). These are definitions.
 use mathlib.Core.Bool.{true, false}
 use mathlib.Core.List.{List, [], _∷_}
 use Prim.Native.Nat.{ℕ}
@@ -25,11 +25,11 @@ use Rattle.arguments.specs.Call as call
 use Rattle.arguments.specs.Job.{outcomeAnswer}
 use Rattle.types.specs.Types.{«unpack»}
 
--- the names that trees speak of: type, a, b, f, x, y, int, str, one after the other
+-- the names that the trees use: type, a, b, f, x, y, int, str, one after the other
 abbrev pub names : List ℕ
 names = 116 ∷ 121 ∷ 112 ∷ 101 ∷ 97 ∷ 98 ∷ 102 ∷ 120 ∷ 121 ∷ 105 ∷ 110 ∷ 116 ∷ 115 ∷ 116 ∷ 114 ∷ []
 
--- a record of a kind, with the name of so many bytes that starts at a place
+-- a record of a kind, with a name given by its length and start
 abbrev pub named : ℕ → ℕ → ℕ → Node
 named kind start len = record {
   at = 0;
@@ -47,7 +47,7 @@ named kind start len = record {
 abbrev pub plain : ℕ → Node
 plain kind = named kind 0 0
 
--- parameters: a, a = 1, `*`, `/`, `*args`, `**k`, where a name is its bytes
+-- parameters: a, a = 1, `*`, `/`, `*args`, `**k`; a name is given by its bytes
 abbrev pub parameter : ℕ → Param
 parameter name = normal (plain kindNormal) (name ∷ []) false
 
@@ -113,13 +113,14 @@ xDotType = dot (identifier 7 1) 0 4
 abbrev pub oneDotType : Tree
 oneDotType = dot (node (plain kindInt) none) 0 4
 
--- what is asked: a parameter list, the arguments of a call, a type by an edition
+-- the left side of a row: a parameter list, the arguments of a call, or a type in an edition
 pub data Asked : Type 0 where
   parameters : List Param → Asked
   arguments : List written.Argument → Asked
   aType : Edition → Tree → Asked
 
--- what is shown of an answer: the numbers of a list with its named-only range; a refusal's number; nothing else
+-- the right side of a row: the numbers of a list with its named-only range, the number of a refusal, or plain
+-- acceptance
 pub data Shown : Type 0 where
   list : ℕ → ℕ → Place → Place → Range → Shown
   number : ℕ → Shown
@@ -139,7 +140,7 @@ abbrev pub ofAnswer : Answer → Shown
 ofAnswer (accepted vs) = fine
 ofAnswer (refused n vs) = number n
 
--- what the definitions answer, where this is the record of the def that has the parameters
+-- what the definitions give; the first argument is the record of the def with the parameters
 abbrev pub answer : Node → Asked → Shown
 answer owner (parameters l) = ofOutcome (limited owner l)
 answer owner (arguments l) = ofAnswer (outcomeAnswer (call.unpack l))
@@ -172,7 +173,7 @@ table =
     row (aType One (dot xDotType 8 1)) fine ∷  -- x.type.y
     []
 
--- the same by the second edition
+-- the same in the second edition
 abbrev pub secondEdition : List Row
 secondEdition =
     row (aType Two xDotType) fine ∷  -- x.type

@@ -1,2 +1,2 @@
-// No code: document 01's table of proved examples. specs/Table.antt is the table, proofs/Examples.antt the one
-// statement that checks all its rows.
+// No code: a table of worked examples of the rules (docs/RULES.md). specs/Table.antt is the table; proofs/Examples.antt
+// has the one theorem about all its rows.

@@ -1,4 +1,8 @@
--- Small laws that every crate cites: what cannot be, tests joined, parts of parts. Assumes nothing.
+-- Small laws that every crate cites. Equal constructors that differ give anything (`never`, `clash`). A joined test
+-- holds exactly where both parts do (`and-left`, `and-right`, `and-both`), and two tests that follow from each other
+-- are equal (`both-ways`). Any two numbers are ordered one way or the other (`le-or-lt`). The part from k on of the
+-- first n is the first n - k from k on (`drop-take`); its induction is on k, n and the list together. The others split
+-- on the tests. Assumes nothing.
 use mathlib.Core.Path.{_≡_, refl, sym, ap}
 use mathlib.Core.Bool.{Bool, true, false, _&&_}
 use mathlib.Core.List.{List, [], _∷_}

@@ -1,4 +1,6 @@
--- Two answers that meet the same promise coincide. Assumes nothing.
+-- Two answers that meet the same promise are equal. A promise is an equation `answer ≡ z`, so two answers are both z
+-- (`coincide`). Where it is an equation of what the answer means, the answers are equal if no two answers mean the same
+-- (`coincide-by`). Every Promises file cites these two. Assumes nothing.
 use mathlib.Core.Path.{_≡_, sym, _∙_}
 
 -- a promise that is an equation has one answer

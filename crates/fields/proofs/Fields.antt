@@ -1,4 +1,8 @@
--- Laws of little-endian fields, each stated once, over the width. Assumes nothing.
+-- Little-endian fields, each law once for all widths. A field of j + k bytes is one of j bytes and, 256^j times, one of
+-- k bytes (`field-split`). A field depends on its own bytes alone: dropping bytes before it moves it (`field-drop`), a
+-- part that holds it reads the same (`field-take`, `field-same`), and past the end it is 0 (`field-past`). All these
+-- are by induction on the width. `word` and `long` read a field as two fields of half the width of the part that begins
+-- there: cite `field-halves` and `field-words`. Assumes nothing.
 use mathlib.Core.Path.{_≡_, refl, sym}
 use mathlib.Core.List.{List}
 use Prim.Native.Nat.{ℕ, zero, suc, _+_, _*_, _<_, _≤_, _-_, _^_}

@@ -1,5 +1,5 @@
--- Laws of bytes laid over a buffer. Laid bytes split the buffer in three: what stands before them, themselves, and what
--- stands behind (`over`). A place past the end has nothing behind it, so what is laid up to the end of the bytes
+-- Laws of bytes laid over a buffer. Laid bytes split the buffer in three: what is before them, themselves, and what
+-- is behind (`over`). A place past the end has nothing behind it, so what is laid up to the end of the bytes
 -- (`over-upto`) and what is left behind (`over-from`) need no premise: both cases of `le-or-lt` agree. Two stretches
 -- one after the other are therefore one (`over-next`), and a part that is lent from a place on, with bytes laid over
 -- its front, is the whole with them laid over that place (`over-part`). Bytes stored one by one are laid (`over-sets`).
@@ -41,11 +41,11 @@ module _ (at : ℕ) (a d : List ℕ) where
   unfolding over
   parts = sym (append-assoc (take at d) a (drop (at + length a) d))
 
-  -- a place inside the buffer: the bytes end behind as many as stand before them
+  -- a place inside the buffer: the bytes end behind as many as are before them
   long : at ≤ length d → length (take at d ++ a) ≡ at + length a
   long h = simp (length-append, length-take-le at d h) refl
 
-  -- a place past its end: nothing stands behind the bytes
+  -- a place past its end: nothing is behind the bytes
   module _ (h : length d < at) where
     whole : over at a d ≡ take at d ++ a
     whole = parts ∙ rw (drop-of-length-le d {i = at + length a} (omega arith)) (append-nil (take at d ++ a))
@@ -53,7 +53,7 @@ module _ (at : ℕ) (a d : List ℕ) where
     ends : length (take at d ++ a) ≤ at + length a
     ends = simp (length-append, take-all at d (omega arith)) (omega arith)
 
-  -- what stands there up to the end of the bytes, and from there on
+  -- what is there up to the end of the bytes, and from there on
   pub over-upto : take (at + length a) (over at a d) ≡ take at d ++ a
   over-upto = ⊎-elim
       (λ (h : at ≤ length d). ap (take (at + length a)) parts

@@ -1,4 +1,5 @@
--- Two answers that meet the promise of a public function coincide. Assumes nothing.
+-- Two answers of `byte`, `half`, `word` or `long` that meet the promise of that function are equal. Each promise is an
+-- equation `r ≡ ...`, so each law is `coincide`; nothing is left to the code. Assumes nothing.
 use mathlib.Core.Path.{_≡_}
 use mathlib.Core.List.{List}
 use Prim.Native.Nat.{ℕ}

@@ -1,5 +1,8 @@
--- Laws of numbers as bytes, over the width: reading gives back what is spelled, and spelling what is read. Assumes
--- nothing.
+-- Numbers as bytes, for all widths. Reading gives back a number that was spelled, if it fits the width (`field-bytes`),
+-- and spelling gives back bytes that were read, if each is below 256 (`bytes-field`). So one changed byte changes the
+-- number (`field-changed`): the byte is the lowest one, or a byte of the field behind it, and the induction is on the
+-- width. The laws `bytes-...` say that parts, joined lists and stored bytes are bytes again; `field-behind` and
+-- `field-before` find a field in a joined list.
 use mathlib.Core.Path.{_≡_, refl, sym, ap, _∙_}
 use mathlib.Core.Logic.{_⊎_, ⊎-elim}
 use mathlib.Core.List.{List, [], _∷_, _++_}

@@ -1,4 +1,4 @@
-// Little-endian fields of lent bytes. What stands past the end reads as zero, so that every reader takes any bytes.
+// Reads little-endian fields from bytes. Bytes past the end read as zero, so every function takes bytes of any length.
 ghost use mathlib.Core.Path.{_≡_};
 ghost use lib.ListN.{getD};
 ghost use Rattle.fields.specs.Field.{field};

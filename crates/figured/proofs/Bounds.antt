@@ -1,8 +1,8 @@
--- No sum of a report is held to 64 bits. A file that a step accepts has at most 2,100 nodes, so it adds at most 100,800
--- to a counter (`file-few`): an accepted list has at most 48 entries, and the module pass has at most two errors a
--- node. A step that goes on saw fewer than 4,294,967,295 files. So the sums of small counters fit (`sum-fits`), are
--- plain sums (`step-sum`), and are small again (`step-small`). The counters of a report from zeros are then small by
--- induction on how many bytes are left (`report-small`). Assumes nothing.
+-- No sum of a report reaches the limit of 64 bits. A file that a step accepts has at most 2,100 nodes, so it adds at
+-- most 100,800 to a counter (`file-few`): an accepted list has at most 48 entries, and the module pass has at most
+-- two errors a node. A step that continues has counted fewer than 4,294,967,295 files. So sums of small counters fit
+-- (`sum-fits`), are plain sums (`step-sum`), and are small again (`step-small`). The counters of a report from zeros
+-- are then small by induction on the number of bytes left (`report-small`). Assumes nothing.
 use mathlib.Core.Path.{_≡_, refl, sym, ap, ap₂, _∙_}
 use mathlib.Core.Bool.{Bool, true, false, _&&_}
 use mathlib.Core.List.{List, [], _∷_, _++_}
@@ -47,7 +47,7 @@ use Rattle.figures.proofs.Running.{taken-fits, report-none, report-on, report-s
 use Rattle.figured.specs.Said.{mostAdded, Small}
 use Rattle.figured.proofs.Sums.{step-is, taken-adds}
 
--- a count of at most 48 a node, over the nodes
+-- a count of at most 48 for each node, summed over the nodes
 total-few : (n : ℕ) (f : ℕ → ℕ) → ((i : ℕ) → f i ≤ 48) → total n f ≤ 48 * n
 unfolding total
 total-few zero f few = omega arith
@@ -57,7 +57,7 @@ one-few : (b : Bool) → one b ≤ 48
 one-few true = omega arith
 one-few false = omega arith
 
--- the modes of a list are no more than its entries
+-- a list has at most as many modes as entries
 occurs-few : (n : ℕ) (ms : List ℕ) → occurrences n ms ≤ length ms
 unfolding occurrences
 occurs-few n [] = omega arith
@@ -110,7 +110,7 @@ module _ (t names : List ℕ) (i : ℕ) where
   unfolding refusedAt
   refused-few = one-few (nodeFits t i Call && isRefused (callOf t names i))
 
--- the errors of each number are no more than all
+-- the errors of one number are at most all errors
 numbers-length : (es : List Err) → length (numbersOf es) ≡ length es
 unfolding numbersOf
 numbers-length [] = refl
@@ -182,7 +182,7 @@ plus-length [] (y ∷ ys) h = absurd (omega (arith, h))
 plus-length (x ∷ xs) [] h = refl
 plus-length (x ∷ xs) (y ∷ ys) h = ap suc (plus-length xs ys (omega (arith, h)))
 
--- LAW: sums of 64 bits are plain sums
+-- LAW: sums that fit 64 bits are plain sums
 pub added-plain : (xs ys : List ℕ) → length ys ≤ length xs → ((i : ℕ) → getD xs i 0 + getD ys i 0 ≤ most64)
     → added xs ys ≡ plus xs ys
 unfolding added plus
@@ -204,7 +204,7 @@ zeros-at i = go 32 i
 pub zeros-small : Small zeros
 zeros-small = record { all = refl; files = omega arith; others = λ i. omega (arith, zeros-at i) }
 
--- a step that goes on from small counters
+-- a step that continues from small counters
 module _ (w fs : List ℕ) (some : length w ≡ 0 → ⊥) {n : ℕ} (takes : stepOf w fs ≡ Taken n) where
   step-passed : (vs : List ℕ) × (stepCheck w fs ≡ accepted vs)
   step-passed = go (stepCheck w fs) refl (sym (step-is w fs some) ∙ takes)
@@ -214,7 +214,7 @@ module _ (w fs : List ℕ) (some : length w ≡ 0 → ⊥) {n : ℕ} (takes : st
       go (accepted vs) e h = (vs, e)
       go (refused k vs) e h = never (cc)
 
-  -- LAW: it saw fewer files than a report may have, and a table of at most 2,100 nodes
+  -- LAW: fewer files are counted than a report may have, and the table has at most 2,100 nodes
   pub fewer-files : getD fs 0 0 < mostFiles
   unfolding stepCheck
   fewer-files =
@@ -251,7 +251,7 @@ module _ (w fs : List ℕ) (some : length w ≡ 0 → ⊥) {n : ℕ} (takes : st
     sum-fits : (i : ℕ) → getD fs i 0 + getD (figuresOf (contentAt w)) i 0 ≤ most64
     sum-fits i = omega (arith, small .others i, fewer-files, file-few i)
 
-    -- THEOREM: it adds the file's figures, and no sum is held to 64 bits
+    -- THEOREM: it adds the file's figures, and no sum reaches the limit of 64 bits
     pub step-sum : figuresAfter w fs ≡ plus fs (figuresOf (contentAt w))
     step-sum =
         taken-adds w fs some takes

@@ -1,8 +1,8 @@
 -- Files are counted: the file of a content that passes 1 to 5, at the front of any bytes, is taken by a step, which
--- adds the content's figures (`file-step`, `file-after`). For such a file passes its blocks, holds the content, and its
--- header asks for its length (tablefile's `file-passes`, `file-holds`, `file-taken`). So its report is whole and has
--- the content's figures (`file-report`); from zeros no sum is held (Bounds). So what the theorems suppose of a step can
--- be met: `example-report` is the report of the file of `x = 1`. Assumes nothing.
+-- adds the content's figures (`file-step`, `file-after`). Such a file passes its blocks, holds the content, and has
+-- the length that its header states (tablefile's `file-passes`, `file-holds`, `file-taken`). So its report is whole
+-- and has the content's figures (`file-report`); from zeros no sum reaches the limit (Bounds). So the hypotheses of
+-- the theorems on steps can be met: `example-report` is the report of the file of `x = 1`. Assumes nothing.
 use mathlib.Core.Path.{_≡_, refl, sym, ap, ap₂, _∙_}
 use mathlib.Core.List.{List, [], _∷_, _++_, append-nil}
 use Prim.Native.Nat.{ℕ, zero, suc, _+_, _<_}
@@ -71,11 +71,11 @@ module _ (c : Content) (s : SoundContent c) (rest : List ℕ) where
     file-step =
         step-is joined fs some-byte ∙ rw (lt-ltb (getD fs 0 0) mostFiles room, window-passes, asked) refl
 
-    -- THEOREM: and adds its figures
+    -- THEOREM: the step adds its figures
     pub file-after : figuresAfter joined fs ≡ added fs (figuresOf c)
     file-after = taken-adds joined fs some-byte file-step ∙ rw (file-holds c (sound-fits c s) rest) refl
 
-    -- LAW: the report goes on behind it
+    -- LAW: the report continues after it
     pub file-counted : (at : ℕ) → reportFrom at fs joined
         ≡ reportFrom (at + length (fileOf c)) (added fs (figuresOf c)) rest
     file-counted at =

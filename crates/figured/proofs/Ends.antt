@@ -1,6 +1,6 @@
--- The smallest inputs: none, and fewer bytes than a block. An input without a byte has no file (`empty-report`); one
--- with fewer than 512 bytes has a first file whose first block is not there whole, so 70 ends its report at its first
--- byte (`short-report`). Assumes nothing.
+-- The smallest inputs. An input without a byte has no file (`empty-report`). An input with fewer than 512 bytes has a
+-- file whose first block is not complete, so 70 ends its report at its first byte (`short-report`). Both are one step
+-- of the report's definition. Assumes nothing.
 use mathlib.Core.Path.{_≡_, refl}
 use mathlib.Core.List.{List, [], _∷_}
 use Prim.Native.Nat.{ℕ, _<_}
@@ -31,7 +31,7 @@ module _ (a : List ℕ) (some : length a ≡ 0 → ⊥) (short : length a < bloc
   unfolding stepOf stepCheck windowCheck
   short-step = rw (ne-eqb (length a) 0 some, ← short-front) refl
 
-  -- THEOREM: bytes that are no block are a file that 70 refuses
+  -- THEOREM: fewer bytes than a block are a file that is refused with 70
   pub short-report : reportOf a ≡ endedBy blockShort 0 zeros
   unfolding reportOf
   short-report = report-stop 0 zeros a some short-step

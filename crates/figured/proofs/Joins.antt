@@ -1,6 +1,7 @@
--- Two inputs joined: a report that gets to the end of the first goes on with the second from there, behind what is
--- counted (`report-joined`). Each step of the first sees the same with more bytes behind it, since a file that is
--- accepted is there whole (Parts). The induction is on how many bytes are left of the first. Assumes nothing.
+-- Two inputs joined: a report that reaches the end of the first continues with the second from there, with the
+-- counters so far (`report-joined`). Each step over the first input is the same with more bytes after it, because a
+-- file that is accepted is present whole (Parts). The induction is on the number of bytes left of the first input.
+-- Assumes nothing.
 use mathlib.Core.Path.{_≡_, refl, sym, ap, _∙_}
 use mathlib.Core.Bool.{Bool, true, false}
 use mathlib.Core.List.{List, [], _∷_, _++_}
@@ -29,7 +30,7 @@ no-byte : (bs : List ℕ) → length bs ≡ 0 → bs ≡ []
 no-byte [] e = refl
 no-byte (b ∷ bs) e = absurd (omega (arith, e))
 
--- where the first input has no byte
+-- the first input has no byte
 joined-none : (at : ℕ) (fs a b : List ℕ) → length a ≡ 0 → (gs : List ℕ) → reportFrom at fs a ≡ whole gs
     → reportFrom at fs (a ++ b) ≡ reportFrom (at + length a) gs b
 joined-none at fs a b none gs e =
@@ -37,7 +38,7 @@ joined-none at fs a b none gs e =
     let here : at + length a ≡ at = omega (arith, none) in
     rw (here, ← same, no-byte a none) refl
 
--- a step that takes the file at the front sees the same with more behind it
+-- a step that takes the file at the front is the same with more bytes after it
 module _ (a b fs : List ℕ) (some : length a ≡ 0 → ⊥) {n : ℕ} (takes : stepOf a fs ≡ Taken n) where
   held-whole : headerAt (a ++ b) .taken ≤ length a
   held-whole =
@@ -68,7 +69,7 @@ module _ (a b fs : List ℕ) (some : length a ≡ 0 → ⊥) {n : ℕ} (takes : 
       report-on at fs (a ++ b) joined-some step-more
       ∙ rw (after-more, drop-append-le n a b (fits .1)) refl
 
--- a report ends one way alone
+-- a report has one end
 abbrev isWhole : Ending → ℕ
 isWhole Whole = 1
 isWhole (RefusedAt k at) = 0
@@ -76,7 +77,7 @@ isWhole (RefusedAt k at) = 0
 pub not-both : {k at : ℕ} {fs gs : List ℕ} {P : Type 0} → endedBy k at fs ≡ whole gs → P
 not-both e = never (ap (λ (r : Reported). isWhole (r .ending)) e)
 
--- LAW: the report goes on behind the first input
+-- LAW: the report continues after the first input
 pub report-joined : (k at : ℕ) (fs a b : List ℕ) → length a ≤ k → (gs : List ℕ) → reportFrom at fs a ≡ whole gs
     → reportFrom at fs (a ++ b) ≡ reportFrom (at + length a) gs b
 report-joined zero at fs a b few gs e = joined-none at fs a b (omega (arith, few)) gs e

@@ -1,6 +1,7 @@
--- A step looks at the file at the front and at nothing behind it. So a part that holds that file says the same as the
--- whole (`part-check`, `part-content`): both have the same first bytes, and those decide (figures' Windows). Hence a
--- step over a part that holds the file at the front is the step over the whole (`part-step`). Assumes nothing.
+-- A step reads the file at the front and nothing after it. So a part that contains that file gives the same answer as
+-- the whole (`part-check`, `part-content`): both have the same first bytes, and those decide (figures' Windows).
+-- Hence a step over a part that contains the file at the front is the step over the whole (`part-step`). Assumes
+-- nothing.
 use mathlib.Core.Path.{_≡_, refl, sym, ap, _∙_}
 use mathlib.Core.List.{List}
 use Prim.Native.Nat.{ℕ, _≤_}
@@ -17,7 +18,7 @@ use Rattle.figures.specs.Reporting.{figuresAfter}
 use Rattle.figures.specs.declared.Stepped.the-variants.{Taken}
 use Rattle.figures.proofs.Windows.{fileIn, taken-least, front-window, content-window}
 
--- LAW: a step that goes on takes what the header asks for
+-- LAW: a step that continues takes the number of bytes that the header gives
 pub taken-asked : (w fs : List ℕ) → (length w ≡ 0 → ⊥) → {n : ℕ} → stepOf w fs ≡ Taken n → headerAt w .taken ≡ n
 unfolding stepOf
 taken-asked w fs some {n} e = go (stepCheck w fs) (rw (ne-eqb (length w) 0 some) at e)
@@ -26,7 +27,7 @@ taken-asked w fs some {n} e = go (stepCheck w fs) (rw (ne-eqb (length w) 0 some)
     go (accepted vs) h = cc
     go (refused k vs) h = never (cc)
 
--- the first m bytes of a window, where they hold the file at its front
+-- the first m bytes of a window, if they contain the file at its front
 module _ (m : ℕ) (w : List ℕ) (holds : headerAt w .taken ≤ m) where
   pub part-header : headerAt (take m w) ≡ headerAt w
   part-header = header-front m w (omega (arith, holds, taken-least w))

@@ -1,7 +1,7 @@
--- A report that a refused file ended. What stands before that file is a whole report with the same counters
--- (`report-before`), because each step before it sees the same without what follows. And a refusal other than 70 stays
--- with its place and counters whatever bytes follow (`report-same`): a check that is not 70 has looked at blocks that
--- are there whole (`front-more`). Both by induction on how many bytes are left. Assumes nothing.
+-- A report that ended at a refused file. The input before that file has a whole report with the same counters
+-- (`report-before`), because each earlier step is the same without the bytes that follow. A refusal other than 70
+-- stays, with its place and counters, whatever bytes follow (`report-same`): a check that is not 70 has read only
+-- blocks that are complete (`front-more`). Both are by induction on the number of bytes left. Assumes nothing.
 use mathlib.Core.Path.{_≡_, refl, sym, ap, _∙_}
 use mathlib.Core.Bool.{Bool, true, false}
 use mathlib.Core.List.{List, [], _++_}
@@ -32,7 +32,7 @@ use Rattle.figures.proofs.Running.{taken-fits, report-none, report-on, report-s
 use Rattle.figured.proofs.Parts.{taken-asked, part-step, part-after, part-content}
 use Rattle.figured.proofs.Joins.{not-both, report-more}
 
--- a report that a refusal ended: its number, its place, its counters
+-- a report that ended with a refusal: its number, its place, its counters
 abbrev number-in : Ending → ℕ
 number-in Whole = 0
 number-in (RefusedAt k at) = k
@@ -53,11 +53,11 @@ same-end e = record {
   figures = ap (λ (r : Reported). r .figures) e;
 }
 
--- a place within what is left is within the whole
+-- a place within the rest is within the whole
 place-most : (at n p l d : ℕ) → d ≡ l - n → n ≤ l → p ≤ at + n + d → p ≤ at + l
 place-most at n p l d d-is fits h = omega (arith, d-is, fits, h)
 
--- what stands before the refused file
+-- the input before the refused file
 pub record Before (at p : ℕ) (fs a gs : List ℕ) : Type 0 where
   pub least : at ≤ p
   pub most : p ≤ at + length a
@@ -82,7 +82,7 @@ module _ (at : ℕ) (fs a : List ℕ) (some : length a ≡ 0 → ⊥) {n p : ℕ
             ∙ rw (part-after m a holds fs some, drop-take n m a, left) (rest .whole-there);
       }
 
--- LAW: the report of what stands before the refused file
+-- LAW: the report of the input before the refused file
 pub before-refused : (k at : ℕ) (fs a : List ℕ) → length a ≤ k → {n p : ℕ} {gs : List ℕ}
     → reportFrom at fs a ≡ endedBy n p gs → Before at p fs a gs
 before-refused zero at fs a few e = not-both (sym e ∙ report-none at fs a (omega (arith, few)))
@@ -112,7 +112,7 @@ abbrev pub NotShort : Answer → Type 0
 NotShort (accepted vs) = Unit {0}
 NotShort (refused k vs) = k ≡ blockShort → ⊥
 
--- checks in order: the first is not 70 either, and what follows need be the same only where it passes
+-- checks in order: the first is not 70 either, and what follows must be the same only if the first passes
 first-long : (x : Answer) (next : Unit {0} → Answer) → NotShort (andThen x next) → NotShort x
 first-long (accepted vs) next h = tt
 first-long (refused k vs) next h = h
@@ -122,13 +122,13 @@ then-more : (x : Answer) (next more : Unit {0} → Answer) → NotShort (andThen
 then-more (accepted vs) next more h f = f vs refl h
 then-more (refused k vs) next more h f = refl
 
--- a block that is there, with more behind it
+-- a block that is complete, with more bytes after it
 judge-more : (number used : ℕ) (bs more : List ℕ) → 512 ≤ length bs
     → judge number used (bs ++ more) ≡ judge number used bs
 judge-more number used bs more long =
     sym (judge-front number used (length bs) (bs ++ more) long) ∙ ap (judge number used) (take-append-seam bs more)
 
--- LAW: blocks that are not 70 are the same with more behind them
+-- LAW: blocks whose answer is not 70 have the same answer with more bytes after them
 blocks-more : (n number total : ℕ) (bs more : List ℕ) → NotShort (judgeBlocks n number total bs)
     → judgeBlocks n number total (bs ++ more) ≡ judgeBlocks n number total bs
 unfolding judgeBlocks
@@ -148,7 +148,7 @@ blocks-more (suc n) number total bs more h =
         (then-more (judge number (min 504 total) bs) _ _ h (λ vs e g. rest g))
     go (inr short) rest = absurd ((rw (← judge-short number (min 504 total) bs short) at h) refl)
 
--- LAW: blocks that pass are there
+-- LAW: blocks that pass are complete
 blocks-long : (n number total : ℕ) (bs : List ℕ) (vs : List ℕ) → judgeBlocks n number total bs ≡ accepted vs
     → 512 * n ≤ length bs
 unfolding judgeBlocks
@@ -177,7 +177,7 @@ module _ (a b : List ℕ) where
   more-header long =
       sym (header-front (length a) (a ++ b) (omega (arith, long))) ∙ ap headerAt (take-append-seam a b)
 
-  -- the names, then the nodes behind them
+  -- the names, then the nodes after them
   runs-front : (names nodes f k m : ℕ) → f ≡ 1 + k → 512 ≤ length a
       → NotShort (andThen (judgeBlocks k 1 names (drop 512 a)) (λ _. judgeBlocks m f nodes (drop (512 * f) a)))
       → andThen (judgeBlocks k 1 names (drop 512 a ++ b)) (λ _. judgeBlocks m f nodes (drop (512 * f) (a ++ b)))
@@ -209,7 +209,7 @@ module _ (a b : List ℕ) where
       go (inl long) = blocks-front h long
       go (inr short) = absurd (front-short short h)
 
-  -- and with what it holds
+  -- the same with its content
   more-content : (us : List ℕ) → frontCheck a ≡ accepted us → contentAt (a ++ b) ≡ contentAt a
   more-content us e =
       let f = fronted-then a (λ _. accepted []) (rw e refl) .0 in
@@ -223,7 +223,7 @@ module _ (a b : List ℕ) where
       rw (front-more (first-long (frontCheck a) _ h)) (then-more (frontCheck a) _ _ h (λ us e g.
       ap soundCheck (more-content us e)))
 
-  -- LAW: a step that is refused by another number than 70 is so with more behind it
+  -- LAW: a step that is refused with a number other than 70 is refused with it if more bytes follow
   module _ (fs : List ℕ) (some : length a ≡ 0 → ⊥) {k : ℕ} (stops : stepOf a fs ≡ Refused k) (other : k ≡ 70 → ⊥) where
     stay-some : length (a ++ b) ≡ 0 → ⊥
     stay-some e = some (omega (arith, e, length-append a b))
@@ -258,7 +258,7 @@ module _ (a b : List ℕ) where
         go (accepted vs) e = never (cc)
         go (refused m vs) e = e
 
--- LAW: so is the report
+-- LAW: the same for the report
 pub report-stays : (j at : ℕ) (fs a b : List ℕ) → length a ≤ j → (k p : ℕ) (gs : List ℕ)
     → reportFrom at fs a ≡ endedBy k p gs → (k ≡ 70 → ⊥) → reportFrom at fs (a ++ b) ≡ endedBy k p gs
 report-stays zero at fs a b few k p gs e other = not-both (sym e ∙ report-none at fs a (omega (arith, few)))
@@ -282,20 +282,20 @@ report-stays (suc j) at fs a b few k p gs e other =
         report-more a b fs some h at
         ∙ rest m (taken-fits a fs some h) (sym (report-on at fs a some h) ∙ e)
 
--- an input whose report a refusal ended
+-- an input whose report ended with a refusal
 module _ (a : List ℕ) {k p : ℕ} (ends : reportOf a .ending ≡ RefusedAt k p) where
   ended-there : reportFrom 0 zeros a ≡ endedBy k p (reportOf a .figures)
   unfolding reportOf
   ended-there = ap (λ (e : Ending). record { figures = reportFrom 0 zeros a .figures; ending = e }) ends
 
-  -- THEOREM: what stands before the refused file has a whole report, with the same counters
+  -- THEOREM: the input before the refused file has a whole report, with the same counters
   pub report-before : reportOf (take p a) ≡ whole (reportOf a .figures)
   unfolding reportOf
   report-before =
       let here : p - 0 ≡ p = omega arith in
       rw here at (before-refused (length a) 0 zeros a (omega arith) ended-there .whole-there)
 
-  -- THEOREM: the place is one of the input
+  -- THEOREM: the place is within the input
   pub report-place : p ≤ length a
   report-place = omega (arith, before-refused (length a) 0 zeros a (omega arith) ended-there .most)
 

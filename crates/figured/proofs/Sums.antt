@@ -1,8 +1,8 @@
--- Two inputs joined give the sums of their reports. Two reports over the same bytes, from other counters and another
--- place, take the same steps as long as neither is ended by 76: a step looks at the counter of files alone, and only
--- for 76. So both add the same figures (`run-both`), and both end at the same place from their begin. With the report
--- of the second input from zeros this is the sum (`report-sums`): adding what was held to 64 bits from zeros is adding
--- it (`added-held`). The induction is on how many bytes are left. Assumes nothing.
+-- The report of two joined inputs is the sum of their reports. Two reports over the same bytes, from other counters
+-- and another place, take the same steps as long as 76 ends neither: a step reads only the counter of files, and only
+-- for 76. So both add the same figures (`run-both`), and both end at the same distance from their beginning. With the
+-- report of the second input from zeros this is the sum (`report-sums`): adding figures that were limited to 64 bits
+-- from zeros is adding the figures (`added-held`). The induction is on the number of bytes left. Assumes nothing.
 use mathlib.Core.Path.{_≡_, refl, sym, ap, ap₂, _∙_}
 use mathlib.Core.Bool.{Bool, true, false}
 use mathlib.Core.List.{List, [], _∷_, _++_}
@@ -36,7 +36,7 @@ module _ (w fs : List ℕ) (some : length w ≡ 0 → ⊥) where
   unfolding stepOf
   step-is = rw (ne-eqb (length w) 0 some) refl
 
-  -- a step that goes on adds the figures of the file at the front
+  -- a step that continues adds the figures of the file at the front
   pub taken-adds : {n : ℕ} → stepOf w fs ≡ Taken n → figuresAfter w fs ≡ added fs (figuresOf (contentAt w))
   unfolding figuresAfter
   taken-adds {n} e = rw (ne-eqb (length w) 0 some) (go (stepCheck w fs) (sym step-is ∙ e))
@@ -46,7 +46,7 @@ module _ (w fs : List ℕ) (some : length w ≡ 0 → ⊥) where
       go (accepted vs) h = refl
       go (refused k vs) h = never (cc)
 
-  -- one that is not 76 is so from counters with no more files
+  -- a step that is not 76 is not 76 from counters with fewer files
   step-alike : (gs : List ℕ) → getD gs 0 0 ≤ getD fs 0 0 → (stepOf w fs ≡ Refused tooManyFiles → ⊥)
       → stepOf w gs ≡ stepOf w fs
   unfolding stepOf stepCheck
@@ -71,7 +71,7 @@ files-more [] (g ∷ gs) xs long h = absurd (omega (arith, long))
 files-more (f ∷ fs) (g ∷ gs) [] long h = h
 files-more (f ∷ fs) (g ∷ gs) (x ∷ xs) long h = held-more g f x h
 
--- adding what was held from zeros is adding it
+-- adding figures that were limited to 64 bits from zeros is adding the figures
 held-held : (x y : ℕ) → held x (held 0 y) ≡ held x y
 unfolding held
 held-held x y = omega arith
@@ -139,7 +139,7 @@ both-on at from fs gs b some n e f rest = record {
         ≡ ended (added hs (plus (figuresOf (contentAt b)) (rest .more))) (later p (later n (rest .end)))
     same p hs = rw (added-twice hs (figuresOf (contentAt b)) (rest .more), later-add p n (rest .end)) refl
 
--- 76 ends neither, where it does not end the one with more files
+-- 76 ends neither report if it does not end the one with more files
 abbrev Not76 : Reported → Type 0
 Not76 r = endedBy76 (r .ending) ≡ false
 

@@ -1,8 +1,8 @@
--- A report through a buffer: each step sees the first bytes of what is left, and 59,904 of them are enough. Where the
--- counts of block 0 fit, the file asks for no more than that (`fits-window`), and a part that holds it says the same
--- (Parts). Where they do not fit, the file is refused by its first block or by 74, and the first block is there too
--- (`unfit-window`). So a step over the part is the step over the whole (`window-step`, `window-after`), and the report
--- follows by induction on the number of steps. Assumes nothing.
+-- A report through a buffer: each step sees the first bytes of the rest, and 59,904 of them are enough. If the counts
+-- of block 0 are within the limits, the file is no longer than that (`fits-window`), and a part that contains it
+-- gives the same answer (Parts). If they are not, the file is refused by its first block or with 74, and the part
+-- contains the first block too (`unfit-window`). So a step over the part is the step over the whole (`window-step`,
+-- `window-after`), and the report follows by induction on the number of steps. Assumes nothing.
 use mathlib.Core.Path.{_≡_, refl}
 use mathlib.Core.Bool.{Bool, true, false}
 use mathlib.Core.List.{List, []}
@@ -27,7 +27,7 @@ use Rattle.figures.specs.declared.Stepped.the-variants.{Taken, Refused}
 use Rattle.figured.specs.Said.{windowBytes, throughIn, through}
 use Rattle.figured.proofs.Parts.{part-step, part-after}
 
--- counts that fit: the file is no longer than a window
+-- counts within the limits: the file is no longer than a window
 fits-window : (w : List ℕ) → countsFit (headerAt w .nodes) (headerAt w .names) ≡ true
     → headerAt w .taken ≤ windowBytes
 unfolding blocksFor
@@ -41,7 +41,7 @@ either (accepted vs) k y z = refl
 either (refused m vs) k y z = refl
 
 module _ (n : ℕ) (w : List ℕ) (big : windowBytes ≤ n) where
-  -- counts that do not: the first block or 74 decides, in the part as in the whole
+  -- counts beyond the limits: the first block or 74 decides, in the part as in the whole
   module _ (unfit : countsFit (headerAt w .nodes) (headerAt w .names) ≡ false) where
     unfit-header : headerAt (take n w) ≡ headerAt w
     unfit-header = header-front n w (omega (arith, big))
@@ -83,7 +83,7 @@ module _ (n : ℕ) (w : List ℕ) (big : windowBytes ≤ n) where
           rw (ne-eqb (length w) 0 some, ne-eqb (length (take n w)) 0 unfit-some, unfit-check)
           (unfit-refused fs (figuresOf (contentAt (take n w))) (figuresOf (contentAt w)))
 
-  -- LAW: a step over the first n bytes, and what it leaves
+  -- LAW: a step over the first n bytes, and the counters at its exit
   module _ (fs : List ℕ) (some : length w ≡ 0 → ⊥) where
     pub window-step : stepOf (take n w) fs ≡ stepOf w fs
     window-step = go (countsFit (headerAt w .nodes) (headerAt w .names)) refl

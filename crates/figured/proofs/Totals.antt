@@ -1,9 +1,9 @@
--- The figures of a table add up. A call is accepted or refused (`calls-all`). The modes of an accepted list are counted
--- from its ranges (figures' `modes-counted`), and the ranges follow one another up to the flat count (`modes-flat`).
--- Both are said of one node, and a sum over the nodes keeps them (`total-both`, `total-same`). Every number of the
--- module pass is 10 to 19 or 50 to 61: that is an induction over the trees, as the pass visits them (`module-known`),
--- and each such number is counted once (`counted-once`). So the errors by number are all errors (`errors-all`). Assumes
--- nothing.
+-- The figures of a table add up. A call is accepted or refused (`calls-all`). The modes of an accepted list are
+-- counted from its ranges (figures' `modes-counted`), and the ranges follow one another up to the flat count
+-- (`modes-flat`). Both hold for one node, so they hold for the sums over all nodes (`total-both`, `total-same`).
+-- Every number of the module pass is 10 to 19 or 50 to 61, by induction over the trees in the order in which the pass
+-- visits them (`module-known`), and each such number is counted once (`counted-once`). So the errors by number are
+-- all errors (`errors-all`). Assumes nothing.
 use mathlib.Core.Path.{_≡_, refl, sym, ap, ap₂, _∙_}
 use mathlib.Core.Bool.{Bool, true, false, _&&_, not}
 use mathlib.Core.Logic.{_⊎_, inl, inr}
@@ -133,7 +133,7 @@ module _ (t names : List ℕ) where
           )
           (total-same n (λ i. m 1 i + (m 2 i + (m 3 i + (m 4 i + m 5 i)))) (flatAt t names) modes-flat)
 
--- a number that has a counter, and errors all of which have
+-- a number that has a counter, and errors whose numbers all have one
 abbrev pub Known : ℕ → Type 0
 Known n = ((10 ≤ n) × (n ≤ 19)) ⊎ ((50 ≤ n) × (n ≤ 61))
 
@@ -210,7 +210,7 @@ module _ (d : Dialect) (names : List ℕ) where
       (known-if (eqb (r .kind) kindLambda) _ _
       (known-with (d .«enable_lambda») lambdaNotPermitted r ks (inr (omega arith, omega arith))) known-none)
 
-  -- a statement, where those below it are told known numbers in every place
+  -- a statement, if the errors below it have known numbers in every place
   module _ (s : Standing) (r : Node) (ks : Forest) (visit : Standing → List Err)
       (below : (p : Standing) → AllKnown (visit p)) where
     abbrev Fine : Arm → Type 0
@@ -279,7 +279,7 @@ errors-known t names bytes = go (givenOf t names bytes)
     go (inDialect d) = module-known d names (forest 0 t)
     go (turnedAway n vs) = known-none
 
--- how many of k counters, from b on, a number has
+-- the number of counters, of k from b on, that count a number
 module _ (n : ℕ) where
   abbrev hits : ℕ → ℕ → ℕ
   hits zero b = 0

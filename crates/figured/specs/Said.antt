@@ -1,4 +1,4 @@
--- What the sentences of W-214 speak of: two inputs joined, the same input through a buffer, what figures add up to,
+-- The words that W-214's sentences need: two inputs joined, the same input through a buffer, what figures add up to,
 -- counters that stay small. These are definitions.
 use mathlib.Core.Path.{_≡_}
 use mathlib.Core.Bool.{Bool, false}
@@ -21,12 +21,12 @@ use Rattle.figures.specs.declared.Ending.{Ending}
 use Rattle.figures.specs.declared.Ending.the-variants.{Whole, Refused}
 use Rattle.figures.specs.declared.Reported.{Reported}
 
--- an ending whose place is so many bytes later
+-- an ending whose place is n bytes later
 abbrev pub later : ℕ → Ending → Ending
 later n Whole = Whole
 later n (Refused k at) = Refused k (n + at)
 
--- the sum of two reports, the second of which begins so many bytes later
+-- the sum of two reports, the second of which begins n bytes later
 abbrev pub summed : ℕ → Reported → Reported → Reported
 summed n r s = record { figures = added (r .figures) (s .figures); ending = later n (s .ending) }
 
@@ -35,12 +35,12 @@ abbrev pub endedBy76 : Ending → Bool
 endedBy76 Whole = false
 endedBy76 (Refused k at) = eqb k tooManyFiles
 
--- the bytes of the largest file: a buffer of so many bytes holds the file at its front whole
+-- the length of the largest file: a buffer of this length contains the whole file at its front
 abbrev pub windowBytes : ℕ
 windowBytes = blockBytes * mostBlocks
 
--- the report of what is left of an input, in which each step sees only the first bytes of what is left: as many as a
--- buffer holds at that place
+-- the report of the rest of an input, in which each step sees only the first bytes of the rest: as many as a buffer
+-- holds at that place
 unfoldable pub throughIn : (ℕ → ℕ) → ℕ → ℕ → List ℕ → List ℕ → Reported
 throughIn room zero at figures left = whole figures
 throughIn room (suc k) at figures left =
@@ -55,7 +55,7 @@ through room input = throughIn room (length input) 0 zeros input
 unfoldable pub callAt : List ℕ → ℕ → ℕ
 callAt t i = one (nodeFits t i Call)
 
--- how many flat parameters a node has, if its list is accepted: the last of the values that the parameters job answers
+-- the number of flat parameters of a node, if its list is accepted: the last value of the parameters job's answer
 abbrev pub flatIn : Answer → ℕ
 flatIn (accepted vs) = getD vs 10 0
 flatIn (refused k vs) = 0
@@ -72,7 +72,7 @@ sumOf (n ∷ ns) = n + sumOf ns
 abbrev pub mostAdded : ℕ
 mostAdded = 100800
 
--- counters that stay small: no more files than a report may have, and no counter above what so many files can add
+-- counters that stay small: at most as many files as a report may have, and no counter above what these files can add
 pub record Small (figures : List ℕ) : Type 0 where
   pub all : length figures ≡ 32
   pub files : getD figures 0 0 ≤ mostFiles

@@ -1,2 +1,1 @@
-// No code: the sentences of W-214 as theorems over the report and its steps. specs/Said.antt has the words that they
-// need.
+// No code: theorems about reports and steps that follow W-214 sentence by sentence. specs/Said.antt defines the words.

@@ -1,7 +1,8 @@
--- Figures that are added one after another are added together: `added-twice` turns two additions into one of their sum,
--- whatever the counters are, because a sum held to 64 bits does not depend on how it is cut (`held-twice`), and no
--- lengths are asked for. A counter that code stores by itself is `added-only`; zeros change nothing, wherever they
--- stand (`added-zeros`, `added-trailing`). Induction is on the lists. Assumes nothing.
+-- Figures that are added one after another are added together: `added-twice` turns two additions into one of their
+-- sum, whatever the counters are. A sum that is limited to 64 bits does not depend on how its parts are grouped
+-- (`held-twice`), and no premise on lengths is needed. A counter that the code stores by itself is `added-only`;
+-- zeros change nothing, at the front or at the end (`added-zeros`, `added-trailing`). The inductions are on the lists
+-- of figures. Assumes nothing.
 use mathlib.Core.Path.{_≡_, refl, sym, ap, ap₂}
 use mathlib.Core.List.{List, [], _∷_, _++_}
 use Prim.Native.Nat.{ℕ, zero, suc, _+_, _-_, _^_, _<_, _≤_, min}
@@ -10,7 +11,7 @@ use lib.ListN.{length, getD, set, replicate}
 use Rattle.figures.specs.Adding.{most64, held, added}
 use Rattle.figures.specs.Walking.{only, plus}
 
--- a sum of two numbers, held to 64 bits
+-- a sum of two numbers, limited to 64 bits
 module _ (x : ℕ) where
   pub held-none : held x 0 ≡ x
   unfolding held
@@ -20,7 +21,7 @@ module _ (x : ℕ) where
   unfolding held
   held-twice y z = omega arith
 
-  -- LAW: for a number of 64 bits it is the sum, or the largest number if that is smaller
+  -- LAW: for a number of 64 bits it is the smaller one of the sum and the largest number
   pub held-min : (y : ℕ) → x ≤ most64 → held x y ≡ min (x + y) most64
   unfolding held
   held-min y h = omega arith
@@ -59,7 +60,7 @@ added-twice (a ∷ fs) [] ys = refl
 added-twice (a ∷ fs) (x ∷ xs) [] = refl
 added-twice (a ∷ fs) (x ∷ xs) (y ∷ ys) = ap₂ _∷_ (held-twice a x y) (added-twice fs xs ys)
 
--- LAW: one counter that is stored by itself
+-- LAW: adding to one counter
 pub added-only : (fs : List ℕ) (k v : ℕ) → set fs k (held (getD fs k 0) v) ≡ added fs (only k v)
 unfolding added only
 added-only [] k v = refl
@@ -69,7 +70,7 @@ added-only (a ∷ fs) (suc k) v = ap₂ _∷_ (sym (held-none a)) (added-only fs
 pub stored-only : (fs : List ℕ) (k v : ℕ) {x : ℕ} → x ≡ held (getD fs k 0) v → set fs k x ≡ added fs (only k v)
 stored-only fs k v x-is = rw x-is (added-only fs k v)
 
--- LAW: figures, and then one more counter behind them
+-- LAW: figures, and then one more counter after them
 pub added-next : (fs xs : List ℕ) (v : ℕ) → added (added fs xs) (only (length xs) v) ≡ added fs (xs ++ v ∷ [])
 unfolding added only
 added-next [] xs v = refl
@@ -83,7 +84,7 @@ added-length [] xs = refl
 added-length (a ∷ fs) [] = refl
 added-length (a ∷ fs) (x ∷ xs) = ap suc (added-length fs xs)
 
--- the sum of figures that are cut at the same place
+-- the sum of figures in two parts of the same lengths
 pub plus-append : (fs cs bs ds : List ℕ) → length fs ≡ length cs
     → plus (fs ++ bs) (cs ++ ds) ≡ plus fs cs ++ plus bs ds
 unfolding plus

@@ -1,8 +1,8 @@
--- One node of a sound table adds its figures, by its kind. A Def or Lambda: the code asks `deflist::judge` on the
--- node's stretch, and `paramsOf` accepts exactly where that does, because the table is sound, the node fits, and a list
--- within the limit fits the room (`mode-there`, `mode-away`). A Call: `arguments::judge` on the stretch is `callOf` of
--- the node. Any other node adds nothing. In the loop what is added for the first i nodes is one sum (`walk-on`). Cite
--- `node-list`, `node-call`, `node-other`. Assumes nothing.
+-- One node of a sound table adds its figures, by its kind. For a Def or Lambda the code calls `deflist::judge` on the
+-- node's records, and `paramsOf` accepts exactly if that does: the table is sound, the node fits, and a list within
+-- the limit fits the room (`mode-there`, `mode-away`). For a Call, `arguments::judge` on the records is `callOf` of
+-- the node. Any other node adds nothing. The loop keeps that the figures of the first i nodes are added as one sum
+-- (`walk-on`). Cite `node-list`, `node-call` and `node-other`. Assumes nothing.
 use mathlib.Core.Path.{_≡_, refl, sym, ap, _∙_}
 use mathlib.Core.Bool.{true, false}
 use mathlib.Core.List.{List, [], _∷_}
@@ -41,7 +41,7 @@ use Rattle.figures.specs.Walking.{NodeIn}
 use Rattle.figures.proofs.Additions.{added-zeros, added-trailing, added-twice}
 use Rattle.figures.proofs.Lists.{modeCounts, modes-counted}
 
--- what is told to be refused is not accepted
+-- a refused answer is not accepted
 not-accepted : {o : def.Outcome} {f : Fault} → told o ≡ Refused f → {c : Counts} → o ≡ def.accepted c → ⊥
 not-accepted {o} {f} h {c} e = let both : Accepted c ≡ Refused f = sym (ap told e) ∙ h in never (cc)
 
@@ -49,7 +49,7 @@ module _ {t names : List ℕ} {i : ℕ} (n : NodeIn t names i) where
   clean : Clean t names
   clean = accepted-clean t names (n .sound)
 
-  -- its index is small, and its record is there
+  -- its index is small, and its record is present
   pub node-there : 24 * i ≤ length t
   node-there = omega (arith, n .within)
 
@@ -66,7 +66,7 @@ module _ {t names : List ℕ} {i : ℕ} (n : NodeIn t names i) where
   abbrev outcome : def.Outcome
   outcome = limited (nodeOf i (stretchOf t i)) list
 
-  -- no mode is counted where the parameters job does not accept
+  -- no mode is counted if the parameters job does not accept
   mode-away : (m : ℕ) → ((vs : List ℕ) → paramsOf t names i 2100 ≡ accepted vs → ⊥) → modeAt m t names i ≡ 0
   unfolding modeAt
   mode-away m away = go (paramsOf t names i 2100) refl
@@ -76,7 +76,7 @@ module _ {t names : List ℕ} {i : ℕ} (n : NodeIn t names i) where
       go (accepted vs) e = absurd (away vs e)
       go (refused k vs) e = refl
 
-  -- the job accepts where the list is accepted, and only there
+  -- the job accepts exactly if the list is accepted
   params-away : ((c : Counts) → outcome ≡ def.accepted c → ⊥) → (vs : List ℕ) → paramsOf t names i 2100 ≡ accepted vs
       → ⊥
   unfolding listOf
@@ -102,12 +102,12 @@ module _ {t names : List ℕ} {i : ℕ} (n : NodeIn t names i) where
       let zero : (m : ℕ) → modeAt m t names i ≡ 0 = λ m. mode-away m (params-other no-list) in
       rw (no-list, no-call, zero 1, zero 2, zero 3, zero 4, zero 5) (sym (added-zeros start 10))
 
-  -- what it adds where it is a Def or Lambda
+  -- what a Def or Lambda adds
   abbrev listed : List ℕ
   listed = 0 ∷ 0 ∷ 1 ∷ modeAt 1 t names i ∷ modeAt 2 t names i ∷ modeAt 3 t names i ∷ modeAt 4 t names i
       ∷ modeAt 5 t names i ∷ 0 ∷ 0 ∷ []
 
-  -- without a mode, where its list is not accepted
+  -- no mode if its list is not accepted
   listed-away : ((c : Counts) → outcome ≡ def.accepted c → ⊥) → (start : List ℕ)
       → added start (0 ∷ 0 ∷ 1 ∷ 0 ∷ 0 ∷ 0 ∷ 0 ∷ 0 ∷ []) ≡ added start listed
   listed-away off start =
@@ -115,7 +115,7 @@ module _ {t names : List ℕ} {i : ℕ} (n : NodeIn t names i) where
       rw (zero 1, zero 2, zero 3, zero 4, zero 5)
       (sym (added-trailing start (0 ∷ 0 ∷ 1 ∷ 0 ∷ 0 ∷ 0 ∷ 0 ∷ 0 ∷ []) 2))
 
-  -- with its modes, where it is
+  -- its modes if it is
   listed-there : nodeFits t i Parameters ≡ true → {c : Counts} → outcome ≡ def.accepted c → (start : List ℕ)
       → added start (0 ∷ 0 ∷ 1 ∷ rangeCounts c) ≡ added start listed
   listed-there fits e start =
@@ -137,7 +137,7 @@ module _ {t names : List ℕ} {i : ℕ} (n : NodeIn t names i) where
       go (def.repeated k r) e = listed-away (λ c f. not-accepted {o = def.repeated k r} refl (sym e ∙ f)) start
       go (def.internal k r) e = listed-away (λ c f. not-accepted {o = def.internal k r} refl (sym e ∙ f)) start
 
-  -- LAW: a Call adds one to the calls that are accepted or refused
+  -- LAW: a Call adds one to the accepted calls or to the refused ones
   pub node-call : nodeFits t i Parameters ≡ false → nodeFits t i Call ≡ true → (start : List ℕ)
       → added start (callFigures (callAnswer names (treeOf i (headedOf i (stretchOf t i)))))
       ≡ added start (nodeFigures t names i)
@@ -157,7 +157,7 @@ module _ {t names : List ℕ} {i : ℕ} (n : NodeIn t names i) where
         sound-entry Call t names i (n .sound) fits,
       ) refl
 
-  -- in the terms of code: k is the kind of the record that the rest of the table begins with
+  -- the arms of `add_node`: k is the kind of the first record of the rest of the table
   module _ {k : ℕ} (k-is : k ≡ nodeOf 0 (take (length t - 24 * i) (drop (24 * i) t)) .kind) where
     fits-by : (w : Wanted) → nodeFits t i w ≡ wants w k
     unfolding nodeFits
@@ -196,7 +196,7 @@ module _ {t names : List ℕ} {i : ℕ} (n : NodeIn t names i) where
         (fits-by Parameters ∙ rw (ne-eqb k kindDef no-def, ne-eqb k kindLambda no-lambda) refl)
         (fits-by Call ∙ rw (ne-eqb k kindCall no-call) refl) start
 
--- the nodes in a loop: the first i of a sound table are counted
+-- the invariant of `add_nodes`: the first i nodes of a sound table are counted
 pub record Walk (t names start : List ℕ) (count : ℕ) (figures : List ℕ) (i : ℕ) : Type 0 where
   pub sound : checkOf t names ≡ accepted []
   pub all : count ≡ nodesOf t

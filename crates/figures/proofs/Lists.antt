@@ -1,6 +1,6 @@
--- The modes of an accepted list are counted from the ranges. An accepted list has a cut (demand 3); what unpack counts
--- are the lengths of its parts, and its modes are runs of equal modes, one for each part. So the lengths of the ranges
--- are the occurrences of the modes (`modes-counted`), and the ranges follow one another (`ranged`), so that no
+-- The modes of an accepted list are counted from its ranges. An accepted list has a cut (demand 3); unpack counts the
+-- lengths of its parts, and its modes are runs of equal modes, one for each part. So the lengths of the ranges are
+-- the numbers of occurrences of the modes (`modes-counted`). The ranges follow one another (`ranged`), so no
 -- subtraction goes below 0. Assumes nothing.
 use mathlib.Core.Path.{_≡_, refl, sym, ap, _∙_}
 use mathlib.Core.List.{List, [], _∷_, _++_}
@@ -111,7 +111,7 @@ module _ (l : List Param) {c : Counts} (h : unpack l ≡ accepted c) where
   pub ranged : Ranged c
   ranged = let d = cut-of in rw (d .1) (cut-ranged (d .0))
 
--- five counters, one after another, in the terms of code
+-- five counters, added one after another by the code
 pub modes-added : (a : List ℕ) {b c d e f : List ℕ} (v w x y z : ℕ) → b ≡ added a (only 3 v) → c ≡ added b (only 4 w)
     → d ≡ added c (only 5 x) → e ≡ added d (only 6 y) → f ≡ added e (only 7 z)
     → f ≡ added a (0 ∷ 0 ∷ 0 ∷ v ∷ w ∷ x ∷ y ∷ z ∷ [])
@@ -123,7 +123,7 @@ modes-added a {b} {c} {d} {e} {f} v w x y z b-is c-is d-is e-is f-is =
     e-is ∙ rw two (added-next a (0 ∷ 0 ∷ 0 ∷ v ∷ w ∷ x ∷ []) y) in
     f-is ∙ rw three (added-next a (0 ∷ 0 ∷ 0 ∷ v ∷ w ∷ x ∷ y ∷ []) z)
 
--- what is said of a list: if it is told to be accepted, its ranges follow one another
+-- if a list is accepted, its ranges follow one another
 pub told-ranged : (owner : Node) (l : List Param) {j : Judged} → j ≡ told (limited owner l) → RangedIn j
 told-ranged owner l j-is = rw j-is (go (limited owner l) refl)
   where
@@ -136,7 +136,7 @@ told-ranged owner l j-is = rw j-is (go (limited owner l) refl)
 pub ranged-accepted : {j : Judged} → RangedIn j → {c : Counts} → j ≡ Accepted c → Ranged c
 ranged-accepted r e = rw e at r
 
--- what code counts from the ranges, with its own counts of `*args` and `**kwargs`
+-- what the code counts from the ranges, with its own counts of `*args` and `**kwargs`
 pub ranges-are : (c : Counts) {a k : ℕ} → a ≡ places (c .args) → k ≡ places (c .kwargs)
     → c .«num_positional_only» .0 ∷ (c .«num_positional» .0 - c .«num_positional_only» .0)
     ∷ (c .flat .0 - (c .«num_positional» .0 + a + k)) ∷ a ∷ k ∷ [] ≡ rangeCounts c
@@ -148,7 +148,7 @@ counts-accepted e l-is = rw e l-is
 pub counts-refused : {j : Judged} {f : Fault} → j ≡ Refused f → 0 ∷ 0 ∷ 0 ∷ 0 ∷ 0 ∷ [] ≡ judgedCounts j
 counts-refused e = rw e refl
 
--- what code adds for a list
+-- what the code adds for a list
 pub list-added : (start : List ℕ) {j k : Judged} → j ≡ k → {xs : List ℕ} → xs ≡ added start (only 2 1)
     → {m n q r s : ℕ} → m ∷ n ∷ q ∷ r ∷ s ∷ [] ≡ judgedCounts j
     → {ys : List ℕ} → ys ≡ added xs (0 ∷ 0 ∷ 0 ∷ m ∷ n ∷ q ∷ r ∷ s ∷ []) → ys ≡ added start (listFigures k)
@@ -158,7 +158,7 @@ list-added start {j} {k} j-is xs-is {m} {n} {q} {r} {s} e ys-is =
     ap (λ (x : List ℕ). 0 ∷ 0 ∷ 1 ∷ x) e ∙ ap listFigures j-is in
     ys-is ∙ rw xs-is (added-twice start (only 2 1) _ ∙ ap (added start) figures)
 
--- and for a call
+-- what the code adds for a call
 module _ (start : List ℕ) {r : Called} {a : Answer} (r-is : called r ≡ a) {ys : List ℕ} where
   pub call-accepted : {x : CallArgs} → r ≡ calls.Accepted x → ys ≡ added start (only 8 1)
       → ys ≡ added start (callFigures a)
@@ -171,6 +171,6 @@ module _ (start : List ℕ) {r : Called} {a : Answer} (r-is : called r ≡ a) {y
   unfolding only
   call-refused h ys-is = ys-is ∙ ap (λ (b : Answer). added start (callFigures b)) (ap called (sym h) ∙ r-is)
 
--- LAW: what the code counts from the ranges are the occurrences of the modes
+-- LAW: the lengths of the ranges are the numbers of occurrences of the modes
 pub modes-counted : (l : List Param) {c : Counts} → unpack l ≡ accepted c → rangeCounts c ≡ modeCounts (modes l)
 modes-counted l {c} h = let d = cut-of l h in rw (d .1, d .2) (cut-counted (d .0))

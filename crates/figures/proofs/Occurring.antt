@@ -1,6 +1,7 @@
--- How often a number stands in a list, and the errors by number. Occurrences in a joined list are the sums
--- (`errors-append`), so the errors may be counted one by one; and one number is one counter: `number-of-list` for 10 to
--- 19, `number-of-module` for 50 to 61, and for any other nothing (`number-other`). Assumes nothing.
+-- The number of times that a number occurs in a list, and the errors by number. Occurrences in a joined list are sums
+-- (`errors-append`, by induction on the list), so the errors may be counted one by one. Each error number has one
+-- counter: `number-of-list` for 10 to 19, `number-of-module` for 50 to 61; any other number has none
+-- (`number-other`). The loop keeps that the first i numbers are counted. Assumes nothing.
 use mathlib.Core.Path.{_≡_, refl, sym, ap, ap₂, _∙_}
 use mathlib.Core.Bool.{Bool, true, false, _&&_}
 use mathlib.Core.Logic.{_⊎_, inl, inr}
@@ -26,7 +27,7 @@ use Rattle.figures.specs.Walking.{only, plus, errorFigures}
 use Rattle.figures.proofs.Additions.{added-twice, added-zeros, added-trailing, plus-append, plus-behind}
 use Rattle.figures.proofs.Additions.{only-behind}
 
--- in a joined list, and in a run of equal numbers
+-- occurrences in a joined list, and in a run of equal numbers
 pub occurs-append : (n : ℕ) (fs bs : List ℕ) → occurrences n (fs ++ bs) ≡ occurrences n fs + occurrences n bs
 unfolding occurrences
 occurs-append n [] bs = omega arith
@@ -65,7 +66,7 @@ errors-append fs bs =
     rw (lists, modules)
     (sym (plus-behind 10 _ _ ∙ ap (λ (r : List ℕ). replicate 10 0 ++ r) (plus-append _ _ _ _ even)))
 
--- a number by itself: it is one of those, or none
+-- a single number: its counter, or none
 module _ (n : ℕ) where
   from-none : (k b : ℕ) → (n < b) ⊎ (b + k ≤ n) → occurrencesFrom k b (n ∷ []) ≡ replicate k 0
   unfolding occurrencesFrom occurrences
@@ -134,7 +135,7 @@ module _ (n : ℕ) where
             go (inl x) (inr y) = inr (omega arith)
             go (inr x) y = inl x
 
--- the two tests of code
+-- the two tests of `add_number`
 module _ {n : ℕ} where
   pub list-least : (leb 10 n && leb n 19) ≡ true → 10 ≤ n
   list-least h = leb-true 10 n (and-left (leb 10 n) (leb n 19) h)
@@ -148,7 +149,7 @@ module _ {n : ℕ} where
   pub module-most : (leb 50 n && leb n 61) ≡ true → n ≤ 61
   module-most h = leb-true n 61 (and-right (leb 50 n) (leb n 61) h)
 
--- numbers in a loop: of the first n of some, the first i are counted
+-- the invariant of `add_numbers`: of the first n numbers, the first i are counted
 pub record Counting (start found : List ℕ) (n : ℕ) (figures : List ℕ) (i : ℕ) : Type 0 where
   pub upto : i ≤ n
   pub there : n ≤ length found
@@ -178,7 +179,7 @@ module _ {start found : List ℕ} {n : ℕ} {figures : List ℕ} {i : ℕ} (c : 
   pub counting-end : n ≤ i → figures ≡ added start (errorFigures (take n found))
   counting-end h = let e : i ≡ n = omega (arith, c .upto) in rw e at (c .is)
 
--- in the terms of code: a list with room for all errors of the form Numbers holds the number of each
+-- a list with room for all errors, in the form Numbers, holds the number of each
 numbers-length : (es : List Err) → length (numbersOf es) ≡ length es
 unfolding numbersOf
 numbers-length [] = refl
@@ -217,7 +218,7 @@ module _ (d : Dialect) (names t : List ℕ) (few : length t ≤ 50400) {found : 
       take-front : (xs ys : List ℕ) (k : ℕ) → length xs ≡ k → take k (xs ++ ys) ≡ xs
       take-front xs ys k e = rw (← e) (take-append-seam xs ys)
 
-  -- what one loop over them leaves
+  -- the counters after the loop over them
   pub errors-added : (start : List ℕ) {figures : List ℕ} → figures ≡ added start (errorFigures (take n found))
       → figures ≡ added start (errorFigures (numbersOf (passErrors d names t)))
   errors-added start h = h ∙ rw numbers-found refl

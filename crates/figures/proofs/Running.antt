@@ -1,7 +1,8 @@
--- One step, and the loop of steps. A step that goes on takes a byte at least and no more than there are (`taken-fits`),
--- so as many steps as bytes are enough (`enough`), and a report goes on from a step exactly as it began: `report-none`,
--- `report-on` and `report-stop` are its three cases, and callers need no others. The loop's invariant is that what is
--- counted, with the report of what is left, is the report of the input (`Running`). Assumes nothing.
+-- One step, and the loop of steps. A step that continues takes at least one byte, and no more than there are
+-- (`taken-fits`). So as many steps as there are bytes are enough (`enough`), and after a step the report continues as
+-- a report from that place: `report-none`, `report-on` and `report-stop` are its three cases, and callers need no
+-- others. The loop's invariant is that the counters so far, with the report of the rest, make the report of the input
+-- (`Running`). Assumes nothing.
 use mathlib.Core.Path.{_≡_, refl, sym, ap, _∙_}
 use mathlib.Core.Bool.{Bool, true, false}
 use mathlib.Core.List.{List, []}
@@ -53,7 +54,7 @@ module _ (w fs : List ℕ) where
     unfolding stepCheck
     step-front h s-is ys-is = rw (step-is, after-is, lt-ltb (getD fs 0 0) mostFiles h) (s-is, ys-is)
 
-    -- LAW: a step that goes on takes the file at the front, which is there
+    -- LAW: a step that continues takes the file at the front, which is present whole
     pub taken-fits : {n : ℕ} → stepOf w fs ≡ Taken n → (1 ≤ n) × (n ≤ length w)
     unfolding stepCheck windowCheck
     taken-fits {n} e = go (stepCheck w fs) refl (sym step-is ∙ e)
@@ -95,7 +96,7 @@ enough (suc k) (suc m) at fs bs h g =
         let t = taken-fits bs fs (eqb-false (length bs) 0 z) e in
         rest n (figuresAfter bs fs) (omega (arith, t, length-drop n bs)) (omega (arith, t, length-drop n bs))
 
--- a report from a place on, in its three cases
+-- the three cases of a report from a place on
 module _ (at : ℕ) (fs bs : List ℕ) where
   pub report-none : length bs ≡ 0 → reportFrom at fs bs ≡ whole fs
   unfolding reportFrom reportIn
@@ -120,7 +121,7 @@ module _ (at : ℕ) (fs bs : List ℕ) where
     pub report-stop : {k : ℕ} → stepOf bs fs ≡ Refused k → reportFrom at fs bs ≡ endedBy k at fs
     report-stop e = one ∙ rw e refl
 
--- the loop over the files: what is left decides
+-- the invariant of the loop over the files: the report of the rest decides
 pub record Running (input fs : List ℕ) (at : ℕ) : Type 0 where
   pub upto : at ≤ length input
   pub same : reportFrom at fs (drop at input) ≡ reportOf input
@@ -129,7 +130,7 @@ pub run-start : (input : List ℕ) → Running input zeros 0
 unfolding reportOf
 run-start input = record { upto = omega arith; same = refl }
 
--- in the terms of code: the part of the input that a step is lent, what it answers, and the counters that it leaves
+-- the turn of the loop: the part of the input that a step gets, its answer, and the counters at its exit
 module _ {input fs : List ℕ} {at : ℕ} (r : Running input fs at) where
   pub run-end : length input ≤ at → whole fs ≡ reportOf input
   run-end h = sym (report-none at fs (drop at input) (omega (arith, length-drop at input))) ∙ r .same

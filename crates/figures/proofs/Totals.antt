@@ -1,6 +1,7 @@
 -- The figures of a file are added in four parts: the file, its nodes, what is counted node by node, the errors. In a
--- table that passes 1 to 5 they are `tableFigures` (`figures-are`), because no two parts have a counter in common and
--- the module pass looks at the whole table. Assumes nothing.
+-- table that passes 1 to 5 their sum is `tableFigures` (`figures-are`), because no two parts have a counter in common
+-- and the module pass reads the whole table. The other laws are the returns of `add_table` and `add_all`. Assumes
+-- nothing.
 use mathlib.Core.Path.{_≡_, refl, sym, ap, _∙_}
 use mathlib.Core.List.{List, []}
 use Prim.Native.Nat.{ℕ, _/_, _≤_}
@@ -26,7 +27,7 @@ use Rattle.figures.specs.Walking.{only, plus, nodesFigures, errorFigures
 use Rattle.figures.specs.Reporting.{counted}
 use Rattle.figures.proofs.Additions.{added-twice, added-zeros}
 
--- LAW: with the file in front, in the dialect that is given, the figures are those of the definition
+-- LAW: with the file in front, in the given dialect, the figures are those of the definition
 pub figures-are : (t names bytes : List ℕ) {d : Dialect} → givenOf t names bytes ≡ inDialect d
     → plus (only 0 1) (figuresIn d t names) ≡ tableFigures t names bytes
 unfolding figuresIn tableFigures only plus nodesFigures errorFigures errorsOf passErrors
@@ -34,7 +35,7 @@ figures-are t names bytes {d} h =
     let all : take 50400 t ≡ t = take-all 50400 t (given-known t names bytes h .0 .most) in
     rw (h, all) (simp add-zero)
 
--- three additions, one after another, in the terms of code
+-- the three additions of `add_all`
 pub all-added : (d : Dialect) (t names a : List ℕ) {b c e : List ℕ} → b ≡ added a (only 1 (length t / 24))
     → c ≡ added b (nodesFigures t names (length t / 24))
     → e ≡ added c (errorFigures (numbersOf (passErrors d names t))) → e ≡ added a (figuresIn d t names)
@@ -46,7 +47,7 @@ all-added d t names a b-is c-is e-is =
 pub table-few : (t names : List ℕ) → checkOf t names ≡ accepted [] → length t ≤ 50400
 table-few t names e = accepted-clean t names e .most
 
--- 1 to 5, in the terms of code: x is what was read of an edition, g what `enter_rules` answered
+-- the returns of `add_table`: x is the edition that was read, g the answer of `enter_rules`
 module _ (t names bytes : List ℕ) (x : EditionRead) {g : Ruled} (g-is : ruled g ≡ rulesOf t names bytes x) where
   by-is : {d : Dialect} {e : Edition} → g ≡ By d e → rulesOf t names bytes x ≡ byRules d e
   by-is h = sym g-is ∙ ap ruled h
@@ -60,7 +61,7 @@ module _ (t names bytes : List ℕ) (x : EditionRead) {g : Ruled} (g-is : ruled 
   pub given-sound : {d : Dialect} {e : Edition} → g ≡ By d e → checkOf t names ≡ accepted []
   given-sound h = clean-accepted t names (given-known t names bytes (given-is h) .0)
 
-  -- the counters after the file is counted, and in the end
+  -- the counters after the file is counted, and at the end
   module _ (start : List ℕ) {k : ℕ} (k-is : k ≡ filesOf g) {xs : List ℕ} (xs-is : xs ≡ added start (only 0 k)) where
     pub table-added : {d : Dialect} {e : Edition} → g ≡ By d e → {ys : List ℕ} → ys ≡ added xs (figuresIn d t names)
         → (accepted [] ≡ rulesCheck t names bytes x)

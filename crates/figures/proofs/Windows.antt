@@ -1,8 +1,8 @@
--- The file at the front of a window is read by the reader of single files, on the bytes that its header asks for. That
--- part has the header, the blocks and the content of the window (`header-window`, `front-window`, `content-window`),
--- since a file's blocks lie within it, and it is no longer than the file, so 75 does not arise: `read-window`. In the
--- terms of code, a refusal of `tablefile::unpack` is the step's (`window-refused`), and else 1 to 5 of the unpacked
--- table decide (`window-answer`, `window-figures`). Assumes nothing.
+-- The file at the front of a window is read by the reader of single files, on the bytes whose number its header
+-- gives. This part has the header, the blocks and the content of the window (`header-window`, `front-window`,
+-- `content-window`), because a file's blocks lie within it, and it is no longer than the file, so 75 does not arise
+-- (`read-window`). A refusal of `tablefile::unpack` is then that of the step (`window-refused`), and else 1 to 5 on
+-- the unpacked table decide (`window-answer`, `window-figures`). Assumes nothing.
 use mathlib.Core.Path.{_≡_, refl, sym, ap, _∙_}
 use mathlib.Core.List.{List}
 use Prim.Native.Nat.{ℕ, _+_, _*_, _-_, _^_, _<_, _≤_}
@@ -36,7 +36,7 @@ use Rattle.figures.specs.Reporting.{windowCheck, told, counted}
 use Rattle.figures.specs.declared.Stepped.{Stepped}
 use Rattle.figures.specs.declared.Stepped.the-variants as steps
 
--- the bytes that the header of a window asks for
+-- the bytes whose number the header of a window gives
 abbrev pub fileIn : List ℕ → List ℕ
 fileIn w = take (headerAt w .taken) w
 
@@ -76,7 +76,7 @@ module _ (w : List ℕ) where
     run-front (24 * headerAt w .nodes) (512 * headerAt w .first) (headerAt w .taken) w nodes-held (headerAt w .first),
   ) refl
 
-  -- LAW: the window's check is the reader's, on the bytes that the header asks for
+  -- LAW: the check of a window is the reader's, on these bytes
   pub read-window : readCheck (fileIn w) ≡ windowCheck w
   unfolding readCheck windowCheck
   read-window =
@@ -91,7 +91,7 @@ module _ (w : List ℕ) where
   pub window-steps : windowCheck w ≡ andThen (fileCheck (fileIn w)) (λ _. soundCheck (contentAt w))
   window-steps = sym read-window ∙ read-steps (fileIn w) ∙ rw content-window refl
 
--- in the terms of code: h is what the window's header says, f the file, v what `tablefile::unpack` answered
+-- the returns of `add_front`: h is the header of the window, f the file, v the answer of `tablefile::unpack`
 module _ (w : List ℕ) {h : Heading} (h-is : h ≡ headerAt w) {f : List ℕ} (f-is : f ≡ take (h .taken) w) (v : Verdict)
     (v-is : verdict v ≡ fileCheck f) where
   f-so : f ≡ fileIn w
@@ -121,7 +121,7 @@ module _ (w : List ℕ) {h : Heading} (h-is : h ≡ headerAt w) {f : List ℕ} (
       pub window-names-long : x ≡ handed (fileCheck f) (contentAt f .names) (replicate 8064 0) → 8064 ≡ length x
       window-names-long = unpacked-names-long f v v-is good h-so
 
-    -- wt and wn are the arrays that it left; t, names and bytes are what the file holds, and x its edition
+    -- wt and wn are the arrays at its exit; t, names and bytes are the content of the file, and x its edition
     module _ {wt wn t names bytes : List ℕ}
         (wt-is : wt ≡ handed (fileCheck f) (contentAt f .table) (replicate 50400 0))
         (wn-is : wn ≡ handed (fileCheck f) (contentAt f .names) (replicate 8064 0))
@@ -155,7 +155,7 @@ module _ (w : List ℕ) {h : Heading} (h-is : h ≡ headerAt w) {f : List ℕ} (
           → ys ≡ counted (windowCheck w) start (figuresOf (contentAt w))
       window-figures start ys-is = ys-is ∙ rw (sound-so, t-so, names-so, bytes-so) refl
 
--- what a step answers for what 1 to 5 say
+-- the answer of a step, from that of 1 to 5
 pub answer-sound : (j : Checked) (n : ℕ) → j ≡ judgements.Sound → steps.Taken n ≡ told (checked j) n
 answer-sound j n e = rw e refl
 

@@ -1,4 +1,4 @@
--- Figures added to figures, held to 64 bits. These are definitions.
+-- Adding figures to counters, limited to 64 bits. These are definitions.
 use mathlib.Core.List.{List, [], _∷_}
 use Prim.Native.Nat.{ℕ, _+_, _-_, min}
 
@@ -6,11 +6,11 @@ use Prim.Native.Nat.{ℕ, _+_, _-_, min}
 abbrev pub most64 : ℕ
 most64 = 18446744073709551615
 
--- a sum held to 64 bits: of y as much is added as x leaves room for
+-- a sum limited to 64 bits: as much of y is added as x leaves room for
 unfoldable pub held : ℕ → ℕ → ℕ
 held x y = x + min y (most64 - x)
 
--- counters after some figures were added, one to one; those beyond the figures stay
+-- the counters after figures are added to them one by one; counters beyond the figures stay
 unfoldable pub added : List ℕ → List ℕ → List ℕ
 added [] ys = []
 added (x ∷ xs) [] = x ∷ xs

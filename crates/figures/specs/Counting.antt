@@ -1,5 +1,5 @@
--- The figures of one file: 32 counts of what it holds, each over the definition of the job that it counts. These are
--- definitions.
+-- The figures of one file (docs/FORMAT.md, Figures): 32 counts of its content, each from the definition of the job
+-- whose answers it counts. These are definitions.
 use mathlib.Core.Bool.{Bool, true, false, _&&_}
 use mathlib.Core.List.{List, [], _∷_, _++_}
 use Prim.Native.Nat.{ℕ, zero, suc, _+_, _/_}
@@ -19,17 +19,17 @@ use Rattle.errors.specs.declared.Err.{Err}
 use Rattle.validate.specs.Job.{errorsOf}
 use Rattle.tablefile.specs.File.{Content}
 
--- 1 where something holds, else 0
+-- 1 if a test holds, else 0
 abbrev pub one : Bool → ℕ
 one true = 1
 one false = 0
 
--- how often a number stands in a list
+-- how often a number occurs in a list
 unfoldable pub occurrences : ℕ → List ℕ → ℕ
 occurrences n [] = 0
 occurrences n (m ∷ ms) = one (eqb m n) + occurrences n ms
 
--- how often each of k numbers, from n on, stands in a list
+-- how often each of k numbers, from n on, occurs in a list
 unfoldable pub occurrencesFrom : ℕ → ℕ → List ℕ → List ℕ
 occurrencesFrom zero n ms = []
 occurrencesFrom (suc k) n ms = occurrences n ms ∷ occurrencesFrom k (n + 1) ms
@@ -46,8 +46,8 @@ nodesOf t = length t / recordBytes
 abbrev pub listAt : List ℕ → ℕ → ℕ
 listAt t i = one (nodeFits t i Parameters)
 
--- how many flat parameters of a mode a node has, if its list is accepted; the job refuses a node of another kind by 6,
--- and room for 2,100 modes is enough for every list
+-- the number of flat parameters of a mode that a node has, if its list is accepted; the job refuses a node of another
+-- kind with 6, and room for 2,100 modes is enough for every list
 unfoldable pub modeAt : ℕ → List ℕ → List ℕ → ℕ → ℕ
 modeAt mode t names i =
     if' (passes (paramsOf t names i mostNodes)) (λ _. occurrences mode (modes (listOf t names i))) (λ _. 0)
@@ -68,7 +68,7 @@ unfoldable pub numbersOf : List Err → List ℕ
 numbersOf [] = []
 numbersOf (e ∷ es) = e .number ∷ numbersOf es
 
--- how many errors of each number there are: 10 to 19, then 50 to 61
+-- the number of errors of each error number: 10 to 19, then 50 to 61
 unfoldable pub errorCounts : List ℕ → List ℕ
 errorCounts ns = occurrencesFrom 10 slashFirst ns ++ occurrencesFrom 12 starNotPermitted ns
 
@@ -82,6 +82,6 @@ tableFigures t names dialect =
     ∷ over t (acceptedAt t names) ∷ over t (refusedAt t names)
     ∷ errorCounts (numbersOf (errorsOf t names dialect))
 
--- those of what a file holds
+-- the figures of the content of a file
 abbrev pub figuresOf : Content → List ℕ
 figuresOf c = tableFigures (c .table) (c .names) (c .dialect)

@@ -16,19 +16,20 @@ use Rattle.figures.specs.declared.Stepped.the-variants.{Taken, Refused}
 use Rattle.figures.specs.declared.Ending.the-variants.{Whole, Refused as RefusedAt}
 use Rattle.figures.specs.declared.Reported.{Reported}
 
--- a report has at most so many files
+-- the largest number of files in a report
 abbrev pub mostFiles : ℕ
 mostFiles = 4294967295
 
--- the file at the front of some bytes: its blocks, then 1 to 5 of what it holds; bytes behind it are not looked at
+-- the check of the file at the front of some bytes: its blocks, then 1 to 5 on its content; the bytes after it are
+-- not read
 unfoldable pub windowCheck : List ℕ → Answer
 windowCheck w = andThen (frontCheck w) (λ _. soundCheck (contentAt w))
 
--- the same for counters, the first of which counts the files: 76 comes first
+-- the same with the counters, the first of which counts the files: 76 comes first
 unfoldable pub stepCheck : List ℕ → List ℕ → Answer
 stepCheck w figures = andThen (demand (ltb (getD figures 0 0) mostFiles) tooManyFiles) (λ _. windowCheck w)
 
--- what a check of the file at the front answers, where it takes n bytes, and what it leaves of the counters
+-- the answer of a step, given the check of the file at the front, which takes n bytes; and the counters afterwards
 abbrev pub told : Answer → ℕ → Stepped
 told (accepted vs) n = Taken n
 told (refused k vs) n = Refused k
@@ -37,7 +38,7 @@ abbrev pub counted : Answer → List ℕ → List ℕ → List ℕ
 counted (accepted vs) figures more = added figures more
 counted (refused k vs) figures more = figures
 
--- a step: how many bytes the file at the front takes, none where there is no byte, or why it is refused
+-- a step: the number of bytes that the file at the front takes, 0 if there is no byte, or why it is refused
 unfoldable pub stepOf : List ℕ → List ℕ → Stepped
 stepOf w figures = if' (eqb (length w) 0) (λ _. Taken 0) (λ _. told (stepCheck w figures) (headerAt w .taken))
 
@@ -58,7 +59,7 @@ abbrev pub afterStep : Stepped → ℕ → List ℕ → (ℕ → Reported) → R
 afterStep (Taken n) at figures next = next n
 afterStep (Refused k) at figures next = endedBy k at figures
 
--- the report of what is left of an input, from a place on, behind what is counted; in so many steps at most
+-- the report of the rest of an input, from a place on, with the counters so far, in at most k steps
 unfoldable pub reportIn : ℕ → ℕ → List ℕ → List ℕ → Reported
 reportIn zero at figures left = whole figures
 reportIn (suc k) at figures left =
@@ -66,7 +67,7 @@ reportIn (suc k) at figures left =
     afterStep (stepOf left figures) at figures (λ n.
     reportIn k (at + n) (figuresAfter left figures) (drop n left)))
 
--- a file takes a byte at least, so as many steps as bytes are enough
+-- a file takes at least one byte, so as many steps as bytes are enough
 unfoldable pub reportFrom : ℕ → List ℕ → List ℕ → Reported
 reportFrom at figures left = reportIn (length left) at figures left
 

@@ -1,4 +1,4 @@
--- What inner functions of the crate add to the counters, and what they may suppose. These are definitions that only
+-- What private functions of the crate add to the counters, and what they may assume. These are definitions that only
 -- contracts of private functions use.
 use mathlib.Core.Path.{_≡_}
 use mathlib.Core.List.{List, [], _∷_, _++_}
@@ -29,7 +29,7 @@ plus [] ys = ys
 plus (x ∷ xs) [] = x ∷ xs
 plus (x ∷ xs) (y ∷ ys) = (x + y) ∷ plus xs ys
 
--- how many of `*args` or `**kwargs` there are
+-- the number of `*args` or of `**kwargs`: 0 or 1
 abbrev pub places : FlatPlace → ℕ
 places (AtFlat i) = 1
 places NoFlat = 0
@@ -50,7 +50,7 @@ rangeCounts c =
     ∷ (c .flat .0 - (c .«num_positional» .0 + places (c .args) + places (c .kwargs))) ∷ places (c .args)
     ∷ places (c .kwargs) ∷ []
 
--- the same by what unpack says of a list: a refused one has no modes
+-- the same, from unpack's answer for a list: a refused list has no modes
 abbrev pub judgedCounts : Judged → List ℕ
 judgedCounts (Accepted c) = rangeCounts c
 judgedCounts (Refused f) = 0 ∷ 0 ∷ 0 ∷ 0 ∷ 0 ∷ []
@@ -59,7 +59,7 @@ judgedCounts (Refused f) = 0 ∷ 0 ∷ 0 ∷ 0 ∷ 0 ∷ []
 abbrev pub listFigures : Judged → List ℕ
 listFigures j = 0 ∷ 0 ∷ 1 ∷ judgedCounts j
 
--- what one call adds, by what its job answers
+-- what one call adds, from the answer of its job
 abbrev pub callFigures : Answer → List ℕ
 callFigures a = replicate 8 0 ++ one (passes a) ∷ one (isRefused a) ∷ []
 
@@ -81,12 +81,12 @@ nodesFigures t names n =
 unfoldable pub errorFigures : List ℕ → List ℕ
 errorFigures ns = replicate 10 0 ++ errorCounts ns
 
--- how many files are counted: the one that 1 to 5 let in
+-- the number of files that are counted: 1 if 1 to 5 are passed
 abbrev pub filesOf : Ruled → ℕ
 filesOf (By d e) = 1
 filesOf (Away r) = 0
 
--- the figures of a table in a dialect, as they are added behind the file: nodes, what is counted node by node, errors
+-- the figures of a table in a dialect, without the file itself: nodes, what is counted node by node, errors
 unfoldable pub figuresIn : Dialect → List ℕ → List ℕ → List ℕ
 figuresIn d t names =
     plus (only 1 (nodesOf t)) (plus (nodesFigures t names (nodesOf t))

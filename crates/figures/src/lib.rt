@@ -1,5 +1,5 @@
-// The line's figures: what table files, one after another, hold and how the jobs judge it, in 32 counters of 64 bits.
-// A step adds the one file at the front of a window; a report is the steps over a whole input.
+// Figures over table files, one after another: what they hold and how the jobs judge it, in 32 counters of 64 bits
+// (docs/FORMAT.md, Figures). A step adds the file at the front of a window; a report is the steps over a whole input.
 mod nodes;
 mod sums;
 mod told;
@@ -23,8 +23,8 @@ ghost use Rattle.figures.specs.Adding.{added};
 ghost use Rattle.figures.specs.Walking.{filesOf, figuresIn};
 ghost use Rattle.figures.specs.Reporting.{windowCheck, told as toldOf, counted, stepOf, figuresAfter, reportOf};
 
-// How many counters a report has. Their order: files; nodes; parameter lists; flat parameters of the modes 1 to 5 in
-// accepted lists; calls accepted; calls refused; errors of the module pass by number, 10 to 19, then 50 to 61.
+// The number of counters of a report. Their order: files; nodes; parameter lists; flat parameters of the modes 1 to 5
+// in accepted lists; calls accepted; calls refused; errors of the module pass by number, 10 to 19, then 50 to 61.
 pub const FIGURES: usize = 32;
 
 // The places of the counters: MODES is that of mode 1, and ERRORS that of error 10.
@@ -42,16 +42,16 @@ pub const CALLS_REFUSED: usize = 9;
 
 pub const ERRORS: usize = 10;
 
-// A report has at most so many files.
+// The largest number of files in a report.
 pub const MOST_FILES: u64 = 4294967295;
 
-// What a step answers: how many bytes the file at the front takes, or the number by which it is refused.
+// The answer of a step: the number of bytes that the file at the front takes, or the number with which it is refused.
 pub enum Stepped {
     Taken(usize),
     Refused(u32),
 }
 
-// How a report ends: with the input, or at a refused file, whose number and first byte it tells.
+// The end of a report: the end of the input, or a refused file, with its number and the position of its first byte.
 pub enum Ending {
     Whole,
     Refused { number: u32, at: usize },
@@ -63,7 +63,7 @@ pub struct Reported {
     pub ending: Ending,
 }
 
-// The report of an input: file by file, up to its end or to a file that is refused.
+// Reports on an input, file by file, up to its end or to a refused file.
 pub fn report(input: &[u8]) -> Reported
     ensures { λ r. ⌜ r ≡ reportOf (now (input .entry)) ⌝ }
 {
@@ -92,8 +92,8 @@ pub fn report(input: &[u8]) -> Reported
     }
 }
 
-// One step: adds the file at the front of a window, and tells how many bytes it takes; 0 if the window is empty. A
-// refusal changes no counter: 76, then 70 to 74, then 1 to 5. Sums are held to 64 bits.
+// One step: adds the file at the front of a window, and returns the number of bytes that it takes; 0 if the window is
+// empty. Refuses with 76, then 70 to 74, then 1 to 5, and a refusal changes no counter. Sums are limited to 64 bits.
 pub fn step(window: &[u8], figures: &mut [u64; FIGURES]) -> Stepped
     ensures { λ r. ⌜ r ≡ stepOf (now (window .entry)) (now (figures .entry)) ⌝ }
     ensures { λ r. ⌜ now (figures .exit) ≡ figuresAfter (now (window .entry)) (now (figures .entry)) ⌝ }
@@ -107,8 +107,8 @@ pub fn step(window: &[u8], figures: &mut [u64; FIGURES]) -> Stepped
     add_front(window, figures)
 }
 
-// The file at the front of a window: 70 to 74 and 1 to 5, then its figures are added. What is read is what its header
-// asks for, so no byte is left over.
+// Checks the file at the front of a window, 70 to 74 and 1 to 5, then adds its figures. Only the bytes of that file are
+// read, so no byte is left over.
 fn add_front(window: &[u8], figures: &mut [u64; FIGURES]) -> Stepped
     ensures { λ r. ⌜ r ≡ toldOf (windowCheck (now (window .entry))) (headerAt (now (window .entry)) .taken) ⌝ }
     ensures { λ r. ⌜ now (figures .exit) ≡
@@ -135,7 +135,7 @@ fn add_front(window: &[u8], figures: &mut [u64; FIGURES]) -> Stepped
     answer(judged, h.taken)
 }
 
-// What a step answers for a file of so many bytes.
+// The answer of a step for a file of `taken` bytes.
 fn answer(judged: Checked, taken: usize) -> Stepped
     ensures { λ r. ⌜ r ≡ toldOf (checked judged) taken ⌝ }
 {
@@ -145,7 +145,7 @@ fn answer(judged: Checked, taken: usize) -> Stepped
     }
 }
 
-// 1 to 5 of what a file holds, then its figures are added.
+// Checks 1 to 5 on the content of a file, then adds its figures.
 fn add_table(
     table: &[u8],
     names: &[u8],
@@ -173,7 +173,7 @@ fn add_table(
     }
 }
 
-// How many files are counted: the one that 1 to 5 let in.
+// The number of files that are counted: 1 if 1 to 5 are passed, else 0.
 fn files(entered: Ruled) -> u64
     ensures { λ r. ⌜ r ≡ filesOf entered ⌝ }
 {
@@ -186,7 +186,8 @@ fn files(entered: Ruled) -> u64
     }
 }
 
-// The figures of a table that passes 1 to 5 behind the file: its nodes, what is counted node by node, the errors.
+// Adds the figures of a table that passes 1 to 5, without the file itself: its nodes, what is counted node by node, the
+// errors.
 fn add_all(table: &[u8], names: &[u8], d: Dialect, figures: &mut [u64; FIGURES])
     requires { ⌜ checkOf (now table) (now names) ≡ accepted [] ⌝ }
     ensures { λ r. ⌜ now (figures .exit) ≡

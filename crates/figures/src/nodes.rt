@@ -25,7 +25,7 @@ ghost use Rattle.figures.specs.Counting.{nodesOf};
 ghost use Rattle.figures.specs.Walking.{places as placesOf, Ranged, RangedIn, rangeCounts, judgedCounts};
 ghost use Rattle.figures.specs.Walking.{listFigures, callFigures, nodeFigures, nodesFigures, NodeIn};
 
-// How many flat parameters of each mode a list has.
+// The number of flat parameters of each mode in a list.
 pub struct Modes {
     pub pos_only: u64,
     pub pos_or_named: u64,
@@ -34,7 +34,7 @@ pub struct Modes {
     pub kwargs: u64,
 }
 
-// The nodes of a sound table in turn.
+// Adds the figures of the nodes of a sound table.
 pub(crate) fn add_nodes(table: &[u8], names: &[u8], count: usize, figures: &mut [u64; FIGURES])
     requires { ⌜ (checkOf (now table) (now names) ≡ accepted []) × (count ≡ nodesOf (now table)) ⌝ }
     ensures { λ r. ⌜ now (figures .exit) ≡
@@ -47,7 +47,7 @@ pub(crate) fn add_nodes(table: &[u8], names: &[u8], count: usize, figures: &mut 
     }
 }
 
-// One node, by its kind.
+// Adds the figures of one node, by its kind.
 fn add_node(table: &[u8], names: &[u8], i: usize, figures: &mut [u64; FIGURES])
     requires { ⌜ NodeIn (now table) (now names) i ⌝ }
     ensures { λ r. ⌜ now (figures .exit) ≡
@@ -62,7 +62,7 @@ fn add_node(table: &[u8], names: &[u8], i: usize, figures: &mut [u64; FIGURES])
     }
 }
 
-// The parameter list of the node that a stretch begins with.
+// Adds the parameter list of the first node of a stretch.
 fn add_list(names: &[u8], t: &[u8], node: u32, figures: &mut [u64; FIGURES])
     ensures { λ r. ⌜ now (figures .exit) ≡ added (now (figures .entry))
         (listFigures (told (limited (nodeOf node (now (t .entry))) (written (now (names .entry)) node
@@ -73,7 +73,7 @@ fn add_list(names: &[u8], t: &[u8], node: u32, figures: &mut [u64; FIGURES])
     add_modes(modes_of(judged), figures);
 }
 
-// The modes of a list.
+// Adds the modes of a list.
 fn add_modes(m: Modes, figures: &mut [u64; FIGURES])
     ensures { λ r. ⌜ now (figures .exit) ≡ added (now (figures .entry))
         (0 ∷ 0 ∷ 0 ∷ m .«pos_only» ∷ m .«pos_or_named» ∷ m .«named_only» ∷ m .args ∷ m .kwargs ∷ []) ⌝ }
@@ -124,7 +124,7 @@ fn lengths(c: Counts) -> Modes
     }
 }
 
-// How many of `*args` or `**kwargs` there are.
+// The number of `*args` or of `**kwargs`: 0 or 1.
 fn places(p: FlatPlace) -> u64
     ensures { λ r. ⌜ r ≡ placesOf p ⌝ }
 {
@@ -134,7 +134,7 @@ fn places(p: FlatPlace) -> u64
     }
 }
 
-// The call that a stretch begins with.
+// Adds the call that is the first node of a stretch.
 fn add_call(names: &[u8], t: &[u8], node: u32, figures: &mut [u64; FIGURES])
     ensures { λ r. ⌜ now (figures .exit) ≡ added (now (figures .entry))
         (callFigures (callAnswer (now (names .entry)) (treeOf node (headedOf node (now (t .entry)))))) ⌝ }

@@ -1,11 +1,11 @@
-// Adding to a counter, held to 64 bits.
+// Adding to a counter, limited to 64 bits.
 use crate::FIGURES;
 ghost use mathlib.Core.Path.{_≡_};
 ghost use Prim.Native.Nat.{_<_};
 ghost use Rattle.figures.specs.Adding.{held as heldOf, added};
 ghost use Rattle.figures.specs.Walking.{only};
 
-// A sum held to 64 bits: from zeros no report reaches the limit.
+// A sum limited to 64 bits. No report that starts from zeros reaches the limit.
 fn held(x: u64, y: u64) -> u64
     ensures { λ r. ⌜ r ≡ heldOf x y ⌝ }
 {

@@ -19,10 +19,10 @@ ghost use Rattle.figures.specs.Walking.{errorFigures};
 // A table has at most two errors for each node.
 const MOST_ERRORS: usize = 2 * MOST_NODES;
 
-// How many numbers of parameter lists there are, 10 to 19; those of the module, 50 to 61, follow them.
+// The number of error numbers of parameter lists, 10 to 19; those of the module, 50 to 61, follow them.
 const LIST_NUMBERS: usize = 10;
 
-// The errors of a table in a dialect: the numbers of all, then each is counted.
+// Adds the errors of a table in a dialect: gets the numbers of all errors, then counts each.
 pub(crate) fn add_errors(table: &[u8], names: &[u8], d: Dialect, figures: &mut [u64; FIGURES])
     requires { ⌜ length (now table) ≤ mostBytes ⌝ }
     ensures { λ r. ⌜ now (figures .exit) ≡ added (now (figures .entry))
@@ -33,7 +33,7 @@ pub(crate) fn add_errors(table: &[u8], names: &[u8], d: Dialect, figures: &mut [
     add_numbers(&found, total as usize, figures);
 }
 
-// The first so many of some numbers.
+// Adds the first `len` of some error numbers.
 fn add_numbers(found: &[u32], len: usize, figures: &mut [u64; FIGURES])
     requires { ⌜ len ≤ length (now found) ⌝ }
     ensures { λ r. ⌜ now (figures .exit) ≡
@@ -46,7 +46,7 @@ fn add_numbers(found: &[u32], len: usize, figures: &mut [u64; FIGURES])
     }
 }
 
-// One number. Any other than those that are counted changes nothing.
+// Adds one error number. A number without a counter changes nothing.
 fn add_number(number: u32, figures: &mut [u64; FIGURES])
     ensures { λ r. ⌜ now (figures .exit) ≡ added (now (figures .entry)) (errorFigures (number ∷ [])) ⌝ }
 {

@@ -1,6 +1,8 @@
--- Of a file at most `enoughBytes` bytes are read: the most blocks that a file has, and one byte more. That is enough:
--- the answer to so much of a file is the answer to the file, however long it is (`read-enough`). The same holds of
--- reading it into lent buffers (`into-enough`). Assumes nothing.
+-- At most `enoughBytes` bytes of a file are read: the blocks of the largest file, and one byte more. That is enough:
+-- the answer for these first bytes is the answer for the file, however long it is (`read-enough`), and the same holds
+-- for reading it into buffers (`into-enough`). If the file is not longer, nothing is cut off. If it is, its header is
+-- within the first bytes; either its counts are beyond the limits, or its blocks are too, so both are refused alike,
+-- at the latest with 75 for the byte more. Assumes nothing.
 use mathlib.Core.Path.{_≡_, refl, sym, ap, _∙_}
 use mathlib.Core.Bool.{Bool, true, false}
 use mathlib.Core.Logic.{⊎-elim}
@@ -28,7 +30,7 @@ use Rattle.tablefile.proofs.Accepted.{read-whole, read-fronted}
 use Rattle.filepass.specs.Sizes.{enoughBytes}
 use Rattle.filepass.specs.Passing.{answerOf, ifRead, wordsAfter}
 
--- LAW: the most blocks are those of the most names and the most nodes
+-- LAW: the largest number of blocks is that of the largest names and the largest table
 pub most-blocks : mostBlocks ≡ 1 + blocksFor mostNames + blocksFor (24 * mostNodes)
 unfolding blocksFor
 most-blocks = refl
@@ -38,7 +40,7 @@ pub accepted-short : (bs : List ℕ) → readCheck bs ≡ accepted [] → length
 unfolding blocksFor
 accepted-short bs e = omega (arith, taken-is bs, first-is bs, read-whole bs e, read-fronted bs e .counts)
 
--- the reader's check gives no values
+-- the reader's check carries no values
 Plain : Answer → Type 0
 Plain (accepted vs) = vs ≡ []
 Plain (refused n vs) = Unit {0}
@@ -62,12 +64,12 @@ read-plain bs =
     after-plain (frontCheck bs) (λ _. andThen left sound)
     (after-plain left sound (rules-plain (rulesOf (c .table) (c .names) (c .dialect) (editionRead c))))
 
--- a file that is longer than what is read of it
+-- a file that is longer than the bytes read
 module _ (m : ℕ) (bs : List ℕ) (enough : 512 * mostBlocks < m) (longer : m < length bs) where
   header-part : headerAt (take m bs) ≡ headerAt bs
   header-part = header-front m bs (omega arith)
 
-  -- what comes after the counts of block 0, for some bytes of which these are the counts
+  -- the part of the check after the counts of block 0
   later : List ℕ → Answer
   later xs =
       andThen (andThen (judgeRun 1 (headerAt bs .names) (drop 512 xs))
@@ -117,7 +119,7 @@ module _ (m : ℕ) (bs : List ℕ) (enough : 512 * mostBlocks < m) (longer : m <
       ∙ whole-part (countsFit (headerAt bs .nodes) (headerAt bs .names)) refl
       ∙ sym (whole-is bs refl)
 
-  -- it is refused, and so is what is read of it
+  -- the file is refused, and so are the bytes read
   pub refused-both : {A : Type 0} (f : Answer → (Unit {0} → A) → A) → ((n : ℕ) (vs : List ℕ) (x y : Unit {0} → A)
       → f (refused n vs) x ≡ f (refused n vs) y) → (x y : Unit {0} → A)
       → f (readCheck (take m bs)) x ≡ f (readCheck bs) y
@@ -140,7 +142,7 @@ module _ (m : ℕ) (bs : List ℕ) (enough : 512 * mostBlocks < m) (longer : m <
   unfolding intoCheck
   longer-into table names = refused-both andThen (λ n vs x y. refl) _ _
 
-  -- where a check comes behind the reader's, a buffer stays if the reader refuses
+  -- if the reader refuses, a later check leaves the buffer unchanged
   handed-behind : (a : Answer) (next : Unit {0} → Answer) (held buffer : List ℕ)
       → handed (andThen a next) held buffer ≡ ifRead a buffer (λ _. handed (next tt) held buffer)
   unfolding handed
@@ -155,7 +157,7 @@ module _ (m : ℕ) (bs : List ℕ) (enough : 512 * mostBlocks < m) (longer : m <
       ∙ refused-both (λ a next. ifRead a buffer next) (λ n vs x y. refl) _ _
       ∙ sym (handed-behind (readCheck bs) _ held buffer)
 
--- THEOREM: what is answered to the first bytes of a file is what is answered to the file, and the words are the same
+-- THEOREM: the answer for the first bytes of a file is the answer for the file, and the words are the same
 pub read-enough : (file xs : List ℕ) → (answerOf (take enoughBytes file) ≡ answerOf file)
     × (wordsAfter (take enoughBytes file) xs ≡ wordsAfter file xs)
 read-enough file xs =
@@ -167,7 +169,7 @@ read-enough file xs =
     ))
     (le-or-lt (length file) enoughBytes)
 
--- THEOREM: so it is where a file is read into buffers, with the table and the names at exit
+-- THEOREM: the same if a file is read into buffers, with the table and the names at exit
 pub into-enough : (file t ns : List ℕ) → let part = take enoughBytes file in
     let answer = intoCheck file (length t) (length ns) in
     let answer-part = intoCheck part (length t) (length ns) in

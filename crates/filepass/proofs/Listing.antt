@@ -1,8 +1,8 @@
--- A file's answer, in the terms of code. The code unpacks the file, which looks at 70 to 75, and then runs the module
--- job, which looks at 1 to 5 itself; `answerOf` looks at 70 to 75 and at 1 to 5, and then runs the job. Both are the
--- same: where 1 to 5 refuse, the job refuses by the same number (`given-again`) and changes no word (`given-keeps`). So
--- the answer is `answerOf` (`job-is-answer`) and the words are `wordsAfter` (`job-is-words`), if an edition holds. The
--- job does not look at it; a bad one is refused before the job, by 1 to 4 or 5 (`bad-edition`). Assumes nothing.
+-- Laws of `check_file`. The code unpacks the file, which tests 70 to 75, and then runs the module job, which tests 1
+-- to 5 itself; `answerOf` tests 70 to 75 and 1 to 5, and then runs the job. Both are the same: if 1 to 5 refuse, the
+-- job refuses with the same number (`given-again`) and changes no word (`given-keeps`). So the answer is `answerOf`
+-- (`job-is-answer`) and the words are `wordsAfter` (`job-is-words`), if an edition holds. The job does not read the
+-- edition; a bad one is refused before the job, with 1 to 4 or 5 (`bad-edition`). Assumes nothing.
 use mathlib.Core.Path.{_≡_, refl, sym, ap, _∙_}
 use mathlib.Core.List.{List, [], _∷_}
 use Prim.Native.Nat.{ℕ, _*_, _-_, _/_, _^_, _<_, _≤_}
@@ -42,7 +42,7 @@ use Rattle.validate.specs.declared.Listed.{Listed}
 use Rattle.validate.specs.declared.Listed.the-variants.{Total, Refused as Away}
 use Rattle.filepass.specs.Passing.{behind, heldAnswer, answerOf, ifRead, wordsAfter}
 
--- the front of some bytes: all of them, or a part
+-- the returns of `front`: all of the bytes, or a part
 module _ (s : List ℕ) (len : ℕ) where
   pub front-all : length s ≤ len → s ≡ take len s
   front-all h = sym (take-all len s h)
@@ -62,20 +62,20 @@ module _ (t names bytes : List ℕ) (sound : givenCheck t names bytes ≡ accept
   pub held-listed : heldAnswer t names bytes ≡ accepted (length t / 24 ∷ length (errorsOf t names bytes) ∷ [])
   held-listed = rw (known .1) refl
 
--- LAW: what passes 1 to 5 with its edition passes them without
+-- LAW: what passes 1 to 5 with its edition passes them without it
 pub sound-given : (c : Content) → soundCheck c ≡ accepted []
     → givenCheck (c .table) (c .names) (c .dialect) ≡ accepted []
 sound-given c sound =
     let (d, e, rules) = rules-passed (c .table) (c .names) (c .dialect) (editionRead c) sound in
     rw (rules-known (c .table) (c .names) (c .dialect) rules .0) refl
 
--- LAW: 1 to 5 in front of a job in a dialect change nothing, since the job looks at them itself
+-- LAW: testing 1 to 5 before a job in a dialect changes nothing, because the job tests them itself
 pub given-again : (g : Handing) (n : ℕ) (rule : Dialect → Answer)
     → andThen (inGiven g (λ _. accepted [])) (λ _. behind n (inGiven g rule)) ≡ behind n (inGiven g rule)
 given-again (inDialect d) n rule = refl
 given-again (turnedAway m vs) n rule = refl
 
--- a job that 1 to 5 turn away changes no word
+-- a job that is refused with 1 to 5 changes no word
 pub given-keeps : (t names bytes xs : List ℕ)
     → ifRead (givenCheck t names bytes) xs (λ _. errorsAfter t names bytes xs) ≡ errorsAfter t names bytes xs
 unfolding errorsOf stored
@@ -94,7 +94,7 @@ module _ (file : List ℕ) {e : Edition} (known : editionRead (contentAt file) �
   given-so : soundCheck c ≡ givenCheck (c .table) (c .names) (c .dialect)
   given-so = rw known (rules-given (c .table) (c .names) (c .dialect) e)
 
-  -- LAW: the answer is still `answerOf`: 70 to 75, then the module job on what the file holds
+  -- LAW: 70 to 75 and then the module job on the content of the file give `answerOf`
   job-is-answer : andThen (fileCheck file) (λ _. heldAnswer (c .table) (c .names) (c .dialect)) ≡ answerOf file
   unfolding answerOf
   job-is-answer =
@@ -106,7 +106,7 @@ module _ (file : List ℕ) {e : Edition} (known : editionRead (contentAt file) �
       (given-again (givenOf (c .table) (c .names) (c .dialect)) (length (c .table) / 24)
       (λ _. accepted (length (errorsOf (c .table) (c .names) (c .dialect)) ∷ []))))
 
-  -- LAW: and so are the words
+  -- LAW: they also give the words
   job-is-words : (xs : List ℕ)
       → ifRead (fileCheck file) xs (λ _. errorsAfter (c .table) (c .names) (c .dialect) xs) ≡ wordsAfter file xs
   unfolding wordsAfter
@@ -118,7 +118,7 @@ module _ (file : List ℕ) {e : Edition} (known : editionRead (contentAt file) �
       go (accepted vs) = sym (given-keeps (c .table) (c .names) (c .dialect) xs)
       go (refused n vs) = refl
 
--- LAW: where no edition holds, 1 to 5 are 1 to 4, then 5, whatever the dialect bytes are
+-- LAW: if no edition holds, 1 to 5 are 1 to 4 and then 5, whatever the dialect bytes are
 pub bad-edition : (t names bytes : List ℕ)
     → andThen (givenCheck t names bytes) (λ _. refused badDialect [])
     ≡ andThen (checkOf t names) (λ _. refused badDialect [])
@@ -132,7 +132,7 @@ bad-edition t names bytes = go (checkOf t names) (fromBytes bytes)
     go (accepted vs) Invalid = refl
     go (refused n vs) x = refl
 
--- what `table::check` found in such a file, as a refusal
+-- the answer of `table::check` on such a file, as a refusal
 pub refused-sound : (t names : List ℕ) (f : Checked) → checked f ≡ checkOf t names → f ≡ Sound
     → refused badDialect [] ≡ andThen (checkOf t names) (λ _. refused badDialect [])
 refused-sound t names f f-is e = rw (← f-is, e) refl
@@ -141,14 +141,14 @@ pub refused-unsound : (t names : List ℕ) (f : Checked) → checked f ≡ check
     → f ≡ Unsound why → refusal why ≡ andThen (checkOf t names) (λ _. refused badDialect [])
 refused-unsound t names f f-is e = rw (← f-is, e) refl
 
--- what a job answers, with the number of nodes
+-- the answer of a job, with the number of nodes
 pub told-total : (n : ℕ) (m : Listed) {k : ℕ} → m ≡ Total k → accepted (n ∷ k ∷ []) ≡ behind n (listed m)
 told-total n m e = rw e refl
 
 pub told-refused : (n : ℕ) (m : Listed) {why : Refusal} → m ≡ Away why → refusal why ≡ behind n (listed m)
 told-refused n m e = rw e refl
 
--- the number of nodes is small: v is what `tablefile::unpack` found
+-- the number of nodes is small: v is the answer of `tablefile::unpack`
 module _ (file : List ℕ) (v : Verdict) (v-is : verdict v ≡ fileCheck file) (good : v ≡ Accepted) {h : Heading}
     (h-is : h ≡ headerAt file) where
   pub nodes-fit : 24 * h .nodes < 2 ^ 64
@@ -157,7 +157,7 @@ module _ (file : List ℕ) (v : Verdict) (v-is : verdict v ≡ fileCheck file) (
   pub nodes-word : h .nodes < 2 ^ 32
   nodes-word = omega (arith, unpacked-few file v v-is good h-is)
 
--- what is answered to a file, step by step: v is what `tablefile::unpack` found
+-- the returns of `check_file`: v is the answer of `tablefile::unpack`
 module _ (file : List ℕ) (v : Verdict) (v-is : verdict v ≡ fileCheck file) where
   pub file-refused : (xs : List ℕ) {why : Refusal} → v ≡ Refused why
       → (refusal why ≡ answerOf file) × (xs ≡ wordsAfter file xs)
@@ -166,7 +166,7 @@ module _ (file : List ℕ) (v : Verdict) (v-is : verdict v ≡ fileCheck file) w
       let told : fileCheck file ≡ refusal why = sym v-is ∙ ap verdict e in
       (rw (read-steps file, told) refl, rw (read-steps file, told) refl)
 
-  -- w and wn are the arrays that it left; t, names and bytes are what the file holds in them, and x its edition
+  -- w and wn are the arrays at its exit; t, names and bytes are the content of the file, and x its edition
   module _ (good : v ≡ Accepted) {h : Heading} (h-is : h ≡ headerAt file) {w wn t names bytes : List ℕ}
       (w-is : w ≡ handed (fileCheck file) (contentAt file .table) (replicate 50400 0))
       (wn-is : wn ≡ handed (fileCheck file) (contentAt file .names) (replicate 8064 0))
@@ -188,7 +188,7 @@ module _ (file : List ℕ) (v : Verdict) (v-is : verdict v ≡ fileCheck file) w
     edition-so : editionRead (contentAt file) ≡ x
     edition-so = rw (x-is, bytes-is, stated-is) refl
 
-    -- a bad edition: why is what 1 to 4, then 5 say
+    -- a bad edition: `why` is the refusal with 1 to 4, or with 5
     module _ (bad : x ≡ Unknown) (why : Refusal)
         (why-is : refusal why ≡ andThen (checkOf t names) (λ _. refused badDialect [])) where
       unsound : soundCheck (contentAt file) ≡ refusal why
@@ -205,7 +205,7 @@ module _ (file : List ℕ) (v : Verdict) (v-is : verdict v ≡ fileCheck file) w
       unfolding wordsAfter
       bad-words xs = rw (read-steps file, told, unsound) refl
 
-    -- m is what the module job answers, a that with the number of nodes, and ys the words that it left
+    -- m is the answer of the module job, a the same with the number of nodes, and ys the words at its exit
     module _ {e : Edition} (held : x ≡ Known e) where
       pub file-answer : {m a : Answer} → m ≡ moduleOf t names bytes → a ≡ behind (h .nodes) m → a ≡ answerOf file
       file-answer m-is a-is = a-is ∙ rw (m-is, ← nodes-so, t-so, names-so, bytes-is)
@@ -215,7 +215,7 @@ module _ (file : List ℕ) (v : Verdict) (v-is : verdict v ≡ fileCheck file) w
       file-words xs ys-is =
           ys-is ∙ rw (t-so, names-so, bytes-is) (rw told at (job-is-words file (edition-so ∙ held) xs))
 
--- and to so many bytes of a buffer: p is their front
+-- the first bytes of a buffer: p is that part
 pub read-so : (file xs : List ℕ) {p ys : List ℕ} {a : Answer} → p ≡ file → a ≡ answerOf p → ys ≡ wordsAfter p xs
     → (a ≡ answerOf file) × (ys ≡ wordsAfter file xs)
 read-so file xs p-is a-is ys-is = rw (← p-is) (a-is, ys-is)

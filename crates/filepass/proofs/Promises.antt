@@ -1,4 +1,6 @@
--- Two answers that meet the promise of a public function coincide, and so do the two lists of words. Assumes nothing.
+-- Each public function has one answer: two answers that meet its promise are equal, and so are the two lists of words
+-- at exit. An answer is promised by its meaning; no two answers have the same meaning (`passed-injective`), so
+-- `coincide-by` applies. The words and the part that `front` returns are equations (`coincide`). Assumes nothing.
 use mathlib.Core.Path.{_≡_, sym, ap}
 use mathlib.Core.List.{List}
 use Prim.Native.Nat.{ℕ}

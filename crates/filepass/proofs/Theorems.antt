@@ -1,5 +1,8 @@
--- What users of a file's answer rely on: a refused file changes no word, an accepted one is listed with all errors,
--- whatever its edition (`edition-ignored`), and the sizes of `check_read` are enough for every file. Assumes nothing.
+-- What users of a file's answer rely on. A refused file gives the reader's refusal and changes no word: the
+-- definition tests the reader's check first. An accepted file is listed with all its errors, because the module job
+-- refuses only with 1 to 5, which it has passed; the edition does not matter (`edition-ignored`), because the job
+-- reads no types. The sizes of `check_read` are enough for every file: a table has at most two errors for each node,
+-- and Enough gives the number of bytes. Assumes nothing.
 use mathlib.Core.Path.{_≡_, refl}
 use mathlib.Core.List.{List, [], _∷_, _++_}
 use Prim.Native.Nat.{ℕ, _*_, _/_}

@@ -1,4 +1,4 @@
--- What is answered to a file, and the list of words at exit. These are definitions.
+-- The answer for a table file, and the list of words at exit. These are definitions.
 use mathlib.Core.List.{List, [], _∷_}
 use Prim.Native.Nat.{ℕ, _/_}
 use lib.ListN.{length}
@@ -9,27 +9,27 @@ use Rattle.validate.specs.Job.{moduleOf, errorsAfter}
 use Rattle.filepass.specs.declared.Passed.{Passed}
 use Rattle.filepass.specs.declared.Passed.the-variants.{Listed, Refused}
 
--- what an answer of code means: accepted with the number of nodes and the total of errors, or refused
+-- the meaning of the code's answer: accepted with the number of nodes and the total of errors, or refused
 abbrev pub passed : Passed → Answer
 passed (Listed nodes total) = accepted (nodes ∷ total ∷ [])
 passed (Refused r) = refusal r
 
--- one value more in front of an answer's
+-- an answer with one value more in front
 abbrev pub behind : ℕ → Answer → Answer
 behind v (accepted vs) = accepted (v ∷ vs)
 behind v (refused n vs) = refused n vs
 
--- what a file holds is answered as the module job answers it, behind the number of nodes
+-- the answer for the content of a file: the number of nodes, then the module job's answer
 abbrev pub heldAnswer : List ℕ → List ℕ → List ℕ → Answer
 heldAnswer t names bytes = behind (length t / recordBytes) (moduleOf t names bytes)
 
--- the answer: the reader's refusal, or that of what the file holds
+-- the answer: the reader's refusal, or that for the content of the file
 unfoldable pub answerOf : List ℕ → Answer
 answerOf file =
     let c = contentAt file in
     andThen (readCheck file) (λ _. heldAnswer (c .table) (c .names) (c .dialect))
 
--- the list of words at exit: that of the module job, and as it was where the reader refuses
+-- the list of words at exit: that of the module job, or unchanged if the reader refuses
 abbrev pub ifRead : Answer → List ℕ → (Unit {0} → List ℕ) → List ℕ
 ifRead (accepted vs) words next = next tt
 ifRead (refused n vs) words next = words

@@ -1,5 +1,5 @@
-// A table file to its answer: it is unpacked, then the module job runs on what it holds, with the errors in a lent
-// list. The job reads no types, so the file's edition decides nothing, unless it is bad.
+// The module job on a table file: the file is unpacked, and the job runs on its content, with the errors in the
+// caller's list. The job reads no types, so the file's edition has no effect, unless it is bad.
 use blocks::BLOCK_BYTES;
 use dialect::EditionRead;
 use errors::WIDTH;
@@ -23,19 +23,19 @@ ghost use Rattle.validate.specs.Job.{listed};
 ghost use Rattle.filepass.specs.Sizes.{enoughBytes, enoughWords};
 ghost use Rattle.filepass.specs.Passing.{passed, behind, answerOf, wordsAfter};
 
-// How many bytes of a file tell its answer: 117 blocks, the most that a file has, and one byte.
+// The number of bytes of a file that decide its answer: the 117 blocks of the largest file, and one byte.
 pub const ENOUGH_BYTES: usize = BLOCK_BYTES * MOST_BLOCKS + 1;
 
-// How many words hold the errors of any file: WIDTH for each, and at most two errors for each of 2,100 nodes.
+// The number of words for the errors of any file: WIDTH for each, and at most two errors for each of 2,100 nodes.
 pub const ENOUGH_WORDS: usize = WIDTH * (2 * MOST_NODES);
 
-// What is answered to a file: how many nodes it holds and how many errors they have, or why it is refused.
+// The answer for a file: its number of nodes and of errors, or why it is refused.
 pub enum Passed {
     Listed { nodes: u32, total: u32 },
     Refused(Refusal),
 }
 
-// A file's answer. A list too short for all errors holds the first that fit whole; a refused file changes no word.
+// Checks a file. A list too short for all errors gets the first that fit whole; a refused file changes no word.
 pub fn check_file(file: &[u8], errors: &mut [u32]) -> Passed
     ensures { λ r. ⌜ passed r ≡ answerOf (now (file .entry)) ⌝ }
     ensures { λ r. ⌜ now (errors .exit) ≡ wordsAfter (now (file .entry)) (now (errors .entry)) ⌝ }
@@ -58,7 +58,7 @@ pub fn check_file(file: &[u8], errors: &mut [u32]) -> Passed
     told(h.nodes as u32, found)
 }
 
-// The same of the bytes that were read of a file, in a buffer and a list that are large enough for every file.
+// The same for the first n bytes of a buffer, with a buffer and a list that are large enough for every file.
 pub fn check_read(
     buffer: &[u8; ENOUGH_BYTES],
     len: usize,
@@ -72,7 +72,7 @@ pub fn check_read(
     check_file(front(buffer, len), errors)
 }
 
-// Why a file with a bad edition is refused: 1 to 4, else 5.
+// The refusal of a file with a bad edition: 1 to 4, else 5.
 fn edition_refused(table: &[u8], names: &[u8]) -> Refusal
     ensures { λ r. ⌜ refusal r ≡
         andThen (checkOf (now (table .entry)) (now (names .entry))) (λ _. refused badDialect []) ⌝ }
@@ -84,7 +84,7 @@ fn edition_refused(table: &[u8], names: &[u8]) -> Refusal
     }
 }
 
-// The answer for a file: its number of nodes, and what the module job answered.
+// The answer for a file: its number of nodes, and the answer of the module job.
 fn told(nodes: u32, found: Listed) -> Passed
     ensures { λ r. ⌜ passed r ≡ behind nodes (listed found) ⌝ }
 {
@@ -97,7 +97,7 @@ fn told(nodes: u32, found: Listed) -> Passed
     }
 }
 
-// The front of some bytes, as much of it as is there.
+// The first n bytes, or all if there are fewer.
 pub fn front(bytes: &[u8], len: usize) -> &[u8]
     ensures { λ r. ⌜ now r ≡ take len (now (bytes .entry)) ⌝ }
 {

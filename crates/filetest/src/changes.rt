@@ -1,10 +1,10 @@
-// A file with each of its bytes changed to eight other values, and cut at every length.
+// Reads a file with each of its bytes changed to eight other values, and cut at every length.
 use crate::say;
 use crate::say_number;
 use table::number;
 use tablefile::Verdict;
 
-// The file at the front of a buffer, in all these ways.
+// Tries the file at the front of a buffer in all these ways.
 pub(crate) fn all(space: &mut [u8], n: usize) {
     if space.len() <= n {
         return;
@@ -21,7 +21,7 @@ fn once(what: &[u8], file: &[u8]) {
     say_counts(what, &counts);
 }
 
-// Every byte, from the last on.
+// Changes every byte, from the last to the first.
 fn change_all(file: &mut [u8]) {
     let mut counts = [0u32; 256];
     let mut left = file.len();
@@ -32,7 +32,7 @@ fn change_all(file: &mut [u8]) {
     say_counts(b"a byte changed", &counts);
 }
 
-// One byte, to eight other values: a power of two is added, and taken away again.
+// Changes one byte to eight other values: a power of two is added, and subtracted again.
 fn change(file: &mut [u8], at: usize, counts: &mut [u32; 256]) {
     let mut step = 128u8;
     while 0 < step {
@@ -49,7 +49,7 @@ fn add(file: &mut [u8], at: usize, step: u8) {
     }
 }
 
-// Every length that is shorter than the file's.
+// Cuts the file at every shorter length.
 fn cut_all(file: &[u8]) {
     let mut counts = [0u32; 256];
     let mut left = file.len();
@@ -60,7 +60,7 @@ fn cut_all(file: &[u8]) {
     say_counts(b"cut", &counts);
 }
 
-// The front of some bytes, as much of it as is there.
+// The first `len` bytes, or all if there are fewer.
 fn front(s: &[u8], len: usize) -> &[u8] {
     if len <= s.len() {
         return &s[0..len];
@@ -68,7 +68,7 @@ fn front(s: &[u8], len: usize) -> &[u8] {
     s
 }
 
-// Counts the answer to a file: 0 if it is accepted, or the refusal's number.
+// Counts the answer for a file: 0 if it is accepted, else the number of the refusal.
 fn count(file: &[u8], counts: &mut [u32; 256]) {
     let l = tablefile::read(file);
     let verdict = l.verdict;
@@ -86,7 +86,7 @@ fn raise(counts: &mut [u32], i: usize) {
     }
 }
 
-// A line for each answer that was given: how often.
+// Prints a line for each answer that was given, with how often.
 fn say_counts(what: &[u8], counts: &[u32; 256]) {
     say_from(what, counts);
 }

@@ -1,4 +1,5 @@
-// The files of data/files.bin, each behind its label. They stand in words in files.txt, and tools/tables.py makes them.
+// Reads the files of data/files.bin, each after its label. files.txt describes them in words, and tools/tables.py makes
+// them.
 use crate::lent;
 use crate::say;
 use crate::say_number;
@@ -12,10 +13,10 @@ use tablefile::MOST_BLOCKS;
 use tablefile::Verdict;
 use writer::Written;
 
-// The most bytes of a file.
+// The length of the largest file.
 const MOST_FILE: usize = BLOCK_BYTES * MOST_BLOCKS;
 
-// At most as many as there could be labels.
+// Tries all files; the loop ends after more turns than there are labels.
 pub(crate) fn all(fd: i32) {
     let mut left = 65536u64;
     while 0 < left {
@@ -26,7 +27,7 @@ pub(crate) fn all(fd: i32) {
     }
 }
 
-// One label and its file; a label without a file is a heading. False at the end.
+// Tries one file and prints its label. A label that begins with # is a heading. Returns false at the end.
 fn one(fd: i32) -> bool {
     let mut head = [0u8; 4];
     if !filled(fd, &mut head, 4) {
@@ -53,7 +54,7 @@ fn one(fd: i32) -> bool {
     true
 }
 
-// The next bytes, put at the front of a buffer: whether they were all there.
+// Reads the next `len` bytes to the front of a buffer. Returns false if there are fewer.
 fn filled(fd: i32, space: &mut [u8], len: usize) -> bool {
     if space.len() < len {
         return false;
@@ -61,7 +62,7 @@ fn filled(fd: i32, space: &mut [u8], len: usize) -> bool {
     io::read_full(fd, &mut space[0..len]) == len
 }
 
-// The front of a buffer, as much of it as is there.
+// The first `len` bytes, or all if there are fewer.
 fn front(s: &[u8], len: usize) -> &[u8] {
     if len <= s.len() {
         return &s[0..len];
@@ -69,7 +70,7 @@ fn front(s: &[u8], len: usize) -> &[u8] {
     s
 }
 
-// The verdict, what is held, and whether all past it is zero.
+// Prints the verdict, the lengths of the content, and whether the bytes past it are zero.
 fn say_answer(l: Loaded) {
     let verdict = l.verdict;
     match verdict {
@@ -97,7 +98,7 @@ fn say_held(l: Loaded) {
     say_number(l.taken as u64);
 }
 
-// The edition byte, where there is one.
+// Prints the edition byte, if there is one.
 fn say_edition(edition: Stated) {
     match edition {
         Stated::Number(n) => {
@@ -118,7 +119,7 @@ fn say_refused(r: Refusal) {
     }
 }
 
-// Whether the writer makes the same file of what an accepted one holds.
+// Prints whether the writer makes the same file again from the content of an accepted file.
 fn say_again(l: Loaded, file: &[u8]) {
     let verdict = l.verdict;
     match verdict {
@@ -169,7 +170,7 @@ fn same(a: &[u8], b: &[u8]) -> bool {
     true
 }
 
-// Nothing, if all bytes from a place on are zero.
+// Prints a note unless all bytes from a place on are zero.
 fn say_rest(bytes: &[u8], from: usize) {
     let mut i = from;
     while i < bytes.len() {

@@ -1,5 +1,5 @@
-// The jobs over a file, each lent memory in which every byte or word is 9: the number that it answers, 0 where it
-// accepts, and whether every byte or word is still 9. Document 01: no refusal changes a buffer.
+// Runs the jobs over a file, each with buffers in which every byte or word is 9. Prints the number of its answer, 0
+// if it accepts, and whether every byte or word is still 9: no refusal may change a buffer.
 use crate::say;
 use crate::say_number;
 use filepass::Passed;

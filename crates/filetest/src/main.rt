@@ -1,8 +1,8 @@
-// Tries the reader of table files. First an accepted file: whole, with each of its bytes changed to eight other values,
-// cut at every length, and with a byte more; it prints how often the reader gave which answer. Document 01: any one
-// changed byte is refused with 72, and a file cut short with 70. Then the files of data/files.bin: both sides of each
-// limit and of each rule, one answer a line, with what every job over a file answers and whether it left its lent
-// memory as it was.
+// Tries the reader of table files. First an accepted file: whole, with each of its bytes changed to eight other
+// values, cut at every length, and with a byte more. It prints how often the reader gave which answer: a file with
+// one changed byte must be refused with 72, and one that is cut short with 70 (docs/FORMAT.md, a table file). Then
+// the files of data/files.bin: both sides of each limit and of each rule, one answer a line, with the answer of every
+// job over a file and whether it left its buffers unchanged.
 mod changes;
 mod files;
 mod lent;

@@ -1,5 +1,8 @@
--- What a search for a name finds: the first in its list, and where indices rise, one that is smaller than what follows.
--- Assumes nothing.
+-- What a search for a name finds, for any list that is searched entry by entry (`Searches`). It finds the first entry
+-- that has the name (`found-first`; the induction is on the list: the first entry has it, or the rest decides). In a
+-- list in which no entry repeats an earlier name (`Fresh`), the first is also the only one (`only-one`): a later entry
+-- of that name would find the first among those before it, which stays found with more behind it (`found-more`). Where
+-- the indices of a list rise, an earlier entry has the smaller index (`rising-before`). Assumes nothing.
 use mathlib.Core.Path.{_≡_, refl, sym, ap, _∙_}
 use mathlib.Core.Bool.{Bool, true, false}
 use mathlib.Core.List.{List, [], _∷_, _++_, append-assoc, append-nil}
@@ -113,7 +116,7 @@ module _ {A : Type 0} (index : A → ℕ) where
   rising-to m [] q ps r = r .0
   rising-to m (p ∷ l) q ps r = omega (arith, r .0, rising-to (index p + 1) l q ps (r .1))
 
-  -- LAW: what stands before another has the smaller index
+  -- LAW: what comes before another has the smaller index
   pub rising-before : (m : ℕ) (l : List A) (p : A) (k : List A) (q : A) (ps : List A)
       → Rising index m ((l ++ p ∷ k) ++ q ∷ ps) → index p < index q
   rising-before m [] p k q ps r = omega (arith, rising-to (index p + 1) k q ps (r .1))

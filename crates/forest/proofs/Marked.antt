@@ -1,5 +1,9 @@
--- Laws of marks: how a name's number is made, and that a name whose place does not tell of it is a new one.
--- Assumes nothing.
+-- Marks never hide an earlier name. A name has a place and a mark, both from its hash; noting a name writes its mark
+-- there, or `several` if another mark was there (`joined`). So a place never loses what it says: every name that was
+-- noted before still may be there (`noted-still`), and so may the new one (`noted-self`). Hence a name that cannot be
+-- there is none of the noted ones (`not-noted`), and a search among them finds nothing (`Known`, kept from entry to
+-- entry by `known-named` and `known-other`). Cite `known-new`. The hash itself is a loop over eight bytes at a time
+-- (`Hashing`). Assumes nothing.
 use mathlib.Core.Path.{_≡_, refl, sym, _∙_}
 use mathlib.Core.Bool.{Bool, true, false, _||_}
 use mathlib.Core.List.{List, [], _∷_, _++_}
@@ -50,7 +54,7 @@ module _ {name : List ℕ} {h : ℕ} {left : List ℕ} (s : Hashing name h left)
   unfolding hashFrom
   hash-end few w-is = let k : length left / 8 ≡ 0 = omega arith in rw (v-is, w-is) (rw k at (s .rest))
 
--- what stands at a place after a mark more
+-- the value of a place after one more mark
 module _ (old mark : ℕ) where
   pub joined-mark : (eqb old 0 || eqb old mark) ≡ true → mark ≡ joined old mark
   unfolding joined
@@ -80,7 +84,7 @@ mark-tells : (mark : ℕ) → tells mark mark ≡ true
 unfolding tells
 mark-tells mark = rw (eq-eqb mark mark refl) refl
 
--- a mark that is joined to a place is told, and so is every mark that was
+-- a place shows the mark that is joined to it, and every mark that it showed before
 tells-joined : (old mark : ℕ) → tells (joined old mark) mark ≡ true
 tells-joined old mark =
     joined-or old mark (λ (p : ℕ). tells p mark ≡ true) (λ _. mark-tells mark) (several-tells mark)
@@ -115,7 +119,7 @@ mark-some : (x : List ℕ) → 1 ≤ markOf x
 unfolding markOf
 mark-some x = omega arith
 
--- a name is noted, and told of, as code does it
+-- noting a name, and testing for one, as code does it
 module _ (marks x : List ℕ) where
   pub note-none : length marks ≡ 0 → (true ≡ mayStand marks x) × (marks ≡ noted marks x)
   unfolding mayStand noted
@@ -131,13 +135,13 @@ module _ (marks x : List ℕ) where
   unfolding noted placeOf markOf
   note-set h-is j-is = rw (j-is, h-is) refl
 
--- LAW: a name that is noted may stand, and so may every name that might have before
+-- LAW: a name that is noted may be there, and so may every name that might have been there before
 module _ (marks : List ℕ) (x : List ℕ) where
   long : length (noted marks x) ≡ length marks
   unfolding noted
   long = length-set marks _ _
 
-  -- the marks tell of y after x is noted, in whichever place y is
+  -- the marks show y after x is noted, whatever the place of y
   told-of : (y : List ℕ) → (length marks ≡ 0 → ⊥) → (eqb (placeOf (length marks) y) (placeOf (length marks) x) ≡ true
       → tells (joined (getD marks (placeOf (length marks) x) 0) (markOf x)) (markOf y) ≡ true)
       → (eqb (placeOf (length marks) y) (placeOf (length marks) x) ≡ false
@@ -222,7 +226,7 @@ module _ {A : Type 0} {find : List ℕ → List A → Found} {has : List ℕ →
     pub known-other : ((x : List ℕ) → false ≡ has x p) → Known find marks (l ++ p ∷ [])
     known-other unnamed = record { none = λ x e. first-more x l p (k .none x e) (sym (unnamed x)) }
 
--- a name that may not stand is new
+-- a name that cannot be there is new
 pub known-new : {A : Type 0} {find : List ℕ → List A → Found} {marks : List ℕ} {l : List A} → Known find marks l
     → {x : List ℕ} {b : Bool} → b ≡ mayStand marks x → b ≡ false → Nothing ≡ find x l
 known-new k b-is b-no = sym (k .none _ (sym b-is ∙ b-no))

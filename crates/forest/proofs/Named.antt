@@ -1,4 +1,8 @@
--- Laws of names: parts of the lent names, and equal bytes. Assumes nothing.
+-- Names as code reads and compares them. A name is a part of the name bytes, clipped at their end (`name-outside`,
+-- `name-short`, `name-inside`, one for each return of `name`). `same` is equality of bytes (`same-bytes-refl`,
+-- `same-bytes-equal`; the induction is on both lists). The loops keep that the first i bytes agree, so that the rest
+-- decides: one byte a turn (`Alike`) or eight (`Groups`). Eight bytes are the same exactly where their fields of width
+-- 8 are, because spelling gives back bytes that were read (fields' `bytes-field`). Assumes nothing.
 use mathlib.Core.Path.{_≡_, refl, sym, ap, _∙_}
 use mathlib.Core.Bool.{Bool, true, false, _&&_}
 use mathlib.Core.List.{List, [], _∷_, _++_}

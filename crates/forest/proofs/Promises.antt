@@ -1,4 +1,5 @@
--- Two answers that meet the promise of a public function coincide. Assumes nothing.
+-- Two answers of a public function that meet its promise are equal: each promise is an equation over the arguments, and
+-- for `note` one more over the marks at exit. So each law is fields' `coincide`. Assumes nothing.
 use mathlib.Core.Path.{_≡_}
 use mathlib.Core.Bool.{Bool}
 use mathlib.Core.List.{List}
@@ -48,7 +49,7 @@ source-one t = coincide
 pub span-one : (t : List ℕ) {r s : ℕ} → r ≡ spanOf t → s ≡ spanOf t → r ≡ s
 span-one t = coincide
 
--- of `names::name`, whose answer is a part of the lent names
+-- of `names::name`, whose answer is a part of the name bytes
 pub name-one : (names t : List ℕ) {r s : List ℕ} → r ≡ nameOf names (nodeOf 0 t) → s ≡ nameOf names (nodeOf 0 t)
     → r ≡ s
 name-one names t = coincide
@@ -57,7 +58,7 @@ name-one names t = coincide
 pub same-bytes-one : (a b : List ℕ) {r s : Bool} → r ≡ same a b → s ≡ same a b → r ≡ s
 same-bytes-one a b = coincide
 
--- of `marks::note`, which writes in the lent marks
+-- of `marks::note`, which also writes the marks
 pub note-one : (marks name : List ℕ) {r s : Bool} {marks-r marks-s : List ℕ} → r ≡ mayStand marks name
     → marks-r ≡ noted marks name → s ≡ mayStand marks name → marks-s ≡ noted marks name
     → (r ≡ s) × (marks-r ≡ marks-s)

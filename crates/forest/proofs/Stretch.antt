@@ -1,5 +1,9 @@
--- Laws of stretches and of the forest that a stretch is. They hold for any bytes; every walk cites them. Assumes
--- nothing.
+-- A stretch of records is a forest, for any bytes. It is empty, or its first node with that node's children and what
+-- follows it (`forest-none`, `forest-tree`): the definition counts down some fuel, and any fuel that is enough gives
+-- the same forest (`forestIn-enough`, by induction on the fuel), so nobody else sees it. To show something of every
+-- stretch, use `forest-induction`: children and rest are shorter. With it the nodes of the forest are the records of
+-- the stretch in order (`nodes-records`), as many as there are (`count-forest`). Walks cite `each-cut` and `kids-cut`,
+-- which are in the terms of code, and lists `roots-on`.
 use mathlib.Core.Path.{_≡_, refl, sym, ap, _∙_}
 use mathlib.Core.Bool.{Bool, true, false}
 use mathlib.Core.List.{List, [], _∷_, _++_}
@@ -112,7 +116,7 @@ count-forest =
     (λ i bs s. rw (forest-none i bs s) (omega arith))
     (λ i bs big ks rs. rw (forest-tree i bs big) (omega (arith, length-kids bs, length-rest bs)))
 
--- LAWS for a rule over what stands side by side, in the terms of code: `all` is `one` at each tree, joined from the
+-- LAWS for a rule over trees side by side, in the terms of code: `all` is `one` at each tree, joined from the
 -- left
 module _ {A : Type 0} (all : Forest → A) (i e : ℕ) (bs : List ℕ) where
   pub kids-cut : e ≡ spanOf bs → all (forest (i + 1) (take (e - 24) (drop 24 bs)))
@@ -125,7 +129,7 @@ module _ {A : Type 0} (all : Forest → A) (i e : ℕ) (bs : List ℕ) where
   each-cut one join then-is big h = rw (rest-part e bs h, h)
       (ap all (forest-tree i bs big) ∙ then-is (treeOf i bs) (forest (i + spanOf bs / 24) (restOf bs)))
 
--- LAW: what stands side by side in a stretch is nothing, or its first node and what stands after it
+-- LAW: the nodes side by side in a stretch are none, or its first node and those after it
 pub roots-none : (i : ℕ) (bs : List ℕ) → length bs < 24 → roots (forest i bs) ≡ []
 unfolding roots
 roots-none i bs h = rw (forest-none i bs h) refl

@@ -1,4 +1,5 @@
--- The node table as a forest: what a stretch of 24-byte records in preorder says, for any bytes. These are definitions.
+-- The node table as a forest: the meaning of a stretch of 24-byte records in preorder, for any bytes. These are
+-- definitions.
 use mathlib.Core.List.{List, [], _∷_, _++_}
 use Prim.Native.Nat.{ℕ, zero, suc, _+_, _-_, _*_, _/_, min, max}
 use lib.ListN.{length, getD, take, drop}
@@ -6,7 +7,7 @@ use lib.Dec.{leb}
 use Rattle.fields.specs.Choice.{if'}
 use Rattle.fields.specs.Field.{field}
 
--- how many bytes a record has
+-- the size of a record in bytes
 abbrev pub recordBytes : ℕ
 recordBytes = 24
 
@@ -23,11 +24,11 @@ pub record Node : Type 0 where
   pub file : ℕ
   pub source : ℕ
 
--- the subtree size, itself included, of the record that a stretch begins with
+-- the subtree size of the first record of a stretch, the record itself included
 unfoldable pub sizeOf : List ℕ → ℕ
 sizeOf bs = field 2 bs 16
 
--- the record that a stretch begins with, field by field as document 01 lays it out
+-- the first record of a stretch, field by field as docs/FORMAT.md ("A record") lays it out
 abbrev pub nodeOf : ℕ → List ℕ → Node
 nodeOf i bs = record {
   at = i;
@@ -42,7 +43,7 @@ nodeOf i bs = record {
   source = field 4 bs 20;
 }
 
--- how many bytes the first node's subtree takes: a record at least, and no more than there are
+-- the size in bytes of the first node's subtree: at least one record, and at most the whole stretch
 abbrev pub spanOf : List ℕ → ℕ
 spanOf bs = min (recordBytes * max 1 (sizeOf bs)) (length bs)
 
@@ -63,7 +64,7 @@ mutual
     none : Forest
     _then_ : Tree → Forest → Forest
 
--- what a stretch says whose first record has the index i, to k records deep or side by side
+-- the forest of a stretch whose first record has the index i, down to k levels or k nodes side by side
 unfoldable pub forestIn : ℕ → ℕ → List ℕ → Forest
 forestIn zero i bs = none
 forestIn (suc k) i bs =
@@ -71,15 +72,15 @@ forestIn (suc k) i bs =
     node (nodeOf i bs) (forestIn k (i + 1) (kidsOf bs)) then forestIn k (i + spanOf bs / recordBytes) (restOf bs)) (λ _.
     none)
 
--- the whole of it: a stretch has fewer records than bytes
+-- the whole forest: a stretch has fewer records than bytes, so its length is fuel enough
 unfoldable pub forest : ℕ → List ℕ → Forest
 forest i bs = forestIn (length bs) i bs
 
--- the tree that a stretch begins with
+-- the first tree of a stretch
 abbrev pub treeOf : ℕ → List ℕ → Tree
 treeOf i bs = node (nodeOf i bs) (forest (i + 1) (kidsOf bs))
 
--- how many nodes a forest has
+-- the number of nodes of a forest
 unfoldable mutual
   pub count : Forest → ℕ
   count none = 0
@@ -88,7 +89,7 @@ unfoldable mutual
   pub countTree : Tree → ℕ
   countTree (node r ks) = 1 + count ks
 
--- the nodes that stand side by side
+-- the root nodes, side by side
 unfoldable pub roots : Forest → List Node
 roots none = []
 roots (node r ks then ts) = r ∷ roots ts

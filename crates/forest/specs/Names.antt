@@ -7,7 +7,7 @@ use lib.ListN.{length, getD, take, drop}
 use lib.Dec.{eqb}
 use Rattle.forest.specs.Forest.{Node}
 
--- the name's bytes: as much of them as stands within the lent names
+-- the bytes of a name, as far as they lie within the name bytes
 unfoldable pub nameOf : List ℕ → Node → List ℕ
 nameOf names r = take (r .nameLen) (drop (r .nameStart) names)
 

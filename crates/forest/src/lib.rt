@@ -1,14 +1,14 @@
-// Stretches of a node table: 24-byte records in preorder. A stretch begins with a record, whose subtree and what
-// follows it are stretches again.
-// Every function takes any bytes: a record is read as far as it is there, and a subtree takes at least a record and at
-// most what there is.
+// Stretches of a node table: 24-byte records in preorder. A stretch begins with a record; the children of that record
+// and what follows its subtree are stretches again.
+// Every function takes any bytes. Missing bytes of a record read as zero; a subtree takes at least one record and at
+// most the whole stretch.
 pub mod marks;
 pub mod names;
 
 ghost use mathlib.Core.Path.{_≡_};
 ghost use Rattle.forest.specs.Forest.{nodeOf, spanOf};
 
-// How many bytes a record has.
+// The size of a record in bytes.
 pub const RECORD: usize = 24;
 
 // The index of a record, or none.
@@ -17,7 +17,7 @@ pub enum Found {
     Nothing,
 }
 
-// Byte 0 of the record that a stretch begins with, as document 01 lays it out: the kind of the node.
+// The fields of the first record of a stretch (docs/FORMAT.md, "A record"). Byte 0: the kind of the node.
 pub fn kind(t: &[u8]) -> u8
     ensures { λ r. ⌜ r ≡ nodeOf 0 (now (t .entry)) .kind ⌝ }
 {
@@ -31,14 +31,14 @@ pub fn detail(t: &[u8]) -> u8
     fields::byte(t, 1)
 }
 
-// Bytes 2 and 3: how many bytes the name has.
+// Bytes 2 and 3: the length of the name in bytes.
 pub fn name_len(t: &[u8]) -> u16
     ensures { λ r. ⌜ r ≡ nodeOf 0 (now (t .entry)) .nameLen ⌝ }
 {
     fields::half(t, 2)
 }
 
-// Bytes 4 to 7: where the name begins among the names.
+// Bytes 4 to 7: where the name begins in the name bytes.
 pub fn name_start(t: &[u8]) -> u32
     ensures { λ r. ⌜ r ≡ nodeOf 0 (now (t .entry)) .nameStart ⌝ }
 {
@@ -59,7 +59,7 @@ pub fn stop(t: &[u8]) -> u32
     fields::word(t, 12)
 }
 
-// Bytes 16 and 17: how many records the subtree has.
+// Bytes 16 and 17: the number of records of the subtree.
 pub fn size(t: &[u8]) -> u16
     ensures { λ r. ⌜ r ≡ nodeOf 0 (now (t .entry)) .size ⌝ }
 {
@@ -80,7 +80,7 @@ pub fn source(t: &[u8]) -> u32
     fields::word(t, 20)
 }
 
-// How many bytes the first node's subtree takes: `&t[RECORD..e]` are its children and `&t[e..]` is what follows.
+// The size in bytes e of the first node's subtree: `&t[RECORD..e]` are its children and `&t[e..]` is what follows.
 pub fn span(t: &[u8]) -> usize
     ensures { λ r. ⌜ r ≡ spanOf (now (t .entry)) ⌝ }
 {

@@ -1,23 +1,23 @@
-// Marks of names in a lent array, by which a search among earlier names is spared. Each name has a place, and leaves
-// its mark there. An empty array knows nothing, so that every name may have been there.
+// Marks of names in an array that the caller lends. Each name has a place and leaves its mark there; a name whose place
+// does not show its mark is new and need not be searched for. With an empty array every name may have been seen.
 ghost use mathlib.Core.Path.{_≡_};
 ghost use Prim.Native.Nat.{_<_};
 ghost use Rattle.forest.specs.Marks.{mixed, hashOf, joined as joinedOf, tells as tellsOf, noted, mayStand};
 
-// From so many bytes of records on, a list is worth some marks, or many; no answer depends on it.
+// A list of at least SHORT bytes of records gets SOME marks, one of at least LONG bytes MANY. No answer depends on it.
 pub const SHORT: usize = 240;
 
 pub const LONG: usize = 6144;
 
-// So many marks are some, and so many are many.
+// Sizes of the two mark arrays: SOME for a short list, MANY for a long one.
 pub const SOME: usize = 512;
 
 pub const MANY: usize = 16384;
 
-// The mark of a place that names with different marks share.
+// The mark of a place that is shared by names with different marks.
 const SEVERAL: u8 = 255;
 
-// Notes a name, and answers whether one of its bytes may have been noted before.
+// Notes a name. Returns whether a name of the same bytes may have been noted before.
 pub fn note(marks: &mut [u8], name: &[u8]) -> bool
     ensures { λ r. ⌜ r ≡ mayStand (now (marks .entry)) (now (name .entry)) ⌝ }
     ensures { λ r. ⌜ now (marks .exit) ≡ noted (now (marks .entry)) (now (name .entry)) ⌝ }
@@ -34,7 +34,7 @@ pub fn note(marks: &mut [u8], name: &[u8]) -> bool
     tells(old, mark)
 }
 
-// What stands at a place after a mark more.
+// The value of a place after one more mark.
 fn joined(old: u8, mark: u8) -> u8
     ensures { λ r. ⌜ r ≡ joinedOf old mark ⌝ }
 {
@@ -44,14 +44,14 @@ fn joined(old: u8, mark: u8) -> u8
     SEVERAL // names with different marks have this place
 }
 
-// Whether what stands at a place says something of a mark.
+// Whether the value of a place shows a mark.
 fn tells(old: u8, mark: u8) -> bool
     ensures { λ r. ⌜ r ≡ tellsOf old mark ⌝ }
 {
     (old == mark) | (old == SEVERAL)
 }
 
-// A number of 32 bits: what was mixed before, and eight bytes more.
+// A hash of 32 bits, from the hash so far and the next eight bytes.
 fn mix(h: usize, w: u64) -> usize
     requires { ⌜ h < 4294967296 ⌝ }
     ensures { λ r. ⌜ r ≡ mixed h w ⌝ }
@@ -61,7 +61,7 @@ fn mix(h: usize, w: u64) -> usize
     ((h + low) * 625341585 + high * 1013904223) / 268435456 % 4294967296
 }
 
-// A number for the bytes of a name, eight at a time, then the rest.
+// The hash of the bytes of a name: eight at a time, then the rest.
 fn hash(name: &[u8]) -> usize
     ensures { λ r. ⌜ r ≡ hashOf (now (name .entry)) ⌝ }
 {

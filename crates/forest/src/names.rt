@@ -4,7 +4,7 @@ ghost use lib.ListN.{length};
 ghost use Rattle.forest.specs.Forest.{nodeOf};
 ghost use Rattle.forest.specs.Names.{nameOf, same};
 
-// The name of the record that a stretch begins with: as much of it as stands within the lent names.
+// The name of the first record of a stretch, as far as it lies within the name bytes.
 pub fn name<'a>(names: &'a [u8], t: &[u8]) -> &'a [u8]
     ensures { λ r. ⌜ now r ≡ nameOf (now (names .entry)) (nodeOf 0 (now (t .entry))) ⌝ }
 {
@@ -34,7 +34,7 @@ pub fn same_bytes(a: &[u8], b: &[u8]) -> bool
     same_groups(a, b)
 }
 
-// Of two lists of as many bytes: eight bytes at a time, then the rest.
+// Compares two lists of equal length: eight bytes at a time, then the rest.
 fn same_groups(a: &[u8], b: &[u8]) -> bool
     requires { ⌜ length (now a) ≡ length (now b) ⌝ }
     ensures { λ r. ⌜ r ≡ same (now (a .entry)) (now (b .entry)) ⌝ }
@@ -51,7 +51,7 @@ fn same_groups(a: &[u8], b: &[u8]) -> bool
     same_rest(&a[at..], &b[at..])
 }
 
-// Of two lists of as many bytes: byte by byte.
+// Compares two lists of equal length byte by byte.
 fn same_rest(a: &[u8], b: &[u8]) -> bool
     requires { ⌜ length (now a) ≡ length (now b) ⌝ }
     ensures { λ r. ⌜ r ≡ same (now (a .entry)) (now (b .entry)) ⌝ }

@@ -1,9 +1,9 @@
--- The words of parts are read two by two from the front. So each definition has a law of what its first two words give
--- (`sound-step`, `total-step`, `parts-step`), and each loop speaks of the words that are left: whether they are whole,
--- with the text bytes that are left, is whether all are (`Counting`); the room that is left behind their format text is
--- what all leave of the whole room (`Spending`). A part moves both by its law. Lengths are counted down, so that no sum
--- is made. Cite `count-on`, `count-end` for 64, and `spend-on`, `spend-stop`, `spend-end` for the room. Assumes
--- nothing.
+-- The words of parts are read two by two from the front. So each definition over words has a law for its first two
+-- words (`sound-step`, `total-step`, `parts-step`), and each loop has an invariant about the words that are left.
+-- `Counting`: the words and text bytes that are left are whole exactly if all are. `Spending`: the room left after the
+-- format text of the parts that are left is the room left after all of it. One part keeps both, by the laws of its two
+-- words. Lengths are counted down, so that no sum can wrap. There is no induction here; the loops do it. Cite
+-- `count-on`, `count-end` for 64, and `spend-on`, `spend-stop`, `spend-end` for the room. Assumes nothing.
 use mathlib.Core.Path.{_≡_, refl, sym, ap, _∙_}
 use mathlib.Core.Bool.{Bool, true, false, _&&_}
 use mathlib.Core.List.{List, [], _∷_, _++_}
@@ -23,7 +23,7 @@ use Rattle.fstring.specs.declared.Room.{Room}
 use Rattle.fstring.specs.declared.Room.the-variants.{Left, Short}
 use Rattle.fstring.proofs.Sizes.{leaving-none, leaving-both, leaving-over, leaving-not, leaving-left}
 
--- two words, in the terms of code
+-- the two words of a part, by the tests of the code
 module _ (kind n : ℕ) where
   pub length-text : kind ≡ 0 → n ≡ textLength kind n
   unfolding textLength
@@ -74,7 +74,7 @@ parts-past [] ts h = refl
 parts-past (x ∷ []) ts h = refl
 parts-past (x ∷ y ∷ ws) ts h = absurd (omega arith)
 
--- 64 or not, from the first part on
+-- the invariant of the loop that decides 64
 pub record Counting (ws : List ℕ) (bytes : ℕ) (left : List ℕ) (more : ℕ) : Type 0 where
   pub same : isWhole left more ≡ isWhole ws bytes
 
@@ -128,7 +128,7 @@ module _ {ws : List ℕ} {bytes : ℕ} {left : List ℕ} {more : ℕ} (s : Count
       go (x ∷ []) f = refl
       go (x ∷ y ∷ l) f = absurd (omega arith)
 
--- what a whole list says of its first part
+-- if all words are whole, the first part takes no more text bytes than there are, and the rest is whole
 module _ (ws : List ℕ) (bytes : ℕ) (e : isWhole ws bytes ≡ true) (h : 2 ≤ length ws) where
   sums : total ws ≡ bytes
   unfolding isWhole
@@ -147,7 +147,7 @@ pub rest-of : (ws ts : List ℕ) → isWhole ws (length ts) ≡ true → 2 ≤ l
     → isWhole (drop 2 ws) (length (drop (firstLength ws) ts)) ≡ true
 rest-of ws ts e h = rw (length-drop (firstLength ws) ts) (rest-whole ws (length ts) e h)
 
--- the room of parts
+-- the invariant of the loop that counts the room for the parts
 pub record Spending (ws ts : List ℕ) (room : ℕ) (left more : List ℕ) (spare : ℕ) : Type 0 where
   pub whole : isWhole left (length more) ≡ true
   pub same : leaving (length (textFor left more)) spare ≡ leaving (length (textFor ws ts)) room
@@ -173,7 +173,7 @@ module _ {ws ts : List ℕ} {room : ℕ} {left more : List ℕ} {spare : ℕ} (s
         ∙ ap (λ (m : ℕ). length (formOf (partOf (getD left 0 0) (take m more)))
         + length (textFor (drop 2 left) (drop m more))) (sym n-is)
 
-    -- code cuts the text from 0 to n
+    -- the code cuts the text from 0 to n
     module _ {b : Room} (c-is : b ≡ leaving (length (formOf (partOf (getD left 0 0) (take (n - 0) more)))) spare) where
       b-is : b ≡ leaving size spare
       b-is = rw (sub-zero n) at c-is

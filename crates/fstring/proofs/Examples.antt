@@ -1,4 +1,7 @@
--- Small cases, most of them the issue's, computed from the definitions. Assumes nothing.
+-- Small texts and parts, most of them the examples of request W-210, with the answers of the two jobs. Each is computed
+-- from the definitions (`refl`), so it also shows that the definitions can be run. They show the order of the refusals
+-- (63 before 7, 64 before 7), the position of 63, that 62 is no refusal, and one normal form. No other law cites them.
+-- Assumes nothing.
 use mathlib.Core.Path.{_≡_, refl}
 use mathlib.Core.Bool.{true, false}
 use mathlib.Core.List.{[], _∷_}
@@ -9,7 +12,7 @@ use Rattle.fstring.specs.Words.{textLength, soundPart, sound, total, isW
 use Rattle.fstring.specs.Writing.{textFor, roomCheck, partsCheck}
 use Rattle.fstring.specs.Reading.{readOf, fitCheck, legible, partsIn, firstForm, formAt}
 
--- `{{}` is 63 at 2, `{}}` 63 at 2, `a{!r` 63 at 1, all before 7; `a{}b{!r}` is four parts and two bytes
+-- `{{}` and `{}}` are 63 at 2 and `a{!r` is 63 at 1, all before 7; `a{}b{!r}` has four parts and two text bytes
 pub stray-behind-doubled : readOf (123 ∷ 123 ∷ 125 ∷ []) 0 0 ≡ refused 63 (2 ∷ [])
 unfolding readOf fitCheck legible partsIn firstForm formAt
 stray-behind-doubled = refl
@@ -26,7 +29,8 @@ pub four-parts : readOf (97 ∷ 123 ∷ 125 ∷ 98 ∷ 123 ∷ 33 ∷ 114 ∷ 12
 unfolding readOf fitCheck legible partsIn firstForm formAt textsOf isShort leadingText behindText textBefore
 four-parts = refl
 
--- a brace split over neighbours: `{`, str, nothing, `}` is `{{{}}}`; 64 before 7; f-strings off is 62
+-- the parts `{`, str, an empty text and `}` have the text `{{{}}}`; without f-strings the notice is 62; 64 comes before
+-- 7
 pub split-braces : partsCheck true (0 ∷ 1 ∷ 2 ∷ 0 ∷ 0 ∷ 0 ∷ 0 ∷ 1 ∷ []) (123 ∷ 125 ∷ []) 6 ≡ accepted (6 ∷ 0 ∷ [])
 unfolding partsCheck roomCheck isWhole sound soundPart total textLength textFor partsOf partOf formatOf formOf
     escaped escape

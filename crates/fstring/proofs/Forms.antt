@@ -1,6 +1,8 @@
--- What the form at the front of bytes says of these bytes (`seen`): so it has all its bytes (`behind-fits`), because
--- past the end stands 0, which is no byte of a form. And reading goes on behind it (`parts-front`, `legible-front`).
--- Assumes nothing.
+-- What the form at the front of some bytes says about these bytes (`seen`, by the tests in the order of the
+-- definition). A form has all its bytes (`behind-fits`): reading past the end gives 0, which is no byte of a form. So
+-- reading goes on after the form, at its width (`parts-front`, `legible-front`), and a stray brace is where reading
+-- stops (`legible-stray`). The skipped bytes go by induction on their number. The last laws are for first_form, one for
+-- each `return`. Cite `parts-front` and `legible-front`. Assumes nothing.
 use mathlib.Core.Path.{_≡_, refl, sym, ap, _∙_}
 use mathlib.Core.Bool.{Bool, true, false, _&&_}
 use mathlib.Core.Logic.{⊎-elim}
@@ -17,7 +19,7 @@ use Rattle.fstring.specs.Reading.{formAt, firstForm, behind, reach, legi
 use Rattle.fstring.specs.declared.Form.{Form}
 use Rattle.fstring.specs.declared.Form.the-variants.{Plain, Doubled, Empty, Converted, Stray}
 
--- what a form says of the four bytes at the front
+-- what a form says about the first four bytes
 abbrev pub Seen : Form → ℕ → ℕ → ℕ → ℕ → Type 0
 Seen (Plain x) a b c d = (x ≡ a) × (isBrace a ≡ false)
 Seen (Doubled x) a b c d = (x ≡ a) × ((isBrace a ≡ true) × (b ≡ a))
@@ -52,7 +54,7 @@ seen a b c d = go (isBrace a) (eqb b a) (eqb a opening && eqb b closing)
         )
     go true false false false p-is q-is r-is s-is = p-is
 
--- a byte that is not 0 is there
+-- a byte that is not 0 is within the list
 pub there : (l : List ℕ) (i : ℕ) → (getD l i 0 ≡ 0 → ⊥) → i < length l
 there l i h = ⊎-elim (λ (f : length l ≤ i). absurd (h (List·getD-eq-default l 0 f))) (λ (f : i < length l). f)
     (le-or-lt (length l) i)
@@ -72,7 +74,7 @@ behind-fits c cs = go (formAt c (getD cs 0 0) (getD cs 1 0) (getD cs 2 0))
     go Converted s = there cs 2 (λ (z : getD cs 2 0 ≡ 0). absurd (omega (arith, s .1 .1 .1)))
     go Stray s = omega arith
 
--- the bytes behind a form's first are passed over
+-- the bytes of a form after its first are skipped
 parts-skip : (k : ℕ) (cs : List ℕ) → partsIn k cs ≡ partsIn 0 (drop k cs)
 unfolding partsIn
 parts-skip zero cs = refl
@@ -85,7 +87,7 @@ legible-skip zero cs h = omega arith
 legible-skip (suc k) [] h = absurd (omega arith)
 legible-skip (suc k) (c ∷ cs) h = omega (arith, legible-skip k cs (omega arith))
 
--- LAW: the form at the front, and what is behind it
+-- LAW: the parts of a text are its first form, and then the parts of the bytes after it
 pub parts-front : (l : List ℕ) → 0 < length l
     → partsIn 0 l ≡ reading (firstForm l) (partsIn 0 (drop (behind (firstForm l) + 1) l))
 unfolding partsIn
@@ -126,7 +128,7 @@ legible-front (c ∷ cs) h e =
     go Converted e n = refl
     go Stray e n = clash refl e
 
--- the form, in the terms of code
+-- the form, by the tests of the code
 module _ (t : List ℕ) {a : ℕ} (a-is : a ≡ getD t 0 0) {q : Bool} (q-is : q ≡ isBrace a) where
   pub form-plain : q ≡ false → Plain a ≡ firstForm t
   unfolding firstForm formAt

@@ -1,7 +1,8 @@
--- The bytes up to the first stray brace are the format text of some parts (`front`). By induction on the length: the
--- form at the front gives back its bytes (`first-of`), and the rest is shorter. So a text with no stray brace is the
--- format text of what is read from it (`same-text`), because reading gives the normal form (`reads-back`), and the
--- normal form has the same format text (`format-normal`). Theorems 2 and 3 cite both. Assumes nothing.
+-- The bytes up to the first stray brace are the format text of some parts (`front`). The induction is on the length of
+-- the text: the form at the front gives back its own bytes (`first-of`), and the rest is shorter. So a text with no
+-- stray brace is the format text of what is read from it (`same-text`), because reading a format text gives the normal
+-- form of its parts (`reads-back`), and the normal form has the same format text (`format-normal`). Theorems 2 and 3
+-- cite `same-text` and `front`. Assumes nothing.
 use mathlib.Core.Path.{_≡_, refl, sym, ap, _∙_}
 use mathlib.Core.Bool.{Bool, true, false}
 use mathlib.Core.List.{List, [], _∷_, _++_, append-assoc, append-nil}
@@ -36,7 +37,7 @@ take-three (a ∷ []) h = absurd (omega arith)
 take-three (a ∷ b ∷ []) h = absurd (omega arith)
 take-three (a ∷ b ∷ c ∷ l) h = refl
 
--- what stands at the front: the form's bytes, and a byte of text is escaped as it is
+-- a form f at the front of c ∷ cs: the bytes there are those of the form, and writing it gives them back
 pub record First (f : Form) (c : ℕ) (cs : List ℕ) : Type 0 where
   pub bytes : c ∷ take (behind f) cs ≡ bytesIn f
   pub format : (ps : List Part) → formatOf (reading f ps) ≡ bytesIn f ++ formatOf ps
@@ -107,7 +108,7 @@ first-of Converted c cs s calm =
     record { bytes = rw (take-three cs here, s .0, s .1 .0, s .1 .1 .0, s .1 .1 .1) refl; format = λ ps. refl }
 first-of Stray c cs s calm = clash refl calm
 
--- LAW: the bytes up to the first stray brace
+-- LAW: the bytes up to the first stray brace, as the format text of some parts
 pub record Front (t : List ℕ) : Type 0 where
   pub parts : List Part
   pub same : formatOf parts ≡ take (legible 0 t) t

@@ -1,7 +1,8 @@
--- The job `write` in the terms of code. Each refusal is the first test of the definition that fails: 5 (`job-bad`),
--- then 64 (`parts-broken`), then 7 (`parts-short`). An answer that is no refusal has passed all three (`passed-says`):
--- the dialect is valid, the parts are whole and the text fits, so that the text may be written without a test. What is
--- then written is the buffer at exit (`write-done`), and a refusal leaves it (`write-refused`). Assumes nothing.
+-- The job `write`: the code makes the tests of `writeOf` in the same order, so each refusal is the first test that
+-- fails: 5 (`job-bad`), then 64 (`parts-broken`), then 7 (`parts-short`). An answer that is no refusal has passed all
+-- three (`passed-says`): the dialect is valid, the parts are whole and the text fits. So the text may be written
+-- without a test, what is written is the buffer at exit (`write-done`), and a refusal changes no byte
+-- (`write-refused`). There is no induction. Assumes nothing.
 use mathlib.Core.Path.{_≡_, refl, sym, _∙_}
 use mathlib.Core.Bool.{Bool, true, false}
 use mathlib.Core.List.{List, [], _∷_}
@@ -61,7 +62,7 @@ module _ (enabled : Bool) (ws ts : List ℕ) (room : ℕ) {q : Bool} (q-is : q �
           let n : room - m ≡ length (textFor ws ts) = omega arith in
           rw (sym q-is ∙ e, le-leb (length (textFor ws ts)) room (got .0), n) refl
 
--- LAW: what acceptance says
+-- what acceptance says
 pub record Says (ws ts ds : List ℕ) (room : ℕ) : Type 0 where
   pub whole : isWhole ws (length ts) ≡ true
   pub fits : length (textFor ws ts) ≤ room
@@ -106,7 +107,7 @@ module _ (ws ts ds : List ℕ) (room : ℕ) where
             answer = sound-accepted g-is (says .0) (says .1);
           }
 
--- the job, by its judgement a and whether that is a refusal
+-- the job, by the judged answer a and the bool q, whether a is a refusal
 module _ (ws ts ds d : List ℕ) {a : Answer} (a-is : a ≡ writeOf ws ts ds (length d)) {q : Bool}
     (q-is : q ≡ isRefused a) where
   pub write-refused : q ≡ true → d ≡ textAfter ws ts ds d

@@ -1,6 +1,9 @@
--- Reading goes from the left, so the parts read so far are `done` and a text `open` that may still grow; what is left
--- is read behind them (`Reached`). A form moves the front: a byte of text makes the open text longer, an expression
--- closes it (`reached-on`). All counts follow from `nextDone` and `nextOpen`. Assumes nothing.
+-- The reader goes from left to right. What it has read is a list of parts `done` and a text `u` that may still grow;
+-- the parts of the whole text are these, joined with the parts of what is left (`Reached`). Each form keeps this
+-- (`reached-on`): a byte of text makes `u` longer, an expression closes it and adds a part (`nextDone`, `nextOpen`).
+-- The numbers that the code counts (parts, text bytes, the length of `u`) change in the same way (`parts-next`,
+-- `bytes-next`, `run-next`). All are by cases on the form; the loops of the reader are the induction. Tallying and
+-- Storing cite this file. Assumes nothing.
 use mathlib.Core.Path.{_≡_, refl, sym, ap, _∙_}
 use mathlib.Core.Bool.{Bool, true, false}
 use mathlib.Core.List.{List, [], _∷_, _++_, append-assoc, append-nil}
@@ -36,7 +39,7 @@ nextDone f done u = if' (isLiteral f) (λ _. done) (λ _. done ++ (closed u ++ (
 abbrev pub nextOpen : Form → List ℕ → List ℕ
 nextOpen f u = if' (isLiteral f) (λ _. u ++ literal f) (λ _. [])
 
--- laws of a text before parts
+-- a text before no parts, before a byte of text, and before an expression
 pub before-end : (u : List ℕ) → textBefore u [] ≡ closed u
 unfolding textBefore leadingText behindText
 before-end [] = refl
@@ -136,7 +139,7 @@ module _ {t left : List ℕ} {done : List Part} {u : List ℕ} (s : Reached t le
       go [] h read legal = (read ∙ ap (λ (x : List Part). done ++ x) (before-end u), omega arith)
       go (c ∷ cs) h read legal = absurd (omega arith)
 
--- the texts of parts joined
+-- the text bytes of two lists of parts are those of each
 pub texts-append : (ps qs : List Part) → textsOf (ps ++ qs) ≡ textsOf ps ++ textsOf qs
 unfolding textsOf
 texts-append [] qs = refl
@@ -155,7 +158,7 @@ texts-through done u p e = ap (λ (x : List ℕ). x ++ []) (texts-append done (c
     ∙ ap (λ (x : List ℕ). textsOf done ++ x) (texts-append (closed u) (p ∷ [])
     ∙ rw (texts-closed u, e) (append-nil u)))
 
--- LAW: a form adds its byte to the texts
+-- LAW: a form adds its byte of text, if it is one, to the text bytes
 pub texts-next : (f : Form) (done : List Part) (u : List ℕ)
     → textsOf (nextDone f done u) ++ nextOpen f u ≡ (textsOf done ++ u) ++ literal f
 texts-next (Plain c) done u = sym (append-assoc (textsOf done) u (c ∷ []))
@@ -191,7 +194,7 @@ bytes-next f done u = omega (
   literal-one f,
 )
 
--- LAW: a form begins a part, or not
+-- LAW: a form begins a part or does not, as `begun` says
 closed-grown : (u : List ℕ) (c : ℕ) → length (closed (u ++ (c ∷ []))) ≡ length (closed u) + begun true (length u)
 unfolding begun
 closed-grown [] c = refl

@@ -1,6 +1,8 @@
--- Writing goes from the left: what is still to be written, laid over the buffer as it is, makes the buffer as it is to
--- be (`same`). A byte or a part that is written moves from the one to the other by `over-next`; in the end nothing is
--- left. Cite `lay-on`, `lay-end` for a text and `parts-on`, `parts-end` for the parts. Assumes nothing.
+-- The writer goes from left to right. The invariant of its two loops is: what is still to be written, laid over the
+-- buffer as it is now, gives the buffer at exit (`Laying` for the bytes of a text, `Writing` for the parts; field
+-- `same`). A byte or a part that is written moves from what is left into the buffer (`over-next`), and at the end
+-- nothing is left. A brace takes two bytes and any other byte one (`byte-twice`, `byte-once`); there is room, because
+-- the whole text fits. Cite `lay-on`, `lay-end` for a text and `parts-on`, `parts-end` for the parts. Assumes nothing.
 use mathlib.Core.Path.{_≡_, refl, sym, ap, _∙_}
 use mathlib.Core.Bool.{Bool, true, false}
 use mathlib.Core.List.{List, [], _∷_, _++_}

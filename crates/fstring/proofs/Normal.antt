@@ -1,7 +1,7 @@
 -- Theorem 4: the normal form is normal (`normal-is-normal`), and normal parts are their own normal form
--- (`normal-stays`). Both by induction on the parts. A text before normal parts is joined with the text that they begin
--- with, and behind that text stands none (`behind-normal`), so that no two texts stand side by side. Joining moves no
--- byte: the texts of the normal form, one after another, are those of the parts (`texts-normal`). Assumes nothing.
+-- (`normal-stays`). Both are by induction on the parts. A text before normal parts is joined with the text that they
+-- begin with, and after that text comes no other text (`behind-normal`); so no two texts are neighbours. Joining moves
+-- no byte: the texts of the normal form, one after another, are those of the parts (`texts-normal`). Assumes nothing.
 use mathlib.Core.Path.{_≡_, refl, ap, _∙_}
 use mathlib.Core.Bool.{true, false, not}
 use mathlib.Core.List.{List, [], _∷_, _++_, append-assoc, append-nil}
@@ -58,7 +58,7 @@ normal-stays (none ∷ ps) e = ap (λ (qs : List Part). none ∷ qs) (normal-sta
 normal-stays (str ∷ ps) e = clash (and-left false (isNormal ps) e) refl
 normal-stays (repr ∷ ps) e = ap (λ (qs : List Part). repr ∷ qs) (normal-stays ps e)
 
--- the texts stay
+-- the normal form has the same text bytes
 pub texts-before : (v : List ℕ) (ps : List Part) → textsOf (textBefore v ps) ≡ v ++ textsOf ps
 unfolding textBefore textsOf leadingText behindText
 texts-before [] ps = refl

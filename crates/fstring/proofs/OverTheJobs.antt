@@ -1,8 +1,9 @@
--- The theorems over what `write` and `read` promise: an answer r with its meaning, and the buffers at exit. The laws
--- speak of the definitions `writeOf` and `readOf`; an answer that meets the promise means what they say, and no two
--- answers mean the same (`written-injective`, `got-injective`), so that the answer itself is known. A text or words
--- laid over the front of a buffer are these and then what stood behind (`over-front`). Theorem 1 is `write-then-read`,
--- theorem 2 `read-then-write`, theorem 3 `stray-stands`, `stray-found`, `format-not-stray`, `not-stray-format` and
+-- The four theorems of request W-210, stated about the contracts of `write` and `read`: an answer r with its meaning,
+-- and the buffers at exit. The theorems are proved elsewhere about the definitions `writeOf` and `readOf` (RoundTrips,
+-- Theorems, StrayPlaces). An answer that meets its contract has the meaning that they give, and no two answers have the
+-- same meaning (`written-injective`, `got-injective`), so the answer itself is known. Bytes laid over the front of a
+-- buffer are followed by what was behind them (`front-of`). Theorem 1 is `write-then-read`, theorem 2
+-- `read-then-write`, theorem 3 `stray-stands`, `stray-found`, `format-not-stray`, `not-stray-format` and
 -- `short-is-room`. Assumes nothing.
 use mathlib.Core.Path.{_≡_, refl, sym, ap, _∙_}
 use mathlib.Core.Bool.{Bool, true, false, _&&_}
@@ -39,7 +40,7 @@ use Rattle.fstring.proofs.Theorems as again
 use Rattle.fstring.proofs.StrayPlaces as places
 use Rattle.fstring.proofs.Normal.{texts-normal}
 
--- laid over the front, by the length that is told
+-- a buffer after bs was laid over its front, where n is the length of bs
 front-of : (n : ℕ) (bs d : List ℕ) {after : List ℕ} → after ≡ over 0 bs d → length bs ≡ n → after ≡ bs ++ drop n d
 front-of n bs d is long = is ∙ over-front bs d ∙ ap (λ (m : ℕ). bs ++ drop m d) long
 
@@ -87,7 +88,7 @@ module _ (t w x : List ℕ) (s : Reading) (w-after x-after : List ℕ) (s-is : g
       let so : after ≡ over 0 t d = after-is ∙ rw (w-is, x-is) (it .buffer) in
       (written-injective r (Accepted (length t) (dialect .«enable_f_strings»)) answer, front-of (length t) t d so refl)
 
--- THEOREM 3: 63 stands exactly at the first brace that starts none of the four forms
+-- THEOREM 3: 63 is given exactly at the first brace that starts none of the four forms
 module _ (t : List ℕ) (words bytes : ℕ) (s : Reading) (s-is : got s ≡ readOf t words bytes) where
   pub stray-stands : {p : ℕ} → s ≡ StrayAt p
       → (p < length t) × ((ps : List Part) × (formatOf ps ≡ take p t)) × (isBrace (getD t p 0) ≡ true)
@@ -117,7 +118,7 @@ module _ (t : List ℕ) (words bytes : ℕ) (s : Reading) (s-is : got s ≡ read
       } in
       got-injective s (StrayAt p) (s-is ∙ places.place-refused t words bytes p place)
 
-  -- so a text is not 63 exactly where it is the format text of some parts
+  -- so a text is not refused with 63 exactly if it is the format text of some parts
   pub not-stray-format : ((p : ℕ) → s ≡ StrayAt p → ⊥) → (ps : List Part) × (formatOf ps ≡ t)
   not-stray-format h =
       let never-so : (p : ℕ) → readOf t words bytes ≡ refused strayBrace (p ∷ []) → ⊥ =
@@ -144,7 +145,7 @@ module _ (t : List ℕ) (words bytes : ℕ) (s : Reading) (s-is : got s ≡ read
         go true f = absurd (omega (arith, ap numberIn f))
         go false f = absurd (omega (arith, ap numberIn f))
 
-    -- and 7 is room alone
+    -- and 7 means that something does not fit, nothing else
     pub short-is-room : s ≡ Short → (words < 2 * length (normal ps))
         ⊎ ((bytes < length (textsOf ps)) ⊎ (isShort (normal ps) ≡ false))
     unfolding fitCheck

@@ -1,5 +1,6 @@
--- The promises leave no choice: no two answers mean the same (`written-injective`, `got-injective`), so two answers
--- that meet the promise of a job coincide, and so do the buffers at exit. Assumes nothing.
+-- The contract of each public function leaves one answer: two answers that meet it are equal, and so are the buffers at
+-- exit, for every input. No two answers have the same meaning (`written-injective`, `got-injective`, by cases), and the
+-- buffers are given by definitions. Assumes nothing.
 use mathlib.Core.Path.{_≡_, refl, ap, _∙_}
 use mathlib.Core.Bool.{Bool, true, false}
 use mathlib.Core.List.{List}

@@ -1,7 +1,7 @@
--- The job `read` in the terms of code. It accepts exactly where no brace is stray and words, bytes and lengths fit
+-- The job `read`: it accepts exactly if no brace is stray and the words, the bytes and the lengths fit
 -- (`readable-accepted`, `accepted-readable`). So after the judging pass the parts may be written without a test
--- (`read-can`), what is then written are the buffers at exit (`read-done`), and a refusal leaves both (`read-refused`).
--- Assumes nothing.
+-- (`read-can`), what is written are the buffers at exit (`read-done`), and a refusal changes neither (`read-refused`).
+-- There is no induction: the tests of the definition decide. Assumes nothing.
 use mathlib.Core.Path.{_≡_, refl, sym, _∙_}
 use mathlib.Core.Bool.{Bool, true, false, _&&_}
 use mathlib.Core.List.{List, [], _∷_}
@@ -20,7 +20,7 @@ use Rattle.fstring.specs.Reading.{legible, partsIn, fitCheck, readOf, wo
 use Rattle.fstring.specs.Steps.{Readable}
 
 module _ (t : List ℕ) (words bytes : ℕ) where
-  -- LAW: what acceptance says, both ways
+  -- LAW: acceptance means `Readable`, in both directions
   pub readable-accepted : Readable t words bytes
       → readOf t words bytes ≡ accepted (length (partsIn 0 t) ∷ length (textsOf (partsIn 0 t)) ∷ [])
   unfolding readOf fitCheck
@@ -56,7 +56,7 @@ module _ (t : List ℕ) (words bytes : ℕ) where
             short = and-right (leb (length (textsOf (partsIn 0 t))) bytes) _ rest;
           }
 
--- the job, by its judgement a and whether that is a refusal
+-- the job, by the judged answer a and the bool q, whether a is a refusal
 module _ (t w x : List ℕ) {a : Answer} (a-is : a ≡ readOf t (length w) (length x)) {q : Bool}
     (q-is : q ≡ isRefused a) where
   kept : (z : Answer) (bs d : List ℕ) → isRefused z ≡ true → d ≡ afterwards z bs d

@@ -1,6 +1,8 @@
--- Theorem 1: what is written is read back as the normal form. The reader meets the forms that the writer laid, one
--- after another: `{{` or `}}` or a byte for each byte of text, `{}` and `{!r}` (`reads-back`, by induction on the
--- parts). Assumes nothing.
+-- Theorem 1: what `write` has written, `read` gives back as the normal form of the parts. The reader meets the forms in
+-- the order in which the writer wrote them: `{{` or `}}` or a single byte for each byte of text, then `{}` and `{!r}`
+-- (`reads-back`, by induction on the parts; `meets-text`, by induction on a text). No brace of them is stray
+-- (`legal-back`), whatever follows (`legal-with`). The text bytes of whole parts are the text bytes lent
+-- (`texts-whole`). Cite `write-then-read`. Assumes nothing.
 use mathlib.Core.Path.{_≡_, refl, sym, ap, _∙_}
 use mathlib.Core.Bool.{Bool, true, false}
 use mathlib.Core.List.{List, [], _∷_, _++_, append-assoc}
@@ -33,7 +35,7 @@ unfolding textBefore leadingText behindText
 before-cons c [] ps = refl
 before-cons c (d ∷ t) ps = refl
 
--- a byte of text is met again
+-- the reader meets a byte of text as the writer wrote it
 doubled-seen : (c : ℕ) (l : List ℕ) → isBrace c ≡ true → firstForm (c ∷ c ∷ l) ≡ Doubled c
 unfolding firstForm formAt
 doubled-seen c l e = rw (e, eq-eqb c c refl) refl
@@ -89,7 +91,7 @@ legal-back (none ∷ ps) = omega (arith, legal-back ps)
 legal-back (str ∷ ps) = omega (arith, legal-back ps)
 legal-back (repr ∷ ps) = omega (arith, legal-back ps)
 
--- and whatever follows
+-- the same, whatever bytes follow
 pub legal-with : (ps : List Part) (l : List ℕ) → legible 0 (formatOf ps ++ l) ≡ length (formatOf ps) + legible 0 l
 unfolding formatOf formOf legible firstForm formAt
 legal-with [] l = omega arith
@@ -130,7 +132,7 @@ texts-whole (kind ∷ n ∷ ws) ts e =
     (texts-whole ws (drop (textLength kind n) ts) (rest-of (kind ∷ n ∷ ws) ts e (omega arith)))
     ∙ take-append-drop (textLength kind n) ts
 
--- THEOREM 1: ws, ts, ds and d are what `write` is lent, w and x what `read` is lent then
+-- THEOREM 1: `write` is lent ws, ts, ds and d, and then `read` is lent w and x
 module _ (ws ts ds d w x : List ℕ) where
   abbrev pub normalParts : List Part
   normalParts = normal (partsOf ws ts)

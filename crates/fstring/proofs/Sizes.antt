@@ -1,7 +1,8 @@
--- A room is counted down, so that no sum can wrap: `leaving n room` is what is left behind n bytes. Counting down a by
--- a and then by b is counting down a + b (`leaving-both`), so each loop keeps that what is left of the text, taken from
--- what is left of the room, is the whole text taken from the whole room. Cite `size-on`, `size-stop`, `size-end`.
--- Assumes nothing.
+-- A room is counted down, so that no sum can wrap: `leaving n room` is what is left of a room after n bytes, or Short.
+-- Counting down by a and then by b is counting down by a + b (`leaving-both`). So the loop over a text has the
+-- invariant `Sizing`: taking the rest of the text from the rest of the room gives the same as taking the whole text
+-- from the whole room. Each byte of text keeps it, with one or two bytes for its form. Cite `size-on`, `size-stop`,
+-- `size-end`. Assumes nothing.
 use mathlib.Core.Path.{_≡_, refl, sym, ap, _∙_}
 use mathlib.Core.Logic.{⊎-elim}
 use mathlib.Core.Bool.{Bool, true, false}
@@ -44,7 +45,7 @@ module _ (a b room : ℕ) where
   pub leaving-over : room < a → Short ≡ leaving (a + b) room
   leaving-over h = leaving-short (a + b) room (omega arith)
 
--- and what an answer says
+-- what an answer says about n and the room
 unfoldable leftIn : Room → ℕ
 leftIn (Left m) = m
 leftIn Short = 0
@@ -67,7 +68,7 @@ leaving-left n room m e = ⊎-elim
     (λ (f : room < n). never (ap tagged (sym e ∙ sym (leaving-short n room f))))
     (le-or-lt n room)
 
--- how many bytes a byte of text takes
+-- the number of bytes that a byte of text takes
 module _ (c : ℕ) {q : Bool} (q-is : q ≡ isBrace c) where
   pub size-two : q ≡ true → 2 ≡ length (escape c)
   unfolding escape

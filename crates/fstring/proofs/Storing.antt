@@ -1,9 +1,9 @@
--- The writing pass of the reader. Its buffers hold the parts read so far (`Stored`): the words of the closed parts and
--- of the open text, and all their text bytes. Each form writes the two words of the last part anew: a byte of text
--- makes the open text longer, so its pair is written over itself, and an expression gets a new pair (`Last`,
--- `over-again`). A byte of text goes behind the bytes (`over-next`). There is room, since the parts so far are no more
--- than all parts (`parts-fit`, `texts-fit`, `run-short`). Cite `store-on` for a turn, `store-words` and `store-texts`
--- for the end. Assumes nothing.
+-- The writing pass of the reader. The invariant of its loop is `Stored`: the buffers hold the parts read so far, which
+-- are the words of the closed parts and of the open text, and all their text bytes. Each form writes the two words of
+-- the last part again: a byte of text makes the open text longer, so its pair is written over itself, and an expression
+-- gets a new pair (`Last`, `over-again`). A byte of text is written after the bytes so far (`over-next`). There is
+-- room, because the parts so far are no more than all parts (`parts-fit`, `texts-fit`, `run-short`). Cite `store-on`
+-- for a turn, `store-words` and `store-texts` for the end. Assumes nothing.
 use mathlib.Core.Path.{_≡_, refl, sym, ap, _∙_}
 use mathlib.Core.Bool.{Bool, true, false}
 use mathlib.Core.List.{List, [], _∷_, _++_, append-assoc, append-nil}
@@ -29,7 +29,7 @@ use Rattle.fstring.proofs.Joining.{run-next, parts-next}
 use Rattle.fstring.proofs.Tallying.{short-append}
 use Rattle.fstring.proofs.Normal.{texts-before}
 
--- a byte of text or none, in the terms of code
+-- a byte of text or none, by the test of the code
 module _ (c at : ℕ) (d : List ℕ) where
   pub kept-room : {l : Bool} → at + length (kept l c) ≤ length d → l ≡ true → at < length d
   kept-room h e = let g : at + 1 ≤ length d = rw e at h in omega arith
@@ -48,7 +48,7 @@ kept-literal Empty = refl
 kept-literal Converted = refl
 kept-literal Stray = refl
 
--- LAW: what stands behind a place is written anew
+-- LAW: bytes that were written at a place are overwritten by as many or more
 pub over-again : (p x y d : List ℕ) → length x ≤ length y
     → over (length p) y (over 0 (p ++ x) d) ≡ over 0 (p ++ y) d
 unfolding over
@@ -249,7 +249,7 @@ module _ {t w x left words bytes : List ℕ} {count n run : ℕ} (s : Stored t w
       next : Reached t (take (length left - v) (drop v left)) (nextDone f (s .done) (s .u)) (nextOpen f (s .u))
       next = reached-on (s .at) h f-is calm v-is
 
-    -- the same at the width itself: what does not speak of what is left
+    -- the same where the width of the form is written out, for facts that do not mention what is left
     there : Reached t (take (length left - widthOf f) (drop (widthOf f) left)) (nextDone f (s .done) (s .u))
         (nextOpen f (s .u))
     there = next refl

@@ -1,9 +1,9 @@
--- Theorem 3: where 63 stands. The reader passes the format text of any parts whole, whatever follows it (`legal-with`).
--- So a brace behind such a text that starts none of the four forms is the first that is stray (`place-refused`). And in
--- front of the first stray brace stands the format text of some parts (`front`), so that 63 stands nowhere else
--- (`refused-place`). The four forms are named by their bytes in the claim: `stray-none` and `none-stray` show that
--- these are the forms that the reader knows. Hence a text is not 63 exactly where some parts have it as their format
--- text (`format-fits`, `read-format`). Assumes nothing.
+-- Theorem 3: the position of 63. The reader passes the whole format text of any parts, whatever follows it
+-- (`legal-with`). So a brace after such a text that starts none of the four forms is the first stray brace
+-- (`place-refused`). Before the first stray brace there is the format text of some parts (`front`), so 63 is given
+-- nowhere else (`refused-place`). The claim names the four forms by their bytes; `stray-none` and `none-stray` show
+-- that these are the forms that the reader knows. Hence a text is not refused with 63 exactly if it is the format text
+-- of some parts (`format-fits`, `read-format`). The inductions are those of `legal-with` and `front`. Assumes nothing.
 use mathlib.Core.Path.{_≡_, refl, sym, ap, _∙_}
 use mathlib.Core.Bool.{Bool, true, false, _&&_}
 use mathlib.Core.Logic.{⊎-elim}
@@ -187,7 +187,8 @@ refused-place t words bytes p e = go (eqb (legible 0 t) (length t)) fit refl e
         strictly a b h n =
             ⊎-elim (λ (f : b ≤ a). absurd (eqb-false a b n (omega arith))) (λ (f : a < b). f) (le-or-lt b a)
 
--- so a format text is never 63: 7 is room alone; and a text that is not 63 is the format text of what is read
+-- so a format text is never refused with 63, only with 7; and a text that is not 63 is the format text of what is read
+-- from it
 pub format-fits : (ps : List Part) (words bytes : ℕ)
     → readOf (formatOf ps) words bytes ≡ fitCheck (normal ps) words bytes
 unfolding readOf

@@ -1,8 +1,9 @@
--- The judging pass of the reader. Its counts are those of the parts read so far (`Tally`): how many, their text bytes,
--- the length of the open text, and whether a text is too long. A form moves the parts by `reached-on`, and each count
--- by its own law (`parts-next`, `bytes-next`, `run-next`, `long-next`). At a stray brace what is behind is its position
--- (`tally-stray`); at the end the counts are those of all parts, so that the tests of the code are those of the
--- definition (`tally-short`, `tally-fits`). Assumes nothing.
+-- The judging pass of the reader. The invariant of its loop is `Tally`: the numbers that the code has counted are those
+-- of the parts read so far (the number of parts, their text bytes, the length of the open text, and whether a text is
+-- too long). A form changes the parts by `reached-on`, and each number by its own law (`parts-next`, `bytes-next`,
+-- `run-next`, `long-next`). At a stray brace the number of bytes read is its position (`tally-stray`). At the end the
+-- numbers are those of all parts, so the tests of the code are those of the definition (`tally-short`, `tally-fits`).
+-- Assumes nothing.
 use mathlib.Core.Path.{_≡_, refl, sym, ap, _∙_}
 use mathlib.Core.Bool.{Bool, true, false, not, _&&_, _||_}
 use mathlib.Core.List.{List, [], _∷_, _++_}
@@ -95,7 +96,7 @@ long-next Empty done u e = short-through done u none refl e
 long-next Converted done u e = short-through done u repr refl e
 long-next Stray done u e = short-through done u none refl e
 
--- in the terms of code
+-- the same definitions, by the tests of the code
 pub begun-first : {l : Bool} {run : ℕ} → l ≡ true → run ≡ 0 → 1 ≡ begun l run
 unfolding begun
 begun-first e z = rw (e, z) refl

@@ -1,7 +1,7 @@
--- Theorem 2: what is read, written again, is the same text. The words and texts that the reader leaves are those of the
--- parts read (`words-read`, `texts-read`). Read as parts again they are these parts (`parts-again`), and they are whole
--- (`words-whole`), so that writing them never refuses with 64. Their format text is the text that was read
--- (`same-text`). Cite `read-then-write`. Assumes nothing.
+-- Theorem 2: what `read` gives, written again, is the same text. The words and texts that the reader leaves are those
+-- of the parts that it read (`words-read`, `texts-read`). Read as parts again they are these parts (`parts-again`, by
+-- induction on the parts), and they are whole (`words-whole`), so writing them never refuses with 64. Their format text
+-- is the text that was read (Fronts' `same-text`). Cite `read-then-write`. Assumes nothing.
 use mathlib.Core.Path.{_≡_, refl, sym, ap, _∙_}
 use mathlib.Core.Bool.{true}
 use mathlib.Core.List.{List, [], _∷_, _++_}
@@ -65,8 +65,7 @@ words-whole ps = and-both _ _ (words-sound ps) (eq-eqb _ _ (words-total ps))
 front-taken : (bs d : List ℕ) → take (length bs) (over 0 bs d) ≡ bs
 front-taken bs d = ap (take (length bs)) (over-front bs d) ∙ take-append-seam bs (drop (length bs) d)
 
--- THEOREM 2: t, w and x are what `read` is lent; its k parts and m bytes are then written in any valid dialect, with
--- room
+-- THEOREM 2: `read` is lent t, w and x; its k parts and m bytes are then written in any valid dialect, with room
 module _ (t w x : List ℕ) (k m : ℕ) (e : readOf t (length w) (length x) ≡ accepted (k ∷ m ∷ [])) where
   can : Readable t (length w) (length x)
   can = accepted-readable t (length w) (length x) (rw e refl)

@@ -1,4 +1,4 @@
--- What is claimed of the place of 63, in the words of request W-210. These are definitions.
+-- The claim about the position of 63, in the words of request W-210. These are definitions.
 use mathlib.Core.Path.{_≡_}
 use mathlib.Core.Bool.{true}
 use mathlib.Core.List.{List, [], _∷_}
@@ -6,7 +6,7 @@ use Prim.Native.Nat.{ℕ, _<_}
 use lib.ListN.{length, getD, take, drop}
 use Rattle.fstring.specs.Parts.{Part, opening, closing, isBrace, plainForm, reprForm, formatOf}
 
--- none of the four forms stands at the front: `{{`, `}}`, `{}`, `{!r}`
+-- none of the four forms is at the front: `{{`, `}}`, `{}`, `{!r}`
 pub record NoForm (l : List ℕ) : Type 0 where
   pub no-opening-twice : take 2 l ≡ opening ∷ opening ∷ [] → ⊥
   pub no-closing-twice : take 2 l ≡ closing ∷ closing ∷ [] → ⊥

@@ -58,7 +58,7 @@ unfoldable pub formatOf : List Part → List ℕ
 formatOf [] = []
 formatOf (p ∷ ps) = formOf p ++ formatOf ps
 
--- whether a part is text, and whether parts begin with one; that text, and what stands behind it
+-- whether a part is text, and whether parts begin with a text; that text, and the parts after it
 abbrev pub isText : Part → Bool
 isText (text t) = true
 isText none = false
@@ -83,7 +83,7 @@ unfoldable pub behindText : List Part → List Part
 behindText [] = []
 behindText (p ∷ ps) = if' (isText p) (λ _. ps) (λ _. p ∷ ps)
 
--- a text before parts: joined with a text that they begin with, dropped if it is empty
+-- a text before parts: joined with the text that they begin with, dropped if it is empty
 unfoldable pub textBefore : List ℕ → List Part → List Part
 textBefore [] ps = ps
 textBefore (c ∷ t) ps = text (c ∷ (t ++ leadingText ps)) ∷ behindText ps
@@ -96,7 +96,7 @@ normal (none ∷ ps) = none ∷ normal ps
 normal (str ∷ ps) = none ∷ normal ps
 normal (repr ∷ ps) = repr ∷ normal ps
 
--- whether parts are normal: no str, no empty text, no two texts side by side
+-- whether parts are normal: no str, no empty text, no two neighbouring texts
 unfoldable pub mayPrecede : Part → List Part → Bool
 mayPrecede (text []) ps = false
 mayPrecede (text (c ∷ t)) ps = not (beginsText ps)
@@ -124,7 +124,7 @@ unfoldable pub wordsOf : List Part → List ℕ
 wordsOf [] = []
 wordsOf (p ∷ ps) = kindOf p ∷ length (textIn p) ∷ wordsOf ps
 
--- whether each text's length is a word
+-- whether the length of each text fits in a word of 32 bits
 unfoldable pub isShort : List Part → Bool
 isShort [] = true
 isShort (p ∷ ps) = ltb (length (textIn p)) 4294967296 && isShort ps

@@ -15,8 +15,8 @@ use Rattle.fstring.specs.declared.Form.the-variants.{Plain, Doubled, Emp
 use Rattle.fstring.specs.declared.Reading.{Reading}
 use Rattle.fstring.specs.declared.Reading.the-variants.{Accepted, StrayAt, Short}
 
--- what bytes begin with: a byte of text, `{{` or `}}`, `{}`, `{!r}`; or a brace that starts none of these four. Past
--- the end stands 0.
+-- the form at the start of some bytes: a byte of text, `{{` or `}}`, `{}`, `{!r}`; or a brace that starts none of these
+-- four. Bytes past the end are taken as 0.
 unfoldable pub formAt : ℕ → ℕ → ℕ → ℕ → Form
 formAt a b c d =
     if' (isBrace a)
@@ -36,7 +36,7 @@ isStray Empty = false
 isStray Converted = false
 isStray Stray = true
 
--- how many bytes behind its first a form has
+-- the number of bytes of a form after its first
 abbrev pub behind : Form → ℕ
 behind (Plain c) = 0
 behind (Doubled c) = 1
@@ -52,8 +52,8 @@ reach Empty n = suc n
 reach Converted n = suc n
 reach Stray n = 0
 
--- how many bytes from the left are forms: all, or up to the first brace that starts none. k more bytes belong to the
--- form that began before.
+-- the number of bytes from the left that are forms: all, or up to the first brace that starts none. The next k bytes
+-- belong to the form that began before.
 unfoldable pub legible : ℕ → List ℕ → ℕ
 legible zero [] = 0
 legible (suc k) [] = 0
@@ -68,7 +68,7 @@ reading Empty ps = none ∷ ps
 reading Converted ps = repr ∷ ps
 reading Stray ps = ps
 
--- the parts that are read from the left, where no brace is stray
+-- the parts that are read from the left, if no brace is stray
 unfoldable pub partsIn : ℕ → List ℕ → List Part
 partsIn zero [] = []
 partsIn (suc k) [] = []
@@ -83,7 +83,7 @@ fitCheck ps words bytes =
     (λ _. accepted (length ps ∷ length (textsOf ps) ∷ []))
     (λ _. refused shortBuffer [])
 
--- the job, for so many words and bytes lent: 63 with its position, then 7
+-- the job, for the numbers of words and bytes lent: 63 with its position, then 7
 unfoldable pub readOf : List ℕ → ℕ → ℕ → Answer
 readOf t words bytes =
     if' (eqb (legible 0 t) (length t)) (λ _. fitCheck (partsIn 0 t) words bytes)
@@ -96,7 +96,7 @@ wordsAfter t words bytes = afterwards (readOf t (length words) bytes) (wordsOf (
 unfoldable pub textsAfter : List ℕ → ℕ → List ℕ → List ℕ
 textsAfter t words bytes = afterwards (readOf t words (length bytes)) (textsOf (partsIn 0 t)) bytes
 
--- what the answers of code mean
+-- the meaning of the answers of the code
 abbrev pub got : Reading → Answer
 got (Accepted parts bytes) = accepted (parts ∷ bytes ∷ [])
 got (StrayAt p) = refused strayBrace (p ∷ [])

@@ -1,5 +1,5 @@
--- What the private functions answer, in the terms of code: a room that is counted down, and what one form does to the
--- counts and buffers of the reader. These are definitions; no public promise cites them.
+-- The answers of the private functions: a room that is counted down, and what one form does to the numbers and buffers
+-- of the reader. These are definitions; no public contract cites them.
 use mathlib.Core.Path.{_≡_}
 use mathlib.Core.Bool.{Bool, true, false}
 use mathlib.Core.List.{List, [], _∷_}
@@ -14,7 +14,7 @@ use Rattle.fstring.specs.declared.Form.the-variants.{Plain, Doubled, Emp
 use Rattle.fstring.specs.declared.Room.{Room}
 use Rattle.fstring.specs.declared.Room.the-variants.{Left, Short}
 
--- what is left of a room behind so many bytes, counted down
+-- the room left after a number of bytes
 unfoldable pub leaving : ℕ → ℕ → Room
 leaving n room = if' (leb n room) (λ _. Left (room - n)) (λ _. Short)
 
@@ -58,7 +58,7 @@ widthOf Empty = 2
 widthOf Converted = 4
 widthOf Stray = 1
 
--- what an accepted text is: no brace is stray, and the words, the bytes and the lengths fit
+-- a text that is accepted: no brace is stray, and the words, the bytes and the lengths fit
 pub record Readable (t : List ℕ) (words bytes : ℕ) : Type 0 where
   pub legal : legible 0 t ≡ length t
   pub words-fit : 2 * length (partsIn 0 t) ≤ words

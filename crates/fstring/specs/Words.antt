@@ -7,7 +7,7 @@ use lib.Dec.{eqb, leb}
 use Rattle.fields.specs.Choice.{if'}
 use Rattle.fstring.specs.Parts.{Part, text, none, str, repr}
 
--- how many text bytes a part of two words takes
+-- the number of text bytes of a part of two words
 unfoldable pub textLength : ℕ → ℕ → ℕ
 textLength kind n = if' (eqb kind 0) (λ _. n) (λ _. 0)
 
@@ -21,7 +21,7 @@ sound [] = true
 sound (kind ∷ []) = false
 sound (kind ∷ n ∷ ws) = soundPart kind n && sound ws
 
--- how many text bytes they take together: whole numbers, so nothing wraps
+-- the number of text bytes of all parts, without a limit, so that no sum wraps
 unfoldable pub total : List ℕ → ℕ
 total [] = 0
 total (kind ∷ []) = 0
@@ -37,7 +37,7 @@ partOf kind t =
     if' (eqb kind 0) (λ _. text t)
     (λ _. if' (eqb kind 3) (λ _. repr) (λ _. if' (eqb kind 2) (λ _. str) (λ _. none)))
 
--- the parts: each takes its text from what the ones before it left
+-- the parts: each takes its text from the bytes that the ones before it left
 unfoldable pub partsOf : List ℕ → List ℕ → List Part
 partsOf [] ts = []
 partsOf (kind ∷ []) ts = []

@@ -16,7 +16,7 @@ use Rattle.fstring.specs.Words.{isWhole, partsOf}
 use Rattle.fstring.specs.declared.Written.{Written}
 use Rattle.fstring.specs.declared.Written.the-variants.{Accepted, Refused}
 
--- 62 where the dialect lacks enable_f_strings, else 0: a notice, no refusal
+-- 62 if the dialect lacks enable_f_strings, else 0: a notice, not a refusal
 abbrev pub notice : Bool → ℕ
 notice true = 0
 notice false = fStringsDisabled
@@ -40,11 +40,11 @@ abbrev pub dialectCheck : Decoded → List ℕ → List ℕ → ℕ → Answer
 dialectCheck (Valid d) ws ts room = partsCheck (d .«enable_f_strings») ws ts room
 dialectCheck Invalid ws ts room = refused badDialect []
 
--- the job, for a buffer of so many bytes
+-- the job, for a buffer of `room` bytes
 unfoldable pub writeOf : List ℕ → List ℕ → List ℕ → ℕ → Answer
 writeOf ws ts ds room = dialectCheck (fromBytes ds) ws ts room
 
--- the buffer at exit: the text laid over its front when accepted, else as it was
+-- the buffer at exit: the text laid over its front if accepted, else unchanged
 abbrev pub afterwards : Answer → List ℕ → List ℕ → List ℕ
 afterwards (accepted vs) bs buffer = over 0 bs buffer
 afterwards (refused n vs) bs buffer = buffer
@@ -57,7 +57,7 @@ abbrev pub isRefused : Answer → Bool
 isRefused (accepted vs) = false
 isRefused (refused n vs) = true
 
--- what the answers of code mean
+-- the meaning of the answers of the code
 abbrev pub written : Written → Answer
 written (Accepted n enabled) = accepted (n ∷ notice enabled ∷ [])
 written (Refused r) = refusal r

@@ -30,28 +30,28 @@ const BANG: u8 = 33;
 
 const LETTER_R: u8 = 114;
 
-// The kinds of parts: text, and repr; 1 and 2 are none and str.
+// The kinds of parts: text and repr; 1 and 2 are none and str.
 const TEXT: u32 = 0;
 
 const REPR: u32 = 3;
 
-// The most bytes of one text part that is read.
+// The largest length of a text part that is read.
 const MOST_LENGTH: usize = 4294967295;
 
-// The answer of write: the length of the text and whether the dialect has f-strings, or why it is refused.
+// The answer of write: the length of the text and whether the dialect has f-strings, or the refusal.
 pub enum Written {
     Accepted { length: usize, enabled: bool },
     Refused(Refusal),
 }
 
-// The answer of read: how many parts and text bytes, or why it is refused: 63 with its position, or 7.
+// The answer of read: the numbers of parts and of text bytes, or the refusal: 63 with its position, or 7.
 pub enum Reading {
     Accepted { parts: usize, bytes: usize },
     StrayAt(usize),
     Short,
 }
 
-// What bytes begin with.
+// The form at the start of some bytes.
 enum Form {
     Plain(u8),
     Doubled(u8),
@@ -60,14 +60,14 @@ enum Form {
     Stray,
 }
 
-// What is left of a room, or that it is too short.
+// The bytes left of a room, or that it is too short.
 enum Room {
     Left(usize),
     Short,
 }
 
-// The format text of parts, into a buffer: 5, then 64, then 7 for a buffer that is shorter than the text. A refusal
-// changes no byte, and bytes past the text stay.
+// Writes the format text of parts into a buffer: 5, then 64, then 7 for a buffer that is shorter than the text. A
+// refusal changes no byte, and bytes past the text are unchanged.
 pub fn write(parts: &[u32], texts: &[u8], dialect: &[u8], text: &mut [u8]) -> Written
     ensures { λ r. ⌜ written r
         ≡ writeOf (now (parts .entry)) (now (texts .entry)) (now (dialect .entry)) (length (now (text .entry))) ⌝ }
@@ -82,7 +82,7 @@ pub fn write(parts: &[u32], texts: &[u8], dialect: &[u8], text: &mut [u8]) -> Wr
     judged
 }
 
-// 5, 64, 7 for so many bytes of room.
+// The answer of write for a buffer of room bytes: 5, 64, 7, or acceptance.
 fn judge(parts: &[u32], texts: &[u8], dialect: &[u8], room: usize) -> Written
     ensures { λ r. ⌜ written r ≡ writeOf (now (parts .entry)) (now (texts .entry)) (now (dialect .entry)) room ⌝ }
 {
@@ -93,7 +93,7 @@ fn judge(parts: &[u32], texts: &[u8], dialect: &[u8], room: usize) -> Written
     }
 }
 
-// 64, then 7.
+// 64, then 7, or acceptance.
 fn judge_parts(parts: &[u32], texts: &[u8], enabled: bool, room: usize) -> Written
     ensures { λ r. ⌜ written r ≡ partsCheck enabled (now (parts .entry)) (now (texts .entry)) room ⌝ }
 {
@@ -120,7 +120,7 @@ fn is_refused(answer: Written) -> bool
     }
 }
 
-// Whether each part is sound and their lengths add up to so many text bytes, counted down.
+// Whether each part is sound and their lengths add up to the number of text bytes, which is counted down.
 fn is_whole(parts: &[u32], bytes: usize) -> bool
     ensures { λ r. ⌜ r ≡ isWhole (now (parts .entry)) bytes ⌝ }
 {
@@ -151,7 +151,7 @@ fn sound_part(kind: u32, n: u32) -> bool
     (kind <= 3) & (n == 0)
 }
 
-// How many text bytes a part takes.
+// The number of text bytes of a part.
 fn text_length(kind: u32, n: u32) -> usize
     ensures { λ r. ⌜ r ≡ textLength kind n ⌝ }
 {
@@ -168,7 +168,7 @@ fn is_brace(c: u8) -> bool
     (c == OPENING) | (c == CLOSING)
 }
 
-// What is left of a room behind the format text of parts.
+// The room left after the format text of parts.
 fn room_behind(parts: &[u32], texts: &[u8], room: usize) -> Room
     requires { ⌜ isWhole (now parts) (length (now texts)) ≡ true ⌝ }
     ensures { λ r. ⌜ r ≡ leaving (length (textFor (now (parts .entry)) (now (texts .entry)))) room ⌝ }
@@ -189,7 +189,7 @@ fn room_behind(parts: &[u32], texts: &[u8], room: usize) -> Room
     Room::Left(spare)
 }
 
-// What is left of a room behind a part.
+// The room left after a part.
 fn room_behind_part(kind: u32, bytes: &[u8], room: usize) -> Room
     ensures { λ r. ⌜ r ≡ leaving (length (formOf (partOf kind (now (bytes .entry))))) room ⌝ }
 {
@@ -202,7 +202,7 @@ fn room_behind_part(kind: u32, bytes: &[u8], room: usize) -> Room
     room_less(room, 2)
 }
 
-// A room less so many bytes.
+// The room left after a number of bytes.
 fn room_less(room: usize, n: usize) -> Room
     ensures { λ r. ⌜ r ≡ leaving n room ⌝ }
 {
@@ -212,7 +212,7 @@ fn room_less(room: usize, n: usize) -> Room
     Room::Left(room - n)
 }
 
-// What is left of a room behind a text, braces doubled.
+// The room left after a text with its braces doubled.
 fn room_behind_text(bytes: &[u8], room: usize) -> Room
     ensures { λ r. ⌜ r ≡ leaving (length (escaped (now (bytes .entry)))) room ⌝ }
 {
@@ -229,7 +229,7 @@ fn room_behind_text(bytes: &[u8], room: usize) -> Room
     Room::Left(spare)
 }
 
-// How many bytes a byte of text takes.
+// The number of bytes that a byte of text takes.
 fn byte_size(c: u8) -> usize
     ensures { λ r. ⌜ r ≡ length (escape c) ⌝ }
 {
@@ -239,7 +239,7 @@ fn byte_size(c: u8) -> usize
     1
 }
 
-// Writes the format text of parts at the front of a buffer.
+// Writes the format text of parts at the start of a buffer.
 fn write_parts(parts: &[u32], texts: &[u8], out: &mut [u8])
     requires { ⌜ (isWhole (now parts) (length (now texts)) ≡ true)
         × (length (textFor (now parts) (now texts)) ≤ length (now out)) ⌝ }
@@ -256,7 +256,7 @@ fn write_parts(parts: &[u32], texts: &[u8], out: &mut [u8])
     }
 }
 
-// Writes a part from a place on, and answers where it ends.
+// Writes a part from a place on, and returns where it ends.
 fn write_part(kind: u32, bytes: &[u8], at: usize, out: &mut [u8]) -> usize
     requires { ⌜ at + length (formOf (partOf kind (now bytes))) ≤ length (now out) ⌝ }
     ensures { λ r. ⌜ r ≡ at + length (formOf (partOf kind (now (bytes .entry)))) ⌝ }
@@ -277,7 +277,7 @@ fn write_part(kind: u32, bytes: &[u8], at: usize, out: &mut [u8]) -> usize
     at + 2
 }
 
-// Writes a text from a place on, braces doubled, and answers where it ends.
+// Writes a text from a place on, with its braces doubled, and returns where it ends.
 fn write_text(bytes: &[u8], at: usize, out: &mut [u8]) -> usize
     requires { ⌜ at + length (escaped (now bytes)) ≤ length (now out) ⌝ }
     ensures { λ r. ⌜ r ≡ at + length (escaped (now (bytes .entry))) ⌝ }
@@ -292,7 +292,7 @@ fn write_text(bytes: &[u8], at: usize, out: &mut [u8]) -> usize
     p
 }
 
-// Writes a byte of text at a place, a brace twice, and answers where it ends.
+// Writes a byte of text at a place, a brace twice, and returns where it ends.
 fn write_byte(c: u8, at: usize, out: &mut [u8]) -> usize
     requires { ⌜ at + length (escape c) ≤ length (now out) ⌝ }
     ensures { λ r. ⌜ r ≡ at + length (escape c) ⌝ }
@@ -306,8 +306,8 @@ fn write_byte(c: u8, at: usize, out: &mut [u8]) -> usize
     at + 1
 }
 
-// The parts of a format text, into words and bytes: 63 at the first brace that starts no form, over the whole text,
-// then 7. A refusal changes no buffer, and what is past the parts stays.
+// Reads the parts of a format text into words and bytes: 63 at the first brace of the whole text that starts no form,
+// then 7. A refusal changes no buffer, and what is past the parts is unchanged.
 pub fn read(text: &[u8], parts: &mut [u32], texts: &mut [u8]) -> Reading
     ensures { λ r. ⌜ got r
         ≡ readOf (now (text .entry)) (length (now (parts .entry))) (length (now (texts .entry))) ⌝ }
@@ -335,7 +335,7 @@ fn is_refusal(answer: Reading) -> bool
     }
 }
 
-// 63, then 7: the parts, the text bytes and the lengths are counted in one pass, with no buffer.
+// The answer of read: 63, then 7. The parts, the text bytes and the lengths are counted in one pass, without a buffer.
 fn judge_text(text: &[u8], words: usize, room: usize) -> Reading
     ensures { λ r. ⌜ got r ≡ readOf (now (text .entry)) words room ⌝ }
 {
@@ -365,7 +365,7 @@ fn judge_text(text: &[u8], words: usize, room: usize) -> Reading
     }
 }
 
-// Writes the parts of a format text, and their texts, to the fronts of two buffers that have room for them.
+// Writes the parts of a format text and their texts at the start of two buffers, which have room for them.
 fn read_parts(text: &[u8], parts: &mut [u32], texts: &mut [u8])
     requires { ⌜ Readable (now text) (length (now parts)) (length (now texts)) ⌝ }
     ensures { λ r. ⌜ now (parts .exit) ≡ over 0 (wordsOf (partsIn 0 (now (text .entry)))) (now (parts .entry)) ⌝ }
@@ -386,7 +386,7 @@ fn read_parts(text: &[u8], parts: &mut [u32], texts: &mut [u8])
     }
 }
 
-// Writes the two words of the last of so many parts.
+// Writes the two words of part number count, which is the last so far.
 fn put_pair(kind: u32, n: u32, count: usize, words: &mut [u32])
     requires { ⌜ (1 ≤ count) × (2 * count ≤ length (now words)) ⌝ }
     ensures { λ r. ⌜ now (words .exit) ≡ over (2 * count - 2) (kind ∷ n ∷ []) (now (words .entry)) ⌝ }
@@ -396,7 +396,7 @@ fn put_pair(kind: u32, n: u32, count: usize, words: &mut [u32])
     words[at + 1] = n;
 }
 
-// Writes a byte if it is one of text, and answers where it ends.
+// Writes a byte if it is a byte of text, and returns where it ends.
 fn put_literal(is_text: bool, c: u8, at: usize, out: &mut [u8]) -> usize
     requires { ⌜ at + length (kept «is_text» c) ≤ length (now out) ⌝ }
     ensures { λ r. ⌜ r ≡ at + length (kept «is_text» c) ⌝ }
@@ -422,7 +422,7 @@ fn byte_of(form: Form) -> u8
     }
 }
 
-// The form that bytes begin with.
+// The form at the start of some bytes, by its first four bytes.
 fn first_form(t: &[u8]) -> Form
     ensures { λ r. ⌜ r ≡ firstForm (now (t .entry)) ⌝ }
 {
@@ -471,7 +471,7 @@ fn is_literal(form: Form) -> bool
     }
 }
 
-// How many bytes a form has.
+// The number of bytes of a form.
 fn width(form: Form) -> usize
     ensures { λ r. ⌜ r ≡ widthOf form ⌝ }
 {
@@ -497,7 +497,7 @@ fn form_kind(form: Form) -> u32
     }
 }
 
-// How many parts begin with a form, behind so many bytes of text.
+// The number of parts (0 or 1) that begin with a form after run bytes of text.
 fn begun(is_text: bool, run: usize) -> usize
     ensures { λ r. ⌜ r ≡ begun «is_text» run ⌝ }
 {
@@ -510,7 +510,7 @@ fn begun(is_text: bool, run: usize) -> usize
     1
 }
 
-// One for a byte of text.
+// 1 for a byte of text, else 0.
 fn ones(is_text: bool) -> usize
     ensures { λ r. ⌜ r ≡ ones «is_text» ⌝ }
 {
@@ -520,7 +520,7 @@ fn ones(is_text: bool) -> usize
     0
 }
 
-// How many bytes of text stand side by side, with this form.
+// The number of neighbouring bytes of text up to and including this form.
 fn run_on(is_text: bool, run: usize) -> usize
     requires { ⌜ run + 1 < 18446744073709551616 ⌝ }
     ensures { λ r. ⌜ r ≡ runOn «is_text» run ⌝ }

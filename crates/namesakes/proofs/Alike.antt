@@ -1,5 +1,5 @@
 -- A call whose arguments are alike those of an accepted call (the same kinds, called by the same names) is accepted
--- too: the rules of a binding (reached's `Rules`) speak of kinds and names only, and each argument of the one list
+-- too: the rules of a binding (reached's `Rules`) mention kinds and names only, and each argument of the one list
 -- has its like at the same place of the other (`over`). Cite `alike-rules`. Assumes nothing.
 use mathlib.Core.Path.{_≡_, refl, sym, ap, _∙_}
 use mathlib.Core.Bool.{true}

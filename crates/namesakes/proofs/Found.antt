@@ -94,7 +94,7 @@ ordinary-missed (q ∷ fs) x k e (suc i) p at c n = go (ordinary (q .mode) && sa
     go true e rest = never (cc)
     go false e rest = rest e
 
--- what stands behind others
+-- what comes behind others
 behind : {A : Type 0} (xs ys : List A) (m : ℕ) (x : A) → IsAt ys m x → IsAt (xs ++ ys) (length xs + m) x
 behind [] ys m x h = let e : 0 + m ≡ m = omega arith in rw e h
 behind (y ∷ xs) ys m x h = let e : suc (length xs) + m ≡ suc (length xs + m) = omega arith in rw e (behind xs ys m x h)

@@ -43,7 +43,7 @@ module _ (ns : List ℕ) (i : ℕ) (t : List ℕ) where
   unfolding labelledIn
   labelled-on {e} big e-is = rw (forest-tree i t big, rest-part e t e-is, e-is) refl
 
-  -- the arguments of a call stand behind its first child
+  -- the arguments of a call follow its first child
   pub labelled-behind : labelledIn ns (forest (i + 1 + spanOf (kidsOf t) / 24) (behindCallee t))
       ≡ labelledOf ns (treeOf i t)
   unfolding labelledIn labelledOf behindCallee

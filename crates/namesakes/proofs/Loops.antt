@@ -106,7 +106,7 @@ module _ (ns params ws : List ℕ) where
   abbrev pub Left : ℕ → ℕ → ℕ → List ℕ → List Report
   Left i place at left = reportsFrom (flatsOf ns i params) ws place (labelledIn ns (forest at left))
 
--- the arguments in turn: found reports are written, and the node at comes next, whose word stands at a place
+-- the arguments in turn: found reports are written, and the node `at` comes next, whose word is at `place`
 pub record Scanning (ns params args : List ℕ) (first from : ℕ) (ws list₀ list left : List ℕ) (at place found : ℕ)
     : Type 0 where
   pub room : 24 * at + length left ≤ 24 * first + length args

@@ -1,4 +1,6 @@
--- Two answers of the job, with the lists they leave, that meet its promise coincide. Assumes nothing.
+-- Two answers of the job that meet its promise are equal, and so are the lists that they leave. The promise fixes what
+-- the answer means, and no two answers mean the same (`named-injective`): a number of reports has one value, and a
+-- refusal is table's `refusal-injective`. Assumes nothing.
 use mathlib.Core.Path.{_≡_, sym, ap}
 use mathlib.Core.List.{List}
 use Prim.Native.Nat.{ℕ}

@@ -1,5 +1,6 @@
--- Laws of single functions, one for each return, in the terms of code: what comes before the binding (1 to 4, 6, 7),
--- the name of an expression, and the four words of a report. Assumes nothing.
+-- One law for each return of the functions that handle a single thing: what comes before the binding (1 to 4, 6, 7),
+-- the name of an expression, and the four words of a report. The tests before a return are known, so the definition
+-- computes; nothing here recurs. Assumes nothing.
 use mathlib.Core.Path.{_≡_, refl, sym, ap, _∙_}
 use mathlib.Core.Bool.{Bool, true, false, _&&_, _||_}
 use mathlib.Core.List.{List, [], _∷_}

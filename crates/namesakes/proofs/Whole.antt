@@ -1,8 +1,8 @@
 -- The reports of a call and a def in a table, and the job, return by return, in the terms of code. A call and a def
--- that are let in are let in by the binding too, because its 4,200 words are enough for any two nodes (`enters`).
--- Their binding is then the same (`words-same`). The words that `bind` leaves in zeros are those of the binding, and
--- 0 behind them, so that both say the same of every place (`padded`), and the reports are the same (`reads-same`).
--- Assumes nothing.
+-- that pass the job's entry pass that of the binding too, because its 4,200 words are enough for any two nodes
+-- (`enters`). Their binding is then the same (`words-same`). The words that `bind` leaves in zeros are those of the
+-- binding, and 0 behind them, so that both say the same of every place (`padded`), and the reports are the same
+-- (`reads-same`). Assumes nothing.
 use mathlib.Core.Path.{_≡_, refl, sym, ap, _∙_}
 use mathlib.Core.Bool.{Bool, true, false}
 use mathlib.Core.List.{List, [], _∷_, _++_}
@@ -64,7 +64,7 @@ module _ (t : List ℕ) (call : ℕ) {u kids : List ℕ} {e : ℕ} (u-is : u ≡
     args-few t call u-is r (behind-part u kids-are e-is) few,
   )
 
--- what stands behind a callee lies within the table
+-- what follows a callee lies within the table
 behind-within : (call : ℕ) (u : List ℕ) → Within call u
     → 24 * (call + 1 + spanOf (kidsOf u) / 24) + length (behindCallee u) ≤ 50424
 unfolding behindCallee
@@ -163,7 +163,7 @@ padded ws n i = go ws (drop (length ws) (replicate n 0))
     go (w ∷ ws) zs z zero = refl
     go (w ∷ ws) zs z (suc i) = go ws zs z i
 
--- LAW: who is let in is let in by the binding, and has room
+-- LAW: what passes the entry passes that of the binding, and has room
 pub enters : (t ns : List ℕ) (call def room : ℕ) {vs : List ℕ} → entryOf t ns call def room ≡ accepted vs
     → (binding.entryOf t ns call def 4200 ≡ accepted []) × (4 * length (argumentsAt t ns call) ≤ room)
 unfolding entryOf binding.entryOf

@@ -35,6 +35,6 @@ table =
 abbrev pub names : List ℕ
 names = 97 ∷ 98 ∷ 102 ∷ []
 
--- a lent list with a word more than is needed
+-- a list with one word more than is needed
 abbrev pub room : List ℕ
 room = replicate 9 7

@@ -1,4 +1,4 @@
--- The job: its answer and the lent list afterwards, for every input. These are definitions.
+-- The job: its answer and the list afterwards, for every input. These are definitions.
 use mathlib.Core.List.{List, [], _∷_}
 use Prim.Native.Nat.{ℕ, _*_}
 use lib.ListN.{length}
@@ -45,7 +45,7 @@ boundOf t names call def room = andThen (entryOf t names call def room) (λ _. b
 unfoldable pub reportsAt : List ℕ → List ℕ → ℕ → ℕ → List ℕ → List Report
 reportsAt t names call def ws = reports (flats (listOf t names def)) ws (labelledAt t names call)
 
--- the answer: how many are reported, or the refusal
+-- the answer: the number of reports, or the refusal
 abbrev pub counted : Answer → (List ℕ → List Report) → Answer
 counted (accepted ws) reported = accepted (length (reported ws) ∷ [])
 counted (refused n vs) reported = refused n vs
@@ -53,7 +53,7 @@ counted (refused n vs) reported = refused n vs
 unfoldable pub namesakesOf : List ℕ → List ℕ → ℕ → ℕ → ℕ → Answer
 namesakesOf t names call def room = counted (boundOf t names call def room) (reportsAt t names call def)
 
--- the list afterwards: the reports at its front and the rest as it was; a refusal leaves it
+-- the list afterwards: the reports at its front and the rest unchanged; a refusal changes nothing
 abbrev pub written : List Report → List ℕ → List ℕ
 written rs list = over 0 (rows rs) list
 

@@ -40,7 +40,7 @@ labelledIn names none = []
 labelledIn names (node r ks then ts) =
     record { argument = argumentOf names r; name = labelOf names ks } ∷ labelledIn names ts
 
--- those of a call: what stands behind its callee
+-- those of a call: what follows its callee
 unfoldable pub labelledOf : List ℕ → Tree → List Labelled
 labelledOf names (node r none) = []
 labelledOf names (node r (c then ks)) = labelledIn names ks
@@ -74,14 +74,14 @@ reportOf ws at p Nothing = []
 reportOf ws at p (At q) =
     if' (eqb p q) (λ _. []) (λ _. record { argument = at; reached = p; namesake = q; taken = getD ws q 0 } ∷ [])
 
--- the reports of arguments, in order, where the word of the first one stands at a place
+-- the reports of arguments, in order, where the word of the first one is at `place`
 unfoldable pub reportsFrom : List FlatParam → List ℕ → ℕ → List Labelled → List Report
 reportsFrom fs ws place [] = []
 reportsFrom fs ws place (a ∷ qs) =
     reportOf ws (nodeIn (a .argument) .at) (getD ws place 0) (namesakeOf fs (a .name))
     ++ reportsFrom fs ws (place + 1) qs
 
--- those of a call: the words of the arguments stand behind those of the parameters
+-- those of a call: the words of the arguments come after those of the parameters
 abbrev pub reports : List FlatParam → List ℕ → List Labelled → List Report
 reports fs ws qs = reportsFrom fs ws (length fs) qs
 

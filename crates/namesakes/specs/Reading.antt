@@ -1,4 +1,4 @@
--- What private functions promise of stretches. These are definitions that only their contracts use.
+-- What private functions promise about stretches. Only their contracts use these definitions.
 use mathlib.Core.Bool.{Bool, true, false, _&&_}
 use mathlib.Core.List.{List}
 use Prim.Native.Nat.{ℕ, _*_, _≤_}

@@ -1,5 +1,5 @@
--- What the theorems on namesakes speak of: a row of the list, two arguments that are exchanged, and a call in which two
--- arguments of another stand exchanged. These are definitions.
+-- The words of the theorems on namesakes: a row of the list, two arguments that are exchanged, and a call in which two
+-- arguments of another call are exchanged. These are definitions.
 use mathlib.Core.Path.{_≡_}
 use mathlib.Core.Bool.{true}
 use mathlib.Core.List.{List, [], _∷_}
@@ -44,7 +44,7 @@ pub record Exchanged (t names : List ℕ) (call def : ℕ) (words : List ℕ) (j
   pub firstName : first .name ≡ label (other .name)
   pub secondName : second .name ≡ label (param .name)
 
--- argument k is positional, its parameter stands before `/`, and has its name
+-- argument k is positional, its parameter is before `/`, and has its name
 pub record OwnName (t names : List ℕ) (call def k : ℕ) : Type 0 where
   pub argument : Labelled
   pub there : IsAt (labelledAt t names call) k argument
@@ -69,7 +69,7 @@ Alike [] (b ∷ bs) = ⊥
 Alike (a ∷ qs) [] = ⊥
 Alike (a ∷ qs) (b ∷ bs) = ((kindIn a ≡ kindIn b) × (calledBy a ≡ calledBy b)) × Alike qs bs
 
--- another call in which arguments j and l of a call stand exchanged, and all else is alike
+-- another call in which arguments j and l of a call are exchanged, and all else is alike
 pub record Swapped (t names : List ℕ) (call other def j l : ℕ) : Type 0 where
   pub isACall : nodeFits t other Call ≡ true
   pub alike : Alike (argumentsAt t names call) (argumentsAt t names other)

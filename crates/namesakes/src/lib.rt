@@ -1,5 +1,5 @@
-// Which arguments of a call have the name of one ordinary parameter and reach another: a call with two arguments
-// exchanged is found so. Over the binding of the crate `bind`.
+// Reports the arguments of a call that have the name of one ordinary parameter and reach another, such as two arguments
+// that are exchanged. Uses the binding of the crate `bind`.
 use bind::Bound;
 use deflist::Kind;
 use deflist::entry;
@@ -30,7 +30,7 @@ ghost use Rattle.namesakes.specs.Namesake.{labelOf, labelledIn, ordinary
 ghost use Rattle.namesakes.specs.Job.{entryOf, reportsAt, written, namesakesOf, listAfter, named};
 ghost use Rattle.namesakes.specs.Reading.{isNormal, isNamed, flatsOf, Ready};
 
-// The answer of the job: how many arguments are reported, or a refusal.
+// The answer of the job: the number of arguments reported, or a refusal.
 pub enum Named {
     Found(u32),
     Refused(Refusal),
@@ -39,9 +39,10 @@ pub enum Named {
 // Room for the words of every binding: a word for each flat parameter and for each argument.
 const MOST_WORDS: usize = 2 * MOST_NODES;
 
-// The call and the def at two nodes: 1 to 4, 6, 7, then the refusals of the binding; or how many arguments are
-// reported, with four words for each at the front of the list: the argument's node, the flat indices of the parameter
-// that it reaches and of the one that has its name, and the node of the argument that the latter takes, or 0.
+// Reports the namesakes of the call and the def at two nodes. Returns the number of arguments reported, with four words
+// for each at the front of the list: the argument's node, the flat index of the parameter that it reaches, the flat
+// index of the parameter that has its name, and the node of the argument that this parameter takes, or 0. Or a refusal:
+// 1 to 4, 6, 7, then those of the binding.
 pub fn namesakes(table: &[u8], names: &[u8], call: usize, def: usize, list: &mut [u32]) -> Named
     ensures { λ r. ⌜ named r ≡
         namesakesOf (now (table .entry)) (now (names .entry)) call def (length (now (list .entry))) ⌝ }
@@ -57,7 +58,7 @@ pub fn namesakes(table: &[u8], names: &[u8], call: usize, def: usize, list: &mut
     bound(table, names, call, def, words, list)
 }
 
-// The same of a call and a def that are let in, where words has room for those of the binding.
+// The same for a call and a def that have passed 1 to 4, 6 and 7; `words` has room for the words of the binding.
 fn bound(
     table: &[u8],
     names: &[u8],
@@ -99,7 +100,7 @@ fn enter(table: &[u8], names: &[u8], call: usize, def: usize, room: usize) -> Ch
     Checked::Sound
 }
 
-// How many arguments the call at a node has: what stands behind its callee.
+// The number of arguments of the call at a node: what follows its callee.
 fn argument_count(table: &[u8], call: usize) -> usize
     ensures { λ r. ⌜ ((names : List ℕ) → r ≡ length (argumentsAt (now (table .entry)) names call)) ⌝ }
     ensures { λ r. ⌜ recordBytes * r ≤ length (now (table .entry)) ⌝ }
@@ -109,7 +110,7 @@ fn argument_count(table: &[u8], call: usize) -> usize
     count(&kids[e..])
 }
 
-// How many arguments there are.
+// The number of arguments.
 fn count(args: &[u8]) -> usize
     ensures { λ r. ⌜ ((names : List ℕ) (i : ℕ) → r ≡ length (argumentsIn names (forest i (now (args .entry))))) ⌝ }
     ensures { λ r. ⌜ recordBytes * r ≤ length (now (args .entry)) ⌝ }
@@ -124,8 +125,8 @@ fn count(args: &[u8]) -> usize
     n
 }
 
-// Writes the reports of a call and a def that are bound, and returns how many there are. flat is the flat count, and
-// words are those of the binding.
+// Writes the reports of a call and a def that are bound, and returns their number. `flat` is the flat count, and
+// `words` are the words of the binding.
 fn report(
     table: &[u8],
     names: &[u8],
@@ -150,7 +151,7 @@ fn report(
     along(names, params, &kids[e..], first, flat as usize, words, list) as u32
 }
 
-// The reports of the arguments in turn, the first of which is the node first, and whose words stand from a place on.
+// The reports of the arguments in turn, the first of which is the node `first`; their words begin at `place`.
 fn along(
     names: &[u8],
     params: &[u8],
@@ -187,8 +188,8 @@ fn along(
     found
 }
 
-// Writes the report of an argument at a node, if there is one, at the front of a list. p is the flat index of the
-// parameter that the argument reaches, q that of the one that has its name. Returns how many are written.
+// Writes the report of an argument at a node, if there is one, to the front of a list. p is the flat index of the
+// parameter that the argument reaches, q that of the parameter with its name. Returns the number of reports: 0 or 1.
 fn put(q: Place, at: u32, p: u32, words: &[u32], list: &mut [u32]) -> usize
     requires { ⌜ 4 ≤ length (now list) ⌝ }
     ensures { λ r. ⌜ r ≡ length (reportOf (now (words .entry)) at p q) ⌝ }
@@ -200,7 +201,7 @@ fn put(q: Place, at: u32, p: u32, words: &[u32], list: &mut [u32]) -> usize
     }
 }
 
-// The same where there is a parameter of the argument's name: there is a report if it is another one.
+// The same where a parameter has the argument's name: there is a report if it is not the parameter that is reached.
 fn put_other(q: u32, at: u32, p: u32, words: &[u32], list: &mut [u32]) -> usize
     requires { ⌜ 4 ≤ length (now list) ⌝ }
     ensures { λ r. ⌜ r ≡ length (reportOf (now (words .entry)) at p (At q)) ⌝ }
@@ -226,7 +227,7 @@ fn word(words: &[u32], i: usize) -> u32
     words[i]
 }
 
-// The ordinary parameter that has the name of the argument that a stretch begins with.
+// The ordinary parameter that has the name of the first argument of a stretch.
 fn namesake(names: &[u8], params: &[u8], t: &[u8]) -> Place
     requires { ⌜ length (now params) ≤ mostBytes ⌝ }
     ensures { λ r. ⌜ ((i j : ℕ) → r ≡
@@ -268,7 +269,7 @@ fn find(names: &[u8], name: &[u8], params: &[u8]) -> Place
     Place::Nothing
 }
 
-// Whether the parameter that a stretch begins with is an ordinary one of this name.
+// Whether the first parameter of a stretch is an ordinary one of this name.
 fn is_called(names: &[u8], name: &[u8], t: &[u8], kind: Kind) -> bool
     ensures { λ r. ⌜ r ≡
         (isNormal kind && same (nameOf (now (names .entry)) (nodeOf 0 (now (t .entry)))) (now (name .entry))) ⌝ }
@@ -292,7 +293,7 @@ fn is_normal(kind: Kind) -> bool
     }
 }
 
-// How many flat parameters one of a kind is.
+// The number of flat parameters of one of a kind: 0 for a mark, else 1.
 fn flat_count(kind: Kind) -> u32
     ensures { λ r. ⌜ (r ≡ flatCount kind) × (r ≤ 1) ⌝ }
 {

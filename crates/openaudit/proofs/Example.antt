@@ -1,6 +1,7 @@
--- Why the list of the audit is tied only where types are not newly opened: in a sound table of four records the
--- opening takes 45 away and brings 40, because a type is looked at only in a dialect that has types. Everything is
--- computed from the bytes of the table. Cite `not-tied`. Assumes nothing.
+-- Why the theorem about the audit's list demands that types are not newly opened: a sound table of four records in
+-- which opening them removes 45 and adds 40, because a type is checked only in a dialect that has types. Everything is
+-- computed from the bytes of the table (`refl`). Cite `not-tied`: no choice of numbers to remove relates the two lists.
+-- Assumes nothing.
 use mathlib.Core.Path.{_≡_, refl}
 use mathlib.Core.Bool.{Bool, true}
 use mathlib.Core.List.{[]}
@@ -55,7 +56,7 @@ unfolding allErrors auditErrors passErrors editionOf rulesOf givenOf fromBytes v
     formOf atNode «unpack»
 list-after = rw sound refl
 
--- EXAMPLE: the second dialect permits all that the first does, and yet its list is not the first with errors taken out
+-- EXAMPLE: the second dialect permits all that the first does, and yet its list is not the first without some errors
 pub opens : permitsAll (recordOf closed) (recordOf typesOpen) ≡ true
 unfolding permitsAll recordOf
 opens = refl

@@ -1,8 +1,8 @@
--- Every refusal of a call, a target, an assignment or a type has a number below 50, so an opening takes none of them
--- out. Each rule refuses by a number that it names, so the test computes (`refl`); a rule that asks one thing and then
--- another is small where both are (`then-small`), one that chooses where both arms are (`if-small`). The induction is
--- on the written arguments, or on the trees, with the rules that refer to each other shown together. Cite `call-small`,
--- `target-small`, `assignment-small` and `type-small`. Assumes nothing.
+-- Every refusal of a call, a target, an assignment or a type has a number below 50, so opening a dialect removes none
+-- of them. Each rule names the number of its refusal, so the test computes (`refl`); two rules in order are small if
+-- both are (`then-small`), and a choice is small if both arms are (`if-small`). The induction is on the written
+-- arguments, or on the tree, together for rules that refer to each other. Cite `call-small`, `target-small`,
+-- `assignment-small` and `type-small`. Assumes nothing.
 use mathlib.Core.Path.{_≡_, refl}
 use mathlib.Core.Bool.{Bool, true, false, _&&_}
 use mathlib.Core.List.{List, [], _∷_, _++_}
@@ -42,7 +42,7 @@ use Rattle.types.specs.declared.How.{How}
 use Rattle.types.specs.declared.How.the-variants.{Unread, AsType, AsArgument}
 use Rattle.types.specs.declared.Reads.{Reads}
 
--- an answer, a check of an argument: accepted, or refused by a number below 50
+-- an answer, or a check of an argument, is small: it is accepted, or refused with a number below 50
 abbrev pub small : Answer → Bool
 small (accepted vs) = true
 small (refused n vs) = ltb n 50
@@ -52,7 +52,7 @@ smallCheck Fine = true
 smallCheck (Broken n) = ltb n 50
 smallCheck (Repeated i) = true
 
--- one thing and then another, and a choice
+-- two steps in order, and a choice
 then-small : (x : Answer) (next : Unit {0} → Answer) → small x ≡ true → small (next tt) ≡ true
     → small (andThen x next) ≡ true
 then-small (accepted vs) next p q = q

@@ -1,8 +1,8 @@
--- What an opening does to the two parts of the audit's list. The first part is the module pass's without 10 to 19:
--- taking out the opened numbers and leaving out those of lists can be done in either order (`own-swaps`). The second
--- part is what the other jobs refuse: all its numbers lie below 50, so nothing is taken out (`refusals-stay`), and it
--- reads of the dialect only whether it has types (`refusals-same`). The induction is on the list of errors, or of
--- trees. Assumes nothing.
+-- What opening a dialect does to the two parts of the audit's list. The first part is the list of the module pass
+-- without 10 to 19: removing the opened numbers and leaving out those of parameter lists can be done in either order
+-- (`own-swaps`). The second part is the refusals of the other jobs: all their numbers are below 50, so none is removed
+-- (`refusals-stay`), and they depend on the dialect only by whether it has types (`refusals-same`). The inductions are
+-- on the list of errors, or of trees. Cite these three. Assumes nothing.
 use mathlib.Core.Path.{_≡_, refl, ap, _∙_}
 use mathlib.Core.Bool.{Bool, true, false}
 use mathlib.Core.List.{List, [], _∷_, _++_}
@@ -47,7 +47,7 @@ own-swaps out (e ∷ es) = go (out (e .number)) (isListError (e .number)) refl r
     go false false p q rest = rw (p, q) (ap (λ (xs : List Err). e ∷ xs) rest)
 
 module _ (d e : Dialect) where
-  -- nothing of a list is taken out
+  -- no error of a list is removed
   abbrev Stay : List Err → Type 0
   Stay es = without (opened d e) es ≡ es
 
@@ -67,7 +67,7 @@ module _ (d e : Dialect) where
   stay-answer (refused n vs) h =
       without-one (opened d e) (refusedErr n vs) (small-stays d e n (ltb-true n 50 h))
 
-  -- at one tree, by its kind and by its role; and at trees in turn
+  -- at one tree, by its kind and by its role; then at a list of trees
   stay-kind : (names : List ℕ) (t : Tree) → Stay (kindErrors names t)
   unfolding kindErrors
   stay-kind names t =
@@ -83,7 +83,7 @@ module _ (d e : Dialect) where
       (type-small edition names _ t)
   stay-role x edition names Plain t = stay-none
 
-  -- LAW: nothing of what the jobs refuse is taken out
+  -- LAW: no refusal of the jobs is removed
   pub refusals-stay : (x : Dialect) (edition : Edition) (names : List ℕ) (ps : List Placed)
       → Stay (refusals x edition names ps)
   unfolding refusals refusedThere
@@ -95,7 +95,7 @@ module _ (d e : Dialect) where
       (stay-kind names (p .tree))
       (stay-role x edition names (p .role) (p .tree))) (refusals-stay x edition names ps)
 
-  -- LAW: and it is the same in both dialects, where both have types or neither has
+  -- LAW: the refusals are the same in both dialects, if both have types or neither has
   module _ (agree : permitsTypes (d .«enable_types») ≡ permitsTypes (e .«enable_types»))
       (edition : Edition) (names : List ℕ) where
     same-role : (role : Role) (t : Tree) → roleErrors e edition names role t ≡ roleErrors d edition names role t

@@ -1,9 +1,9 @@
--- W-209 over the audit, by each edition, for any bytes that give two dialects of which the second permits all that the
--- first does.
--- `errors 0` stays `errors 0`: by audited, 0 means that the module pass has no error and every job accepts every node;
--- the first is `zero-stays` of opening, and of the jobs only that of types reads the dialect, which accepts no less
--- where types are open (`type-stays`). The whole list is the first without the opened numbers, where types are not
--- newly opened (`audit-opened`): where they are, 45 gives way to 40 to 44 (Example). Assumes nothing.
+-- W-209 about the audit, in each edition, for any bytes that mean two dialects of which the second permits all that the
+-- first does. `errors 0` stays `errors 0` (`audit-zero-stays`): by the crate audited, 0 means that the module pass has
+-- no error and every job accepts every node; the first stays by opening's `zero-stays`, and of the jobs only the type
+-- job reads the dialect, which accepts no less if types are open (`type-stays`). If types are not newly opened, the
+-- whole list is the first without the opened numbers (`audit-opened`); if they are, 45 gives way to 40 to 44 (Example).
+-- The inductions are in Stays, Numbers and opening. Assumes nothing.
 use mathlib.Core.Path.{_≡_, refl, sym, _∙_}
 use mathlib.Core.Bool.{Bool, true, false}
 use mathlib.Core.List.{List, [], _∷_}
@@ -47,7 +47,7 @@ use Rattle.audited.proofs.Everywhere.{all-map}
 use Rattle.audited.proofs.Audited.{audit-known, zero-passes, passes-zero}
 use Rattle.openaudit.proofs.Stays.{own-swaps, refusals-stay, refusals-same}
 
--- what is accepted after a check stays so, where what follows does
+-- two steps: if the second stays accepted, so does the whole
 then-stays : (x : Answer) (f g : Unit {0} → Answer) → (isAccepted (f tt) ≡ true → isAccepted (g tt) ≡ true)
     → isAccepted (andThen x f) ≡ true → isAccepted (andThen x g) ≡ true
 then-stays (accepted vs) f g on h = on h
@@ -89,7 +89,7 @@ module _ (t names first second : List ℕ) (n : ℕ) {d e : Dialect} (one : from
           (tree-stays edition names (d .«enable_types») (e .«enable_types») (treeOf i (stretchOf t i))
           (permits all .types))) h
 
-  -- every job that accepts a node still does
+  -- every job that accepts a node in the first dialect accepts it in the second
   accepts-stay : (p : Placed) → Accepts t names first n (rootIn (p .tree) .at) (p .role)
       → Accepts t names second n (rootIn (p .tree) .at) (p .role)
   accepts-stay p a = record {
@@ -100,7 +100,7 @@ module _ (t names first second : List ℕ) (n : ℕ) {d e : Dialect} (one : from
     type = λ role room fits. type-stays (rootIn (p .tree) .at) room (a .type role room fits);
   }
 
-  -- THEOREM: `errors 0` stays `errors 0`, also where types or top-level statements open
+  -- THEOREM: `errors 0` stays `errors 0`, even if types or top-level statements open
   pub audit-zero-stays : auditOf t names first n ≡ accepted (0 ∷ []) → auditOf t names second n ≡ accepted (0 ∷ [])
   audit-zero-stays h =
       let passed = zero-passes t names first n h in
@@ -129,7 +129,7 @@ module _ (t names first second : List ℕ) (n : ℕ) {d e : Dialect} (one : from
     abbrev pub left : List Err
     left = without (opened d e) (allErrors t names first n)
 
-    -- THEOREM: where types are not newly opened, the list of the audit is the first without the opened numbers
+    -- THEOREM: if types are not newly opened, the list of the audit is the first without the opened numbers
     pub audit-opened : allErrors t names second n ≡ left
     unfolding allErrors rulesOf givenOf without
     audit-opened = rw (one, two) (go (checkOf t names) (editionOf n))
@@ -140,7 +140,7 @@ module _ (t names first second : List ℕ) (n : ℕ) {d e : Dialect} (one : from
         go (accepted vs) Unknown = refl
         go (accepted vs) (Known edition) = parts-opened edition
 
-    -- THEOREM: and the answer is their number, or the same refusal
+    -- THEOREM: the answer is the number of these errors, or the same refusal
     pub audit-total-opened : auditOf t names second n
         ≡ inRules (rulesOf t names first (editionOf n)) (λ _ _. accepted (length left ∷ []))
     unfolding rulesOf givenOf

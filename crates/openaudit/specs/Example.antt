@@ -1,5 +1,5 @@
--- The smallest module that shows why the list of the audit is tied only where types are not newly opened: `x: 1 = 0`,
--- four records. These are definitions.
+-- The smallest module that shows why the theorem about the audit's list demands that types are not newly opened: `x: 1
+-- = 0`, four records. These are definitions.
 use mathlib.Core.List.{List, [], _∷_, _++_}
 use Prim.Native.Nat.{ℕ}
 use Rattle.soundness.specs.KindNumbers.{kindAssign, kindIdentifier, kindInt}
@@ -21,7 +21,7 @@ badNames = 120 ∷ []
 abbrev pub typesOpen : List ℕ
 typesOpen = 1 ∷ 1 ∷ 1 ∷ 0 ∷ 0 ∷ 2 ∷ 1 ∷ 0 ∷ 0 ∷ []
 
--- before: a type in a dialect without types, 45; after: the type is looked at, and 1 is none, 40
+-- before: a type in a dialect without types, 45; after: the type is checked, and 1 is not a type, 40
 abbrev pub before : List Err
 before = err typesDisabled 2 (span 3 4) ∷ []
 

@@ -1,1 +1,1 @@
-// No code: W-209 over the audit, as theorems over crate `opening`. proofs/Theorems.antt has what is proved.
+// No code: W-209 about the audit, as theorems over the crate `opening`. proofs/Theorems.antt has the theorems.

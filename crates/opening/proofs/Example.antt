@@ -1,6 +1,7 @@
--- Why the second clause asks that both dialects agree on top-level statements: in a sound table of three records the
--- opening takes 54 away and brings 55, because the pass looks below an `if` only where it is permitted. Everything is
--- computed from the bytes of the table. Cite `not-tied`. Assumes nothing.
+-- Why the second clause demands that both dialects agree on top-level statements: a sound table of three records in
+-- which opening them removes 54 and adds 55, because the pass visits the body of an `if` only if the `if` is permitted.
+-- Everything is computed from the bytes of the table (`refl`). Cite `not-tied`: no choice of numbers to remove relates
+-- the two lists. Assumes nothing.
 use mathlib.Core.Path.{_≡_, refl}
 use mathlib.Core.Bool.{Bool, true}
 use mathlib.Core.List.{[]}
@@ -43,7 +44,7 @@ unfolding errorsOf givenOf fromBytes validBytes within recordOf forestIn forest 
     armOf f exprErrors expr
 list-after = rw sound refl
 
--- EXAMPLE: the second dialect permits all that the first does, and yet its list is not the first with errors taken out
+-- EXAMPLE: the second dialect permits all that the first does, and yet its list is not the first without some errors
 pub opens : permitsAll (recordOf closed) (recordOf topLevelOpen) ≡ true
 unfolding permitsAll recordOf
 opens = refl

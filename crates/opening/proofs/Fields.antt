@@ -1,7 +1,7 @@
--- What the order says of each switch that the module pass reads: the order is one of rows, place by place, so the
--- switch at a place is at least as open (`bit-least`). Of the types the pass reads only whether there are any, and
--- those grow with their number (`types-least`). The result is a record with a field for each switch. Cite `permits`.
--- Assumes nothing.
+-- What the order of dialects says about each switch that the module pass reads. The order compares two rows of numbers
+-- place by place (Order's `permits-at`), so each switch that is on in the first dialect is on in the second
+-- (`bit-least`). For types the pass reads only whether there are any, which the number of the setting decides
+-- (`types-least`). The result is a record with a field for each switch. Cite `permits`. Assumes nothing.
 use mathlib.Core.Path.{_≡_, refl}
 use mathlib.Core.Bool.{Bool, true, false}
 use Prim.Native.Nat.{ℕ, _≤_}
@@ -39,7 +39,7 @@ types-least Enable Disable h = absurd (omega (arith, h))
 types-least Enable ParseOnly h = refl
 types-least Enable Enable h = refl
 
--- LAW: the order gives each switch
+-- LAW: the order gives the comparison of each switch
 pub permits : {d e : Dialect} → permitsAll d e ≡ true → Permits d e
 unfolding rowOf
 permits {d} {e} h =

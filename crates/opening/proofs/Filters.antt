@@ -1,8 +1,8 @@
--- What taking errors out does to the lists that the module pass is made of: to two lists joined, to a list of one
--- number, to the one error of a list. A list of one number goes whole or stays whole (`without-one`, `without-every`).
--- The error of a list always stays: validate's `list-left` says that its number is one of parameter lists, and those
--- lie below 50 (`list-stays`), while the opened ones are 50 and more. Induction on the list of errors, or of
--- parameters. Assumes nothing.
+-- Removing the errors of some numbers from the lists that the module pass builds (`without`): from two joined lists,
+-- from a list of one number, and from the one error of a parameter list. A list of one number is removed whole or stays
+-- whole (`without-one`, `without-every`). The error of a parameter list always stays: validate's `list-left` says that
+-- its number is one of parameter lists, which are below 50 (`list-stays`), and the opened numbers are 50 and more. The
+-- inductions are on the list of errors, or of parameters. Assumes nothing.
 use mathlib.Core.Path.{_≡_, refl, ap, _∙_}
 use mathlib.Core.Bool.{Bool, true, false, not}
 use mathlib.Core.List.{List, [], _∷_, _++_}
@@ -28,7 +28,7 @@ use Rattle.validate.specs.declared.Mark.{Mark}
 use Rattle.validate.proofs.Refusals.{list-left}
 use Rattle.opening.specs.Opening.{opened, without}
 
--- errors, and none where something holds
+-- the errors es, or none if b holds
 abbrev pub noneIf : Bool → List Err → List Err
 noneIf b es = if' b (λ _. []) (λ _. es)
 
@@ -41,7 +41,7 @@ none-both true es fs = refl
 none-both false es fs = refl
 
 module _ (out : ℕ → Bool) where
-  -- LAW: of two lists joined, those of each; and no more than there are
+  -- LAW: from two joined lists, remove from each; the result is no longer than the list
   pub without-append : (es fs : List Err) → without out (es ++ fs) ≡ without out es ++ without out fs
   unfolding without
   without-append [] fs = refl
@@ -63,7 +63,7 @@ module _ (out : ℕ → Bool) where
       go true h = omega (arith, h)
       go false h = omega (arith, h)
 
-  -- LAW: errors of one number all go or all stay
+  -- LAW: errors of one number are all removed or all stay
   pub without-one : {gone : Bool} (e : Err) → out (e .number) ≡ gone → without out (e ∷ []) ≡ noneIf gone (e ∷ [])
   unfolding without
   without-one e h = rw h refl
@@ -84,7 +84,7 @@ module _ (out : ℕ → Bool) where
       ∙ rw (without-unless (not (isMark m (kindIn p))) (notPermitted m) (nodeIn p) gone h, without-every m ps h)
       (none-both gone here (everyMark m ps))
 
--- LAW: an error of one number is not what is left of one of another
+-- LAW: removing from an error of one number does not leave an error of another number
 pub not-left : (out : ℕ → Bool) (x y : Err) → (y .number ≡ x .number → ⊥) → y ∷ [] ≡ without out (x ∷ []) → ⊥
 unfolding without
 not-left out x y other h = go (out (x .number)) h
@@ -97,7 +97,7 @@ not-left out x y other h = go (out (x .number)) h
     go true h = other (ap numberIn h)
     go false h = other (ap numberIn h)
 
--- LAW: a number below 50 is opened by nothing
+-- LAW: no switch opens a number below 50
 pub small-stays : (d e : Dialect) (n : ℕ) → n < 50 → opened d e n ≡ false
 unfolding opened
 small-stays d e n h = rw (
@@ -109,11 +109,11 @@ small-stays d e n h = rw (
   ne-eqb n 61 (omega arith),
 ) refl
 
--- LAW: an error of a parameter list is opened by nothing
+-- LAW: no switch opens an error of a parameter list
 pub list-stays : (d e : Dialect) (n : ℕ) → isListError n ≡ true → opened d e n ≡ false
 list-stays d e n h = small-stays d e n (omega (arith, leb-true n _ (and-right (leb _ n) (leb n _) h)))
 
--- LAW: so the error of a list stays
+-- LAW: so the error of a parameter list stays
 pub list-error-stays : (d e : Dialect) (owner : Node) (ps : List Param)
     → without (opened d e) (unpackError (told (limited owner ps))) ≡ unpackError (told (limited owner ps))
 unfolding without withoutLists

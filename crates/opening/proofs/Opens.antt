@@ -1,8 +1,9 @@
--- Two lists of errors, of one part of a module in two dialects, as an opening ties them: no errors stay no errors, and
--- where both dialects agree on top-level statements the second list is the first with the opened numbers taken out.
--- Both clauses are one record (`Opens`), so that one induction over the module shows both. The laws say how it is kept:
--- by joined lists, by the arms of a choice, by errors that no switch opens and by errors of one switch (`opens-switch`,
--- and `opens-unless` for a single one). Nothing here is an induction: that is Walk. Assumes nothing.
+-- How two error lists of the same part of a module, in two dialects, are related if the second dialect permits more
+-- (`Opens`). Two clauses: if the first list is empty, so is the second; and if both dialects agree on top-level
+-- statements, the second list is the first without the opened numbers. Both are in one record, so that one induction
+-- over the module (Walk) shows both. The laws say what keeps `Opens`: joined lists, the arms of a choice, errors that
+-- no switch opens, and errors of one switch (`opens-switch`, and `opens-unless` for a single error). There is no
+-- induction here. Assumes nothing.
 use mathlib.Core.Path.{_≡_, refl, sym}
 use mathlib.Core.Bool.{Bool, true, false}
 use mathlib.Core.List.{List, [], _∷_, _++_}
@@ -29,7 +30,7 @@ right-none [] fs h = h
 right-none (e ∷ es) fs h = never (cc)
 
 module _ {d e : Dialect} where
-  -- LAW: nothing is told, each of two parts is tied, or each arm of a choice
+  -- LAW: empty lists, joined lists, and the arms of a choice are related if their parts are
   pub opens-none : Opens d e [] []
   unfolding without
   opens-none = record { clean = λ h. h; exact = λ h. refl }
@@ -45,14 +46,14 @@ module _ {d e : Dialect} where
   opens-if true x y v w p q = p
   opens-if false x y v w p q = q
 
-  -- LAW: errors that no switch opens
+  -- LAW: errors that no switch opens are in both lists
   pub opens-same : {es : List Err} → without (opened d e) es ≡ es → Opens d e es es
   opens-same stay = record { clean = λ h. h; exact = λ h. sym stay }
 
   pub opens-one : (x : Err) → opened d e (x .number) ≡ false → Opens d e (x ∷ []) (x ∷ [])
   opens-one x stays = opens-same (without-one (opened d e) x stays)
 
-  -- LAW: errors of one switch, which are told where it is off
+  -- LAW: errors of one switch, which are reported if it is off
   pub opens-switch : (b c : Bool) (es : List Err) → atLeast b c ≡ true
       → without (opened d e) es ≡ noneIf (newly b c) es
       → Opens d e (noneIf b es) (noneIf c es)

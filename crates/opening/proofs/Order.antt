@@ -1,8 +1,9 @@
--- The order of dialects is the order of their nine numbers, place by place: each of the nine tests is one comparison
--- of numbers (`bit-order`, `rank-order`), so `permitsAll` is dialect's `within` on the two rows (`permits-row`). Rows
--- are lists, and of lists the three laws of an order go by induction: reflexive, transitive, antisymmetric. A dialect
--- is its row (`record-back`), and valid bytes are the row of their dialect (`row-of-record`), so the same is said of
--- dialects, and of the bytes that people type (`bytes-in-order`, `in-order-bytes`). Assumes nothing.
+-- `permitsAll` is a partial order of dialects. Each of its nine tests compares two numbers (`bit-order`, `rank-order`),
+-- so `permitsAll` is dialect's `within` on the two rows of nine numbers (`permits-row`). For rows, which are lists, the
+-- three laws of an order are by induction: reflexive, transitive, antisymmetric (`within-self`, `within-on`,
+-- `within-same`). A dialect is determined by its row (`record-back`), and valid bytes are the row of their dialect, so
+-- the same holds for dialects (`order-self`, `order-on`, `order-one`) and for the bytes that people type
+-- (`bytes-in-order`, `in-order-bytes`). Assumes nothing.
 use mathlib.Core.Path.{_≡_, refl, sym, ap, _∙_}
 use mathlib.Core.Bool.{Bool, true, false, _&&_}
 use mathlib.Core.List.{List, [], _∷_, map}
@@ -22,7 +23,7 @@ use Rattle.dialect.proofs.Within.{within-at}
 use Rattle.dialect.proofs.Laws.{bitOf, typesNumber, rowOf, valid-length, row-of-record, same-dialect}
 use Rattle.opening.specs.Opening.{atLeast, rank, permitsAll}
 
--- one test is one comparison
+-- each test is a comparison of two numbers
 bit-order : (b c : Bool) → atLeast b c ≡ leb (bitOf b) (bitOf c)
 bit-order true true = refl
 bit-order true false = refl
@@ -37,7 +38,7 @@ rank-order x y = rw (rank-is x, rank-is y) refl
     rank-is ParseOnly = refl
     rank-is Enable = refl
 
--- tests joined
+-- two conjunctions with equal parts
 and-same : {a b a' b' : Bool} → a ≡ a' → b ≡ b' → (a && b) ≡ (a' && b')
 and-same p q = rw (p, q) refl
 
@@ -62,7 +63,7 @@ permits-row d e =
     (and-same (bit-order (d .«enable_top_level_stmt») (e .«enable_top_level_stmt»))
     (and-end (bit-order (d .«enable_f_strings») (e .«enable_f_strings»))))))))))
 
--- the three laws, of rows
+-- the three laws, for rows
 within-self : (xs : List ℕ) → within xs xs ≡ true
 unfolding within
 within-self [] = refl
@@ -100,7 +101,7 @@ within-all (x ∷ xs) (y ∷ ys) long below =
     and-both (leb x y) (within ys xs) (le-leb x y (below 0))
     (within-all xs ys (omega (arith, long)) (λ i. below (suc i)))
 
--- a dialect is the record of its row
+-- a dialect is determined by its row
 bit-back : (b : Bool) → eqb (bitOf b) 1 ≡ b
 bit-back true = refl
 bit-back false = refl
@@ -124,7 +125,7 @@ record-back d = λ i. record {
   «enable_f_strings» = bit-back (d .«enable_f_strings») i;
 }
 
--- THEOREM: every dialect permits all that it does; what opens twice opens; and two that open each other are one
+-- THEOREM: the order is reflexive, transitive and antisymmetric
 pub order-self : (d : Dialect) → permitsAll d d ≡ true
 order-self d = permits-row d d ∙ within-self (rowOf d)
 
@@ -139,11 +140,11 @@ order-one d e p q =
     = within-same (rowOf d) (rowOf e) (sym (permits-row d e) ∙ p) (sym (permits-row e d) ∙ q) in
     sym (record-back d) ∙ ap recordOf rows ∙ record-back e
 
--- LAW: at each place of the rows
+-- LAW: the comparison at each place of the rows
 pub permits-at : (d e : Dialect) → permitsAll d e ≡ true → (i : ℕ) → getD (rowOf d) i 0 ≤ getD (rowOf e) i 0
 permits-at d e h = within-at (rowOf e) (rowOf d) (sym (permits-row d e) ∙ h)
 
--- LAW: the same of nine valid bytes each, whose row is themselves; so two that open each other are the same bytes
+-- LAW: the same for nine valid bytes each, which are their own row; two that permit each other are the same bytes
 module _ (first second : List ℕ) (p : validBytes first ≡ true) (q : validBytes second ≡ true) where
   rows : permitsAll (recordOf first) (recordOf second) ≡ within second first
   rows = permits-row (recordOf first) (recordOf second) ∙ rw (row-of-record first p, row-of-record second q) refl
@@ -160,8 +161,8 @@ module _ (first second : List ℕ) (p : validBytes first ≡ true) (q : validByt
       → permitsAll (recordOf second) (recordOf first) ≡ true → first ≡ second
   bytes-one h k = same-dialect first second p q (order-one (recordOf first) (recordOf second) h k)
 
--- THEOREM: Standard below Extended below AllOptionsInternal, in this direction alone: for each of the three, which of
--- the three permit all that it does
+-- THEOREM: Standard is below Extended, and Extended below AllOptionsInternal, and not the other way round: a row for
+-- each of the three says which of the three permit all that it does
 abbrev pub named : List Dialect
 named = dialectNamed Standard ∷ dialectNamed Extended ∷ dialectNamed AllOptionsInternal ∷ []
 

@@ -1,8 +1,9 @@
--- W-209 over the module job, for any bytes that give two dialects (nine, or none, by which Extended is meant). The job
--- in the two dialects is let in or turned away alike, since 1 to 4 do not look at the dialect and neither is 5
--- (`alike`). Where both are let in, the errors are the lists of the two clauses; where both are turned away, there are
--- none, and `without` takes none out (`errors-opened`). The rest follows: a total of 0, every total, and with room for
--- the first list the words at exit. Last, the order in the bytes that people type. Assumes nothing.
+-- W-209 about the module job, for any bytes that mean two dialects (nine bytes each, or none for Extended). The job in
+-- the two dialects passes or fails 1 to 4 alike, because these do not depend on the dialect, and neither is 5. If both
+-- pass, the errors are the lists of the two clauses; if both fail, there are none, and removing from none leaves none
+-- (`errors-opened`). The rest follows: a number of 0 (`zero-stays`), every number (`total-opened`), and with room for
+-- the first list the words at exit (`words-opened`). The last laws state the order in the bytes that people type.
+-- Assumes nothing.
 use mathlib.Core.Path.{_≡_, refl, sym, _∙_}
 use mathlib.Core.Bool.{true}
 use mathlib.Core.List.{List, [], _∷_, _++_}
@@ -36,7 +37,7 @@ no-entries (x ∷ xs) e = absurd (omega (arith, e))
 
 module _ (t names first second : List ℕ) {d e : Dialect} (one : fromBytes first ≡ Valid d)
     (two : fromBytes second ≡ Valid e) (all : permitsAll d e ≡ true) where
-  -- THEOREM: no errors stay no errors, also where top-level statements open
+  -- THEOREM: a module without errors stays without errors, even if top-level statements open
   pub zero-stays : moduleOf t names first ≡ accepted (0 ∷ []) → moduleOf t names second ≡ accepted (0 ∷ [])
   unfolding errorsOf givenOf
   zero-stays h = rw two (go (checkOf t names) (rw one at h))
@@ -55,7 +56,7 @@ module _ (t names first second : List ℕ) {d e : Dialect} (one : fromBytes firs
     abbrev pub left : List Err
     left = without (opened d e) (errorsOf t names first)
 
-    -- THEOREM: the errors are those that are left
+    -- THEOREM: the errors in the second dialect are those that are left
     pub errors-opened : errorsOf t names second ≡ left
     unfolding errorsOf givenOf without
     errors-opened = rw (one, two) (go (checkOf t names))
@@ -65,7 +66,7 @@ module _ (t names first second : List ℕ) {d e : Dialect} (one : fromBytes firs
         go (refused n vs) = refl
         go (accepted vs) = second-clause d e all agree names (forest 0 t)
 
-    -- THEOREM: the answer is their number, or the same refusal
+    -- THEOREM: the answer is the number of these errors, or the same refusal
     pub total-opened : moduleOf t names second
         ≡ inGiven (givenOf t names first) (λ _. accepted (length left ∷ []))
     unfolding givenOf
@@ -76,18 +77,19 @@ module _ (t names first second : List ℕ) {d e : Dialect} (one : fromBytes firs
         go (refused n vs) = refl
         go (accepted vs) = refl
 
-    -- THEOREM: with room for the first list, the words at exit are theirs, and the other words stay
+    -- THEOREM: with room for the first list, the words at exit are those of these errors, and the other words are
+    -- unchanged
     pub words-opened : (ws : List ℕ) → width Module * length (errorsOf t names first) ≤ length ws
         → errorsAfter t names second ws ≡ allWords Module left ++ drop (width Module * length left) ws
     words-opened ws room =
         rw errors-opened
         (stored-all Module left ws (omega (arith, room, without-few (opened d e) (errorsOf t names first))))
 
--- valid bytes give one dialect
+-- valid bytes mean one dialect
 valid-one : (bytes : List ℕ) {d : Dialect} → validBytes bytes ≡ true → fromBytes bytes ≡ Valid d → recordOf bytes ≡ d
 valid-one bytes p is = let both = sym (valid-given bytes p) ∙ is in cc
 
--- THEOREM: of nine valid bytes each, the second dialect permits all that the first does exactly where every byte of the
+-- THEOREM: for nine valid bytes each, the second dialect permits all that the first does exactly if every byte of the
 -- first is at most that of the second
 module _ (first second : List ℕ) {d e : Dialect} (p : validBytes first ≡ true) (q : validBytes second ≡ true)
     (one : fromBytes first ≡ Valid d) (two : fromBytes second ≡ Valid e) where

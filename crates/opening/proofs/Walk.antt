@@ -1,8 +1,9 @@
--- The induction over a module: in an opened dialect every part of the module pass is tied to the same part in the first
--- (`Opens`). Each error of the pass belongs to one switch (50, 51, 52, 59, 60, 61), to none (53 to 58), or is unpack's:
--- that is `opens-with` for a parameter list, `opens-arm` for a statement and `opens-expr` for an expression. Statements
--- below are visited in the same place in both dialects, but for a top-level for or if that was banned (`opens-told`).
--- The induction is on the trees, both walks at once (`opens-tree`). Cite `opens-module`. Assumes nothing.
+-- The induction over a module: the errors of every part of the module pass in an opened dialect are related to those in
+-- the first dialect by `Opens`. Each error of the pass belongs to one switch (50, 51, 52, 59, 60, 61), or to none (53
+-- to 58), or comes from a parameter list. The three cases are `opens-with` for a parameter list, `opens-arm` for a
+-- statement and `opens-expr` for an expression. Both dialects visit the statements below in the same place, except a
+-- top-level `for` or `if` that the first bans (`opens-told`); there the first list has an error. The induction is on
+-- the tree, for statements and expressions at once (`opens-tree`). Cite `opens-module`. Assumes nothing.
 use mathlib.Core.Path.{_≡_, refl}
 use mathlib.Core.Bool.{Bool, true, false, _&&_, not}
 use mathlib.Core.List.{List, _++_}
@@ -36,7 +37,7 @@ use Rattle.opening.proofs.Opens.{opens-switch, opens-unless}
 use Rattle.opening.proofs.Fields.{Permits}
 
 module _ {d e : Dialect} (all : Permits d e) (names : List ℕ) where
-  -- a parameter list: the marks of each sort, and its one error
+  -- a parameter list: its `*` and `/` markers, and its one error
   mark-switch : (m : Mark) → atLeast (permits d m) (permits e m) ≡ true
   mark-switch Star = all .keywordOnly
   mark-switch Slash = all .positionalOnly
@@ -59,7 +60,7 @@ module _ {d e : Dialect} (all : Permits d e) (names : List ℕ) where
       opens-both (opens-unless b c n r least is)
       (opens-both (opens-both (opens-marks Star ps) (opens-marks Slash ps)) (opens-same (list-error-stays d e r ps)))
 
-  -- a def, a load, an expression: what each is told by itself
+  -- the own errors of a def, a load and an expression
   opens-def : (r : Node) (ks : Forest) → Opens d e (withParams d names (d .«enable_def») defNotPermitted r ks)
       (withParams e names (e .«enable_def») defNotPermitted r ks)
   unfolding opened
@@ -90,13 +91,13 @@ module _ {d e : Dialect} (all : Permits d e) (names : List ℕ) where
       (opens-if (eqb (r .kind) kindLambda) _ _ _ _
       (opens-with (d .«enable_lambda») (e .«enable_lambda») lambdaNotPermitted r ks (all .lambda) refl) opens-none)
 
-  -- a statement, where those below it are tied in every place
+  -- a statement, if the statements below it are related wherever they are visited
   module _ (s : Standing) (r : Node) (ks : Forest) (visit wider : Standing → List Err)
       (below : (p : Standing) → Opens d e (visit p) (wider p)) where
     abbrev Tied : Arm → Arm → Type 0
     Tied a b = Opens d e (onArm d names s r ks visit a) (onArm e names s r ks wider b)
 
-    -- a for or if: told, visited, or told in the first dialect only, which had then an error
+    -- a for or if: refused in both dialects, visited in both, or refused in the first only, which then has an error
     opens-told : (n : ℕ) (p : Standing) → opened d e n ≡ false
         → Tied (toldIf (isBanned d s) n p) (toldIf (isBanned e s) n p)
     opens-told n p stays = go (s .«top_level») (d .«enable_top_level_stmt») (e .«enable_top_level_stmt»)
@@ -158,6 +159,6 @@ module _ {d e : Dialect} (all : Permits d e) (names : List ℕ) where
         let rest = opens-forest ts in
         (λ s. opens-both (here .0 s) (rest .0 s), opens-both (here .1) (rest .1))
 
-  -- LAW: the lists of a module are tied
+  -- LAW: the lists of a module are related
   pub opens-module : (ts : Forest) → Opens d e («validate_module» d names ts) («validate_module» e names ts)
   opens-module ts = let each = opens-forest ts in opens-both (each .0 atTop) (each .1)

@@ -1,5 +1,5 @@
--- The smallest module that shows why the second clause asks that both dialects agree on top-level statements: an `if`
--- with a `break`, three records, since no `for` or `if` has fewer. These are definitions.
+-- The smallest module that shows why the second clause demands that both dialects agree on top-level statements: an
+-- `if` with a `break`. It has three records; no `for` or `if` has fewer. These are definitions.
 use mathlib.Core.List.{List, [], _∷_, _++_}
 use Prim.Native.Nat.{ℕ}
 use Rattle.dialect.specs.declared.Name.the-variants.{Standard}
@@ -10,8 +10,8 @@ use Rattle.table.specs.Numbers.{topLevelIf, breakMisplaced}
 use Rattle.errors.specs.declared.Err.{Err}
 use Rattle.errors.specs.Errors.{err}
 
--- a record of 24 bytes in source file 1: its kind and detail, the length of its name, which is the first of the names,
--- where it begins and ends, how many nodes it covers; and one that has no detail and no name
+-- a record of 24 bytes in source file 1: its kind and detail, the length of its name, which is at the start of the
+-- names, its begin and end, and the number of its nodes; then a record without detail and name
 abbrev pub fullRecord : ℕ → ℕ → ℕ → ℕ → ℕ → ℕ → List ℕ
 fullRecord kind detail name begin stop size =
     (kind ∷ detail ∷ name ∷ 0 ∷ 0 ∷ 0 ∷ 0 ∷ 0 ∷ [])
@@ -31,7 +31,7 @@ closed = rowNamed Standard
 abbrev pub topLevelOpen : List ℕ
 topLevelOpen = 1 ∷ 1 ∷ 1 ∷ 0 ∷ 0 ∷ 0 ∷ 1 ∷ 1 ∷ 0 ∷ []
 
--- before: a top-level if, 54, and nothing below it is looked at; after: a break outside of a for, 55
+-- before: a top-level if, 54, and nothing below it is visited; after: a break outside of a for, 55
 abbrev pub span : ℕ → ℕ → Span
 span b e = record { begin = b; end = e; file = 1 }
 

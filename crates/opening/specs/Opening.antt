@@ -1,4 +1,4 @@
--- Opening a dialect: when one permits all that another does, and which errors that takes out. These are definitions.
+-- Opening a dialect: whether one permits all that another does, and which errors that removes. These are definitions.
 use mathlib.Core.Bool.{Bool, false, _&&_, _||_, not}
 use mathlib.Core.List.{List, [], _∷_}
 use Prim.Native.Nat.{ℕ}
@@ -12,14 +12,14 @@ use Rattle.table.specs.Numbers.{starNotPermitted, slashNotPermitted, defNotPerm
 use Rattle.table.specs.Numbers.{ellipsisNotPermitted, lambdaNotPermitted}
 use Rattle.errors.specs.declared.Err.{Err}
 
--- a switch that stays on where it was on, and one that is on where it was off
+-- the second switch is on if the first is on; the second switch is on and the first is off
 abbrev pub atLeast : Bool → Bool → Bool
 atLeast b c = not b || c
 
 abbrev pub newly : Bool → Bool → Bool
 newly b c = not b && c
 
--- Disable, ParseOnly, Enable: a growing row
+-- Disable, ParseOnly, Enable: in growing order
 abbrev pub rank : DialectTypes → ℕ
 rank Disable = 0
 rank ParseOnly = 1
@@ -38,7 +38,7 @@ permitsAll d e =
     && (atLeast (d .«enable_top_level_stmt») (e .«enable_top_level_stmt»)
     && atLeast (d .«enable_f_strings») (e .«enable_f_strings»))))))))
 
--- the numbers of the newly opened switches, each with its switch; no other number is one
+-- whether a number is that of a newly opened switch; each of the six numbers has its switch
 unfoldable pub opened : Dialect → Dialect → ℕ → Bool
 opened d e n =
     if' (eqb n starNotPermitted)
@@ -52,7 +52,7 @@ opened d e n =
     if' (eqb n lambdaNotPermitted) (λ _. newly (d .«enable_lambda») (e .«enable_lambda»)) (λ _.
     false))))))
 
--- a list with the errors of some numbers taken out, the rest in order
+-- a list without the errors of some numbers, the rest in order
 unfoldable pub without : (ℕ → Bool) → List Err → List Err
 without out [] = []
 without out (e ∷ es) = if' (out (e .number)) (λ _. without out es) (λ _. e ∷ without out es)

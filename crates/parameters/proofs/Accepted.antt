@@ -1,4 +1,9 @@
--- What an accepted answer of the job says, and that its numbers are small. Assumes nothing.
+-- What an accepted answer of the job says. It has passed every step: the table check, the node, the buffer's length,
+-- the limit, and `unpack` (`accepted-passed`, step by step; the record `Passed` names what is then known), and a list
+-- that passes them all is accepted (`passed-accepted`). Its numbers are small: a list is shorter than its stretch has
+-- records, and no count is larger than the list is long (deflist's `accepted-bounded`), so each is at most 2,100
+-- (`accepted-small`). The same holds of every list on the way, accepted or refused (`list-short`, `counts-small`).
+-- Assumes nothing.
 use mathlib.Core.Path.{_≡_, refl, _∙_}
 use mathlib.Core.Bool.{true}
 use mathlib.Core.List.{List, [], _∷_}

@@ -1,4 +1,5 @@
--- The mode buffer of the parameter job, for every input: a refusal changes no byte. Assumes nothing.
+-- A refusal of the parameter job changes no byte of the mode buffer, for every input: the buffer afterwards is defined
+-- by the answer, and for a refusal it is the buffer before. Cite `refusal-keeps`. Assumes nothing.
 use mathlib.Core.Path.{_≡_, refl}
 use mathlib.Core.List.{List}
 use Prim.Native.Nat.{ℕ}

@@ -1,4 +1,9 @@
--- The job, return by return, in the terms of code. Assumes nothing.
+-- The job, return by return, in the terms of code. `unpack_into` gives 7 for a short buffer (`into-short`), else the
+-- answer for what `unpack` says of the list (`into-told`): a refusal leaves the buffer, an accepted list has its modes
+-- at the front (`Kept`). The modes that code writes from the first state on are those of the list, because that state
+-- follows from the count (`same-modes`). All numbers fit 32 bits (`told-small`), since a list is shorter than its
+-- stretch. `params` puts 1 to 4 and 6 before it: cite `params-refused`, `params-left`, `params-answer`, `params-modes`.
+-- Assumes nothing.
 use mathlib.Core.Path.{_≡_, refl, sym, ap, _∙_}
 use mathlib.Core.Bool.{Bool, true, false}
 use mathlib.Core.List.{List, [], _∷_, _++_}

@@ -1,4 +1,8 @@
--- Writing the modes of a list, step by step, whatever the names and the index. Assumes nothing.
+-- Writing the modes of a list, for all names and indices. The loop keeps that writing the modes of the parameters that
+-- are left, from the next flat index on, gives the buffer that writing all of them gives (`Writing`, its field `same`;
+-- laws `write-start`, `write-on`, `write-end`). A turn reads one parameter (deflist's `Reading`) and stores its mode,
+-- or nothing for a mark (`put-mode`, `put-mark`). The flat index is at most the number of parameters read, so there is
+-- room (`write-room`). Assumes nothing.
 use mathlib.Core.Path.{_≡_, refl, sym, ap, _∙_}
 use mathlib.Core.Bool.{Bool, true, false}
 use mathlib.Core.List.{List, [], _∷_, _++_}

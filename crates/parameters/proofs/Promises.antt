@@ -1,4 +1,6 @@
--- Two answers of the job, with the buffers they leave, that meet its promise coincide. Assumes nothing.
+-- Two answers of a public function that meet its promise are equal, and so are the buffers that the job leaves. Each
+-- promise is an equation, of the answer or of what it means; no two answers mean the same, because their values give
+-- back every field. Assumes nothing.
 use mathlib.Core.Path.{_≡_, refl, sym, ap}
 use mathlib.Core.List.{List}
 use Prim.Native.Nat.{ℕ}
@@ -17,7 +19,7 @@ use Rattle.parameters.specs.Params.{unpacked, paramsOf, modesAfter}
 use Rattle.parameters.specs.declared.Unpacked.{Unpacked}
 use Rattle.parameters.specs.declared.Unpacked.the-variants.{Accepted, Refused}
 
--- a place is told by its range, and by what stands for none
+-- a place is determined by its range, and by the range for none
 place-same : (p q : Place) (n m : ℕ) → n ≡ m → placeRange p n .from ≡ placeRange q m .from
     → placeRange p n .upto ≡ placeRange q m .upto → p ≡ q
 place-same (At i) (At j) n m h b e = ap At b
@@ -34,7 +36,7 @@ indices-same p q e f g h = λ i. record {
   kwargs = h i;
 }
 
--- the five ranges and the flat count tell DefParamIndices
+-- the five ranges and the flat count determine DefParamIndices
 pub values-injective : (p q : Counted) → valuesOf p ≡ valuesOf q → p ≡ q
 values-injective p q e =
     let value : (i : ℕ) → getD (valuesOf p) i 0

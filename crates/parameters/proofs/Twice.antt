@@ -1,5 +1,7 @@
--- What 11 tells over the whole job: the first earlier parameter of an equal name; and 11 alone carries an earlier node.
--- Assumes nothing.
+-- 11 over the whole job. 1 to 4, 6 and 7 come before 11 and carry no earlier node (table's `Before`), so an answer with
+-- 11 is `unpack`'s. Of its outcomes only a repeated name carries an earlier node (`params-carries`), and that node is
+-- the only earlier parameter of the name, with a smaller index (`params-twice`, from deflist's `written-twice`). Both
+-- split on the outcome of the list. Assumes nothing.
 use mathlib.Core.Path.{_≡_, refl}
 use mathlib.Core.List.{List, [], _∷_, _++_}
 use Prim.Native.Nat.{ℕ}

@@ -1,5 +1,5 @@
--- DefParamIndices of src/syntax/def.rs with its five ranges, the flat count, and the values of document 01. These are
--- definitions.
+-- DefParamIndices of src/syntax/def.rs with its five ranges, the flat count, and the values of an accepted answer.
+-- These are definitions.
 -- Copyright 2018 The Starlark in Rust Authors. Copyright (c) Facebook, Inc. and its affiliates.
 -- Licensed under Apache-2.0; changed.
 use mathlib.Core.List.{List, [], _∷_}
@@ -23,7 +23,7 @@ posOnly i = range 0 (i .«num_positional_only»)
 abbrev pub posOrNamed : DefParamIndices → Range
 posOrNamed i = range (i .«num_positional_only») (i .«num_positional»)
 
--- the range of a place: the empty one at n for none
+-- the range of a place; if there is none, the empty range at n
 abbrev pub placeRange : Place → ℕ → Range
 placeRange (At i) n = range i (i + 1)
 placeRange Nothing n = range n n

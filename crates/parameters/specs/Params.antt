@@ -17,12 +17,12 @@ use Rattle.parameters.specs.Indices.{valuesOf, countedOf}
 use Rattle.parameters.specs.declared.Unpacked.{Unpacked}
 use Rattle.parameters.specs.declared.Unpacked.the-variants.{Accepted, Refused}
 
--- what the answers of code mean: the five ranges and the flat count, or document 01's number and what it carries
+-- what the answers of code mean: the five ranges and the flat count, or a refusal's number and what it carries
 abbrev pub unpacked : Unpacked → Answer
 unpacked (Accepted c) = accepted (valuesOf c)
 unpacked (Refused r) = refusal r
 
--- what document 01 answers for an outcome
+-- the answer for an outcome
 abbrev pub answerOf : def.Outcome → Answer
 answerOf (def.accepted c) = accepted (valuesOf (countedOf c))
 answerOf (def.refused n r) = refusedAt n r
@@ -46,7 +46,8 @@ unfoldable pub paramsOf : List ℕ → List ℕ → ℕ → ℕ → Answer
 paramsOf t names node room =
     onNode Parameters (λ tree. listAnswer (rootIn tree) (writtenIn names tree) room) t names node
 
--- the buffer ms afterwards, where these are the modes: they stand at its front and the rest stays; a refusal leaves it
+-- the buffer ms afterwards: an accepted list has its modes at the front and the rest unchanged; a refusal changes
+-- nothing
 abbrev pub afterwards : Answer → List ℕ → List ℕ → List ℕ
 afterwards (accepted vs) modes ms = modes ++ drop (length modes) ms
 afterwards (refused n vs) modes ms = ms

@@ -1,5 +1,5 @@
--- What code asks while it counts a list and writes its modes. These are definitions that only contracts of private
--- functions use.
+-- What code computes while it counts a list and writes its modes. Only contracts of private functions use these
+-- definitions.
 use mathlib.Core.Path.{_≡_}
 use mathlib.Core.Bool.{Bool, true, false}
 use mathlib.Core.List.{List, [], _∷_, _++_}
@@ -24,7 +24,7 @@ use Rattle.table.specs.declared.Place.the-variants.{At as AtPlace, Nothing as N
 use Rattle.parameters.specs.Indices.{valuesOf, countedOf}
 use Rattle.parameters.specs.Params.{listAnswer, afterwards}
 
--- whether unpack's answer is a refusal, and the state that an accepted list begins in
+-- whether unpack's result is a refusal, and the state in which an accepted list begins
 abbrev pub isRefused : Judged → Bool
 isRefused (Accepted c) = false
 isRefused (Refused f) = true
@@ -38,14 +38,14 @@ abbrev pub earlierPlace : Found → Place
 earlierPlace (At i) = AtPlace i
 earlierPlace Nothing = NoPlace
 
--- what the job answers for such a refusal, and that its numbers fit 32 bits
+-- the answer of the job for such a refusal, and that its numbers fit 32 bits
 abbrev pub faultAnswer : Fault → Answer
 faultAnswer f = refused (f .number) (f .node ∷ spanValues (f .span) ++ earlierValues (earlierPlace (f .earlier)))
 
 abbrev pub SmallFault : Fault → Type 0
 SmallFault f = (f .node < 2 ^ 32) × NotPast 4294967295 (f .earlier)
 
--- the same for what unpack answers
+-- the same for a result of unpack
 abbrev pub judgedAnswer : Judged → Answer
 judgedAnswer (Accepted c) = accepted (valuesOf (countedOf c))
 judgedAnswer (Refused f) = faultAnswer f
@@ -75,7 +75,7 @@ pub record AtMost (kids : List ℕ) (n : ℕ) : Type 0 where
 pub record Modes (kids : List ℕ) (s : State) (ms ms′ : List ℕ) : Type 0 where
   pub wrote : (names : List ℕ) (i : ℕ) → ms′ ≡ sets ms 0 (modesFrom s (paramsIn names (forest i kids)))
 
--- the same for what unpack says of it: a refusal leaves the buffer
+-- the same for the result of unpack: a refusal leaves the buffer
 pub record Kept (kids : List ℕ) (j : Judged) (ms ms′ : List ℕ) : Type 0 where
   pub left : isRefused j ≡ true → ms′ ≡ ms
   pub wrote : isRefused j ≡ false → Modes kids (firstOf j) ms ms′

@@ -9,7 +9,7 @@ use table::Place;
 ghost use mathlib.Core.Path.{_≡_};
 ghost use Rattle.parameters.specs.Indices.{posOnly, posOrNamed, argsRange, namedOnly, kwargsRange, placeRange};
 
-// The range of a place: the empty one at none where there is none.
+// The range of a place; if there is no place, the empty range at `none`.
 fn place_range(place: Place, none: usize) -> Range
     ensures { λ r. ⌜ r ≡ placeRange place none ⌝ }
 {
@@ -49,7 +49,7 @@ impl DefParamIndices {
         }
     }
 
-    // `*args`: for none the empty range at the end of pos_or_named.
+    // `*args`; if there is none, the empty range at the end of pos_or_named.
     pub fn args_range(self) -> Range
         ensures { λ r. ⌜ r ≡ argsRange self ⌝ }
     {
@@ -69,7 +69,7 @@ impl DefParamIndices {
         }
     }
 
-    // `**kwargs`: for none the empty range at the flat count.
+    // `**kwargs`; if there is none, the empty range at the flat count.
     pub fn kwargs_range(self, param_count: usize) -> Range
         ensures { λ r. ⌜ r ≡ kwargsRange self «param_count» ⌝ }
     {

@@ -55,7 +55,7 @@ pub struct Counted {
     pub flat: u32,
 }
 
-// The indices from one up to, but not with, another.
+// The indices from `from` to before `upto`.
 pub struct Range {
     pub from: usize,
     pub upto: usize,
@@ -67,8 +67,8 @@ pub enum Unpacked {
     Refused(Refusal),
 }
 
-// The parameter list of the def or lambda at a node: 1 to 4, 6, 7, 10 to 19; or its ranges and flat count, with the
-// modes at the front of the buffer.
+// Checks the parameter list of the def or lambda at a node. Returns its ranges and flat count, with the modes at the
+// front of the buffer; or a refusal: 1 to 4, 6, 7, 10 to 19.
 pub fn params(table: &[u8], names: &[u8], node: usize, modes: &mut [u8]) -> Unpacked
     ensures { λ r. ⌜ unpacked r ≡
         paramsOf (now (table .entry)) (now (names .entry)) node (length (now (modes .entry))) ⌝ }
@@ -82,7 +82,7 @@ pub fn params(table: &[u8], names: &[u8], node: usize, modes: &mut [u8]) -> Unpa
     unpack_into(names, table::stretch(table, node), node as u32, modes)
 }
 
-// 7, then the answer for the list of a node, whose stretch is lent; the modes are written once the list is
+// 7, then the answer for the list of the node whose subtree is the stretch. The modes are written once the list is
 // accepted.
 fn unpack_into(names: &[u8], t: &[u8], node: u32, modes: &mut [u8]) -> Unpacked
     requires { ⌜ Headed node (now t) ⌝ }
@@ -119,7 +119,7 @@ fn is_refused(judged: Judged) -> bool
     }
 }
 
-// The state that an accepted list begins in.
+// The state in which an accepted list begins.
 fn first_of(judged: Judged) -> State
     ensures { λ r. ⌜ r ≡ firstOf judged ⌝ }
 {
@@ -132,7 +132,7 @@ fn first_of(judged: Judged) -> State
     }
 }
 
-// What the job answers for what unpack says.
+// The answer of the job for a result of unpack.
 fn answer(judged: Judged) -> Unpacked
     requires { ⌜ Small judged ⌝ }
     ensures { λ r. ⌜ unpacked r ≡ judgedAnswer judged ⌝ }
@@ -168,7 +168,8 @@ fn mode(state: State, kind: Kind) -> u8
     }
 }
 
-// Writes the mode of a flat parameter at its index, and answers the next index; for a mark neither changes.
+// Writes the mode of a flat parameter at its index and returns the next index. For a mark it writes nothing and returns
+// the same index.
 fn put(modes: &mut [u8], flat: Flat, mode: u8) -> Flat
     requires { ⌜ flat .0 < length (now modes) ⌝ }
     ensures { λ r. ⌜ r .0 ≡ flat .0 + length (modeIn mode) ⌝ }
@@ -182,7 +183,7 @@ fn put(modes: &mut [u8], flat: Flat, mode: u8) -> Flat
     Flat(at + 1)
 }
 
-// Writes the modes of a list that begins in a state, at the front of the buffer.
+// Writes the modes of a list to the front of the buffer; the list begins in this state.
 fn write_modes(kids: &[u8], first: State, modes: &mut [u8])
     requires { ⌜ AtMost (now kids) (length (now modes)) ⌝ }
     ensures { λ r. ⌜ Modes (now (kids .entry)) first (now (modes .entry)) (now (modes .exit)) ⌝ }

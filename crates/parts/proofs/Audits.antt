@@ -1,7 +1,8 @@
--- What the jobs refuse, record by record, in two forests that say the same: the same errors are read. A record's job
--- follows from its kind, and its role from where it stands; both are the same. The induction is on both forests at once
--- (`placed-tree-same`). And what is read of a list without the errors of parameter lists depends on what is read of the
--- list alone, since a number is read (`own-same`). Cite `refusals-same`, `own-same`. Assumes nothing.
+-- The refusals of the jobs, record by record, in two forests whose records say the same: the same words of the errors
+-- are read. The job of a record follows from its kind, and its role from its parent and place; both are the same. The
+-- induction is on both forests at once (`placed-tree-same`). The list without the errors of parameter lists depends
+-- only on what is read of the list, because the number is among the words that are read (`own-same`). Cite
+-- `refusals-same` and `own-same`. Assumes nothing.
 use mathlib.Core.Path.{_≡_, refl, sym, ap, _∙_}
 use mathlib.Core.Bool.{Bool, true, false}
 use mathlib.Core.List.{List, [], _∷_, _++_}
@@ -53,7 +54,7 @@ module _ (d : Dialect) (edition : Edition) (names others : List ℕ) where
   unfolding refusedThere
   there-same role like e t u h = reads-both _ _ _ _ (kind-same t u h) (as-role role like e t u h)
 
-  -- trees joined, and the kind of a tree's first record
+  -- two joined lists of trees, and the kind of the first record of a tree
   joined-same : (ps qs xs ys : List Placed) → Reads (refusals d edition names ps) (refusals d edition others qs)
       → Reads (refusals d edition names xs) (refusals d edition others ys)
       → Reads (refusals d edition names (ps ++ xs)) (refusals d edition others (qs ++ ys))
@@ -90,12 +91,12 @@ module _ (d : Dialect) (edition : Edition) (names others : List ℕ) where
         (placed-tree-same t u _ _ (role-there roles likes e _ _ (first-kind t u here)) here)
         (placed-same ts us _ _ (ap rolesAfter e) rest)
 
-  -- LAW: what the jobs refuse
+  -- LAW: the refusals of the jobs
   pub refusals-same : (roles : Roles) (ts us : Forest) → SameTrees names others ts us
       → Reads (refusals d edition names (placed roles ts)) (refusals d edition others (placed roles us))
   refusals-same roles ts us h = placed-same ts us roles roles refl h
 
--- LAW: without the errors of parameter lists
+-- LAW: the same for the lists without the errors of parameter lists
 unfoldable rowsKept : List (List ℕ) → List (List ℕ)
 rowsKept [] = []
 rowsKept (x ∷ xs) = if' (isListError (getD x 0 0)) (λ _. rowsKept xs) (λ _. x ∷ rowsKept xs)

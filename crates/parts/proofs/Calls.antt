@@ -1,8 +1,8 @@
--- Argument lists of two calls that say the same. As with parameters, both lists are made from one list of pairs: a
--- kind, a name and two records at the same place (`arguments-paired`). `unpack` looks at kinds and names alone; only
--- the node of an earlier argument of the same name may differ, and that is not read. 22 is read at the name: its begin
--- is the record's source position, and its end that and the name's length. The induction is on the list of pairs
--- (`run-same`). Cite `call-same`. Assumes nothing.
+-- The argument lists of two calls whose records say the same. As with parameters (Lists), both are made from one list
+-- of pairs: a kind, a name and two records at the same source position (`arguments-paired`). `unpack` reads only kinds
+-- and names; the node of an earlier argument of the same name may differ, but it is not among the words that are read.
+-- The place of 22 is the name: it begins at the record's source position and ends after the length of the name. The
+-- induction is on the list of pairs (`run-same`). Cite `call-same`. Assumes nothing.
 use mathlib.Core.Path.{_≡_, refl, ap}
 use mathlib.Core.Bool.{Bool, true, false}
 use mathlib.Core.List.{List, [], _∷_, _++_}
@@ -31,7 +31,8 @@ use Rattle.arguments.specs.declared.Walk.{Walk}
 use Rattle.parts.specs.Parts.{SameRecord, SameTree, SameTrees, read}
 use Rattle.parts.proofs.Read.{Answers}
 
--- an entry of two lists: its kind and name, and its record in each, at the same place with its name at the same place
+-- an entry of two lists: its kind and name, and its record in each, which have the same span and the same position of
+-- the name
 record Pair : Type 0 where
   kind : Kind
   name : Name
@@ -103,7 +104,7 @@ module _ (names others : List ℕ) where
   call-paired (node r (t then ts)) (node s none) (h, below) = absurd below
   call-paired (node r (t then ts)) (node s (u then us)) (h, (callee, rest)) = arguments-paired ts us rest
 
--- the record and the kind of an argument that was made of them
+-- the record and the kind of an argument that was made from a pair
 node-made : (k : Kind) (r : Node) (n : Name) → nodeIn (argument k r n) ≡ r
 node-made Positional r n = refl
 node-made Named r n = refl
@@ -116,7 +117,7 @@ kind-made Named r n = refl
 kind-made Args r n = refl
 kind-made KwArgs r n = refl
 
--- both lists have the same length, also with one more
+-- both lists have the same length, also with one more entry
 one-length : (ps : List Pair) → length (oneList ps) ≡ length ps
 unfolding oneList
 one-length [] = refl
@@ -139,7 +140,7 @@ unfolding otherList
 other-more [] p = refl
 other-more (b ∷ bs) p = ap (λ (l : List Argument). argument (b .kind) (b .other) (b .name) ∷ l) (other-more bs p)
 
--- an earlier argument of a name is in both lists or in none
+-- an earlier argument with a name is in both lists or in neither
 abbrev isAt : Found → Bool
 isAt (At i) = true
 isAt Nothing = false
@@ -163,7 +164,7 @@ found-same x (p ∷ ps) = go (p .kind) (found-same x ps)
     go Args rest = rest
     go KwArgs rest = rest
 
--- what is read of an outcome
+-- the words that are read of an outcome
 abbrev Same : Outcome → Outcome → Type 0
 Same o q = Answers (outcomeAnswer o) (outcomeAnswer q)
 
@@ -172,7 +173,7 @@ choose-same : (b : Bool) (x y v w : Unit {0} → Outcome) → Same (x tt) (v tt)
 choose-same true x y v w p q = p
 choose-same false x y v w p q = q
 
--- one argument, and what follows it
+-- one argument, and then the others
 module _ (p : Pair) (next more : Unit {0} → Outcome) (on-same : Same (next tt) (more tt)) where
   checked-same : (c : Check) → Same (unlessBroken c (p .one) next) (unlessBroken c (p .other) more)
   checked-same Fine = on-same

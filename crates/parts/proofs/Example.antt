@@ -1,5 +1,6 @@
--- A script of two statements whose errors come in another order in two tables than in one: the hypothesis of the
--- theorems holds of it, and "up to order" is needed. Everything is computed. Assumes nothing.
+-- A script of two statements whose errors come in another order in two tables than in one. The hypothesis of the
+-- theorems holds for it (`kept`), and the two lists differ (`whole-reads`, `parts-read`), so "up to order" is needed.
+-- Everything is computed from the definitions (`refl`). Assumes nothing.
 use mathlib.Core.Path.{_≡_, refl}
 use mathlib.Core.List.{List, [], _∷_}
 use Prim.Native.Nat.{ℕ}
@@ -17,7 +18,7 @@ use Rattle.validate.specs.Module.{armOf, f, exprErrors, expr, «validate_module
 use Rattle.parts.specs.Parts.{_beside_, SameRecord, SameTree, joined, Kept, under, read, readInTurn}
 use Rattle.parts.specs.Example.{recordAt, rootAt, wholeNames, inTwo, twice, misplaced}
 
--- a record at two places of two tables says the same if its name does
+-- a record at two indices in two tables says the same if its name is the same
 same-record : {names others : List ℕ} (i j kind len start there begin stop size : ℕ)
     → nameOf names (recordAt i kind len start begin stop size)
     ≡ nameOf others (recordAt j kind len there begin stop size)
@@ -33,7 +34,7 @@ same-record i j kind len start there begin stop size h = record {
   name = h;
 }
 
--- EXAMPLE: the hypothesis holds: the name stands at 1 among `xa` and at 0 among `a`, and `break` is node 6, then node 1
+-- EXAMPLE: the hypothesis holds: the name is at 1 in `xa` and at 0 in `a`, and `break` is node 6, then node 1
 pub kept : Kept wholeNames inTwo
 unfolding Kept SameTree nameOf
 kept =
@@ -62,7 +63,7 @@ kept =
       ),
     )
 
--- EXAMPLE: what is read of the whole, and of the parts in turn
+-- EXAMPLE: the words that are read of the whole, and of the parts in turn
 abbrev extended : Dialect
 extended = recordOf (rowNamed Extended)
 

@@ -1,7 +1,8 @@
--- Parameter lists of two forests that say the same. Both lists are made from one list of pairs: a kind, a name and two
--- records at the same place (`params-paired`). `unpack` looks at kinds and names alone, so it takes the same steps on
--- both; only the node of an earlier parameter of the same name may differ, and that is not read. The induction is on
--- the list of pairs (`run-same`). Cite `list-same` and `marks-same`. Assumes nothing.
+-- The parameter lists of two forests whose records say the same. Both are made from one list of pairs: a kind, a name
+-- and two records with the same span (`params-paired`). `unpack` reads only kinds and names, so it takes the same steps
+-- on both; the node of an earlier parameter of the same name may differ, but it is not among the words that are read.
+-- The induction is on the list of pairs (`run-same`). Cite `list-same` for the one error of a list, and `marks-same`
+-- for its `*` and `/` markers. Assumes nothing.
 use mathlib.Core.Path.{_≡_, refl, ap}
 use mathlib.Core.Bool.{Bool, true, false, not}
 use mathlib.Core.List.{List, [], _∷_, _++_}
@@ -38,7 +39,7 @@ use Rattle.validate.specs.declared.Mark.{Mark}
 use Rattle.parts.specs.Parts.{SameRecord, SameTrees, read}
 use Rattle.parts.proofs.Read.{Reads, reads-both, reads-if, reads-at}
 
--- two records at the same place
+-- two records with the same span and source file
 record SamePlace (r s : Node) : Type 0 where
   begin : r .begin ≡ s .begin
   stop : r .stop ≡ s .stop
@@ -107,7 +108,7 @@ module _ (names others : List ℕ) where
       go true false e more = never (cc)
       go false true e more = never (cc)
 
--- the record and the kind of a parameter that was made of them
+-- the record and the kind of a parameter that was made from a pair
 node-made : (k : Kind) (r : Node) (n : Name) → nodeIn (param k r n) ≡ r
 node-made (Normal d) r n = refl
 node-made NoArgs r n = refl
@@ -122,7 +123,7 @@ kind-made Slash r n = refl
 kind-made Args r n = refl
 kind-made KwArgs r n = refl
 
--- both lists have the same length, and are the same lists of pairs after any number
+-- both lists have the same length, and are made from pairs after any number of entries
 one-length : (ps : List Pair) → length (oneList ps) ≡ length ps
 unfolding oneList
 one-length [] = refl
@@ -156,7 +157,7 @@ unfolding otherList
 other-more [] p = refl
 other-more (b ∷ bs) p = ap (λ (l : List Param). param (b .kind) (b .other) (b .name) ∷ l) (other-more bs p)
 
--- an earlier parameter of a name is in both lists or in none
+-- an earlier parameter with a name is in both lists or in neither
 abbrev isAt : Found → Bool
 isAt (At i) = true
 isAt Nothing = false
@@ -181,11 +182,11 @@ found-same x (p ∷ ps) = go (p .kind) (found-same x ps)
     go Args rest = pick (same (p .name) x) (p .one .at) (p .other .at) rest
     go KwArgs rest = pick (same (p .name) x) (p .one .at) (p .other .at) rest
 
--- what is read of an outcome
+-- the words that are read of an outcome
 abbrev Same : Outcome → Outcome → Type 0
 Same o q = Reads (unpackError (told o)) (unpackError (told q))
 
--- one step, and what follows it
+-- one step, and then the others
 module _ {r s : Node} (h : SamePlace r s) (next then' : Unpacking → Outcome)
     (on-same : (u : Unpacking) → Same (next u) (then' u)) where
   after-same : (x : Step) → Same (after x r next) (after x s then')
@@ -275,7 +276,7 @@ unpack-same (p ∷ ps) =
     (rw (node-made (p .kind) (p .one) (p .name), node-made (p .kind) (p .other) (p .name))
     (place-at (p .place) slashFirst)) (run-same [] _ (p ∷ ps)))
 
--- LAW: the one error of a list, at owners that say the same
+-- LAW: the one error of a list, where the owners say the same
 module _ {names others : List ℕ} {r s : Node} (h : SameRecord names others r s) {l m : List Param} where
   pub list-same : Paired l m → Reads (unpackError (told (limited r l))) (unpackError (told (limited s m)))
   unfolding limited
@@ -285,7 +286,7 @@ module _ {names others : List ℕ} {r s : Node} (h : SameRecord names others r s
       (reads-at h tooManyParameters)
       (unpack-same (both .pairs)))
 
--- LAW: its marks
+-- LAW: the `*` and `/` markers of a list
 every-same : (m : Mark) (ps : List Pair) → Reads (everyMark m (oneList ps)) (everyMark m (otherList ps))
 unfolding everyMark oneList otherList
 every-same m [] = refl

@@ -1,5 +1,6 @@
--- Lists up to order, by counting: a list joined of two has as many that pass a test as both together, so the order of
--- what is joined does not matter. No induction but on a list. Assumes nothing.
+-- Lists up to order, by counting: two lists are the same up to order if every test has as many hits in both. In a
+-- joined list a test has the hits of both parts together (`many-append`), so the order in which lists are joined does
+-- not matter. The induction is on the first list. Cite `tally-append`. Assumes nothing.
 use mathlib.Core.Path.{_≡_}
 use mathlib.Core.Bool.{Bool}
 use mathlib.Core.List.{List, [], _∷_, _++_}
@@ -10,7 +11,7 @@ use Rattle.errors.specs.declared.Err.{Err}
 use Rattle.parts.specs.Parts.{read, howMany}
 use Rattle.parts.proofs.Read.{read-append}
 
--- LAW: two lists joined
+-- LAW: two joined lists
 pub many-append : (test : List ℕ → Bool) (xs ys : List (List ℕ))
     → howMany test (xs ++ ys) ≡ howMany test xs + howMany test ys
 unfolding howMany
@@ -20,7 +21,7 @@ many-append test (x ∷ xs) ys =
     let rest : howMany test (xs ++ ys) ≡ howMany test xs + howMany test ys = many-append test xs ys in
     omega (arith, rest)
 
--- how many errors, as they are read, pass a test
+-- the number of errors whose words pass a test
 abbrev pub tally : (List ℕ → Bool) → List Err → ℕ
 tally test es = howMany test (read es)
 

@@ -1,7 +1,8 @@
--- What is read of errors, and of answers, at two records that say the same: number, source file, begin and end are
--- equal, since none of them is the node's index (`reads-at`, `answers-at`). Lists that are joined or chosen by equal
--- tests read the same where their parts do (`reads-both`, `reads-if`), and so do answers in order (`answers-then`):
--- what is read of an answer's errors tells whether it is a refusal. No induction but on a list. Assumes nothing.
+-- The words that are read of errors and of answers at two records that say the same: number, source file, begin and end
+-- are equal, because none of them is the index of the node (`reads-at`, `answers-at`). Lists that are joined, or chosen
+-- by equal tests, have the same words if their parts have (`reads-both`, `reads-if`). So have answers in order
+-- (`answers-then`): the words of an answer's errors show whether it is a refusal. The inductions are on the list of
+-- errors. Cite these five. Assumes nothing.
 use mathlib.Core.Path.{_≡_, refl, sym, ap, _∙_}
 use mathlib.Core.Bool.{Bool, true, false}
 use mathlib.Core.List.{List, [], _∷_, _++_}
@@ -15,14 +16,14 @@ use Rattle.errors.specs.Errors.{placeWords, errAt, unless}
 use Rattle.audit.specs.Refusals.{answerErrors}
 use Rattle.parts.specs.Parts.{SameRecord, read}
 
--- two lists of errors of which the same is read, and two answers
+-- two lists of errors with the same words, and two answers
 abbrev pub Reads : List Err → List Err → Type 0
 Reads es fs = read es ≡ read fs
 
 abbrev pub Answers : Answer → Answer → Type 0
 Answers a b = Reads (answerErrors a) (answerErrors b)
 
--- LAW: lists joined, and lists chosen by equal tests
+-- LAW: joined lists, and lists chosen by equal tests
 pub read-append : (es fs : List Err) → read (es ++ fs) ≡ read es ++ read fs
 unfolding read
 read-append [] fs = refl

@@ -1,6 +1,6 @@
--- Targets and assignments of two trees that say the same: the same refusal is read, or none. The rules look at kinds
--- and details alone, which are equal, and a refusal stands at records that say the same. The induction is on both trees
--- at once (`assign-same`). Cite `counted-same` and `assignment-same`. Assumes nothing.
+-- Targets and assignments of two trees whose records say the same: the same words are read of the refusal, or there is
+-- none in both. The rules read only kinds and details, which are equal, and refuse at records that say the same. The
+-- induction is on both trees at once (`assign-same`). Cite `counted-same` and `assignment-same`. Assumes nothing.
 use mathlib.Core.Path.{_≡_, refl, ap}
 use mathlib.Core.Bool.{_&&_}
 use mathlib.Core.List.{List}

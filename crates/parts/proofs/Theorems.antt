@@ -1,7 +1,8 @@
 -- A script in several tables: the errors of the whole are, up to order, those of its parts, each in its own table, for
--- the module pass and for the audit. A root Statements reports nothing itself, so a list is that of the statements
--- under it (`Splits`); of statements side by side the lists are joined, up to order; and statements that say the same
--- give errors of which the same is read. The induction is on the parts (`split`), once for both lists. Assumes nothing.
+-- the module pass and for the audit. A root Statements has no error of its own, so a list is that of the statements
+-- under it; the list of neighbouring statements is joined from theirs, up to order; and statements whose records say
+-- the same give errors of which the same words are read. `Splits` has these three properties, and one induction on the
+-- parts (`split`) serves both lists. Cite `module-in-parts` and `audit-in-parts`. Assumes nothing.
 use mathlib.Core.Path.{_≡_, refl, sym, ap, _∙_}
 use mathlib.Core.Bool.{Bool}
 use mathlib.Core.List.{List, [], _∷_, _++_, append-nil, append-assoc}
@@ -37,13 +38,13 @@ use Rattle.parts.proofs.Walk.{statements-same, expressions-same}
 use Rattle.parts.proofs.Audits.{refusals-same, own-same}
 use Rattle.parts.proofs.Order.{many-append, tally, tally-append}
 
--- no job is for a Statements
+-- no job fits a Statements
 no-job : (k : ℕ) → k ≡ kindStatements → (x y z : Unit {0} → List Err)
     → if' (wants Parameters k) x (λ _. if' (wants Call k) y (λ _. if' (wants Assignment k) z (λ _. []))) ≡ []
 unfolding wants
 no-job k is x y z = rw is refl
 
--- statements side by side: the statements, expressions and records of each, in turn
+-- neighbouring statements: the statements, expressions and records of each, in turn
 module _ (d : Dialect) (names : List ℕ) where
   stmts-beside : (p : Standing) (ts us : Forest)
       → «visit_stmt» d names p (ts beside us) ≡ «visit_stmt» d names p ts ++ «visit_stmt» d names p us
@@ -100,8 +101,8 @@ module _ (d : Dialect) (names : List ℕ) where
     unfolding refusals refusedThere roleErrors
     refusals-under edition = rw (placed-under, root-quiet) refl
 
--- a list of errors that is that of the statements under the root, up to order that of statements side by side, and of
--- which the same is read where the statements say the same
+-- a list of errors with three properties: a root adds nothing; for neighbouring statements it is joined, up to order;
+-- and statements that say the same give the same words
 record Splits (errors : List ℕ → Forest → List Err) : Type 1 where
   body : List ℕ → Forest → List Err
   none-body : (names : List ℕ) → body names none ≡ []
@@ -139,7 +140,7 @@ four test a b x y =
     let joins : (es fs : List Err) → tally test (es ++ fs) ≡ tally test es + tally test fs = tally-append test in
     omega (arith, joins (a ++ b) (x ++ y), joins a b, joins x y, joins a x, joins b y)
 
--- and four without the errors of parameter lists, with two behind them
+-- the same for four lists without the errors of parameter lists, followed by two more
 six : (test : List ℕ → Bool) (a b x y m n : List Err)
     → tally test (withoutLists ((a ++ b) ++ (x ++ y)) ++ (m ++ n))
     ≡ tally test (withoutLists (a ++ x) ++ m) + tally test (withoutLists (b ++ y) ++ n)
@@ -189,7 +190,7 @@ module _ (d : Dialect) where
     same-body = module-same;
   }
 
-  -- THEOREM: the errors of a root Statements are, up to order, those of its parts in their own tables: the module pass
+  -- THEOREM: the module pass's errors of a root Statements are, up to order, those of its parts in their own tables
   pub module-in-parts : (names : List ℕ) (r : Node) (ps : List Part) → r .kind ≡ kindStatements → Kept names ps
       → SameUpToOrder (read («validate_module» d names (under r (joined ps)))) (readInTurn («validate_module» d) ps)
   module-in-parts names r ps is kept-all test =
@@ -220,14 +221,14 @@ module _ (d : Dialect) (edition : Edition) where
         (own-same _ _ (module-same d names others ts us h)) (refusals-same d edition names others Nowhere ts us h);
   }
 
-  -- THEOREM: and the audit
+  -- THEOREM: the same for the audit
   pub audit-in-parts : (names : List ℕ) (r : Node) (ps : List Part) → r .kind ≡ kindStatements → Kept names ps
       → SameUpToOrder (read («audit_module» d edition names (under r (joined ps))))
       (readInTurn («audit_module» d edition) ps)
   audit-in-parts names r ps is kept-all test =
       ap (tally test) (audit-splits .root-body names r (joined ps) is) ∙ split-body audit-splits names test ps kept-all
 
--- LAW: what the audit makes of any bytes is that list, of their trees
+-- LAW: the audit's list of any bytes is this list of their trees
 pub audit-of-bytes : (d : Dialect) (edition : Edition) (names t : List ℕ)
     → auditErrors d edition names t ≡ «audit_module» d edition names (forest 0 (take mostBytes t))
 unfolding auditErrors passErrors «audit_module»

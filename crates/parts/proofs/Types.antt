@@ -1,7 +1,7 @@
--- Types of two trees that say the same: the same refusal is read, or none. The rules look at kinds, at the detail of an
--- Op, at how many children there are, and at the name of the last field of a path, and all of these are equal. The
--- induction is on both trees at once, over the type rule and the argument rule (`type-same`, `argument-same`). Cite
--- `check-same`. Assumes nothing.
+-- Types of two trees whose records say the same: the same words are read of the refusal, or there is none in both. The
+-- rules read kinds, the detail of an Op, the number of children, and the name of the last field of a path, and all of
+-- these are equal. The induction is on both trees at once, over the type rule and the argument rule (`type-same`,
+-- `argument-same`). Cite `check-same`. Assumes nothing.
 use mathlib.Core.Path.{_≡_, refl, ap}
 use mathlib.Core.Bool.{Bool}
 use mathlib.Core.List as L
@@ -67,7 +67,7 @@ module _ (edition : Edition) (names others : L.List ℕ) where
       ban-same : (a b : Bool) → a ≡ b → Answers (objectPath a ks) (objectPath b ls)
       ban-same a b e = rw e (object-same b ks ls below)
 
-  -- what is refused at a node before its children are read
+  -- the test at a node before its children are read
   index-same : (r s : Node) (ks ls : Forest) → SameRecord names others r s → SameTrees names others ks ls
       → Answers (indexBase r ks) (indexBase s ls)
   unfolding indexBase SameTrees
@@ -108,7 +108,7 @@ module _ (edition : Edition) (names others : L.List ℕ) where
   node-same Tuple r s ks ls h below = refl
   node-same Other r s ks ls h below = answers-at h invalidType
 
-  -- a node as a type, where the same is read of its children however they are read
+  -- a node as a type, if its children give the same words however they are read
   module _ {r s : Node} (h : SameRecord names others r s) (ks ls : Forest) (below : SameTrees names others ks ls)
       (inside : (reads : Reading)
       → Answers (unpackEach reads edition names ks) (unpackEach reads edition others ls)) where

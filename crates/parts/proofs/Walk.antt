@@ -1,7 +1,7 @@
--- The module pass over two forests that say the same: the same errors are read, in the same order. Which arm a
--- statement takes depends on its kind and where it stands, and both are the same; its parameter list is paired (Lists).
--- The induction is on both forests at once, over statements and over expressions (`tree-same`). Cite `module-same`.
--- Assumes nothing.
+-- The module pass over two forests whose records say the same: the same words of the errors are read, in the same
+-- order. The arm of a statement depends on its kind and its place, and both are the same; its parameter list is made
+-- from pairs (Lists). The induction is on both forests at once, over statements and over expressions (`tree-same`).
+-- Cite `statements-same` and `expressions-same`. Assumes nothing.
 use mathlib.Core.Path.{_≡_, refl, ap}
 use mathlib.Core.Bool.{Bool}
 use mathlib.Core.List.{List}
@@ -26,7 +26,7 @@ use Rattle.parts.proofs.Read.{Reads, reads-both, reads-if, reads-at, re
 use Rattle.parts.proofs.Lists.{params-paired, list-same, marks-same}
 
 module _ (d : Dialect) (names others : List ℕ) where
-  -- a parameter list, and an expression by itself
+  -- a parameter list, and the own errors of an expression
   with-same : (b : Bool) (n : ℕ) (r s : Node) (ks ls : Forest) → SameRecord names others r s
       → SameTrees names others ks ls → Reads (withParams d names b n r ks) (withParams d others b n s ls)
   unfolding withParams «validate_params»
@@ -60,7 +60,7 @@ module _ (d : Dialect) (names others : List ℕ) where
     arms-same : (a b : Arm) → a ≡ b → Reads (onArm d names p r ks visit a) (onArm d others p s ls other b)
     arms-same a b e = rw e (arm-same b)
 
-  -- statements and expressions everywhere
+  -- statements and expressions, by induction on the trees
   mutual
     unfolding f expr SameTree
 

@@ -8,8 +8,7 @@ use Rattle.soundness.specs.KindNumbers.{kindStatements, kindOtherSimple, kindLa
 use Rattle.table.specs.Numbers.{duplicatedParameter, breakMisplaced}
 use Rattle.parts.specs.Parts.{Part}
 
--- a record of source file 1: its index, its kind, the length of its name and where that begins, its begin and end, its
--- subtree size
+-- a record in source file 1: its index, its kind, the length and start of its name, its begin and end, its subtree size
 abbrev pub recordAt : ℕ → ℕ → ℕ → ℕ → ℕ → ℕ → ℕ → Node
 recordAt i kind len start begin stop size = record {
   at = i;
@@ -56,7 +55,7 @@ second = record { cut = breakAt 6; root = rootAt 15 20 2; names = []; trees = br
 abbrev pub inTwo : List Part
 inTwo = first ∷ second ∷ []
 
--- what is read of the errors: number, source file, begin and end
+-- the words that are read of the errors: number, source file, begin and end
 abbrev pub twice : List ℕ
 twice = duplicatedParameter ∷ 1 ∷ 10 ∷ 11 ∷ []
 

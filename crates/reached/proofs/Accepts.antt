@@ -1,4 +1,8 @@
--- The walk along arguments that reach somewhere, no two the same ordinary parameter, is accepted. Assumes nothing.
+-- The other way of the walk along the arguments: if every argument reaches something, each ordinary parameter that one
+-- fills is still empty, and no two fill the same one (`Free`), then the walk is accepted (`along-accepts`). The
+-- induction is on the arguments: a turn is accepted (`turn-accepts`) and writes only its own parameter and its own
+-- word, so the rest is free again. The two searches around the walk are accepted where they find nothing: no star among
+-- the arguments (`star-accepts`), no parameter left empty (`empty-accepts`). Assumes nothing.
 use mathlib.Core.Path.{_≡_, refl, _∙_}
 use mathlib.Core.Bool.{Bool, true, false, not, _&&_}
 use mathlib.Core.List.{List, [], _∷_}

@@ -1,4 +1,9 @@
--- A call and a def that meet the rules, stated without the job, are accepted. Assumes nothing.
+-- A call and a def that meet the rules, stated without the job, are accepted (`complete`). Each check of the binding
+-- passes: the list because it has a good cut, the call because its arguments are in order, and the walk by Accepts. For
+-- that each argument reaches something (`somewhere`: the rules give it a parameter at its place, one of its name, or a
+-- star), no two fill one parameter (`apart`: by two places, by two names, or by a place and a name, which the rules
+-- forbid), and each parameter without a default is filled (`needed`). No induction here but on the names of the
+-- arguments (`two-names-in`). Assumes nothing.
 use mathlib.Core.Path.{_≡_, refl, sym, ap, _∙_}
 use mathlib.Core.Bool.{Bool, true, false}
 use mathlib.Core.Logic.{_⊎_, inl, inr}

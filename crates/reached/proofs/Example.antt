@@ -124,7 +124,7 @@ not-named p (inl e) (inr f) = absurd (omega arith)
 not-named p (inr e) (inl f) = absurd (omega arith)
 not-named p (inr e) (inr f) = absurd (omega arith)
 
--- a positional stands at 0, 1 and 2: a and `*args` cannot be named, and no argument has the name b
+-- the positional ones are at 0, 1 and 2: a and `*args` cannot be named, and no argument has the name b
 not-twice : (k : ℕ) (r s : Node) (x : Name) (i : ℕ) → IsAt arguments k (named r x) → Named params x i
     → IsAt arguments i (positional s) → Placed params i → ⊥
 not-twice k r s x zero e n at p = not-named (n .param) (n .canBe) (inl (sym (mode-of (n .there))))
@@ -135,7 +135,7 @@ not-twice k r s x (suc (suc (suc zero))) e n at p = never (cc)
 not-twice k r s x (suc (suc (suc (suc zero)))) e n at p = never (cc)
 not-twice k r s x (suc (suc (suc (suc (suc i))))) e n at p = at
 
--- a and c have no default: 1 stands at a's place, and c is named
+-- a and c have no default: 1 is at a's place, and c is named
 needed : (i : ℕ) (p : FlatParam) → IsAt params i p → p .default ≡ false
     → ((r : Node) × (IsAt arguments i (positional r) × ByPlace p))
     ⊎ ((k : ℕ) × ((r : Node) × (IsAt arguments k (named r (p .name)) × CanBeNamed p)))

@@ -1,4 +1,6 @@
--- The corner cases of W-204, all rows in one statement. Assumes nothing.
+-- The corner cases of W-204 in specs/Cases.antt: for each row, the definitions give the words or the refusal that the
+-- row shows, whatever the record of the def. The prover computes all rows, so one `refl` shows them (`corner-cases`).
+-- That there are 18 rows is a theorem too (`how-many`), so that none can be left out unnoticed. Assumes nothing.
 use mathlib.Core.Path.{_≡_, refl}
 use mathlib.Core.List.{map}
 use lib.ListN.{length}

@@ -207,7 +207,7 @@ module _ (t : List ℕ) (call def : ℕ) where
           of-def 11 _ (told-outcome (Filed t def) (outcome.repeated i r) at) (inl (omega arith))
       go (outcome.internal x r) at early = λ late. absurd (omega arith)
 
--- where a binding is let in, the def's list and the call's arguments are nodes of their trees
+-- once the entry is passed, the def's list and the call's arguments are nodes of their trees
 module _ (t names : List ℕ) (call def : ℕ) (c : Clean t names) where
   params-filed : isDef t def ≡ true
       → Filed t def (nodeOf def (stretchOf t def)) × params.AllOf (Filed t def) (listOf t names def)

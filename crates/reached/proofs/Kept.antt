@@ -1,8 +1,8 @@
--- W-204, of the lent list and of what a refusal carries:
+-- W-204, about the list and what a refusal carries:
 --
 --   words past the answer stay; no refusal changes a buffer; 11 and 22 carry an earlier node, no other refusal does.
 --
--- The list at exit is the words of the binding and then what stood there (`Passed`), or the list itself. A refusal
+-- The list at exit is the words of the binding and then what was there (`Passed`), or the list itself. A refusal
 -- comes from the entry, from the def's list, from the call's arguments or from the binding; of each it is known by
 -- which numbers it refuses and what it carries. Assumes nothing.
 use mathlib.Core.Path.{_≡_, refl, sym, ap, _∙_}

@@ -1,4 +1,7 @@
--- The nodes of a call's arguments: behind the call, and each behind the one before it. Assumes nothing.
+-- The nodes of a call's arguments: each is behind the call, and behind the argument before it (`Rising`). An argument's
+-- node is the index of its record, and the next argument begins after its subtree; so they rise along the stretch
+-- (`rising`, by `forest-induction` on the siblings). Cite `call-rising`: the first node is not 0, so no argument has
+-- the word of an empty parameter. Assumes nothing.
 use mathlib.Core.Path.{_≡_, refl, ap}
 use mathlib.Core.List.{List, [], _∷_}
 use Prim.Native.Nat.{ℕ, zero, suc, _+_, _/_, _<_, _≤_}

@@ -1,4 +1,9 @@
--- Where the parameters of an accepted list stand, by their modes, and what a name finds. Assumes nothing.
+-- The parameters of an accepted list, by their modes, and what a name finds. An accepted list has a good cut, and each
+-- flat parameter has the mode of its range (demand3's `modes-by-range`). So the first num_positional are PosOnly or
+-- PosOrName, later ones are not, and `*args` and `**kwargs` are where the counts say (`Stands`, shown by `stands`). The
+-- search by name finds a parameter that can be called by that name (`name-found`), and misses only if there is none
+-- (`name-missed`); both are by induction on the parameters. No two parameters have one name (`one-name`). Assumes
+-- nothing.
 use mathlib.Core.Path.{_≡_, refl, sym, ap, _∙_}
 use mathlib.Core.Bool.{Bool, true, false, _&&_, _||_}
 use mathlib.Core.Logic.{_⊎_, inl, inr}
@@ -48,7 +53,7 @@ pub same-at : {A : Type 0} (l : List A) (i : ℕ) (x y : A) → IsAt l i x → I
 same-at (z ∷ l) zero x y e f = sym e ∙ f
 same-at (z ∷ l) (suc i) x y e f = same-at l i x y e f
 
--- the mode of a flat parameter stands among the modes
+-- the mode of a flat parameter is among the modes
 mode-in : (fs : List FlatParam) (i : ℕ) (p : FlatParam) → IsAt fs i p
     → p .mode ≡ getD (map (λ (p : FlatParam). p .mode) fs) i 0
 mode-in (q ∷ fs) zero p e = ap (λ (x : FlatParam). x .mode) (sym e)
@@ -58,7 +63,7 @@ pub mode-at : (ps : List Param) (i : ℕ) (p : FlatParam) → IsAt (flats ps) i 
 unfolding flats modes
 mode-at ps i p e = mode-in (flats ps) i p e ∙ ap (λ (l : List ℕ). getD l i 0) (flats-modes _ ps)
 
--- where positional parameters, `*args` and `**kwargs` of an accepted list stand
+-- where positional parameters, `*args` and `**kwargs` of an accepted list are
 pub record Stands (ps : List Param) (c : Counts) : Type 0 where
   pub few : c .«num_positional» .0 ≤ length (flats ps)
   pub front : (i : ℕ) → i < c .«num_positional» .0

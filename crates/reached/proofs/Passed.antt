@@ -1,4 +1,8 @@
--- What an accepted binding has passed, and where its words come from. Assumes nothing.
+-- What an accepted binding has passed: the entry, the def's list, the call's arguments, the search for a star, the walk
+-- and the search for an empty parameter (`Passed`, shown by `passed`: one step after the other is accepted, or the
+-- whole is not). The list at exit is the words of the walk and behind them what was there, so each word of the answer
+-- is a word of the walk (`word-is`), and each argument's word is the index that it reaches (`reached-is`, from Walk's
+-- `own-word`). Theorems on accepted bindings begin with `passed`. Assumes nothing.
 use mathlib.Core.Path.{_≡_, refl, ap, _∙_}
 use mathlib.Core.List.{List, _++_}
 use Prim.Native.Nat.{ℕ, _+_, _<_, _≤_}

@@ -4,7 +4,7 @@
 --   `*args`. A named one goes to the PosOrName or NameOnly parameter of that name, else to `**kwargs`; a PosOnly name
 --   counts as unknown. Every ordinary parameter without default has an argument.
 --
--- The job `bind::bind` promises to answer `bindOf` and to leave `listAfter` in the lent list, so each theorem is about
+-- The job `bind::bind` promises to return `bindOf` and to leave `listAfter` in the list, so each theorem is about
 -- its answer and the words of the list at exit: specs/Said.antt has them by name. Assumes nothing.
 use mathlib.Core.Path.{_≡_, refl, sym, ap, _∙_}
 use mathlib.Core.Bool.{Bool, true, false, not, _&&_}
@@ -184,7 +184,7 @@ module _ (t names : List ℕ) (call def : ℕ) (list : List ℕ) {vs : List ℕ}
       back e = let here : IsAt fs (own k) p = rw e sits in
           filled-word k a i at (fills k a p at here o ∙ ap Fills e)
 
-  -- so an argument stands at no two ordinary parameters
+  -- so an argument is the word of no two ordinary parameters
   pub at-one-parameter : (i j k : ℕ) (p q : FlatParam) (a : Argument) → IsAt fs i p → Ordinary p → IsAt fs j q
       → Ordinary q → IsAt qs k a → taken i ≡ nodeIn a .at → taken j ≡ nodeIn a .at → i ≡ j
   at-one-parameter i j k p q a ip op jq oq at e f =

@@ -1,5 +1,8 @@
--- What an argument reaches is there: an ordinary parameter that it fills, or the star that collects it.
--- Assumes nothing.
+-- What an argument reaches is there. A positional argument fills the parameter of its place or joins `*args`; a named
+-- one fills the parameter of its name or joins `**kwargs`; each by cases on the tests of `byPlace` and `byName`
+-- (`place-filled`, `place-joined`, `name-filled`, `name-joined`). So what is filled is an ordinary parameter of the
+-- list and what is joined is a star (`fills-ordinary`, `joins-starred`), by Params. The last laws say it in the words
+-- of the rules, in both directions: `placed-by` and `placed-fills`, `named-by` and `named-fills`. Assumes nothing.
 use mathlib.Core.Path.{_≡_, refl, sym, ap, _∙_}
 use mathlib.Core.Bool.{Bool, true, false}
 use mathlib.Core.Logic.{_⊎_, inl, inr}

@@ -1,4 +1,9 @@
--- Where a walk that is refused stops, and by which argument; so what 82 and 83 say. Assumes nothing.
+-- Where a refused walk stops, and so what 82 and 83 mean. It stops at an argument that reaches nothing, or at one whose
+-- parameter an earlier argument has filled; all before it reach something (`Stopped`, shown by `stop-at`: the induction
+-- is on the arguments, and a word that is there after a turn was there before or is that argument's). In an accepted
+-- call the positional arguments come first (`in-turn`), and names are distinct; so two arguments that fill one
+-- parameter are a positional one and a later named one, which is 83 (`against`), and 82 is a named one with no
+-- parameter of its name and no `**kwargs` (`no-kwargs`). Assumes nothing.
 use mathlib.Core.Path.{_≡_, refl, sym, ap, _∙_}
 use mathlib.Core.Bool.{Bool, true, false}
 use mathlib.Core.Logic.{_⊎_, inl, inr}
@@ -182,7 +187,7 @@ pub star-stars : (d : DefParamIndices) (fs : List FlatParam) (k i : ℕ) (r : No
 unfolding reaches
 star-stars d fs k i r e = never (cc)
 
--- in an accepted call no named argument stands before a positional one
+-- in an accepted call no named argument comes before a positional one
 abbrev NoPositional : List Kind → Type 0
 NoPositional [] = Unit {0}
 NoPositional (k ∷ ks) = (k ≡ Positional → ⊥) × NoPositional ks

@@ -1,5 +1,5 @@
--- A binding of a call of one source file to a def of another: 84 carries the def's file, 22 the call's. Both answers
--- are computed. Assumes nothing.
+-- A binding of a call of one source file to a def of another (W-208): 84 carries the def's file, 22 the call's. The
+-- table is in specs/TwoFiles.antt; the prover computes both answers on its bytes. Assumes nothing.
 use mathlib.Core.Path.{_≡_, refl}
 use mathlib.Core.List.{[], _∷_}
 use Rattle.fields.specs.Field.{field}

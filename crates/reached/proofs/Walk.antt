@@ -1,4 +1,9 @@
--- The walk along the arguments: what an accepted one has written, word by word. Assumes nothing.
+-- The walk along the arguments: what an accepted one has written, word by word. A turn that is accepted writes two
+-- words at most: the argument's node in the parameter that it fills, which was 0, and the index that it reached in its
+-- own word (`Took`). No later turn changes them (`stays`, `filled`). So in the end each argument's word is what it
+-- reaches (`own-word`), a filled parameter has the argument's node (`was-empty`), no two arguments fill one parameter
+-- (`once`), and each word of a parameter is as it was or comes from an argument (`comes-from`). All are by induction on
+-- the arguments, for any words so far. Assumes nothing.
 use mathlib.Core.Path.{_≡_, refl, sym, ap, _∙_}
 use mathlib.Core.Bool.{Bool, true, false}
 use mathlib.Core.Logic.{_⊎_, inl, inr}

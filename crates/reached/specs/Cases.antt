@@ -9,7 +9,7 @@ use Rattle.table.specs.Answer.{Answer, accepted, refusedAt}
 use Rattle.deflist.specs.Written.{Param, normal, noArgs, slash, args, kwargs}
 use Rattle.arguments.specs.Written as written
 
--- a record: its node, and a span that tells it from all others
+-- a record: its node, and a span that no other record has
 abbrev pub nodeAt : ℕ → Node
 nodeAt i = record {
   at = i;
@@ -73,7 +73,7 @@ pub record Row : Type 0 where
 abbrev pub row : List Param → List written.Argument → Answer → Row
 row ps qs x = record { params = ps; arguments = qs; shown = x }
 
--- parameters stand at the nodes 1 to 9, arguments from 21 on
+-- parameters have the nodes 1 to 9, arguments the nodes from 21 on
 abbrev pub rows : List Row
 rows =
     -- (a, /, **c) called with a = 1: the name is unknown and goes to `**c`, so that a is left empty
@@ -103,7 +103,7 @@ rows =
     ∷ row (plain 1 a ∷ bare 2 ∷ plain 3 b ∷ []) (by 21 b ∷ by 22 a ∷ []) (accepted (22 ∷ 21 ∷ 1 ∷ 0 ∷ []))
     -- () called with nothing
     ∷ row [] [] (accepted [])
-    -- two lists exchanged by name: refused where both stand before `/`, else each still reaches its own
+    -- two lists exchanged by name: refused where both are before `/`, else each still reaches its own
     ∷ row (plain 1 a ∷ plain 2 b ∷ mark 3 ∷ []) (by 21 b ∷ by 22 a ∷ []) (refusedAt unknownNamed (nodeAt 21))
     ∷ row (plain 1 a ∷ plain 2 b ∷ []) (by 21 b ∷ by 22 a ∷ []) (accepted (22 ∷ 21 ∷ 1 ∷ 0 ∷ []))
     ∷ []

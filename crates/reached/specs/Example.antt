@@ -1,5 +1,5 @@
--- A call and a def that W-204 speaks of: `def f(a, /, b=1, *args, c, **k): pass` and `f(1, 2, 3, c=4, d=5)`, record by
--- record. The def is of source file 1 and the call of source file 2 (W-208). These are definitions.
+-- A call and a def to which W-204 applies, record by record: `def f(a, /, b=1, *args, c, **k): pass` and `f(1, 2, 3,
+-- c=4, d=5)`. The def is of source file 1 and the call of source file 2 (W-208). These are definitions.
 use mathlib.Core.Bool.{true, false}
 use mathlib.Core.List.{List, [], _∷_, _++_}
 use Prim.Native.Nat.{ℕ}
@@ -45,7 +45,7 @@ table =
 abbrev pub names : List ℕ
 names = 97 ∷ 98 ∷ 97 ∷ 114 ∷ 103 ∷ 115 ∷ 99 ∷ 107 ∷ 102 ∷ 100 ∷ []
 
--- a lent list with a word more than is needed
+-- a list with one word more than is needed
 abbrev pub room : List ℕ
 room = replicate 12 7
 

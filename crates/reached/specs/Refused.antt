@@ -1,4 +1,4 @@
--- What 80, 81 and 84 are said of, and which refusals say besides where a name was before. These are definitions.
+-- Where 80, 81 and 84 are reported, and which refusals also carry an earlier node. These are definitions.
 use mathlib.Core.Path.{_≡_}
 use mathlib.Core.Logic.{_⊎_}
 use mathlib.Core.List.{List, _∷_}
@@ -51,7 +51,7 @@ pub record LeftEmpty (fs : List FlatParam) (qs : List Argument) (vs : List ℕ) 
       → ((r : Node) × (IsAt qs i (positional r) × ByPlace p))
       ⊎ ((k : ℕ) × ((r : Node) × (IsAt qs k (named r (p .name)) × CanBeNamed p)))
 
--- of all refusals 11 and 22 alone carry an earlier node, as a fifth number
+-- of all refusals only 11 and 22 carry an earlier node, as a fifth number
 abbrev pub OnlyTwoCarry : Answer → Type 0
 OnlyTwoCarry (accepted vs) = Unit {0}
 OnlyTwoCarry (refused n vs) = ((n ≡ duplicatedParameter) ⊎ (n ≡ repeatedNamed) → length vs ≡ 5)

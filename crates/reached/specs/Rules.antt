@@ -1,4 +1,4 @@
--- The rules of a call and a def, without the job: what document 02 asks of two lists that are to be bound. These are
+-- The rules of a call and a def, without the job: what W-204 requires of two lists that are to be bound. These are
 -- definitions.
 use mathlib.Core.Path.{_≡_}
 use mathlib.Core.Bool.{true, false}

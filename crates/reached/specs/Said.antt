@@ -1,4 +1,4 @@
--- What W-204 speaks of: number i of a list, and kinds of parameters. These are definitions.
+-- The words of W-204's sentences: number i of a list, and kinds of parameters. These are definitions.
 use mathlib.Core.Path.{_≡_}
 use mathlib.Core.Logic.{_⊎_}
 use mathlib.Core.List.{List, [], _∷_}

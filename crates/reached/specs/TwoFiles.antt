@@ -1,4 +1,4 @@
--- A table of two source files that W-208 speaks of, record by record: `def f(a): pass` of file 1, and of file 2 the
+-- A table of two source files to which W-208 applies, record by record: `def f(a): pass` of file 1, and of file 2 the
 -- calls `f()` and `f(b=1, b=2)`. These are definitions.
 use mathlib.Core.List.{List, [], _∷_, _++_}
 use Prim.Native.Nat.{ℕ, _+_}

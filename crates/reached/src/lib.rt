@@ -1,2 +1,2 @@
-// No code: W-204 in the user's words, as theorems over the binding job. specs/Said.antt has the words that its
-// sentences need, proofs/Reached.antt the sentences, one by one.
+// No code: W-204 in the user's words, as theorems about the binding job. specs/Said.antt defines the words of its
+// sentences, proofs/Reached.antt states the sentences one by one.

@@ -1,7 +1,6 @@
 // Replays recorded requests through the C interface, and prints for each job how many answers are the recorded ones:
-// those that the crate gave, and those that the model of the documents gave, where the crate has none.
-// data/requests.bin was written by `oracle/compare --record`, on inputs on which all that judge them agreed;
-// oracle/README.md has its form.
+// those that the crate gave and, where the crate has no such job, those of the oracle's model. data/requests.bin was
+// written by `oracle/compare --record`, on inputs on which all judges agreed; oracle/README.md describes its form.
 mod requests;
 
 use libc::STDOUT_FILENO;
@@ -15,7 +14,7 @@ fn say_number(n: u64) {
     io::print_decimal(STDOUT_FILENO, n);
 }
 
-// The count of a place: a job's answers by one judge.
+// The count at a place: the answers of one job by one judge.
 fn at(counts: &[u64], place: usize) -> u64 {
     if place < counts.len() {
         counts[place]
@@ -24,7 +23,7 @@ fn at(counts: &[u64], place: usize) -> u64 {
     }
 }
 
-// How many answers by a judge agree, and the number of the first request whose answer does not, from 1.
+// Prints how many answers of a judge agree, and the number of the first request whose answer does not, counted from 1.
 fn say_judged(place: usize, agree: &[u64; 30], differ: &[u64; 30], first: &[u64; 30]) {
     say_number(at(agree, place));
     say(b" agree, ");
@@ -36,7 +35,7 @@ fn say_judged(place: usize, agree: &[u64; 30], differ: &[u64; 30], first: &[u64;
     }
 }
 
-// A job's line: the model's answers stand at an even place, the crate's behind them.
+// Prints the line of a job. The model's answers are at an even place, the crate's at the next.
 fn say_counts(
     name: &[u8],
     model: usize,
@@ -53,7 +52,7 @@ fn say_counts(
     say(b"\n");
 }
 
-// One more at a place.
+// Adds one at a place.
 fn count(counts: &mut [u64], place: usize) {
     if place < counts.len() {
         if counts[place] < 65536 {
@@ -62,7 +61,7 @@ fn count(counts: &mut [u64], place: usize) {
     }
 }
 
-// The first number that is given for a place stays.
+// Sets the number of a place, unless it is set already.
 fn keep(first: &mut [u64], place: usize, number: u64) {
     if place < first.len() {
         if first[place] == 0 {
@@ -71,7 +70,7 @@ fn keep(first: &mut [u64], place: usize, number: u64) {
     }
 }
 
-// Counts a request: false at the end of the file.
+// Counts one request. Returns false at the end of the file.
 fn note(
     r: Replayed,
     number: u64,
@@ -93,7 +92,7 @@ fn note(
     }
 }
 
-// All requests, at most 65,536.
+// Counts all requests, at most 65,536.
 fn all(fd: i32, agree: &mut [u64], differ: &mut [u64], first: &mut [u64]) {
     let mut number = 0u64;
     while number < 65536 {

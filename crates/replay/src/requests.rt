@@ -1,18 +1,19 @@
-// One recorded request: it is read, its job is run on memory with a pattern, and all of that memory is held to what is
-// recorded.
+// One recorded request: it is read, its job is run on memory filled with a pattern, and all of that memory is compared
+// with the record.
 use forest::names;
 ghost use Prim.Native.Nat.{_<_};
 
-// What comes of a request: there is none left, or where it is counted and whether the answer is the recorded one.
+// The result of a request: there is none left, or the place where it is counted and whether the answer is the recorded
+// one.
 pub(crate) enum Replayed {
     End,
     Same(usize),
     Different(usize),
 }
 
-// The head of a request: the job, how long its parts are, the job's node, the number that it answers, how many words,
-// and whether the crate (1) or the model alone (0) has given the answer. `second` is the Def's node of a binding, how
-// long the second buffer of a reader is, and the edition of a type job, an audit or a file that is written.
+// The head of a request: the job, the lengths of its parts, the node, the number of the answer, the number of words,
+// and whether the crate (1) or the model alone (0) gave the answer. `second` is the node of the Def for a binding,
+// the length of the second buffer for a reader, and the edition for a type job, an audit or a writer.
 struct Asked {
     job: usize,
     dialect: usize,
@@ -26,7 +27,7 @@ struct Asked {
     judge: usize,
 }
 
-// The jobs whose buffers are of words.
+// The jobs whose buffers consist of words.
 const MODULE: usize = 6;
 
 const BIND: usize = 8;
@@ -35,16 +36,16 @@ const AUDIT: usize = 10;
 
 const CHECK_FILE: usize = 12;
 
-// The reader, whose two buffers are of bytes.
+// The reader, whose two buffers consist of bytes.
 const READ: usize = 11;
 
-// The writer of format texts, the words of whose parts stand where names do, four bytes each; and their reader, whose
-// first buffer is of words.
+// The writer of format texts, which gets the words of its parts in place of names, four bytes each; and their reader,
+// whose first buffer consists of words.
 const FSTRING_WRITE: usize = 13;
 
 const FSTRING_READ: usize = 14;
 
-// What each byte of the lent memory is before a job.
+// The value of each byte of the buffers before a job.
 const FILL: u8 = 0xEE;
 
 const FILL_WORD: u32 = 0xEEEE_EEEE;
@@ -64,17 +65,17 @@ fn head_of(head: &[u8]) -> Asked {
     }
 }
 
-// How many bytes so many words are.
+// The number of bytes of some words.
 fn bytes_of(words: usize) -> usize {
     4 * (words % 65536)
 }
 
-// Whether a job's buffer is of words.
+// Whether the buffer of a job consists of words.
 fn is_listed(job: usize) -> bool {
     ((job == MODULE) | (job == BIND)) | ((job == AUDIT) | (job == CHECK_FILE))
 }
 
-// How many bytes the recorded buffers have.
+// The number of bytes of the recorded buffers.
 fn buffer_len(job: usize, room: usize, second: usize) -> usize
     ensures { λ r. ⌜ r < 327680 ⌝ }
 {
@@ -90,13 +91,13 @@ fn buffer_len(job: usize, room: usize, second: usize) -> usize
     room % 65536
 }
 
-// How many bytes stand behind the head.
+// The number of bytes after the head.
 fn size_of(a: Asked) -> usize {
     let parts = a.table % 65536 + a.names % 65536 + a.dialect % 65536;
     parts + 4 * (a.words % 65536) + buffer_len(a.job, a.room, a.second)
 }
 
-// The next bytes of the file, put at the front of a buffer: whether they were all there.
+// Reads the next `len` bytes of the file to the front of a buffer. Returns false if there are fewer.
 fn filled(fd: i32, space: &mut [u8], len: usize) -> bool {
     if space.len() < len {
         return false;
@@ -104,7 +105,7 @@ fn filled(fd: i32, space: &mut [u8], len: usize) -> bool {
     io::read_full(fd, &mut space[0..len]) == len
 }
 
-// The front of a buffer, as much of it as is there, and what stands behind it.
+// The first `len` bytes of a buffer, and the bytes after them; none if the buffer is shorter.
 fn front(s: &[u8], len: usize) -> &[u8] {
     if len <= s.len() {
         return &s[0..len];
@@ -119,7 +120,7 @@ fn behind(s: &[u8], len: usize) -> &[u8] {
     &s[0..0]
 }
 
-// A recorded edition: 65,535 stands for the word for none.
+// A recorded edition as a word; 65,535 is recorded for none.
 fn edition_of(recorded: usize) -> u32 {
     if recorded == 65535 {
         return 0xFFFF_FFFF;
@@ -127,8 +128,8 @@ fn edition_of(recorded: usize) -> u32 {
     (recorded % 65536) as u32
 }
 
-// A request's job, but for the reader and those with a buffer of words: the number that it answers. A file stands where
-// a table does.
+// Runs the job of a request, except the reader and the jobs with a buffer of words, and returns its number. A file is
+// recorded in place of a table.
 fn run(
     a: Asked,
     table: &[u8],
@@ -165,7 +166,7 @@ fn run(
     }
 }
 
-// A recorded word, or what a word was where none is recorded.
+// A recorded word, or the fill word if none is recorded.
 fn word_of(recorded: &[u8], len: usize, i: usize) -> u32 {
     if i < len {
         return fields::word(recorded, bytes_of(i));
@@ -173,7 +174,7 @@ fn word_of(recorded: &[u8], len: usize, i: usize) -> u32 {
     FILL_WORD
 }
 
-// Whether words are the recorded ones, so many of them, and the others are as they were.
+// Whether the first words are the recorded ones and the others are unchanged.
 fn each_word(recorded: &[u8], len: usize, out: &[u32]) -> bool {
     let mut i = 0;
     while i < out.len() {
@@ -185,12 +186,12 @@ fn each_word(recorded: &[u8], len: usize, out: &[u32]) -> bool {
     true
 }
 
-// The recorded answer begins with the words of `out`; number and words must be as recorded.
+// Whether number and words are as recorded. The recorded answer begins with the words of `out`.
 fn is_told(a: Asked, number: u32, answer: &[u8], out: &[u32; 12]) -> bool {
     (number == a.number) & each_word(answer, a.words, out)
 }
 
-// Whether a request's job leaves number, words and buffer as recorded.
+// Whether number, words and buffer of a job are as recorded.
 fn agrees(a: Asked, table: &[u8], names: &[u8], dialect: &[u8], answer: &[u8]) -> bool {
     let mut space = [FILL; 2560];
     let mut out = [FILL_WORD; 12];
@@ -207,7 +208,7 @@ fn agrees(a: Asked, table: &[u8], names: &[u8], dialect: &[u8], answer: &[u8]) -
     names::same_bytes(front(whole, room), behind(answer, bytes_of(a.words)))
 }
 
-// Whether the reader leaves number, words and both buffers as recorded.
+// Whether number, words and both buffers of the reader are as recorded.
 fn read_agrees(a: Asked, file: &[u8], answer: &[u8]) -> bool {
     let mut space = [FILL; 2560];
     let mut more = [FILL; 2560];
@@ -238,7 +239,7 @@ fn read_agrees(a: Asked, file: &[u8], answer: &[u8]) -> bool {
         & names::same_bytes(front(whole_names, second), behind(read, room))
 }
 
-// The module pass, a binding, the audit or the check of a file: the number that it answers.
+// Runs the module pass, a binding, the audit or the check of a file, and returns its number.
 fn run_listed(
     a: Asked,
     table: &[u8],
@@ -263,7 +264,7 @@ fn run_listed(
     }
 }
 
-// The same for those, whose buffers are of words.
+// Whether number, words and buffer of such a job, whose buffer consists of words, are as recorded.
 fn list_agrees(a: Asked, table: &[u8], names: &[u8], dialect: &[u8], answer: &[u8]) -> bool {
     let mut space = [FILL_WORD; 256];
     let mut out = [FILL_WORD; 12];
@@ -280,7 +281,7 @@ fn list_agrees(a: Asked, table: &[u8], names: &[u8], dialect: &[u8], answer: &[u
     each_word(behind(answer, bytes_of(a.words)), room, whole)
 }
 
-// Whether the format text of parts is told and left as recorded. A request has at most twelve words.
+// Whether number, words and buffer of the writer of format texts are as recorded. A request has at most twelve words.
 fn format_agrees(a: Asked, texts: &[u8], parts: &[u8], dialect: &[u8], answer: &[u8]) -> bool {
     let words = [
         fields::word(parts, 0),
@@ -322,7 +323,7 @@ fn format_agrees(a: Asked, texts: &[u8], parts: &[u8], dialect: &[u8], answer: &
     names::same_bytes(front(whole, room), behind(answer, bytes_of(a.words)))
 }
 
-// Whether the parts of a format text are told and both buffers left as recorded.
+// Whether number, words and both buffers of the reader of format texts are as recorded.
 fn parts_agree(a: Asked, text: &[u8], answer: &[u8]) -> bool {
     let mut space = [FILL_WORD; 256];
     let mut more = [FILL; 2560];
@@ -353,7 +354,7 @@ fn parts_agree(a: Asked, text: &[u8], answer: &[u8]) -> bool {
         & names::same_bytes(front(whole_texts, second), behind(read, bytes_of(room)))
 }
 
-// Whether a request's answer is the recorded one, where the request stands behind its head.
+// Whether the answer of a request is the recorded one, given the bytes after its head.
 fn is_same(a: Asked, body: &[u8]) -> bool {
     let table = front(body, a.table);
     let left = behind(body, a.table);
@@ -376,7 +377,7 @@ fn is_same(a: Asked, body: &[u8]) -> bool {
     agrees(a, table, names, dialect, answer)
 }
 
-// Where a request is counted: two places for each job, the model's and the crate's.
+// The place where a request is counted: two places for each job, the model's and the crate's.
 fn place_of(job: usize, judge: usize) -> usize {
     2 * (job % 256) + judge % 2
 }

@@ -1,6 +1,7 @@
--- What the cut to k children is: its root is the old one but for the size, and its children are the first k of the old
--- ones (`cut-children`, by forest-firsts of forest). Nothing is asked of the table but that it has whole records, so
--- that no law below speaks of sound children. Assumes nothing.
+-- The cut of a table to k children: its root is the old one except for the size, and its children are the first k of
+-- the old ones (`cut-children`, by forest's `forest-firsts`). The only premise is that the table has whole records,
+-- so no law here needs sound children. Changing the size touches bytes 16 and 17 of the root alone, which no other
+-- field and no child reads. Assumes nothing.
 use mathlib.Core.Path.{_≡_, refl, sym, ap, _∙_}
 use mathlib.Core.Logic.{_⊎_, inl, inr, ⊎-elim}
 use mathlib.Core.List.{List}
@@ -49,7 +50,7 @@ module _ (k : ℕ) (t : List ℕ) (some : 24 ≤ length t) (whole : 24 * (length
   abbrev pub cutNodes : ℕ
   cutNodes = 1 + count (firsts k (children t))
 
-  -- the first k children stand within the root's
+  -- the first k children lie within those of the root
   inside : 24 * count (firsts k (children t)) ≤ spanOf t - 24
   inside = omega (arith, firsts-count k (children t), count-forest 1 (kidsOf t), length-kids t)
 
@@ -100,7 +101,7 @@ module _ (k : ℕ) (t : List ℕ) (some : 24 ≤ length t) (whole : 24 * (length
     cut-field 4 20 (inr (omega arith)) (omega arith),
   ) refl
 
-  -- LAW: the cut's children are the first k
+  -- LAW: the children of the cut are the first k
   kids-cut : kidsOf (cutTo k t) ≡ take (24 * count (firsts k (children t))) (kidsOf t)
   unfolding kidsOf cutTo
   kids-cut =

@@ -1,6 +1,8 @@
--- The cut, in the terms of code: the bytes of the leading children that can be kept are those of the cut to that many
--- (`done-is-cut`), so that one check decides between it and nothing (`cut-good`, `cut-bad`, by kept-is and kept-none of
--- Largest). Assumes nothing.
+-- Laws of `cut`, one for each `return`. The walk finds the length of the leading children that can be kept; these
+-- bytes, with the new size in the root, are the cut to that number of children (`done-is-cut`). If this cut passes it
+-- is the largest one (`cut-good`, by Largest's `kept-is`); if it does not, the root is at fault and no cut passes
+-- (`cut-bad`, by `kept-none`). So one check decides. A root that is no Statements, or no such child, keeps nothing.
+-- No induction. Assumes nothing.
 use mathlib.Core.Path.{_≡_, refl, sym, ap, _∙_}
 use mathlib.Core.Bool.{Bool, true, false}
 use mathlib.Core.List.{List}
@@ -25,7 +27,7 @@ unfolding resized
 take-resized m n t big = take-set-lt n (set t 16 (m % 256)) 17 (m / 256) (omega arith)
     ∙ ap (λ (x : List ℕ). set x 17 (m / 256)) (take-set-lt n t 16 (m % 256) (omega arith))
 
--- nothing is kept
+-- the returns at which nothing is kept
 front-none : (t names u : List ℕ) → childrenKept t names ≡ 0 → Front (largestCut t names) u 0
 unfolding largestCut
 front-none t names u e = record { size = rw e refl; front = rw e refl }

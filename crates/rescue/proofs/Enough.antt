@@ -1,7 +1,8 @@
--- What a program reads of a file, 59,904 bytes or more, is enough for a file of any length: 117 blocks are the most
--- that a header speaks of. Where the counts fit, all that is judged, held and kept of the first n bytes is that of the
--- whole (by the laws of a part in blocks); where they do not, both are 90. So the answer is the same but for the bytes
--- after the last block, which are counted on (`read-enough`), and so is the buffer (`file-enough`). Assumes nothing.
+-- A program reads the first 59,904 bytes of a file, or more; that is enough for a file of any length, because a
+-- header describes at most 117 blocks. If the counts are within the limits, everything that is judged, read and kept
+-- depends on the first n bytes alone (the laws of parts in blocks); if not, both answers are 90. So the answer is the
+-- same but for the number of bytes after the last block, to which the unread bytes are added (`read-enough`), and the
+-- buffer is the same (`file-enough`). Assumes nothing.
 use mathlib.Core.Path.{_≡_, refl, sym, ap, _∙_}
 use mathlib.Core.Bool.{Bool, true, false, and-false}
 use mathlib.Core.List.{List, [], _∷_}
@@ -50,7 +51,7 @@ later-steps true true false d p q r s t = refl
 later-steps true false c d p q r s t = refl
 later-steps false b c d p q r s t = refl
 
--- the first n bytes of a file, as many as the largest has, or more
+-- the first n bytes of a file, where n is at least the length of the largest file
 module _ (bs : List ℕ) (n : ℕ) (big : 512 * mostBlocks ≤ n) where
   abbrev h : ℕ
   h = headerAt bs .first
@@ -71,7 +72,7 @@ module _ (bs : List ℕ) (n : ℕ) (big : 512 * mostBlocks ≤ n) where
   zero-same : judge 0 (usedOf (headerAt bs)) (take n bs) ≡ judge 0 (usedOf (headerAt bs)) bs
   zero-same = judge-front 0 (usedOf (headerAt bs)) n bs (omega arith)
 
-  -- where the counts fit, the blocks are among them
+  -- if the counts are within the limits, these bytes contain the blocks
   module _ (fit : countsFit (headerAt bs .nodes) (headerAt bs .names) ≡ true) where
     name-blocks : blocksFor (headerAt bs .names) ≤ 16
     unfolding blocksFor
@@ -141,7 +142,7 @@ module _ (bs : List ℕ) (n : ℕ) (big : 512 * mostBlocks ≤ n) where
         (later-steps (headGood bs) (leb 1 (length (tableKept bs))) (leb (size bs room) room) _ _ _ _ _ _
         ∙ rw more (sym (rescue-is bs room)))
 
-  -- and where they do not, both are 90
+  -- if they are not, both answers are 90
   module _ (unfit : countsFit (headerAt bs .nodes) (headerAt bs .names) ≡ false) where
     head-first : headGood (take n bs) ≡ false
     unfolding headGood
@@ -154,7 +155,7 @@ module _ (bs : List ℕ) (n : ℕ) (big : 512 * mostBlocks ≤ n) where
     answer-unfit : (room : ℕ) → later (length bs - n) (rescueOf (take n bs) room) ≡ rescueOf bs room
     answer-unfit room = rw (bad-head (take n bs) room head-first) (sym (bad-head bs room head-whole))
 
-  -- LAW: the answer is the same, but that more bytes are counted
+  -- LAW: the answer is the same except for the number of bytes after the last block
   pub answer-same : (room : ℕ) → later (length bs - n) (rescueOf (take n bs) room) ≡ rescueOf bs room
   answer-same room = go (countsFit (headerAt bs .nodes) (headerAt bs .names)) refl
     where
@@ -163,7 +164,7 @@ module _ (bs : List ℕ) (n : ℕ) (big : 512 * mostBlocks ≤ n) where
       go true fit = answer-fit fit room
       go false unfit = answer-unfit unfit room
 
-  -- THEOREM: the answer to the first n bytes, with the bytes behind them counted on, is the answer to all of them
+  -- THEOREM: the answer for the first n bytes, with the number of the other bytes added, is the answer for all
   pub read-enough : (r : Rescued) (room : ℕ) → rescued r ≡ rescueOf (take n bs) room
       → rescued (moreOf (length bs - n) r) ≡ rescueOf bs room
   read-enough r room e = means r ∙ ap (later (length bs - n)) e ∙ answer-same room
@@ -172,7 +173,7 @@ module _ (bs : List ℕ) (n : ℕ) (big : 512 * mostBlocks ≤ n) where
       means (Accepted k) = refl
       means (Refused why) = refl
 
-  -- and the buffer is left alike
+  -- the buffer at exit is the same
   pub file-enough : (buffer : List ℕ) → fileAfter (take n bs) buffer ≡ fileAfter bs buffer
   unfolding fileAfter
   file-enough buffer = go (countsFit (headerAt bs .nodes) (headerAt bs .names)) refl

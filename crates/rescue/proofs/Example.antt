@@ -1,7 +1,7 @@
--- What the claims about a damaged file suppose can be met: a file with good blocks whose third record is unsound, a
--- Break with a detail. Its blocks do not pass, and the rescue keeps the first of its two statements. The same with
--- wrong file numbers (W-208): a child's is where the rescue cuts, and nothing is kept under a root that has one. All is
--- computed. Assumes nothing.
+-- The hypotheses of the claims on damaged files can be met: a file with good blocks whose third record, a Break with
+-- a detail, is unsound. Its blocks do not pass, and the rescue keeps the first of its two statements. The same with
+-- wrong source file numbers (W-208): the rescue cuts before a child with a wrong number, and keeps nothing under a
+-- root that has one. All is computed. Assumes nothing.
 use mathlib.Core.Path.{_≡_, refl}
 use mathlib.Core.Bool.{false}
 use mathlib.Core.List.{List, [], _∷_, _++_, map}
@@ -45,7 +45,7 @@ holding t = record { table = t; names = []; dialect = []; edition = Nothing }
 abbrev pub content : Content
 content = holding (recordOf kindStatements 0 3 0 ++ (recordOf kindBreak 0 1 1 ++ recordOf kindBreak 1 1 1))
 
--- file numbers that are wrong: the second child's, the root's, and those of a file that is older than the numbers
+-- wrong source file numbers: of the second child, of the root, and of a file that is older than the numbers
 abbrev pub wrongChild : Content
 wrongChild = holding (recordOf kindStatements 0 3 0 ++ (recordOf kindBreak 0 1 1 ++ recordOf kindBreak 0 1 0))
 
@@ -67,7 +67,7 @@ unfolding field bytesOf weighed sumOf beforeSum blockOf zeros examine judge bloc
     rescueOf within validBytes fromBytes
 does-not-pass = refl
 
--- what is printed: 1,024 bytes, one statement and two nodes kept, one node dropped, no byte behind
+-- the counts: 1,024 bytes, one statement and two nodes kept, one node dropped, no byte after the last block
 pub is-rescued : rescueOf (fileOf content) 1024 ≡ accepted (1024 ∷ 1 ∷ 2 ∷ 1 ∷ 0 ∷ [])
 unfolding field bytesOf weighed sumOf beforeSum blockOf zeros examine judge blocksFor blocksOf runOf judgeBlocks
     judgeRun goodBlocks contents contentIn contentOf headerOf fileOf dialectIn editionIn editionHeld rulesOf headerAt
@@ -79,7 +79,7 @@ unfolding field bytesOf weighed sumOf beforeSum blockOf zeros examine judge bloc
     rescueOf within validBytes fromBytes
 is-rescued = refl
 
--- the child with a wrong number is dropped; nothing is kept of the other two, 91
+-- the child with a wrong number is dropped; of the other two files nothing is kept, 91
 pub numbers-rescued : map (λ (c : Content). rescueOf (fileOf c) 1024) (wrongChild ∷ wrongRoot ∷ oldFile ∷ [])
     ≡ accepted (1024 ∷ 1 ∷ 2 ∷ 1 ∷ 0 ∷ []) ∷ refused nothingKept [] ∷ refused nothingKept [] ∷ []
 unfolding field bytesOf weighed sumOf beforeSum blockOf zeros examine judge blocksFor blocksOf runOf judgeBlocks

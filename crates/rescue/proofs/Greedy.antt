@@ -1,8 +1,8 @@
--- Which cuts pass. A child is `keepable` by itself, in the context of its table: a statement whose nodes are sound,
--- have the number of one source file, and are not too deep. The cut to k children passes exactly where the root's
--- fields are sound, its file number is 0, and each of its first k children is keepable (`cut-accepted`,
--- `cut-keepable`): the check of the cut is one of its forest (any-clean and clean-any of soundness), and that is the
--- root and these children. Inductions are on the forest. Assumes nothing.
+-- Which cuts pass. Whether a child is `keepable` depends on the child and its table: it is a statement whose nodes
+-- are sound, have the number of one source file, and are not too deep. The cut to k children passes exactly if the
+-- root's fields are sound, its source file number is 0, and each of its first k children is keepable (`cut-accepted`,
+-- `cut-keepable`). For the check of the cut is a check of its forest (soundness's `any-clean` and `clean-any`), which
+-- is the root and these children. The inductions are on the forest. Assumes nothing.
 use mathlib.Core.Path.{_≡_, refl, sym, ap, _∙_}
 use mathlib.Core.Bool.{Bool, true, false, _&&_}
 use mathlib.Core.List.{List, [], append-nil}
@@ -41,7 +41,7 @@ unfoldable pub each : (Tree → Bool) → Forest → Bool
 each p none = true
 each p (t then ts) = p t && each p ts
 
--- LAW: trees that can be kept are what the check of a table asks of a root's children
+-- LAW: trees that can be kept pass what the check of a table tests of a root's children
 pub record Keepable (m : ℕ) (f : Forest) : Type 0 where
   pub sound : allSound (λ i. context m anyFile) f ≡ true
   pub files : filesTop f ≡ true
@@ -152,7 +152,7 @@ leading-few p (node r ks then ts) = go (p (node r ks)) (leading-few p ts)
     go true h = omega arith
     go false h = omega arith
 
--- what a Statements asks of its children
+-- the rule for the children of a Statements
 class-statements : classOf kindStatements ≡ statement
 unfolding kindOf kindIn
 class-statements = refl
@@ -217,7 +217,7 @@ module _ (t names : List ℕ) (some : 24 ≤ length t) (whole : 24 * (length t /
   unfolding filesSound
   files-is = ap filesSound (cut-forest k t some whole) ∙ rw (kind-cut, cut-file k t some whole) refl
 
-  -- LAW: the cut passes where the root's fields are sound, it has no file number, and each of the children can be kept
+  -- LAW: the cut passes if the root's fields are sound, its file number is 0, and each of the children can be kept
   pub record Passed : Type 0 where
     pub named : length names ≤ 8064
     pub fields : fieldsSound x (nodeOf 0 t) ≡ true
@@ -242,7 +242,7 @@ module _ (t names : List ℕ) (some : 24 ≤ length t) (whole : 24 * (length t /
         deep = deep-is ∙ says .flat;
       }
 
-  -- LAW: and only there
+  -- LAW: it passes only then
   pub cut-keepable : {vs : List ℕ} → checkOf (cutTo k t) names ≡ accepted vs → Passed
   cut-keepable e =
       let clean = accepted-clean (cutTo k t) names e in

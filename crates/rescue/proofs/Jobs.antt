@@ -1,7 +1,8 @@
--- The job, in the terms of code: what each refusal and the answer are, and what the parts ask for. `Ready` says that
--- the header is good and what the names are, `Goods` what the good records are, and `Keeping` what is kept of them;
--- from there on the definition's three tests are those of code. The file is written, or copied where the blocks pass:
--- then it is these blocks (`lay-whole`, by whole-file of Keeping). Assumes nothing.
+-- Laws of the job, one for each `return`. Three records carry what is known from function to function: `Ready` (the
+-- header is good, and what the names are), `Goods` (the records in good blocks) and `Keeping` (the table that is
+-- kept). From there on the three tests of the definition are those of the code: 90, 91 and 7. The output is written
+-- by the writer, or copied if the blocks pass; then the kept file is these blocks (`lay-whole`, by Keeping's
+-- `whole-file`). No induction. Assumes nothing.
 use mathlib.Core.Path.{_≡_, refl, sym, ap, _∙_}
 use mathlib.Core.Bool.{Bool, true, false, _&&_}
 use mathlib.Core.List.{List, [], _∷_, _++_}
@@ -38,12 +39,12 @@ use Rattle.rescue.proofs.Keeping.{whole-is, kept-is, whole-kept, whole-
 use Rattle.rescue.proofs.Keeping.{good-content, good-length, good-whole}
 use Rattle.rescue.proofs.Theorems.{said, bad-head, kept-nothing, short-room}
 
--- a refusal leaves the buffer
+-- a refusal leaves the buffer unchanged
 keeps : (bs file : List ℕ) {n : ℕ} {vs : List ℕ} → refused n vs ≡ rescueOf bs (length file) → file ≡ fileAfter bs file
 unfolding fileAfter
 keeps bs file e = rw (← e) refl
 
--- 90
+-- 90: the header is not good
 module _ (bs : List ℕ) {q : Bool} (q-is : q ≡ headGood bs) (bad : q ≡ false) where
   pub head-refused : (room : ℕ) → refused badHeader [] ≡ rescueOf bs room
   head-refused room = sym (bad-head bs room (sym q-is ∙ bad))

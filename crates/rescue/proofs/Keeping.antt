@@ -1,8 +1,8 @@
--- What is kept is sound, and the reader reads it back. Both cases of the definition are left behind here:
--- `kept-checked` says that the table passes 1 to 4 and `kept-small` that it is made of bytes, whether all is kept or a
--- cut; from there on the file's own laws speak of `kept bs`. Where the blocks pass, `kept bs` is what they hold, so
--- that its file is these blocks (`whole-file`, by front-is-file of tablefile); and they pass exactly where the good
--- records are all and pass 1 to 4 (`whole-is`), which is what code tests. Assumes nothing.
+-- What is kept is sound, and the reader reads it back. The definition has two cases, all or a cut; `kept-checked`
+-- (the table passes 1 to 4) and `kept-small` (it consists of bytes) hold in both, so the laws of files then apply to
+-- `kept bs` itself. If the blocks pass, `kept bs` is their content and its file is these blocks (`whole-file`, by
+-- tablefile's `front-is-file`). The blocks pass exactly if the good records are all records of the header and pass 1
+-- to 4 (`whole-is`), which is what the code tests. Assumes nothing.
 use mathlib.Core.Path.{_≡_, refl, sym, ap, _∙_}
 use mathlib.Core.Bool.{Bool, true, false, _&&_}
 use mathlib.Core.Logic.{⊎-elim}
@@ -50,7 +50,7 @@ use Rattle.rescue.specs.Steps.{keptIf}
 use Rattle.rescue.proofs.Cuts.{cut-length, cut-short}
 use Rattle.rescue.proofs.Largest.{keeps}
 
--- the header, once it is good
+-- what a good header implies
 pub record Head (bs : List ℕ) : Type 0 where
   pub fit : countsFit (headerAt bs .nodes) (headerAt bs .names) ≡ true
   pub counts : (1 ≤ headerAt bs .nodes) × (headerAt bs .nodes ≤ 2100) × (headerAt bs .names ≤ 8064)
@@ -86,7 +86,7 @@ head-says bs e =
     known (Known e) h = (e, refl)
     known Unknown h = clash h refl
 
--- the names of a good header are there
+-- the names of a good header are present whole
 module _ (bs : List ℕ) (head : headGood bs ≡ true) where
   names-run : judgeRun 1 (headerAt bs .names) (drop 512 bs) ≡ accepted []
   names-run =
@@ -103,7 +103,7 @@ module _ (bs : List ℕ) (head : headGood bs ≡ true) where
       let block = block-long 0 (usedOf (headerAt bs)) bs (head-says bs head .block) in
       omega (arith, run-long 1 (headerAt bs .names) (drop 512 bs) names-run, length-drop 512 bs, first-is bs)
 
--- the blocks pass: what they hold does, and it is what is kept
+-- the blocks pass: their content passes 1 to 5, and it is what is kept
 module _ (bs : List ℕ) (w : blocksPass bs ≡ true) where
   record Both : Type 0 where
     pub us : List ℕ
@@ -146,7 +146,7 @@ module _ (bs : List ℕ) (w : blocksPass bs ≡ true) where
   unfolding tableKept
   whole-kept = rw w refl
 
-  -- LAW: the file of what is kept is the header's blocks as they stand
+  -- LAW: the file of what is kept is the header's blocks, byte for byte
   pub whole-file : Bytes bs → fileOf (kept bs) ≡ take (headerAt bs .taken) bs
   whole-file small = ap fileOf whole-kept ∙ sym (front-is-file bs small whole-fronted)
 
@@ -169,8 +169,8 @@ module _ (bs : List ℕ) (w : blocksPass bs ≡ false) where
       go true e is = (leb-true 1 statementsKept e, is)
       go false e is = absurd (omega (arith, ap length is))
 
--- the records in good node blocks: whole records, no more than the header counts; and the whole passes exactly where
--- they are all and pass 1 to 4
+-- the records in good node blocks: whole records, at most the header's number; and the whole passes exactly if they are
+-- all records and pass 1 to 4
 module _ (bs : List ℕ) where
   abbrev total : ℕ
   total = 24 * headerAt bs .nodes
@@ -202,7 +202,7 @@ module _ (bs : List ℕ) where
       absurd (omega arith))
       (λ h. h)
 
--- what is kept, of the good records and the header's count
+-- what is kept, from the good records and the header's number of nodes
 module _ (bs : List ℕ) (head : headGood bs ≡ true) where
   abbrev good-test : Bool
   good-test = leb (total bs) (length (goodTable bs)) && passes (checkOf (goodTable bs) (contentAt bs .names))
@@ -254,7 +254,7 @@ module _ (bs : List ℕ) (head : headGood bs ≡ true) where
       (le-or-lt (total bs) (length (goodTable bs))) in
       rw (lt-leb (total bs) (length (goodTable bs)) short, front-is, run) refl
 
-  -- LAW: the blocks pass exactly where the good records are all and pass 1 to 4
+  -- LAW: the blocks pass exactly if the good records are all records and pass 1 to 4
   pub whole-is : good-test ≡ blocksPass bs
   whole-is = go (judgeRun (headerAt bs .first) (total bs) (rest bs)) refl
     where
@@ -283,7 +283,7 @@ module _ (bs : List ℕ) (head : headGood bs ≡ true) (some : 1 ≤ length (tab
           let cut = cut-some bs w some in
           rw (cut .1) (keeps (goodTable bs) (contentAt bs .names) (cut .0) .passed)
 
-  -- it has a node, and no more than the header counts
+  -- it has a node, and at most the header's number of nodes
   pub kept-some : 24 ≤ length (tableKept bs)
   kept-some = accepted-clean (tableKept bs) (contentAt bs .names) kept-checked .least
 
@@ -349,7 +349,7 @@ module _ (bs : List ℕ) (head : headGood bs ≡ true) (some : 1 ≤ length (tab
       dialect-bytes = bytes-take (drop 8 bs) (headerAt bs .dialect) (bytes-drop bs 8 small);
     }
 
-    -- LAW: the reader accepts its file, and what that holds is what is kept
+    -- LAW: the reader accepts its file, and its content is what is kept
     pub kept-read : readCheck (fileOf (kept bs)) ≡ accepted []
     kept-read = back-accepted (kept bs) kept-content
 

@@ -1,6 +1,7 @@
--- The largest number of leading children that can be kept. Fewer pass where more do (`fewer-pass`); so one walk that
--- counts the leading keepable children, and one check of that cut, find the largest: it is that number where the check
--- is passed (`kept-is`) and none where it is not, since then the root is at fault (`kept-none`). Assumes nothing.
+-- The largest number of leading children that can be kept. If k children pass, so do fewer (`fewer-pass`). So one
+-- walk that counts the leading keepable children, and one check of that cut, find the largest number: it is that
+-- count if the check is passed (`kept-is`), and 0 if not, because then the root is at fault (`kept-none`). The
+-- only induction is that of the search for the largest number that passes a test (`largest-says`). Assumes nothing.
 use mathlib.Core.Path.{_≡_, refl, sym, ap, _∙_}
 use mathlib.Core.Bool.{Bool, true, false}
 use mathlib.Core.Logic.{⊎-elim}
@@ -23,7 +24,8 @@ use Rattle.rescue.specs.Steps.{keepable, leading}
 use Rattle.rescue.proofs.Greedy.{each, each-fewer, leading-each, each-leading, leading-few}
 use Rattle.rescue.proofs.Greedy.{Passed, cut-accepted, cut-keepable}
 
--- the largest number that passes: it does, no larger does, and a number with both is the largest
+-- the largest number that passes a test: it passes, no larger one does, and a number with both properties is the
+-- largest
 pub largest-says : (p : ℕ → Bool) (n : ℕ) → 1 ≤ largest p n → (p (largest p n) ≡ true) × (largest p n ≤ n)
 unfolding largest
 largest-says p zero some = absurd (omega arith)
@@ -70,12 +72,12 @@ module _ (t names : List ℕ) (some : 24 ≤ length t) (whole : 24 * (length t /
   passed : (k : ℕ) → test k ≡ true → Passed t names some whole kind k
   passed k e = cut-keepable t names some whole kind k (passes-is (checkOf (cutTo k t) names) e .1)
 
-  -- the root of each cut is the same but for its size
+  -- all cuts have the same root except for its size
   same-root : (j k : ℕ) → Passed t names some whole kind j
       → each (keepable (length names)) (firsts k (children t)) ≡ true → Passed t names some whole kind k
   same-root j k p good = record { named = p .named; fields = p .fields; file = p .file; good = good }
 
-  -- THEOREM: fewer children are kept where more are
+  -- THEOREM: if k children can be kept, so can fewer
   pub fewer-pass : (j k : ℕ) → j ≤ k → test k ≡ true → test j ≡ true
   fewer-pass j k less e =
       let p = passed k e in
@@ -89,7 +91,7 @@ module _ (t names : List ℕ) (some : 24 ≤ length t) (whole : 24 * (length t /
   unfolding childrenKept
   kept-largest = rw (eq-eqb (nodeOf 0 t .kind) kindStatements kind) refl
 
-  -- THEOREM: greedy is largest
+  -- THEOREM: the greedy walk finds the largest number
   pub kept-is : test most ≡ true → childrenKept t names ≡ most
   kept-is e = kept-largest
       ∙ largest-is test (length (roots (children t))) most (leading-few _ (children t)) (λ h. e)
@@ -102,8 +104,8 @@ module _ (t names : List ℕ) (some : 24 ≤ length t) (whole : 24 * (length t /
       let q = same-root j most (passed j p) (leading-each _ (children t)) in
       clash (ap passes (cut-accepted t names some whole kind most few q)) e)
 
--- what is kept of a table, if anything is: the root is a Statements, there are so many children, and their cut passes;
--- and no larger number of them does
+-- what is kept of a table, if anything is: the root is a Statements with that number of children, their cut passes, and
+-- no larger number passes
 module _ (t names : List ℕ) where
   abbrev cutPasses : ℕ → Bool
   cutPasses k = passes (checkOf (cutTo k t) names)

@@ -1,4 +1,9 @@
--- Laws of the small functions, in the terms of code: what each answers at each of its returns. Assumes nothing.
+-- Laws of the small functions, one for each `return`. `count` keeps that the counted nodes and those of the rest are
+-- all (`count-roots`). `good_bytes` keeps that the bytes of the blocks so far, and those of the good blocks of the
+-- rest, are those of all good blocks (`Gathering`); one block is judged a turn, and the first bad one ends it
+-- (`gather-stop`). `head_good` tests block 0, the counts, the dialect, the edition and the name blocks in the order
+-- of the definition (`head-zero` to `head-passed`). `can_keep`, `sound`, `all_sound` and `statements` are case
+-- distinctions. No induction beyond the loops. Assumes nothing.
 use mathlib.Core.Path.{_≡_, refl, sym, ap, _∙_}
 use mathlib.Core.Bool.{Bool, true, false, _&&_}
 use mathlib.Core.List.{List}
@@ -43,7 +48,7 @@ use Rattle.rescue.specs.Good.{headGood}
 use Rattle.rescue.specs.Job.{statementsOf}
 use Rattle.rescue.specs.Steps.{keepableAt, goodBytes}
 
--- nodes side by side, counted
+-- the number of sibling nodes
 roots-classes : (f : Forest) → length (roots f) ≡ length (classes f)
 unfolding roots classes
 roots-classes none = refl
@@ -59,7 +64,7 @@ module _ {t left : List ℕ} {n : ℕ} (s : Counting t left n) where
 pub resize-fits : (t : List ℕ) (i v : ℕ) → 24 ≤ length t → 17 < length (set t i v)
 resize-fits t i v h = omega (arith, length-set t i v)
 
--- the statements of a table
+-- the returns of `statements`
 module _ (t : List ℕ) {k : ℕ} (k-is : k ≡ nodeOf 0 t .kind) where
   pub statements-other : (k ≡ 1 → ⊥) → 1 ≡ statementsOf t
   unfolding statementsOf
@@ -70,7 +75,7 @@ module _ (t : List ℕ) {k : ℕ} (k-is : k ≡ nodeOf 0 t .kind) where
   unfolding statementsOf
   statements-kids kind {e} e-is n-is = n-is ∙ rw (kids-part e t e-is, ← k-is, eq-eqb k 1 kind) refl
 
--- whether a table passes, and whether all records do
+-- the returns of `sound` and `all_sound`
 module _ (t names : List ℕ) {f : Checked} (f-is : checked f ≡ checkOf t names) where
   pub sound-yes : f ≡ Sound → true ≡ passes (checkOf t names)
   sound-yes e = rw (← f-is, e) refl
@@ -86,7 +91,7 @@ module _ (t names : List ℕ) (n : ℕ) where
       → q ≡ (leb (24 * n) (length t) && passes (checkOf t names))
   all-there h q-is = q-is ∙ rw (le-leb (24 * n) (length t) h) refl
 
--- whether a child can be kept
+-- the returns of `can_keep`
 module _ (m : ℕ) (c : List ℕ) {k : ℕ} (k-is : k ≡ classOf (nodeOf 0 c .kind)) where
   pub keep-other : (k ≡ 1 → ⊥) → false ≡ keepableAt m c
   unfolding keepableAt
@@ -106,7 +111,7 @@ module _ (m : ℕ) (c : List ℕ) {k : ℕ} (k-is : k ≡ classOf (nodeOf 0 c .k
       unfolding keepableAt
       keep-flat e = rw (← k-is, eq-eqb k 1 class, ← u-is, clean, ← d-is, e) refl
 
--- the good blocks of a run, one by one
+-- the invariant of `good_bytes`, and its turns
 good-more : (number total : ℕ) (bs : List ℕ) → 0 < total → goodBytes number total bs
     ≡ if' (passes (judge number (min 504 total) bs))
     (λ _. min 504 total + goodBytes (number + 1) (total - 504) (drop 512 bs)) (λ _. 0)
@@ -165,7 +170,7 @@ module _ {bs : List ℕ} {first total : ℕ} {left : List ℕ} {number done : �
             same = rw (less, tail-part 512 left) (omega (arith, s .same));
           }
 
--- the header, step by step; h is what block 0 says
+-- the returns of `head_good`, in order; h is the header
 module _ (bs : List ℕ) (h : Heading) (h-is : h ≡ headerAt bs) (z : Judged)
     (z-is : judged z ≡ judge 0 (usedOf h) bs) where
   pub head-zero : {n : ℕ} → z ≡ judgements.Refused n → false ≡ headGood bs
@@ -187,7 +192,7 @@ module _ (bs : List ℕ) (h : Heading) (h-is : h ≡ headerAt bs) (z : Judged)
         unfolding headGood
         head-dialect e = rw (← ds-is, ← x-is, e, ← h-is, ← z-is, z-good, ← f-is, f-yes) refl
 
-        -- y is what `edition_held` read
+        -- y is the answer of `edition_held`
         module _ {d : Dialect} (x-good : x ≡ Valid d) {s : Stated} (s-is : s ≡ contentAt bs .edition) {y : EditionRead}
             (y-is : y ≡ editionHeld ds (statedBytes s)) where
           edition-so : editionRead (contentAt bs) ≡ y

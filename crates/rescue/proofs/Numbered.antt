@@ -1,7 +1,7 @@
--- Source file numbers in a rescue (W-208). What is kept passes the table check, so that its numbers are sound: a child
--- with a wrong one is where the rescue cuts (`kept-files`). A cut passes only where the root has no number and each
--- child is keepable (`cut-keepable`), so nothing is kept under a root that has one (`numbered-root`), nor of a file
--- that is older than the numbers (`old-zeros`: its first child has 0). Assumes nothing.
+-- Source file numbers in a rescue (W-208). What is kept passes the table check, so its numbers are sound: the rescue
+-- cuts before a child with a wrong number (`kept-files`). A cut passes only if the root has number 0 and each child
+-- is keepable (Greedy's `cut-keepable`). So nothing is kept under a root with a number (`numbered-root`), nor of a
+-- file that is older than the numbers, because its first child has 0 (`old-zeros`). Assumes nothing.
 use mathlib.Core.Path.{_≡_, ap}
 use mathlib.Core.Bool.{true, false}
 use mathlib.Core.List.{List}
@@ -29,7 +29,7 @@ use Rattle.rescue.proofs.Greedy.{each, keepable-is, Passed, cut-keepabl
 use Rattle.rescue.proofs.Keeping.{good-some, good-whole, kept-checked}
 use Rattle.rescue.proofs.Theorems.{all-says, nothing-can-be-kept}
 
--- the first of some children that can be kept has a number
+-- the first of the children that can be kept has a source file number
 first-number : (m j : ℕ) (row : List ℕ) → 1 ≤ j → j ≤ length (roots (forest 1 row))
     → each (keepable m) (firsts j (forest 1 row)) ≡ true → (24 ≤ length row) × (1 ≤ nodeOf 1 row .file)
 unfolding roots each firsts fileSound

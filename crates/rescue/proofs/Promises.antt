@@ -1,5 +1,6 @@
--- Two answers that meet the promise of a public function coincide, and so do the buffers that they leave, for every
--- file and buffer. Assumes nothing.
+-- Each public function has one answer: two answers that meet its promise are equal, and so are the buffers at exit,
+-- for every file and buffer. The answer is promised by its meaning; no two answers have the same meaning
+-- (`rescued-injective`), so `coincide-by` applies. The buffer is an equation (`coincide`). Assumes nothing.
 use mathlib.Core.Path.{_≡_, ap}
 use mathlib.Core.List.{List}
 use Prim.Native.Nat.{ℕ}
@@ -11,7 +12,7 @@ use Rattle.rescue.specs.declared.Rescued.{Rescued}
 use Rattle.rescue.specs.declared.Rescued.the-variants.{Accepted, Refused}
 use Rattle.rescue.specs.Job.{rescueOf, fileAfter, rescued}
 
--- no two answers mean the same
+-- no two answers have the same meaning
 pub rescued-injective : (r s : Rescued) → rescued r ≡ rescued s → r ≡ s
 rescued-injective (Accepted k) (Accepted l) e =
     let bytes : k .bytes ≡ l .bytes = cc in

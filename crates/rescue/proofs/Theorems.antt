@@ -1,7 +1,7 @@
--- The claims of specs/Claims.antt, proved for every input. An accepted answer says that the header is good, that
--- something is kept, and that it fits (`says`); a refusal says which of the tests failed first. What is kept is one
--- definition, so each claim is a law about `kept bs`: largest by the laws of the search, read back and given back by
--- the file's laws. Assumes nothing.
+-- The claims of specs/Claims.antt, proved for every input. An accepted answer implies that the header is good, that
+-- something is kept, and that it fits (`says`); a refusal names the first of these tests that failed. What is kept is
+-- one definition, so each claim is a law about `kept bs`: that it is the largest follows from Largest, that it is
+-- read back and given back unchanged from Keeping and the laws of files. Assumes nothing.
 use mathlib.Core.Path.{_≡_, refl, sym, ap, _∙_}
 use mathlib.Core.Bool.{Bool, true, false}
 use mathlib.Core.Logic.{⊎-elim}
@@ -49,7 +49,7 @@ use Rattle.rescue.proofs.Largest.{keeps, none-larger}
 use Rattle.rescue.proofs.Keeping.{names-long, whole-checked, whole-kept, whole-fronted, whole-file, cut-some}
 use Rattle.rescue.proofs.Keeping.{cut-kept, good-some, good-whole, kept-content, kept-read, kept-held}
 
--- the answer by its three tests
+-- the answer, from its three tests
 abbrev pub steps : Bool → Bool → Bool → List ℕ → Answer
 steps a b c vs = andThen (demand a badHeader) (λ _. andThen (demand b nothingKept) (λ _.
     andThen (demand c shortBuffer) (λ _. accepted vs)))
@@ -63,7 +63,7 @@ module _ (bs : List ℕ) (room : ℕ) where
   unfolding rescueOf
   rescue-is = refl
 
-  -- what an accepted rescue says
+  -- what an accepted rescue implies
   pub record Says (vs : List ℕ) : Type 0 where
     pub head : headGood bs ≡ true
     pub some : 1 ≤ length (tableKept bs)
@@ -129,7 +129,7 @@ bad-header bs buffer r after p = (
   λ e. head-bad bs (length buffer) (sym (p .0) ∙ ap rescued e),
 )
 
--- a cut that passes is kept, or a larger one
+-- if a cut passes, it or a larger one is kept
 module _ (bs : List ℕ) (w : blocksPass bs ≡ false) where
   abbrev t : List ℕ
   t = goodTable bs
@@ -214,7 +214,7 @@ module _ (bs : List ℕ) (w : blocksPass bs ≡ false) (some : 1 ≤ length (tab
         none = λ j less p. omega (arith, at-least bs w j p);
       }
 
--- what is told, and the buffer after
+-- the counts, and the buffer at exit
 module _ (bs buffer : List ℕ) (r : Rescued) (after : List ℕ) (p : Rescue bs buffer r after) (k : Kept)
     (good : r ≡ Accepted k) where
   answer-is : rescueOf bs (length buffer) ≡ accepted (told k)
@@ -354,7 +354,7 @@ module _ (file : List ℕ) (e : readCheck file ≡ accepted []) where
       (omega (arith, read-bytes))
       ∙ ap accepted read-told
 
--- CLAIM 6: what is written is a file that the reader accepts, of the table that is kept
+-- CLAIM 6: the output is a file that the reader accepts, of the table that is kept
 module _ (bs buffer : List ℕ) (r : Rescued) (after : List ℕ) (p : Rescue bs buffer r after) (k : Kept)
     (good : r ≡ Accepted k) (small : Bytes bs) where
   abbrev file : List ℕ

@@ -1,8 +1,8 @@
--- The walk along the root's children, in the terms of code. A child's stretch taken by itself decodes to the child
--- alone (`child-forest`), so what code finds in that stretch says whether the child can be kept (`child-test`, by
--- statement-parts of soundness); where it stands does not matter (sound-anywhere and files-anywhere of soundness,
--- flat-anywhere of table). The walk keeps: the bytes done and the leading ones of what is left are the leading ones of
--- all. Assumes nothing.
+-- The walk along the root's children. The records of a child, taken by themselves, decode to that child alone
+-- (`child-forest`). So what the code finds in them decides whether the child can be kept (`child-test`, by
+-- soundness's `statement-parts`); the place of the child does not matter (soundness's `sound-anywhere` and
+-- `files-anywhere`, table's `flat-anywhere`). The invariant: the bytes done, and the leading keepable ones of the
+-- rest, are the leading keepable bytes of the whole. Each turn adds one child or stops. Assumes nothing.
 use mathlib.Core.Path.{_≡_, refl, sym, ap, _∙_}
 use mathlib.Core.Bool.{Bool, true, false, _&&_, and-true}
 use mathlib.Core.List.{List, []}
@@ -24,7 +24,7 @@ use Rattle.table.specs.Depth.{firstDeep, deepIn}
 use Rattle.table.proofs.Anywhere.{clear-or, flat-anywhere}
 use Rattle.rescue.specs.Steps.{keepable, keepableAt, leading, leadingBytes}
 
--- the child that a stretch begins with, and its own stretch
+-- the first child of a stretch, and its own records
 module _ (m : ℕ) (left : List ℕ) (big : 24 ≤ length left) (whole : 24 * (length left / 24) ≡ length left) (i : ℕ)
   where
     abbrev c : List ℕ
@@ -68,7 +68,7 @@ module _ (m : ℕ) (left : List ℕ) (big : 24 ≤ length left) (whole : 24 * (l
     class-is : classOf (nodeOf i left .kind) ≡ classOf (nodeOf 0 c .kind)
     class-is = sym (ap classOf (getD-take (spanOf left) left 0 0 (omega arith)))
 
-    -- LAW: the test of code is that of the child
+    -- LAW: the test of the code is that of the definition
     pub child-test : keepable m child ≡ keepableAt m c
     unfolding keepable keepableAt
     child-test = rw (class-is, sound-is, flat-is) refl
@@ -91,7 +91,7 @@ pub leading-fits : (p : Tree → Bool) (i : ℕ) (bs : List ℕ) → leadingByte
 unfolding leadingBytes
 leading-fits p i bs = omega (arith, firsts-count (leading p (forest i bs)) (forest i bs), count-forest i bs)
 
--- the walk: done bytes are behind it, and left are before it
+-- the invariant of `leading`: the bytes done, and the rest
 pub record Walking (m : ℕ) (row left : List ℕ) (done : ℕ) : Type 0 where
   pub sum : done + length left ≡ length row
   pub whole : 24 * (length left / 24) ≡ length left

@@ -1,5 +1,5 @@
--- What is claimed of the rescue, in the words of request W-205, over the job's answer and the buffer that it leaves.
--- proofs/Theorems.antt proves each of them. These are definitions.
+-- The claims on the rescue, in the order of W-205, over the job's answer and the buffer at exit. proofs/Theorems.antt
+-- proves each of them. These are definitions.
 use mathlib.Core.Path.{_≡_}
 use mathlib.Core.Bool.{true, false}
 use mathlib.Core.List.{List, []}
@@ -25,11 +25,11 @@ use Rattle.rescue.specs.Good.{headGood, blocksPass, goodTable}
 use Rattle.rescue.specs.Cut.{children, cutTo}
 use Rattle.rescue.specs.Job.{tableKept, kept, statementsOf, rescueOf, fileAfter, rescued}
 
--- the promise of the job: the answer r, and the buffer after
+-- the promise of the job: the answer r, and the buffer at exit
 abbrev pub Rescue : List ℕ → List ℕ → Rescued → List ℕ → Type 0
 Rescue bs buffer r after = (rescued r ≡ rescueOf bs (length buffer)) × (after ≡ fileAfter bs buffer)
 
--- something holds of every accepted rescue: of the input, of what is told, and of the buffer after
+-- a property of every accepted rescue: of the input, of the counts, and of the buffer at exit
 abbrev pub Answered : (List ℕ → Kept → List ℕ → Type 0) → Type 0
 Answered P = (bs buffer : List ℕ) (r : Rescued) (after : List ℕ) → Rescue bs buffer r after
     → (k : Kept) → r ≡ Accepted k → P bs k after
@@ -40,8 +40,8 @@ abbrev pub Passes : List ℕ → ℕ → Type 0
 Passes bs j = (nodeOf 0 (goodTable bs) .kind ≡ kindStatements) × (j ≤ length (roots (children (goodTable bs))))
     × (checkOf (cutTo j (goodTable bs)) (contentAt bs .names) ≡ accepted [])
 
--- 1: where the blocks do not pass, the statements kept are the largest number of leading children that passes, they are
--- one at least, and what is kept is their cut
+-- 1: if the blocks do not pass, the number of statements kept is the largest number of leading children that passes; it
+-- is at least 1, and what is kept is their cut
 pub record Largest (bs : List ℕ) (k : Kept) : Type 0 where
   pub some : 1 ≤ k .statements
   pub passed : Passes bs (k .statements)
@@ -51,12 +51,12 @@ pub record Largest (bs : List ℕ) (k : Kept) : Type 0 where
 abbrev pub LargestNumber : Type 0
 LargestNumber = Answered (λ bs k after. blocksPass bs ≡ false → Largest bs k)
 
--- 2: 90 exactly where the header or a name block is bad
+-- 2: 90 exactly if the header or a name block is bad
 abbrev pub BadHeader : Type 0
 BadHeader = (bs buffer : List ℕ) (r : Rescued) (after : List ℕ) → Rescue bs buffer r after
     → (headGood bs ≡ false → r ≡ Refused (Bare badHeader)) × (r ≡ Refused (Bare badHeader) → headGood bs ≡ false)
 
--- 3: 91 exactly where the header is good, the blocks do not pass, and no child can be kept
+-- 3: 91 exactly if the header is good, the blocks do not pass, and no child can be kept
 pub record Nothing (bs : List ℕ) : Type 0 where
   pub head : headGood bs ≡ true
   pub blocks : blocksPass bs ≡ false
@@ -72,7 +72,7 @@ abbrev pub ReadBack : Type 0
 ReadBack = Answered (λ bs k after. Bytes bs → (s : Loaded) → Read (take (k .bytes) after) s
     → s ≡ loadedOf verdicts.Accepted (kept bs) (k .bytes))
 
--- 5: where the blocks pass, the output is these blocks, byte for byte, and no node is dropped
+-- 5: if the blocks pass, the output is these blocks, byte for byte, and no node is dropped
 pub record Whole (bs : List ℕ) (k : Kept) (after : List ℕ) : Type 0 where
   pub blocks : take (k .bytes) after ≡ take (headerAt bs .taken) bs
   pub nothing : k .dropped ≡ 0
@@ -92,7 +92,7 @@ Again = Answered (λ bs k after. Bytes bs → (next : List ℕ) (q : Rescued) (l
       after = 0;
     }) × (take (k .bytes) later ≡ take (k .bytes) after))
 
--- 7: in the root only the subtree size changes (bytes 16 and 17), and in no other record anything
+-- 7: in the root only the subtree size changes (bytes 16 and 17), and no other record changes
 abbrev pub OnlySize : Type 0
 OnlySize = (bs : List ℕ) → blocksPass bs ≡ false → (i : ℕ) → i < length (tableKept bs) → (i ≡ 16 → ⊥) → (i ≡ 17 → ⊥)
     → getD (tableKept bs) i 0 ≡ getD (goodTable bs) i 0

@@ -1,4 +1,5 @@
--- The cut: the root and its first k children; and the most children that can be kept. These are definitions.
+-- The cut: the root and its first k children; and the largest number of children that can be kept. These are
+-- definitions.
 use mathlib.Core.Bool.{Bool}
 use mathlib.Core.List.{List, []}
 use Prim.Native.Nat.{ℕ, zero, suc, _+_, _*_, _/_, _%_}
@@ -14,7 +15,7 @@ use Rattle.table.specs.Check.{checkOf}
 abbrev pub children : List ℕ → Forest
 children t = forest 1 (kidsOf t)
 
--- a table whose root says that its subtree has m records: in the root only the size changes
+-- a table with subtree size m in its root: only the size changes
 unfoldable pub resized : ℕ → List ℕ → List ℕ
 resized m t = set (set t 16 (m % 256)) 17 (m / 256)
 
@@ -30,7 +31,7 @@ largest p zero = 0
 largest p (suc n) = if' (p (suc n)) (λ _. suc n) (λ _. largest p n)
 
 -- the largest number of leading children of a root Statements such that the cut table passes 1 to 4; 0 if none. A child
--- whose records do not all stand there is shorter than it says, so that its cut is refused by 3
+-- whose records are not all present is shorter than its size, so its cut is refused with 3
 unfoldable pub childrenKept : List ℕ → List ℕ → ℕ
 childrenKept t names =
     if' (eqb (nodeOf 0 t .kind) kindStatements)

@@ -1,5 +1,5 @@
--- What of a damaged file is good: the header with its names, the whole, or the node blocks before the first bad one.
--- These are definitions.
+-- The good parts of a damaged file: the header with its names, the whole file, or the node blocks before the first bad
+-- one. These are definitions.
 use mathlib.Core.Bool.{Bool, true, false, _&&_}
 use mathlib.Core.List.{List, []}
 use Prim.Native.Nat.{ℕ, _*_}
@@ -15,11 +15,11 @@ use Rattle.blocks.specs.Block.{blockBytes, contentBytes, judge}
 use Rattle.blocks.specs.Run.{blocksFor, judgeRun, goodBlocks}
 use Rattle.tablefile.specs.Reading.{headerAt, contentAt, usedOf, countsFit, editionRead, frontCheck, soundCheck}
 
--- whether bytes give a dialect: 5
+-- whether bytes are a dialect (5)
 abbrev pub isDialect : Decoded → Bool
 isDialect x = passes (inGiven (decoded x) (λ _. accepted []))
 
--- whether there is an edition: 5
+-- whether an edition holds (5)
 abbrev pub isEdition : EditionRead → Bool
 isEdition (Known e) = true
 isEdition Unknown = false

@@ -18,12 +18,12 @@ use Rattle.rescue.specs.declared.Rescued.the-variants.{Accepted, Refused
 use Rattle.rescue.specs.Good.{headGood, blocksPass, goodTable}
 use Rattle.rescue.specs.Cut.{children, largestCut}
 
--- the table that is kept, empty if none: all of it where the blocks pass, else the largest cut
+-- the table that is kept, empty if none: all of it if the blocks pass, else the largest cut
 unfoldable pub tableKept : List ℕ → List ℕ
 tableKept bs =
     if' (blocksPass bs) (λ _. contentAt bs .table) (λ _. largestCut (goodTable bs) (contentAt bs .names))
 
--- what is kept: names, dialect and edition whole
+-- the content that is kept: with names, dialect and edition whole
 abbrev pub kept : List ℕ → Content
 kept bs = holding (tableKept bs) (contentAt bs .names) (contentAt bs .dialect) (contentAt bs .edition)
 
@@ -31,15 +31,15 @@ kept bs = holding (tableKept bs) (contentAt bs .names) (contentAt bs .dialect) (
 unfoldable pub statementsOf : List ℕ → ℕ
 statementsOf t = if' (eqb (nodeOf 0 t .kind) kindStatements) (λ _. length (roots (children t))) (λ _. 1)
 
--- what is told of a table that is kept: the bytes written, statements and nodes kept, the nodes dropped by the header's
--- count, and the bytes after the header's last block, none where the file is shorter
+-- the counts of a rescue: the bytes written, the statements and nodes kept, the nodes dropped of the header's number,
+-- and the bytes after the header's last block, 0 if the file is shorter
 abbrev pub toldOf : List ℕ → List ℕ → List ℕ
 toldOf bs t =
     let nodes = length t / recordBytes in
     bytesFor (length t) (headerAt bs .names) ∷ statementsOf t ∷ nodes ∷ (headerAt bs .nodes - nodes)
     ∷ (length bs - headerAt bs .taken) ∷ []
 
--- the job, for a buffer of so many bytes: 90 a bad header or name block, 91 nothing can be kept, then 7
+-- the job, for a buffer of `room` bytes: 90 (bad header or name block), 91 (nothing can be kept), then 7
 unfoldable pub rescueOf : List ℕ → ℕ → Answer
 rescueOf bs room =
     let t = tableKept bs in
@@ -48,11 +48,11 @@ rescueOf bs room =
     andThen (demand (leb (bytesFor (length t) (headerAt bs .names)) room) shortBuffer) (λ _.
     accepted (toldOf bs t))))
 
--- the buffer at exit: what the writer gives for what is kept laid over its front when accepted, else as it was
+-- the buffer at exit: with the file of what is kept written over its front if accepted, else unchanged
 unfoldable pub fileAfter : List ℕ → List ℕ → List ℕ
 fileAfter bs buffer = afterwards (rescueOf bs (length buffer)) (fileOf (kept bs)) buffer
 
--- what the answers of code mean
+-- the meaning of the code's answers
 abbrev pub told : Kept → List ℕ
 told k = k .bytes ∷ k .statements ∷ k .nodes ∷ k .dropped ∷ k .after ∷ []
 

@@ -1,5 +1,5 @@
-// The rescue of a damaged table file: the blocks that the header speaks of where they pass, else the largest number of
-// the root's first children that stand in good blocks, with names, dialect and edition whole.
+// The rescue of a damaged table file. If the blocks that the header describes pass, it keeps them all, else the largest
+// number of the root's first children that lie in good blocks, with names, dialect and edition whole.
 use blocks::BLOCK_BYTES;
 use blocks::Judged;
 use dialect::Decoded;
@@ -33,7 +33,7 @@ ghost use Rattle.rescue.specs.Job.{kept, statementsOf, rescueOf, fileAft
 ghost use Rattle.rescue.specs.Steps.{keepable, keepableAt, leadingBytes, keptIf, Front, Records};
 ghost use Rattle.rescue.specs.Steps.{goodBytes, Ready, Goods, Keeping};
 
-// The counts of a rescue: the bytes written, the statements and nodes kept, the nodes dropped by the header's count,
+// The counts of a rescue: the bytes written, the statements and nodes kept, the nodes dropped of the header's number,
 // and the bytes after the header's last block.
 pub struct Kept {
     pub bytes: u32,
@@ -49,8 +49,8 @@ pub enum Rescued {
     Refused(Refusal),
 }
 
-// Rescues a file: 90 for a bad header or name block, 91 where nothing can be kept, then 7 for a buffer that is shorter
-// than the output. A refusal changes no byte, and bytes past the output stay.
+// Rescues a file. Refuses with 90 (bad header or name block), 91 (nothing can be kept), then 7 (the buffer is shorter
+// than the output). A refusal changes no byte, and bytes past the output stay.
 pub fn rescue(input: &[u8], file: &mut [u8]) -> Rescued
     ensures { λ r. ⌜ rescued r ≡ rescueOf (now (input .entry)) (length (now (file .entry))) ⌝ }
     ensures { λ r. ⌜ now (file .exit) ≡ fileAfter (now (input .entry)) (now (file .entry)) ⌝ }
@@ -65,7 +65,7 @@ pub fn rescue(input: &[u8], file: &mut [u8]) -> Rescued
     rescue_named(input, h, &names[0..n], file)
 }
 
-// A file whose header is good, and its names: reads the records in good node blocks, and rescues what they give.
+// Reads the records in good node blocks of a file whose header is good, and rescues them.
 fn rescue_named(input: &[u8], h: Heading, names: &[u8], file: &mut [u8]) -> Rescued
     requires { ⌜ Ready (now input) h (now names) ⌝ }
     ensures { λ r. ⌜ rescued r ≡ rescueOf (now (input .entry)) (length (now (file .entry))) ⌝ }
@@ -92,7 +92,7 @@ fn rescue_good(input: &[u8], h: Heading, names: &[u8], table: &mut [u8], file: &
     finish(input, h, names, &table[0..kept], whole, file)
 }
 
-// The header: block 0, its counts, its dialect and its edition, and every name block.
+// Whether the header is good: block 0, its counts, its dialect and its edition, and every name block.
 fn head_good(input: &[u8], h: Heading) -> bool
     requires { ⌜ h ≡ headerAt (now input) ⌝ }
     ensures { λ r. ⌜ r ≡ headGood (now (input .entry)) ⌝ }
@@ -268,8 +268,8 @@ fn finish(
     Rescued::Accepted(tell(input, h, table, size as u32))
 }
 
-// Puts the file of the table that is kept at the front of a buffer. Where all is kept it is the header's blocks: to
-// copy them costs less than to sum them again.
+// Writes the file of the table that is kept at the front of a buffer. If all is kept, it is the header's blocks:
+// copying them is cheaper than computing their sums again.
 fn put_kept(input: &[u8], h: Heading, names: &[u8], table: &[u8], whole: bool, file: &mut [u8])
     requires { ⌜ Keeping (now input) h (now names) (now table) whole ⌝ }
     requires { ⌜ bytesFor (length (now table)) (length (now names)) ≤ length (now file) ⌝ }
@@ -288,7 +288,7 @@ fn put_kept(input: &[u8], h: Heading, names: &[u8], table: &[u8], whole: bool, f
     )
 }
 
-// Puts the first len of some bytes at the front of out.
+// Copies the first len bytes of `from` to the front of out.
 fn put(from: &[u8], len: usize, out: &mut [u8])
     requires { ⌜ (len ≤ length (now from)) × (len ≤ length (now out)) ⌝ }
     ensures { λ r. ⌜ now (out .exit) ≡ take len (now (from .entry)) ++ drop len (now (out .entry)) ⌝ }
@@ -318,7 +318,7 @@ fn tell(input: &[u8], h: Heading, table: &[u8], bytes: u32) -> Kept
     }
 }
 
-// The number of bytes behind the first `taken` of `len`.
+// The number of bytes after the first `taken` of `len`.
 fn past(len: usize, taken: usize) -> usize
     ensures { λ r. ⌜ r ≡ len - taken ⌝ }
 {
@@ -340,7 +340,7 @@ fn statements(table: &[u8]) -> u32
     count(&table[RECORD..e]) as u32
 }
 
-// The number of nodes that stand side by side in a stretch.
+// The number of sibling nodes in a stretch.
 fn count(row: &[u8]) -> usize
     ensures { λ r. ⌜ (r ≡ length (roots (forest 1 (now (row .entry))))) ×
         (recordBytes * r ≤ length (now (row .entry))) ⌝ }

@@ -1,6 +1,9 @@
--- The buffer of the type job, for every input: a refusal changes no byte; after acceptance the byte of each node that
--- is read is its shape, from 1 to 7, and every other byte is as it was.
--- Assumes nothing.
+-- The buffer of the type job at exit, for every input. A refusal changes no byte (`refusal-keeps`). After acceptance
+-- the byte of each node that is read is its shape, from 1 to 7, and every other byte is unchanged (`accepted-proper`,
+-- `accepted-bytes`, `past-subtree-stays`). The definition writes shapes one after the other; this file joins what
+-- acceptance says (Jobs' `Says`: there is room, and the type passes) with two laws about the shapes: each node comes
+-- once, within the subtree (Places' `type-once`), and each shape is proper (Proper's `type-proper`). Both are
+-- inductions on the tree, done there. These are the laws to cite. Assumes nothing.
 use mathlib.Core.Path.{_≡_, refl, sym, ap, _∙_}
 use mathlib.Core.List.{List}
 use Prim.Native.Nat.{ℕ, _+_, _/_, _≤_}

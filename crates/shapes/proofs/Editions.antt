@@ -1,6 +1,7 @@
--- The type job by the two editions (W-212): a type that the first accepts, the second accepts with the same shapes, so
--- that the whole buffer is the same; and so it is wherever the first answers anything but 44. The buffer depends on the
--- edition by the answer alone, and there types' `job-lifted` says that the answers are the same. Assumes nothing.
+-- The type job in the two editions (W-212): a type that the first accepts, the second accepts with the same shapes, so
+-- the whole buffer is the same; it is the same wherever the first does not answer 44. There is no induction: the buffer
+-- depends on the edition only through the answer (`after`), and types' `job-lifted` says that the answers are the same.
+-- Cite `same-buffer` and `same-shapes`. Assumes nothing.
 use mathlib.Core.Path.{_≡_, ap}
 use mathlib.Core.List.{List}
 use Prim.Native.Nat.{ℕ}

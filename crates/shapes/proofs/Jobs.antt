@@ -1,4 +1,9 @@
--- Laws of the type job and its buffer, in the terms of code: one for each return. Assumes nothing.
+-- type_shape judges the type first, and writes the shapes only if the answer is no refusal. A refusal leaves the
+-- buffer, which is the definition (`job-refused`). An answer that is no refusal has passed every test of the job
+-- (`passing-says`): the node's subtree has a record, the buffer has a byte for each of its nodes, and the type rule
+-- accepts. So the walk may write without a test (`job-long`, `job-room`), and what it writes is the buffer at exit
+-- (`job-written`). There is no induction: `both-pass` takes the answer apart step by step. Cite `accepted-says` for
+-- what acceptance means. Assumes nothing.
 use mathlib.Core.Path.{_≡_, refl, sym, _∙_}
 use mathlib.Core.Bool.{Bool, true, false, false≢true}
 use mathlib.Core.List.{List, []}
@@ -30,7 +35,7 @@ not-refused : (x : Answer) → isRefused x ≡ false → Passes x
 not-refused (accepted vs) e = tt
 not-refused (refused n vs) e = absurd (false≢true (sym e))
 
--- LAW: both steps of an answer that passes do, and a test in it is met
+-- LAW: if two steps in order pass, each of them passes
 pub both-pass : (x : Answer) (next : Unit {0} → Answer) → Passes (andThen x next) → Passes x × Passes (next tt)
 both-pass (accepted vs) next p = (tt, p)
 both-pass (refused n vs) next p = absurd p
@@ -39,8 +44,8 @@ test-passes : (b : Bool) (n : ℕ) → Passes (if' b (λ _. accepted []) (λ _. 
 test-passes true n p = refl
 test-passes false n p = absurd p
 
--- LAW: what acceptance says: the node has a stretch, the buffer has room, and the node's tree passes the type rule of
--- the edition
+-- what acceptance says: the node's subtree has a record, the buffer has room for it, and its tree passes the type rule
+-- of the edition
 pub record Says (t names : List ℕ) (i room : ℕ) : Type 0 where
   pub long : 24 ≤ length (stretchOf t i)
   pub fits : length (stretchOf t i) / 24 ≤ room
@@ -70,7 +75,7 @@ module _ (t names bytes : List ℕ) (n i room : ℕ) where
   pub accepted-says : {vs : List ℕ} → accepted vs ≡ typeShapeOf t names bytes n i room → Says t names i room
   accepted-says e = passing-says (rw (← e) tt)
 
--- the job, by its judgement a and whether that is a refusal
+-- the job, by the judged answer a and the bool q, whether a is a refusal
 module _ (t names bytes : List ℕ) (n i : ℕ) (s : List ℕ) {a : Answer}
     (a-is : a ≡ typeShapeOf t names bytes n i (length s)) {q : Bool} (q-is : q ≡ isRefused a) where
   pub job-refused : q ≡ true → s ≡ shapesAfter t names bytes n i s

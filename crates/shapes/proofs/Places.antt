@@ -1,5 +1,9 @@
--- Where shapes are written: each node of the type's subtree at most once, so that its byte is its shape and all others
--- stay. Assumes nothing.
+-- Shapes are written at most once for each node. The nodes that a type reads come in table order, each index larger
+-- than the one before (`Rising`, of specs/Shapes), within the type's subtree (`type-once`). It holds because a node
+-- comes before its children, children come one after the other, and each subtree is a range of indices; the induction
+-- is on the forest (`placed`, by forest's `forest-induction`). From `Rising` follows what the buffer holds
+-- (`written-bytes`): the byte of each node that is read is its shape, because no later shape is written there
+-- (`not-below`), and every other byte is unchanged. Cite `type-once` and `written-bytes`. Assumes nothing.
 use mathlib.Core.Path.{_≡_, refl, sym, ap, _∙_}
 use mathlib.Core.Bool.{Bool, true, false}
 use mathlib.Core.List.{List, [], _∷_, _++_}
@@ -20,7 +24,7 @@ use Rattle.types.specs.declared.Reads.{Reads}
 use Rattle.shapes.specs.Shapes.{Shape, shapeAt, shapesOf, shapesEach, written, shapeOr, Rising}
 use Rattle.shapes.proofs.Writing.{shapesChild}
 
--- no shapes, shapes of two parts one after the other, and a wider range
+-- no shapes; a wider range; the shapes of two ranges, one after the other
 rising-none : (lo hi : ℕ) → Rising lo hi []
 unfolding Rising
 rising-none lo hi = tt
@@ -42,7 +46,7 @@ rising-append lo mid hi p q (x ∷ ss) us a b =
     let most = a .1 .0 in
     (omega arith, (omega arith, rising-append (x .at + 1) mid hi (omega arith) q ss us (a .1 .1) b))
 
--- a node before or behind the range is none of those that are read
+-- a node before or after the range is not among those that are read
 pub not-below : (lo hi : ℕ) (ss : List Shape) → Rising lo hi ss → (k old : ℕ) → k < lo → shapeOr ss k old ≡ old
 unfolding Rising shapeOr
 not-below lo hi [] w k old h = refl
@@ -57,7 +61,7 @@ not-above lo hi (x ∷ ss) w k old h =
     let most = w .1 .0 in
     rw (ne-eqb (x .at) k (λ e. absurd (omega arith))) (not-above (x .at + 1) hi ss (w .1 .1) k old h)
 
--- LAW: where no node comes twice, the byte of each node that is read is its shape, and every other byte stays
+-- LAW: if no node comes twice, the byte of each node that is read is its shape, and every other byte is unchanged
 pub written-bytes : (lo hi : ℕ) (ss : List Shape) → Rising lo hi ss → (s : List ℕ) → hi ≤ length s → (k : ℕ)
     → getD (written ss s) k 0 ≡ shapeOr ss k (getD s k 0)
 unfolding written Rising shapeOr
@@ -77,12 +81,12 @@ written-bytes lo hi (x ∷ ss) w s h k =
     go false e = ap (λ (v : ℕ). shapeOr ss k v)
         (getD-set-other s (x .at) k (x .shape) 0 (λ q. eqb-false (x .at) k e (sym q)))
 
--- children side by side in a stretch have their shapes within it, however they are read
+-- the shapes of the siblings in bs lie in the range of bs, however they are read
 abbrev pub Placed : ℕ → List ℕ → Type 0
 Placed i bs = (reads : Reads) → Rising i (i + length bs / 24) (shapesEach reads (forest i bs))
 
 module _ (i : ℕ) (bs : List ℕ) (big : 24 ≤ length bs) (ks : Placed (i + 1) (kidsOf bs)) where
-  -- a node with its children, by its shape and how they are read
+  -- a node with the shape v, and its children
   under : (v : ℕ) (reads : Reads) → Rising i (i + spanOf bs / 24)
       (shapeAt (nodeOf i bs) v ∷ shapesEach reads (forest (i + 1) (kidsOf bs)))
   unfolding Rising

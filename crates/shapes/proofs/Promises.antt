@@ -1,5 +1,7 @@
--- Two answers that meet the promise of a public function coincide, and so do the buffers that they leave, for every
--- table, names, dialect bytes, edition, node and buffer. Assumes nothing.
+-- The contract of each public function leaves one answer: two answers that meet it are equal, and so are the buffers
+-- that they leave, for every table, names, dialect bytes, edition, node and buffer. The contract equates the meaning of
+-- the answer and the buffer with definitions, and no two answers have the same meaning (types' `shaped-injective`).
+-- Assumes nothing.
 use mathlib.Core.Path.{_≡_}
 use mathlib.Core.List.{List}
 use Prim.Native.Nat.{ℕ}

@@ -1,5 +1,8 @@
--- An accepted type has a shape from 1 to 7 at each node that is read, from whatever index its places are counted: no 0
--- is ever written. Assumes nothing.
+-- An accepted type has a shape from 1 to 7 at each node that is read: 0 is never written. `shapeOf` gives 0 only for
+-- the form Other, and the type rule refuses a node of that form (`shape-known`). The induction is on the forest
+-- (`each-proper`, by forest's `forest-induction`): if the siblings pass, each child that is read passes, and so do its
+-- own children. The rule reads the tree from the index i and the shapes are counted from another index j, so the law is
+-- stated for both (`ProperFrom`). Cite `type-proper`. Assumes nothing.
 use mathlib.Core.Bool.{Bool, true, false}
 use mathlib.Core.List as L
 use mathlib.Core.List.{_∷_, _++_}
@@ -51,7 +54,7 @@ shape-known edition names Union r ks p = omega arith
 shape-known edition names Tuple r ks p = omega arith
 shape-known edition names Other r ks p = absurd p
 
--- children that pass from one index have proper shapes from any
+-- siblings that pass, counted from i, have proper shapes, counted from any j
 abbrev pub ProperFrom : Edition → L.List ℕ → ℕ → L.List ℕ → Type 0
 ProperFrom edition names i bs =
     (reads : Reads) (j : ℕ) → Passes (unpackEach reads edition names (forest i bs))

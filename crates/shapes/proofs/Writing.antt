@@ -1,8 +1,10 @@
--- Laws of the shapes of a stretch, in the terms of code: one for each return of the writing walk. Both rules write the
--- shape of their node and then walk its children from left to right. At each turn what is left makes of the buffer what
--- all children make of the first one (`Writing`), since shapes are written one after the other (`written-append`). The
--- caller of a rule chooses it by the child's kind, which gives the same as the definition (types' `by-rule`).
--- Assumes nothing.
+-- The code writes the shape of a node and then those of its children, from left to right, as `shapesOf` and
+-- `shapesArgument` of specs/Shapes list them. The invariant of both loops is `Writing`: writing the shapes of what is
+-- left into the buffer as it is gives the buffer at exit. It holds at the start (`kids-start`, `items-start`), a child
+-- keeps it, because shapes are written one after the other (`each-on`, `written-append`), and at the end nothing is
+-- left (`each-end`). The code chooses the rule by the child's kind, which gives the same as the definition (types'
+-- `by-rule`). What is left is smaller than the node's subtree (`part`), so each call is on a smaller tree
+-- (`each-falls`). Assumes nothing.
 use mathlib.Core.Path.{_≡_, refl, sym, ap, _∙_}
 use mathlib.Core.List.{List, [], _∷_, _++_}
 use Prim.Native.Nat.{ℕ, _+_, _-_, _/_, _<_, _≤_}
@@ -21,23 +23,23 @@ use Rattle.types.specs.declared.How.the-variants.{Unread, AsType, AsArgument}
 use Rattle.types.specs.declared.Reads.{Reads}
 use Rattle.shapes.specs.Shapes.{Shape, shapesOf, shapesArgument, shapesEach, written}
 
--- LAW: some shapes are written, then others
+-- LAW: writing the shapes ss and then us is writing both lists
 pub written-append : (ss us : List Shape) (s : List ℕ) → written (ss ++ us) s ≡ written us (written ss s)
 unfolding written
 written-append [] us s = refl
 written-append (x ∷ ss) us s = written-append ss us (set s (x .at) (x .shape))
 
--- LAW: a buffer keeps its length
+-- LAW: writing keeps the length of the buffer
 pub written-length : (ss : List Shape) (s : List ℕ) → length (written ss s) ≡ length s
 unfolding written
 written-length [] s = refl
 written-length (x ∷ ss) s = written-length ss (set s (x .at) (x .shape)) ∙ length-set s (x .at) (x .shape)
 
--- a child as it is read
+-- the shapes of a child, by how it is read
 abbrev pub shapesChild : How → Tree → List Shape
 shapesChild how t = ofChild how [] (λ _. shapesOf t) (λ _. shapesArgument t)
 
--- a child, by the rule that its caller chooses
+-- the shapes of a child, by the rule that its caller chooses
 module _ (i : ℕ) (t s : List ℕ) (how : How) {rule : How} {k : ℕ} (k-is : k ≡ nodeOf 0 t .kind)
     (rule-is : rule ≡ ruleOf how k) where
   chosen : shapesChild rule (treeOf i t) ≡ shapesChild how (treeOf i t)
@@ -64,14 +66,14 @@ module _ (i : ℕ) (t s : List ℕ) (how : How) {rule : How} {k : ℕ} (k-is : k
         → r ≡ written (shapesChild how (treeOf i t)) s
     child-list h r-is = r-is ∙ as-chosen h
 
--- an item of a List of arguments that is no List itself
+-- an item of a List of arguments that is not a List itself
 pub item-type : (i : ℕ) (t s : List ℕ) {k : ℕ} → k ≡ nodeOf 0 t .kind → (k ≡ kindList → ⊥)
     → {r : List ℕ} → r ≡ written (shapesOf (treeOf i t)) s → r ≡ written (shapesChild AsArgument (treeOf i t)) s
 unfolding shapesOf
 item-type i t s {k} k-is other r-is = r-is ∙ rw (← k-is, ne-eqb k kindList other) refl
 
--- the children of a node side by side: at each turn what is left is a proper part of the node's subtree, and makes of
--- the buffer s what the whole makes of the first one
+-- the invariant of both loops: what is left is smaller than the node's subtree, and writing its shapes into the buffer
+-- s gives the buffer at exit, `whole`
 pub record Writing (others : How) (t : List ℕ) (at : ℕ) (whole : List ℕ) (size : ℕ) (left : List ℕ) (place : ℕ)
     (how : How) (s : List ℕ) : Type 0 where
   pub room : place + length left / 24 ≤ length s
@@ -80,7 +82,7 @@ pub record Writing (others : How) (t : List ℕ) (at : ℕ) (whole : List ℕ) (
   pub long : length s ≡ size
   pub same : written (shapesEach (readsAs how others) (forest place left)) s ≡ whole
 
--- the children of a node whose own shape v is set
+-- the buffer s after the shapes of the children of the node at i are written
 abbrev pub kidsWritten : Reads → ℕ → List ℕ → ℕ → List ℕ → List ℕ
 kidsWritten reads i t e s = written (shapesEach reads (forest (i + 1) (take (e - 24) (drop 24 t)))) s
 
@@ -101,14 +103,14 @@ module _ (i v : ℕ) (t s : List ℕ) {e : ℕ} (e-is : e ≡ spanOf t) where
       (take (e - 24) (drop 24 t)) (i + 1) AsArgument (set s i v)
   items-start big room = kids-start big room argumentsOnly
 
-  -- with them it is a type
+  -- the node's own shape v and those of its children: the shapes of the type
   pub type-written : {f : Form} → f ≡ formOf (nodeOf 0 t .kind) (nodeOf 0 t .detail) → v ≡ shapeOf f
       → {reads : Reads} → reads ≡ readsOf f → {r : List ℕ} → r ≡ kidsWritten reads i t e (set s i v)
       → r ≡ written (shapesOf (treeOf i t)) s
   unfolding shapesOf written
   type-written f-is v-is reads-is r-is = r-is ∙ rw (kids-part e t e-is, v-is, reads-is, f-is) refl
 
--- or a List of arguments
+-- the same for a List of arguments
 pub list-written : (i : ℕ) (t s : List ℕ) {e : ℕ} → e ≡ spanOf t → nodeOf 0 t .kind ≡ kindList
     → {r : List ℕ} → r ≡ kidsWritten argumentsOnly i t e (set s i listShape)
     → r ≡ written (shapesArgument (treeOf i t)) s

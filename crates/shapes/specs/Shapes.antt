@@ -22,7 +22,7 @@ pub record Shape : Type 0 where
 abbrev pub shapeAt : Node → ℕ → Shape
 shapeAt r s = record { at = r .at; shape = s }
 
--- a node read as a type, given what its children give by how they are read
+-- the shapes of a node read as a type, given those of its children by how they are read
 abbrev pub nodeShapes : Node → (Reads → List Shape) → List Shape
 nodeShapes r children =
     shapeAt r (shapeOf (formOf (r .kind) (r .detail))) ∷ children (readsOf (formOf (r .kind) (r .detail)))
@@ -44,7 +44,7 @@ unfoldable mutual
       ofChild (reads .first) [] (λ _. shapesOf t) (λ _. shapesArgument t)
       ++ shapesEach (readsAs (reads .others) (reads .others)) ts
 
--- a buffer after shapes are written, each at its index; other bytes stay
+-- a buffer after shapes are written, each at its index; other bytes are unchanged
 unfoldable pub written : List Shape → List ℕ → List ℕ
 written [] bytes = bytes
 written (s ∷ ss) bytes = written ss (set bytes (s .at) (s .shape))
@@ -54,12 +54,12 @@ unfoldable pub shapeOr : List Shape → ℕ → ℕ → ℕ
 shapeOr [] k old = old
 shapeOr (s ∷ ss) k old = if' (eqb (s .at) k) (λ _. s .shape) (λ _. shapeOr ss k old)
 
--- nodes in table order from lo on and below hi, so that none comes twice
+-- nodes in table order, from lo on and below hi, so that none comes twice
 unfoldable pub Rising : ℕ → ℕ → List Shape → Type 0
 Rising lo hi [] = Unit {0}
 Rising lo hi (s ∷ ss) = (lo ≤ s .at) × ((s .at < hi) × Rising (s .at + 1) hi ss)
 
--- every shape is one of document 01's, 1 to 7
+-- every shape is one of the seven, 1 to 7
 unfoldable pub Proper : List Shape → Type 0
 Proper [] = Unit {0}
 Proper (s ∷ ss) = (1 ≤ s .shape) × ((s .shape ≤ 7) × Proper ss)
@@ -69,6 +69,6 @@ abbrev pub isRefused : Answer → Bool
 isRefused (accepted vs) = false
 isRefused (refused n vs) = true
 
--- a buffer after an answer: a refusal changes nothing; accepted, the shapes are written
+-- a buffer after an answer: a refusal changes nothing, acceptance writes the shapes
 abbrev pub afterAnswer : Answer → List Shape → List ℕ → List ℕ
 afterAnswer answer ss bytes = if' (isRefused answer) (λ _. bytes) (λ _. written ss bytes)

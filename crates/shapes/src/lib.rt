@@ -1,4 +1,4 @@
-// The type job: a type is judged, and the shapes of what is read go into a buffer.
+// The type job: a type is judged, and the shapes of the nodes that are read are written into a buffer.
 mod walk;
 
 use types::Shaped;
@@ -8,8 +8,8 @@ ghost use Rattle.types.specs.Jobs.{shaped, typeShapeOf};
 ghost use Rattle.shapes.specs.Jobs.{shapesAfter};
 ghost use Rattle.shapes.specs.Shapes.{isRefused};
 
-// The type job: whether a node is a type in a dialect, by the edition of a number. Then the buffer gets the shape of
-// each node that is read as a type or argument; a refusal changes nothing.
+// The type job: whether a node is a type in a dialect and an edition, which is given by its number. If it is, the shape
+// of each node that is read as a type or argument is written into the buffer; a refusal changes nothing.
 pub fn type_shape(
     table: &[u8],
     names: &[u8],

@@ -1,4 +1,4 @@
-// Shapes: the bytes that a type's nodes get in the buffer, once the type is accepted.
+// Shapes: the byte of each node of an accepted type in the buffer.
 //
 // Ported from src/syntax/type_expr.rs of starlark_syntax 0.14.2, and changed: the type that unpack builds is a byte for
 // each node that it reads.
@@ -18,8 +18,8 @@ ghost use Rattle.shapes.specs.Shapes.{shapesOf, shapesArgument, written}
 // The shape of a List that is an argument.
 const LIST: u8 = 5;
 
-// Writes the shapes of the type that a stretch begins with, its own at the place at. A child that is read is a List of
-// arguments or a type: this function decides which, and the subtree is smaller at each call.
+// Writes the shapes of the type at the start of t, its own at the index at. A child that is read is a List of arguments
+// or a type: this function decides which, and the subtree is smaller at each call.
 pub(crate) fn write(t: &[u8], at: usize, shapes: &mut [u8])
     requires { ⌜ (recordBytes ≤ length (now t)) × (at + length (now t) / recordBytes ≤ length (now shapes)) ⌝ }
     ensures { λ r. ⌜ now (shapes .exit) ≡ written (shapesOf (treeOf at (now (t .entry)))) (now (shapes .entry)) ⌝ }
@@ -48,8 +48,8 @@ pub(crate) fn write(t: &[u8], at: usize, shapes: &mut [u8])
     }
 }
 
-// Writes the shapes of the List of arguments that a stretch begins with, its own at the place at. An item is a List of
-// arguments again, or a type.
+// Writes the shapes of the List of arguments at the start of t, its own at the index at. An item is a List of arguments
+// again, or a type.
 fn write_argument(t: &[u8], at: usize, shapes: &mut [u8])
     requires { ⌜ (recordBytes ≤ length (now t)) × (at + length (now t) / recordBytes ≤ length (now shapes)) ⌝ }
     requires { ⌜ nodeOf 0 (now t) .kind ≡ kindList ⌝ }

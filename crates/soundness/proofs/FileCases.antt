@@ -1,4 +1,6 @@
--- The cases of specs/FileCases.antt, by computation. Assumes nothing.
+-- The examples of source file numbers in specs/FileCases.antt: for each small table, the first unsound record is the
+-- one that its case gives, or none. The prover computes `firstUnsound` on the bytes of all tables, so one `refl` shows
+-- all cases. Assumes nothing.
 use mathlib.Core.Path.{_≡_, refl}
 use mathlib.Core.List.{[], map}
 use Rattle.fields.specs.Field.{field}

@@ -1,6 +1,8 @@
--- The packed rows and rules of code say what specs/Kinds says: each arm of code is one computed equation, and no other
--- number has a row. Below that what a packed rule says of each child and of their number, in the terms of code. Assumes
--- nothing.
+-- The packed rows and rules of code say what specs/Kinds.antt says. Each arm of code is one computed equation
+-- (`row-arm`), and a number that is none of the kinds has no row (`row-none`): code has tested that it differs from
+-- each kind's number (`Apart`), so the search among the kinds ends empty, by induction on the kinds. Below that is what
+-- a packed rule says of each child: child j of n is among the first, between, or among the last (`class-wanted`), and
+-- code finds the same class (`at-front`, `at-middle`, `at-back`).
 use mathlib.Core.Path.{_≡_, refl, sym, ap, _∙_}
 use mathlib.Core.Bool.{Bool, true, false, _&&_, _||_}
 use mathlib.Core.List.{List, [], _∷_, _++_}
@@ -23,7 +25,7 @@ use Rattle.soundness.specs.Packed.{classAt}
 abbrev none : ℕ → Kind
 none n = kind n 0 0 noName (λ d. exactly [])
 
--- a number that is none of some, as code tells it: the last of them outermost
+-- a number that is none of some, as code tests it: the last of them outermost
 abbrev pub Apart : List ℕ → ℕ → Type 0
 Apart [] k = Unit {0}
 Apart (n ∷ ns) k = Apart ns k × (k ≡ n → ⊥)
@@ -166,7 +168,7 @@ module _ (rule : ℕ) where
         (take (backsIn rule) (backIn rule)) m 0
         ∙ getD-take (backsIn rule) (backIn rule) m 0 (omega (arith, fixed-is)))
 
-    -- as code finds it, where the last ones stand from child m on
+    -- as code finds it, where the last ones begin at child m
     pub class-wanted : (m : ℕ) → LastFrom n (backsIn rule) m → fixed (childrenOf rule) ≤ n → j < n
         → classAt rule m j ≡ getD (wanted (childrenOf rule) n) j 0
     unfolding classAt

@@ -1,4 +1,5 @@
--- Two answers that meet the promise of a public function coincide. Assumes nothing.
+-- Two answers of `class`, `first_unsound` or `first_unsound_in` that meet the promise are equal: each promise is an
+-- equation over the arguments, so each law is fields' `coincide`. Assumes nothing.
 use mathlib.Core.Path.{_≡_}
 use mathlib.Core.List.{List}
 use Prim.Native.Nat.{ℕ}

@@ -1,6 +1,6 @@
 -- Laws of the rule of a record with its children, in the terms of code. Children are counted and judged one by one, and
 -- those that are left decide (`Counting`, `Fitting`). A record is judged by its fields, its size and its children
--- (`record-fields`, `record-size`, `record-kids`), wherever it stands (`sound-index`). The loop over the records keeps
+-- (`record-fields`, `record-size`, `record-kids`), wherever it is (`sound-index`). The loop over the records keeps
 -- the top-level statement of the record before: of a table (`Going`, with Tops), or of one statement, which does not
 -- end (`Judging`); in both the records that are left decide (`Searching`). Assumes nothing.
 use mathlib.Core.Path.{_≡_, refl, sym, ap, _∙_}
@@ -121,7 +121,7 @@ and-swap true n s = refl
 and-swap false true s = refl
 and-swap false false s = refl
 
--- how many nodes stand side by side
+-- the number of nodes side by side
 abbrev pub kidsNumber : List ℕ → ℕ
 kidsNumber t = length (classes (forest 0 t))
 
@@ -132,7 +132,7 @@ number-within =
     (λ i bs s. rw (forest-none i bs s) (omega arith))
     (λ i bs big ks rs. rw (forest-tree i bs big) (omega (arith, length-rest bs)))
 
--- where a rule has no last ones, no child stands past the records
+-- where a rule has no last ones, no child is past the records
 pub no-last : (t : List ℕ) {b : ℕ} → b ≡ 0 → LastFrom (kidsNumber t) b (length t / 24)
 no-last t e = omega (arith, number-within 0 t)
 

@@ -1,4 +1,8 @@
--- The first number at which a test fails: laws for loops, and what it means. Assumes nothing.
+-- The first number at which a test fails. A loop that has passed the numbers below i keeps that the search from i on is
+-- the whole search (`Looking`, with `look-start`, `look-on`, `look-here` and `look-end`). The search means what its
+-- name says: if it finds none, the test holds everywhere (`none-found`), and the other way round (`all-found`); if it
+-- finds k, the test fails at k and holds before it (`found`, the record `First`). The induction is on the count of
+-- numbers that are left. Assumes nothing.
 use mathlib.Core.Path.{_≡_, refl, sym, _∙_}
 use mathlib.Core.Bool.{Bool, true, false}
 use Prim.Native.Nat.{ℕ, zero, suc, _+_, _-_, _<_, _≤_}

@@ -3,7 +3,7 @@
 -- long as it says, so that the records are the forest's nodes. The induction is on the records of a stretch.
 -- The other way round, where the root covers the table and all nodes are sound, no record is unsound (`sound-clean`);
 -- so too for a subtree by itself (`clear-sound`), and where its records have one context it does not matter where it
--- stands (`sound-anywhere`). Subtrees are nested: one that begins within another ends within it (`nested`).
+-- is (`sound-anywhere`). Subtrees are nested: one that begins within another ends within it (`nested`).
 -- Assumes nothing.
 use mathlib.Core.Path.{_≡_, refl, sym, ap, _∙_}
 use mathlib.Core.Bool.{Bool, true, false, _&&_}
@@ -46,7 +46,7 @@ module _ (i : ℕ) (bs : List ℕ) (big : 24 ≤ length bs) where
   size-fits-whole least most = eq-eqb (sizeOf bs) (1 + count (forest (i + 1) (kidsOf bs)))
       (omega (arith, count-forest (i + 1) (kidsOf bs), length-kids bs))
 
--- every node of a forest is sound, each told its own context
+-- every node of a forest is sound, each in its own context
 unfoldable mutual
   pub allSound : (ℕ → Context) → Forest → Bool
   allSound x none = true
@@ -78,7 +78,7 @@ module _ (x : Context) (r : Node) (ks : Forest) (e : soundNode x r ks ≡ true) 
   unfolding kidsSound
   node-whole = and-left (wholeTrees ks) _ node-kids
 
-  -- the classes of the children, in order: what the kind wants of so many
+  -- the classes of the children, in order: what the kind requires of this number of children
   pub node-classes : classes ks ≡ wanted (kindOf (r .kind) .kids (r .detail)) (length (classes ks))
   unfolding kidsSound permits
   node-classes =
@@ -261,7 +261,7 @@ module _ (t names : List ℕ) (e : firstUnsound t names ≡ Nothing) where
     pub root-covers : 24 * sizeOf t ≡ length t
     root-covers = sound-covers t root
 
-  -- its nodes have a size, and their subtrees stand within it
+  -- its nodes have a size, and their subtrees lie within it
   module _ (i : ℕ) (h : i < length t / 24) where
     pub here-size : (1 ≤ sizeOf (drop (24 * i) t)) × (24 * (i + sizeOf (drop (24 * i) t)) ≤ length t)
     unfolding soundAt

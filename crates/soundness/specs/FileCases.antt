@@ -6,7 +6,7 @@ use Rattle.forest.specs.declared.Found.{Found}
 use Rattle.forest.specs.declared.Found.the-variants.{At, Nothing}
 use Rattle.soundness.specs.KindNumbers.{kindStatements, kindBreak, kindReturn, kindString}
 
--- a record of a kind with a subtree of so many records and a file number, and the records behind it
+-- a record of a kind with a subtree size and a file number, and the records behind it
 abbrev row : ℕ → ℕ → ℕ → List ℕ → List ℕ
 row kind size file rest =
     kind ∷ 0 ∷ 0 ∷ 0 ∷ 0 ∷ 0 ∷ 0 ∷ 0 ∷ 0 ∷ 0 ∷ 0 ∷ 0 ∷ 0 ∷ 0 ∷ 0 ∷ 0 ∷ size % 256 ∷ size / 256

@@ -51,8 +51,8 @@ unfoldable pub topOf : List ℕ → ℕ → ℕ
 topOf t zero = 0
 topOf t (suc i) = if' (endsBy t (topOf t i) (suc i)) (λ _. suc i) (λ _. topOf t i)
 
--- the numbers that record i may have: 0 a root Statements, 1 to 999 a top-level statement, and any other record that of
--- its top-level statement, as it stands there
+-- the numbers that record i may have: a root Statements 0, a top-level statement 1 to 999, and any other record the
+-- number of its top-level statement
 unfoldable pub filesOf : List ℕ → ℕ → Range
 filesOf t i =
     if' (eqb i 0 && rootStatements t) (λ _. range 0 0) (λ _.

@@ -1,4 +1,4 @@
--- The kinds of records by name, as document 01 numbers them. These are definitions.
+-- The kinds of records by name, with the numbers of docs/FORMAT.md ("Kinds"). These are definitions.
 use Prim.Native.Nat.{ℕ}
 
 abbrev pub kindStatements : ℕ

@@ -1,4 +1,4 @@
--- The kinds of records, in the order and the words of document 01: a row for each. These are definitions.
+-- The kinds of records, a row for each, in the order and the words of docs/FORMAT.md ("Kinds"). These are definitions.
 use mathlib.Core.Bool.{Bool, true, false}
 use mathlib.Core.List.{List, [], _∷_, _++_}
 use Prim.Native.Nat.{ℕ}
@@ -27,7 +27,7 @@ parameter = 3
 abbrev pub argument : ℕ
 argument = 4
 
--- how many of one class may stand side by side
+-- how many children of one class are allowed
 pub data Times : Type 0 where
   anyNumber : Times
   evenNumber : Times
@@ -43,8 +43,8 @@ pub record Children : Type 0 where
 abbrev pub children : List ℕ → Times → ℕ → List ℕ → Children
 children f t m b = record { front = f; times = t; middle = m; back = b }
 
--- exactly these; any, an even number, or at most so many of a class; these and then any, or at most so many, of a
--- class; any of a class and then these
+-- exactly these; any number, an even number, or at most n of a class; these and then any number, or at most n, of a
+-- class; any number of a class and then these
 abbrev pub exactly : List ℕ → Children
 exactly cs = children cs (atMost 0) 0 []
 
@@ -66,11 +66,11 @@ thenUpTo cs n c = children cs (atMost n) c []
 abbrev pub anyThen : ℕ → List ℕ → Children
 anyThen c cs = children [] anyNumber c cs
 
--- an expression that stands there if the detail is one of two
+-- an expression that is present if the detail is one of two
 abbrev pub ifDetail : ℕ → ℕ → ℕ → List ℕ
 ifDetail d x y = if' (eqb d x) (λ _. expression ∷ []) (λ _. if' (eqb d y) (λ _. expression ∷ []) (λ _. []))
 
--- a kind: its number, its class, its largest detail, whether a name stands on it, and its children by its detail
+-- a kind: its number, its class, its largest detail, whether it has a name, and its children by its detail
 pub record Kind : Type 0 where
   pub number : ℕ
   pub class : ℕ

@@ -1,5 +1,5 @@
--- How code's packed rows are read. That they say what Kinds says is proved, so no one needs to believe them. These are
--- definitions.
+-- How the packed rows of code are read. It is proved that they agree with Kinds, so nobody has to check the digits.
+-- These are definitions.
 use mathlib.Core.Bool.{Bool, true, _&&_}
 use mathlib.Core.List.{List, [], _∷_}
 use mathlib.Core.Path.{_≡_}
@@ -15,8 +15,8 @@ use Rattle.forest.specs.declared.Found.{Found}
 use Rattle.soundness.specs.Files.{lastFile, rootStatements}
 use Rattle.soundness.specs.Sound.{permitted, fixed, between, rootSound, firstUnsound, unsoundIn}
 
--- the parts of a packed rule: how many come first and the classes of up to three, how many then come and their class,
--- how many come last and the classes of up to three
+-- the parts of a packed rule: the number of first children and the classes of up to three, the number in the middle and
+-- their class, the number of last children and the classes of up to three
 abbrev pub frontsIn : ℕ → ℕ
 frontsIn r = r / 0x10_0000_0000 % 4
 
@@ -35,7 +35,7 @@ backsIn r = r / 0x1000 % 4
 abbrev pub backIn : ℕ → List ℕ
 backIn r = r / 0x100 % 16 ∷ r / 16 % 16 ∷ r % 16 ∷ []
 
--- 15 is any number, 14 an even one, another number at most so many
+-- 15 means any number, 14 an even number, another n at most n
 abbrev pub timesOf : ℕ → Times
 timesOf n = if' (eqb n 15) (λ _. anyNumber) (λ _. if' (eqb n 14) (λ _. evenNumber) (λ _. atMost n))
 
@@ -57,7 +57,7 @@ rules =
 unfoldable pub ruleAt : ℕ → Children
 ruleAt n = getD rules n (exactly [])
 
--- the rule of a kind at a detail, and none past its largest detail
+-- the rule of a kind at a detail; past its largest detail no children
 unfoldable pub ruleOf : ℕ → ℕ → Children
 ruleOf k d = if' (leb d (kindOf k .details)) (λ _. kindOf k .kids d) (λ _. exactly [])
 
@@ -77,41 +77,41 @@ pub record RowOf (k row : ℕ) : Type 0 where
   pub named : eqb (row / 0x1_0000_0000 % 16) 1 ≡ kindOf k .named
   pub rules : rulesIn row ≡ rulesOf k
 
--- the number of a node's children, which code tests last
+-- whether a node may have n children, which code tests last
 unfoldable pub numberSound : Children → ℕ → Bool
 numberSound c n = leb (fixed c) n && permitted (c .times) (between c n)
 
--- of n children the last b stand from child m on; where there are none, m is past the children
+-- of n children the last b begin at child m; where b is 0, m is past the children
 abbrev pub LastFrom : ℕ → ℕ → ℕ → Type 0
 LastFrom n b m = min m n ≡ n - b
 
--- the class that a packed rule wants of child j, where the last ones stand from child m on
+-- the class that a packed rule requires of child j, where the last children begin at child m
 unfoldable pub classAt : ℕ → ℕ → ℕ → ℕ
 classAt r m j =
     if' (ltb j (frontsIn r)) (λ _. getD (frontIn r) j 0) (λ _.
     if' (ltb j m) (λ _. middleIn r) (λ _. getD (backIn r) (j - m) 0))
 
--- the node that a stretch begins with is whole and of this class
+-- whether the first node of a stretch is whole and of this class
 abbrev pub childSound : ℕ → List ℕ → Bool
 childSound want bs = eqb (sizeOf bs) (spanOf bs / recordBytes) && eqb (classOf (nodeOf 0 bs .kind)) want
 
--- how many bytes it then takes, else zero
+-- its size in bytes if so, else zero
 unfoldable pub childOf : ℕ → List ℕ → ℕ
 childOf want bs = if' (childSound want bs) (λ _. spanOf bs) (λ _. 0)
 
--- where the root ends, as the loop begins: a Statements after its own record; any other is the first to begin
+-- where the loop's first statement ends: a root Statements ends after its own record; any other root begins one itself
 unfoldable pub rootEnd : List ℕ → ℕ
 rootEnd t = if' (rootStatements t) (λ _. 1) (λ _. 0)
 
--- what code keeps of the source files when it comes to record i, with which the stretch begins: `end` and `file` were
--- where the top-level statement ends and its number. Within it these stay, and the record has that number
+-- what code keeps of the source files at record i, the first of the stretch. Before it, `end` and `file` were the end
+-- of the top-level statement and its number. Within that statement both stay, and the record has that number
 pub record Turned (bs : List ℕ) (i end file later own least most : ℕ) : Type 0 where
   pub inside : i < end → (later ≡ end) × ((own ≡ file) × ((least ≡ file) × (most ≡ file)))
   pub opens : end ≤ i
       → (later ≡ i + sizeOf bs) × ((own ≡ nodeOf 0 bs .file) × ((least ≡ 1) × (most ≡ lastFile)))
 
--- what a search for the first unsound record finds, where `first` ends the loop's first statement and none ends before
--- `whole`: of a top-level statement, and of a table whose root is sound
+-- what a search for the first unsound record returns, of a top-level statement (`alone`) and of a table whose root is
+-- sound (`table`); `first` ends the loop's first statement, and no statement ends before `whole`
 pub record Searched (t : List ℕ) (names first whole : ℕ) (r : Found) : Type 0 where
   pub alone : first ≡ 0 → whole ≡ length t / recordBytes → r ≡ unsoundIn names t
   pub table : first ≡ rootEnd t → whole ≡ 0 → rootSound t ≡ true → (ns : List ℕ) → names ≡ length ns

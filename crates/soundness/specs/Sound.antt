@@ -1,4 +1,4 @@
--- When a record is sound, and the first that is not, as document 01 says it. These are definitions.
+-- When a record is sound, and the first that is not (docs/FORMAT.md, "A sound table"). These are definitions.
 use mathlib.Core.Bool.{Bool, true, false, _&&_}
 use mathlib.Core.List.{List, [], _∷_, _++_}
 use Prim.Native.Nat.{ℕ, zero, suc, _+_, _-_, _*_, _/_, _%_}
@@ -13,8 +13,8 @@ use Rattle.soundness.specs.KindNumbers.{kindNamed}
 use Rattle.soundness.specs.Files.{Range, range, fileNumbers, fileSound, filesOf}
 use Rattle.soundness.specs.Kinds.{statement, Times, anyNumber, evenNumber, atMost, Children, kindOf, classOf}
 
--- what a record's rule is told besides the record: the number of lent name bytes, and the numbers of source files that
--- it may have
+-- what the rule of a record depends on besides the record: the number of name bytes, and the source file numbers that
+-- the record may have
 pub record Context : Type 0 where
   pub names : ℕ
   pub files : Range
@@ -26,7 +26,7 @@ context n f = record { names = n; files = f }
 abbrev pub lastPosition : ℕ
 lastPosition = 2147483647
 
--- a name of 1 to 255 bytes within the lent names; where no name stands, length and start are zero
+-- a name of 1 to 255 bytes within the name bytes; where the kind has no name, length and start are zero
 unfoldable pub nameSound : Bool → ℕ → ℕ → ℕ → Bool
 nameSound named names len start =
     if' named (λ _. leb 1 len && (leb len 255 && leb (start + len) names)) (λ _. eqb len 0 && eqb start 0)
@@ -62,14 +62,14 @@ unfoldable pub classes : Forest → List ℕ
 classes none = []
 classes (node c ks then cs) = classOf (c .kind) ∷ classes cs
 
--- a number of nodes that may stand in the middle
+-- whether n nodes are allowed in the middle
 unfoldable pub permitted : Times → ℕ → Bool
 permitted anyNumber n = true
 permitted evenNumber n = eqb (n % 2) 0
 permitted (atMost m) n = leb n m
 
--- how many children come first and last, how many of n stand between them, and the classes that n children have in
--- order
+-- the number of first and last children, the number of those between when there are n, and the classes that n children
+-- must have in order
 abbrev pub fixed : Children → ℕ
 fixed c = length (c .front) + length (c .back)
 
@@ -79,11 +79,11 @@ between c n = n - fixed c
 unfoldable pub wanted : Children → ℕ → List ℕ
 wanted c n = c .front ++ (replicate (between c n) (c .middle) ++ c .back)
 
--- children of these classes are what is given, in order and number
+-- whether children of these classes are permitted, in order and number
 unfoldable pub permits : Children → List ℕ → Bool
 permits c cs = permitted (c .times) (between c (length cs)) && same cs (wanted c (length cs))
 
--- children that fill their stretch and are what is given
+-- whether children fill their stretch and are permitted
 unfoldable pub kidsSound : Children → Forest → Bool
 kidsSound c ks = wholeTrees ks && permits c (classes ks)
 
@@ -99,7 +99,7 @@ soundAt x i bs = soundNode x (nodeOf i bs) (forest (i + 1) (kidsOf bs))
 unfoldable pub rootSound : List ℕ → Bool
 rootSound t = eqb (classOf (nodeOf 0 t .kind)) statement && eqb (recordBytes * nodeOf 0 t .size) (length t)
 
--- what the rule of record i of a table is told
+-- the context of record i of a table
 unfoldable pub contextOf : List ℕ → List ℕ → ℕ → Context
 contextOf t names i = context (length names) (filesOf t i)
 
@@ -117,8 +117,8 @@ firstFalse p i (suc n) = if' (p i) (λ _. firstFalse p (i + 1) n) (λ _. At i)
 unfoldable pub firstUnsound : List ℕ → List ℕ → Found
 firstUnsound t names = firstFalse (recordSound t names) 0 (length t / recordBytes)
 
--- what the rule of record i of a top-level statement is told: the first has the number of a source file, and the
--- others have the same
+-- the context of record i of a top-level statement: the first record has the number of a source file, and the others
+-- have the same number
 unfoldable pub contextIn : ℕ → List ℕ → ℕ → Context
 contextIn names bs i =
     context names (if' (eqb i 0) (λ _. fileNumbers) (λ _. range (nodeOf 0 bs .file) (nodeOf 0 bs .file)))
@@ -127,7 +127,7 @@ contextIn names bs i =
 unfoldable pub soundIn : (ℕ → Context) → List ℕ → ℕ → Bool
 soundIn x bs i = soundAt (x i) i (drop (recordBytes * i) bs)
 
--- the first unsound record of a top-level statement, judged in a table that has so many name bytes
+-- the first unsound record of a top-level statement in a table that has `names` name bytes
 unfoldable pub unsoundIn : ℕ → List ℕ → Found
 unsoundIn names bs = firstFalse (soundIn (contextIn names bs) bs) 0 (length bs / recordBytes)
 

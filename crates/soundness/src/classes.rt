@@ -1,4 +1,4 @@
-// The classes of kinds, by document 01's four headings.
+// The classes of kinds: the four groups of docs/FORMAT.md, "Kinds".
 pub const STATEMENT: u8 = 1;
 
 pub const EXPRESSION: u8 = 2;

@@ -1,4 +1,4 @@
-// The kinds of records by name, as document 01 numbers them.
+// The kinds of records by name, with the numbers of docs/FORMAT.md, "Kinds".
 pub const STATEMENTS: u8 = 1;
 
 pub const DEF: u8 = 2;

@@ -10,7 +10,7 @@ ghost use mathlib.Core.Path.{_≡_};
 ghost use Rattle.soundness.specs.Kinds.{classOf};
 ghost use Rattle.soundness.specs.Sound.{firstUnsound, unsoundIn};
 
-// The class of a kind, by the numbers of `classes`; 0 for no kind.
+// The class of a kind, a number of `classes`; 0 for a number that is no kind.
 pub fn class(kind: u8) -> u8
     ensures { λ r. ⌜ r ≡ classOf kind ⌝ }
 {
@@ -25,7 +25,7 @@ pub fn first_unsound(table: &[u8], names: &[u8]) -> Found
 }
 
 // The first unsound record of a top-level statement, in a table that has `names` name bytes. Unlike `first_unsound` it
-// does not ask that the first record is a statement and covers the bytes.
+// does not require that the first record is a statement and covers the bytes.
 pub fn first_unsound_in(statement: &[u8], names: usize) -> Found
     ensures { λ r. ⌜ r ≡ unsoundIn names (now (statement .entry)) ⌝ }
 {

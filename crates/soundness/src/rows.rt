@@ -1,13 +1,13 @@
-// What code needs of each kind and of each rule, packed into a number each, its parts read off the hexadecimal digits:
-// a `match` that gives numbers is a table in the compiled code, where an array would be laid out on the stack at each
-// call. specs/Packed.antt says how the digits are read; that they say what specs/Kinds.antt says is proved arm by arm.
+// Each kind and each rule, packed into one number whose hexadecimal digits are its parts. A `match` that gives numbers
+// is a table in the compiled code; an array would be built on the stack at each call. specs/Packed.antt defines how the
+// digits are read, and it is proved arm by arm that they agree with specs/Kinds.antt.
 ghost use mathlib.Core.Path.{_≡_};
 ghost use lib.ListN.{getD};
 ghost use Rattle.soundness.specs.Kinds.{kindOf, classOf};
 ghost use Rattle.soundness.specs.Packed.{RowOf, ruleAt, ruleOf, childrenOf, frontsIn, frontIn, timesIn, middleIn};
 ghost use Rattle.soundness.specs.Packed.{backsIn, backIn};
 
-// Where the parts of a row stand in its number: the power of 16 of their last digit.
+// The parts of a row in its number: the power of 16 of the last digit of each.
 const CLASS: u64 = 0x100_0000_0000;
 
 const DETAILS: u64 = 0x10_0000_0000;
@@ -20,7 +20,7 @@ const RULE_1: u64 = 0x1_0000;
 
 const RULE_2: u64 = 0x100;
 
-// And those of a rule.
+// The parts of a rule in its number.
 const FRONTS: u64 = 0x10_0000_0000;
 
 const FRONT_0: u64 = 0x1_0000_0000;
@@ -39,8 +39,8 @@ const BACK_0: u64 = 0x100;
 
 const BACK_1: u64 = 0x10;
 
-// The row of a kind: class, largest detail, whether a name stands on it, and the number of its rule at the details 0,
-// 1, 2 and 3, two digits each. A number that no kind has gives nothing.
+// The row of a kind: its class, its largest detail, whether it has a name, and the number of its rule at the details 0,
+// 1, 2 and 3, two digits each. A number that is no kind gives 0.
 fn row_of(kind: u8) -> u64
     ensures { λ r. ⌜ RowOf kind r ⌝ }
 {
@@ -94,7 +94,7 @@ fn row_of(kind: u8) -> u64
     }
 }
 
-// The class of a kind, 0 for no kind.
+// The class of a kind; 0 for a number that is no kind.
 pub(crate) fn class(kind: u8) -> u8
     ensures { λ r. ⌜ r ≡ classOf kind ⌝ }
 {
@@ -108,7 +108,7 @@ pub(crate) fn details(kind: u8) -> u8
     (row_of(kind) / DETAILS % 4) as u8
 }
 
-// Whether a name stands on a kind.
+// Whether a kind has a name.
 pub(crate) fn named(kind: u8) -> bool
     ensures { λ r. ⌜ r ≡ kindOf kind .named ⌝ }
 {
@@ -129,8 +129,8 @@ fn rule_number(kind: u8, detail: u8) -> u64
     }
 }
 
-// A rule by its number: how many children come first and the classes of up to three; how many then come (f any, e an
-// even number, else at most so many) and their class; how many come last and the classes of up to three.
+// A rule by its number: the number of first children and the classes of up to three; the number in the middle (f any, e
+// an even number, else that many at most) and their class; the number of last children and the classes of up to three.
 fn rule_at(number: u64) -> u64
     ensures { λ r. ⌜ childrenOf r ≡ ruleAt number ⌝ }
 {
@@ -164,7 +164,7 @@ pub(crate) fn rule_of(kind: u8, detail: u8) -> u64
     rule_at(rule_number(kind, detail))
 }
 
-// How many children come first.
+// The number of first children.
 pub(crate) fn fronts(rule: u64) -> usize
     ensures { λ r. ⌜ r ≡ frontsIn rule ⌝ }
 {
@@ -183,28 +183,28 @@ pub(crate) fn front(rule: u64, j: usize) -> u8
     }
 }
 
-// How many come between the first and the last: 15 any number, 14 an even one, else at most so many.
+// The number of children between the first and the last: 15 any, 14 an even number, else that many at most.
 pub(crate) fn times(rule: u64) -> u8
     ensures { λ r. ⌜ r ≡ timesIn rule ⌝ }
 {
     (rule / TIMES % 16) as u8
 }
 
-// Their class.
+// The class of the children in the middle.
 pub(crate) fn middle(rule: u64) -> u8
     ensures { λ r. ⌜ r ≡ middleIn rule ⌝ }
 {
     (rule / MIDDLE % 16) as u8
 }
 
-// How many children come last.
+// The number of last children.
 pub(crate) fn backs(rule: u64) -> usize
     ensures { λ r. ⌜ r ≡ backsIn rule ⌝ }
 {
     (rule / BACKS % 4) as usize
 }
 
-// The class of child k of the last.
+// The class of child k of the last children.
 pub(crate) fn back(rule: u64, k: usize) -> u8
     ensures { λ r. ⌜ r ≡ getD (backIn rule) k 0 ⌝ }
 {

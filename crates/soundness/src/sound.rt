@@ -19,7 +19,7 @@ ghost use Rattle.soundness.specs.Packed.{rootEnd, Turned, Searched};
 // The largest number of a source file.
 const LAST_FILE: u16 = 999;
 
-// A name within the lent names where the kind has one; elsewhere length and start are zero.
+// Whether a name is sound: within the name bytes if the kind has one, else with length and start zero.
 fn name_sound(named: bool, names: usize, len: u16, start: u32) -> bool
     ensures { λ r. ⌜ r ≡ nameSound named names len start ⌝ }
 {
@@ -36,7 +36,7 @@ fn span_sound(begin: u32, stop: u32) -> bool
     (begin <= stop) & (stop <= 2147483647)
 }
 
-// The source position of a name where the kind has one; elsewhere zero.
+// Whether the source position of a name is sound: in range if the kind has one, else zero.
 fn source_sound(kind: u8, source: u32, len: u16) -> bool
     ensures { λ r. ⌜ r ≡ sourceSound kind source len ⌝ }
 {
@@ -47,14 +47,14 @@ fn source_sound(kind: u8, source: u32, len: u16) -> bool
     source == 0
 }
 
-// The number of the source file, from `least` to `most`.
+// Whether the number of the source file is from `least` to `most`.
 fn file_sound(file: u16, least: u16, most: u16) -> bool
     ensures { λ r. ⌜ r ≡ fileSound (range least most) file ⌝ }
 {
     (least <= file) & (file <= most)
 }
 
-// The fields of the record that a stretch begins with, whose file number is to be from `least` to `most`.
+// Whether the fields of the first record are sound. Its file number must be from `least` to `most`.
 fn fields_sound(t: &[u8], names: usize, least: u16, most: u16) -> bool
     ensures { λ r. ⌜ r ≡ fieldsSound (context names (range least most)) (nodeOf 0 (now (t .entry))) ⌝ }
 {
@@ -69,7 +69,7 @@ fn fields_sound(t: &[u8], names: usize, least: u16, most: u16) -> bool
     classed & (detailed & (named & (spanned & (filed & sourced))))
 }
 
-// Whether a subtree of so many records stands whole within so many bytes.
+// Whether a subtree of `size` records fits within `len` bytes.
 fn whole(size: u16, len: usize) -> bool
     ensures { λ r. ⌜ r ≡ (leb 1 size && leb (recordBytes * size) len) ⌝ }
 {
@@ -77,7 +77,7 @@ fn whole(size: u16, len: usize) -> bool
     (1 <= size) & (end <= len)
 }
 
-// How many nodes of a stretch stand side by side.
+// The number of nodes of a stretch, side by side.
 fn children(t: &[u8]) -> usize
     ensures { λ r. ⌜ r ≡ length (classes (forest 0 (now (t .entry)))) ⌝ }
 {
@@ -91,8 +91,8 @@ fn children(t: &[u8]) -> usize
     n
 }
 
-// The child from which on the last ones stand, of which a rule has so many. Where it has none, no child: the children
-// are then not counted, and there are no more of them than records.
+// The index of the first of the `backs` last children. If the rule has none, a number past all children, so that the
+// children need not be counted.
 fn last_from(t: &[u8], backs: usize) -> usize
     ensures { λ r. ⌜ LastFrom (length (classes (forest 0 (now (t .entry))))) backs r ⌝ }
 {
@@ -125,7 +125,7 @@ fn number_sound(rule: u64, n: usize) -> bool
     m <= (times as usize)
 }
 
-// The class of child j, where the last ones stand from child m on.
+// The class that child j must have, where the last children begin at child m.
 fn class_wanted(rule: u64, m: usize, j: usize) -> u8
     ensures { λ r. ⌜ r ≡ classAt rule m j ⌝ }
 {
@@ -138,7 +138,7 @@ fn class_wanted(rule: u64, m: usize, j: usize) -> u8
     rows::back(rule, j - m)
 }
 
-// How many bytes the node takes that a stretch begins with, if it is whole and of the class wanted; else zero.
+// The size in bytes of the first node, if it is whole and of the class `want`; else zero.
 fn child(t: &[u8], want: u8) -> usize
     requires { ⌜ recordBytes ≤ length (now t) ⌝ }
     ensures { λ r. ⌜ r ≡ childOf want (now (t .entry)) ⌝ }
@@ -154,8 +154,7 @@ fn child(t: &[u8], want: u8) -> usize
     RECORD * (size as usize)
 }
 
-// Whether the nodes of a stretch fill it and are the children that a rule permits, where the last ones stand from child
-// m on.
+// Whether the nodes of a stretch fill it and are the children that a rule permits. The last children begin at child m.
 fn children_sound(t: &[u8], rule: u64, m: usize) -> bool
     requires { ⌜ LastFrom (length (classes (forest 0 (now t)))) (backsIn rule) m ⌝ }
     ensures { λ r. ⌜ r ≡ kidsSound (childrenOf rule) (forest 0 (now (t .entry))) ⌝ }
@@ -200,7 +199,7 @@ fn record_sound(t: &[u8], names: usize, least: u16, most: u16) -> bool
     kids_sound(&t[RECORD..e], forest::kind(head), forest::detail(head))
 }
 
-// Node 0 is a statement that covers the table.
+// Whether node 0 is a statement that covers the table.
 fn root_sound(table: &[u8]) -> bool
     ensures { λ r. ⌜ r ≡ rootSound (now (table .entry)) ⌝ }
 {
@@ -208,8 +207,8 @@ fn root_sound(table: &[u8]) -> bool
         & (RECORD * (forest::size(table) as usize) == table.len())
 }
 
-// Where the loop's first statement ends: a root Statements after its own record; at record 0 where the root is another,
-// so that it begins a statement itself.
+// Where the loop's first statement ends: a root Statements ends after its own record. Any other root is a statement
+// itself, so the statement before it ends at record 0.
 fn root_end(table: &[u8]) -> usize
     ensures { λ r. ⌜ r ≡ rootEnd (now (table .entry)) ⌝ }
 {
@@ -219,7 +218,7 @@ fn root_end(table: &[u8]) -> usize
     0
 }
 
-// The top-level statement that a record is in: where it ends and its number; then the least and the greatest number
+// The top-level statement of a record: where it ends and its file number; then the least and the greatest file number
 // that the record may have.
 struct Within {
     end: usize,
@@ -228,8 +227,8 @@ struct Within {
     most: u16,
 }
 
-// The statement of record i, with which the stretch begins. The record before it is in one that ends at `end` and has
-// the number `file`. The fields are read from 24 bytes, as in `record_sound`.
+// The top-level statement of record i, the first of the stretch. The record before it is in the statement that ends at
+// `end` and has the file number `file`. The fields are read from 24 bytes, as in `record_sound`.
 fn turn(t: &[u8], i: usize, end: usize, file: u16) -> Within
     requires { ⌜ recordBytes ≤ length (now t) ⌝ }
     requires { ⌜ recordBytes * i ≤ 18446744073709551615 ⌝ }

@@ -1,6 +1,7 @@
--- Figures, told in C. How a report ends is one value of an enum, so what is put for it is put by cases (`ending-put`),
--- and the counters are those of the report (`report-put`). A step that accepts puts one word, which fits: a file takes
--- at most 59,904 bytes (`step-fits`). Assumes nothing.
+-- The words of figures in C. The end of a report is one value of an enum, so its words are shown by cases
+-- (`ending-put`), and the counters are those of the report (`report-put`). A step that accepts writes one word, the
+-- number of bytes taken. It fits, because a file takes at most 59,904 bytes (`step-fits`, from the limits of the
+-- counts). Assumes nothing.
 use mathlib.Core.Path.{_≡_, refl, sym, ap, _∙_}
 use mathlib.Core.Bool.{Bool, true, false}
 use mathlib.Core.List.{List, []}
@@ -27,7 +28,7 @@ use Rattle.starlark_checks.specs.Words.{laid}
 use Rattle.starlark_checks.specs.FormatWords.{twoWords}
 use Rattle.starlark_checks.specs.FigureWords.{endingNumber, endingWords}
 
--- what is put for the end of a report
+-- the number and the words for the end of a report
 abbrev pub EndPut : Ending → ℕ → List ℕ → List ℕ → Type 0
 EndPut e n xs ys = (n ≡ endingNumber e) × (ys ≡ laid (endingWords e) 0 xs)
 
@@ -36,7 +37,7 @@ pub ending-put : {e : Ending} (n at : ℕ) (xs : List ℕ) {ys : List ℕ} → e
     → ys ≡ laid (twoWords at) 0 xs → EndPut e n xs ys
 ending-put n at xs q p = rw q (refl, p)
 
--- LAW: what is put for the report that code made is put for the one that is promised
+-- LAW: the words for the report of the code are those for the promised report
 pub report-put : (v w : Reported) {n : ℕ} (xs : List ℕ) {ys : List ℕ} → v ≡ w → EndPut (v .ending) n xs ys
     → (n ≡ endingNumber (w .ending)) × ((ys ≡ laid (endingWords (w .ending)) 0 xs) × (v .figures ≡ w .figures))
 report-put v w xs q (i, p) =

@@ -1,7 +1,7 @@
--- A format text's answer, told in C. A number that may pass 32 bits is laid as two words, so the words of an accepted
--- answer are laid one stretch after the other: those of a length and the notice (`text-put`), those of two counts
--- (`parts-put`). A refusal of the writer carries what the other jobs' do (`text-refused`); 7 of the reader has no word
--- (`short-put`). Assumes nothing.
+-- The words of a format text's answer in C. A number that may exceed 32 bits is written as two words, so the words of
+-- an accepted answer are written in two stretches: those of a length and then the notice (`text-put`), or those of
+-- two counts (`parts-put`). A refusal of the writer has the same words as in the other jobs (`text-refused`); 7 of
+-- the reader has no word (`short-put`). Assumes nothing.
 use mathlib.Core.Path.{_≡_, refl, ap, _∙_}
 use mathlib.Core.Bool.{Bool}
 use mathlib.Core.List.{List, [], _∷_}

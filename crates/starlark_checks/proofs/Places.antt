@@ -1,6 +1,8 @@
--- The positions and places of books fit words: a book that passes has at most 100 blocks, so that a place is below
--- 2,100 and its bytes begin below 51,200. Why: the best place and the first place of a book are among its places
--- (`best-inside`, books' `first-inside`), and what is told of them has a sound book. Assumes nothing.
+-- The positions and places of books fit words: a book that passes has at most 100 blocks, so a place is below 2,100
+-- and its bytes begin below 51,200. An answer with a place comes only from a sound book (`in-order`, by the order of
+-- the tests), and the best place and the first place of a book are among its places (`best-inside`, books'
+-- `first-inside`). Cite `zone-fits`, `line-fits`, `added-fits` and `removed-fits`. `best-inside` is by induction on
+-- the places; the rest are case distinctions on the tests. Assumes nothing.
 use mathlib.Core.Path.{_≡_, refl, sym, ap, _∙_}
 use mathlib.Core.Bool.{Bool, true, false, _&&_}
 use mathlib.Core.List.{List}
@@ -42,7 +44,7 @@ few-blocks line book s =
     leb-true (length book / 512) 100 (and-right (leb 1 (length book / 512)) _ (and-right (eqb
     (length book % 512) 0) _ l))
 
--- what the two best places tell
+-- the positions of the two best places
 module _ (zb lb : List ℕ) (few-z : length zb / 512 ≤ 100) (few-l : length lb / 512 ≤ 100) where
   told-zone : (a d : ℕ) → a ≤ placesOf zb → (at : ℕ) → told a d ≡ Zone at → at < 2 ^ 32
   told-zone (suc p) d h at e = let same : at ≡ placeAt p + 6 = cc in omega arith
@@ -55,7 +57,7 @@ module _ (zb lb : List ℕ) (few-z : length zb / 512 ≤ 100) (few-l : length lb
   told-line zero zero h at e = never (cc)
 
 module _ (zb lb : List ℕ) (zone asked at : ℕ) where
-  -- the answers in order, for an answer that is told
+  -- the tests in order: an answer that is no refusal has two sound books
   in-order : (a : Looked) → ((n b : ℕ) → a ≡ Refused n b → ⊥) → lookupOf zb lb zone asked ≡ a
       → (soundBook false zb ≡ true) × (soundBook true lb ≡ true)
       × (told (bestIn zone asked zb (placesOf zb)) (bestIn 0 asked lb (placesOf lb)) ≡ a)
@@ -143,7 +145,7 @@ module _ (zb lb : List ℕ) (zone setting b p : ℕ) {a : Changed} where
       go true f = remove-small true lb zone setting b p f
       go false f = remove-small false zb zone setting b p f
 
--- what an arm of a match has put is what the definition says: the number and the words of a lookup
+-- an arm of the match writes the number and the words of the definition
 module _ (zb lb : List ℕ) (zone setting : ℕ) {l : Looked} (l-is : l ≡ lookupOf zb lb zone setting) where
   pub look-number : (v : Looked) → l ≡ v → {n : ℕ} → n ≡ number (looked v)
       → n ≡ number (looked (lookupOf zb lb zone setting))

@@ -1,5 +1,6 @@
--- Two answers that meet the promise of a public function coincide: the number, the twelve words, and the lent buffer,
--- for every input. Assumes nothing.
+-- Each exported function has one answer, for every input: two answers that meet its promise agree in the number, the
+-- twelve words and the caller's buffers. Every promise in C is an equation with a definition on its right, so each
+-- theorem is `coincide`, once for the number, once for the words and once for each buffer. Assumes nothing.
 use mathlib.Core.Path.{_≡_}
 use mathlib.Core.List.{List, []}
 use Prim.Native.Nat.{ℕ}

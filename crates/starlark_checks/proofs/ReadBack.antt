@@ -1,7 +1,7 @@
--- Table files in C, over the promises of `starlark_read` and `starlark_write`, for every input:
--- what `starlark_read` hands over is what the reader holds;
--- what `starlark_write` has written, `starlark_read` gives back as the same table, names, dialect and edition;
--- the word that it tells of an edition is the one that was given to write it. Assumes nothing.
+-- Table files in C, from the promises of `starlark_read` and `starlark_write`, for every input. `starlark_read`
+-- writes the content that the reader holds into its buffers. What `starlark_write` wrote, `starlark_read` gives back
+-- as the same table, names, dialect and edition; the word for the edition is the one that was given to the writer.
+-- Each follows from writer's and tablefile's theorems, by unfolding the words. Assumes nothing.
 use mathlib.Core.Path.{_≡_, refl, sym, ap, _∙_}
 use mathlib.Core.Bool.{Bool, true, false}
 use mathlib.Core.List.{List, [], _∷_, _++_}
@@ -31,14 +31,14 @@ use Rattle.writer.specs.declared.Written.the-variants.{Accepted as Wrote}
 use Rattle.writer.proofs.RoundTrips.{back-content, back-read}
 use Rattle.starlark_checks.specs.Words.{noPlace, statedOf, statedWord, heldValues, readOf}
 
--- what a read of a file leaves in two buffers
+-- the two buffers after a file is read
 abbrev pub tableAfter : List ℕ → List ℕ → List ℕ → List ℕ
 tableAfter file t ns = handed (intoCheck file (length t) (length ns)) (contentAt file .table) t
 
 abbrev pub namesAfter : List ℕ → List ℕ → List ℕ → List ℕ
 namesAfter file t ns = handed (intoCheck file (length t) (length ns)) (contentAt file .names) ns
 
--- a file that the reader accepts, with what it holds, into buffers that it fits
+-- a file that the reader accepts, with its content, and buffers that are large enough
 module _ (file t ns : List ℕ) (c : Content) (passed : readCheck file ≡ accepted []) (c-is : contentAt file ≡ c)
     (t-fits : length (c .table) ≤ length t) (ns-fit : length (c .names) ≤ length ns) where
   room : intoCheck file (length t) (length ns) ≡ accepted []
@@ -64,8 +64,8 @@ module _ (file t ns : List ℕ) (c : Content) (passed : readCheck file ≡ accep
       let nodes : headerAt file .nodes ≡ length (contentAt file .table) / 24 = omega (arith, table-length file f) in
       rw (nodes, ← names-length file f, ← dialect-length file f, c-is) refl
 
--- THEOREM: of a file that the reader accepts, into buffers that table and names fit, what `starlark_read` hands over is
--- what the reader holds; the rest of the buffers stays
+-- THEOREM: if the reader accepts a file, and table and names fit the buffers, `starlark_read` writes the content of the
+-- file; the rest of the buffers stays
 module _ (file : List ℕ) (l : Loaded) (read : Read file l) (good : l .verdict ≡ Accepted) (t ns : List ℕ)
     (t-fits : length (held l .table) ≤ length t) (ns-fit : length (held l .names) ≤ length ns) where
   reader : readCheck file ≡ accepted []
@@ -115,7 +115,7 @@ module _ (t names ds : List ℕ) (e : Stated) (buffer : List ℕ) {n : ℕ}
   pub written-names : namesAfter file room-t room-n ≡ names ++ drop (length names) room-n
   written-names = its-names file room-t room-n (holding t names ds e) accepts content t-fits names-fit
 
--- THEOREM: the word that is told of an edition is the word that states it
+-- THEOREM: the word for an edition is the word that states it
 pub stated-back : (n : ℕ) → statedWord (statedOf n) ≡ n
 stated-back n = go (eqb n noPlace) refl
   where

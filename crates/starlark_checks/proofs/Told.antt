@@ -1,4 +1,9 @@
--- A job's answer, told in C: what an arm of a match has put is what the definition says. Assumes nothing.
+-- Laws of the words that the C functions write, one for each arm of a `match`. A function matches the job's answer u;
+-- in an arm it is the value v, and the arm writes the number and the words of v. Since u means the promised answer,
+-- these are the number and words of that answer (`told`, and `told-with` for a job that also fills a buffer). A
+-- refusal has the same words in every job. `front-laid` to `call-laid` say that words stored one by one are the list
+-- of the definition; `held-fit` and `params-fit` that the values fit 32 bits. Cite `told`, `told-with` and
+-- `read-told`. No induction but over a list of values. Assumes nothing.
 use mathlib.Core.Path.{_≡_, refl, sym, ap, _∙_}
 use mathlib.Core.List.{List, [], _∷_, _++_}
 use Prim.Native.Nat.{ℕ, _/_, _^_, _<_, _≤_}
@@ -28,18 +33,18 @@ use Rattle.tablefile.proofs.Lends.{into-fronted}
 use Rattle.starlark_checks.specs.Words.{number, words, placeIn, callWords, rescueWords, laid, Fit}
 use Rattle.starlark_checks.specs.Words.{statedWord, frontValues, editionValues, heldValues, readOf, passWords}
 
--- a number and words put for an answer
+-- n is the number of the answer, and ys are the words xs after the words of the answer are written
 abbrev pub Put : (Answer → List ℕ) → Answer → ℕ → List ℕ → List ℕ → Type 0
 Put put a n xs ys = (n ≡ number a) × (ys ≡ laid (put a) 0 xs)
 
--- LAW: what is put for the value of an arm is put for the job's answer
+-- LAW: what is written for the value of an arm is written for the job's answer
 pub told : {U : Type 0} (put : Answer → List ℕ) (means : U → Answer) (u v : U) (a : Answer) (n : ℕ) (xs ys : List ℕ)
     → means u ≡ a → u ≡ v → Put put (means v) n xs ys → Put put a n xs ys
 told put means u v a n xs ys e q (i, w) =
     let k : means v ≡ a = rw q at e in
     (i ∙ ap number k, w ∙ ap (λ (b : Answer). laid (put b) 0 xs) k)
 
--- LAW: the same, with what the job promises of a lent buffer
+-- LAW: the same, with the promise of the job for a buffer
 pub told-with : {U B : Type 0} (put : Answer → List ℕ) (means : U → Answer) (u v : U) (a : Answer) (n : ℕ)
     (xs ys : List ℕ) → (means u ≡ a) × B → u ≡ v → Put put (means v) n xs ys
     → (n ≡ number a) × ((ys ≡ laid (put a) 0 xs) × B)
@@ -58,15 +63,15 @@ pub pass-refused : (r : Refusal) {n : ℕ} (xs : List ℕ) {ys : List ℕ} → P
     → Put passWords (refusal r) n xs ys
 pass-refused r xs p = p
 
--- reading a file: v is what `tablefile::read_into` answers
+-- reading a file: v is the answer of `tablefile::read_into`
 module _ (file : List ℕ) (a b : ℕ) (v : Verdict) {B : Type 0} (p : (verdict v ≡ intoCheck file a b) × B) where
-  -- LAW: the counts of a file that is handed over fit words
+  -- LAW: the counts of an accepted file fit words
   pub held-fit : v ≡ Accepted → Fit (headerAt file .nodes ∷ headerAt file .names ∷ [])
   held-fit e =
       let f = into-fronted file a b (sym (p .0) ∙ ap verdict e) in
       (omega (arith, f .counts), (omega (arith, f .counts), tt))
 
-  -- LAW: what is put for an arm is put for the answer
+  -- LAW: what is written for an arm is written for the answer
   pub read-told : (w : Verdict) (n : ℕ) (xs ys : List ℕ) → v ≡ w
       → Put words (andThen (verdict w) (λ _. accepted (heldValues file))) n xs ys
       → (n ≡ number (readOf file a b)) × ((ys ≡ laid (words (readOf file a b)) 0 xs) × B)
@@ -76,7 +81,7 @@ module _ (file : List ℕ) (a b : ℕ) (v : Verdict) {B : Type 0} (p : (verdict 
       ap (λ (x : Answer). andThen x (λ _. accepted (heldValues file))) (sym (ap verdict e) ∙ p .0) in
       (put .0 ∙ ap number k, (put .1 ∙ ap (λ (x : Answer). laid (words x) 0 xs) k, p .1))
 
--- LAW: what block 0 says fits words, where the counts do
+-- LAW: the values of the header fit words if its counts do
 module _ (file : List ℕ) {h : Heading} (h-is : h ≡ headerAt file) where
   pub dialect-fits : h .dialect / 9 < 2 ^ 32
   dialect-fits = rw h-is (omega (arith, dialect-few file))
@@ -88,19 +93,19 @@ module _ (file : List ℕ) {h : Heading} (h-is : h ≡ headerAt file) where
     pub names-fit : h .names < 2 ^ 32
     names-fit = rw h-is (omega (arith, fit .1 .0))
 
--- LAW: six words, laid one after the other
+-- LAW: six words, written one after the other
 pub front-laid : (file : List ℕ) {h : Heading} (xs : List ℕ) {d : List ℕ} {x y z : ℕ} → h ≡ headerAt file
     → d ≡ contentAt file .dialect → x ≡ field 4 d 0 → y ≡ field 4 d 4 → z ≡ field 4 d 8
     → set (set (set (set (set (set xs 0 (h .nodes)) 1 (h .names)) 2 (h .dialect / 9)) 3 x) 4 y) 5 z
     ≡ laid (frontValues file) 0 xs
 front-laid file xs h-is d-is x-is y-is z-is = rw (x-is, y-is, z-is, d-is, h-is) refl
 
--- LAW: two words of an edition, laid from place 6 on
+-- LAW: two words of an edition, written from place 6 on
 pub edition-laid : (e : Stated) (xs : List ℕ) {w n : ℕ} → w ≡ statedWord e → n ≡ numberHeld e
     → set (set xs 6 w) 7 n ≡ laid (editionValues e) 6 xs
 edition-laid e xs w-is n-is = rw (w-is, n-is) refl
 
--- LAW: two words more, behind these
+-- LAW: two more words after these
 pub held-laid : (file : List ℕ) (xs : List ℕ) {ys zs : List ℕ} {e : Stated} → ys ≡ laid (frontValues file) 0 xs
     → e ≡ contentAt file .edition → zs ≡ laid (editionValues e) 6 ys
     → (0 ≡ number (accepted (heldValues file))) × (zs ≡ laid (words (accepted (heldValues file))) 0 xs)
@@ -149,7 +154,7 @@ call-words a = go (a .star) (a .«star_star»)
     go Nothing (At j) = refl
     go Nothing Nothing = refl
 
--- LAW: four words, laid one after the other
+-- LAW: four words, written one after the other
 pub call-laid : (a : CallArgs) (s k : ℕ) (xs : List ℕ) → s ≡ placeIn (placeValues (a .star))
     → k ≡ placeIn (placeValues (a .«star_star»))
     → set (set (set (set xs 0 (a .«num_pos»)) 1 (a .«num_named»)) 2 s) 3 k

@@ -1,4 +1,4 @@
--- What a caller in C gets of figures: how a report ends, and what a step answers. These are definitions.
+-- The figures as a C caller gets them: the end of a report, and the answer of a step. These are definitions.
 use mathlib.Core.List.{List, [], _∷_}
 use Prim.Native.Nat.{ℕ}
 use Rattle.table.specs.Answer.{Answer, accepted, refused}
@@ -8,7 +8,7 @@ use Rattle.figures.specs.declared.Stepped.{Stepped}
 use Rattle.figures.specs.declared.Stepped.the-variants.{Taken, Refused}
 use Rattle.starlark_checks.specs.FormatWords.{twoWords}
 
--- the number that is returned for a report: 0 where it is whole, else that of the refused file
+-- the number that is returned for a report: 0 if it is whole, else that of the refused file
 abbrev pub endingNumber : Ending → ℕ
 endingNumber Whole = 0
 endingNumber (RefusedAt n at) = n

@@ -1,5 +1,5 @@
--- What a caller in C gets of format texts: lengths, counts and positions may pass 32 bits, so each stands in two words,
--- the low one first. These are definitions.
+-- The answers on format texts as a C caller gets them: lengths, counts and positions may exceed 32 bits, so each is two
+-- words, the low one first. These are definitions.
 use mathlib.Core.List.{List, [], _∷_, _++_}
 use Prim.Native.Nat.{ℕ, _/_, _%_}
 use lib.ListN.{getD}
@@ -14,7 +14,7 @@ abbrev pub textWords : Answer → List ℕ
 textWords (accepted vs) = twoWords (getD vs 0 0) ++ (getD vs 1 0 ∷ [])
 textWords (refused n vs) = carriedWords vs
 
--- the words of a text that is read: how many parts and text bytes; for 63 its position
+-- the words of a text that is read: the numbers of parts and of text bytes; for 63 the position
 abbrev pub positionWords : List ℕ → List ℕ
 positionWords [] = []
 positionWords (p ∷ vs) = twoWords p

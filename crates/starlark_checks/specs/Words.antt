@@ -1,5 +1,5 @@
--- What a caller in C gets: the number that is returned, and the twelve words afterwards, from a job's answer. These are
--- definitions.
+-- The answers as a C caller gets them: the number that is returned, and the twelve words at exit, from a job's answer.
+-- These are definitions.
 use mathlib.Core.List.{List, [], _∷_, _++_}
 use Prim.Native.Nat.{ℕ, _+_, _/_, _%_, _≤_}
 use lib.Dec.{eqb}
@@ -17,7 +17,7 @@ abbrev pub number : Answer → ℕ
 number (accepted vs) = 0
 number (refused n vs) = n
 
--- the word that stands for no place
+-- the word for no place
 abbrev pub noPlace : ℕ
 noPlace = 4294967295
 
@@ -51,7 +51,7 @@ abbrev pub rescueWords : Answer → List ℕ
 rescueWords (accepted vs) = take 4 vs ++ (getD vs 4 0 % 4294967296) ∷ (getD vs 4 0 / 4294967296) ∷ []
 rescueWords (refused n vs) = carriedWords vs
 
--- the edition that a word of the writer's caller states: the word for no place is nothing
+-- the edition that the word of a caller states: the word for no place means nothing
 abbrev pub statedOf : ℕ → Stated
 statedOf n = if' (eqb n noPlace) (λ _. Nothing) (λ _. Number n)
 
@@ -60,32 +60,32 @@ abbrev pub statedWord : Stated → ℕ
 statedWord (Number n) = n
 statedWord Nothing = noPlace
 
--- what is told of a file before its edition: its nodes and name bytes, 1 where it has a dialect, and the dialect's nine
--- bytes, four a word, the low one first; none are zeros
+-- the values of a file before its edition: the numbers of nodes and name bytes, 1 if it has a dialect, and the
+-- dialect's nine bytes, four a word, the low one first; zeros if there is none
 abbrev pub frontValues : List ℕ → List ℕ
 frontValues file =
     let h = headerAt file in
     let d = contentAt file .dialect in
     h .nodes ∷ h .names ∷ (h .dialect / 9) ∷ field 4 d 0 ∷ field 4 d 4 ∷ field 4 d 8 ∷ []
 
--- and of its edition: as it stands, and the one that holds
+-- the values of its edition: the stated one, and the one that holds
 abbrev pub editionValues : Stated → List ℕ
 editionValues edition = statedWord edition ∷ numberHeld edition ∷ []
 
--- what is told of a file that is read
+-- the values of a file that is read
 abbrev pub heldValues : List ℕ → List ℕ
 heldValues file = frontValues file ++ editionValues (contentAt file .edition)
 
--- reading a file into buffers of so many bytes
+-- reading a file into buffers of these lengths
 unfoldable pub readOf : List ℕ → ℕ → ℕ → Answer
 readOf file table names = andThen (intoCheck file table names) (λ _. accepted (heldValues file))
 
--- the words of a file's answer: how many errors, then how many nodes
+-- the words of a file's answer: the number of errors, then that of nodes
 abbrev pub passWords : Answer → List ℕ
 passWords (accepted vs) = getD vs 1 0 ∷ getD vs 0 0 ∷ []
 passWords (refused n vs) = carriedWords vs
 
--- words written from place i on; what is not written stays
+-- words written from place i on; the other words stay
 abbrev pub laid : List ℕ → ℕ → List ℕ → List ℕ
 laid [] i xs = xs
 laid (v ∷ vs) i xs = laid vs (i + 1) (set xs i v)

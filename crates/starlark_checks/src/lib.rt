@@ -1,4 +1,4 @@
-// The C interface: each job's number, and its values in twelve words that the caller lends.
+// The C interface: each job returns its number, and writes its values into twelve words of the caller.
 use arguments::CallArgs;
 use arguments::Called;
 use bind::Bound;
@@ -65,7 +65,7 @@ const MINOR: u32 = 4;
 
 const PATCH: u32 = 0;
 
-// A refusal: what it carries, and its number.
+// Writes what a refusal carries, and returns its number.
 fn put_refused(r: Refusal, out: &mut [u32; 12]) -> u32
     ensures { λ n. ⌜ n ≡ number (refusal r) ⌝ }
     ensures { λ n. ⌜ now (out .exit) ≡ laid (words (refusal r)) 0 (now (out .entry)) ⌝ }
@@ -92,7 +92,7 @@ fn put_refused(r: Refusal, out: &mut [u32; 12]) -> u32
     }
 }
 
-// An answer of one value, accepted.
+// Writes an accepted answer of one value.
 fn put_count(n: u32, out: &mut [u32; 12]) -> u32
     ensures { λ r. ⌜ r ≡ number (accepted (n ∷ [])) ⌝ }
     ensures { λ r. ⌜ now (out .exit) ≡ laid (words (accepted (n ∷ []))) 0 (now (out .entry)) ⌝ }
@@ -101,7 +101,7 @@ fn put_count(n: u32, out: &mut [u32; 12]) -> u32
     0
 }
 
-// An answer of two values, accepted.
+// Writes an accepted answer of two values.
 fn put_two(a: u32, b: u32, out: &mut [u32; 12]) -> u32
     ensures { λ r. ⌜ r ≡ number (accepted (a ∷ b ∷ [])) ⌝ }
     ensures { λ r. ⌜ now (out .exit) ≡ laid (words (accepted (a ∷ b ∷ []))) 0 (now (out .entry)) ⌝ }
@@ -111,7 +111,7 @@ fn put_two(a: u32, b: u32, out: &mut [u32; 12]) -> u32
     0
 }
 
-// Begin and end of a range.
+// Writes the begin and the end of a range.
 fn put_range(r: Range, at: usize, out: &mut [u32; 12])
     requires { ⌜ at < 11 ⌝ }
     requires { ⌜ Fit (r .from ∷ r .upto ∷ []) ⌝ }
@@ -121,7 +121,7 @@ fn put_range(r: Range, at: usize, out: &mut [u32; 12])
     out[at + 1] = r.upto as u32;
 }
 
-// The five ranges and the flat count.
+// Writes the five ranges and the flat count.
 fn put_ranges(c: Counted, out: &mut [u32; 12]) -> u32
     requires { ⌜ Fit (valuesOf c) ⌝ }
     ensures { λ r. ⌜ r ≡ number (accepted (valuesOf c)) ⌝ }
@@ -148,7 +148,7 @@ fn place_word(p: Place) -> u32
     }
 }
 
-// How many positional and named, and the places of star and `**`.
+// Writes the numbers of positional and of named arguments, and the places of star and `**`.
 fn put_call(a: CallArgs, out: &mut [u32; 12]) -> u32
     ensures { λ r. ⌜ r ≡ number (accepted (callValues a)) ⌝ }
     ensures { λ r. ⌜ now (out .exit) ≡ laid (callWords (accepted (callValues a))) 0 (now (out .entry)) ⌝ }
@@ -162,7 +162,7 @@ fn put_call(a: CallArgs, out: &mut [u32; 12]) -> u32
     0
 }
 
-// What is told of a rescue; the bytes after the last block in two words, the low one first.
+// Writes the counts of a rescue; the number of bytes after the last block is two words, the low one first.
 fn put_kept(k: Kept, out: &mut [u32; 12])
     ensures { λ u. ⌜ now (out .exit) ≡ laid (rescueWords (accepted (told k))) 0 (now (out .entry)) ⌝ }
 {
@@ -174,7 +174,7 @@ fn put_kept(k: Kept, out: &mut [u32; 12])
     out[5] = (k.after / 4_294_967_296) as u32;
 }
 
-// The edition that a caller states: the word for none is nothing.
+// The edition that a caller states: the word for none means nothing.
 fn stated_of(edition: u32) -> Stated
     ensures { λ r. ⌜ r ≡ statedOf edition ⌝ }
 {
@@ -194,7 +194,7 @@ fn stated_word(edition: Stated) -> u32
     }
 }
 
-// The edition as it stands in a file, or the word for none, and the edition that holds.
+// Writes the edition that a file states, or the word for none, and the edition that holds.
 fn put_edition(edition: Stated, out: &mut [u32; 12])
     ensures { λ u. ⌜ now (out .exit) ≡ laid (editionValues edition) 6 (now (out .entry)) ⌝ }
 {
@@ -202,8 +202,8 @@ fn put_edition(edition: Stated, out: &mut [u32; 12])
     out[7] = tablefile::edition_number(edition);
 }
 
-// What a file holds before its edition: its nodes and name bytes, whether it has a dialect, and the dialect's bytes,
-// four a word.
+// Writes the values of a file before its edition: the numbers of nodes and name bytes, whether it has a dialect, and
+// the dialect's bytes, four a word.
 fn put_front(file: &[u8], out: &mut [u32; 12])
     requires { ⌜ Fit (headerAt (now file) .nodes ∷ headerAt (now file) .names ∷ []) ⌝ }
     ensures { λ u. ⌜ now (out .exit) ≡ laid (frontValues (now (file .entry))) 0 (now (out .entry)) ⌝ }
@@ -218,7 +218,7 @@ fn put_front(file: &[u8], out: &mut [u32; 12])
     out[5] = fields::word(dialect, 8);
 }
 
-// What a file holds.
+// Writes the values of a file.
 fn put_held(file: &[u8], out: &mut [u32; 12]) -> u32
     requires { ⌜ Fit (headerAt (now file) .nodes ∷ headerAt (now file) .names ∷ []) ⌝ }
     ensures { λ r. ⌜ r ≡ number (accepted (heldValues (now (file .entry)))) ⌝ }
@@ -252,7 +252,7 @@ pub extern "C" fn starlark_table(table: &[u8], names: &[u8], out: &mut [u32; 12]
     }
 }
 
-// The parameter job: begin and end of the five ranges, then the flat count.
+// The parameter job: writes begin and end of the five ranges, then the flat count.
 #[no_mangle]
 pub extern "C" fn starlark_params(
     table: &[u8],
@@ -276,7 +276,8 @@ pub extern "C" fn starlark_params(
     }
 }
 
-// The call job: positional, named, the place of star and the place of `**`, where 0xFFFFFFFF is none.
+// The call job: writes the numbers of positional and named arguments, the place of star and the place of `**`;
+// 0xFFFFFFFF is none.
 #[no_mangle]
 pub extern "C" fn starlark_call(table: &[u8], names: &[u8], node: usize, out: &mut [u32; 12]) -> u32
     ensures { λ r. ⌜ r ≡ number (callOf (now (table .entry)) (now (names .entry)) node) ⌝ }
@@ -290,7 +291,7 @@ pub extern "C" fn starlark_call(table: &[u8], names: &[u8], node: usize, out: &m
     }
 }
 
-// The binding job: the flat count and the number of arguments, and a word for each of them in the list.
+// The binding job: writes the flat count and the number of arguments, and a word for each argument into the list.
 #[no_mangle]
 pub extern "C" fn starlark_bind(
     table: &[u8],
@@ -315,7 +316,7 @@ pub extern "C" fn starlark_bind(
     }
 }
 
-// The namesakes job: how many arguments are reported, and four words for each of them in the list.
+// The namesakes job: writes the number of reported arguments, and four words for each of them into the list.
 #[no_mangle]
 pub extern "C" fn starlark_namesakes(
     table: &[u8],
@@ -340,7 +341,7 @@ pub extern "C" fn starlark_namesakes(
     }
 }
 
-// The target job: the leaves.
+// The target job: writes the number of leaves.
 #[no_mangle]
 pub extern "C" fn starlark_target(
     table: &[u8],
@@ -359,7 +360,7 @@ pub extern "C" fn starlark_target(
     }
 }
 
-// The assignment job: the leaves.
+// The assignment job: writes the number of leaves.
 #[no_mangle]
 pub extern "C" fn starlark_assignment(
     table: &[u8],
@@ -378,7 +379,7 @@ pub extern "C" fn starlark_assignment(
     }
 }
 
-// The type job, by the edition of a number: nothing but the shapes.
+// The type job, by the edition of this number: writes the shapes alone.
 #[no_mangle]
 pub extern "C" fn starlark_type(
     table: &[u8],
@@ -406,7 +407,7 @@ pub extern "C" fn starlark_type(
     }
 }
 
-// The module pass: the total, and the first errors that fit.
+// The module pass: writes the total, and the first errors that fit the list.
 #[no_mangle]
 pub extern "C" fn starlark_module(
     table: &[u8],
@@ -429,8 +430,8 @@ pub extern "C" fn starlark_module(
     }
 }
 
-// The audit, types by the edition of a number: the total of what every job refuses on every node that it fits, and the
-// first errors that fit the list.
+// The audit, with types by the edition of this number: writes the total of what every job refuses on every node that it
+// fits, and the first errors that fit the list.
 #[no_mangle]
 pub extern "C" fn starlark_audit(
     table: &[u8],
@@ -454,7 +455,7 @@ pub extern "C" fn starlark_audit(
     }
 }
 
-// A file with an edition or none: how many bytes are written, and the file at the front of the buffer.
+// Writes a file, with an edition or none, to the front of the buffer, and its number of bytes.
 fn write_stated(
     table: &[u8],
     names: &[u8],
@@ -480,7 +481,7 @@ fn write_stated(
     }
 }
 
-// The writer: how many bytes are written, and the file at the front of the buffer. 0xFFFFFFFF is no edition.
+// The writer: writes the file to the front of the buffer, and its number of bytes. 0xFFFFFFFF is no edition.
 #[no_mangle]
 pub extern "C" fn starlark_write(
     table: &[u8],
@@ -503,8 +504,8 @@ pub extern "C" fn starlark_write(
     write_stated(table, names, dialect, stated_of(edition), file, out)
 }
 
-// The rescue: the bytes written, the statements and the nodes kept, the nodes dropped, and the bytes after the last
-// block, low and high word; the output at the front of the buffer.
+// The rescue: writes the output to the front of the buffer, and the numbers of bytes written, statements kept, nodes
+// kept, nodes dropped, and bytes after the last block, low and high word.
 #[no_mangle]
 pub extern "C" fn starlark_rescue(input: &[u8], file: &mut [u8], out: &mut [u32; 12]) -> u32
     ensures { λ r. ⌜ r ≡ number (rescueOf (now (input .entry)) (length (now (file .entry)))) ⌝ }
@@ -522,8 +523,9 @@ pub extern "C" fn starlark_rescue(input: &[u8], file: &mut [u8], out: &mut [u32;
     }
 }
 
-// The reader: table and names at the fronts of two buffers; nodes, name bytes, whether there is a dialect, its nine
-// bytes, four a word, the low one first, the edition as it stands, or 0xFFFFFFFF, and the edition that holds.
+// The reader: writes table and names to the fronts of two buffers, and the numbers of nodes and name bytes, whether
+// there is a dialect, its nine bytes, four a word, the low one first, the stated edition, or 0xFFFFFFFF, and the
+// edition that holds.
 #[no_mangle]
 pub extern "C" fn starlark_read(
     file: &[u8],
@@ -550,7 +552,7 @@ pub extern "C" fn starlark_read(
     }
 }
 
-// A file's answer: how many errors, how many nodes, and the first errors that fit.
+// The check of a file: writes the number of errors, the number of nodes, and the first errors that fit the list.
 #[no_mangle]
 pub extern "C" fn starlark_check_file(file: &[u8], errors: &mut [u32], out: &mut [u32; 12]) -> u32
     ensures { λ r. ⌜ r ≡ number (answerOf (now (file .entry))) ⌝ }
@@ -564,7 +566,7 @@ pub extern "C" fn starlark_check_file(file: &[u8], errors: &mut [u32], out: &mut
     }
 }
 
-// A number that may pass 32 bits, in two words from a place on, the low one first.
+// Writes a number that may exceed 32 bits as two words from a place on, the low one first.
 fn put_wide(n: usize, at: usize, out: &mut [u32; 12])
     requires { ⌜ at < 11 ⌝ }
     ensures { λ u. ⌜ now (out .exit) ≡ laid (twoWords n) at (now (out .entry)) ⌝ }
@@ -573,7 +575,7 @@ fn put_wide(n: usize, at: usize, out: &mut [u32; 12])
     out[at + 1] = (n / 4_294_967_296) as u32;
 }
 
-// 62 where the dialect lacks f-strings, else 0.
+// 62 if the dialect has no f-strings, else 0.
 fn notice_word(enabled: bool) -> u32
     ensures { λ r. ⌜ r ≡ notice enabled ⌝ }
 {
@@ -583,7 +585,7 @@ fn notice_word(enabled: bool) -> u32
     numbers::F_STRINGS_DISABLED
 }
 
-// The length of a format text, and 62 or 0.
+// Writes the length of a format text, and 62 or 0.
 fn put_text(n: usize, enabled: bool, out: &mut [u32; 12]) -> u32
     ensures { λ r. ⌜ r ≡ number (accepted (n ∷ notice enabled ∷ [])) ⌝ }
     ensures { λ r. ⌜ now (out .exit) ≡ laid (textWords (accepted (n ∷ notice enabled ∷ []))) 0 (now (out .entry)) ⌝ }
@@ -593,7 +595,7 @@ fn put_text(n: usize, enabled: bool, out: &mut [u32; 12]) -> u32
     0
 }
 
-// The number of parts, and of their text bytes.
+// Writes the number of parts, and that of their text bytes.
 fn put_parts(parts: usize, bytes: usize, out: &mut [u32; 12]) -> u32
     ensures { λ r. ⌜ r ≡ number (accepted (parts ∷ bytes ∷ [])) ⌝ }
     ensures { λ r. ⌜ now (out .exit) ≡ laid (partWords (accepted (parts ∷ bytes ∷ []))) 0 (now (out .entry)) ⌝ }
@@ -603,7 +605,7 @@ fn put_parts(parts: usize, bytes: usize, out: &mut [u32; 12]) -> u32
     0
 }
 
-// The position of a stray brace.
+// Writes the position of a stray brace.
 fn put_stray(position: usize, out: &mut [u32; 12]) -> u32
     ensures { λ r. ⌜ r ≡ number (refused strayBrace (position ∷ [])) ⌝ }
     ensures { λ r. ⌜ now (out .exit) ≡ laid (partWords (refused strayBrace (position ∷ []))) 0 (now (out .entry)) ⌝ }
@@ -612,8 +614,8 @@ fn put_stray(position: usize, out: &mut [u32; 12]) -> u32
     numbers::STRAY_BRACE
 }
 
-// The format text of parts: its length in two words, the low one first, and 62 or 0; the text at the front of the
-// buffer.
+// The writer of format texts: writes the text to the front of the buffer, its length as two words, the low one first,
+// and 62 or 0.
 #[no_mangle]
 pub extern "C" fn starlark_fstring_write(
     parts: &[u32],
@@ -638,8 +640,8 @@ pub extern "C" fn starlark_fstring_write(
     }
 }
 
-// The parts of a format text: how many, and how many text bytes, each in two words, the low one first; so is the
-// position of 63. Words and texts at the fronts of two buffers.
+// The reader of format texts: writes words and texts to the fronts of two buffers, and the numbers of parts and of text
+// bytes, each as two words, the low one first. The position of 63 is written so too.
 #[no_mangle]
 pub extern "C" fn starlark_fstring_read(
     text: &[u8],
@@ -665,7 +667,7 @@ pub extern "C" fn starlark_fstring_read(
     }
 }
 
-// A refusal that carries a book: 0 the zone book, 1 the line book.
+// Writes a refusal that carries a book: 0 the zone book, 1 the line book.
 fn put_book(n: u32, book: u32, out: &mut [u32; 12]) -> u32
     ensures { λ r. ⌜ r ≡ number (refused n (book ∷ [])) ⌝ }
     ensures { λ r. ⌜ now (out .exit) ≡ laid (words (refused n (book ∷ []))) 0 (now (out .entry)) ⌝ }
@@ -674,7 +676,8 @@ fn put_book(n: u32, book: u32, out: &mut [u32; 12]) -> u32
     n
 }
 
-// The lookup in two books: which book, 0 the zone book and 1 the line book, and where the nine bytes begin in it.
+// The lookup in two books: writes the book, 0 the zone book or 1 the line book, and the position of the nine bytes in
+// it.
 #[no_mangle]
 pub extern "C" fn starlark_book_lookup(
     zone_book: &[u8],
@@ -698,7 +701,7 @@ pub extern "C" fn starlark_book_lookup(
     }
 }
 
-// Adds an entry to its book, zone 0 to the line book: the book and the place, from 0 on, 21 a block.
+// Adds an entry to its book, zone 0 to the line book: writes the book and the place, counted from 0, 21 a block.
 #[no_mangle]
 pub extern "C" fn starlark_book_add(
     zone_book: &mut [u8],
@@ -727,7 +730,7 @@ pub extern "C" fn starlark_book_add(
     }
 }
 
-// Removes the entry of exactly this zone and setting from its book: the book and the place.
+// Removes the entry of exactly this zone and setting from its book: writes the book and the place.
 #[no_mangle]
 pub extern "C" fn starlark_book_remove(
     zone_book: &mut [u8],
@@ -754,7 +757,7 @@ pub extern "C" fn starlark_book_remove(
     }
 }
 
-// Makes an empty book of a buffer of 1 to 100 blocks; else 95.
+// Makes an empty book of a buffer of 1 to 100 blocks; any other length is 95.
 #[no_mangle]
 pub extern "C" fn starlark_book_blank(book: &mut [u8], out: &mut [u32; 12]) -> u32
     ensures { λ r. ⌜ r ≡ blankOf (length (now (book .entry))) ⌝ }
@@ -768,7 +771,8 @@ pub extern "C" fn starlark_book_blank(book: &mut [u8], out: &mut [u32; 12]) -> u
     numbers::BOOK_UNSOUND
 }
 
-// How a report ends: 0, or the number of the refused file, and its position in two words, the low one first.
+// The end of a report: returns 0 or the number of the refused file, and writes its position as two words, the low one
+// first.
 fn put_ending(ending: Ending, out: &mut [u32; 12]) -> u32
     ensures { λ r. ⌜ r ≡ endingNumber ending ⌝ }
     ensures { λ r. ⌜ now (out .exit) ≡ laid (endingWords ending) 0 (now (out .entry)) ⌝ }
@@ -782,7 +786,7 @@ fn put_ending(ending: Ending, out: &mut [u32; 12]) -> u32
     }
 }
 
-// The report of files one after another: the counters in the buffer, also where a refused file ends it.
+// The report over files one after another: writes the counters into the buffer, also if a refused file ends it.
 #[no_mangle]
 pub extern "C" fn starlark_figures(
     input: &[u8],
@@ -801,7 +805,7 @@ pub extern "C" fn starlark_figures(
     put_ending(ending, out)
 }
 
-// One step: adds the file at the front of a window to the counters, and answers how many bytes it takes.
+// One step: adds the file at the front of a window to the counters, and writes the number of bytes that it takes.
 #[no_mangle]
 pub extern "C" fn starlark_figures_step(
     window: &[u8],

@@ -1,7 +1,8 @@
 -- THE CALL JOB: 1 TO 4, 6, 20 TO 24
 --
--- Theorems of crate `arguments` over the answer of `arguments::call`. What the records `Ordered`, `NamedTwice` and
--- `FirstPassing` hold stands field by field. Each is proved by citing the theorem. Assumes nothing.
+-- Theorems of the crate `arguments` about the answer of `arguments::call`. The content of the records `Ordered`,
+-- `NamedTwice` and `FirstPassing` is written field by field. Each statement is proved by citing the theorem. Assumes
+-- nothing.
 use mathlib.Core.Path.{_≡_}
 use mathlib.Core.Bool.{true}
 use mathlib.Core.List.{List, [], _∷_, _++_}
@@ -27,12 +28,12 @@ use Rattle.arguments.proofs.Twice as theorem-twice
 use Rattle.arguments.proofs.Files as theorem-files
 
 -- "Both files' internal errors are shown never to arise": call.rs 82, 97, 112
--- In words: no list of arguments is answered with an internal error.
+-- In words: no list of arguments gives an internal error.
 pub no-internal-error : (l : List Argument) → Expected (unpack l)
 no-internal-error = theorem-order.no-internal-error
 
 -- "Accepted: positional, then named, then at most one star, then at most one `**`; names distinct."
--- In words: in a sound table, a call whose arguments stand so is accepted, with their numbers and places.
+-- In words: in a sound table, a call whose arguments are in this order is accepted, with their numbers and places.
 pub ordered-accepted : (t names : List ℕ) (i : ℕ) (c : CallArgs) {vs : List ℕ}
     → checkOf t names ≡ accepted vs
     → nodeFits t i Call ≡ true
@@ -44,9 +45,9 @@ pub ordered-accepted : (t names : List ℕ) (i : ℕ) (c : CallArgs) {vs : List 
 ordered-accepted t names i c e fits kinds star kw apart = theorem.ordered-accepted t names i c e fits
     record { kinds = kinds; star-at = star; kwargs-at = kw; distinct = apart }
 
--- "Accepted": and no other call is
--- In words: an accepted call is a call of a sound table, its arguments stand so, and the answer has their numbers and
--- places.
+-- "Accepted": no other call is accepted
+-- In words: an accepted call is a call of a sound table, its arguments are in this order, and the answer has their
+-- numbers and places.
 pub accepted-is-ordered : (t names : List ℕ) (i : ℕ) (c : CallArgs)
     → callOf t names i ≡ accepted (callValues c)
     → (checkOf t names ≡ accepted [])
@@ -61,7 +62,7 @@ accepted-is-ordered t names i c e =
     (x .0, x .1, o .kinds, o .star-at, o .kwargs-at, o .distinct)
 
 -- "Answer: how many positional and named, and the argument places of star and `**`, if any": one answer
--- In words: a list that stands in order with the numbers and places of a, and of c, has a and c the same.
+-- In words: if a list is in order with the numbers and places a, and also with c, then a and c are the same.
 pub ordered-one : (l : List Argument) (a c : CallArgs)
     → kindsOf l ≡ inOrder a
     → Placed (a .star) (a .«num_pos» + a .«num_named»)
@@ -125,8 +126,9 @@ call-twice t names i e =
     )
 
 -- W-208: "all answers with a span carry the file number": the call job
--- In words: a refusal from 10 on carries, as its fourth number, the source file number of the record that it names,
--- bytes 18 and 19, and that is the number of the node that the job is asked of. 22 has the argument's number.
+-- In words: a refusal with a number from 10 on carries, as its fourth number, the source file number of the record that
+-- it names (bytes 18 and 19), which is also the number of the job's node. For 22 it is the number of the argument's
+-- record.
 pub call-file : (t names : List ℕ) (i : ℕ) {n : ℕ} {vs : List ℕ}
     → callOf t names i ≡ refused n vs
     → slashFirst ≤ n

@@ -1,9 +1,8 @@
 -- THE AUDIT: `ERRORS 0` MEANS THAT THE WHOLE CHECKER PASSES
 --
--- The theorems of crate `audited`, over the answers of `audit::audit`, by the edition of any number, and
--- `validate::module`. What the record `Accepts`
--- holds of each node, and what `Fitting` holds, stands field by field. Each is proved by citing the theorem. Assumes
--- nothing.
+-- Theorems of the crate `audited` about the answers of `audit::audit`, for the number of any edition, and of
+-- `validate::module`. The content of the records `Accepts` and `Fitting` is written field by field. Each statement is
+-- proved by citing the theorem. Assumes nothing.
 use mathlib.Core.Path.{_≡_}
 use mathlib.Core.Bool.{true}
 use mathlib.Core.List.{List, [], _∷_}
@@ -39,13 +38,13 @@ use Rattle.audited.proofs.Checked as theorem-checked
 use Rattle.audited.proofs.Files as theorem-files
 
 -- "every node"
--- In words: the trees that the audit looks at begin at the table's records, each once and in order.
+-- In words: the trees that the audit visits begin at the table's records, each once and in order.
 pub every-node : (t : List ℕ) → rootsIn (placed Nowhere (forest 0 t)) ≡ records (length t / 24) 0 t
 every-node = theorem.every-node
 
 -- "`errors 0` means that the whole checker passes"
--- In words: where the audit answers 0 errors, the module job answers 0 errors, and each node is accepted by every job
--- that fits it: as parameters, as a call, as an assignment; and as a target or as a type, where it has that role.
+-- In words: if the audit returns 0 errors, the module job returns 0 errors, and each node is accepted by every job that
+-- fits it: as parameters, as a call, as an assignment; and as a target or as a type, if it has that role.
 pub zero-passes : (t names bytes : List ℕ) (n : ℕ)
     → auditOf t names bytes n ≡ accepted (0 ∷ [])
     → (moduleOf t names bytes ≡ accepted (0 ∷ []))
@@ -69,8 +68,9 @@ zero-passes t names bytes n e =
           (a .params, a .call, a .assignment, a .target, a .type)) (placed Nowhere (forest 0 t)) (x .1),
     )
 
--- "exactly": and only there In words: where the module job answers 0 errors and each node is accepted so, the audit
--- answers 0 errors, if its number is an edition.
+-- "exactly": the converse
+-- In words: if the module job returns 0 errors and each node is accepted in this sense, the audit returns 0 errors, if
+-- its number is that of an edition.
 pub passes-zero : (t names bytes : List ℕ) (n : ℕ) {edition : Edition}
     → editionOf n ≡ Known edition
     → moduleOf t names bytes ≡ accepted (0 ∷ [])
@@ -93,10 +93,9 @@ passes-zero t names bytes n known e a = theorem.passes-zero t names bytes n know
     (placed Nowhere (forest 0 t)) a)
 
 -- "`errors 0` means that the whole checker passes": which nodes are checked as targets and as types
--- In words: where the audit answers 0 errors, the module job answers 0 errors; each record of the table is accepted as
--- parameters, as a call and as an assignment, where it fits; the first child of every For is accepted as a target; and
--- as a type the return type of every Def that has one, the type of every Assign, AssignModify and parameter that has
--- one.
+-- In words: if the audit returns 0 errors, the module job returns 0 errors; each record of the table is accepted as
+-- parameters, as a call and as an assignment, if it fits; the first child of every For is accepted as a target; and as
+-- a type the return type of every Def that has one, the type of every Assign, AssignModify and parameter that has one.
 pub zero-checks-all : (t names bytes : List ℕ) (n : ℕ)
     → auditOf t names bytes n ≡ accepted (0 ∷ [])
     → (moduleOf t names bytes ≡ accepted (0 ∷ []))
@@ -120,9 +119,9 @@ zero-checks-all t names bytes n e =
       x .3,
     )
 
--- "exactly": and only there
--- In words: where the module job answers 0 errors, and each record, each target and each type is accepted so, the audit
--- answers 0 errors, if its number is an edition.
+-- "exactly": the converse
+-- In words: if the module job returns 0 errors, and each record, each target and each type is accepted in this sense,
+-- the audit returns 0 errors, if its number is that of an edition.
 pub checks-all-zero : (t names bytes : List ℕ) (n : ℕ) {edition : Edition}
     → editionOf n ≡ Known edition
     → moduleOf t names bytes ≡ accepted (0 ∷ [])
@@ -142,14 +141,14 @@ checks-all-zero t names bytes n known e nodes = theorem-checked.checks-all-zero 
     (each-map (λ r x. record { params = x .0; call = x .1; assignment = x .2 }) (records (length t / 24) 0 t) nodes)
 
 -- W-208: "Errors become four words: number, file, begin, end": the module pass's list
--- In words: every error from 10 on of the list has the source file number of the record that it names.
+-- In words: every error of the list with a number from 10 on has the source file number of the record that it names.
 pub module-file : (t names bytes : List ℕ)
     → Each (λ (e : Err). slashFirst ≤ e .number → e .span .file ≡ field 2 (drop (24 * e .node) t) 18)
     (errorsOf t names bytes)
 module-file = theorem-files.module-filed
 
 -- W-208: "all answers with a span carry the file number": the audit's list
--- In words: the same of the audit's list.
+-- In words: the same for the audit's list.
 pub audit-file : (t names bytes : List ℕ) (n : ℕ)
     → Each (λ (e : Err). slashFirst ≤ e .number → e .span .file ≡ field 2 (drop (24 * e .node) t) 18)
     (allErrors t names bytes n)

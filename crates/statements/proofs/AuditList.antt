@@ -1,7 +1,7 @@
 -- THE AUDIT: ITS LIST OF WORDS
 --
--- Theorems of crate `audit` over the answer of `audit::audit` and the list of words at exit. Each is proved by citing
--- the theorem. Assumes nothing.
+-- Theorems of the crate `audit` about the answer of `audit::audit` and the list of words at exit. Each statement is
+-- proved by citing the theorem. Assumes nothing.
 use mathlib.Core.Path.{_≡_}
 use mathlib.Core.List.{List, _++_}
 use Prim.Native.Nat.{ℕ, _*_, _/_, _≤_}
@@ -16,7 +16,7 @@ use Rattle.audit.specs.Job.{allErrors, auditOf, auditAfter, enoughWords}
 use Rattle.audit.proofs.Theorems as theorem
 
 -- "No refusal changes a buffer": the audit's errors
--- In words: where the audit refuses, the list of words at exit is the list at entry.
+-- In words: if the audit refuses, the list of words at exit is the list at entry.
 pub refusal-keeps : (t names bytes : List ℕ) (edition : ℕ) {n : ℕ} {vs : List ℕ} (xs : List ℕ)
     → auditOf t names bytes edition ≡ refused n vs
     → auditAfter t names bytes edition xs ≡ xs
@@ -28,16 +28,16 @@ pub errors-few : (t names bytes : List ℕ) (edition : ℕ)
     → length (allErrors t names bytes edition) ≤ 4 * (length t / 24)
 errors-few = theorem.errors-few
 
--- the same of the total that is answered
--- In words: a total that the audit answers is at most four times the node count.
+-- the same for the total that is returned
+-- In words: a total that the audit returns is at most four times the number of nodes.
 pub total-few : (t names bytes : List ℕ) (edition n : ℕ)
     → listed (Total n) ≡ auditOf t names bytes edition
     → n ≤ 4 * (length t / 24)
 total-few = theorem.total-few
 
 -- a list that is large enough holds every error
--- In words: a list of words with room for four times the node count holds all errors in order, and its other words are
--- as they were.
+-- In words: a list of words with room for four times the number of nodes holds all errors in order, and its other words
+-- are unchanged.
 pub list-holds-all : (t names bytes : List ℕ) (edition : ℕ) (xs : List ℕ)
     → width Audit * (4 * (length t / 24)) ≤ length xs
     → auditAfter t names bytes edition xs
@@ -46,7 +46,7 @@ pub list-holds-all : (t names bytes : List ℕ) (edition : ℕ) (xs : List ℕ)
 list-holds-all = theorem.list-holds-all
 
 -- 42,000 words are enough for every table
--- In words: a list of `enoughWords` words holds all errors of any table in order, and its other words are as they were.
+-- In words: a list of `enoughWords` words holds all errors of any table in order, and its other words are unchanged.
 pub list-has-room : (t names bytes : List ℕ) (edition : ℕ) (xs : List ℕ)
     → length xs ≡ enoughWords
     → auditAfter t names bytes edition xs

@@ -1,8 +1,8 @@
 -- W-204: WHICH ARGUMENT REACHES WHICH PARAMETER
 --
--- The theorems of crate `reached`, over the answer of `bind::bind` and the words of the list at exit. What the records
--- `Rules`, `Matching`, `CutOf`, `Good` and `Ordered` hold stands as arrows, and what a conclusion holds field by field.
--- Each is proved by citing the theorem. Assumes nothing.
+-- Theorems of the crate `reached` about the answer of `bind::bind` and the words of the list at exit. The content of
+-- the records `Rules`, `Matching`, `CutOf`, `Good` and `Ordered` is written as hypotheses, and that of a conclusion
+-- field by field. Each statement is proved by citing the theorem. Assumes nothing.
 use mathlib.Core.Path.{_≡_}
 use mathlib.Core.Bool.{true, false}
 use mathlib.Core.Logic.{_⊎_, inl, inr, _↔_, ⊎-elim}
@@ -50,7 +50,7 @@ pub every-argument : (t names : List ℕ) (call def : ℕ) (list : List ℕ) {vs
 every-argument = theorem.every-argument
 
 -- "An ordinary parameter takes at most one."
--- In words: two arguments of an accepted call whose words are one ordinary parameter are the same argument.
+-- In words: two arguments of an accepted call whose words are the same ordinary parameter are the same argument.
 pub at-most-one : (t names : List ℕ) (call def : ℕ) (list : List ℕ) {vs : List ℕ}
     → bindOf t names call def (length list) ≡ accepted vs
     → (p : FlatParam) (k l : ℕ) (a b : Argument)
@@ -99,7 +99,7 @@ pub star-word : (t names : List ℕ) (call def : ℕ) (list : List ℕ) {vs : Li
 star-word = theorem.star-word
 
 -- "Positionals fill positional parameters from the left"
--- In words: positional argument k reaches flat parameter k, where that is filled by its place.
+-- In words: positional argument k reaches flat parameter k, if that is filled by position.
 pub positional-fills : (t names : List ℕ) (call def : ℕ) (list : List ℕ) {vs : List ℕ}
     → bindOf t names call def (length list) ≡ accepted vs
     → (k : ℕ) (r : Node) (p : FlatParam)
@@ -110,7 +110,7 @@ pub positional-fills : (t names : List ℕ) (call def : ℕ) (list : List ℕ) {
 positional-fills = theorem.positional-fills
 
 -- "the rest go to `*args`"
--- In words: a positional argument to which no parameter stands by place reaches `*args`.
+-- In words: a positional argument for which no parameter is filled by position reaches `*args`.
 pub positional-collected : (t names : List ℕ) (call def : ℕ) (list : List ℕ) {vs : List ℕ}
     → bindOf t names call def (length list) ≡ accepted vs
     → (k : ℕ) (r : Node) (p : FlatParam)
@@ -133,8 +133,8 @@ pub named-reaches : (t names : List ℕ) (call def : ℕ) (list : List ℕ) {vs 
     × ((i : ℕ) (q : FlatParam) → IsAt (flatsAt t names def) i q → CanBeNamed q → q .name ≡ x → ⊥))
 named-reaches = theorem.named-reaches
 
--- "A named one goes to the parameter of that name": to that one
--- In words: where a parameter that can be named has the argument's name, the argument's word is its index.
+-- "A named one goes to the parameter of that name": to that parameter
+-- In words: if a parameter that can be named has the argument's name, the argument's word is its index.
 pub named-reaches-it : (t names : List ℕ) (call def : ℕ) (list : List ℕ) {vs : List ℕ}
     → bindOf t names call def (length list) ≡ accepted vs
     → (k i : ℕ) (r : Node) (x : Name) (p : FlatParam)
@@ -157,7 +157,7 @@ pub no-name-reaches-pos-only : (t names : List ℕ) (call def : ℕ) (list : Lis
 no-name-reaches-pos-only = theorem.no-name-reaches-pos-only
 
 -- "Every ordinary parameter without default has an argument."
--- In words: for such a parameter there is an argument whose word is its index, and its own word is that argument's
+-- In words: for each such parameter there is an argument whose word is its index, and its own word is that argument's
 -- node.
 pub needed-has-argument : (t names : List ℕ) (call def : ℕ) (list : List ℕ) {vs : List ℕ}
     → bindOf t names call def (length list) ≡ accepted vs
@@ -173,7 +173,7 @@ needed-has-argument t names call def list bound i p sits n =
     (x .0, x .1 .0, x .1 .1 .0, x .1 .1 .1 .0, x .1 .1 .1 .1)
 
 -- "Every ordinary parameter with word 0 has a default."
--- In words: a flat parameter whose word is 0 may stay empty.
+-- In words: a flat parameter whose word is 0 may be left without an argument.
 pub empty-has-default : (t names : List ℕ) (call def : ℕ) (list : List ℕ) {vs : List ℕ}
     → bindOf t names call def (length list) ≡ accepted vs
     → (i : ℕ) (p : FlatParam)
@@ -183,7 +183,7 @@ pub empty-has-default : (t names : List ℕ) (call def : ℕ) (list : List ℕ) 
 empty-has-default = theorem.empty-has-default
 
 -- "With `**kwargs` 82 never arises."
--- In words: where the job refuses with 82, no flat parameter is `**kwargs`.
+-- In words: if the job refuses with 82, no flat parameter is `**kwargs`.
 pub no-unknown-with-kwargs : (t names : List ℕ) (call def room : ℕ) {vs : List ℕ}
     → bindOf t names call def room ≡ refused unknownNamed vs
     → (i : ℕ) (p : FlatParam)
@@ -193,8 +193,8 @@ pub no-unknown-with-kwargs : (t names : List ℕ) (call def room : ℕ) {vs : Li
 no-unknown-with-kwargs = theorem.no-unknown-with-kwargs
 
 -- "83 arises only against a positional."
--- In words: where the job refuses with 83, it carries the node and span of a named argument, a parameter that can be
--- named has its name, and a positional argument stands at that parameter's place.
+-- In words: if the job refuses with 83, it carries the node and span of a named argument, a parameter that can be named
+-- has its name, and a positional argument has that parameter's place.
 pub filled-against-positional : (t names : List ℕ) (call def room : ℕ) {vs : List ℕ}
     → bindOf t names call def room ≡ refused alreadyFilled vs
     → (k : ℕ) × (r : Node) × (x : Name)
@@ -292,14 +292,14 @@ accepted-by-rules t names call def list sound isCall isADef room short c j b s n
     }
 
 -- "No refusal changes a buffer": the answer list
--- In words: where the job refuses, the list at exit is the list at entry.
+-- In words: if the job refuses, the list at exit is the list at entry.
 pub refusal-keeps : (t names : List ℕ) (call def : ℕ) (list : List ℕ) {n : ℕ} {vs : List ℕ}
     → bindOf t names call def (length list) ≡ refused n vs
     → listAfter t names call def list ≡ list
 refusal-keeps = theorem-kept.refusal-keeps
 
 -- "words past the answer stay"
--- In words: after an accepted call, each word from the number of flat parameters and arguments on is what it was.
+-- In words: after an accepted call, each word from the number of flat parameters and arguments on is unchanged.
 pub past-words-stay : (t names : List ℕ) (call def : ℕ) (list : List ℕ) {vs : List ℕ}
     → bindOf t names call def (length list) ≡ accepted vs
     → (i : ℕ)
@@ -333,7 +333,7 @@ pub no-star-star : (t names : List ℕ) (call def : ℕ) (list : List ℕ) {vs :
 no-star-star = theorem-ruled.no-star-star
 
 -- "A call and a def that are accepted meet the rules (stated without the job)."
--- In words: what `accepted-by-rules` supposes holds of each call and def that the job accepts.
+-- In words: the hypotheses of `accepted-by-rules` hold for each call and def that the job accepts.
 pub accepted-has-rules : (t names : List ℕ) (call def : ℕ) (list : List ℕ) {vs : List ℕ}
     → bindOf t names call def (length list) ≡ accepted vs
     → (checkOf t names ≡ accepted [])
@@ -404,7 +404,7 @@ accepted-has-rules t names call def list bound =
     )
 
 -- "then 80 at the first star or `**` of the call"
--- In words: 80 carries the node and span of a star or `**` argument of the call, and none stands before it.
+-- In words: 80 carries the node and span of a star or `**` argument of the call, and none comes before it.
 pub star-is-first : (t names : List ℕ) (call def room : ℕ) {vs : List ℕ}
     → bindOf t names call def room ≡ refused starArgument vs
     → (k : ℕ) × (r : Node)
@@ -418,7 +418,7 @@ star-is-first t names call def room e =
 
 -- "81 at the first positional too many without `*args`"
 -- In words: 81 carries the node and span of a positional argument; there is no `*args` and no parameter that is filled
--- at its place, and for each argument before it there is one.
+-- at its place, and there is one for each argument before it.
 pub too-many-is-first : (t names : List ℕ) (call def room : ℕ) {vs : List ℕ}
     → bindOf t names call def room ≡ refused tooManyPositional vs
     → (k : ℕ) × (r : Node)
@@ -439,7 +439,7 @@ too-many-is-first t names call def room e =
     )
 
 -- "then 84 at the lowest ordinary parameter left empty without default"
--- In words: 84 carries the node and span of a parameter without default to which no argument comes, by place or by
+-- In words: 84 carries the node and span of a parameter without default that no argument reaches, by position or by
 -- name, and each such parameter before it has an argument.
 pub empty-is-first : (t names : List ℕ) (call def room : ℕ) {vs : List ℕ}
     → bindOf t names call def room ≡ refused emptyParameter vs
@@ -466,7 +466,8 @@ pub bind-carries : (t names : List ℕ) (call def room : ℕ) {n : ℕ} {vs : Li
 bind-carries = theorem-kept.bind-carries
 
 -- the corner cases of W-204
--- In words: the definition of the job answers each row's lists as the row shows, whatever the record of the def.
+-- In words: the definition of the job gives for the lists of each row the answer that the row shows, whatever the
+-- record of the def.
 pub corner-cases : (def : Node)
     → map (λ (r : Row). listsBound def (r .params) (r .arguments)) rows ≡ map (λ (r : Row). r .shown) rows
 corner-cases = theorem-cases.corner-cases
@@ -477,8 +478,8 @@ pub how-many-cases : length rows ≡ 18
 how-many-cases = theorem-cases.how-many
 
 -- W-208: "all answers with a span carry the file number": the binding job, which reads a call and a def
--- In words: the number is that of the record that the refusal names. For 10 to 19 and 84 it is the def's, for 20 to 24
--- and 80 to 83 the call's.
+-- In words: the source file number is that of the record that the refusal names. For 10 to 19 and 84 it is the number
+-- of the def, for 20 to 24 and 80 to 83 that of the call.
 pub bind-file : (t names : List ℕ) (call def room : ℕ) {n : ℕ} {vs : List ℕ}
     → bindOf t names call def room ≡ refused n vs
     → slashFirst ≤ n

@@ -1,6 +1,7 @@
 -- W-204: ROOM FOR ANY BINDING
 --
--- A theorem of crate `bind`, proved by citing it. Assumes nothing.
+-- A theorem of the crate `bind` about the room that a binding needs. The statement is proved by citing it: a list
+-- of parameters or arguments has at most 2,100 entries. Assumes nothing.
 use mathlib.Core.Path.{_≡_}
 use mathlib.Core.List.{List, []}
 use Prim.Native.Nat.{ℕ, _*_}

@@ -1,9 +1,9 @@
 -- W-213: DIALECTS BY ZONE AND EDITION
 --
--- Theorems of crate `booked` over what the functions of `books` promise: their answers are `lookupOf`, `addOf` and
--- `removeOf`, and the books at exit `zoneAdded`, `lineAdded`, `zoneRemoved` and `lineRemoved`. A book passes 95 and
--- 96 where `soundBook` is true and `twiceIn` false. The setting is an entry's edition. Each is proved by citing the
--- theorem. Assumes nothing.
+-- Theorems of the crate `booked` about the contracts of `books`: the answers are `lookupOf`, `addOf` and `removeOf`,
+-- and the books at exit `zoneAdded`, `lineAdded`, `zoneRemoved` and `lineRemoved`. A book passes 95 and 96 if
+-- `soundBook` is true and `twiceIn` is false. The setting is the edition of an entry. Each statement is proved by
+-- citing the theorem. Assumes nothing.
 use mathlib.Core.Path.{_≡_, refl}
 use mathlib.Core.Bool.{Bool, true, false}
 use mathlib.Core.Logic.{_⊎_}
@@ -25,9 +25,9 @@ use Rattle.booked.proofs.Lookups as theorem
 use Rattle.booked.proofs.Back as theorem-back
 use Rattle.booked.proofs.Booked as theorem-both
 
--- "gets back the nine bytes as they stand in the zone book": exactly where In words: a lookup that tells a position
--- in the zone book has two books that pass, and the position is that of an entry of this zone whose setting is not
--- above the one asked and which no such entry is above.
+-- "gets back the nine bytes as they stand in the zone book": one direction
+-- In words: if a lookup returns a position in the zone book, both books pass, and the position is that of an entry of
+-- this zone whose setting is not above the requested one, and no such entry has a higher setting.
 pub zone-book-tells : (zb lb : List ℕ) (zone asked at : ℕ)
     → lookupOf zb lb zone asked ≡ Zone at
     → ((soundBook false zb ≡ true) × (twiceIn zb (placesOf zb) ≡ false))
@@ -70,8 +70,9 @@ zone-book-tells zb lb zone asked at e =
       ),
     )
 
--- the same, the other way In words: where both books pass, and an entry of this zone in the zone book has a setting
--- not above the one asked and no such entry is above it, the lookup tells the position of its nine bytes.
+-- the converse
+-- In words: if both books pass, and an entry of this zone in the zone book has a setting not above the requested one,
+-- and no such entry has a higher setting, the lookup returns the position of its nine bytes.
 pub zone-book-told : (zb lb : List ℕ) (zone asked p : ℕ)
     → soundBook false zb ≡ true
     → twiceIn zb (placesOf zb) ≡ false
@@ -100,8 +101,8 @@ zone-book-told zb lb zone asked p s o u v h taken zoned upto most =
     }
 
 -- "or, if it has none, in the line book"
--- In words: a lookup that tells a position in the line book has no fitting entry in the zone book, and the position is
--- that of the line's entry whose setting is not above the one asked and which no such entry is above.
+-- In words: if a lookup returns a position in the line book, the zone book has no fitting entry, and the position is
+-- that of the line's entry whose setting is not above the requested one, and no such entry has a higher setting.
 pub line-book-tells : (zb lb : List ℕ) (zone asked at : ℕ)
     → lookupOf zb lb zone asked ≡ Line at
     → ((q : ℕ)
@@ -149,9 +150,10 @@ line-book-tells zb lb zone asked at e =
       ),
     )
 
--- the same, the other way In words: where both books pass, no entry of the zone book fits, and an entry of the line
--- book has a setting not above the one asked and no such entry is above it, the lookup tells the position of its nine
--- bytes in the line book.
+-- the converse
+-- In words: if both books pass, no entry of the zone book fits, and an entry of the line book has a setting not above
+-- the requested one, and no such entry has a higher setting, the lookup returns the position of its nine bytes in the
+-- line book.
 pub line-book-told : (zb lb : List ℕ) (zone asked p : ℕ)
     → soundBook false zb ≡ true
     → twiceIn zb (placesOf zb) ≡ false
@@ -186,8 +188,9 @@ line-book-told zb lb zone asked p s o u v none h taken zoned upto most =
       there = refl;
     }
 
--- "97 no fitting entry in either book" In words: a lookup answers 97 only where neither book has a fitting entry, and
--- where both books pass and neither has one it does.
+-- "97 no fitting entry in either book"
+-- In words: a lookup answers 97 only if neither book has a fitting entry, and if both books pass and neither has one it
+-- does.
 pub nothing-fits : (zb lb : List ℕ) (zone asked : ℕ)
     → (lookupOf zb lb zone asked ≡ Nothing
     → ((q : ℕ)
@@ -231,7 +234,7 @@ nothing-fits zb lb zone asked = (
 )
 
 -- "gets back the nine bytes as they stand", "A refusal gives back no bytes"
--- In words: the part is nine bytes at the position in the book that is told, and empty where the lookup refuses.
+-- In words: the part is the nine bytes at the returned position of the book, and empty if the lookup refuses.
 pub part-is : (zb lb : List ℕ) (answer : Looked)
     → ((at : ℕ) → answer ≡ Zone at → partOf answer zb lb ≡ take 9 (drop at zb))
     × (((below : ℕ) → answer ≡ Line below → partOf answer zb lb ≡ take 9 (drop below lb))
@@ -248,9 +251,9 @@ part-is zb lb answer = (
   ),
 )
 
--- "Changing entries of other zones changes nothing that this zone is told by a lookup" In words: two zone books that
--- pass with the line book, and of which each holds every entry of this zone that the other holds, at whatever place,
--- give the same bytes or none.
+-- "Changing entries of other zones changes nothing that this zone is told by a lookup"
+-- In words: two zone books that pass with the line book, and which hold the same entries of this zone, at whatever
+-- places, give the same bytes or none.
 pub other-zones-change-nothing : (a b lb : List ℕ) (zone asked : ℕ)
     → soundBook false a ≡ true
     → twiceIn a (placesOf a) ≡ false
@@ -275,8 +278,9 @@ other-zones-change-nothing a b lb zone asked sa oa sb ob sl ol to back =
     record { held = λ p h t z. let w = to p h t z in record { place = w .0; inside = w .1 .0; is = w .1 .1 } }
     record { held = λ r h t z. let w = back r h t z in record { place = w .0; inside = w .1 .0; is = w .1 .1 } }
 
--- the same book and position, where the entries keep their places In words: where each entry of this zone in one of
--- the two zone books stands at the same place of the other, the two lookups give the same answer.
+-- the same book and position, if the entries keep their places
+-- In words: if each entry of this zone in one of the two zone books is at the same place in the other, the two lookups
+-- give the same answer.
 pub same-place : (a b lb : List ℕ) (zone asked : ℕ)
     → soundBook false a ≡ true
     → twiceIn a (placesOf a) ≡ false
@@ -300,9 +304,9 @@ same-place a b lb zone asked sa oa sb ob sl ol to back =
     { sound = sl; once = ol }
     zone asked record { kept = to } record { kept = back }
 
--- "after an addition the lookup at that zone and setting gives the bytes added" In words: after an addition that is
--- accepted at place p, where both books pass, the lookup at that zone and setting tells the entry's book and where its
--- dialect begins at place p, and the part that it gives is the dialect added.
+-- "after an addition the lookup at that zone and setting gives the bytes added"
+-- In words: after an addition that is accepted at place p, if both books pass, the lookup at that zone and setting
+-- returns the entry's book and the start of its dialect at place p, and the part that it returns is the dialect added.
 pub added-is-told : (zb lb : List ℕ) (zone setting : ℕ) (dialect : List ℕ) (b p : ℕ)
     → addOf zb lb zone setting dialect ≡ Placed b p
     → setting < 4294967296
@@ -322,7 +326,7 @@ added-is-told zb lb zone setting dialect b p e small x y sz oz sl ol =
     record { zone = record { sound = sz; once = oz }; line = record { sound = sl; once = ol } }
 
 -- "every lookup that does not reach it is as before"
--- In words: a lookup whose best place, in the book of the entry afterwards, is not the new one is as before.
+-- In words: a lookup whose best place in the changed book is not the new entry gives the same answer as before.
 pub added-elsewhere : (zb lb : List ℕ) (zone setting : ℕ) (dialect : List ℕ) (b p : ℕ)
     → addOf zb lb zone setting dialect ≡ Placed b p
     → setting < 4294967296
@@ -345,7 +349,8 @@ added-elsewhere zb lb zone setting dialect b p e small x y sz oz sl ol z asked o
     record { zone = record { sound = sz; once = oz }; line = record { sound = sl; once = ol } } z asked other
 
 -- "Removing what was just added restores the book byte for byte"
--- In words: the removal of an entry that was just added answers the same place, and both books are then as they were.
+-- In words: the removal of an entry that was just added returns the same place, and both books are then as they were
+-- before the addition.
 pub added-then-removed : (zb lb : List ℕ) (zone setting : ℕ) (dialect : List ℕ) (b p : ℕ)
     → addOf zb lb zone setting dialect ≡ Placed b p
     → setting < 4294967296
@@ -358,9 +363,9 @@ added-then-removed zb lb zone setting dialect b p e small x y =
     let r = theorem-both.added-removed zb lb zone setting dialect b p e small x y in
     (r .answered, (r .zoneBook, r .lineBook))
 
--- "adding what was just removed is accepted and gives the same set of entries" In words: after a removal at place p,
--- adding the same zone, setting and dialect is accepted, in the same book; every entry of that book before the
--- removal then stands in it, and it has no other.
+-- "adding what was just removed is accepted and gives the same set of entries"
+-- In words: after a removal at place p, adding the same zone, setting and dialect is accepted, in the same book; the
+-- book then has every entry that it had before the removal, and no other.
 pub removed-then-added : (zb lb : List ℕ) (zone setting b p : ℕ)
     → removeOf zb lb zone setting ≡ Placed b p
     → setting < 4294967296
@@ -410,8 +415,9 @@ removed-then-added zb lb zone setting b p e small x y =
       ),
     )
 
--- "After a removal an addition to that book is never 98" In words: where the removed entry and the one to be added
--- are both of zone 0 or both not, the addition after the removal does not answer 98.
+-- "After a removal an addition to that book is never 98"
+-- In words: if the removed entry and the one to be added are both of zone 0 or both not, the addition after the removal
+-- does not answer 98.
 pub room-after-a-removal : (zb lb : List ℕ) (zone setting b p : ℕ)
     → removeOf zb lb zone setting ≡ Placed b p
     → (z s : ℕ) (dialect : List ℕ)
@@ -439,7 +445,7 @@ added-passes zb lb zone setting dialect b p e small x y =
     let w = theorem-both.added-passes zb lb zone setting dialect b p e small x y in
     (w .sound, w .once)
 
--- the same of removals
+-- the same for removals
 -- In words: after a removal that is accepted the book of the entry passes 95 and 96.
 pub removed-passes : (zb lb : List ℕ) (zone setting b p : ℕ)
     → removeOf zb lb zone setting ≡ Placed b p
@@ -455,14 +461,14 @@ removed-passes zb lb zone setting b p e x y =
     (w .sound, w .once)
 
 -- a first book
--- In words: where a blank book is made, it passes 95 and 96 as a zone book and as a line book.
+-- In words: if a blank book is made, it passes 95 and 96 as a zone book and as a line book.
 pub blank-passes : (line : Bool) (book : List ℕ)
     → blankOf (length book) ≡ 0
     → (soundBook line (blankAfter book) ≡ true) × (twiceIn (blankAfter book) (placesOf (blankAfter book)) ≡ false)
 blank-passes line book e = let w = theorem-both.blanked-passes line book e in (w .sound, w .once)
 
--- "only the place and its block's sum change" In words: a stretch of n bytes from j on that meets neither the new
--- entry's place nor the sum of its block is as before.
+-- "only the place and its block's sum change"
+-- In words: n bytes from j on that overlap neither the new entry's place nor the sum of its block are unchanged.
 pub added-apart : (zb lb : List ℕ) (zone setting : ℕ) (dialect : List ℕ) (b p : ℕ)
     → addOf zb lb zone setting dialect ≡ Placed b p
     → setting < 4294967296
@@ -475,8 +481,8 @@ pub added-apart : (zb lb : List ℕ) (zone setting : ℕ) (dialect : List ℕ) (
 added-apart zb lb zone setting dialect b p e small j n place sum =
     theorem-both.added-apart zb lb zone setting dialect b p e small j n record { place = place; sum = sum }
 
--- the same of removals In words: a stretch of n bytes from j on that meets neither the removed entry's place nor the
--- sum of its block is as before.
+-- the same for removals
+-- In words: n bytes from j on that overlap neither the removed entry's place nor the sum of its block are unchanged.
 pub removed-apart : (zb lb : List ℕ) (zone setting b p : ℕ)
     → removeOf zb lb zone setting ≡ Placed b p
     → (j n : ℕ)
@@ -488,28 +494,30 @@ removed-apart zb lb zone setting b p e j n place sum =
     theorem-both.removed-apart zb lb zone setting b p e j n record { place = place; sum = sum }
 
 -- "A refusal ... changes no book"
--- In words: an addition that is not accepted leaves both books as they were.
+-- In words: an addition that is not accepted leaves both books unchanged.
 pub refused-addition : (zb lb : List ℕ) (zone setting : ℕ) (dialect : List ℕ)
     → ((b p : ℕ) → addOf zb lb zone setting dialect ≡ Placed b p → ⊥)
     → (zoneAdded zb lb zone setting dialect ≡ zb) × (lineAdded zb lb zone setting dialect ≡ lb)
 refused-addition zb lb zone setting dialect other = theorem-both.added-refused zb lb zone setting dialect other
 
--- the same of removals
--- In words: a removal that is not accepted leaves both books as they were.
+-- the same for removals
+-- In words: a removal that is not accepted leaves both books unchanged.
 pub refused-removal : (zb lb : List ℕ) (zone setting : ℕ)
     → ((b p : ℕ) → removeOf zb lb zone setting ≡ Placed b p → ⊥)
     → (zoneRemoved zb lb zone setting ≡ zb) × (lineRemoved zb lb zone setting ≡ lb)
 refused-removal zb lb zone setting other = theorem-both.removed-refused zb lb zone setting other
 
 -- "Both look at the entry's book only, zone 0 being the line's."
--- In words: the answer of an addition depends on the line book alone for zone 0, and on the zone book alone for others.
+-- In words: the answer of an addition depends only on the line book for zone 0, and only on the zone book for other
+-- zones.
 pub entrys-book-only : (zb lb zb′ lb′ : List ℕ) (zone setting : ℕ) (dialect : List ℕ)
     → bookOf zone zb lb ≡ bookOf zone zb′ lb′
     → addOf zb lb zone setting dialect ≡ addOf zb′ lb′ zone setting dialect
 entrys-book-only zb lb zb′ lb′ zone setting dialect e = theorem-both.add-unread zb lb zb′ lb′ zone setting dialect e
 
--- the same of removals
--- In words: the answer of a removal depends on the line book alone for zone 0, and on the zone book alone for others.
+-- the same for removals
+-- In words: the answer of a removal depends only on the line book for zone 0, and only on the zone book for other
+-- zones.
 pub removal-reads-one-book : (zb lb zb′ lb′ : List ℕ) (zone setting : ℕ)
     → bookOf zone zb lb ≡ bookOf zone zb′ lb′
     → removeOf zb lb zone setting ≡ removeOf zb′ lb′ zone setting

@@ -1,9 +1,9 @@
 -- DEMAND 3
 --
--- Every theorem of crate `demand3`, over the answer of `parameters::params` and the mode buffer at exit. What the
--- record `Given` holds stands as four arrows, what `CutOf` and `Good` hold as five, and what an answer says field by
--- field. Each is proved by citing the theorem: a field more in a hypothesis, or one less in a conclusion, fails here.
--- Assumes nothing.
+-- Every theorem of the crate `demand3`, about the answer of `parameters::params` and the mode buffer at exit. The
+-- content of the record `Given` is written as four hypotheses, that of `CutOf` and `Good` as five, and that of an
+-- answer field by field. Each statement is proved by citing the theorem: a theorem with one more field in a hypothesis,
+-- or one less in a conclusion, would not prove it. Assumes nothing.
 use mathlib.Core.Path.{_≡_}
 use mathlib.Core.Logic.{_⊎_, _↔_}
 use mathlib.Core.List.{List, [], _∷_, _++_}
@@ -47,7 +47,7 @@ cutOf : {l : List Param} {c : Cut}
 cutOf j b s n d = record { joins = j; good = record { slash = b; star = s; distinct = n; defaulted = d } }
 
 -- "the parameter list of a def or lambda": all its parameters, in written order
--- In words: in a sound table, the list that the job reads of a def or lambda is the list of all its parameters.
+-- In words: in a sound table, the list that the job reads for a def or lambda is the list of all its parameters.
 pub list-is-all : (t names : List ℕ) (node : ℕ)
     → checkOf t names ≡ accepted []
     → node < length t / recordBytes
@@ -57,7 +57,7 @@ pub list-is-all : (t names : List ℕ) (node : ℕ)
 list-is-all = theorem.list-is-all
 
 -- "The cut is unique."
--- In words: two cuts that join to one list are the same cut, good or not.
+-- In words: two cuts that join to the same list are the same cut, good or not.
 pub cut-unique : (l : List Param) (c d : Cut)
     → join c ≡ l
     → join d ≡ l
@@ -68,8 +68,8 @@ cut-unique = theorem.cut-unique
 -- has at most 48 written entries and can be cut, in written order, into: nothing, or one or more ordinary parameters
 -- and `/`; ordinary parameters; nothing, or `*` with at least one ordinary parameter, or `*args` with any number;
 -- nothing or `**kwargs`; all names distinct; and in the first two parts none without default after one with."
--- In words: the job accepts the list if and only if it has at most 48 entries and a cut joins to it whose parts and
--- names are as asked.
+-- In words: the job accepts the list if and only if it has at most 48 entries and it can be cut into parts and names as
+-- the sentence demands.
 pub accepted-iff-cut : (t names : List ℕ) (node : ℕ) (ms : List ℕ)
     → checkOf t names ≡ accepted []
     → node < length t / recordBytes
@@ -129,8 +129,8 @@ pub ranges-are-the-cuts : (t names : List ℕ) (node : ℕ) (ms : List ℕ)
 ranges-are-the-cuts t names node ms s w k r l c j b a n d =
     theorem.ranges-are-the-cuts t names node ms (given s w k r) l c (cutOf j b a n d)
 
--- "The five index ranges are then the cut's": what code answers
--- In words: an answer that keeps the job's promise is accepted, and its five ranges and its flat count are the cut's.
+-- "The five index ranges are then the cut's": the answer of the code
+-- In words: an answer that meets the job's contract is accepted, and its five ranges and its flat count are the cut's.
 pub answer-has-the-ranges : (t names : List ℕ) (node : ℕ) (ms : List ℕ)
     → checkOf t names ≡ accepted []
     → node < length t / recordBytes
@@ -217,7 +217,7 @@ ranges-follow c =
     )
 
 -- "and cover 0 to the flat count once"
--- In words: each index below the flat count is held by exactly one of the five ranges.
+-- In words: each index below the flat count is in exactly one of the five ranges.
 pub ranges-cover-once : (c : Cut) (i : ℕ)
     → i < cutFlat c
     → holders (cutRanges c) i ≡ 1
@@ -252,8 +252,8 @@ modes-are-the-ranges t names node ms s w k r l c j b a n d =
     let x = theorem.modes-are-the-ranges t names node ms (given s w k r) l c (cutOf j b a n d) in
     (x .posOnly, x .posOrNamed, x .args, x .namedOnly, x .kwargs)
 
--- every other byte is as it was
--- In words: after the job, each byte of the mode buffer from the flat count on is what it was.
+-- every other byte is unchanged
+-- In words: after the job, each byte of the mode buffer from the flat count on is unchanged.
 pub other-bytes-stay : (t names : List ℕ) (node : ℕ) (ms : List ℕ)
     → checkOf t names ≡ accepted []
     → node < length t / recordBytes

@@ -1,7 +1,7 @@
 -- W-210: F-STRING FORMAT TEXT
 --
--- Theorems of crate `fstring` over what `fstring::write` and `fstring::read` promise: an answer with its meaning, and
--- the buffers at exit. Each is proved by citing the theorem. Assumes nothing.
+-- Theorems of the crate `fstring` about the contracts of `fstring::write` and `fstring::read`: an answer with its
+-- meaning, and the buffers at exit. Each statement is proved by citing the theorem. Assumes nothing.
 use mathlib.Core.Path.{_≡_}
 use mathlib.Core.Bool.{Bool, true, false}
 use mathlib.Core.Logic.{_⊎_}
@@ -27,10 +27,11 @@ use Rattle.fstring.proofs.Normal as theorem-normal
 use Rattle.fstring.proofs.Examples as theorem-example
 
 -- "Writing and reading back gives the same parts, with neighbouring texts joined, empty texts dropped and str read as
--- none" In words: where writing is accepted with length n, reading the first n bytes of the buffer is accepted with the
--- parts of the normal form and all text bytes, if there are two words for each of these parts and room for the text
--- bytes, and each text is shorter than 2^32; the words at exit begin with those of the normal form, the bytes with the
--- texts, and what is past them stays.
+-- none"
+-- In words: if writing is accepted with length n, reading the first n bytes of the buffer is accepted with the parts of
+-- the normal form and all text bytes, if there are two words for each of these parts and room for the text bytes, and
+-- each text is shorter than 2^32; the words at exit begin with those of the normal form, the bytes with the texts, and
+-- what is past them is unchanged.
 pub write-then-read : (ws ts ds d : List ℕ) (r : Written) (after : List ℕ)
     → written r ≡ writeOf ws ts ds (length d)
     → after ≡ textAfter ws ts ds d
@@ -49,7 +50,7 @@ pub write-then-read : (ws ts ds d : List ℕ) (r : Written) (after : List ℕ)
 write-then-read = theorem.write-then-read
 
 -- "reading and writing back gives the same bytes"
--- In words: where reading is accepted with k parts and m bytes, writing these parts and bytes, in any valid dialect and
+-- In words: if reading is accepted with k parts and m bytes, writing these parts and bytes, in any valid dialect and
 -- into a buffer that the text fits, is accepted with the length of the text, and the buffer then begins with the text.
 pub read-then-write : (t w x : List ℕ) (s : Reading) (w-after x-after : List ℕ)
     → got s ≡ readOf t (length w) (length x)
@@ -67,8 +68,8 @@ pub read-then-write : (t w x : List ℕ) (s : Reading) (w-after x-after : List �
 read-then-write = theorem.read-then-write
 
 -- "63 at the first brace that starts none of the four forms"
--- In words: where reading answers 63 at p, p is inside the text, the bytes before it are the format text of some parts,
--- and at p stands a brace with which none of `{{`, `}}`, `{}` and `{!r}` begins.
+-- In words: if reading answers 63 at p, then p is inside the text, the bytes before it are the format text of some
+-- parts, and at p is a brace with which none of `{{`, `}}`, `{}` and `{!r}` begins.
 pub stray-stands : (t : List ℕ) (words bytes : ℕ) (s : Reading)
     → got s ≡ readOf t words bytes
     → {p : ℕ}
@@ -82,8 +83,9 @@ pub stray-stands : (t : List ℕ) (words bytes : ℕ) (s : Reading)
     × (take 4 (drop p t) ≡ reprForm → ⊥)
 stray-stands = theorem.stray-stands
 
--- "exactly": at such a place it is given, whatever is lent In words: a place inside the text behind the format text of
--- some parts, with a brace that begins none of the four forms, is the position that 63 carries.
+-- "exactly": the converse, whatever the sizes of the buffers
+-- In words: a place inside the text, after the format text of some parts, with a brace that begins none of the four
+-- forms, is the position that 63 carries.
 pub stray-found : (t : List ℕ) (words bytes : ℕ) (s : Reading)
     → got s ≡ readOf t words bytes
     → (p : ℕ)
@@ -98,15 +100,15 @@ pub stray-found : (t : List ℕ) (words bytes : ℕ) (s : Reading)
     → s ≡ read-as.StrayAt p
 stray-found = theorem.stray-found
 
--- so a text that is not 63 is a format text
--- In words: where reading answers no 63, some parts have the text as their format text.
+-- a text that is not refused with 63 is a format text
+-- In words: if reading does not answer 63, some parts have the text as their format text.
 pub not-stray-format : (t : List ℕ) (words bytes : ℕ) (s : Reading)
     → got s ≡ readOf t words bytes
     → ((p : ℕ) → s ≡ read-as.StrayAt p → ⊥)
     → (ps : List Part) × (formatOf ps ≡ t)
 not-stray-format = theorem.not-stray-format
 
--- and a format text is never 63
+-- a format text is never refused with 63
 -- In words: the format text of any parts is read without 63.
 pub format-not-stray : (t : List ℕ) (words bytes : ℕ) (s : Reading)
     → got s ≡ readOf t words bytes
@@ -117,9 +119,9 @@ pub format-not-stray : (t : List ℕ) (words bytes : ℕ) (s : Reading)
     → ⊥
 format-not-stray = theorem.format-not-stray
 
--- "then 7 exactly if parts or texts don't fit" In words: where the format text of some parts is read with 7, there are
--- fewer words than two for each part of the normal form, or fewer bytes than the texts have, or a text of 2^32 bytes or
--- more.
+-- "then 7 exactly if parts or texts don't fit"
+-- In words: if the format text of some parts is refused with 7, there are fewer words than two for each part of the
+-- normal form, or fewer bytes than the texts have, or a text of 2^32 bytes or more.
 pub short-is-room : (t : List ℕ) (words bytes : ℕ) (s : Reading)
     → got s ≡ readOf t words bytes
     → (ps : List Part)
@@ -128,23 +130,23 @@ pub short-is-room : (t : List ℕ) (words bytes : ℕ) (s : Reading)
     → (words < 2 * length (normal ps)) ⊎ ((bytes < length (textsOf ps)) ⊎ (isShort (normal ps) ≡ false))
 short-is-room = theorem.short-is-room
 
--- the normal form is one
--- In words: the normal form has no str, no empty text and no two texts side by side.
+-- the normal form is normal
+-- In words: the normal form has no str, no empty text and no two neighbouring texts.
 pub normal-is-normal : (ps : List Part) → isNormal (normal ps) ≡ true
 normal-is-normal = theorem-normal.normal-is-normal
 
--- and parts in normal form are their own
+-- parts in normal form are their own normal form
 -- In words: the normal form of parts that are normal is these parts.
 pub normal-stays : (ps : List Part) → isNormal ps ≡ true → normal ps ≡ ps
 normal-stays = theorem-normal.normal-stays
 
--- an instance of writing: a brace split over neighbours, in a dialect with f-strings
--- In words: the parts `{`, str, an empty text and `}` are the six bytes `{{{}}}`, and no notice.
+-- an instance of writing: braces in two neighbouring texts, in a dialect with f-strings
+-- In words: the parts `{`, str, an empty text and `}` give the six bytes `{{{}}}`, and no notice.
 pub split-braces : partsCheck true (0 ∷ 1 ∷ 2 ∷ 0 ∷ 0 ∷ 0 ∷ 0 ∷ 1 ∷ []) (123 ∷ 125 ∷ []) 6 ≡ accepted (6 ∷ 0 ∷ [])
 split-braces = theorem-example.split-braces
 
 -- an instance of the notice: repr in a dialect without f-strings
--- In words: `{!r}` is written all the same, and 62 is told beside its length.
+-- In words: `{!r}` is written all the same, and 62 is returned with its length.
 pub switched-off : partsCheck false (3 ∷ 0 ∷ []) [] 4 ≡ accepted (4 ∷ 62 ∷ [])
 switched-off = theorem-example.switched-off
 
@@ -154,12 +156,12 @@ pub four-parts : readOf (97 ∷ 123 ∷ 125 ∷ 98 ∷ 123 ∷ 33 ∷ 114 ∷ 12
 four-parts = theorem-example.four-parts
 
 -- an instance of 63: `{{}`, with no room at all
--- In words: `{{` is a doubled brace, and the brace behind it, at 2, starts none of the four forms.
+-- In words: `{{` is a doubled brace, and the brace after it, at 2, starts none of the four forms.
 pub stray-behind-doubled : readOf (123 ∷ 123 ∷ 125 ∷ []) 0 0 ≡ refused 63 (2 ∷ [])
 stray-behind-doubled = theorem-example.stray-behind-doubled
 
 -- an instance of the normal form
--- In words: an empty text is dropped, str becomes none, and two texts side by side are joined.
+-- In words: an empty text is dropped, str becomes none, and two neighbouring texts are joined.
 pub normal-instance : normal (text [] ∷ str ∷ text (97 ∷ []) ∷ text (98 ∷ []) ∷ repr ∷ [])
     ≡ none ∷ text (97 ∷ 98 ∷ []) ∷ repr ∷ []
 normal-instance = theorem-example.normal-instance

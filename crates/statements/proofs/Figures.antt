@@ -1,15 +1,15 @@
 -- W-214: THE LINE'S FIGURES
 --
--- Theorems of crate `figured` over the report of files one after another: `reportOf` is what `figures::report` answers,
--- `stepOf` and `figuresAfter` are what `figures::step` answers and leaves in the counters. Each is proved by citing the
--- theorem. Assumes nothing.
+-- Theorems of the crate `figured` about the report of files one after another: `reportOf` is the answer of
+-- `figures::report`, `stepOf` is the answer of `figures::step`, and `figuresAfter` the counters that it leaves. Each
+-- statement is proved by citing the theorem. Assumes nothing.
 use mathlib.Core.Path.{_≡_}
 use mathlib.Core.Bool.{false}
 use mathlib.Core.List.{List, [], _∷_, _++_}
 use Prim.Native.Nat.{ℕ, _+_, _*_, _^_, _<_, _≤_}
 use lib.ListN.{length, getD, take, replicate}
 use Rattle.deflist.specs.Unpack.{modePosOnly, modePosOrName, modeNameOnly, modeArgs, modeKwargs}
-use Rattle.table.specs.Numbers.{blockShort, tooManyFiles}
+use Rattle.table.specs.Numbers.{blockShort}
 use Rattle.table.specs.Answer.{accepted}
 use Rattle.validate.specs.Job.{errorsOf}
 use Rattle.blocks.specs.Block.{blockBytes}
@@ -20,9 +20,8 @@ use Rattle.tablefile.proofs.Example.{content}
 use Rattle.figures.specs.Adding.{added}
 use Rattle.figures.specs.Counting.{modeAt, acceptedAt, refusedAt, over, numbersOf, errorCounts, figuresOf}
 use Rattle.figures.specs.Reporting.{mostFiles, stepOf, figuresAfter, whole, endedBy, zeros, reportOf}
-use Rattle.figures.specs.declared.Stepped.the-variants.{Taken, Refused as RefusedStep}
+use Rattle.figures.specs.declared.Stepped.the-variants.{Taken}
 use Rattle.figures.specs.declared.Ending.the-variants.{Whole, Refused}
-use Rattle.figures.proofs.Running as theorem-running
 use Rattle.figured.specs.Said.{summed, endedBy76, windowBytes, through, callAt, flatAt, sumOf, mostAdded}
 use Rattle.figured.proofs.Sums as theorem-sums
 use Rattle.figured.proofs.Through as theorem-through
@@ -37,8 +36,8 @@ use Rattle.figured.proofs.Counted as theorem-counted
 pub empty-report : reportOf [] ≡ whole zeros
 empty-report = theorem-ends.empty-report
 
--- a file is counted, whatever stands behind it
--- In words: a step over the file of table, names and dialect, bytes that pass 1 to 5, with any bytes behind it, takes
+-- a file is counted, whatever follows it
+-- In words: a step over the file of table, names and dialect, bytes that pass 1 to 5, followed by any bytes, counts
 -- that file and adds its figures, if there are fewer than 4,294,967,295 files.
 pub file-step : (c : Content) (rest figures : List ℕ)
     → soundCheck c ≡ accepted []
@@ -69,7 +68,7 @@ pub example-report : reportOf (fileOf content) ≡ whole (1 ∷ 4 ∷ replicate 
 example-report = theorem-counted.example-report
 
 -- bytes after a file's last block begin the next file, however few they are
--- In words: an input that has a byte and is shorter than a block is ended by 70 at its first byte, with all counters 0.
+-- In words: an input that has a byte and is shorter than a block ends with 70 at its first byte, with all counters 0.
 pub short-report : (a : List ℕ)
     → (length a ≡ 0 → ⊥)
     → length a < blockBytes
@@ -77,13 +76,13 @@ pub short-report : (a : List ℕ)
 short-report = theorem-ends.short-report
 
 -- "a single byte does too (70)": such an input, with the numbers
--- In words: the report of one byte, 0, is ended by 70 at place 0.
+-- In words: the report of one byte, 0, ends with 70 at place 0.
 pub one-byte : reportOf (0 ∷ []) ≡ endedBy 70 0 zeros
 one-byte = theorem-ends.one-byte
 
 -- figures of parts may be added
--- In words: where the first of two inputs has no refused file, and 76 does not end the report of both joined, that
--- report is the sum of the two reports, and the place of the second's refused file grows by the first's length.
+-- In words: if the first of two inputs has no refused file, and the report of both joined does not end with 76, that
+-- report is the sum of the two reports, and the place of a refused file of the second grows by the length of the first.
 pub report-sums : (a b : List ℕ)
     → reportOf a .ending ≡ Whole
     → endedBy76 (reportOf (a ++ b) .ending) ≡ false
@@ -91,7 +90,8 @@ pub report-sums : (a b : List ℕ)
 report-sums = theorem-sums.report-sums
 
 -- inputs of any length may be read through a buffer: one step
--- In words: a step answers to the first n bytes of what is left as to all of it, for any n from `windowBytes` on.
+-- In words: a step gives the same answer for the first n bytes of what is left as for all of it, for any n from
+-- `windowBytes` on.
 pub window-step : (n : ℕ) (left : List ℕ)
     → windowBytes ≤ n
     → (figures : List ℕ)
@@ -123,7 +123,7 @@ pub window-bytes : windowBytes ≡ 59904
 window-bytes = theorem-through.window-bytes
 
 -- "Files before it are counted, that one not at all"
--- In words: where a refused file ends the report of an input at a place, the report of the bytes before that place is
+-- In words: if a refused file ends the report of an input at a place, the report of the bytes before that place is
 -- whole, with the same counters.
 pub report-before : (a : List ℕ) {number place : ℕ}
     → reportOf a .ending ≡ Refused number place
@@ -131,14 +131,14 @@ pub report-before : (a : List ℕ) {number place : ℕ}
 report-before = theorem-stops.report-before
 
 -- the place of a refused file
--- In words: it is not behind the end of the input.
+-- In words: it is not past the end of the input.
 pub report-place : (a : List ℕ) {number place : ℕ}
     → reportOf a .ending ≡ Refused number place
     → place ≤ length a
 report-place = theorem-stops.report-place
 
--- a refusal does not depend on what follows, but for 70, which may say that a file goes on in the next input
--- In words: where a number other than 70 ends the report of an input, the report of that input with any bytes behind it
+-- a refusal does not depend on what follows, except 70, which may mean that a file goes on in the next input
+-- In words: if the report of an input ends with a number other than 70, the report of that input followed by any bytes
 -- is the same.
 pub report-same : (a : List ℕ) {number place : ℕ}
     → reportOf a .ending ≡ Refused number place
@@ -148,13 +148,13 @@ pub report-same : (a : List ℕ) {number place : ℕ}
 report-same = theorem-stops.report-same
 
 -- "Calls accepted and refused together are all calls"
--- In words: of any table, calls accepted and calls refused add up to the number of nodes of kind 22.
+-- In words: in any table, the numbers of calls accepted and refused add up to the number of nodes of kind 22.
 pub calls-all : (t names : List ℕ) → over t (acceptedAt t names) + over t (refusedAt t names) ≡ over t (callAt t)
 calls-all = theorem-totals.calls-all
 
 -- "modes summed are the flat counts of the accepted lists"
--- In words: the five modes of a table add up to the flat counts that the parameters job answers for its nodes, over the
--- lists that it accepts.
+-- In words: the five modes of a table add up to the flat counts that the parameters job returns for the lists of the
+-- table that it accepts.
 pub modes-all : (t names : List ℕ)
     → over t (modeAt modePosOnly t names)
     + (over t (modeAt modePosOrName t names)
@@ -180,8 +180,8 @@ pub file-few : (window figures : List ℕ)
     → getD (figuresOf (contentAt window)) i 0 ≤ mostAdded
 file-few = theorem-bounds.file-few
 
--- sums that are never held: a step
--- In words: of 32 counters, with at most 4,294,967,295 files and no counter above `mostAdded` for each file, a step
+-- sums that never saturate: a step
+-- In words: for 32 counters, with at most 4,294,967,295 files and no counter above `mostAdded` for each file, a step
 -- that accepts a file leaves the plain sums.
 pub step-plain : (window figures : List ℕ)
     → (length window ≡ 0 → ⊥)
@@ -195,7 +195,7 @@ pub step-plain : (window figures : List ℕ)
 step-plain window figures some takes all files others =
     theorem-bounds.step-plain window figures some takes record { all = all; files = files; others = others }
 
--- sums that are never held: the counters of every report are such
+-- sums that never saturate: the counters of every report
 -- In words: a report has 32 counters, at most 4,294,967,295 files, and no counter above `mostAdded` for each file.
 pub figures-small : (input : List ℕ)
     → (length (reportOf input .figures) ≡ 32)
@@ -205,15 +205,7 @@ figures-small input =
     let small = theorem-bounds.figures-small input in
     (small .all, small .files, small .others)
 
--- sums that are never held: 64 bits are enough
+-- sums that never saturate: 64 bits are enough
 -- In words: every counter of a report is below 2^64.
 pub figures-fit : (input : List ℕ) (i : ℕ) → getD (reportOf input .figures) i 0 < 2 ^ 64
 figures-fit = theorem-bounds.figures-fit
-
--- "76 first, with one byte left after 4,294,967,295 files"
--- In words: from so many files on, a step refuses any bytes by 76 and changes no counter.
-pub step-many : (window figures : List ℕ)
-    → (length window ≡ 0 → ⊥)
-    → mostFiles ≤ getD figures 0 0
-    → (RefusedStep tooManyFiles ≡ stepOf window figures) × (figures ≡ figuresAfter window figures)
-step-many = theorem-running.step-many

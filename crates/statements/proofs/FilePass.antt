@@ -1,7 +1,7 @@
 -- A TABLE FILE TO ITS ANSWER
 --
--- Theorems of crate `filepass` over what `filepass::check_file` and `check_read` answer and leave in the list of words.
--- Each is proved by citing the theorem. Assumes nothing.
+-- Theorems of the crate `filepass` about the answers of `filepass::check_file` and `check_read` and the list of words
+-- that they leave. Each statement is proved by citing the theorem. Assumes nothing.
 use mathlib.Core.Path.{_≡_}
 use mathlib.Core.List.{List, [], _∷_, _++_}
 use Prim.Native.Nat.{ℕ, _*_}
@@ -19,14 +19,14 @@ use Rattle.filepass.proofs.Theorems as theorem
 use Rattle.filepass.proofs.Enough as theorem-enough
 
 -- "A refusal prints one line": a file that the reader refuses
--- In words: its answer is the reader's refusal, and the list of words is as it was.
+-- In words: its answer is the reader's refusal, and the list of words is unchanged.
 pub refused-keeps : (file xs : List ℕ) {n : ℕ} {vs : List ℕ}
     → readCheck file ≡ refused n vs
     → (answerOf file ≡ refused n vs) × (wordsAfter file xs ≡ xs)
 refused-keeps = theorem.refused-keeps
 
 -- "Then 1 to 5, then the module pass": the module pass does not refuse what the reader accepted
--- In words: an accepted file is answered with its number of nodes and of errors.
+-- In words: the answer for an accepted file is its numbers of nodes and of errors.
 pub accepted-is-listed : (file : List ℕ)
     → readCheck file ≡ accepted []
     → answerOf file
@@ -35,7 +35,7 @@ pub accepted-is-listed : (file : List ℕ)
 accepted-is-listed = theorem.accepted-is-listed
 
 -- the program's list holds every error
--- In words: a list of `enoughWords` words then holds all errors in order, and its other words are as they were.
+-- In words: a list of `enoughWords` words then holds all errors in order, and its other words are unchanged.
 pub list-has-room : (file : List ℕ)
     → readCheck file ≡ accepted []
     → (xs : List ℕ)
@@ -58,24 +58,26 @@ pub edition-ignored : (file other xs : List ℕ)
     → (answerOf file ≡ answerOf other) × (wordsAfter file xs ≡ wordsAfter other xs)
 edition-ignored = theorem.edition-ignored
 
--- of a file of any length `enoughBytes` bytes are enough
--- In words: what is answered to so much of a file is what is answered to the file, and the words are the same.
+-- the first `enoughBytes` bytes of a file of any length are enough
+-- In words: the answer for the first `enoughBytes` bytes of a file is the answer for the file, and the words are the
+-- same.
 pub read-enough : (file xs : List ℕ)
     → (answerOf (take enoughBytes file) ≡ answerOf file)
     × (wordsAfter (take enoughBytes file) xs ≡ wordsAfter file xs)
 read-enough = theorem-enough.read-enough
 
 -- so the program may read into one buffer of that size
--- In words: where the first len bytes of a buffer are the file, or `enoughBytes` of it, they are answered as the file.
+-- In words: if the first len bytes of a buffer are the file, or its first `enoughBytes` bytes, the answer for them is
+-- the answer for the file.
 pub read-is-whole : (file buffer xs : List ℕ) (len : ℕ)
     → take len buffer ≡ take enoughBytes file
     → (answerOf (take len buffer) ≡ answerOf file)
     × (wordsAfter (take len buffer) xs ≡ wordsAfter file xs)
 read-is-whole = theorem.read-is-whole
 
--- the same where a file is read into lent buffers
--- In words: for `tablefile::read_into` so much of a file gives the answer of the file, and table and names at exit are
--- the same.
+-- the same for a file that is read into lent buffers
+-- In words: for `tablefile::read_into` the first `enoughBytes` bytes of a file give the answer of the file, and table
+-- and names at exit are the same.
 pub into-enough : (file t ns : List ℕ)
     → (intoCheck (take enoughBytes file) (length t) (length ns) ≡ intoCheck file (length t) (length ns))
     × (handed (intoCheck (take enoughBytes file) (length t) (length ns)) (contentAt (take enoughBytes file) .table) t

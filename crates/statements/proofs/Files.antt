@@ -1,7 +1,7 @@
 -- W-208: TWO SOURCE FILES IN ONE TABLE
 --
--- Theorems of crate `soundness` on the source file numbers of records. `filesSound` says the rule down the tree, as
--- people do; the check goes along the index. Each is proved by citing the theorem. Assumes nothing.
+-- Theorems of the crate `soundness` about the source file numbers of records. `filesSound` states the rule down the
+-- tree, as people do; the check goes along the index. Each statement is proved by citing the theorem. Assumes nothing.
 use mathlib.Core.Path.{_≡_}
 use mathlib.Core.Bool.{true, false}
 use mathlib.Core.List.{List, [], map}
@@ -17,15 +17,15 @@ use Rattle.soundness.proofs.FileCases as theorem-cases
 
 -- "every record under a top-level statement carries that statement's number. A root Statements has 0 itself; any other
 -- root is the top-level statement."
--- In words: where no record is unsound, the file numbers are sound down the tree.
+-- In words: if no record is unsound, the file numbers are sound down the tree.
 pub clean-files : (t names : List ℕ)
     → firstUnsound t names ≡ Nothing
     → filesSound (forest 0 t) ≡ true
 clean-files = theorem.clean-files
 
--- "a wrong file number is 3, in the record's turn": and nothing but a wrong number is
--- In words: where the root is sound, and every record is sound with any number from 0 to 65,535, no record is unsound
--- exactly where the file numbers are sound down the tree.
+-- "a wrong file number is 3, in the record's turn": only a wrong number makes a record unsound by its file number
+-- In words: if the root is sound, and every record is sound with any number from 0 to 65,535, then no record is unsound
+-- exactly if the file numbers are sound down the tree.
 pub clean-exactly : (t names : List ℕ)
     → rootSound t ≡ true
     → ((i : ℕ) → i < length t / 24 → soundAt (context (length names) anyFile) i (drop (24 * i) t) ≡ true)
@@ -33,9 +33,9 @@ pub clean-exactly : (t names : List ℕ)
     × (filesSound (forest 0 t) ≡ true → firstUnsound t names ≡ Nothing)
 clean-exactly = theorem.clean-exactly
 
--- "every record under a top-level statement carries that statement's number": and so under any node
--- In words: where no record is unsound, all records of a node's subtree have the number of that node; only a root
--- Statements is another matter.
+-- "every record under a top-level statement carries that statement's number": the same under any node
+-- In words: if no record is unsound, all records of a node's subtree have the number of that node, unless the node is a
+-- root Statements.
 pub subtree-file : (t names : List ℕ)
     → firstUnsound t names ≡ Nothing
     → (i : ℕ)

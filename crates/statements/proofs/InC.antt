@@ -1,7 +1,7 @@
 -- TABLE FILES IN C
 --
--- Theorems of crate `starlark_checks` over what `starlark_read` and `starlark_write` promise. `Read`, two equations,
--- stands as two arrows. Each is proved by citing the theorem. Assumes nothing.
+-- Theorems of the crate `starlark_checks` about the contracts of `starlark_read` and `starlark_write`. `Read`, two
+-- equations, is written as two hypotheses. Each statement is proved by citing the theorem. Assumes nothing.
 use mathlib.Core.Path.{_≡_}
 use mathlib.Core.List.{List, [], _∷_, _++_}
 use Prim.Native.Nat.{ℕ, _/_, _<_, _≤_}
@@ -19,7 +19,8 @@ use Rattle.starlark_checks.proofs.ReadBack.{tableAfter, namesAfter}
 use Rattle.starlark_checks.proofs.ReadBack as theorem
 
 -- `starlark_read` accepts what the reader accepts
--- In words: of a file that the reader accepts, into buffers that table and names fit, it tells what the file holds.
+-- In words: for a file that the reader accepts, and buffers that table and names fit into, it returns what the file
+-- holds.
 pub read-accepts : (file : List ℕ) (l : Loaded)
     → verdict (l .verdict) ≡ readCheck file
     → l ≡ loadedOf (l .verdict) (contentAt file) (headerAt file .taken)
@@ -30,8 +31,8 @@ pub read-accepts : (file : List ℕ) (l : Loaded)
     → readOf file (length t) (length ns) ≡ accepted (heldValues file)
 read-accepts file l v e = theorem.read-accepts file l (v, e)
 
--- it hands over the table
--- In words: the table's buffer then holds the reader's table, and behind it what stood there.
+-- it copies the table
+-- In words: the table's buffer then begins with the reader's table, and its other bytes are unchanged.
 pub read-table : (file : List ℕ) (l : Loaded)
     → verdict (l .verdict) ≡ readCheck file
     → l ≡ loadedOf (l .verdict) (contentAt file) (headerAt file .taken)
@@ -43,7 +44,7 @@ pub read-table : (file : List ℕ) (l : Loaded)
 read-table file l v e = theorem.read-table file l (v, e)
 
 -- and the names
--- In words: the names' buffer then holds the reader's names, and behind them what stood there.
+-- In words: the names' buffer then begins with the reader's names, and its other bytes are unchanged.
 pub read-names : (file : List ℕ) (l : Loaded)
     → verdict (l .verdict) ≡ readCheck file
     → l ≡ loadedOf (l .verdict) (contentAt file) (headerAt file .taken)
@@ -55,8 +56,8 @@ pub read-names : (file : List ℕ) (l : Loaded)
 read-names file l v e = theorem.read-names file l (v, e)
 
 -- what `starlark_write` has written, `starlark_read` gives back: the counts, the dialect and the edition
--- In words: it tells the number of nodes and of name bytes, whether there is a dialect, its nine bytes in words, the
--- edition as it was written or the word for none, and the edition that holds.
+-- In words: it returns the numbers of nodes and of name bytes, whether there is a dialect, its nine bytes in words, the
+-- edition as it was written or the word for none, and the edition that applies.
 pub written-told : (t names ds : List ℕ) (e : Stated) (buffer : List ℕ) {n : ℕ}
     → writeOf (holding t names ds e) (length buffer) ≡ accepted (n ∷ [])
     → ((i : ℕ) → getD t i 0 < 256)
@@ -71,7 +72,7 @@ pub written-told : (t names ds : List ℕ) (e : Stated) (buffer : List ℕ) {n :
 written-told = theorem.written-told
 
 -- and the table
--- In words: the table's buffer then holds the table that was written, and behind it what stood there.
+-- In words: the table's buffer then begins with the table that was written, and its other bytes are unchanged.
 pub written-table : (t names ds : List ℕ) (e : Stated) (buffer : List ℕ) {n : ℕ}
     → writeOf (holding t names ds e) (length buffer) ≡ accepted (n ∷ [])
     → ((i : ℕ) → getD t i 0 < 256)
@@ -84,7 +85,7 @@ pub written-table : (t names ds : List ℕ) (e : Stated) (buffer : List ℕ) {n 
 written-table = theorem.written-table
 
 -- and the names
--- In words: the names' buffer then holds the names that were written, and behind them what stood there.
+-- In words: the names' buffer then begins with the names that were written, and its other bytes are unchanged.
 pub written-names : (t names ds : List ℕ) (e : Stated) (buffer : List ℕ) {n : ℕ}
     → writeOf (holding t names ds e) (length buffer) ≡ accepted (n ∷ [])
     → ((i : ℕ) → getD t i 0 < 256)
@@ -97,6 +98,6 @@ pub written-names : (t names ds : List ℕ) (e : Stated) (buffer : List ℕ) {n 
 written-names = theorem.written-names
 
 -- and the word of the edition
--- In words: the word that is told of an edition is the one that was given to write it.
+-- In words: the word that is returned for an edition is the one that was given to write it.
 pub stated-back : (n : ℕ) → statedWord (statedOf n) ≡ n
 stated-back = theorem.stated-back

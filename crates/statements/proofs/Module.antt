@@ -1,7 +1,7 @@
 -- THE MODULE PASS
 --
--- Theorems of crate `validate` over the answer of `validate::module` and the list of words at exit. Each is proved by
--- citing the theorem. Assumes nothing.
+-- Theorems of the crate `validate` about the answer of `validate::module` and the list of words at exit. Each statement
+-- is proved by citing the theorem. Assumes nothing.
 use mathlib.Core.Path.{_≡_}
 use mathlib.Core.List.{List, _++_}
 use Prim.Native.Nat.{ℕ, _*_, _/_, _≤_}
@@ -15,7 +15,7 @@ use Rattle.validate.specs.declared.Listed.the-variants.{Total}
 use Rattle.validate.proofs.Theorems as theorem
 
 -- "No refusal changes a buffer": errors
--- In words: where the job refuses, the list of words at exit is the list at entry.
+-- In words: if the job refuses, the list of words at exit is the list at entry.
 pub refusal-keeps : (t names bytes : List ℕ) {n : ℕ} {vs : List ℕ} (xs : List ℕ)
     → moduleOf t names bytes ≡ refused n vs
     → errorsAfter t names bytes xs ≡ xs
@@ -26,16 +26,16 @@ refusal-keeps = theorem.refusal-keeps
 pub errors-few : (t names bytes : List ℕ) → length (errorsOf t names bytes) ≤ 2 * (length t / 24)
 errors-few = theorem.errors-few
 
--- "never more than twice the node count": the total that is answered
--- In words: a total that the job answers is at most twice the node count.
+-- "never more than twice the node count": the total that is returned
+-- In words: a total that the job returns is at most twice the number of nodes.
 pub total-few : (t names bytes : List ℕ) (n : ℕ)
     → listed (Total n) ≡ moduleOf t names bytes
     → n ≤ 2 * (length t / 24)
 total-few = theorem.total-few
 
 -- "the first errors that fit whole are stored, other words stay"
--- In words: a list of words with room for twice the node count holds all errors in order, and its other words are as
--- they were.
+-- In words: a list of words with room for twice the number of nodes holds all errors in order, and its other words are
+-- unchanged.
 pub list-holds-all : (t names bytes xs : List ℕ)
     → width Module * (2 * (length t / 24)) ≤ length xs
     → errorsAfter t names bytes xs

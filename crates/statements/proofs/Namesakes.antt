@@ -1,7 +1,7 @@
 -- PRODUCT 4: NAMESAKES
 --
--- The theorems of crate `namesakes`, over the answer of `namesakes::namesakes`, the rows of its list at exit, and what
--- the binding job says of the same call and def. Each is proved by citing the theorem. Assumes nothing.
+-- Theorems of the crate `namesakes` about the answer of `namesakes::namesakes`, the rows of its list at exit, and the
+-- binding job on the same call and def. Each statement is proved by citing the theorem. Assumes nothing.
 use mathlib.Core.Path.{_≡_}
 use mathlib.Core.Bool.{true}
 use mathlib.Core.Logic.{_↔_}
@@ -42,8 +42,8 @@ pub none-exactly : (t names : List ℕ) (call def : ℕ) (words : List ℕ) {vs 
 none-exactly = theorem.none-exactly
 
 -- "Two arguments that are exchanged are both reported."
--- In words: where each of two arguments has the name of the ordinary parameter that the other reaches, each has a row:
--- its node, the parameter that it reaches, the one that has its name, and the other's node.
+-- In words: if each of two arguments has the name of the ordinary parameter that the other reaches, each has a row: its
+-- node, the parameter that it reaches, the one that has its name, and the other's node.
 pub exchanged-reported : (t names : List ℕ) (call def : ℕ) (words : List ℕ) {vs : List ℕ}
     → bindOf t names call def (length words) ≡ accepted vs
     → (list : List ℕ) {n : ℕ}
@@ -163,8 +163,8 @@ exchange-is-reported t names call other def words bound list none fits alike j l
     )
 
 -- a def before `/`, a call and the same call with its arguments exchanged
--- In words: of `f(a, b)` nothing is reported, of `f(b, a)` both arguments; a list of seven words is too short; the
--- ninth word of a list stays.
+-- In words: for `f(a, b)` nothing is reported, for `f(b, a)` both arguments; a list of seven words is too short; the
+-- ninth word of a list is unchanged.
 pub exchanged-example : (namesakesOf table names 7 1 8 ≡ accepted (0 ∷ []))
     × (namesakesOf table names 14 1 8 ≡ accepted (2 ∷ []))
     × (namesakesOf table names 14 1 7 ≡ refused shortBuffer [])

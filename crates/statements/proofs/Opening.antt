@@ -1,7 +1,7 @@
 -- W-209: OPENING A DIALECT
 --
--- Theorems of crate `opening`: what becomes of the errors of the module pass where a second dialect permits all that a
--- first one does. Each is proved by citing the theorem. Assumes nothing.
+-- Theorems of the crate `opening`: what happens to the errors of the module pass if a second dialect permits all that a
+-- first one does. Each statement is proved by citing the theorem. Assumes nothing.
 use mathlib.Core.Path.{_≡_}
 use mathlib.Core.Bool.{Bool, true, false}
 use mathlib.Core.List.{List, [], _∷_, _++_, map}
@@ -28,8 +28,8 @@ use Rattle.opening.proofs.Order as theorem-order
 use Rattle.opening.proofs.Example as theorem-example
 
 -- "opening a dialect must not break a script": any trees
--- In words: where the second dialect permits all that the first does, trees with no errors under the first have none
--- under the second.
+-- In words: if the second dialect permits all that the first does, trees with no errors under the first have none under
+-- the second.
 pub first-clause : (d e : Dialect)
     → permitsAll d e ≡ true
     → (names : List ℕ) (ts : Forest)
@@ -37,9 +37,9 @@ pub first-clause : (d e : Dialect)
     → «validate_module» e names ts ≡ []
 first-clause = theorem.first-clause
 
--- the errors of the newly opened switches are taken out, and no others: any trees
--- In words: where both dialects also agree on top-level statements, the list under the second is the list under the
--- first without the numbers of the newly opened switches, in order.
+-- the errors of the newly opened switches are removed, and no others: any trees
+-- In words: if both dialects also agree on top-level statements, the list under the second is the list under the first
+-- without the numbers of the newly opened switches, in order.
 pub second-clause : (d e : Dialect)
     → permitsAll d e ≡ true
     → d .«enable_top_level_stmt» ≡ e .«enable_top_level_stmt»
@@ -48,7 +48,7 @@ pub second-clause : (d e : Dialect)
 second-clause = theorem.second-clause
 
 -- "opening a dialect must not break a script": the job
--- In words: for any bytes that give two dialects, of which the second permits all that the first does, a total of 0
+-- In words: for any bytes that mean two dialects, of which the second permits all that the first does, a total of 0
 -- under the first is a total of 0 under the second.
 pub zero-stays : (t names first second : List ℕ) {d e : Dialect}
     → fromBytes first ≡ Valid d
@@ -59,7 +59,7 @@ pub zero-stays : (t names first second : List ℕ) {d e : Dialect}
 zero-stays = theorem-job.zero-stays
 
 -- the errors that are left: the job
--- In words: where both also agree on top-level statements, the errors of a table under the second are those under the
+-- In words: if both also agree on top-level statements, the errors of a table under the second are those under the
 -- first without the numbers of the newly opened switches, in order.
 pub errors-opened : (t names first second : List ℕ) {d e : Dialect}
     → fromBytes first ≡ Valid d
@@ -82,7 +82,7 @@ total-opened = theorem-job.total-opened
 
 -- the errors that are left: the words of the list
 -- In words: a list of words with room for the errors under the first holds at exit those that are left, and its other
--- words are as they were.
+-- words are unchanged.
 pub words-opened : (t names first second : List ℕ) {d e : Dialect}
     → fromBytes first ≡ Valid d
     → fromBytes second ≡ Valid e
@@ -96,7 +96,7 @@ pub words-opened : (t names first second : List ℕ) {d e : Dialect}
 words-opened = theorem-job.words-opened
 
 -- the order of dialects is the order of the bytes that people type
--- In words: of nine valid bytes each, where the second dialect permits all that the first does, every byte of the first
+-- In words: for nine valid bytes each, if the second dialect permits all that the first does, every byte of the first
 -- is at most that of the second.
 pub opening-bytes : (first second : List ℕ) {d e : Dialect}
     → validBytes first ≡ true
@@ -108,8 +108,8 @@ pub opening-bytes : (first second : List ℕ) {d e : Dialect}
     → getD first i 0 ≤ getD second i 0
 opening-bytes = theorem-job.opening-bytes
 
--- the order of dialects is the order of the bytes that people type: and only then
--- In words: of nine valid bytes each, where every byte of the first is at most that of the second, the second dialect
+-- the order of dialects is the order of the bytes that people type: the converse
+-- In words: for nine valid bytes each, if every byte of the first is at most that of the second, the second dialect
 -- permits all that the first does.
 pub bytes-opening : (first second : List ℕ) {d e : Dialect}
     → validBytes first ≡ true
@@ -157,7 +157,7 @@ named-order = theorem-order.named-order
 
 -- why both dialects have to agree on top-level statements
 -- In words: for `if 1: break`, in Standard and in Standard with top-level statements, no choice of numbers makes the
--- second list what is left of the first: 54 goes and 55 comes.
+-- second list what is left of the first: 54 is removed and 55 is added.
 pub not-tied : (out : ℕ → Bool)
     → errorsOf ifBreak [] topLevelOpen ≡ without out (errorsOf ifBreak [] closed)
     → ⊥

@@ -1,7 +1,7 @@
 -- W-209: OPENING A DIALECT, AND THE AUDIT
 --
--- Theorems of crate `openaudit`: what becomes of the errors of the audit, by the edition of any number, where a second
--- dialect permits all that a first one does. Each is proved by citing the theorem. Assumes nothing.
+-- Theorems of the crate `openaudit`: what happens to the errors of the audit, for the number of any edition, if a
+-- second dialect permits all that a first one does. Each statement is proved by citing the theorem. Assumes nothing.
 use mathlib.Core.Path.{_≡_}
 use mathlib.Core.Bool.{Bool, true}
 use mathlib.Core.List.{List, [], _∷_}
@@ -22,7 +22,7 @@ use Rattle.openaudit.proofs.Theorems as theorem
 use Rattle.openaudit.proofs.Example as theorem-example
 
 -- "`errors 0` stays `errors 0`": every job
--- In words: for any bytes that give two dialects, of which the second permits all that the first does, an audit that
+-- In words: for any bytes that mean two dialects, of which the second permits all that the first does, an audit that
 -- finds nothing under the first finds nothing under the second.
 pub audit-zero-stays : (t names first second : List ℕ) (n : ℕ) {d e : Dialect}
     → fromBytes first ≡ Valid d
@@ -33,7 +33,7 @@ pub audit-zero-stays : (t names first second : List ℕ) (n : ℕ) {d e : Dialec
 audit-zero-stays = theorem.audit-zero-stays
 
 -- the errors that are left: every job
--- In words: where both agree on top-level statements, and both have types or neither has, the errors of the audit under
+-- In words: if both agree on top-level statements, and both have types or neither has, the errors of the audit under
 -- the second are those under the first without the numbers of the newly opened switches, in order.
 pub audit-opened : (t names first second : List ℕ) (n : ℕ) {d e : Dialect}
     → fromBytes first ≡ Valid d

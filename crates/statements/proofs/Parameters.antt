@@ -1,8 +1,8 @@
 -- THE PARAMETER JOB: 1 TO 4, 6, 7, 10 TO 19
 --
--- Theorems of crate `parameters` over the answer of `parameters::params` and the mode buffer at exit; the cut is below,
--- in demand 3. What the records `NamedTwice` and `FirstPassing` hold stands field by field. Each is proved by citing
--- the theorem. Assumes nothing.
+-- Theorems of the crate `parameters` about the answer of `parameters::params` and the mode buffer at exit; the cut is
+-- in demand 3, below. The content of the records `NamedTwice` and `FirstPassing` is written field by field. Each
+-- statement is proved by citing the theorem. Assumes nothing.
 use mathlib.Core.Path.{_≡_}
 use mathlib.Core.Bool.{true}
 use mathlib.Core.List.{List, [], _∷_, _++_}
@@ -27,7 +27,7 @@ use Rattle.parameters.proofs.Twice as theorem-twice
 use Rattle.parameters.proofs.Files as theorem-files
 
 -- "No refusal changes a buffer": modes
--- In words: where the job refuses, the mode buffer at exit is the buffer at entry.
+-- In words: if the job refuses, the mode buffer at exit is the buffer at entry.
 pub refusal-keeps : (t names : List ℕ) (node : ℕ) (modes : List ℕ) {n : ℕ} {vs : List ℕ}
     → paramsOf t names node (length modes) ≡ refused n vs
     → modesAfter t names node modes ≡ modes
@@ -41,15 +41,15 @@ pub list-short : (t names : List ℕ) (node : ℕ)
     → length (listOf t names node) < 2100
 list-short = theorem.list-short
 
--- the same of every number that is counted on the way
--- In words: in every state on the way along such a list, each number that is counted is at most 2,100.
+-- the same for every number that is counted while the list is read
+-- In words: in every state while such a list is read, each number that is counted is at most 2,100.
 pub counts-small : (t names : List ℕ) (node : ℕ)
     → checkOf t names ≡ accepted []
     → nodeFits t node Parameters ≡ true
     → AllAtMost 2100 (reached (listOf t names node))
 counts-small = theorem.counts-small
 
--- the same of the answer
+-- the same for the answer
 -- In words: every number of an accepted answer is at most 2,100.
 pub accepted-small : (t names : List ℕ) (node room : ℕ) {vs : List ℕ}
     → paramsOf t names node room ≡ accepted vs
@@ -106,8 +106,8 @@ params-twice t names node room e =
     )
 
 -- W-208: "all answers with a span carry the file number": the parameter job
--- In words: a refusal from 10 on carries, as its fourth number, the source file number of the record that it names,
--- bytes 18 and 19, and that is the number of the node that the job is asked of.
+-- In words: a refusal with a number from 10 on carries, as its fourth number, the source file number of the record that
+-- it names (bytes 18 and 19), which is also the number of the job's node.
 pub params-file : (t names : List ℕ) (i room : ℕ) {n : ℕ} {vs : List ℕ}
     → paramsOf t names i room ≡ refused n vs
     → slashFirst ≤ n

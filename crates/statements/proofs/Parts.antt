@@ -1,8 +1,8 @@
 -- A SCRIPT IN SEVERAL TABLES
 --
--- Theorems of crate `parts`: a script that is too large for one table is cut between top-level statements, and each
--- part is checked in a table of its own. No job accepts the whole, so these are about trees. Each is proved by citing
--- the theorem. Assumes nothing.
+-- Theorems of the crate `parts`: a script that is too large for one table is cut between top-level statements, and each
+-- part is checked in its own table. No job accepts the whole, so these are about trees. Each statement is proved by
+-- citing the theorem. Assumes nothing.
 use mathlib.Core.Path.{_≡_}
 use mathlib.Core.Bool.{Bool}
 use mathlib.Core.List.{List, [], _∷_}
@@ -23,8 +23,8 @@ use Rattle.parts.proofs.Theorems as theorem
 use Rattle.parts.proofs.Example as theorem-example
 
 -- "the errors of a root Statements are, up to order, those of its parts": the module pass
--- In words: where each part's own table has a root Statements and statements that say what they say in the whole, every
--- test of a number, a source file, a begin and an end is passed by as many errors of the whole as of the parts.
+-- In words: if each part's own table has a root Statements and statements that say the same as in the whole, every test
+-- of a number, a source file, a begin and an end is passed by as many errors of the whole as of the parts.
 pub module-in-parts : (d : Dialect) (names : List ℕ) (r : Node) (ps : List Part)
     → r .kind ≡ kindStatements
     → Kept names ps
@@ -34,7 +34,7 @@ pub module-in-parts : (d : Dialect) (names : List ℕ) (r : Node) (ps : List Par
 module-in-parts = theorem.module-in-parts
 
 -- "the errors of a root Statements are, up to order, those of its parts": the audit
--- In words: the same of the list of all jobs, in either edition.
+-- In words: the same for the list of all jobs, in either edition.
 pub audit-in-parts : (d : Dialect) (edition : Edition) (names : List ℕ) (r : Node) (ps : List Part)
     → r .kind ≡ kindStatements
     → Kept names ps
@@ -43,14 +43,14 @@ pub audit-in-parts : (d : Dialect) (edition : Edition) (names : List ℕ) (r : N
     ≡ howMany test (readInTurn («audit_module» d edition) ps)
 audit-in-parts = theorem.audit-in-parts
 
--- the audit's list, over trees
--- In words: the audit's errors of any bytes in a dialect and an edition are this list, of their trees.
+-- the audit's list of trees
+-- In words: the audit's errors of any bytes in a dialect and an edition are this list of their trees.
 pub audit-of-bytes : (d : Dialect) (edition : Edition) (names t : List ℕ)
     → auditErrors d edition names t ≡ «audit_module» d edition names (forest 0 (take mostBytes t))
 audit-of-bytes = theorem.audit-of-bytes
 
 -- an instance: `lambda a, a: 1` and `break`, in two tables
--- In words: the two parts keep what the two statements say, though names and nodes stand elsewhere in their tables.
+-- In words: the two parts keep what the two statements say, though names and nodes have other places in their tables.
 pub kept : Kept wholeNames inTwo
 kept = theorem-example.kept
 

@@ -1,6 +1,7 @@
 -- WHEN A RECORD IS SOUND
 --
--- Theorems of crate `soundness` on the sizes of records. Each is proved by citing the theorem. Assumes nothing.
+-- Theorems of the crate `soundness` about the sizes of records: when a record is whole, and that a table is sound if
+-- its root and all its nodes are. Each statement is proved by citing the theorem. Assumes nothing.
 use mathlib.Core.Path.{_≡_}
 use mathlib.Core.Bool.{true}
 use mathlib.Core.List.{List}
@@ -13,16 +14,15 @@ use Rattle.soundness.proofs.SoundTables.{allSound}
 use Rattle.soundness.proofs.SoundTables as theorem
 
 -- "its subtree is empty or passes the table's end"
--- In words: where the record at the front of a stretch is whole, its size is at least 1 and its subtree ends within the
--- stretch.
+-- In words: if the first record of some bytes is whole, its size is at least 1 and its subtree ends within the bytes.
 pub whole-size-fits : (i : ℕ) (bs : List ℕ)
     → 24 ≤ length bs
     → wholeTree (nodeOf i bs) (forest (i + 1) (kidsOf bs)) ≡ true
     → (1 ≤ sizeOf bs) × (24 * sizeOf bs ≤ length bs)
 whole-size-fits = theorem.whole-size-fits
 
--- "its subtree is empty or passes the table's end": and only then is the record not whole
--- In words: where the size is at least 1 and the subtree ends within the stretch, the record is whole.
+-- "its subtree is empty or passes the table's end": the converse
+-- In words: if the size is at least 1 and the subtree ends within the bytes, the record is whole.
 pub size-fits-whole : (i : ℕ) (bs : List ℕ)
     → 24 ≤ length bs
     → 1 ≤ sizeOf bs
@@ -31,7 +31,7 @@ pub size-fits-whole : (i : ℕ) (bs : List ℕ)
 size-fits-whole = theorem.size-fits-whole
 
 -- In a sound table the size of a record is what its field says: no subtree is cut off.
--- In words: where no record is unsound, the subtree of each node is not empty and ends within the table.
+-- In words: if no record is unsound, the subtree of each node is not empty and ends within the table.
 pub here-size : (t names : List ℕ)
     → firstUnsound t names ≡ Nothing
     → (i : ℕ)

@@ -1,7 +1,8 @@
 -- W-205: RESCUING A DAMAGED FILE
 --
--- Theorems of crate `rescue` on what is kept, over what `rescue::rescue` and the reader promise. `Rescue` and `Read`,
--- each two equations, stand as arrows. Each is proved by citing the theorem. Assumes nothing.
+-- Theorems of the crate `rescue` about what is kept, from the contracts of `rescue::rescue` and of the reader. `Rescue`
+-- and `Read`, each two equations, are written as hypotheses. Each statement is proved by citing the theorem. Assumes
+-- nothing.
 use mathlib.Core.Path.{_≡_}
 use mathlib.Core.Bool.{true, false}
 use mathlib.Core.List.{List, []}
@@ -30,8 +31,8 @@ use Rattle.rescue.proofs.Numbered as theorem-numbered
 
 -- "the largest number of leading children of a root Statements, within its written size, whose records all stand in
 -- good node blocks before the first bad or missing one, such that the cut table passes 1 to 4"
--- In words: where the blocks do not pass and the rescue accepts, at least one statement is kept, the cut to the
--- statements kept passes the table check and is what is kept, and the cut to no larger number passes.
+-- In words: if the blocks do not pass and the rescue accepts, at least one statement is kept, the cut to the statements
+-- kept passes the table check and is what is kept, and the cut to no larger number passes.
 pub largest-number : (bs buffer : List ℕ) (r : Rescued) (after : List ℕ)
     → rescued r ≡ rescueOf bs (length buffer)
     → after ≡ fileAfter bs buffer
@@ -53,7 +54,7 @@ largest-number bs buffer r after a b k e f =
     (l .some, (l .passed, (l .cut, λ j h x y z. l .none j h (x, y, z))))
 
 -- "90 a bad header (74 and 5 included) or name block"
--- In words: the rescue refuses with 90 exactly where the header or a name block is bad.
+-- In words: the rescue refuses with 90 exactly if the header or a name block is bad.
 pub bad-header : (bs buffer : List ℕ) (r : Rescued) (after : List ℕ)
     → rescued r ≡ rescueOf bs (length buffer)
     → after ≡ fileAfter bs buffer
@@ -61,8 +62,8 @@ pub bad-header : (bs buffer : List ℕ) (r : Rescued) (after : List ℕ)
 bad-header bs buffer r after a b = theorem.bad-header bs buffer r after (a, b)
 
 -- "then 91 the blocks don't pass and no child can be kept or the root isn't a readable Statements"
--- In words: the rescue refuses with 91 exactly where the header and the name blocks are good, the blocks do not pass,
--- and the cut to no number of leading children of a root Statements passes the table check.
+-- In words: the rescue refuses with 91 exactly if the header and the name blocks are good, the blocks do not pass, and
+-- the cut to no number of leading children of a root Statements passes the table check.
 pub nothing-can-be-kept : (bs buffer : List ℕ) (r : Rescued) (after : List ℕ)
     → rescued r ≡ rescueOf bs (length buffer)
     → after ≡ fileAfter bs buffer
@@ -106,7 +107,7 @@ pub read-back : (bs buffer : List ℕ) (r : Rescued) (after : List ℕ)
 read-back bs buffer r after a b k e small s v l = theorem.read-back bs buffer r after (a, b) k e small s (v, l)
 
 -- "if the header's blocks pass every check of the reader, those blocks"
--- In words: where the blocks pass, the output is these blocks, byte for byte, and no node is dropped.
+-- In words: if the blocks pass, the output is these blocks, byte for byte, and no node is dropped.
 pub given-back : (bs buffer : List ℕ) (r : Rescued) (after : List ℕ)
     → rescued r ≡ rescueOf bs (length buffer)
     → after ≡ fileAfter bs buffer
@@ -143,8 +144,8 @@ again bs buffer r after a b k e small next q later c d room =
     theorem.again bs buffer r after (a, b) k e small next q later (c, d) room
 
 -- "In the root only the subtree size changes."
--- In words: where the blocks do not pass, every byte of the table that is kept, apart from bytes 16 and 17 of the root,
--- is the byte of the records in good blocks.
+-- In words: if the blocks do not pass, every byte of the table that is kept, apart from bytes 16 and 17 of the root, is
+-- the byte of the records in good blocks.
 pub only-size : (bs : List ℕ)
     → blocksPass bs ≡ false
     → (i : ℕ)
@@ -169,7 +170,7 @@ counts bs buffer r after a b k e =
     (c .statements, (c .nodes, (c .dropped, c .after)))
 
 -- "A refusal changes no byte", and bytes past the output stay.
--- In words: an accepted rescue leaves the bytes past the output as they were, and a refusal leaves every byte.
+-- In words: an accepted rescue leaves the bytes past the output unchanged, and a refusal changes no byte.
 pub past-stays : (bs buffer : List ℕ) (r : Rescued) (after : List ℕ)
     → rescued r ≡ rescueOf bs (length buffer)
     → after ≡ fileAfter bs buffer
@@ -177,8 +178,9 @@ pub past-stays : (bs buffer : List ℕ) (r : Rescued) (after : List ℕ)
     × ((why : Refusal) → r ≡ Refused why → after ≡ buffer)
 past-stays bs buffer r after a b = theorem.past-stays bs buffer r after (a, b)
 
--- W-208: "Reader, writer, rescue and all answers with a span carry the file number." In words: the file numbers of what
--- an accepted rescue keeps are sound down the tree, so a child with a wrong number is not kept.
+-- W-208: "Reader, writer, rescue and all answers with a span carry the file number."
+-- In words: the file numbers of what an accepted rescue keeps are sound down the tree, so a child with a wrong number
+-- is not kept.
 pub kept-files : (bs buffer : List ℕ) (r : Rescued) (after : List ℕ)
     → rescued r ≡ rescueOf bs (length buffer)
     → after ≡ fileAfter bs buffer
@@ -188,7 +190,7 @@ pub kept-files : (bs buffer : List ℕ) (r : Rescued) (after : List ℕ)
 kept-files bs buffer r after a b = theorem-numbered.kept-files bs buffer r after (a, b)
 
 -- W-208: "A root Statements has 0 itself"
--- In words: where the header is good and the blocks do not pass, a root with a file number is 91.
+-- In words: if the header is good and the blocks do not pass, a root with a file number is refused with 91.
 pub numbered-root : (bs buffer : List ℕ) (r : Rescued) (after : List ℕ)
     → rescued r ≡ rescueOf bs (length buffer)
     → after ≡ fileAfter bs buffer
@@ -199,7 +201,7 @@ pub numbered-root : (bs buffer : List ℕ) (r : Rescued) (after : List ℕ)
 numbered-root bs buffer r after a b = theorem-numbered.numbered-root bs buffer r after (a, b)
 
 -- W-208: "Files with the old zeros are refused"
--- In words: where the header is good and the blocks do not pass, a first child with the file number 0 is 91.
+-- In words: if the header is good and the blocks do not pass, a first child with the file number 0 is refused with 91.
 pub old-zeros : (bs buffer : List ℕ) (r : Rescued) (after : List ℕ)
     → rescued r ≡ rescueOf bs (length buffer)
     → after ≡ fileAfter bs buffer

@@ -1,7 +1,7 @@
 -- THE TYPE JOB AND ITS SHAPES
 --
--- Theorems of crate `shapes` over the answer of `shapes::type_shape` and the shape buffer at exit. Each is proved by
--- citing the theorem. Assumes nothing.
+-- Theorems of the crate `shapes` about the answer of `shapes::type_shape` and the shape buffer at exit. Each statement
+-- is proved by citing the theorem. Assumes nothing.
 use mathlib.Core.Path.{_≡_}
 use mathlib.Core.List.{List}
 use Prim.Native.Nat.{ℕ, _/_, _≤_}
@@ -15,7 +15,7 @@ use Rattle.shapes.specs.Jobs.{shapesAfter}
 use Rattle.shapes.proofs.Buffer as theorem
 
 -- "No refusal changes a buffer": shapes
--- In words: where the job refuses, the shape buffer at exit is the buffer at entry.
+-- In words: if the job refuses, the shape buffer at exit is the buffer at entry.
 pub refusal-keeps : (t names bytes : List ℕ) (edition i : ℕ) (buffer : List ℕ) {n : ℕ} {vs : List ℕ}
     → typeShapeOf t names bytes edition i (length buffer) ≡ refused n vs
     → shapesAfter t names bytes edition i buffer ≡ buffer
@@ -23,7 +23,7 @@ refusal-keeps = theorem.refusal-keeps
 
 -- "Shapes go into a buffer, a byte for each node of the type's subtree in order: at each node read as a type or
 -- argument; others stay"
--- In words: after acceptance the byte of each node that is read is its shape, and every other byte is as it was.
+-- In words: after acceptance the byte of each node that is read is its shape, and every other byte is unchanged.
 pub accepted-bytes : (t names bytes : List ℕ) (edition i : ℕ) (buffer : List ℕ) {vs : List ℕ}
     → accepted vs ≡ typeShapeOf t names bytes edition i (length buffer)
     → (k : ℕ)
@@ -45,8 +45,8 @@ pub accepted-proper : (t names bytes : List ℕ) (edition i room : ℕ) {vs : Li
     → Proper (shapesOf (treeOf 0 (stretchOf t i)))
 accepted-proper = theorem.accepted-proper
 
--- "others stay": behind the subtree
--- In words: a byte of the buffer past the type's subtree is as it was, whatever the answer.
+-- "others stay": past the subtree
+-- In words: a byte of the buffer past the type's subtree is unchanged, whatever the answer.
 pub past-subtree-stays : (t names bytes : List ℕ) (edition i : ℕ) (buffer : List ℕ) (k : ℕ)
     → length (stretchOf t i) / 24 ≤ k
     → getD (shapesAfter t names bytes edition i buffer) k 0 ≡ getD buffer k 0

@@ -1,7 +1,7 @@
 -- DEMAND 1: THE TABLE CHECK, 1 TO 4
 --
--- Theorems of crate `table` over the answer of `table::check`. What the records `Clean`, `First` and `FirstDeeper` hold
--- stands field by field. Each is proved by citing the theorem. Assumes nothing.
+-- Theorems of the crate `table` about the answer of `table::check`. The content of the records `Clean`, `First` and
+-- `FirstDeeper` is written field by field. Each statement is proved by citing the theorem. Assumes nothing.
 use mathlib.Core.Path.{_≡_}
 use mathlib.Core.Bool.{true, false}
 use mathlib.Core.Logic.{_⊎_}
@@ -37,7 +37,7 @@ pub clean-accepted : (t names : List ℕ)
 clean-accepted t names least most whole few unsound deep = theorem.clean-accepted t names
     record { least = least; most = most; whole = whole; few = few; unsound = unsound; deep = deep }
 
--- "Within all this a table is sound": and no other is
+-- "Within all this a table is sound": no other table is
 -- In words: an accepted table has 1 to 2,100 whole records, at most 8,064 name bytes, no unsound record and no node
 -- that is too deep.
 pub accepted-clean : (t names : List ℕ) {vs : List ℕ}
@@ -82,7 +82,7 @@ unsound-first t names k e =
     (f .from, f .within, f .fails, f .before)
 
 -- "4 depth", "for 3 and 4, the first such node"
--- In words: where the check refuses with 4, no record is unsound; the node that it carries is deeper than the largest
+-- In words: if the check refuses with 4, no record is unsound; the node that it carries is deeper than the largest
 -- depth, and none before it is.
 pub deep-is-first : (t names : List ℕ) (k : ℕ)
     → checkOf t names ≡ refused tooDeep (k ∷ [])
@@ -109,9 +109,9 @@ pub accepted-files : (t names : List ℕ) {vs : List ℕ}
     → filesSound (forest 0 t) ≡ true
 accepted-files t names e = theorem-numbered.accepted-files t names e
 
--- "every record under a top-level statement carries that statement's number" (W-208): and so under any node
--- In words: in an accepted table all records of a node's subtree have the number of that node; only a root Statements
--- is another matter.
+-- "every record under a top-level statement carries that statement's number" (W-208): the same under any node
+-- In words: in an accepted table all records of a node's subtree have the number of that node, unless the node is a
+-- root Statements.
 pub accepted-subtree : (t names : List ℕ) {vs : List ℕ}
     → checkOf t names ≡ accepted vs
     → (i : ℕ)

@@ -1,7 +1,8 @@
 -- THE TABLE FILE
 --
--- Theorems of crate `tablefile` over what `tablefile::read` promises: `Read`, two equations, stands as two arrows, and
--- so does what the record `SoundContent` holds. Each is proved by citing the theorem. Assumes nothing.
+-- Theorems of the crate `tablefile` about the contract of `tablefile::read`: `Read`, two equations, is written as two
+-- hypotheses, and so is the content of the record `SoundContent`. Each statement is proved by citing the theorem.
+-- Assumes nothing.
 use mathlib.Core.Path.{_≡_, ap}
 use mathlib.Core.Logic.{_⊎_}
 use mathlib.Core.List.{List, []}
@@ -19,7 +20,7 @@ use Rattle.tablefile.specs.declared.Loaded.{Loaded}
 use Rattle.tablefile.proofs.Theorems as theorem
 
 -- "The reader is lent the file and answers table, names and dialect by value"
--- In words: a file of bytes that the reader accepts is the file of what it answers.
+-- In words: a file of bytes that the reader accepts is the file of the content that it returns.
 pub accepted-is-file : (file : List ℕ) (r : Loaded)
     → ((i : ℕ) → getD file i 0 < 256)
     → verdict (r .verdict) ≡ readCheck file
@@ -52,7 +53,7 @@ file-read-back c r sound t n d v l = theorem.file-read-back c r
     record { sound = sound; table-bytes = t; names-bytes = n; dialect-bytes = d } (v, l)
 
 -- "Any one changed byte in a block of an accepted file is refused with 72."
--- In words: where one byte of an accepted file has another value, the reader answers 72, with nothing but zeros.
+-- In words: if one byte of an accepted file has another value, the reader answers 72, with nothing but zeros.
 pub changed-byte : (file : List ℕ) (r : Loaded) (i v : ℕ) (s : Loaded)
     → verdict (r .verdict) ≡ readCheck file
     → r ≡ loadedOf (r .verdict) (contentAt file) (headerAt file .taken)
@@ -65,7 +66,7 @@ pub changed-byte : (file : List ℕ) (r : Loaded) (i v : ℕ) (s : Loaded)
 changed-byte file r i v s a b good h other c d = theorem.changed-byte file r i v s (a, b) good h other (c, d)
 
 -- "An edition other than 1 or 2 is 5": in an accepted file the edition is 1 or 2, and without it 1 (W-212)
--- In words: the number that holds in what an accepted file answers is 1 or 2, and it is 1 where the file states none.
+-- In words: the edition number of an accepted file is 1 or 2, and it is 1 if the file states none.
 pub accepted-edition : (file : List ℕ) (r : Loaded)
     → verdict (r .verdict) ≡ readCheck file
     → r ≡ loadedOf (r .verdict) (contentAt file) (headerAt file .taken)

@@ -1,7 +1,7 @@
 -- THE TARGET AND ASSIGNMENT JOBS: 1 TO 4, 6, 30 TO 33
 --
--- Theorems of crate `targets` over the answers of `targets::target` and `targets::assignment`. What the record `FileOf`
--- holds stands field by field. Each is proved by citing the theorem. Assumes nothing.
+-- Theorems of the crate `targets` about the answers of `targets::target` and `targets::assignment`. The content of the
+-- record `FileOf` is written field by field. Each statement is proved by citing the theorem. Assumes nothing.
 use mathlib.Core.Path.{_≡_}
 use mathlib.Core.List.{List}
 use Prim.Native.Nat.{ℕ, _*_, _≤_}
@@ -14,8 +14,8 @@ use Rattle.targets.specs.Jobs.{targetOf, assignmentOf}
 use Rattle.targets.proofs.Files as theorem
 
 -- W-208: "all answers with a span carry the file number": the target job
--- In words: a refusal from 10 on carries, as its fourth number, the source file number of the record that it names,
--- bytes 18 and 19, and that is the number of the node that the job is asked of.
+-- In words: a refusal with a number from 10 on carries, as its fourth number, the source file number of the record that
+-- it names (bytes 18 and 19), which is also the number of the job's node.
 pub target-file : (t names : List ℕ) (i : ℕ) {n : ℕ} {vs : List ℕ}
     → targetOf t names i ≡ refused n vs
     → slashFirst ≤ n
@@ -28,7 +28,7 @@ target-file t names i {n} {vs} e late =
     (f .there, f .named, f .same)
 
 -- W-208: "all answers with a span carry the file number": the assignment job
--- In words: the same of the assignment job.
+-- In words: the same for the assignment job.
 pub assignment-file : (t names : List ℕ) (i : ℕ) {n : ℕ} {vs : List ℕ}
     → assignmentOf t names i ≡ refused n vs
     → slashFirst ≤ n

@@ -1,7 +1,8 @@
 -- THE RULES OF TYPES: 1 TO 7, 40 TO 45
 --
--- Theorems of crate `types` over the answer of the type job, `typeShapeOf`, which `shapes::type_shape` gives. What the
--- record `FileOf` holds stands field by field. Each is proved by citing the theorem. Assumes nothing.
+-- Theorems of the crate `types` about the answer of the type job, `typeShapeOf`, which `shapes::type_shape` gives. The
+-- content of the record `FileOf` is written field by field. Each statement is proved by citing the theorem. Assumes
+-- nothing.
 use mathlib.Core.Path.{_≡_}
 use mathlib.Core.List.{List}
 use Prim.Native.Nat.{ℕ, _*_, _≤_}
@@ -14,8 +15,8 @@ use Rattle.types.specs.Jobs.{typeShapeOf}
 use Rattle.types.proofs.Files as theorem
 
 -- W-208: "all answers with a span carry the file number": the type job
--- In words: a refusal from 10 on carries, as its fourth number, the source file number of the record that it names,
--- bytes 18 and 19, and that is the number of the node that the job is asked of.
+-- In words: a refusal with a number from 10 on carries, as its fourth number, the source file number of the record that
+-- it names (bytes 18 and 19), which is also the number of the job's node.
 pub type-file : (t names bytes : List ℕ) (edition i room : ℕ) {n : ℕ} {vs : List ℕ}
     → typeShapeOf t names bytes edition i room ≡ refused n vs
     → slashFirst ≤ n

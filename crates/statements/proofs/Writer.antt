@@ -1,8 +1,8 @@
 -- W-201: WRITING THE TABLE FILE
 --
--- Theorems of crate `writer` over what `writer::write` and the reader promise: `Write` and `Read`, each two equations,
--- stand as arrows; c is what is to be written, and the number of an edition or nothing is a part of it (W-212). Each is
--- proved by citing the theorem. Assumes nothing.
+-- Theorems of the crate `writer` about the contracts of `writer::write` and of the reader: `Write` and `Read`, each two
+-- equations, are written as hypotheses; c is the content to be written, with the number of an edition or none (W-212).
+-- Each statement is proved by citing the theorem. Assumes nothing.
 use mathlib.Core.Path.{_≡_}
 use mathlib.Core.List.{List, [], _++_}
 use Prim.Native.Nat.{ℕ, suc, _*_, _<_, _≤_}
@@ -61,7 +61,7 @@ pub reads-back : (c : Content) (buffer : List ℕ) (r : Written) (after : List �
 reads-back c buffer r after a b good x y z s v l =
     theorem.reads-back c buffer r after (a, b) good x y z s (v, l)
 
--- so the reader does not refuse it
+-- the reader does not refuse the output
 -- In words: the reader accepts the bytes that an accepted write has written.
 pub not-refused : (c : Content) (buffer : List ℕ) (r : Written) (after : List ℕ)
     → written r ≡ writeOf c (length buffer)
@@ -95,7 +95,7 @@ written-again file s small v l good buffer r after a b =
     theorem.written-again file s small (v, l) good buffer r after (a, b)
 
 -- "then 7 exactly if the blocks don't fit"
--- In words: where 1 to 5 are passed and the buffer is shorter than the blocks, the answer is 7.
+-- In words: if 1 to 5 pass and the buffer is shorter than the blocks, the answer is 7.
 pub short-is-7 : (c : Content) (buffer : List ℕ) (r : Written) (after : List ℕ)
     → written r ≡ writeOf c (length buffer)
     → after ≡ fileAfter c buffer
@@ -104,8 +104,8 @@ pub short-is-7 : (c : Content) (buffer : List ℕ) (r : Written) (after : List �
     → r ≡ Refused (Bare shortBuffer)
 short-is-7 c buffer r after a b = theorem.short-is-7 c buffer r after (a, b)
 
--- "exactly": else it is accepted
--- In words: where 1 to 5 are passed and the blocks fit, the answer is their number of bytes.
+-- "exactly": otherwise it is accepted
+-- In words: if 1 to 5 pass and the blocks fit, the answer is their number of bytes.
 pub fits-is-accepted : (c : Content) (buffer : List ℕ) (r : Written) (after : List ℕ)
     → written r ≡ writeOf c (length buffer)
     → after ≡ fileAfter c buffer
@@ -124,7 +124,7 @@ pub never-too-short : (c : Content) (buffer : List ℕ) (r : Written) (after : L
 never-too-short c buffer r after a b = theorem.never-too-short c buffer r after (a, b)
 
 -- "the buffer then stays"
--- In words: where the writer refuses, the buffer at exit is the buffer at entry.
+-- In words: if the writer refuses, the buffer at exit is the buffer at entry.
 pub refusal-keeps : (c : Content) (buffer : List ℕ) (r : Written) (after : List ℕ)
     → written r ≡ writeOf c (length buffer)
     → after ≡ fileAfter c buffer
@@ -134,7 +134,7 @@ pub refusal-keeps : (c : Content) (buffer : List ℕ) (r : Written) (after : Lis
 refusal-keeps c buffer r after a b = theorem.refusal-keeps c buffer r after (a, b)
 
 -- "bytes past the blocks always"
--- In words: after an accepted write, the bytes past the blocks are as they were.
+-- In words: after an accepted write, the bytes past the blocks are unchanged.
 pub past-stays : (c : Content) (buffer : List ℕ) (r : Written) (after : List ℕ)
     → written r ≡ writeOf c (length buffer)
     → after ≡ fileAfter c buffer
@@ -143,7 +143,7 @@ pub past-stays : (c : Content) (buffer : List ℕ) (r : Written) (after : List �
     → drop n after ≡ drop n buffer
 past-stays c buffer r after a b = theorem.past-stays c buffer r after (a, b)
 
--- `read_into` hands over what was written
+-- `read_into` gives back what was written
 -- In words: the bytes that were written are accepted by `read_into`, into buffers that table and names fit.
 pub into-accepted : (c : Content) (buffer : List ℕ) (r : Written) (after : List ℕ)
     → written r ≡ writeOf c (length buffer)
@@ -160,7 +160,7 @@ pub into-accepted : (c : Content) (buffer : List ℕ) (r : Written) (after : Lis
 into-accepted c buffer r after a b = theorem.into-accepted c buffer r after (a, b)
 
 -- the table, by `read_into`
--- In words: the table's buffer then holds the table, and behind it what stood there.
+-- In words: the table's buffer then begins with the table, and its other bytes are unchanged.
 pub hands-back-table : (c : Content) (buffer : List ℕ) (r : Written) (after : List ℕ)
     → written r ≡ writeOf c (length buffer)
     → after ≡ fileAfter c buffer
@@ -177,7 +177,7 @@ pub hands-back-table : (c : Content) (buffer : List ℕ) (r : Written) (after : 
 hands-back-table c buffer r after a b = theorem.hands-back-table c buffer r after (a, b)
 
 -- the names, by `read_into`
--- In words: the names' buffer then holds the names, and behind them what stood there.
+-- In words: the names' buffer then begins with the names, and its other bytes are unchanged.
 pub hands-back-names : (c : Content) (buffer : List ℕ) (r : Written) (after : List ℕ)
     → written r ≡ writeOf c (length buffer)
     → after ≡ fileAfter c buffer
@@ -193,8 +193,8 @@ pub hands-back-names : (c : Content) (buffer : List ℕ) (r : Written) (after : 
     ≡ c .names ++ drop (length (c .names)) room-n
 hands-back-names c buffer r after a b = theorem.hands-back-names c buffer r after (a, b)
 
--- of a table 50,401 bytes are enough, of names 8,065 and of a dialect 10, however long they are
--- In words: what is answered to so much of them is what is answered to all, and the buffer at exit is the same.
+-- 50,401 bytes of a table, 8,065 of names and 10 of a dialect are enough, however long they are
+-- In words: the answer for these first bytes is the answer for all, and the buffer at exit is the same.
 pub read-enough : (t names ds : List ℕ) (edition : Stated)
     → ((room : ℕ) → writeOf (holding (take (suc mostBytes) t) (take (suc mostNames) names) (take 10 ds) edition) room
     ≡ writeOf (holding t names ds edition) room)

@@ -1,2 +1,2 @@
-// No code: every theorem that is named to users, once more, by hand, with nothing bundled. Each is proved by citing the
-// theorem. docs/STATEMENTS.md is this crate as a page.
+// No code: every theorem that the documents name, stated again by hand, with every hypothesis written out. Each
+// statement is proved by citing the theorem. docs/STATEMENTS.md is this crate as a page.

@@ -1,5 +1,8 @@
--- No two answers mean the same, so that a promise about what an answer means fixes the answer; and steps in order.
--- Assumes nothing.
+-- No two answers of code mean the same, so a promise about what an answer means fixes the answer: cite
+-- `refusal-injective`, `checked-injective`, `given-injective`. Each is by cases on the variants; different variants
+-- have different lengths of values, and equal ones have equal values part by part. Below are laws of steps in order
+-- (`andThen`): a refusal comes from the first step that refuses (`first-refused`), and where the whole is accepted
+-- every step is passed (`passed-both`, `test-passed`). They split on what the first step gave. Assumes nothing.
 use mathlib.Core.Path.{_≡_, refl, sym, ap, _∙_}
 use mathlib.Core.Bool.{Bool, true, false}
 use mathlib.Core.List.{List, [], _∷_, _++_}

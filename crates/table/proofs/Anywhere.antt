@@ -1,4 +1,4 @@
--- Whether a stretch has a node that is too deep depends on the depth of what it stands in and not on its place in the
+-- Whether a stretch has a node that is too deep depends on the depth of what it is in and not on its place in the
 -- table: the place is only what a refusal carries. The induction is on the forest of the stretch. Cite `flat-anywhere`.
 -- Assumes nothing.
 use mathlib.Core.Path.{_≡_, refl, sym, ap, _∙_}
@@ -33,7 +33,7 @@ flat-tree d i bs big = ap (λ (f : Forest). clear (firstDeep d f)) (forest-tree 
     ∙ rw (clear-if (ltb mostDepth (d + weight (nodeOf i bs .kind))) i
     (firstDeep (d + weight (nodeOf i bs .kind)) (forest (i + 1) (kidsOf bs)))) refl
 
--- LAW: where a stretch stands does not matter
+-- LAW: where a stretch is does not matter
 pub flat-anywhere : (i : ℕ) (bs : List ℕ) (j d : ℕ)
     → clear (firstDeep d (forest i bs)) ≡ clear (firstDeep d (forest j bs))
 flat-anywhere =

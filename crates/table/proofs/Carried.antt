@@ -1,4 +1,8 @@
--- Which refusals carry an earlier node: none of those with which a job on a node begins. Assumes nothing.
+-- Which refusals carry an earlier node: none of those with which a job on a node begins. A step that comes before the
+-- number m (`Before`) refuses with a smaller number and at most four values, so with no earlier node. That holds of
+-- steps in order if it holds of each (`before-then`), hence of 1 to 4, of 1 to 5, and of 1 to 4 and 6 (`check-before`,
+-- `given-before`, `entry-before`). So where a job refuses with m, its own rule does (`from-next`), and only that rule
+-- has to be looked at (`carries-then`). Assumes nothing.
 use mathlib.Core.Path.{_≡_}
 use mathlib.Core.Bool.{Bool, true, false}
 use mathlib.Core.List.{List, []}

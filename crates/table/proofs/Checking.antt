@@ -1,4 +1,8 @@
--- Laws of the check, in the terms of code, and what a sound table is. Assumes nothing.
+-- The table check, return by return, and what it shows. Each return of `check` is a law of its own (`check-length` to
+-- `check-sound`): the tests before it are known, so the definition computes. The other way round, an accepted table has
+-- passed all four steps (`accepted-clean`; Answers' `passed-both`, step by step), and the record `Clean` names what it
+-- then knows. In a clean table the stretch of a node is sound and as long as its record says (`stretch-sound`,
+-- `stretch-size`, from soundness). Assumes nothing.
 use mathlib.Core.Path.{_≡_, refl, sym, _∙_}
 use mathlib.Core.Bool.{Bool, true, false}
 use mathlib.Core.List.{List, [], _∷_}

@@ -1,4 +1,9 @@
--- Laws of depth, in the terms of code. Assumes nothing.
+-- The search for a node that is too deep, in the terms of code. A record adds 0 or 1 to its parent's depth, by its
+-- class (`weighed`, `weight-little`). So n nodes at depth d reach at most d + n, and code skips a stretch with too few
+-- records (`few-not-deep`; the induction is on the forest). The loop over siblings keeps that the search in what is
+-- left gives the whole answer (`Searching`): the first node is too deep itself (`deep-here`), one below it is
+-- (`deep-below`), or the rest decides (`deep-on`). A node that is found is one of the stretch (`deep-inside`, by
+-- `forest-induction`). Assumes nothing.
 use mathlib.Core.Path.{_≡_, refl, sym, ap, _∙_}
 use mathlib.Core.Bool.{Bool, true, false}
 use mathlib.Core.List.{List}

@@ -1,4 +1,9 @@
--- The first node that is too deep, as a place in the list of all depths. Assumes nothing.
+-- The search for a node that is too deep finds the first of them. List the depths of all nodes in table order: the
+-- search down the tree is then the search along that list (`deep-is-over`, by `forest-induction`: own depth, then the
+-- children, then what follows). Along a list, the first place at which a test fails is what soundness's Search says
+-- (`over-fails`). So `deep-first` and `deep-nowhere` follow: cite these. The node that is found also counts
+-- (`deep-counts`, by the same induction): its parent is not too deep, so its own record added to the depth. Assumes
+-- nothing.
 use mathlib.Core.Path.{_≡_, refl, sym, ap, _∙_}
 use mathlib.Core.Bool.{Bool, true, false, not}
 use mathlib.Core.List.{List, [], _∷_, _++_}

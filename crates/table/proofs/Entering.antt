@@ -1,5 +1,9 @@
--- How a job is let in, in the terms of code: on a node (1 to 4, 6), in a dialect (1 to 5), and what it knows then.
--- Assumes nothing.
+-- How a job begins, in the terms of code: on a node it gives 1 to 4 and 6, in a dialect 1 to 5. Each return of `enter`
+-- and `enter_dialect` is one law (`entry-refused` to `entry-passed`, `given-refused` to `given-bad`): the check is
+-- known, so the definition computes. What a job then knows is `entry-sound` (the check passed and the node fits) and
+-- `given-known` (the table is clean and the bytes are the dialect's), by cases on both steps. Jobs cite `job-refused`
+-- and `job-rule` at their returns, and `job-long`, `job-within`, `job-small` for the bounds of their stretch. Assumes
+-- nothing.
 use mathlib.Core.Path.{_≡_, refl, sym, ap, _∙_}
 use mathlib.Core.Bool.{Bool, true, false}
 use mathlib.Core.List.{List, []}
@@ -65,7 +69,7 @@ module _ (t names : List ℕ) {f : Checked} (f-is : checked f ≡ checkOf t name
       unfolding givenOf
       given-bad h = rw (passed, ← x-is, h) refl
 
--- LAW: what a job on a node knows once it is let in: the table passes the check, and the node fits
+-- LAW: what a job on a node knows once 1 to 4 and 6 are passed: the table passes the check, and the node fits
 pub entry-sound : (w : Wanted) (t names : List ℕ) (i : ℕ) {vs : List ℕ} → entryCheck w t names i ≡ accepted vs
     → (checkOf t names ≡ accepted []) × (nodeFits t i w ≡ true)
 unfolding entryCheck
@@ -78,13 +82,13 @@ entry-sound w t names i {vs} e = go (checkOf t names) (nodeFits t i w) refl refl
     go (accepted us) false sound fits h = never (cc)
     go (refused n us) b sound fits h = never (cc)
 
--- and so is a job let in
+-- and with these 1 to 4 and 6 are passed
 pub sound-entry : (w : Wanted) (t names : List ℕ) (i : ℕ) → checkOf t names ≡ accepted [] → nodeFits t i w ≡ true
     → entryCheck w t names i ≡ accepted []
 unfolding entryCheck
 sound-entry w t names i sound fits = rw (sound, fits) refl
 
--- LAW: what a job in a dialect knows once it is let in: the table is clean, and the bytes are the dialect's
+-- LAW: what a job in a dialect knows once 1 to 5 are passed: the table is clean, and the bytes are the dialect's
 pub given-known : (t names bytes : List ℕ) {d : Dialect} → givenOf t names bytes ≡ inDialect d
     → Clean t names × (fromBytes bytes ≡ Valid d)
 unfolding givenOf

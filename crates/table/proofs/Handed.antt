@@ -1,4 +1,7 @@
--- What a job knows once the table check and its node's check are passed, in the terms of code. Assumes nothing.
+-- What a job knows once the table check and its node's check are passed: the table is clean (`passed`), and the stretch
+-- of its node has at least one record and ends within the largest table (`stretch-within`). The node is within the
+-- table because it fits, and in a clean table its subtree ends within the table (Checking's `stretch-size`). Cite
+-- `stretch-within`. Assumes nothing.
 use mathlib.Core.Path.{_≡_, sym}
 use mathlib.Core.Bool.{true}
 use mathlib.Core.List.{List}

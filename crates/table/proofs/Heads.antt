@@ -1,5 +1,8 @@
--- Laws of stretches that a check of its own is lent: as much as a table has at most, and those that begin with a record
--- and lie within the largest table. In the terms of code. Assumes nothing.
+-- Checks that take a stretch by itself, and not a whole table, read any bytes. They read at most as many bytes as a
+-- table may have (`all-within`, `within-short`), and a stretch only if it is headed: it begins with a record and lies
+-- within the largest table at its index. A headed stretch is read as it is (`headed-all`), any other as nothing
+-- (`headed-none`). Each law computes from the test of `is_headed`; callers cite `headed-long`, `headed-within` and
+-- `headed-is`. Assumes nothing.
 use mathlib.Core.Path.{_≡_, refl, sym, _∙_}
 use mathlib.Core.Bool.{Bool, true, false}
 use mathlib.Core.List.{List, []}

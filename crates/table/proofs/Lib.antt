@@ -14,3 +14,4 @@ pub mod Filed
 pub mod Naming
 pub mod Heads
 pub mod Promises
+pub mod Example

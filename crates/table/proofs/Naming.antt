@@ -1,4 +1,8 @@
--- Names of entries: the test of code, the search among those side by side, and where it finds one. Assumes nothing.
+-- The search for a name among the entries side by side. The loop keeps that the search among the entries that are left
+-- gives the whole answer (`Searching`): the first entry has the name (`search-here`), or the rest decides
+-- (`search-on`). Code reads one record of 24 bytes for that, and the record's index plays no part (`name-anywhere`). So
+-- the same entry is found wherever the stretch begins, its index counted from there (`first-shifted`), and what is
+-- found lies within the stretch (`first-within`); both are by `forest-induction`, on the siblings. Assumes nothing.
 use mathlib.Core.Path.{_≡_, refl, sym, ap, _∙_}
 use mathlib.Core.Bool.{Bool, true, false, _&&_}
 use mathlib.Core.List.{List, _∷_}
@@ -133,7 +137,7 @@ first-shifted e ns x first =
         step true = refl
         step false = rs n
 
--- LAW: what is found stands within the stretch
+-- LAW: what is found is within the stretch
 pub first-within : (e : Entries) (ns x : List ℕ) (k : ℕ) (t : List ℕ) (n i : ℕ)
     → firstNamed e ns x (take n (roots (forest k t))) ≡ At i → 24 * i + 24 ≤ 24 * k + length t
 unfolding firstNamed

@@ -1,4 +1,6 @@
--- Laws of a job's node and its stretch, in the terms of code. Assumes nothing.
+-- The node of a job and its stretch, in the terms of code: one law for each return of `node_fits` (`node-beyond`,
+-- `node-here`) and of `stretch` (`stretch-beyond`, `stretch-rest`, `stretch-inside`). Code cuts parts by their ends,
+-- the definitions by lengths; each law shows that the two cuts are the same list. Assumes nothing.
 use mathlib.Core.Path.{_≡_, refl, sym, ap, _∙_}
 use mathlib.Core.Bool.{Bool, false}
 use mathlib.Core.List.{List}

@@ -1,4 +1,6 @@
--- Two answers that meet the promise of a public function coincide. Assumes nothing.
+-- Two answers of a public function that meet its promise are equal. A promise is an equation of the answer (fields'
+-- `coincide`), or of what the answer means; then no two answers mean the same (Answers' `refusal-injective` and the
+-- others, by `coincide-by`). Assumes nothing.
 use mathlib.Core.Path.{_≡_}
 use mathlib.Core.Bool.{Bool}
 use mathlib.Core.List.{List, _∷_, _++_}
@@ -51,12 +53,12 @@ pub deep-under-root-one : (t : List ℕ) {r s : Found} → r ≡ firstDeep 1 (fo
     → r ≡ s
 deep-under-root-one t = coincide
 
--- of `stretch`, whose answer is a part of the lent table
+-- of `stretch`, whose answer is a part of the table
 pub stretch-one : (table : List ℕ) (node : ℕ) {r s : List ℕ} → r ≡ stretchOf table node → s ≡ stretchOf table node
     → r ≡ s
 stretch-one table node = coincide
 
--- of `within`, whose answer is a part of the lent bytes
+-- of `within`, whose answer is a part of the bytes
 pub within-one : (t : List ℕ) {r s : List ℕ} → r ≡ take mostBytes t → s ≡ take mostBytes t → r ≡ s
 within-one t = coincide
 

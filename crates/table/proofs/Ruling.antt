@@ -1,6 +1,6 @@
--- How a job that reads types is let in: 1 to 5 for the dialect bytes, then 5 for the edition. What was read of an
--- edition is looked at last, so a known edition adds nothing to 1 to 5 (`rules-given`), and who is let in was given the
--- dialect and has a known edition (`rules-known`). Each law splits on the two answers. Assumes nothing.
+-- The checks with which a job that reads types begins: 1 to 5 for the dialect bytes, then 5 for the edition. The
+-- edition is checked last, so a known edition adds nothing to 1 to 5 (`rules-given`), and a job that passes has the
+-- dialect of its bytes and a known edition (`rules-known`). Each law splits on the two answers. Assumes nothing.
 use mathlib.Core.Path.{_≡_, refl, sym, ap, _∙_}
 use mathlib.Core.List.{List, []}
 use Prim.Native.Nat.{ℕ, _<_}
@@ -52,7 +52,7 @@ ruled-injective (Refused r) (Refused s) h =
     ap Refused (refusal-injective r s (λ i. refused (numbers i) (values i)))
 
 module _ (t names bytes : List ℕ) where
-  -- LAW: what a job knows once it is let in: the dialect that 1 to 5 give, and a known edition
+  -- LAW: what a job knows once 1 to 5 are passed: the dialect that they give, and a known edition
   pub rules-known : {x : EditionRead} {d : Dialect} {e : Edition} → rulesOf t names bytes x ≡ byRules d e
       → (givenOf t names bytes ≡ inDialect d) × (x ≡ Known e)
   unfolding rulesOf
@@ -63,7 +63,7 @@ module _ (t names bytes : List ℕ) where
       go (inDialect f) Unknown k = never (cc)
       go (turnedAway n vs) y k = never (cc)
 
-  -- LAW: and so is a job let in
+  -- LAW: and with these 1 to 5 are passed
   pub known-rules : {d : Dialect} (e : Edition) → givenOf t names bytes ≡ inDialect d
       → rulesOf t names bytes (Known e) ≡ byRules d e
   unfolding rulesOf

@@ -1,5 +1,8 @@
--- What the table check means, over its whole definition: when it accepts, and which node 3 and 4 carry.
--- Assumes nothing.
+-- What the table check means, over its whole definition. It accepts exactly the clean tables (`clean-accepted`; the
+-- other direction is Checking's `accepted-clean`), in which every record is sound and no node is deeper than the
+-- largest depth (`accepted-sound`, `accepted-flat`). A refusal with a node comes from one of the two searches
+-- (`of-searches`, by cases on the four steps): 3 carries the first unsound record (`unsound-first`), 4 the first node
+-- that is too deep (`deep-is-first`), which is a statement or an expression (`deep-is-counted`). Assumes nothing.
 use mathlib.Core.Path.{_≡_, refl}
 use mathlib.Core.Bool.{Bool, true, false}
 use mathlib.Core.List.{List, [], _∷_}

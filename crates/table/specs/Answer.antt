@@ -1,4 +1,4 @@
--- What an answer means: document 01's number and values. These are definitions.
+-- What an answer means: a number of docs/RULES.md and its values. These are definitions.
 use mathlib.Core.Path.{_≡_}
 use mathlib.Core.Bool.{Bool, true, false}
 use mathlib.Core.List.{List, [], _∷_, _++_}
@@ -15,8 +15,8 @@ use Rattle.table.specs.declared.Extent.the-variants.{Of, Nothing as NoSp
 use Rattle.table.specs.declared.Checked.{Checked}
 use Rattle.table.specs.declared.Checked.the-variants.{Sound, Refused}
 
--- accepted, with the values of the job; or refused, with document 01's number and what it carries: nothing, the node,
--- the node and its span with the source file number, or these and an earlier node
+-- accepted, with the values of the job; or refused, with a number and what it carries: nothing, the node, the node and
+-- its span with the source file number, or these and an earlier node
 pub data Answer : Type 0 where
   accepted : List ℕ → Answer
   refused : ℕ → List ℕ → Answer
@@ -48,7 +48,7 @@ spanAt r = record { begin = r .begin; end = r .stop; file = r .file }
 abbrev pub refusedAt : ℕ → Node → Answer
 refusedAt n r = refused n (r .at ∷ spanValues (spanAt r))
 
--- one that says besides which node was there before
+-- a refusal that also carries an earlier node
 abbrev pub refusedAfter : ℕ → Node → ℕ → Answer
 refusedAfter n r i = refused n (r .at ∷ spanValues (spanAt r) ++ i ∷ [])
 
@@ -69,7 +69,7 @@ extentIn (Bare n) = NoSpan
 extentIn (Placed n k) = NoSpan
 extentIn (Spanned n k s e) = Of s
 
--- the earlier node that it speaks of
+-- the earlier node that it carries
 abbrev pub earlierIn : Refusal → Place
 earlierIn (Bare n) = NoPlace
 earlierIn (Placed n k) = NoPlace
@@ -85,7 +85,7 @@ carried (Bare n) = []
 carried (Placed n k) = k ∷ []
 carried (Spanned n k s e) = k ∷ spanValues s ++ earlierValues e
 
--- of all refusals those with the number m alone carry an earlier node, as a fifth number
+-- a refusal carries an earlier node, as a fifth number, only if its number is m
 abbrev pub OnlyCarries : ℕ → Answer → Type 0
 OnlyCarries m (accepted vs) = Unit {0}
 OnlyCarries m (refused n vs) = (n ≡ m → length vs ≡ 5) × ((n ≡ m → ⊥) → length vs ≤ 4)

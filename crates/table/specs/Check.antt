@@ -29,7 +29,7 @@ use Rattle.table.specs.declared.Ruled.the-variants.{By, Refused as Unrul
 use Rattle.table.specs.declared.Wanted.{Wanted}
 use Rattle.table.specs.declared.Wanted.the-variants.{Parameters, Call, Assignment, Expression}
 
--- the most nodes of a table, its most bytes, 24 a node, and the most name bytes
+-- the limits of a table: nodes, bytes (24 a node) and name bytes
 abbrev pub mostNodes : ℕ
 mostNodes = 2100
 
@@ -46,8 +46,7 @@ Within i t = recordBytes * i + length t ≤ mostBytes
 abbrev pub Headed : ℕ → List ℕ → Type 0
 Headed i t = (recordBytes ≤ length t) × Within i t
 
--- the same as a test; and what a check of one stretch reads of any bytes: all of them, or nothing where they are none
--- such
+-- the same as a test; and what a check of one stretch reads: all of the bytes if they are such a stretch, else nothing
 abbrev pub isHeaded : ℕ → List ℕ → Bool
 isHeaded i t = leb (recordBytes * i + length t) mostBytes && leb recordBytes (length t)
 
@@ -85,7 +84,7 @@ checkOf t names =
     andThen (unsoundCheck (firstUnsound t names)) (λ _.
     deepCheck (firstDeep 0 (forest 0 t)))))
 
--- what a job in a dialect is given: the dialect, or the refusal that turns it away
+-- what a job in a dialect gets: the dialect, or the refusal
 pub data Handing : Type 0 where
   inDialect : Dialect → Handing
   turnedAway : ℕ → List ℕ → Handing
@@ -107,7 +106,7 @@ handing (accepted vs) x = decoded x
 unfoldable pub givenOf : List ℕ → List ℕ → List ℕ → Handing
 givenOf t names bytes = handing (checkOf t names) (fromBytes bytes)
 
--- a job in a dialect: 1 to 5, then what a rule says in the dialect
+-- a job in a dialect: 1 to 5, then the answer of a rule in that dialect
 abbrev pub inGiven : Handing → (Dialect → Answer) → Answer
 inGiven (inDialect d) rule = rule d
 inGiven (turnedAway n vs) rule = refused n vs
@@ -116,7 +115,7 @@ inGiven (turnedAway n vs) rule = refused n vs
 abbrev pub givenCheck : List ℕ → List ℕ → List ℕ → Answer
 givenCheck t names bytes = inGiven (givenOf t names bytes) (λ _. accepted [])
 
--- what a job that reads types is given: the dialect and the edition, or the refusal that turns it away
+-- what a job that reads types gets: the dialect and the edition, or the refusal
 pub data Ruling : Type 0 where
   byRules : Dialect → Edition → Ruling
   unruled : ℕ → List ℕ → Ruling
@@ -125,7 +124,7 @@ abbrev pub ruled : Ruled → Ruling
 ruled (By d e) = byRules d e
 ruled (Unruled r) = unruled (numberOf r) (carried r)
 
--- 5 again, after the dialect bytes: what was read is no edition
+-- 5 again, after the dialect bytes: the number that was read is no edition
 abbrev pub ruling : Handing → EditionRead → Ruling
 ruling (turnedAway n vs) x = unruled n vs
 ruling (inDialect d) (Known e) = byRules d e
@@ -134,7 +133,7 @@ ruling (inDialect d) Unknown = unruled badDialect []
 unfoldable pub rulesOf : List ℕ → List ℕ → List ℕ → EditionRead → Ruling
 rulesOf t names bytes edition = ruling (givenOf t names bytes) edition
 
--- a job that reads types: 1 to 5, then what a rule says in the dialect and by the edition
+-- a job that reads types: 1 to 5, then the answer of a rule in that dialect and edition
 abbrev pub inRules : Ruling → (Dialect → Edition → Answer) → Answer
 inRules (byRules d e) rule = rule d e
 inRules (unruled n vs) rule = refused n vs
@@ -143,14 +142,14 @@ inRules (unruled n vs) rule = refused n vs
 abbrev pub rulesCheck : List ℕ → List ℕ → List ℕ → EditionRead → Answer
 rulesCheck t names bytes edition = inRules (rulesOf t names bytes edition) (λ _ _. accepted [])
 
--- the kinds that a job wants: parameters 2 or 27, a call 22, an assignment 11 or 12, a target or a type an expression
+-- the kinds that a job accepts: parameters 2 or 27, a call 22, an assignment 11 or 12, a target or a type an expression
 unfoldable pub wants : Wanted → ℕ → Bool
 wants Parameters k = eqb k kindDef || eqb k kindLambda
 wants Call k = eqb k kindCall
 wants Assignment k = eqb k kindAssign || eqb k kindAssignModify
 wants Expression k = eqb (classOf k) expression
 
--- 6: the node is within the table and of a kind that the job wants
+-- 6 unless the node is within the table and of a kind that the job accepts
 unfoldable pub nodeFits : List ℕ → ℕ → Wanted → Bool
 nodeFits t i w = ltb i (length t / recordBytes) && wants w (nodeOf i (drop (recordBytes * i) t) .kind)
 
@@ -163,10 +162,10 @@ stretchOf t i =
     if' (ltb i (length t / recordBytes))
     (λ _. take (recordBytes * sizeOf (drop (recordBytes * i) t)) (drop (recordBytes * i) t)) (λ _. [])
 
--- 1 to 4, 6: a job on a node is let in
+-- the checks with which a job on a node begins: 1 to 4, then 6
 unfoldable pub entryCheck : Wanted → List ℕ → List ℕ → ℕ → Answer
 entryCheck w t names i = andThen (checkOf t names) (λ _. nodeCheck t i w)
 
--- such a job: then what a rule says of the node's tree
+-- such a job: these checks, then the answer of a rule for the node's tree
 unfoldable pub onNode : Wanted → (Tree → Answer) → List ℕ → List ℕ → ℕ → Answer
 onNode w rule t names i = andThen (entryCheck w t names i) (λ _. rule (treeOf i (stretchOf t i)))

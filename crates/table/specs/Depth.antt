@@ -40,7 +40,7 @@ unfoldable mutual
   deepIn d (node r ks) =
       if' (ltb mostDepth (d + weight (r .kind))) (λ _. At (r .at)) (λ _. firstDeep (d + weight (r .kind)) ks)
 
--- the depth of each node, in table order; d is the depth of what they stand in
+-- the depth of each node, in table order; d is the depth of their parent
 unfoldable mutual
   pub depths : ℕ → Forest → List ℕ
   depths d none = []

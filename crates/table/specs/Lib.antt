@@ -4,3 +4,4 @@ pub mod Depth
 pub mod Check
 pub mod Carrying
 pub mod Naming
+pub mod Example

@@ -1,4 +1,4 @@
--- The entries of a list, parameters or arguments side by side: which of them bear a name, and the first that has one.
+-- The entries of a list, parameters or arguments side by side: which of them have a name, and the first with a name.
 -- These are definitions.
 use mathlib.Core.Bool.{Bool, not, _&&_, _||_}
 use mathlib.Core.List.{List, [], _∷_}
@@ -13,12 +13,12 @@ use Rattle.soundness.specs.KindNumbers.{kindNoArgs, kindSlash, kindNamed}
 use Rattle.table.specs.declared.Entries.{Entries}
 use Rattle.table.specs.declared.Entries.the-variants.{Parameters, Arguments}
 
--- an entry of a kind bears a name: the parameters but `*` and `/`, and the named arguments
+-- whether an entry of a kind has a name: parameters other than `*` and `/`, and named arguments
 unfoldable pub bearsName : Entries → ℕ → Bool
 bearsName Parameters k = not (eqb k kindNoArgs || eqb k kindSlash)
 bearsName Arguments k = eqb k kindNamed
 
--- it has this name, by its bytes
+-- whether an entry has this name, by its bytes
 unfoldable pub hasName : Entries → List ℕ → List ℕ → Node → Bool
 hasName e names x r = bearsName e (r .kind) && same (nameOf names r) x
 
@@ -27,7 +27,7 @@ unfoldable pub firstNamed : Entries → List ℕ → List ℕ → List Node → 
 firstNamed e names x [] = Nothing
 firstNamed e names x (r ∷ rs) = if' (hasName e names x r) (λ _. At (r .at)) (λ _. firstNamed e names x rs)
 
--- an index counted from a stretch's first record, counted from the table's
+-- an index within a stretch as an index of the table, where the stretch begins at `first`
 abbrev pub countedFrom : ℕ → Found → Found
 countedFrom first (At i) = At (first + i)
 countedFrom first Nothing = Nothing

@@ -1,4 +1,4 @@
--- The numbers given back by name, as document 01 numbers them. These are definitions.
+-- The numbers that jobs give, by name. docs/RULES.md explains each. These are definitions.
 -- They overlap with the kinds (52 is "def" here, and the kind 52 is Slash), so each has its own name.
 use Prim.Native.Nat.{ℕ}
 
@@ -26,7 +26,7 @@ badDialect = 5
 abbrev pub wrongNode : ℕ
 wrongNode = 6
 
--- a lent buffer too short
+-- a buffer that is too short
 abbrev pub shortBuffer : ℕ
 shortBuffer = 7
 

@@ -1,4 +1,4 @@
-// Depth: the first node, in table order, that is deeper than document 01 permits.
+// Depth: the first node, in table order, that is deeper than the limit of 64 (docs/FORMAT.md, "A sound table").
 use forest::Found;
 use forest::RECORD;
 use soundness::classes;
@@ -24,22 +24,22 @@ fn class_weight(class: u8) -> usize
     }
 }
 
-// What the record that a stretch begins with adds.
+// What the first record of a stretch adds to its parent's depth.
 fn weight_of(t: &[u8]) -> usize
     ensures { λ r. ⌜ (r ≡ weight (nodeOf 0 (now (t .entry)) .kind)) × (r ≤ 1) ⌝ }
 {
     class_weight(crate::class(t))
 }
 
-// The nodes of a stretch whose first record has the index at; depth is their parent's. Children by recursion, which the
-// depth limit ends; siblings in a loop.
+// The first node of a stretch that is too deep; its first record has the index `at`, and its parent the depth `depth`.
+// Children are visited by recursion, which the depth limit ends, and siblings in a loop.
 pub(crate) fn deep_from(t: &[u8], at: usize, depth: usize) -> Found
     requires { ⌜ (recordBytes * at + length (now t) < 2 ^ 63) × (depth ≤ 64) ⌝ }
     ensures { λ r. ⌜ r ≡ firstDeep depth (forest at (now (t .entry))) ⌝ }
 {
     let mut left = t;
     let mut i = at;
-    // fewer nodes cannot reach that deep, which spares most subtrees the walk
+    // fewer nodes cannot reach that depth, so most subtrees need no walk
     while MOST_DEPTH < depth + left.len() / RECORD {
         let here = depth + weight_of(left);
         if MOST_DEPTH < here {

@@ -1,5 +1,5 @@
-// The check of a node table (1 to 4), how a job on a node (6) or in a dialect (5) is let in, its stretch, and the one
-// type of refusals.
+// The check of a node table (1 to 4), the checks shared by all jobs on a node (6) or in a dialect (5), the stretch of a
+// node, and the type of refusals.
 mod depth;
 pub mod named;
 pub mod numbers;
@@ -23,14 +23,14 @@ ghost use Rattle.table.specs.Answer.{spanValues, earlierIn, earlierValue
 ghost use Rattle.table.specs.Check.{lengthSound, checkOf, given, givenOf, wants, nodeFits, stretchOf, entryCheck};
 ghost use Rattle.table.specs.Check.{mostBytes, isHeaded, ruled, rulesOf};
 
-// Where something stands: from begin up to, but not with, end, in the source file of this number.
+// A part of a script: from `begin` to before `end`, in the source file of this number.
 pub struct Span {
     pub begin: u32,
     pub end: u32,
     pub file: u32,
 }
 
-// The most nodes of a table, its most bytes, 24 a node, and the most name bytes.
+// The limits of a table: nodes, bytes (24 a node) and name bytes.
 pub const MOST_NODES: usize = 2100;
 
 pub const MOST_BYTES: usize = RECORD * MOST_NODES;
@@ -49,8 +49,8 @@ pub enum Extent {
     Nothing,
 }
 
-// Why a job refuses, with what the number carries: nothing, the node, or the node and its span and, for a name that
-// stood before, the earlier node.
+// Why a job refuses: a number, and what it carries: nothing, the node, or the node with its span and, for a repeated
+// name, the earlier node.
 pub enum Refusal {
     Bare(u32),
     Placed {
@@ -71,19 +71,19 @@ pub enum Checked {
     Refused(Refusal),
 }
 
-// What a job in a dialect is given: the dialect, or why it is refused.
+// What a job in a dialect gets: the dialect, or the refusal.
 pub enum Given {
     In(Dialect),
     Refused(Refusal),
 }
 
-// What a job that reads types is given: the dialect and the edition, or why it is refused.
+// What a job that reads types gets: the dialect and the edition, or the refusal.
 pub enum Ruled {
     By { dialect: Dialect, edition: Edition },
     Refused(Refusal),
 }
 
-// What a job wants its node to be.
+// The kinds of node that a job accepts.
 pub enum Wanted {
     Parameters,
     Call,
@@ -91,7 +91,7 @@ pub enum Wanted {
     Expression,
 }
 
-// What a list has as its entries.
+// The entries of a list.
 pub enum Entries {
     Parameters,
     Arguments,
@@ -138,7 +138,7 @@ pub fn deep_under_root(t: &[u8]) -> Found
     depth::deep_from(t, 0, 1)
 }
 
-// The class of the record that a stretch begins with, by the numbers of `soundness::classes`; 0 for no kind.
+// The class of the first record of a stretch, a number of `soundness::classes`; 0 if its kind is none.
 pub fn class(t: &[u8]) -> u8
     ensures { λ r. ⌜ r ≡ classOf (nodeOf 0 (now (t .entry)) .kind) ⌝ }
 {
@@ -193,7 +193,7 @@ pub fn extent_of(why: Refusal) -> Extent
     }
 }
 
-// The earlier node that a refusal speaks of.
+// The earlier node that a refusal carries.
 pub fn earlier_of(why: Refusal) -> Place
     ensures { λ r. ⌜ r ≡ earlierIn why ⌝ }
 {
@@ -209,7 +209,7 @@ pub fn earlier_of(why: Refusal) -> Place
     }
 }
 
-// The span of the record that a stretch begins with.
+// The span of the first record of a stretch.
 pub fn span_of(t: &[u8]) -> Span
     ensures { λ r. ⌜ r ≡ spanAt (nodeOf 0 (now (t .entry))) ⌝ }
 {
@@ -232,14 +232,14 @@ pub fn refused_in(number: u32, node: u32, span: Span, earlier: Place) -> Refusal
     }
 }
 
-// A refusal at the record that a stretch begins with, with its span.
+// A refusal at the first record of a stretch, with its span.
 pub fn refused_at(number: u32, node: u32, t: &[u8]) -> Refusal
     ensures { λ r. ⌜ refusal r ≡ refusedAt number (nodeOf node (now (t .entry))) ⌝ }
 {
     refused_in(number, node, span_of(t), Place::Nothing)
 }
 
-// Whether a record of a kind is what a job wants.
+// Whether a job accepts a record of this kind.
 fn wanted_kind(wanted: Wanted, kind: u8) -> bool
     ensures { λ r. ⌜ r ≡ wants wanted kind ⌝ }
 {
@@ -251,7 +251,7 @@ fn wanted_kind(wanted: Wanted, kind: u8) -> bool
     }
 }
 
-// Whether a job has its node: within the table, and of a kind that it wants. Else it answers 6.
+// Whether the node of a job is within the table and of a kind that the job accepts. If not, the job gives 6.
 pub fn node_fits(table: &[u8], node: usize, wanted: Wanted) -> bool
     ensures { λ r. ⌜ r ≡ nodeFits (now (table .entry)) node wanted ⌝ }
 {
@@ -278,7 +278,7 @@ pub fn stretch(table: &[u8], node: usize) -> &[u8]
     &table[a..e]
 }
 
-// As much of some bytes as a table has at most: 2,100 records.
+// The bytes, cut after 2,100 records, the most that a table has.
 pub fn within(t: &[u8]) -> &[u8]
     ensures { λ r. ⌜ now r ≡ take mostBytes (now (t .entry)) ⌝ }
 {
@@ -288,7 +288,7 @@ pub fn within(t: &[u8]) -> &[u8]
     &t[0..MOST_BYTES]
 }
 
-// Whether a stretch begins with a record and lies within the largest table, where its first record has this index.
+// Whether a stretch begins with a record and, with its first record at this index, lies within the largest table.
 pub fn is_headed(t: &[u8], node: u32) -> bool
     ensures { λ r. ⌜ r ≡ isHeaded node (now (t .entry)) ⌝ }
 {
@@ -299,7 +299,7 @@ pub fn is_headed(t: &[u8], node: u32) -> bool
     false
 }
 
-// Lets a job on a node in: 1 to 4, then 6. Its stretch is then `stretch`.
+// The checks with which a job on a node begins: 1 to 4, then 6. The node's subtree is then `stretch`.
 pub fn enter(table: &[u8], names: &[u8], node: usize, wanted: Wanted) -> Checked
     ensures { λ r. ⌜ checked r ≡ entryCheck wanted (now (table .entry)) (now (names .entry)) node ⌝ }
 {
@@ -313,7 +313,7 @@ pub fn enter(table: &[u8], names: &[u8], node: usize, wanted: Wanted) -> Checked
     Checked::Sound
 }
 
-// Lets a job in a dialect in: 1 to 4, then 5.
+// The checks with which a job in a dialect begins: 1 to 4, then 5.
 pub fn enter_dialect(table: &[u8], names: &[u8], bytes: &[u8]) -> Given
     ensures { λ r. ⌜ given r ≡ givenOf (now (table .entry)) (now (names .entry)) (now (bytes .entry)) ⌝ }
 {
@@ -328,7 +328,7 @@ pub fn enter_dialect(table: &[u8], names: &[u8], bytes: &[u8]) -> Given
     }
 }
 
-// Lets a job that reads types in: 1 to 4, 5 for the dialect bytes, then 5 for what was read of an edition.
+// The checks with which a job that reads types begins: 1 to 4, 5 for the dialect bytes, then 5 for the edition.
 pub fn enter_rules(table: &[u8], names: &[u8], bytes: &[u8], read: EditionRead) -> Ruled
     ensures { λ r. ⌜ ruled r ≡ rulesOf (now (table .entry)) (now (names .entry)) (now (bytes .entry)) read ⌝ }
 {

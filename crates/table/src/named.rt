@@ -1,4 +1,4 @@
-// The entries of a list, parameters or arguments side by side: which of them bear a name, and the first that has one.
+// The entries of a list, parameters or arguments side by side: which of them have a name, and the first with a name.
 use crate::Entries;
 use forest::Found;
 use forest::RECORD;
@@ -8,7 +8,7 @@ ghost use lib.ListN.{take};
 ghost use Rattle.forest.specs.Forest.{nodeOf, forest, roots};
 ghost use Rattle.table.specs.Naming.{bearsName, hasName, firstNamed};
 
-// Whether an entry of a kind bears a name: the parameters but `*` and `/`, and the named arguments.
+// Whether an entry of a kind has a name: parameters other than `*` and `/`, and named arguments.
 pub fn bears_name(entries: Entries, kind: u8) -> bool
     ensures { λ r. ⌜ r ≡ bearsName entries kind ⌝ }
 {
@@ -18,7 +18,7 @@ pub fn bears_name(entries: Entries, kind: u8) -> bool
     }
 }
 
-// Whether the entry that a stretch begins with has this name.
+// Whether the first entry of a stretch has this name.
 fn has_name(entries: Entries, names: &[u8], name: &[u8], t: &[u8]) -> bool
     ensures { λ r. ⌜ r ≡ hasName entries (now (names .entry)) (now (name .entry)) (nodeOf 0 (now (t .entry))) ⌝ }
 {
@@ -28,7 +28,7 @@ fn has_name(entries: Entries, names: &[u8], name: &[u8], t: &[u8]) -> bool
     forest::names::same_bytes(forest::names::name(names, t), name)
 }
 
-// The first of the n entries that a stretch begins with that has this name, by its index in the stretch.
+// The index in the stretch of the first of its first n entries that has this name.
 pub fn first_named(entries: Entries, names: &[u8], name: &[u8], t: &[u8], n: usize) -> Found
     ensures { λ r. ⌜ r ≡ firstNamed entries (now (names .entry)) (now (name .entry))
         (take n (roots (forest 0 (now (t .entry))))) ⌝ }

@@ -1,4 +1,4 @@
-// The numbers given back by name, as document 01 numbers them.
+// The numbers that jobs give, by name. docs/RULES.md explains each.
 pub const TABLE_LENGTH: u32 = 1; // the table has no, too many or broken records
 
 pub const NAME_BYTES: u32 = 2; // too many name bytes

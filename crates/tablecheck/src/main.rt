@@ -1,6 +1,6 @@
-// Checks the table file that its argument names, or else standard input. It prints `nodes N`, a line
-// `number file begin end` for each error and `errors N`; or, for a file that is refused, the one line `refused K`.
-// It only reads, calls and prints: what is answered to a file is the library's, filepass.
+// Checks the table file that its argument names, or standard input if there is none. It prints `nodes N`, a line
+// `number file begin end` for each error and `errors N`; or, for a refused file, the one line `refused K`. It only
+// reads and prints; the answer is that of the library, filepass.
 use errors::WIDTH;
 use filepass::ENOUGH_BYTES;
 use filepass::ENOUGH_WORDS;
@@ -8,7 +8,7 @@ use filepass::Passed;
 use libc::STDIN_FILENO;
 use libc::STDOUT_FILENO;
 
-// What came of reading: so many bytes, or a read that failed.
+// The result of reading: the number of bytes, or a failed read.
 enum Got {
     Bytes(usize),
     Failed,
@@ -34,7 +34,7 @@ fn main() {
     libc::close(fd);
 }
 
-// The whole file, or as much of it as tells its answer.
+// Reads the file, or as many bytes as decide the answer, and reports on it.
 fn check(fd: i32, name: &[u8]) {
     let mut file = [0u8; ENOUGH_BYTES];
     let got = fill(fd, &mut file);
@@ -44,7 +44,7 @@ fn check(fd: i32, name: &[u8]) {
     }
 }
 
-// Reads until the buffer is full or the input ends, and tells a read that fails from an end.
+// Reads until the buffer is full or the input ends. A failed read is not taken for the end.
 fn fill(fd: i32, file: &mut [u8]) -> Got {
     let mut done = 0;
     while done < file.len() {
@@ -61,8 +61,8 @@ fn fill(fd: i32, file: &mut [u8]) -> Got {
     Got::Bytes(done)
 }
 
-// What the program prints of so many bytes that it has read. The list has room for all errors. A refusal's line has its
-// number alone, also where it carries a node.
+// Prints the answer for the first `len` bytes. The list has room for all errors. The line of a refusal has its number
+// alone, even if it carries a node.
 fn report(file: &[u8; ENOUGH_BYTES], len: usize) {
     let mut errors = [0u32; ENOUGH_WORDS];
     let passed = filepass::check_read(file, len, &mut errors);
@@ -76,7 +76,7 @@ fn report(file: &[u8; ENOUGH_BYTES], len: usize) {
     }
 }
 
-// A line for each error: its words.
+// Prints a line for each error, with its words.
 fn say_errors(errors: &[u32; ENOUGH_WORDS], total: u32) {
     let mut left: &[u32] = errors;
     let mut more = total;
@@ -90,7 +90,7 @@ fn say_errors(errors: &[u32; ENOUGH_WORDS], total: u32) {
     }
 }
 
-// Words on a line of their own, with a space between them.
+// Prints words on a line, separated by spaces.
 fn say_words(words: &[u32]) {
     let n = words.len();
     let mut i = 0;
@@ -101,7 +101,7 @@ fn say_words(words: &[u32]) {
     say(b"\n");
 }
 
-// A word; all but the first have a space before them.
+// Prints a word, with a space before it unless it is the first.
 fn say_word(word: u32, place: usize) {
     if 0 < place {
         say(b" ");

@@ -1,8 +1,8 @@
-// Counts over table files that stand one after another in the file that its argument names, or else in standard input.
-// It prints 32 lines, each a name and a count, and, where a file is refused, the last line `refused NUMBER POSITION`.
-// It only reads, calls and prints: what a file adds is the library's, figures::step. The buffer has two windows: a step
-// sees at least one, or all that is left, and bytes are moved only where less than one is unread. A read that fails
-// prints no report.
+// Prints figures over the table files that follow one another in the file that its argument names, or in standard
+// input if there is none. It prints 32 lines, each a name and a count, and, if a file is refused, the last line
+// `refused NUMBER POSITION`. It only reads and prints; what a file adds is decided by the library, figures::step. The
+// buffer holds two windows: a step sees at least one window, or all that is left, and bytes are moved only if less
+// than a window is unread. If a read fails, no report is printed.
 use blocks::BLOCK_BYTES;
 use figures::CALLS_ACCEPTED;
 use figures::CALLS_REFUSED;
@@ -17,13 +17,13 @@ use libc::STDIN_FILENO;
 use libc::STDOUT_FILENO;
 use tablefile::MOST_BLOCKS;
 
-// The bytes of the largest table file: a step sees no more of its input.
+// The length of the largest table file: a step reads no more of its input.
 const WINDOW: usize = BLOCK_BYTES * MOST_BLOCKS;
 
 const BUFFER: usize = 2 * WINDOW;
 
-// What a turn came to: so many bytes are left in the buffer, the first of them at a place of the input; the input is
-// counted; a file is refused at a place of the input; or a read failed.
+// The result of a turn: `left` bytes remain in the buffer, the first of them at position `at` of the input; the whole
+// input is counted; a file is refused at a position of the input; or a read failed.
 enum Turn {
     On { left: usize, at: u64 },
     Whole,
@@ -31,13 +31,13 @@ enum Turn {
     Failed,
 }
 
-// How the steps over the buffer ended: they need more bytes from a place on, or a file is refused there.
+// The result of the steps over the buffer: they need more bytes from a place on, or a file is refused there.
 enum Went {
     On(usize),
     Stopped(usize, u32),
 }
 
-// What came of reading: so many bytes are in the buffer, or a read failed.
+// The result of reading: the number of bytes in the buffer, or a failed read.
 enum Got {
     Bytes(usize),
     Failed,
@@ -63,8 +63,8 @@ fn main() {
     libc::close(fd);
 }
 
-// A proved loop has to end, and nothing says that an input does. So the loop counts its turns down, from a number that
-// no input uses up.
+// Counts the files of an input and prints the figures. A proved loop must end, but an input need not. So the loop
+// counts its turns down from a number that no input uses up.
 fn count(fd: i32, name: &[u8]) {
     let mut buffer = [0u8; BUFFER];
     let mut counters = [0u64; FIGURES];
@@ -96,8 +96,8 @@ fn count(fd: i32, name: &[u8]) {
     }
 }
 
-// One turn: fills the buffer, counts the files that are whole in it, and moves what is left to its front. The bytes
-// that are held stand at a position of the input.
+// One turn: fills the buffer, counts the files that are whole in it, and moves the rest to its front. The `held` bytes
+// are those from `position` of the input on.
 fn take(
     fd: i32,
     buffer: &mut [u8],
@@ -128,7 +128,7 @@ fn take(
     }
 }
 
-// How many bytes a step must see: a window, and at the end of the input all that is left.
+// The number of bytes that a step must see: a window, or at the end of the input all that is left.
 fn least(ended: bool) -> usize {
     if ended {
         return 1;
@@ -136,7 +136,7 @@ fn least(ended: bool) -> usize {
     WINDOW
 }
 
-// Reads behind the bytes that are held until the buffer is full or the input ends, and tells a read that fails from an
+// Reads after the first `held` bytes until the buffer is full or the input ends. A failed read is not taken for the
 // end.
 fn fill(fd: i32, buffer: &mut [u8], held: usize) -> Got {
     let mut done = held;
@@ -154,8 +154,8 @@ fn fill(fd: i32, buffer: &mut [u8], held: usize) -> Got {
     Got::Bytes(done)
 }
 
-// Steps over the first n bytes of the buffer, as long as so many are unread. A file takes at least a byte, so n steps
-// are enough.
+// Steps over the first n bytes of the buffer, as long as `wanted` bytes are unread. A file takes at least one byte,
+// so n steps are enough.
 fn walk(buffer: &[u8], n: usize, wanted: usize, counters: &mut [u64; FIGURES]) -> Went {
     let mut at = 0;
     let mut turns = n;
@@ -177,7 +177,7 @@ fn walk(buffer: &[u8], n: usize, wanted: usize, counters: &mut [u64; FIGURES]) -
     Went::On(at)
 }
 
-// The bytes from a place up to an end; none where there are none.
+// The bytes from `at` up to `end`, or none if the buffer does not contain them.
 fn part(buffer: &[u8], at: usize, end: usize) -> &[u8] {
     if buffer.len() < end {
         return &buffer[0..0];
@@ -188,7 +188,7 @@ fn part(buffer: &[u8], at: usize, end: usize) -> &[u8] {
     &buffer[at..end]
 }
 
-// How many bytes stand from a place up to an end.
+// The number of bytes from `at` up to `end`.
 fn left(at: usize, end: usize) -> usize {
     if end < at {
         return 0;
@@ -196,7 +196,7 @@ fn left(at: usize, end: usize) -> usize {
     end - at
 }
 
-// Moves the bytes from a place up to an end to the front, and answers how many these are.
+// Moves the bytes from `at` up to `end` to the front, and returns their number.
 fn move_front(buffer: &mut [u8], at: usize, end: usize) -> usize {
     let n = left(at, end);
     let mut i = 0;
@@ -207,7 +207,7 @@ fn move_front(buffer: &mut [u8], at: usize, end: usize) -> usize {
     n
 }
 
-// Moves one byte; none where the place is not in the buffer.
+// Moves one byte. A place outside the buffer changes nothing.
 fn move_one(buffer: &mut [u8], at: usize, i: usize) {
     let from = held_sum(at, i);
     if from < buffer.len() {
@@ -217,7 +217,7 @@ fn move_one(buffer: &mut [u8], at: usize, i: usize) {
     }
 }
 
-// Two numbers in one, or the largest there is.
+// The sum of two numbers, or the largest number if the sum is larger.
 fn sum(a: u64, b: u64) -> u64 {
     if u64::MAX - a < b {
         return u64::MAX;
@@ -232,7 +232,7 @@ fn held_sum(a: usize, b: usize) -> usize {
     a + b
 }
 
-// The 32 lines.
+// Prints the 32 lines.
 fn say_figures(counters: &[u64; FIGURES]) {
     say_line(b"files ", counters[FILES]);
     say_line(b"nodes ", counters[NODES]);
@@ -244,7 +244,7 @@ fn say_figures(counters: &[u64; FIGURES]) {
     say_numbered(b"error ", 50, counters, ERRORS + 10, 12);
 }
 
-// Lines of n counters from a place on, which are numbered from a first number on.
+// Prints the lines of n counters from `place` on, numbered from `first` on.
 fn say_numbered(text: &[u8], first: u64, counters: &[u64; FIGURES], place: usize, n: usize) {
     let mut i = 0;
     while i < n {
@@ -255,7 +255,7 @@ fn say_numbered(text: &[u8], first: u64, counters: &[u64; FIGURES], place: usize
     }
 }
 
-// A counter; 0 where there is none.
+// The counter at a place; 0 if there is none.
 fn counter(counters: &[u64; FIGURES], place: usize) -> u64 {
     if place < FIGURES {
         return counters[place];

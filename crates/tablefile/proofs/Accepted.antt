@@ -1,4 +1,9 @@
--- What acceptance says: the blocks pass, nothing is left over, and what the file holds is sound. Assumes nothing.
+-- What acceptance of a file means. `readCheck` is three checks in a row, so an accepted file passes each: its blocks
+-- pass (`read-fronted`), no byte is left over (`read-whole`), and its content passes 1 to 5 (`read-is-sound`). With
+-- the theorems of Files it is then the file of its content (`read-is-file`), and one changed byte makes it 72
+-- (`read-changed`). Conversely a content that passes 1 to 5 has one of the three headers (`sound-headed`), so it fits
+-- a file (`sound-fits`), which is accepted and read back as it (`back-accepted`, `back-holds`). No induction: each
+-- law is a case distinction on the tests. Assumes nothing.
 use mathlib.Core.Path.{_≡_, refl, sym, ap, _∙_}
 use mathlib.Core.Bool.{Bool, true, false}
 use mathlib.Core.Logic.{_⊎_, inl, inr, ⊎-elim}
@@ -39,14 +44,14 @@ use Rattle.tablefile.proofs.Fronts.{Fronted, demand-then, fronted-then,
 use Rattle.tablefile.proofs.Files.{Headed, bare, inDialect, byEdition, Fits, front-is-file, front-changed}
 use Rattle.tablefile.proofs.Files.{file-passes, file-holds, file-taken}
 
--- no two verdicts mean the same
+-- no two verdicts have the same meaning
 pub verdict-injective : (r s : Verdict) → verdict r ≡ verdict s → r ≡ s
 verdict-injective Accepted Accepted e = refl
 verdict-injective Accepted (Refused s) e = never-accepted s (sym e)
 verdict-injective (Refused r) Accepted e = never-accepted r e
 verdict-injective (Refused r) (Refused s) e = ap Refused (refusal-injective r s e)
 
--- what a file that is accepted is
+-- an accepted file
 module _ (bs : List ℕ) (e : readCheck bs ≡ accepted []) where
   steps : Fronted bs × (leb (length bs) (headerAt bs .taken) ≡ true) × (soundCheck (contentAt bs) ≡ accepted [])
   unfolding readCheck
@@ -87,7 +92,7 @@ dialect-lengths ds {d} e = go (eqb (length ds) 0) (eqb (length ds) 9) refl refl
         let no : Invalid ≡ Valid d = sym bad ∙ e in
         never (cc)
 
--- an edition that holds: none is stated, or it stands behind a dialect and its number is the edition's
+-- an edition that holds: none is stated, or one is stated after a dialect, and it has the edition's number
 pub held-cases : (ds : List ℕ) (s : Stated) {e : Edition} → editionHeld ds (statedBytes s) ≡ Known e
     → (s ≡ Nothing) ⊎ ((length ds ≡ 0 → ⊥) × (s ≡ Number (editionNumber e)))
 held-cases ds Nothing h = inl refl
@@ -102,7 +107,7 @@ held-cases ds (Number n) {e} h = go (eqb (length ds) 0) refl
         let some = eqb-false (length ds) 0 p in
         inr (some, ap Number (edition-back n (sym (held-number ds n some) ∙ h)))
 
--- what 1 to 5 say of what a file holds: the table is clean, the bytes are a dialect, and an edition holds
+-- a content that passes 1 to 5: the table is clean, the dialect bytes are valid, and an edition holds
 pub record Knows (c : Content) : Type 0 where
   pub clean : Clean (c .table) (c .names)
   pub dialect : Dialect
@@ -117,14 +122,14 @@ sound-known c sound =
     let given = given-known (c .table) (c .names) (c .dialect) (known .0) in
     record { clean = given .0; dialect = d; decoded = given .1; edition = e; held = known .1 }
 
--- a content that is sound: it passes 1 to 5, and all are bytes
+-- a sound content: it passes 1 to 5, and its numbers are bytes
 pub record SoundContent (c : Content) : Type 0 where
   pub sound : soundCheck c ≡ accepted []
   pub table-bytes : Bytes (c .table)
   pub names-bytes : Bytes (c .names)
   pub dialect-bytes : Bytes (c .dialect)
 
--- LAW: what passes 1 to 5 has one of the three headers
+-- LAW: a content that passes 1 to 5 has one of the three headers
 pub sound-headed : (c : Content) → Knows c → Headed (length (c .dialect)) (length (statedBytes (c .edition)))
 sound-headed c known = ⊎-elim
     (λ (e : c .edition ≡ Nothing). rw e (⊎-elim (λ (n : length (c .dialect) ≡ 0). bare n refl)

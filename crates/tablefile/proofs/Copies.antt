@@ -1,4 +1,9 @@
--- Laws of the bytes that the reader copies, in the terms of code. Assumes nothing.
+-- Laws of `copy`, which copies a content from its blocks into a buffer, and of its callers. The loop copies the used
+-- bytes of one block a turn. Its invariant `Copying` says: the bytes copied so far, followed by the content of the
+-- remaining blocks, are the whole content, and the rest of the buffer is unchanged. A turn moves one block from the
+-- second part to the first (`copy-on`, by blocks' `content-next`); when nothing remains the content is there
+-- (`copy-end`). `laid-run`, `laid-names` and `dialect-laid` are the copies into arrays of zeros, `copied-far` to
+-- `copied-all` the returns of `copy_content`. Assumes nothing.
 use mathlib.Core.Path.{_≡_, refl, sym, ap, _∙_}
 use mathlib.Core.Bool.{and-false}
 use mathlib.Core.List.{List, _++_, append-assoc, append-nil}
@@ -21,7 +26,7 @@ drop-zeros n zero = let e : n - 0 ≡ n = omega arith in rw e refl
 drop-zeros zero (suc m) = let e : 0 - suc m ≡ 0 = omega arith in rw e refl
 drop-zeros (suc n) (suc m) = let e : suc n - suc m ≡ n - m = omega arith in rw e (drop-zeros n m)
 
--- bytes over zeros are laid out
+-- bytes written over zeros
 pub laid-over : (n : ℕ) (l : List ℕ) {m : ℕ} → length l ≡ m → l ++ drop m (replicate n 0) ≡ laid n l
 unfolding laid
 laid-over n l h = rw (← h, drop-zeros n (length l)) refl
@@ -36,7 +41,8 @@ pub laid-names : (bs : List ℕ) (len n : ℕ) {out : List ℕ} → 512 * (1 + b
     → out ≡ contentOf len (drop 512 bs) ++ drop len (replicate n 0) → out ≡ laid n (contentOf len (drop 512 bs))
 laid-names bs = laid-run bs 1
 
--- the loop over blocks: what is copied and what is left make the whole content, and behind it out is as it was
+-- the invariant: the copied bytes and the content of the remaining blocks make the whole content, and the rest of out
+-- is unchanged
 pub record Copying (bs d : List ℕ) (first len : ℕ) (out : List ℕ) (number done : ℕ) : Type 0 where
   pub upto : done ≤ len
   pub room : len ≤ length d
@@ -125,7 +131,7 @@ module _ (bs : List ℕ) (len : ℕ) (h : 512 ≤ length bs) (few : len ≤ 9) w
       → out ≡ laid 9 (take len (drop 8 bs))
   dialect-laid e = (rw (tail-part 8 bs) at e) ∙ laid-over 9 (take len (drop 8 bs)) dialect-long
 
--- the content of a run, copied where it is there and fits: code counts the blocks
+-- the returns of `copy_content`: the code compares numbers of blocks
 pub copied-there : (first len n : ℕ) {k : ℕ} → first ≤ n / 512 → k ≡ blocksFor len → k ≤ n / 512 - first
     → 512 * (first + blocksFor len) ≤ n
 copied-there first len n h k-is g = omega arith
@@ -146,7 +152,7 @@ module _ (first len : ℕ) (bs buffer : List ℕ) where
   unfolding copied
   copied-long h = rw (lt-leb len (length buffer) h, and-false (leb (512 * (first + blocksFor len)) (length bs))) refl
 
-  -- LAW: where the blocks are there and the buffer has room, the content is copied
+  -- LAW: if the blocks are present and the buffer has room, the content is copied
   pub copied-is : 512 * (first + blocksFor len) ≤ length bs → len ≤ length buffer
       → copied first len bs buffer ≡ contentOf len (drop (512 * first) bs) ++ drop len buffer
   unfolding copied

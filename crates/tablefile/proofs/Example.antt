@@ -1,6 +1,6 @@
--- What the theorems on files suppose can be met, and not only trivially: the file of `x = 1`, a table of four records
--- with a name, Standard's nine bytes and edition 1. That its content is sound is computed; that its file is then
--- accepted, and read as this content, is `file-read-back`. Assumes nothing.
+-- The hypotheses of the theorems on files can be met, and not only trivially: the file of `x = 1`, a table of four
+-- records with a name, Standard's nine bytes and edition 1. That its content is sound is computed; that its file is
+-- accepted and read back as this content is `file-read-back`. Assumes nothing.
 use mathlib.Core.Path.{_≡_, refl, sym}
 use mathlib.Core.Bool.{Bool, true, _&&_}
 use mathlib.Core.List.{List, [], _∷_, _++_}
@@ -75,11 +75,11 @@ meets = record {
   dialect-bytes = small-bytes (content .dialect) refl;
 }
 
--- so an accepted answer keeps the promise of `read` on its file
+-- so an accepted answer meets the promise of `read` on its file
 pub answered : Read (fileOf content) (loadedOf Accepted content (length (fileOf content)))
 unfolding loadedOf
 answered = (sym (back-accepted content meets), rw (back-holds content meets, back-taken content meets) refl)
 
--- and it is the only one
+-- it is the only such answer
 pub only-answer : (r : Loaded) → Read (fileOf content) r → r ≡ loadedOf Accepted content (length (fileOf content))
 only-answer r p = file-read-back content r meets p

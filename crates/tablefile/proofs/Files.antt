@@ -1,6 +1,9 @@
--- The file at the front and the file of a content: each is the other's inverse, and one changed byte is told. There are
--- three headers (`Headed`): without a dialect, with one, and with a dialect and an edition. What block 0 holds behind
--- its counts, dialect and edition, is one list in these laws (`tail-is`, `tail-there`). Assumes nothing.
+-- `fileOf` writes a content as a file, `contentAt` reads the file at the front of some bytes; each is the inverse of
+-- the other. If the blocks pass, the bytes are the file of their content: block 0 and both runs are (blocks'
+-- `passed-is-block`, `passed-is-run`). One changed byte gives 72, because it lies in exactly one block. The file of a
+-- content passes, holds that content and has the length that its header states. The three headers are without a
+-- dialect, with one, and with a dialect and an edition (`Headed`); dialect and edition are one list here (`tail-is`,
+-- `tail-there`). Cite `front-is-file`, `front-changed`, `file-passes`, `file-holds`, `file-taken`. Assumes nothing.
 use mathlib.Core.Path.{_≡_, refl, sym, ap, _∙_}
 use mathlib.Core.Bool.{true}
 use mathlib.Core.Logic.{_⊎_, ⊎-elim}
@@ -34,7 +37,7 @@ use Rattle.tablefile.specs.Reading.{blocksCheck, frontCheck}
 use Rattle.tablefile.proofs.Fronts.{first-is, taken-is, used-small, tail-is, Fronted, table-length}
 use Rattle.tablefile.proofs.Fronts.{names-length}
 
--- ---- a file at the front whose blocks pass is the file of what it holds
+-- ---- a file at the front whose blocks pass is the file of its content
 module _ (bs : List ℕ) (small : Bytes bs) (f : Fronted bs) where
   nodes-spelled : bytesOf 2 (headerAt bs .nodes) ≡ take 2 (drop 4 bs)
   unfolding headerAt
@@ -107,7 +110,7 @@ module _ (bs : List ℕ) (f : Fronted bs) (i v : ℕ) (other : v ≡ getD bs i 0
   header-changed h = rw (changed-block 0 (usedOf (headerAt bs)) bs i v (f .header) h other 0
       (usedOf (headerAt (set bs i v)))) refl
 
-  -- behind block 0 it is read as before
+  -- after a change behind block 0, the header is unchanged
   module _ (h : 512 ≤ i) where
     same-field : (at : ℕ) → at + 2 ≤ 512 → field 2 (set bs i v) at ≡ field 2 bs at
     same-field at k = sym (field-take 2 (set bs i v) 512 at k)
@@ -167,9 +170,9 @@ module _ (bs : List ℕ) (f : Fronted bs) (i v : ℕ) (other : v ≡ getD bs i 0
       (λ (p : i < 512). header-changed p)
       (le-or-lt 512 i)
 
--- ---- the file of a content, and anything behind it, reads as that content
+-- ---- the file of a content, with any bytes after it, is read as that content
 
--- the three headers: how many dialect bytes and edition bytes there are
+-- the three headers: the numbers of dialect bytes and of edition bytes
 pub data Headed (d e : ℕ) : Type 0 where
   bare : d ≡ 0 → e ≡ 0 → Headed d e
   inDialect : d ≡ 9 → e ≡ 0 → Headed d e
@@ -186,8 +189,8 @@ pub record Fits (c : Content) : Type 0 where
   pub dialect-bytes : Bytes (c .dialect)
   pub edition-bytes : Bytes (statedBytes (c .edition))
 
--- such a header has at most ten bytes behind its counts; what it says it has is what it has; and its edition byte
--- stands at place 17
+-- such a header has at most ten bytes after its counts; the used bytes of block 0 give both numbers back; and the
+-- edition byte is byte 17
 headed-few : {d e : ℕ} → Headed d e → d + e ≤ 10
 headed-few (bare p q) = omega arith
 headed-few (inDialect p q) = omega arith
@@ -308,7 +311,7 @@ module _ (c : Content) (fit : Fits c) (rest : List ℕ) where
       ∙ field-bytes 2 (length (c .names)) (tail ++ zeros) (omega (arith, fit .names)) in
       field-there 2 (omega arith) ∙ (rw (length-bytes 2 nodes, add-zero 2) at behind)
 
-  -- what stands behind the counts
+  -- the bytes after the counts
   tail-there : take 500 (drop 8 bs) ≡ tail ++ zeros
   tail-there =
       let more : List ℕ = bytesOf 2 (length (c .names)) ++ (tail ++ zeros) in
@@ -386,7 +389,7 @@ module _ (c : Content) (fit : Fits c) (rest : List ℕ) where
   nodes-pass = rw (nodes-behind, first-so, table-so)
       (run-passes first (c .table) rest (fit .table-bytes) (omega (arith, first-small, last-small)))
 
-  -- THEOREM, in three parts: it passes, it holds the content, and it takes the file's bytes
+  -- THEOREM, in three parts: it passes, it holds the content, and its header states its length
   pub file-passes : frontCheck (fileOf c ++ rest) ≡ accepted []
   unfolding blocksCheck
   file-passes =

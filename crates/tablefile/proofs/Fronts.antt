@@ -1,4 +1,9 @@
--- Laws of the file at the front, in the terms of code. Assumes nothing.
+-- Laws of `header` and `judge_front`. The header's fields determine where the blocks are (`header-is`, `first-is`,
+-- `taken-is`), and they depend on the first 8 bytes alone (`header-front`). The bytes of block 0 after the two counts
+-- are the dialect and the edition (`tail-is`). `front-zero` and the laws after it are the returns of `judge_front`,
+-- in the order of the tests; counts within the limits keep every product within the machine's numbers (`nodes-fit`,
+-- `first-word`, `first-bytes`). `Fronted` lists what accepted blocks fulfil: cite `fronted` or `fronted-then`.
+-- `sound-refused` and `sound-passed` are the returns of `check`. Assumes nothing.
 use mathlib.Core.Path.{_≡_, refl, sym, ap, _∙_}
 use mathlib.Core.Bool.{Bool, true, false, _&&_, _||_}
 use mathlib.Core.List.{List, [], _∷_, _++_}
@@ -37,7 +42,7 @@ use Rattle.tablefile.specs.Reading.{blocksCheck, frontCheck, soundCheck}
 use Rattle.tablefile.specs.declared.Heading.{Heading}
 use Rattle.tablefile.proofs.Copies.{dialect-long}
 
--- how many dialect bytes block 0 has, and how many edition bytes
+-- the numbers of dialect bytes and of edition bytes in block 0
 pub dialect-nine : (u : ℕ) → (eqb u 13 || eqb u 14) ≡ true → (9 ≡ dialectIn u) × (9 ≤ 9)
 unfolding dialectIn
 dialect-nine u e = (rw e refl, omega arith)
@@ -54,7 +59,7 @@ pub edition-none : {u : ℕ} → (u ≡ 14 → ⊥) → (0 ≡ editionIn u) × (
 unfolding editionIn
 edition-none {u} e = (rw (ne-eqb u 14 e) refl, omega arith)
 
--- what block 0 says, in the terms of code
+-- the fields of block 0, as the code reads them
 pub header-is : (bs : List ℕ) {nodes names used d e k m : ℕ} → nodes ≡ field 2 bs 4 → names ≡ field 2 bs 6
     → used ≡ field 2 bs 2 → d ≡ dialectIn used → e ≡ editionIn used → k ≡ blocksFor names
     → m ≡ blocksFor (24 * nodes)
@@ -72,7 +77,7 @@ unfolding headerAt
 header-is bs nodes-is names-is used-is d-is e-is k-is m-is =
     rw (m-is, k-is, d-is, e-is, used-is, names-is, nodes-is) refl
 
--- a part that holds block 0's counts says the same
+-- the first n bytes have the same header if they contain the counts
 pub header-front : (n : ℕ) (bs : List ℕ) → 8 ≤ n → headerAt (take n bs) ≡ headerAt bs
 unfolding headerAt
 header-front n bs h = rw (
@@ -81,7 +86,7 @@ header-front n bs h = rw (
   field-take 2 bs n 2 (omega arith),
 ) refl
 
--- where that puts the blocks
+-- the places of the blocks
 module _ (bs : List ℕ) where
   pub first-is : headerAt bs .first ≡ 1 + blocksFor (headerAt bs .names)
   unfolding headerAt
@@ -107,7 +112,7 @@ module _ (bs : List ℕ) where
       few true = omega arith
       few false = omega arith
 
-  -- an edition byte stands behind nine dialect bytes
+  -- an edition byte comes after nine dialect bytes
   edition-behind : take (headerAt bs .edition) (drop (8 + headerAt bs .dialect) bs)
       ≡ take (headerAt bs .edition) (drop 17 bs)
   unfolding headerAt editionIn dialectIn
@@ -121,7 +126,7 @@ module _ (bs : List ℕ) where
       go true false = refl
       go false false = refl
 
-  -- LAW: the edition that is stated is the byte behind them
+  -- LAW: the stated edition is the byte after them
   pub stated-is : statedBytes (contentAt bs .edition) ≡ take (headerAt bs .edition) (drop 17 bs)
   unfolding contentAt
   stated-is = one (headerAt bs .edition) (drop 17 bs) edition-few
@@ -136,7 +141,7 @@ module _ (bs : List ℕ) where
   unfolding contentAt
   dialect-is = refl
 
-  -- LAW: what block 0 holds behind its counts is the dialect and the edition
+  -- LAW: the used bytes of block 0 after its counts are the dialect and the edition
   pub tail-is : take (headerAt bs .dialect + headerAt bs .edition) (drop 8 bs)
       ≡ contentAt bs .dialect ++ statedBytes (contentAt bs .edition)
   tail-is = take-add (headerAt bs .dialect) (headerAt bs .edition) (drop 8 bs)
@@ -155,7 +160,7 @@ counts-small nodes names e =
 pub used-small : (bs : List ℕ) {h : Heading} → h ≡ headerAt bs → usedOf h ≤ 14
 used-small bs h-is = rw h-is (omega (arith, dialect-few bs, edition-few bs))
 
--- the blocks of the file at the front, step by step; h is what block 0 says
+-- the returns of `judge_front` in order; h is the header
 module _ (bs : List ℕ) (h : Heading) (z : Judged) (z-is : judged z ≡ judge 0 (usedOf h) bs) where
   pub front-zero : {n : ℕ} → z ≡ judgements.Refused n → refused n [] ≡ blocksCheck h bs
   unfolding blocksCheck
@@ -185,7 +190,7 @@ module _ (bs : List ℕ) (h : Heading) (z : Judged) (z-is : judged z ≡ judge 0
           unfolding blocksCheck
           front-nodes x-is = x-is ∙ rw (tail-part (512 * h .first) bs, ← z-is, z-good, ← f-is, f-yes, run, r-good) refl
 
--- a run of names that passes is there
+-- a run of names that passes is present whole
 pub names-long : (bs : List ℕ) {h : Heading} → h ≡ headerAt bs → (r : Judged)
     → judged r ≡ judgeRun 1 (h .names) (take (length bs - 512) (drop 512 bs)) → r ≡ Passed → 512 ≤ length bs
     → 512 * h .first ≤ length bs
@@ -196,7 +201,7 @@ names-long bs {h} h-is r r-is r-good long =
     let first : h .first ≡ 1 + blocksFor (h .names) = rw h-is (first-is bs) in
     omega (arith, there, length-drop 512 bs, first)
 
--- what is counted with counts that fit stays within the machine's words
+-- with counts within the limits, every product fits the machine's numbers
 module _ (bs : List ℕ) {h : Heading} (h-is : h ≡ headerAt bs) {f : Bool}
     (f-is : f ≡ countsFit (h .nodes) (h .names)) (f-yes : f ≡ true) where
   small : (1 ≤ h .nodes) × (h .nodes ≤ 2100) × (h .names ≤ 8064)
@@ -215,14 +220,14 @@ module _ (bs : List ℕ) {h : Heading} (h-is : h ≡ headerAt bs) {f : Bool}
   pub first-bytes : 512 * h .first < 2 ^ 64
   first-bytes = omega (arith, first-few)
 
--- what the blocks of a file say once they pass
+-- what the blocks of a file fulfil if they pass
 pub record Fronted (bs : List ℕ) : Type 0 where
   pub header : Passing 0 (usedOf (headerAt bs)) bs
   pub counts : (1 ≤ headerAt bs .nodes) × (headerAt bs .nodes ≤ 2100) × (headerAt bs .names ≤ 8064)
   pub names : judgeRun 1 (headerAt bs .names) (drop 512 bs) ≡ accepted []
   pub nodes : judgeRun (headerAt bs .first) (24 * headerAt bs .nodes) (drop (512 * headerAt bs .first) bs) ≡ accepted []
 
--- a demand that is met, and what follows it
+-- a test that is passed, and what follows it
 pub demand-then : (b : Bool) (n : ℕ) (next : Unit {0} → Answer) → andThen (demand b n) next ≡ accepted []
     → (b ≡ true) × (next tt ≡ accepted [])
 demand-then true n next e = (refl, e)
@@ -259,7 +264,7 @@ module _ (bs : List ℕ) where
   pub fronted : frontCheck bs ≡ accepted [] → Fronted bs
   fronted e = fronted-then (λ _. accepted []) (rw e refl) .0
 
-  -- how much of the bytes is there, and how much it holds
+  -- the bytes that are present, and the lengths of the parts
   module _ (f : Fronted bs) where
     pub names-there : 512 * blocksFor (headerAt bs .names) ≤ length (drop 512 bs)
     names-there = run-long 1 (headerAt bs .names) (drop 512 bs) (f .names)
@@ -287,7 +292,7 @@ module _ (bs : List ℕ) where
     unfolding contentAt
     dialect-length = dialect-long bs (headerAt bs .dialect) (f .header .long) (dialect-few bs)
 
--- 1 to 5, of the parts as code cuts them: x is what `edition_held` read, and g what `enter_rules` answered
+-- the returns of `check`: x is the answer of `edition_held`, and g that of `enter_rules`
 module _ (t : List ℕ) (a : ℕ) (ns : List ℕ) (b : ℕ) (ds : List ℕ) (d : ℕ) (edition : Stated) {x : EditionRead}
     (x-is : x ≡ editionHeld (take (d - 0) ds) (statedBytes edition)) (g : Ruled)
     (g-is : ruled g ≡ rulesOf (take (a - 0) t) (take (b - 0) ns) (take (d - 0) ds) x) where

@@ -1,9 +1,9 @@
--- Reading into lent memory, in the terms of code. The whole check is 70 to 75, then 1 to 5 (`read-steps`), then 7
--- (`into-steps`). `unpack` looks at 70 to 75 alone: where they refuse, the arrays stay (`unpack-kept`), else they get
--- what the file holds (`unpack-table-done`, `unpack-names-done`); `unpacked-table` and `unpacked-names` are for a job
--- that runs on them. `read_into` unpacks into arrays of its own, which then hold the file (`read-holds`); 1 to 5 and 7
--- on them are the rest of the check (`into-so`), and only where all is passed a buffer changes (`into-kept`,
--- `into-table-done`, `into-names-done`). Assumes nothing.
+-- Reading into the caller's memory. The whole check is 70 to 75, then 1 to 5 (`read-steps`), then 7 (`into-steps`).
+-- `unpack` tests 70 to 75 alone: if they refuse, the arrays stay (`unpack-kept`), else they get the content
+-- (`unpack-table-done`, `unpack-names-done`); `unpacked-table` and `unpacked-names` are for a job that runs on these
+-- arrays. `read_into` unpacks into arrays of its own, which then hold the file (`read-holds`); 1 to 5 and 7 on them
+-- are the rest of the check (`into-so`). A buffer changes only if all is passed (`into-kept`, `into-table-done`,
+-- `into-names-done`). Assumes nothing.
 use mathlib.Core.Path.{_≡_, refl, sym, ap, _∙_}
 use mathlib.Core.Bool.{Bool, true, false, _&&_}
 use mathlib.Core.List.{List, [], _++_}
@@ -38,7 +38,7 @@ use Rattle.tablefile.proofs.Fronts.{first-is, taken-is, Fronted, fronte
 use Rattle.tablefile.proofs.Fronts.{table-length, names-length}
 use Rattle.tablefile.proofs.Accepted.{read-fronted}
 
--- the dialect bytes of a file, as code cuts them
+-- the returns of `dialect_bytes`
 module _ (bs : List ℕ) where
   pub dialect-away : length bs < 8 → take (0 - 0) bs ≡ contentAt bs .dialect
   unfolding contentAt
@@ -62,7 +62,7 @@ module _ (bs : List ℕ) where
     unfolding contentAt
     dialect-there = let e : len - 0 ≡ len = omega arith in rw (tail-part 8 bs, ← so-many, e) refl
 
--- the edition byte, as code reads it
+-- the returns of `stated_edition`
 module _ (bs : List ℕ) where
   pub edition-away : length bs < 18 → Nothing ≡ contentAt bs .edition
   unfolding contentAt
@@ -100,7 +100,7 @@ module _ {x y : Answer} (y-is : y ≡ x) {q : Bool} (q-is : q ≡ isRefused y) w
       go (accepted us) e = (us, refl)
       go (refused n us) e = clash refl e
 
-  -- it is not followed by anything else where it is one
+  -- nothing follows a refusal
   stops : q ≡ true → (next : Unit {0} → Answer) → y ≡ andThen x next
   stops h next = rw (← y-is) (go y (sym q-is ∙ h))
     where
@@ -108,7 +108,7 @@ module _ {x y : Answer} (y-is : y ≡ x) {q : Bool} (q-is : q ≡ isRefused y) w
       go (accepted us) e = clash e refl
       go (refused n us) e = refl
 
--- 70 to 75, step by step
+-- the returns of `judge_file`: 70 to 75
 module _ (bs : List ℕ) {h : Heading} (h-is : h ≡ headerAt bs) (j : Judged) (j-is : judged j ≡ blocksCheck h bs) where
   front-is : judged j ≡ frontCheck bs
   front-is = rw h-is at j-is
@@ -132,7 +132,7 @@ unfolding readCheck fileCheck
 read-steps bs = sym (after-both (frontCheck bs)
     (λ _. demand (leb (length bs) (headerAt bs .taken)) bytesLeftOver) (λ _. soundCheck (contentAt bs)))
 
--- and 7 behind that is the job
+-- the whole job adds 7
 into-steps : (bs : List ℕ) (a b : ℕ) → intoCheck bs a b ≡ andThen (fileCheck bs) (λ _.
     andThen (soundCheck (contentAt bs)) (λ _.
     demand (leb (24 * headerAt bs .nodes) a && leb (headerAt bs .names) b) shortBuffer))
@@ -143,7 +143,7 @@ into-steps bs a b =
     ap (λ (x : Answer). andThen x room) (read-steps bs)
     ∙ after-both (fileCheck bs) (λ _. soundCheck (contentAt bs)) room
 
--- where 7 is passed, table and names fit
+-- if 7 is passed, table and names fit
 room-there : (x : Answer) (t a n b : ℕ) {us : List ℕ}
     → andThen x (λ _. demand (leb t a && leb n b) shortBuffer) ≡ accepted us → (t ≤ a) × (n ≤ b)
 room-there x t a n b e =
@@ -151,7 +151,7 @@ room-there x t a n b e =
     (passed-both x (λ _. demand (leb t a && leb n b) shortBuffer) e .2) in
     (leb-true t a (and-left (leb t a) (leb n b) fits), leb-true n b (and-right (leb t a) (leb n b) fits))
 
--- 7 behind an answer, step by step
+-- the returns of `judge_room`: 7 after an answer
 module _ (x : Answer) {q : Bool} (q-is : q ≡ isRefused x) (t a n b : ℕ) where
   pub room-before : q ≡ true → x ≡ andThen x (λ _. demand (leb t a && leb n b) shortBuffer)
   room-before h = stops refl q-is h (λ _. demand (leb t a && leb n b) shortBuffer)
@@ -168,7 +168,7 @@ module _ (x : Answer) {q : Bool} (q-is : q ≡ isRefused x) (t a n b : ℕ) wher
         → refused shortBuffer [] ≡ andThen x (λ _. demand (leb t a && leb n b) shortBuffer)
     room-short fits = rw (passed .1, fits) refl
 
--- 70 to 75 give no values
+-- 70 to 75 carry no values
 file-plain : (bs : List ℕ) {us : List ℕ} → fileCheck bs ≡ accepted us → fileCheck bs ≡ accepted []
 unfolding fileCheck
 file-plain bs e =
@@ -203,7 +203,7 @@ handed-long x bs buffer {us} {ys} x-is fits ys-is =
     let so : ys ≡ bs ++ drop (length bs) buffer = ys-is ∙ rw x-is refl in
     rw so (simp (length-append, length-drop) (omega arith))
 
--- a file whose 70 to 75 are passed: how long its parts are, and the arrays that `unpack` leaves
+-- a file that passes 70 to 75: the lengths of its parts, and the arrays that `unpack` leaves
 module _ (bs : List ℕ) (good : fileCheck bs ≡ accepted []) {h : Heading} (h-is : h ≡ headerAt bs) where
   fronted-so : Fronted bs
   fronted-so = file-fronted bs good
@@ -226,7 +226,7 @@ module _ (bs : List ℕ) (good : fileCheck bs ≡ accepted []) {h : Heading} (h-
     names-array w-is = handed-long _ _ (replicate 8064 0) good
         (omega (arith, ns-long, few, length-replicate {A = ℕ} 8064 0)) w-is ∙ length-replicate {A = ℕ} 8064 0
 
--- a file into two arrays, step by step: x is what 70 to 75 say
+-- the returns of `unpack`: x is the answer of 70 to 75
 module _ (bs : List ℕ) {h : Heading} (h-is : h ≡ headerAt bs) {x : Answer} (x-is : x ≡ fileCheck bs) {q : Bool}
     (q-is : q ≡ isRefused x) where
   pub unpack-kept : q ≡ true → (xs buffer : List ℕ) → buffer ≡ handed (fileCheck bs) xs buffer
@@ -264,7 +264,7 @@ module _ (bs : List ℕ) {h : Heading} (h-is : h ≡ headerAt bs) {x : Answer} (
     unfolding contentAt
     unpack-names-done ns ns-is = handed-is _ ns (ns-long bs good h-is) good (ns-is ∙ rw h-is refl)
 
--- the arrays that `unpack` has filled, for who runs a job on them: v is what it answered
+-- the arrays that `unpack` has filled, for a job that runs on them: v is its answer
 module _ (bs : List ℕ) (v : Verdict) (v-is : verdict v ≡ fileCheck bs) (v-good : v ≡ Accepted) {h : Heading}
     (h-is : h ≡ headerAt bs) where
   pub unpacked-good : fileCheck bs ≡ accepted []
@@ -291,7 +291,7 @@ module _ (bs : List ℕ) (v : Verdict) (v-is : verdict v ≡ fileCheck bs) (v-go
         → take (h .names) w ≡ contentAt bs .names
     unpacked-names = handed-front _ _ _ unpacked-good (ns-long bs unpacked-good h-is)
 
--- a file into lent buffers, step by step: x is what `unpack` found, and p whether that is a refusal
+-- the returns of `read_into`: x is the answer of `unpack`, and p whether it is a refusal
 module _ (bs : List ℕ) {x : Answer} (x-is : x ≡ fileCheck bs) {p : Bool} (p-is : p ≡ isRefused x) where
   module _ (e : p ≡ true) (a b : ℕ) where
     pub unread-so : x ≡ intoCheck bs a b
@@ -319,7 +319,7 @@ module _ (bs : List ℕ) {x : Answer} (x-is : x ≡ fileCheck bs) {p : Bool} (p-
       names = handed-front _ _ _ read-good refl wn-is;
     }
 
--- what arrays hold into lent buffers, step by step
+-- the returns of `hand_over`: from the arrays into the caller's buffers
 module _ {bs wt wn : List ℕ} (holds : Holds bs wt wn) {h : Heading} (h-is : h ≡ headerAt bs) where
   pub into-fits : 24 * h .nodes < 2 ^ 64
   into-fits = omega (arith, few bs (holds .passed) h-is)
@@ -337,7 +337,8 @@ module _ {bs wt wn : List ℕ} (holds : Holds bs wt wn) {h : Heading} (h-is : h 
   pub into-names-within : h .names ≤ length wn
   into-names-within = omega (arith, length-take (h .names) wn, ap length its-names, ns-long bs (holds .passed) h-is)
 
-  -- s is what 1 to 5 say of them, j the same with 7 for buffers of a and b bytes, and q whether that is a refusal
+  -- s is the answer of 1 to 5 on the arrays, j that of 7 after it for buffers of a and b bytes, q whether j is a
+  -- refusal
   module _ {d : List ℕ} (d-is : d ≡ contentAt bs .dialect) {edition : Stated}
       (edition-is : edition ≡ contentAt bs .edition) {s : Answer}
       (s-is : s ≡ soundCheck (record {
@@ -383,7 +384,7 @@ module _ {bs wt wn : List ℕ} (holds : Holds bs wt wn) {h : Heading} (h-is : h 
         into-names-done ns ns-is =
             handed-is _ ns (ns-long bs (holds .passed) h-is) (good-so .1) (ns-is ∙ rw its-names refl)
 
--- LAW: a file that the reader accepts is handed over exactly where table and names fit
+-- LAW: of a file that the reader accepts, table and names are written exactly if both fit
 module _ (bs : List ℕ) (passed : readCheck bs ≡ accepted []) (a b : ℕ) where
   pub into-passed : length (contentAt bs .table) ≤ a → length (contentAt bs .names) ≤ b
       → intoCheck bs a b ≡ accepted []
@@ -394,7 +395,7 @@ module _ (bs : List ℕ) (passed : readCheck bs ≡ accepted []) (a b : ℕ) whe
       let n : headerAt bs .names ≤ b = omega (arith, names-length bs f, k) in
       rw (passed, le-leb (24 * headerAt bs .nodes) a t, le-leb (headerAt bs .names) b n) refl
 
--- LAW: what is handed over comes from a file whose blocks pass
+-- LAW: table and names are written only from a file whose blocks pass
 pub into-fronted : (bs : List ℕ) (a b : ℕ) → intoCheck bs a b ≡ accepted [] → Fronted bs
 unfolding intoCheck readCheck
 into-fronted bs a b e =

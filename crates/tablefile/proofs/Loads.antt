@@ -1,4 +1,9 @@
--- Laws of what the reader answers by value, in the terms of code. Assumes nothing.
+-- Laws of `read`, which returns the content by value. Blocks that pass contain the whole content (`load-table`,
+-- `load-names`, `load-dialect`), so `load` returns arrays with that content and zeros after it (`load-is`), and
+-- cutting them at their lengths gives the content back (`held-is`). The returns of `read` follow the order of
+-- `readCheck`: refused by a block (`read-front`), by bytes left over (`read-left`), by 1 to 5 (`read-unsound`), or
+-- accepted (`read-sound`); `meets-refused` and `meets-accepted` turn each into both promises. No induction. Assumes
+-- nothing.
 use mathlib.Core.Path.{_≡_, refl, sym, ap, _∙_}
 use mathlib.Core.List.{List, []}
 use Prim.Native.Nat.{ℕ, _+_, _*_, _-_, _^_, _<_, _≤_}
@@ -25,7 +30,7 @@ use Rattle.tablefile.specs.declared.Loaded.{Loaded}
 use Rattle.tablefile.proofs.Fronts.{first-is, taken-is, dialect-few, Fronted, fronted, first-there}
 use Rattle.tablefile.proofs.Fronts.{taken-there, table-length, names-length, dialect-length}
 
--- what code loads once the blocks pass
+-- what `load` returns if the blocks pass
 module _ (bs : List ℕ) {h : Heading} (h-is : h ≡ headerAt bs) (passed : frontCheck bs ≡ accepted []) where
   f : Fronted bs
   f = fronted bs passed
@@ -63,7 +68,7 @@ module _ (bs : List ℕ) {h : Heading} (h-is : h ≡ headerAt bs) (passed : fron
   load-is ts-is ns-is ds-is edition-is =
       rw (ts-is, ns-is, ds-is, edition-is, h-is, table-length bs f, names-length bs f, dialect-length bs f) refl
 
--- what an answer holds
+-- the content in an answer
 module _ (c : Content) (taken : ℕ) where
   pub held-is : held (loadedOf Accepted c taken) ≡ c
   unfolding held loadedOf laid
@@ -84,7 +89,7 @@ module _ (c : Content) (taken : ℕ) where
         omega (arith, length-append (c .dialect) (replicate (9 - length (c .dialect)) 0)),
       )
 
--- the answers meet the promise: a verdict that means a given answer, and what is laid out for it
+-- an answer meets both promises: its verdict has the given meaning, and the rest is that of the verdict
 module _ (x : Answer) (c : Content) (taken : ℕ) {r : Loaded} where
   pub meets-refused : (why : Refusal) → r ≡ loadedOf (Refused why) none 0 → refusal why ≡ x
       → (verdict (r .verdict) ≡ x) × (r ≡ loadedOf (r .verdict) c taken)
@@ -96,7 +101,7 @@ module _ (x : Answer) (c : Content) (taken : ℕ) {r : Loaded} where
   unfolding loadedOf
   meets-accepted r-is x-is = rw r-is (x-is, refl)
 
--- the whole file, step by step
+-- the returns of `read`, in order
 module _ (bs : List ℕ) {h : Heading} (h-is : h ≡ headerAt bs) (j : Judged) (j-is : judged j ≡ blocksCheck h bs) where
   judged-is : judged j ≡ frontCheck bs
   judged-is = rw h-is at j-is

@@ -1,4 +1,7 @@
--- Two answers that meet the promise of a public function coincide. Assumes nothing.
+-- Each public function has one answer: two answers that meet its promise are equal, and so are the buffers at exit.
+-- Where the promise is an equation, `coincide` suffices. A verdict is promised by its meaning; no two verdicts have
+-- the same meaning (Accepted's `verdict-injective`), so `coincide-by` applies. `read` promises its verdict by meaning
+-- and the rest as a function of that verdict (`one`). Assumes nothing.
 use mathlib.Core.Path.{_≡_, sym, ap, _∙_}
 use mathlib.Core.Bool.{Bool}
 use mathlib.Core.List.{List}
@@ -16,7 +19,7 @@ use Rattle.tablefile.specs.declared.Loaded.{Loaded}
 use Rattle.tablefile.specs.declared.Heading.{Heading}
 use Rattle.tablefile.proofs.Accepted.{verdict-injective}
 
--- an answer and what is laid out for its verdict
+-- an answer of `read`: the verdict by its meaning, the rest by the verdict
 one : (x : Answer) (c : Content) (n : ℕ) (r s : Loaded) → verdict (r .verdict) ≡ x → r ≡ loadedOf (r .verdict) c n
     → verdict (s .verdict) ≡ x → s ≡ loadedOf (s .verdict) c n → r ≡ s
 one x c n r s p f q g =

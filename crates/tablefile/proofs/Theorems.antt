@@ -1,7 +1,8 @@
--- The table file, as document 01 asks for it, over the reader's promises:
--- an accepted file is the file of its answer; the file of a sound table is read as that table; and
--- any one changed byte in a block of an accepted file is refused with 72. A header has 4, 13 or 14 used bytes; files of
--- different contents differ, so that one with 13 used bytes and one with 14 and edition 1 do. Assumes nothing.
+-- The theorems on table files (docs/FORMAT.md, a table file), from the promises of the reader. An accepted file is
+-- the file of its answer; the file of a sound table is read back as that table; and any one changed byte of an
+-- accepted file is refused with 72. A header has 4, 13 or 14 used bytes, and files of different contents differ: so
+-- the file with 13 used bytes is not the file with 14 and edition 1. Each follows from Accepted and Files in a step.
+-- Assumes nothing.
 use mathlib.Core.Path.{_≡_, refl, sym, ap, _∙_}
 use mathlib.Core.List.{List, [], _++_}
 use mathlib.Core.Logic.{_⊎_, inl, inr, ⊎-elim}
@@ -37,7 +38,7 @@ use Rattle.tablefile.proofs.Accepted.{back-accepted}
 abbrev pub Read : List ℕ → Loaded → Type 0
 Read bs r = (verdict (r .verdict) ≡ readCheck bs) × (r ≡ loadedOf (r .verdict) (contentAt bs) (headerAt bs .taken))
 
--- an answer that is accepted holds what stands there
+-- an accepted answer holds the content of the file
 pub holds : (bs : List ℕ) (r : Loaded) → r ≡ loadedOf (r .verdict) (contentAt bs) (headerAt bs .taken)
     → r .verdict ≡ Accepted
     → held r ≡ contentAt bs
@@ -50,7 +51,7 @@ pub accepted-is-file : (file : List ℕ) (r : Loaded) → Bytes file → Read fi
 accepted-is-file file r small p good =
     read-is-file file (sym (p .0) ∙ ap verdict good) small ∙ ap fileOf (sym (holds file r (p .1) good))
 
--- and its answer is sound
+-- its answer is sound
 pub accepted-is-sound : (file : List ℕ) (r : Loaded) → Read file r → r .verdict ≡ Accepted
     → soundCheck (held r) ≡ accepted []
 accepted-is-sound file r p good =
@@ -82,7 +83,7 @@ sound-edition c sound =
     let known = sound-known c sound in
     (known .edition, known .held, number-held (c .dialect) (c .edition) (known .held))
 
--- so it is in what an accepted file answers
+-- the same for the answer of an accepted file
 pub accepted-edition : (file : List ℕ) (r : Loaded) → Read file r → r .verdict ≡ Accepted
     → (numberHeld (r .edition) ≡ 1) ⊎ (numberHeld (r .edition) ≡ 2)
 unfolding held
@@ -107,7 +108,7 @@ first-is-seen c d s t none first e =
     let no : Nothing ≡ Number 1 = sym none ∙ same ∙ first in
     never (cc)
 
--- any one byte of an accepted file changed to any other value is refused with 72, and the answer is all zero
+-- an accepted file with any one byte changed is refused with 72, and the answer is all zero
 pub changed-byte : (file : List ℕ) (r : Loaded) (i v : ℕ) (s : Loaded) → Read file r → r .verdict ≡ Accepted
     → i < length file → (v ≡ getD file i 0 → ⊥) → Read (set file i v) s
     → s ≡ loadedOf (Refused (Bare blockCheck)) none 0
@@ -118,18 +119,18 @@ changed-byte file r i v s p good h other q =
     (q .0 ∙ read-changed file (sym (p .0) ∙ ap verdict good) i v h other) in
     q .1 ∙ ap (λ (w : Verdict). loadedOf w (contentAt (set file i v)) (headerAt (set file i v) .taken)) told
 
--- the same of the one file at the front of some bytes, which `frontCheck` judges: what it takes is the file of what it
--- holds
+-- the same for the file at the front of some bytes, which `frontCheck` judges: the bytes that it takes are the file
+-- of its content
 module _ (bytes : List ℕ) (good : frontCheck bytes ≡ accepted []) where
   pub front-accepted-is-file : Bytes bytes → take (headerAt bytes .taken) bytes ≡ fileOf (contentAt bytes)
   front-accepted-is-file small = front-is-file bytes small (fronted bytes good)
 
-  -- any one byte of it changed to any other value is refused with 72
+  -- with any one of these bytes changed, it is refused with 72
   pub front-changed-byte : (i v : ℕ) → i < headerAt bytes .taken → (v ≡ getD bytes i 0 → ⊥)
       → frontCheck (set bytes i v) ≡ refused blockCheck []
   front-changed-byte i v h other = front-changed bytes (fronted bytes good) i v other h
 
--- and the file of a content within the limits is read as that content, whatever stands behind it
+-- the file of a content within the limits is read as that content, whatever bytes follow it
 pub front-read-back : (c : Content) (rest : List ℕ) → Fits c
     → (frontCheck (fileOf c ++ rest) ≡ accepted []) × (contentAt (fileOf c ++ rest) ≡ c)
     × (headerAt (fileOf c ++ rest) .taken ≡ length (fileOf c))

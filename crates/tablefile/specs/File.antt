@@ -1,4 +1,5 @@
--- The table file: what a file is for a table, names, a dialect or none, and an edition or none. These are definitions.
+-- The table file (docs/FORMAT.md, a table file): the one file of a table, names, a dialect or none, and an edition or
+-- none. These are definitions.
 use mathlib.Core.List.{List, _++_}
 use Prim.Native.Nat.{ℕ, _+_, _/_}
 use lib.ListN.{length}
@@ -9,23 +10,24 @@ use Rattle.fields.specs.Field.{bytesOf}
 use Rattle.blocks.specs.Block.{blockOf}
 use Rattle.blocks.specs.Run.{blocksFor, runOf}
 
--- what a file holds: a table, names, the bytes of a dialect, none or nine, and the number of an edition or nothing
+-- the content of a file: a table, names, none or nine dialect bytes, and the number of an edition or nothing
 pub record Content : Type 0 where
   pub table : List ℕ
   pub names : List ℕ
   pub dialect : List ℕ
   pub edition : Stated
 
--- what block 0 holds: node count, name byte count (2 bytes each), the dialect and the edition, so 4, 13 or 14 used
+-- the content of block 0: the numbers of nodes and of name bytes (2 bytes each), the dialect and the edition; so 4,
+-- 13 or 14 bytes are used
 unfoldable pub headerOf : Content → List ℕ
 headerOf c =
     bytesOf 2 (length (c .table) / recordBytes)
     ++ (bytesOf 2 (length (c .names)) ++ (c .dialect ++ statedBytes (c .edition)))
 
--- the file: block 0, then names, 504 a block, and nodes, 21 a block; the numbers run on
+-- the file: block 0, then the names, 504 bytes a block, and the nodes, 21 a block; the block numbers increase by one
 unfoldable pub fileOf : Content → List ℕ
 fileOf c = blockOf 0 (headerOf c) ++ (runOf 1 (c .names) ++ runOf (1 + blocksFor (length (c .names))) (c .table))
 
--- the most blocks that a file has: block 0, 16 with 8,064 name bytes, 100 with 2,100 nodes
+-- the largest number of blocks in a file: block 0, 16 with 8,064 name bytes, 100 with 2,100 nodes
 abbrev pub mostBlocks : ℕ
 mostBlocks = 117

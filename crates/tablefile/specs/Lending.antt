@@ -1,4 +1,4 @@
--- Reading a file into lent buffers: the job's answer, and the buffers at exit. These are definitions.
+-- Reading a file into the caller's buffers: the job's answer, and the buffers at exit. These are definitions.
 use mathlib.Core.Path.{_≡_}
 use mathlib.Core.Bool.{_&&_}
 use mathlib.Core.List.{List, [], _++_}
@@ -17,25 +17,25 @@ use Rattle.tablefile.specs.Reading.{headerAt, contentAt, frontCheck, rea
 unfoldable pub fileCheck : List ℕ → Answer
 fileCheck bs = andThen (frontCheck bs) (λ _. demand (leb (length bs) (headerAt bs .taken)) bytesLeftOver)
 
--- the job, for buffers of so many bytes: the reader's refusals, then 7 where the table or the names do not fit
+-- the job, given the lengths of the two buffers: the reader's refusals, then 7 if the table or the names do not fit
 unfoldable pub intoCheck : List ℕ → ℕ → ℕ → Answer
 intoCheck bs table names =
     andThen (readCheck bs) (λ _.
     demand (leb (recordBytes * headerAt bs .nodes) table && leb (headerAt bs .names) names) shortBuffer)
 
--- a buffer at exit: bytes over its front where a check is passed, else as it was
+-- a buffer at exit: the bytes written over its front if a check is passed, else unchanged
 unfoldable pub handed : Answer → List ℕ → List ℕ → List ℕ
 handed (accepted vs) bs buffer = bs ++ drop (length bs) buffer
 handed (refused n vs) bs buffer = buffer
 
 -- a buffer after `len` content bytes, of the blocks numbered from `first` on, are copied to its front, if these blocks
--- are there and the buffer has room; else as it was
+-- are present and the buffer has room; else unchanged
 unfoldable pub copied : ℕ → ℕ → List ℕ → List ℕ → List ℕ
 copied first len bs buffer =
     if' (leb (blockBytes * (first + blocksFor len)) (length bs) && leb len (length buffer))
     (λ _. contentOf len (drop (blockBytes * first) bs) ++ drop len buffer) (λ _. buffer)
 
--- two arrays that hold a file which passes 70 to 75, its table and its names at their fronts
+-- two arrays that begin with the table and the names of a file that passes 70 to 75
 pub record Holds (bs t ns : List ℕ) : Type 0 where
   pub passed : fileCheck bs ≡ accepted []
   pub table : take (length (contentAt bs .table)) t ≡ contentAt bs .table

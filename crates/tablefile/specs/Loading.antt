@@ -1,5 +1,5 @@
--- What the reader answers by value: table, names and dialect with their lengths, zero past them, and the edition; all
--- zero and no edition when refused. These are definitions.
+-- What the reader returns by value: table, names and dialect with their lengths, zeros after them, and the edition.
+-- If the file is refused, all is zero, with no edition. These are definitions.
 use mathlib.Core.List.{List, [], _++_}
 use Prim.Native.Nat.{ℕ, _-_}
 use lib.ListN.{length, take, replicate}
@@ -11,16 +11,16 @@ use Rattle.tablefile.specs.declared.Verdict.{Verdict}
 use Rattle.tablefile.specs.declared.Verdict.the-variants.{Accepted, Refused}
 use Rattle.tablefile.specs.declared.Loaded.{Loaded}
 
--- what a verdict means
+-- the meaning of a verdict
 abbrev pub verdict : Verdict → Answer
 verdict Accepted = accepted []
 verdict (Refused r) = refusal r
 
--- bytes at the front of so many, and zeros past them
+-- these bytes, followed by zeros up to length n
 unfoldable pub laid : ℕ → List ℕ → List ℕ
 laid n l = l ++ replicate (n - length l) 0
 
--- the answer: all zero when refused; else what the file holds, and how many bytes it takes
+-- the answer: all zero if refused; else the content of the file, and its length in bytes
 unfoldable pub loadedOf : Verdict → Content → ℕ → Loaded
 loadedOf Accepted c taken = record {
   verdict = Accepted;
@@ -45,11 +45,11 @@ loadedOf (Refused r) c taken = record {
   edition = Nothing;
 }
 
--- nothing held
+-- the empty content
 abbrev pub none : Content
 none = record { table = []; names = []; dialect = []; edition = Nothing }
 
--- what an answer holds: the bytes within its lengths
+-- the content of an answer: the bytes within its lengths
 unfoldable pub held : Loaded → Content
 held r = record {
   table = take (r .«table_len») (r .table);

@@ -1,4 +1,5 @@
--- Reading: the one file at the front of some bytes, and a file that is all there is. These are definitions.
+-- Reading a table file: the file at the front of some bytes, and a file that is all of the bytes (docs/FORMAT.md, a
+-- table file). These are definitions.
 use mathlib.Core.Bool.{Bool, _&&_, _||_}
 use mathlib.Core.List.{List, [], _∷_}
 use Prim.Native.Nat.{ℕ, _+_, _*_}
@@ -19,16 +20,16 @@ use Rattle.blocks.specs.Run.{blocksFor, judgeRun, contentOf}
 use Rattle.tablefile.specs.File.{Content}
 use Rattle.tablefile.specs.declared.Heading.{Heading}
 
--- how many dialect bytes block 0 has: nine if it uses 13 or 14, else none
+-- the number of dialect bytes in block 0: nine if it uses 13 or 14 bytes, else none
 unfoldable pub dialectIn : ℕ → ℕ
 dialectIn used = if' (eqb used 13 || eqb used 14) (λ _. 9) (λ _. 0)
 
--- how many edition bytes: one if it uses 14, else none, so that any used bytes but 4, 13 and 14 are 73
+-- the number of edition bytes: one if it uses 14 bytes, else none; so any number of used bytes but 4, 13 and 14 is 73
 unfoldable pub editionIn : ℕ → ℕ
 editionIn used = if' (eqb used 14) (λ _. 1) (λ _. 0)
 
--- what block 0 says: node count, name byte count, dialect bytes, edition bytes; and where that puts the blocks: the
--- names from block 1 on, then the nodes
+-- the header, read from block 0: the numbers of nodes, name bytes, dialect bytes and edition bytes; and from these the
+-- places of the blocks: the names from block 1 on, then the nodes
 unfoldable pub headerAt : List ℕ → Heading
 headerAt bs =
     let nodes = field 2 bs 4 in
@@ -42,16 +43,16 @@ headerAt bs =
       taken = blockBytes * (1 + blocksFor names + blocksFor (recordBytes * nodes));
     }
 
--- the used bytes of block 0 that fit what it says: the two counts, the dialect and the edition
+-- the number of used bytes that block 0 must have: the two counts, the dialect and the edition
 abbrev pub usedOf : Heading → ℕ
 usedOf h = 4 + h .dialect + h .edition
 
--- the edition that such bytes state
+-- the edition that these bytes state
 abbrev pub statedIn : List ℕ → Stated
 statedIn [] = Nothing
 statedIn (n ∷ ns) = Number n
 
--- what it holds: the dialect stands behind the counts, and the edition behind nine dialect bytes
+-- the content of the file: the dialect follows the counts, and the edition follows nine dialect bytes
 unfoldable pub contentAt : List ℕ → Content
 contentAt bs =
     let h = headerAt bs in
@@ -77,16 +78,16 @@ blocksCheck h bs =
 abbrev pub frontCheck : List ℕ → Answer
 frontCheck bs = blocksCheck (headerAt bs) bs
 
--- the edition that holds: the first where none is stated
+-- the edition that holds: edition 1 if none is stated
 abbrev pub editionRead : Content → EditionRead
 editionRead c = editionHeld (c .dialect) (statedBytes (c .edition))
 
--- its number
+-- the number of the edition that holds
 abbrev pub numberHeld : Stated → ℕ
 numberHeld (Number n) = n
 numberHeld Nothing = 1
 
--- 1 to 5, of what a file holds
+-- 1 to 5, on the content of a file
 abbrev pub soundCheck : Content → Answer
 soundCheck c = rulesCheck (c .table) (c .names) (c .dialect) (editionRead c)
 

@@ -1,4 +1,5 @@
-// The reader of table files: the one file at the front of some bytes, or a file that is all there is.
+// The reader of table files (docs/FORMAT.md, a table file): the file at the front of some bytes, or a file that is
+// all of the bytes.
 use blocks::BLOCK_BYTES;
 use blocks::Judged;
 use dialect::Stated;
@@ -26,7 +27,7 @@ ghost use Rattle.tablefile.specs.Loading.{verdict, laid, loadedOf, none}
 ghost use Rattle.tablefile.specs.Lending.{fileCheck, intoCheck, handed, copied, Holds};
 ghost use Rattle.tablefile.specs.declared.Verdict.the-variants.{Accepted, Refused};
 
-// The most blocks that a file has: block 0, 16 with 8,064 name bytes, 100 with 2,100 nodes.
+// The largest number of blocks in a file: block 0, 16 with 8,064 name bytes, 100 with 2,100 nodes.
 pub const MOST_BLOCKS: usize = 117;
 
 // Whether a file is accepted, or why it is refused.
@@ -35,8 +36,8 @@ pub enum Verdict {
     Refused(Refusal),
 }
 
-// What a file holds, by value, and how many bytes it takes. Where it has no dialect, dialect_len is 0. All is zero past
-// the lengths, and all is zero, with no edition, when refused.
+// The content of a file by value, and the number of bytes that the file takes. Without a dialect, dialect_len is 0. The
+// bytes past the lengths are zero. If the file is refused, all is zero, with no edition.
 pub struct Loaded {
     pub verdict: Verdict,
     pub taken: usize,
@@ -49,8 +50,8 @@ pub struct Loaded {
     pub edition: Stated,
 }
 
-// What block 0 says of a file, and where that puts its blocks: how many nodes, name bytes, dialect bytes and edition
-// bytes there are, the number of the first node block, and how many bytes the file takes.
+// The header of a file, and from it the places of its blocks: the numbers of nodes, name bytes, dialect bytes and
+// edition bytes, the number of the first node block, and the number of bytes that the file takes.
 pub struct Heading {
     pub nodes: usize,
     pub names: usize,
@@ -60,8 +61,7 @@ pub struct Heading {
     pub taken: usize,
 }
 
-// What the first bytes of a file say, were they its block 0. It takes any bytes; who judges the file judges block 0
-// too.
+// Reads the header from the first bytes of a file. It takes any bytes and does not judge block 0.
 pub fn header(bytes: &[u8]) -> Heading
     ensures { λ r. ⌜ r ≡ headerAt (now (bytes .entry)) ⌝ }
 {
@@ -80,7 +80,8 @@ pub fn header(bytes: &[u8]) -> Heading
     }
 }
 
-// A file by value: 70, 72, 71, 73 for each block, 74 after block 0, 75 for bytes left over, then 1 to 5.
+// Reads a file and returns its content by value. Refuses with 70, 72, 71, 73 for each block, 74 after block 0, 75 for
+// bytes left over, then 1 to 5.
 pub fn read(file: &[u8]) -> Loaded
     ensures { λ r. ⌜ verdict (r .verdict) ≡ readCheck (now (file .entry)) ⌝ }
     ensures { λ r. ⌜ r ≡ loadedOf (r .verdict) (contentAt (now (file .entry))) (headerAt (now (file .entry)) .taken) ⌝ }
@@ -113,8 +114,8 @@ pub fn read(file: &[u8]) -> Loaded
     l
 }
 
-// A file into two arrays that are large enough for every file: 70 to 75. A refusal changes no byte. Else table and
-// names stand at the fronts of the arrays, not checked: the job that gets them looks at 1 to 5.
+// Reads a file into two arrays that are large enough for every file. Refuses with 70 to 75, and a refusal changes no
+// byte. Else table and names are written to the fronts of the arrays; they are not checked for 1 to 5.
 pub fn unpack(file: &[u8], table: &mut [u8; MOST_BYTES], names: &mut [u8; MOST_NAMES]) -> Verdict
     ensures { λ r. ⌜ verdict r ≡ fileCheck (now (file .entry)) ⌝ }
     ensures { λ r. ⌜ now (table .exit) ≡
@@ -132,8 +133,8 @@ pub fn unpack(file: &[u8], table: &mut [u8; MOST_BYTES], names: &mut [u8; MOST_N
     judged
 }
 
-// A file into lent buffers: the refusals of `read`, then 7 for a buffer that is shorter than the table or the names. A
-// refusal changes no byte, and bytes past table and names stay.
+// Reads a file into the caller's buffers. Refuses as `read` does, then with 7 if a buffer is shorter than the table or
+// the names. A refusal changes no byte, and the bytes past table and names stay.
 pub fn read_into(file: &[u8], table: &mut [u8], names: &mut [u8]) -> Verdict
     ensures { λ r. ⌜ verdict r ≡
         intoCheck (now (file .entry)) (length (now (table .entry))) (length (now (names .entry))) ⌝ }
@@ -171,7 +172,7 @@ pub fn copy_content(bytes: &[u8], first: usize, len: usize, out: &mut [u8])
     copy(bytes, first, len, out)
 }
 
-// The dialect bytes of a file, were its first bytes its block 0: nine or none, or as many as are there.
+// The dialect bytes of a file, which is not judged: nine or none, or fewer if the file ends before.
 pub fn dialect_bytes(file: &[u8]) -> &[u8]
     ensures { λ r. ⌜ now r ≡ contentAt (now (file .entry)) .dialect ⌝ }
 {
@@ -186,7 +187,7 @@ pub fn dialect_bytes(file: &[u8]) -> &[u8]
     &rest[0..len]
 }
 
-// The edition that a file states, were its first bytes its block 0: the byte behind the dialect bytes, or nothing.
+// The edition that a file states, which is not judged: the byte after the dialect bytes, or nothing.
 pub fn stated_edition(file: &[u8]) -> Stated
     ensures { λ r. ⌜ r ≡ contentAt (now (file .entry)) .edition ⌝ }
 {
@@ -209,7 +210,7 @@ pub fn edition_number(stated: Stated) -> u32
     }
 }
 
-// 70 to 75: the blocks of the file at the front, then bytes left over.
+// Judges a file: 70 to 74 for its blocks, then 75 for bytes left over.
 fn judge_file(file: &[u8], h: Heading) -> Verdict
     requires { ⌜ h ≡ headerAt (now file) ⌝ }
     ensures { λ r. ⌜ verdict r ≡ fileCheck (now (file .entry)) ⌝ }
@@ -224,7 +225,7 @@ fn judge_file(file: &[u8], h: Heading) -> Verdict
     Verdict::Accepted
 }
 
-// 1 to 5, then 7, of what was unpacked of a file into two arrays; then puts table and names into the lent buffers.
+// Checks 1 to 5 and then 7 on a file that was unpacked into two arrays; then writes table and names into the buffers.
 fn hand_over(file: &[u8], t: &[u8], n: &[u8], table: &mut [u8], names: &mut [u8]) -> Verdict
     requires { ⌜ Holds (now file) (now t) (now n) ⌝ }
     ensures { λ r. ⌜ verdict r ≡
@@ -250,7 +251,7 @@ fn hand_over(file: &[u8], t: &[u8], n: &[u8], table: &mut [u8], names: &mut [u8]
     answer
 }
 
-// A verdict, then 7 for buffers of a and b bytes that are to hold t and n.
+// A verdict, then 7 unless t bytes fit into a and n bytes into b.
 fn judge_room(found: Verdict, t: usize, a: usize, n: usize, b: usize) -> Verdict
     ensures { λ r. ⌜ verdict r ≡ andThen (verdict found) (λ _. demand (leb t a && leb n b) shortBuffer) ⌝ }
 {
@@ -273,7 +274,7 @@ fn is_refused(found: Verdict) -> bool
     }
 }
 
-// The blocks of the file at the front, each in its turn.
+// Judges the blocks of the file at the front, one after another.
 fn judge_front(bytes: &[u8], h: Heading) -> Judged
     requires { ⌜ h ≡ headerAt (now bytes) ⌝ }
     ensures { λ r. ⌜ judged r ≡ blocksCheck h (now (bytes .entry)) ⌝ }
@@ -293,7 +294,7 @@ fn judge_front(bytes: &[u8], h: Heading) -> Judged
     blocks::judge_run(&bytes[at..], h.first as u16, RECORD * h.nodes)
 }
 
-// What the file at the front holds, if its blocks pass.
+// Loads the content of the file at the front, whose blocks pass.
 fn load(bytes: &[u8], h: Heading) -> Loaded
     requires { ⌜ (h ≡ headerAt (now bytes)) × (frontCheck (now bytes) ≡ accepted []) ⌝ }
     ensures { λ r. ⌜ r ≡ loadedOf Accepted (contentAt (now (bytes .entry))) (headerAt (now (bytes .entry)) .taken) ⌝ }
@@ -312,7 +313,7 @@ fn load(bytes: &[u8], h: Heading) -> Loaded
     }
 }
 
-// 1 to 5, of what a file holds: each array up to its length.
+// Checks 1 to 5 on the content of a file: each array up to its length.
 fn check(
     table: &[u8],
     t: usize,
@@ -342,7 +343,7 @@ fn check(
     }
 }
 
-// All zero, with the refusal.
+// The answer for a refused file: the refusal, and zeros.
 fn refused(why: Refusal) -> Loaded
     ensures { λ r. ⌜ r ≡ loadedOf (Refused why) none 0 ⌝ }
 {
@@ -359,28 +360,28 @@ fn refused(why: Refusal) -> Loaded
     }
 }
 
-// How many dialect bytes block 0 has, of so many used bytes.
+// The number of dialect bytes in block 0, given its number of used bytes.
 fn dialect_in(used: u16) -> usize
     ensures { λ r. ⌜ (r ≡ dialectIn used) × (r ≤ 9) ⌝ }
 {
     if (used == 13) | (used == 14) { 9 } else { 0 }
 }
 
-// How many edition bytes block 0 has, of so many used bytes.
+// The number of edition bytes in block 0, given its number of used bytes.
 fn edition_in(used: u16) -> usize
     ensures { λ r. ⌜ (r ≡ editionIn used) × (r ≤ 1) ⌝ }
 {
     if used == 14 { 1 } else { 0 }
 }
 
-// Whether counts are within the limits.
+// Whether the numbers of nodes and of name bytes are within the limits.
 pub fn counts_fit(nodes: usize, names: usize) -> bool
     ensures { λ r. ⌜ r ≡ countsFit nodes names ⌝ }
 {
     (1 <= nodes) & ((nodes <= MOST_NODES) & (names <= MOST_NAMES))
 }
 
-// Puts the first len of some bytes at the front of out.
+// Copies the first len bytes of `from` to the front of out.
 fn put(from: &[u8], len: usize, out: &mut [u8])
     requires { ⌜ (len ≤ length (now from)) × (len ≤ length (now out)) ⌝ }
     ensures { λ r. ⌜ now (out .exit) ≡ take len (now (from .entry)) ++ drop len (now (out .entry)) ⌝ }
@@ -392,7 +393,7 @@ fn put(from: &[u8], len: usize, out: &mut [u8])
     }
 }
 
-// Puts len content bytes of the blocks from a number on at the front of out, block by block.
+// Copies len content bytes, of the blocks numbered from `first` on, to the front of out, block by block.
 fn copy(bytes: &[u8], first: usize, len: usize, out: &mut [u8])
     requires { ⌜ (blockBytes * (first + blocksFor len) ≤ length (now bytes)) × (len ≤ length (now out)) ⌝ }
     ensures { λ r. ⌜ now (out .exit) ≡
@@ -408,7 +409,7 @@ fn copy(bytes: &[u8], first: usize, len: usize, out: &mut [u8])
     }
 }
 
-// The table that the blocks from a number on hold.
+// The table, read from the blocks numbered from `first` on.
 fn table_of(bytes: &[u8], first: usize, len: usize) -> [u8; MOST_BYTES]
     requires { ⌜ (blockBytes * (first + blocksFor len) ≤ length (now bytes)) × (len ≤ mostBytes) ⌝ }
     ensures { λ r. ⌜ r ≡ laid mostBytes (contentOf len (drop (blockBytes * first) (now (bytes .entry)))) ⌝ }
@@ -418,7 +419,7 @@ fn table_of(bytes: &[u8], first: usize, len: usize) -> [u8; MOST_BYTES]
     t
 }
 
-// The names that the blocks from block 1 on hold.
+// The names, read from the blocks numbered from 1 on.
 fn names_of(bytes: &[u8], len: usize) -> [u8; MOST_NAMES]
     requires { ⌜ (blockBytes * (1 + blocksFor len) ≤ length (now bytes)) × (len ≤ mostNames) ⌝ }
     ensures { λ r. ⌜ r ≡ laid mostNames (contentOf len (drop blockBytes (now (bytes .entry)))) ⌝ }
@@ -428,7 +429,7 @@ fn names_of(bytes: &[u8], len: usize) -> [u8; MOST_NAMES]
     t
 }
 
-// The dialect bytes that block 0 holds.
+// The dialect bytes of block 0.
 fn dialect_of(bytes: &[u8], len: usize) -> [u8; 9]
     requires { ⌜ (blockBytes ≤ length (now bytes)) × (len ≤ 9) ⌝ }
     ensures { λ r. ⌜ r ≡ laid 9 (take len (drop 8 (now (bytes .entry)))) ⌝ }

@@ -1,25 +1,24 @@
 // Rescues what it can of a table file: tablerescue IN NEW OUT, each the name of a file. It prints `statements S`,
-// `nodes N`, `dropped D` and `bytes B`, the last how many bytes stand after the header's last block; or, where nothing
-// can be rescued, the one line `refused K`, and then OUT is as it was. The file is made under the name NEW, flushed,
-// and only then takes the name OUT, so that no part of a file stands there at any time. IN is read to its end before,
-// so that it may be OUT.
-// It only reads, calls and writes: what is rescued is the library's, rescue.
+// `nodes N`, `dropped D` and `bytes B`, where B is the number of bytes after the header's last block; or, if nothing
+// can be rescued, the one line `refused K`, and OUT stays unchanged. The output is written to NEW, flushed and
+// renamed to OUT, so OUT is never a partial file. IN is read to its end before, so it may be OUT. The program only
+// reads and writes; what is rescued is decided by the library, rescue.
 use blocks::BLOCK_BYTES;
 use libc::STDOUT_FILENO;
 use rescue::Kept;
 use rescue::Rescued;
 use tablefile::MOST_BLOCKS;
 
-// The most bytes of a file: no more of the input decide what is rescued, and no output has more.
+// The length of the largest file: no more of the input decides what is rescued, and no output is longer.
 const MOST_FILE: usize = BLOCK_BYTES * MOST_BLOCKS;
 
-// How many bytes past those are read at once.
+// The number of bytes past those that are read at once.
 const AT_ONCE: usize = 65_536;
 
-// More bytes than any file has: counting ends there.
+// The limit of counting, more than the length of any file.
 const MOST_COUNTED: u64 = 0x4000_0000_0000_0000;
 
-// What counting answers where it fails.
+// The result of counting if a read fails.
 const FAILED: u64 = 0xFFFF_FFFF_FFFF_FFFF;
 
 fn main() {
@@ -38,8 +37,8 @@ fn main() {
     libc::close(fd);
 }
 
-// The first bytes, and how many there are behind them. Where a read failed between the two, bytes come behind first
-// bytes that are too few.
+// Reads the first bytes, and counts those after them. `io::read_full` does not report a failed read. If it returned too
+// few bytes and more follow, a read failed in between, and the input is reported as unreadable.
 fn run(fd: i32, name: &[u8]) {
     let mut input = [0u8; MOST_FILE];
     let n = io::read_full(fd, &mut input);
@@ -60,7 +59,7 @@ fn run(fd: i32, name: &[u8]) {
     save(&input[0..n], more);
 }
 
-// How many bytes there are up to the end of the input.
+// The number of bytes up to the end of the input.
 fn count_rest(fd: i32) -> u64 {
     let mut space = [0u8; AT_ONCE];
     let mut n = 0u64;
@@ -78,7 +77,7 @@ fn count_rest(fd: i32) -> u64 {
     FAILED
 }
 
-// What is rescued of the first bytes of a file, with so many more behind them.
+// Rescues the first bytes of a file, after which `more` bytes follow, and prints the result.
 fn save(input: &[u8], more: u64) {
     let mut file = [0u8; MOST_FILE];
     let rescued = rescue::rescue(input, &mut file);
@@ -92,7 +91,7 @@ fn save(input: &[u8], more: u64) {
     }
 }
 
-// Keeps the first bytes of a file, so many, under the name OUT; whether that is done.
+// Writes the first `size` bytes of a file under the name OUT. Returns false if that fails.
 fn keep(file: &[u8], size: usize) -> bool {
     if file.len() < size {
         return false;
@@ -112,8 +111,7 @@ fn keep(file: &[u8], size: usize) -> bool {
     replace(&file[0..size], &new[..k], &out[..m])
 }
 
-// Makes the file under the new name, which it then loses for the other; whether that is done. Else nothing is left
-// under the new name.
+// Writes `new`, flushes it and renames it to `out`. Returns false if a step fails; `new` is then removed.
 fn replace(bytes: &[u8], new: &[u8], out: &[u8]) -> bool {
     let fd = os::create(new);
     if fd < 0 {
@@ -146,7 +144,8 @@ fn put_all(fd: i32, bytes: &[u8]) -> bool {
     libc::close(fd) == 0
 }
 
-// What is told of a rescue: the bytes after are those among the first ones and those behind them.
+// Prints the counts of a rescue. The bytes after the last block are those among the first ones and the `more` after
+// them.
 fn say_kept(kept: Kept, more: u64) {
     say_line(b"statements ", kept.statements as u64);
     say_line(b"nodes ", kept.nodes as u64);
@@ -154,7 +153,7 @@ fn say_kept(kept: Kept, more: u64) {
     say_line(b"bytes ", sum(kept.after, more));
 }
 
-// Two numbers in one, or the largest there is.
+// The sum of two numbers, or the largest number if the sum is larger.
 fn sum(a: u64, b: u64) -> u64 {
     if FAILED - a < b {
         return FAILED;

@@ -1,5 +1,9 @@
--- Laws of assignments over a stretch, in the terms of code: one for each return of check_type and check_assignment.
--- Assumes nothing.
+-- The code of the assignment job gives what `check_assignment` of specs/Targets gives, one law for each `return` of
+-- check_type (`type-unmarked` .. `type-good`), check_assignment (`assignment-none` .. `assignment-type`), judge_target
+-- and judge_assignment (`target-none` .. `assign-here`). There is no induction. The children of the assignment are one
+-- part of the table: its first tree is the target, and what follows the target is the type (forest's `forest-tree`,
+-- `kids-part`, `rest-part`). So the definition becomes three steps over that part (`steps`), and each test of the code
+-- decides the same step of it. The proofs of the functions cite these laws. Assumes nothing.
 use mathlib.Core.Path.{_≡_, refl, sym, ap, _∙_}
 use mathlib.Core.Bool.{Bool, true, false, _&&_}
 use mathlib.Core.List.{List, [], _∷_}
@@ -22,7 +26,7 @@ use Rattle.targets.specs.declared.Targeted.{Targeted}
 use Rattle.targets.specs.declared.Targeted.the-variants.{Leaves, Refused}
 use Rattle.table.proofs.Answers.{first-refused, first-accepted, same-values}
 
--- the type of an assignment with the target lhs
+-- the check of an assignment's type, where its target lhs has n leaves
 abbrev pub typed : Node → Node → Forest → ℕ → Answer
 typed r lhs ts n = andThen (typeCheck r lhs ts) (λ _. accepted (n ∷ []))
 
@@ -54,7 +58,7 @@ module _ (t lhs : Node) (i : ℕ) (ty : List ℕ) (n : ℕ) {d : ℕ} where
         type-good h l-is g-is =
             rw (← d-is, marked, forest-tree i ty big, ← k-is, ne-eqb k 12 plain, ← l-is, ← g-is, h) refl
 
--- an assignment whose children are the stretch lhs, which begins with the target
+-- what is checked after 31: the target, which the children lhs begin with, then the type after it
 abbrev behind : ℕ → List ℕ → List ℕ → Answer
 behind i t lhs = andThen («check_assign» (treeOf i lhs))
     (λ _. typed (nodeOf 0 t) (nodeOf 0 lhs) (forest (i + spanOf lhs / 24) (restOf lhs)) (leaves (treeOf i lhs)))
@@ -101,7 +105,7 @@ leaf-none : (i : ℕ) → counted 0 (node (nodeOf i []) none) ≡ refusedAt inva
 unfolding counted «check_assign»
 leaf-none i = refl
 
--- what a stretch of any bytes begins with, in the terms of code: b is what `is_headed` answered
+-- the first tree of any bytes; b is the answer of `is_headed`
 module _ (i : ℕ) (t : List ℕ) {b : Bool} (b-is : b ≡ isHeaded i t) where
   module _ (no : b ≡ false) where
     pub target-none : {r : Answer} → r ≡ refusedAt invalidLhs (nodeOf i []) → r ≡ counted 0 (treeOf i (headedOf i t))

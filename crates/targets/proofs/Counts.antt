@@ -1,5 +1,9 @@
--- Laws of targets over a stretch, in the terms of code: one for each return of check_assign and check_each.
--- Assumes nothing.
+-- check_assign and check_each count leaves as `counted` and `countedEach` of specs/Targets do. For one node there are
+-- three laws, one for each kind of node: a leaf, a group of targets, or anything else (`assign-leaf`, `assign-group`,
+-- `assign-other`). check_each is a loop, whose invariant is `Counting`: counting what is left, from the leaves found so
+-- far, gives the whole answer. It holds at the start, each target keeps it or ends the loop with its refusal, and at
+-- the end nothing is left (`each-start`, `each-on`, `each-stop`, `each-end`). The count fits into a u32 because leaves
+-- are nodes (`leaves-tree`, by induction on the tree), and a table has at most 2,100 nodes. Assumes nothing.
 use mathlib.Core.Path.{_≡_, refl, sym, ap, _∙_}
 use mathlib.Core.Bool.{Bool, true, false}
 use mathlib.Core.List.{List, [], _∷_}
@@ -22,7 +26,7 @@ use Rattle.targets.specs.Jobs.{targeted}
 use Rattle.targets.specs.declared.Targeted.{Targeted}
 use Rattle.targets.specs.declared.Targeted.the-variants.{Leaves, Refused}
 
--- LAW: leaves are nodes
+-- LAW: a tree has at most as many leaves as nodes
 leaves-choose : (l g : Bool) (m k : ℕ) → m ≤ k → if' l (λ _. 1) (λ _. if' g (λ _. m) (λ _. 0)) ≤ 1 + k
 leaves-choose true g m k h = omega arith
 leaves-choose false true m k h = omega arith
@@ -39,7 +43,7 @@ mutual
   leaves-each none = omega arith
   leaves-each (t then ts) = omega (arith, leaves-tree t, leaves-each ts)
 
--- the node that a stretch begins with, by its kind and the two tests of it
+-- the first node of a part of the table, by its kind and the two tests of the kind
 module _ (n i : ℕ) (t : List ℕ) {kind : ℕ} {leaf : Bool} (kind-is : kind ≡ nodeOf 0 t .kind)
     (leaf-is : leaf ≡ isLeaf kind) where
   pub assign-leaf : leaf ≡ true → accepted ((n + 1) ∷ []) ≡ counted n (treeOf i t)
@@ -58,7 +62,7 @@ module _ (n i : ℕ) (t : List ℕ) {kind : ℕ} {leaf : Bool} (kind-is : kind �
     unfolding counted «check_assign»
     assign-other h r-is = r-is ∙ rw (← kind-is, ← leaf-is, no-leaf, ← group-is, h) refl
 
--- targets side by side: at each turn what is left gives the whole answer
+-- the invariant of the loop over targets: counting what is left from n leaves on gives the whole answer
 pub record Counting (t : List ℕ) (node count₀ : ℕ) (left : List ℕ) (at n : ℕ) : Type 0 where
   pub within : Within at left
   pub part : length left ≤ length t

@@ -1,5 +1,8 @@
--- The target and assignment jobs refuse at nodes of the tree that they read, so that their refusals carry the number of
--- the node that they name (table's `node-files`). The induction is on the tree. Assumes nothing.
+-- The target job and the assignment job refuse at nodes of the tree that they read. So whatever holds of every node of
+-- that tree holds of the node that a refusal names (`told-counted`, `told-assignment`). In a sound table every node of
+-- the tree has the source file number of its record and of the job's node, so each refusal carries that number (table's
+-- `node-files`). The induction is on the tree: a rule refuses at its own node, or passes on a child's refusal
+-- unchanged. Cite `target-files` and `assignment-files`. Assumes nothing.
 use mathlib.Core.List.{List, [], _∷_}
 use Prim.Native.Nat.{ℕ, _+_}
 use lib.Dec.{eqb}

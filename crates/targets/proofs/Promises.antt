@@ -1,4 +1,6 @@
--- Two answers that meet the promise of a public function coincide, for every table, names and node. Assumes nothing.
+-- The contract of each public function leaves one answer: two answers that meet it are equal, for every table, names
+-- and node. Both have the same meaning, which is what the contract equates, and no two answers have the same meaning
+-- (`targeted-injective`, by cases). Assumes nothing.
 use mathlib.Core.Path.{_≡_, sym, ap}
 use mathlib.Core.List.{List}
 use Prim.Native.Nat.{ℕ}

@@ -20,7 +20,8 @@ isLeaf k = eqb k kindIdentifier || (eqb k kindDot || eqb k kindIndex)
 abbrev pub isGroup : ℕ → Bool
 isGroup k = eqb k kindTuple || eqb k kindList
 
--- a target is a leaf, or a Tuple or List of targets, empty too; 30 at the first node that is none, left to right
+-- a target is a leaf, or a Tuple or List of targets, which may be empty; 30 at the first node, left to right, that is
+-- neither
 unfoldable mutual
   pub «check_assign» : Tree → Answer
   «check_assign» (node r ks) =
@@ -32,7 +33,7 @@ unfoldable mutual
   checkEach none = accepted []
   checkEach (t then ts) = andThen («check_assign» t) (λ _. checkEach ts)
 
--- the number of leaves; nothing inside a leaf counts
+-- the number of leaves; nodes inside a leaf do not count
 unfoldable mutual
   pub leaves : Tree → ℕ
   leaves (node r ks) = if' (isLeaf (r .kind)) (λ _. 1) (λ _. if' (isGroup (r .kind)) (λ _. leavesEach ks) (λ _. 0))
@@ -41,7 +42,7 @@ unfoldable mutual
   leavesEach none = 0
   leavesEach (t then ts) = leaves t + leavesEach ts
 
--- an answer with the number of leaves where n stand before: the first refusal, else n and its own
+-- the first refusal, else n plus the number of leaves, where n leaves come before
 unfoldable pub counted : ℕ → Tree → Answer
 counted n t = andThen («check_assign» t) (λ _. accepted ((n + leaves t) ∷ []))
 
@@ -53,13 +54,13 @@ abbrev pub modifyCheck : Node → Node → Answer
 modifyCheck r lhs =
     if' (eqb (r .kind) kindAssignModify && isGroup (lhs .kind)) (λ _. refusedAt invalidModifyLhs lhs) (λ _. accepted [])
 
--- what a rule says of the first of the nodes side by side; nothing where there is none
+-- a rule applied to the first of some siblings; accepted if there is none
 abbrev pub ofFirst : Forest → (Node → Answer) → Answer
 ofFirst none rule = accepted []
 ofFirst (node r ks then ts) rule = rule r
 
--- 32 on an augmented assignment, 33 on a target that is a Tuple or List: at the type, which follows the target if the
--- detail is 1
+-- 32 on an augmented assignment, 33 on a target that is a Tuple or List; both at the type, which follows the target if
+-- the detail is 1
 unfoldable pub typeCheck : Node → Node → Forest → Answer
 typeCheck r lhs ts =
     if' (eqb (r .detail) 1) (λ _. ofFirst ts (λ ty.
@@ -67,8 +68,8 @@ typeCheck r lhs ts =
     if' (isGroup (lhs .kind)) (λ _. refusedAt typeOnTuple ty) (λ _. accepted [])))) (λ _.
     accepted [])
 
--- an assignment: 31, 30, then 32 and 33, else the leaves of its target; with no target, as in no sound table, it has
--- none
+-- an assignment: 31, 30, then 32 and 33, else the number of leaves of its target; it is 0 without a target, which no
+-- sound table has
 unfoldable pub «check_assignment» : Tree → Answer
 «check_assignment» (node r none) = accepted (0 ∷ [])
 «check_assignment» (node r (node lhs ks then ts)) =

@@ -19,13 +19,13 @@ ghost use Rattle.table.specs.Check.{Within, Headed, headedOf};
 ghost use Rattle.targets.specs.Targets.{isLeaf, isGroup, counted, countedEach, typeCheck, «check_assignment»};
 ghost use Rattle.targets.specs.Jobs.{targeted, targetOf, assignmentOf};
 
-// What the target and assignment jobs answer: how many leaves the target has, or why it is refused.
+// The answer of the target and assignment jobs: the number of leaves of the target, or the refusal.
 pub enum Targeted {
     Leaves(u32),
     Refused(Refusal),
 }
 
-// The target job: whether a node is a target, and how many Identifier, Dot and Index leaves it has.
+// The target job: whether a node is a target, and the number of its Identifier, Dot and Index leaves.
 pub fn target(table: &[u8], names: &[u8], node: usize) -> Targeted
     ensures { λ r. ⌜ targeted r ≡ targetOf (now (table .entry)) (now (names .entry)) node ⌝ }
 {
@@ -36,8 +36,8 @@ pub fn target(table: &[u8], names: &[u8], node: usize) -> Targeted
     check_assign(table::stretch(table, node), node, 0)
 }
 
-// The assignment job: whether a node is an assignment whose target and type may stand together, and how many leaves its
-// target has.
+// The assignment job: whether a node is an assignment with an allowed target and type, and the number of leaves of its
+// target.
 pub fn assignment(table: &[u8], names: &[u8], node: usize) -> Targeted
     ensures { λ r. ⌜ targeted r ≡ assignmentOf (now (table .entry)) (now (names .entry)) node ⌝ }
 {
@@ -48,8 +48,8 @@ pub fn assignment(table: &[u8], names: &[u8], node: usize) -> Targeted
     check_assignment(table::stretch(table, node), node)
 }
 
-// The target that a stretch begins with, for who has checked the table before. Its first record has the index node. It
-// takes any bytes, and reads none where they are no part of a table.
+// The target at the start of t, for callers that have checked the table. The first record of t has the index node. Any
+// bytes are accepted; if they are not part of a table, none is read.
 pub fn judge_target(t: &[u8], node: u32) -> Targeted
     ensures { λ r. ⌜ targeted r ≡ counted 0 (treeOf node (headedOf node (now (t .entry)))) ⌝ }
 {
@@ -59,7 +59,7 @@ pub fn judge_target(t: &[u8], node: u32) -> Targeted
     check_assign(t, node as usize, 0)
 }
 
-// The assignment that a stretch begins with, in the same way.
+// The assignment at the start of t, in the same way.
 pub fn judge_assignment(t: &[u8], node: u32) -> Targeted
     ensures { λ r. ⌜ targeted r ≡ «check_assignment» (treeOf node (headedOf node (now (t .entry)))) ⌝ }
 {
@@ -84,7 +84,7 @@ fn is_group(kind: u8) -> bool
     (kind == kinds::TUPLE) | (kind == kinds::LIST)
 }
 
-// The target that a stretch begins with; count leaves stand before it.
+// The target at the start of t; count is the number of leaves before it.
 fn check_assign(t: &[u8], node: usize, count: u32) -> Targeted
     requires { ⌜ Headed node (now t) × (count ≤ node) ⌝ }
     ensures { λ r. ⌜ targeted r ≡ counted count (treeOf node (now (t .entry))) ⌝ }
@@ -100,7 +100,7 @@ fn check_assign(t: &[u8], node: usize, count: u32) -> Targeted
     Targeted::Refused(table::refused_at(numbers::INVALID_LHS, node as u32, t))
 }
 
-// The targets side by side in a stretch; count leaves stand before them.
+// The sibling targets in t; count is the number of leaves before them.
 fn check_each(t: &[u8], node: usize, count: u32) -> Targeted
     requires { ⌜ Within node (now t) × (count ≤ node) ⌝ }
     ensures { λ r. ⌜ targeted r ≡ countedEach count (forest node (now (t .entry))) ⌝ }
@@ -121,7 +121,7 @@ fn check_each(t: &[u8], node: usize, count: u32) -> Targeted
     Targeted::Leaves(leaves)
 }
 
-// The assignment that a stretch begins with: its target, then its type.
+// The assignment at the start of t: its target, then its type.
 fn check_assignment(t: &[u8], node: usize) -> Targeted
     requires { ⌜ Headed node (now t) ⌝ }
     ensures { λ r. ⌜ targeted r ≡ «check_assignment» (treeOf node (now (t .entry))) ⌝ }
@@ -145,7 +145,7 @@ fn check_assignment(t: &[u8], node: usize) -> Targeted
     }
 }
 
-// Whether the type of an assignment t with the target lhs may stand there; the type, if there is one, begins ty.
+// Whether the assignment t with the target lhs may have its type, which, if there is one, is at the start of ty.
 fn check_type(t: &[u8], lhs: &[u8], ty: &[u8], node: usize, leaves: u32) -> Targeted
     requires { ⌜ Within node (now ty) ⌝ }
     ensures { λ r. ⌜ targeted r ≡

@@ -1,5 +1,9 @@
--- Laws of what is refused at a node before its children are read, in the terms of code: one for each return.
--- Assumes nothing.
+-- The tests at a node before its children are read: the base of an Index (`index-none`, `index-other`, `index-good`),
+-- the base of an Index2 (`index2-none`, `index2-path`), the number of items of a List (`list-none`, `list-one`,
+-- `list-more`), and the choice by form (`at-form`). There is one law for each `return` of index_base, index2_base,
+-- list_length and at_node, and no induction: the code cuts the children out as a part of the table, and forest's
+-- `forest-none` and `forest-tree` say whether that part has a first child, and a second one after it. The proofs of the
+-- functions cite these laws. Assumes nothing.
 use mathlib.Core.Path.{_≡_, refl, sym, ap, _∙_}
 use mathlib.Core.List as L
 use Prim.Native.Nat.{ℕ, _+_, _-_, _/_, _<_, _≤_}
@@ -17,7 +21,7 @@ use Rattle.types.specs.Paths.{«unpack_path»}
 use Rattle.types.specs.Types.{indexBase, index2Base, listLength, atNode}
 use Rattle.types.specs.declared.Form.{Form}
 
--- the children of the node that a stretch begins with, as code cuts them
+-- the children of the first node of t, as the code cuts them out: k
 module _ (i : ℕ) (t : L.List ℕ) {e : ℕ} (e-is : e ≡ spanOf t) {k : L.List ℕ} (k-is : k ≡ take (e - 24) (drop 24 t))
   where
     kids : kidsOf t ≡ k
@@ -70,7 +74,7 @@ module _ (i : ℕ) (t : L.List ℕ) {e : ℕ} (e-is : e ≡ spanOf t) {k : L.Lis
             let more : 24 ≤ length (restOf k) = omega (arith, length-rest k) in
             rw (kids, forest-tree (i + 1) k big, forest-tree (i + 1 + spanOf k / 24) (restOf k) more) refl
 
--- a node of a form
+-- the answer at a node whose form is known to be g
 pub at-form : (edition : Edition) (names : L.List ℕ) (k d : ℕ) (n : Node) (ks : Forest) {f g : Form} {r : Answer}
     → f ≡ formOf k d
     → f ≡ g → r ≡ atNode edition names g n ks → r ≡ atNode edition names (formOf k d) n ks

@@ -1,4 +1,9 @@
--- Laws of paths over a stretch, in the terms of code: one for each return. Assumes nothing.
+-- object_path and unpack_path read a path as `objectPath` and `unpack_path` of specs/Paths do, one law for each
+-- `return`. The code reads the kind of the first record, and the same test decides the definition (`object-none` ..
+-- `object-dot`, `path-identifier` .. `path-dot`). Through a Dot both go to the children of the Dot (forest's
+-- `kids-part`); object_path calls itself there, so its laws have no induction. The ban is decided once, at the
+-- outermost Dot, from the record's name and not its index (`banned-there`). The proofs of the functions cite these
+-- laws. Assumes nothing.
 use mathlib.Core.Path.{_≡_, refl, _∙_}
 use mathlib.Core.Bool.{Bool, true, false}
 use mathlib.Core.List.{List, []}

@@ -1,9 +1,9 @@
--- What the second edition changes (W-212): it lifts 44 and nothing else. An answer of the second edition follows one of
--- the first (`Lifted`): it is never 44, and it is the same wherever the first does not answer 44. The ban alone looks
--- at the edition, so the first differs from the second at the Identifier of a banned path alone, and there it answers
--- 44 (`lifted-base`). Everything above puts answers in order, and order keeps `Lifted` (`lifted-then`): if the whole is
--- not 44, no part that was looked at is. The induction is on the tree. Cite `job-lifted`, `job-accepted` and
--- `job-never`. Assumes nothing.
+-- What the second edition changes (W-212): it lifts 44 (the ban of `.type`) and nothing else. `Lifted` relates an
+-- answer by the first edition to the answer by the second: the second is never 44, and it is the same wherever the
+-- first is not 44. Only the ban depends on the edition, so the two editions differ only at the Identifier of a banned
+-- path, where the first answers 44 (`lifted-base`). All other rules join answers by order, and order keeps `Lifted`
+-- (`lifted-then`): if the whole answer is not 44, no step that was reached is 44. The induction is on the tree. Cite
+-- `job-lifted`, `job-accepted` and `job-never`. Assumes nothing.
 use mathlib.Core.Path.{_≡_, refl, sym, ap, _∙_}
 use mathlib.Core.Bool.{Bool, true, false}
 use mathlib.Core.List as L
@@ -44,21 +44,21 @@ abbrev pub NoBan : Answer → Type 0
 NoBan (accepted vs) = Unit {0}
 NoBan (refused n vs) = n ≡ dotTypeBan → ⊥
 
--- an answer by the second edition, y, follows one by the first, x
+-- how the answer by the second edition, y, follows from the answer by the first, x
 pub record Lifted (x y : Answer) : Type 0 where
   pub free : NoBan y
   pub same : NoBan x → y ≡ x
 
--- no answer 44, said of each value that it may carry
+-- an answer is not 44 if it is not 44 with any values
 pub no-ban : (x : Answer) → ((vs : L.List ℕ) → x ≡ refused dotTypeBan vs → ⊥) → NoBan x
 no-ban (accepted vs) h = tt
 no-ban (refused n vs) h = λ e. h vs (ap (λ (m : ℕ). refused m vs) e)
 
--- an answer that both editions give, and that is not 44
+-- the same answer in both editions, which is not 44
 lifted-same : (x : Answer) → NoBan x → Lifted x x
 lifted-same x h = record { free = h; same = λ _. refl }
 
--- LAW: steps in order. If the whole is not 44, the first step is not
+-- LAW: two steps in order; if the whole is not 44, the first step is not 44
 lifted-then : (x y : Answer) {p q : Answer} → Lifted x y → Lifted p q
     → Lifted (andThen x (λ _. p)) (andThen y (λ _. q))
 lifted-then (accepted vs) (accepted ws) first next = next
@@ -69,13 +69,13 @@ lifted-then (refused n vs) (accepted ws) first next = record {
 }
 lifted-then (refused n vs) (refused m ws) first next = first
 
--- LAW: a test that does not look at the edition
+-- LAW: a test that does not depend on the edition
 lifted-if : (b : Bool) {x y p q : Answer} → Lifted x y → Lifted p q
     → Lifted (if' b (λ _. x) (λ _. p)) (if' b (λ _. y) (λ _. q))
 lifted-if true held failed = held
 lifted-if false held failed = failed
 
--- the Identifier of a path that may be banned: the one place where the editions part
+-- the Identifier of a path that may be banned: the one place where the editions differ
 lifted-ban : (ban : Bool) (r : Node)
     → Lifted (if' ban (λ _. refusedAt dotTypeBan r) (λ _. accepted L.[])) (accepted L.[])
 lifted-ban true r = record { free = tt; same = λ h. absurd (h refl) }
@@ -105,7 +105,7 @@ module _ (names : L.List ℕ) where
       (lifted-if (eqb (r .kind) kindDot) (lifted-object (banned One names r) ks)
       (other expectingPath r (λ e. omega arith)))
 
-  -- the bases and lengths that do not look at the edition are no 44
+  -- the tests that do not depend on the edition do not answer 44
   index-free : (r : Node) (ks : Forest) → NoBan (indexBase r ks)
   unfolding indexBase
   index-free r none = λ e. omega arith
@@ -177,7 +177,7 @@ module _ (names : L.List ℕ) where
       go true = tt
       go false = λ e. omega arith
 
--- the job on a node: 6 and 7 do not look at the edition
+-- the job on a node: 6 and 7 do not depend on the edition
 test-free : (b : Bool) (n : ℕ) → (n ≡ dotTypeBan → ⊥) → NoBan (if' b (λ _. accepted L.[]) (λ _. refused n L.[]))
 test-free true n h = tt
 test-free false n h = h

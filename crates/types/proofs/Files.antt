@@ -1,6 +1,8 @@
--- The type job refuses at nodes of the tree that it reads, so that its refusals carry the number of the node that they
--- name (table's `fits-filed`). The induction is on the tree: the first refusal of a node or of its children, left to
--- right. Assumes nothing.
+-- The type job refuses at nodes of the tree that it reads. So whatever holds of every node of that tree holds of the
+-- node that a refusal names (`told-type`). In a sound table every node of the tree has the source file number of its
+-- record and of the job's node (table's `fits-filed`), so each refusal carries that number. The induction is on the
+-- tree: a rule refuses at its own node (`told-node`), or passes on the first refusal of its children, left to right
+-- (`told-each`). Refusals below 10 name no node. Cite `type-files`. Assumes nothing.
 use mathlib.Core.Path.{_≡_, refl}
 use mathlib.Core.Bool.{Bool, true, false}
 use mathlib.Core.List as L

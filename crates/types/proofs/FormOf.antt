@@ -1,6 +1,8 @@
--- Laws of the form of a kind, of how a form reads its children and by which rule: one for each return of form_of, form,
--- reads_of and rule_of.
--- Assumes nothing.
+-- The code chooses by kind as the definitions of specs/Forms do: the form of a kind (`form-ellipsis` .. `form-other`),
+-- how a form reads its children (`reads-told`), and the rule by which a child is read (`rule-unread` .. `rule-other`).
+-- There is one law for each `return` of form_of, form, reads_of and rule_of. The code makes the tests of the definition
+-- in the same order, so each law rewrites by the tests made so far and computes; there is no induction. The proofs of
+-- the functions cite these laws. Assumes nothing.
 use mathlib.Core.Path.{_≡_, refl, _∙_}
 use mathlib.Core.Bool.{true, false, _&&_, _||_}
 use Prim.Native.Nat.{ℕ}
@@ -64,11 +66,11 @@ module _ (k d : ℕ) where
 pub form-same : {k d k′ d′ : ℕ} {f : Form} → k ≡ k′ → d ≡ d′ → f ≡ formOf k d → f ≡ formOf k′ d′
 form-same p q f-is = f-is ∙ rw (p, q) refl
 
--- a form that is known reads its children as its line of the definition says
+-- a form that is known to be g reads its children as g does
 pub reads-told : (f g : Form) (r : Reads) → f ≡ g → r ≡ readsOf g → r ≡ readsOf f
 reads-told f g r h r-is = rw h r-is
 
--- the rule by which a child of a kind is read
+-- the rule for a child of the kind k
 module _ {how : How} (k : ℕ) where
   pub rule-unread : how ≡ Unread → Unread ≡ ruleOf how k
   unfolding ruleOf

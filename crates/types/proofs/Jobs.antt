@@ -1,4 +1,9 @@
--- Laws of the type job's answer, in the terms of code: one for each return. Assumes nothing.
+-- The steps of the type job in the code are those of `typeShapeOf` of specs/Jobs: 1 to 5 from the table, the dialect
+-- and the edition (`job-refused`, `job-type`), 6 and 7 at the node (`at-no-node`, `at-short`, `at-type`), 45 and then
+-- the type (`check-disabled`, `check-type`), and the same for bytes that may be no part of a table (`judge-none`,
+-- `judge-here`). There is one law for each `return`, and no induction: each test of the code is the test of the
+-- definition. A job that passes 1 to 5 has a sound table (`given-sound`), so the node's subtree has a record and lies
+-- within 50,400 bytes (`at-long`, `at-within`). The proofs of the functions cite these laws. Assumes nothing.
 use mathlib.Core.Path.{_≡_, refl, sym, ap, _∙_}
 use mathlib.Core.Bool.{Bool, true, false}
 use mathlib.Core.List.{List, []}
@@ -32,7 +37,7 @@ use Rattle.types.specs.Forms.{formOf}
 use Rattle.types.specs.Types.{atNode, «unpack», typesCheck, «dialect_check_type»}
 use Rattle.types.specs.Jobs.{typeAt, typeShapeOf}
 
--- what is refused where no type can be read
+-- the refusal where no type can be read: 45, else 40
 abbrev pub noType : DialectTypes → Node → Answer
 noType types r = andThen (typesCheck types r) (λ _. refusedAt invalidType r)
 
@@ -68,7 +73,7 @@ module _ (edition : Edition) (t names : List ℕ) (types : DialectTypes) (i room
       unfolding typeAt
       at-type h r-is = r-is ∙ rw (← b-is, fits, ← u-is, le-leb (length u / 24) room h) refl
 
-      -- its stretch has a record or more, and lies within the table
+      -- the node's subtree has at least one record, and lies within the table
       module _ (sound : accepted [] ≡ checkOf t names) where
         at-fits : (24 ≤ length u) × (24 * i + length u ≤ 50400)
         at-fits = rw u-is (stretch-within t names i Expression (passed t names sound) (sym b-is ∙ fits))
@@ -79,7 +84,7 @@ module _ (edition : Edition) (t names : List ℕ) (types : DialectTypes) (i room
         pub at-within : 24 * i + length u ≤ 50400
         at-within = at-fits .1
 
--- LAW: a job in a dialect has a table that passes the check
+-- LAW: a job that got as far as its dialect has a table that passes the check
 pub given-sound : (t names bytes : List ℕ) {d : Dialect} → inDialect d ≡ givenOf t names bytes
     → accepted [] ≡ checkOf t names
 unfolding givenOf
@@ -90,7 +95,7 @@ given-sound t names bytes {d} e = go (checkOf t names) (fromBytes bytes) refl e
     go (accepted vs) Invalid a-is e = never (cc)
     go (refused n vs) x a-is e = never (cc)
 
--- the whole job, by what it is given
+-- the whole job, by the answer g to the table, dialect and edition
 module _ (t names bytes : List ℕ) (n : ℕ) {x : EditionRead} (x-is : x ≡ editionOf n) {g : Ruled}
     (g-is : ruled g ≡ rulesOf t names bytes x) where
   pub job-refused : (i room : ℕ) {why : Refusal} → g ≡ Refused why → refusal why ≡ typeShapeOf t names bytes n i room
@@ -119,7 +124,7 @@ leaf-none : (edition : Edition) (names : List ℕ) (types : DialectTypes) (i : �
 unfolding «dialect_check_type» «unpack» atNode formOf
 leaf-none edition names types i = refl
 
--- the type that a stretch of any bytes begins with, in the terms of code: b is what `is_headed` answered
+-- the type at the start of any bytes; b is the answer of `is_headed`
 module _ (edition : Edition) (names : List ℕ) (types : DialectTypes) (i : ℕ) (t : List ℕ) {b : Bool}
     (b-is : b ≡ isHeaded i t)
     {r : Answer} where

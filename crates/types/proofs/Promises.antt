@@ -1,4 +1,6 @@
--- Two answers that meet the promise of a public function coincide. Assumes nothing.
+-- The contract of each public function leaves one answer: two answers that meet it are equal, for every input. A
+-- contract that states the answer itself needs no more than that (`coincide`); where it states the meaning of an
+-- answer, no two answers have the same meaning (`shaped-injective`, by cases). Assumes nothing.
 use mathlib.Core.Path.{_≡_, sym, ap}
 use mathlib.Core.List.{List}
 use Prim.Native.Nat.{ℕ}

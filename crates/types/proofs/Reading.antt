@@ -1,9 +1,10 @@
--- Laws of the type rule and the argument rule over a stretch, in the terms of code: one for each return. Both rules
--- walk the children of their node from left to right, and at each turn what is left gives the whole answer (`Judging`).
--- The caller of a rule chooses it by the child's kind, where the definition calls the argument rule for every argument
--- and reads as a type what is no List; both give the same (`by-rule`). What is left is a proper part of the node's
--- subtree (`part`), so that each call is on a smaller one (`falls`).
--- Assumes nothing.
+-- The code walks the children of a type, or of a List of arguments, from left to right, as `unpack` and
+-- `unpack_argument` of specs/Types do. The invariant of both loops is `Judging`: judging what is left gives the whole
+-- answer. It holds at the start (`unpack-start`, `argument-start`); a child keeps it, is skipped or ends the loop with
+-- its refusal (`each-on`, `each-skip`, `each-stop`); at the end nothing is left (`each-end`). The code chooses the rule
+-- by the child's kind, where the definition calls the argument rule for every argument and reads as a type what is no
+-- List; both give the same (`by-rule`). What is left is smaller than the node's subtree (`part`), so each call is on a
+-- smaller tree (`falls`). shapes uses `first-and-rest`, `by-rule` and `falls` for its own walk. Assumes nothing.
 use mathlib.Core.Path.{_≡_, refl, sym, ap, _∙_}
 use mathlib.Core.Bool.{Bool, true, false}
 use mathlib.Core.List.{List, []}
@@ -30,8 +31,8 @@ use Rattle.types.specs.declared.Reads.{Reads}
 use Rattle.types.specs.declared.Shaped.{Shaped}
 use Rattle.types.specs.declared.Shaped.the-variants.{Accepted, Refused}
 
--- LAW: children side by side in a stretch are the first, and what follows it; the same for the walk that judges and the
--- one that writes
+-- LAW: reading siblings is reading the first and then the others; stated once for the walk that judges and the walk
+-- that writes
 pub first-and-rest : {A : Type 0} (each : Reads → Forest → A) (child : How → Tree → A) (join : A → A → A)
     → ((reads : Reads) (t : Tree) (ts : Forest)
     → each reads (t then ts) ≡ join (child (reads .first) t) (each (readsAs (reads .others) (reads .others)) ts))
@@ -42,12 +43,13 @@ first-and-rest each child join then-is reads i bs big {e} e-is =
     rw (rest-part e bs e-is, e-is) (ap (each reads) (forest-tree i bs big)
     ∙ then-is reads (treeOf i bs) (forest (i + spanOf bs / 24) (restOf bs)))
 
--- and they stay within their bounds
+-- the siblings after the first end where all of them end
 rest-within : (i : ℕ) {e : ℕ} (bs : List ℕ) → 24 * i + length bs ≤ 50400 → e ≡ spanOf bs
     → 24 * (i + e / 24) + length (take (length bs - e) (drop e bs)) ≤ 50400
 rest-within i {e} bs h e-is = rw (rest-part e bs e-is) (omega (arith, length-rest bs))
 
--- LAW: a child read by the rule that its caller chooses gives what it gives as it is read; the same for both walks
+-- LAW: the rule that the caller chooses by the child's kind gives the same as the definition; stated once for both
+-- walks
 module _ {A : Type 0} (k : ℕ) (nothing type list : A) where
   pub by-rule : (how : How)
       → ofChild (ruleOf how k) nothing (λ _. type) (λ _. if' (eqb k kindList) (λ _. list) (λ _. type))
@@ -62,7 +64,7 @@ module _ {A : Type 0} (k : ℕ) (nothing type list : A) where
       go true = refl
       go false = refl
 
--- LAW: the argument rule is chosen for a List alone
+-- LAW: the argument rule is chosen only for a List
 pub argument-list : (how : How) (k : ℕ) → ruleOf how k ≡ AsArgument → k ≡ kindList
 unfolding ruleOf
 argument-list Unread k e = never (cc)
@@ -73,16 +75,16 @@ argument-list AsArgument k e = go (eqb k kindList) refl e
     go true is e = eqb-true k kindList is
     go false is e = never (cc)
 
--- LAW: a subtree within the children of another is smaller
+-- LAW: the first subtree among the children of a node is smaller than the node's subtree
 pub falls : (t left : List ℕ) → length left + 24 ≤ spanOf t → spanOf left < spanOf t
 falls t left h = omega arith
 
--- a child as it is read
+-- the answer for a child, by how it is read
 abbrev pub unpackChild : How → Edition → List ℕ → Tree → Answer
 unpackChild how edition names t =
     ofChild how (accepted []) (λ _. «unpack» edition names t) (λ _. «unpack_argument» edition names t)
 
--- a child, by the rule that its caller chooses
+-- the answer for a child, by the rule that its caller chooses
 module _ (edition : Edition) (names : List ℕ) (i : ℕ) (t : List ℕ) (how : How) {rule : How} {k : ℕ}
     (k-is : k ≡ nodeOf 0 t .kind)
     (rule-is : rule ≡ ruleOf how k) where
@@ -105,8 +107,7 @@ module _ (edition : Edition) (names : List ℕ) (i : ℕ) (t : List ℕ) (how : 
         → r ≡ unpackChild how edition names (treeOf i t)
     child-list h r-is = r-is ∙ ap (λ (x : How). unpackChild x edition names (treeOf i t)) (sym h) ∙ chosen
 
--- the children of a node side by side: at each turn what is left is a proper part of the node's subtree, and gives the
--- whole answer
+-- the invariant of both loops: what is left is smaller than the node's subtree, and judging it gives the whole answer
 pub record Judging (edition : Edition) (names : List ℕ) (others : How) (t : List ℕ) (whole : Answer) (left : List ℕ)
     (at : ℕ) (how : How)
     : Type 0 where
@@ -114,7 +115,7 @@ pub record Judging (edition : Edition) (names : List ℕ) (others : How) (t : Li
   pub part : length left + 24 ≤ spanOf t
   pub same : unpackEach (readsAs how others) edition names (forest at left) ≡ whole
 
--- the type that a stretch begins with: what is refused at its node, then its children
+-- the type at the start of t: the test at its node, then its children
 module _ (edition : Edition) (names : List ℕ) (i : ℕ) (t : List ℕ) (here : Shaped)
     (here-is : shaped here ≡ atNode edition names (formOf (nodeOf 0 t .kind) (nodeOf 0 t .detail)) (nodeOf i t)
     (forest (i + 1) (kidsOf t))) where
@@ -134,7 +135,7 @@ module _ (edition : Edition) (names : List ℕ) (i : ℕ) (t : List ℕ) (here :
     same = rw (kids-part e t e-is, reads-is, f-is, ← here-is, h) refl;
   }
 
--- the List of arguments that a stretch begins with
+-- the List of arguments at the start of t
 module _ (edition : Edition) (names : List ℕ) (i : ℕ) (t : List ℕ) where
   pub argument-start : 24 ≤ length t → 24 * i + length t ≤ 50400 → nodeOf 0 t .kind ≡ kindList → {e : ℕ} → e ≡ spanOf t
       → Judging edition names AsArgument t («unpack_argument» edition names (treeOf i t)) (take (e - 24) (drop 24 t))

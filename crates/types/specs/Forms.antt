@@ -14,7 +14,7 @@ use Rattle.types.specs.declared.How.{How}
 use Rattle.types.specs.declared.How.the-variants.{Unread, AsType, AsArgument}
 use Rattle.types.specs.declared.Reads.{Reads}
 
--- the form that a kind and its detail may have; an Op is a Union where its detail says `|`
+-- the form of a node by its kind and detail; an Op is a Union if its detail means `|`
 unfoldable pub formOf : ℕ → ℕ → Form
 formOf kind detail =
     if' (eqb kind kindEllipsis) (λ _. Ellipsis) (λ _.
@@ -25,8 +25,8 @@ formOf kind detail =
     if' (eqb kind kindTuple) (λ _. Tuple) (λ _.
     if' (eqb kind kindOp && eqb detail 1) (λ _. Union) (λ _. Other)))))))
 
--- the shape of a form read as a type: a List is a Union. What is no type has none; 0 is never written, since such a
--- type is refused (proofs/Proper)
+-- the shape of a form that is read as a type; a List is a Union. What is not a type has no shape: its 0 is never
+-- written, because such a type is refused (proofs/Proper of shapes)
 abbrev pub shapeOf : Form → ℕ
 shapeOf Ellipsis = 1
 shapeOf Path = 2
@@ -45,7 +45,7 @@ listShape = 5
 abbrev pub readsAs : How → How → Reads
 readsAs first others = record { first = first; others = others }
 
--- how a form reads its children: the base of an Index or Index2, and what is inside a path, is not read
+-- how a form reads its children: the base of an Index or Index2 and the inside of a path are not read
 abbrev pub readsOf : Form → Reads
 readsOf Ellipsis = readsAs Unread Unread
 readsOf Path = readsAs Unread Unread
@@ -56,7 +56,7 @@ readsOf Union = readsAs AsType AsType
 readsOf Tuple = readsAs AsType AsType
 readsOf Other = readsAs Unread Unread
 
--- by which rule a child of a kind is read: an argument that is no List is read as a type
+-- the rule for a child of a kind: an argument that is not a List is read as a type
 unfoldable pub ruleOf : How → ℕ → How
 ruleOf Unread kind = Unread
 ruleOf AsType kind = AsType
@@ -66,7 +66,7 @@ ruleOf AsArgument kind = if' (eqb kind kindList) (λ _. AsArgument) (λ _. AsTyp
 abbrev pub argumentsOnly : Reads
 argumentsOnly = readsAs AsArgument AsArgument
 
--- what is made of a child, by how it is read
+-- the result for a child, by how it is read
 abbrev pub ofChild : {A : Type 0} → How → A → (Unit {0} → A) → (Unit {0} → A) → A
 ofChild Unread nothing type argument = nothing
 ofChild AsType nothing type argument = type tt

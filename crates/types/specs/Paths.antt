@@ -18,14 +18,14 @@ use Rattle.table.specs.Answer.{Answer, accepted, refusedAt}
 abbrev pub typeField : List ℕ
 typeField = 116 ∷ 121 ∷ 112 ∷ 101 ∷ []
 
--- whether a path that ends in the field of this Dot is banned: by the first edition if it is `type`, by the second
--- never (W-212). The ban on `type` stands here alone, and so does the edition
+-- whether a path that ends in the field of this Dot is banned: in the first edition if the field is `type`, in the
+-- second never (W-212). No other definition mentions the ban or depends on the edition
 abbrev pub banned : Edition → List ℕ → Node → Bool
 banned One names dot = same (nameOf names dot) typeField
 banned Two names dot = false
 
--- the object of a Dot: Dots down to an Identifier, where a banned path is 44; else 42 at what stands there. Only an
--- unsound Dot has no object, and nothing is refused
+-- the object of a Dot: Dots down to an Identifier, where a banned path is refused with 44; anything else is refused
+-- with 42. Only an unsound Dot has no object; it is accepted
 unfoldable mutual
   pub objectPath : Bool → Forest → Answer
   objectPath ban none = accepted []

@@ -24,18 +24,18 @@ unfoldable pub indexBase : Node → Forest → Answer
 indexBase r none = refusedAt invalidType r
 indexBase r (node b bs then ts) = if' (eqb (b .kind) kindIdentifier) (λ _. accepted L.[]) (λ _. refusedAt invalidType r)
 
--- the base of an Index2: a path. Only an unsound one has none, and nothing is refused
+-- the base of an Index2: a path. Only an unsound Index2 has no base; it is accepted
 unfoldable pub index2Base : Edition → L.List ℕ → Forest → Answer
 index2Base edition names none = accepted L.[]
 index2Base edition names (b then ts) = «unpack_path» edition names b
 
--- the items of a List that is a type: 41 for none, 40 for one
+-- the number of items of a List that is a type: 41 for none, 40 for one
 unfoldable pub listLength : Node → Forest → Answer
 listLength r none = refusedAt emptyListInType r
 listLength r (t then none) = refusedAt invalidType r
 listLength r (t then (u then ts)) = accepted L.[]
 
--- what is refused at a node before its children are read
+-- the test at a node before its children are read
 unfoldable pub atNode : Edition → L.List ℕ → Form → Node → Forest → Answer
 atNode edition names Ellipsis r ks = accepted L.[]
 atNode edition names Path r ks = «unpack_path» edition names (node r ks)
@@ -46,7 +46,7 @@ atNode edition names Union r ks = accepted L.[]
 atNode edition names Tuple r ks = accepted L.[]
 atNode edition names Other r ks = refusedAt invalidType r
 
--- a node as a type, given what its children give by how they are read
+-- a node as a type, given the answer of its children by how they are read
 abbrev pub typeRule : Edition → L.List ℕ → Node → Forest → (Reads → Answer) → Answer
 typeRule edition names r ks children =
     andThen (atNode edition names (formOf (r .kind) (r .detail)) r ks) (λ _.
@@ -71,7 +71,7 @@ unfoldable mutual
       (λ _. «unpack» edition names t) (λ _. «unpack_argument» edition names t)) (λ _.
       unpackEach (readsAs (reads .others) (reads .others)) edition names ts)
 
--- 45 at the type, where the dialect has none
+-- 45 at the type, if the dialect has no types
 abbrev pub typesCheck : DialectTypes → Node → Answer
 typesCheck types r = if' (permitsTypes types) (λ _. accepted L.[]) (λ _. refusedAt typesDisabled r)
 

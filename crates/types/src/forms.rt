@@ -1,7 +1,7 @@
 // The forms of type expressions by the kind of a node.
 //
-// Ported from src/syntax/type_expr.rs of starlark_syntax 0.14.2 (the arms of TypeExprUnpackP::unpack), and changed: a
-// form is told by the kind of a node.
+// Ported from src/syntax/type_expr.rs of starlark_syntax 0.14.2 (the arms of TypeExprUnpackP::unpack), and changed: the
+// kind of a node says which form it has.
 // Copyright 2018 The Starlark in Rust Authors. Copyright (c) Facebook, Inc. and its affiliates.
 // Licensed under Apache-2.0.
 use crate::Form;
@@ -12,14 +12,14 @@ ghost use mathlib.Core.Path.{_≡_};
 ghost use Rattle.forest.specs.Forest.{nodeOf};
 ghost use Rattle.types.specs.Forms.{formOf, shapeOf, readsAs, readsOf, ruleOf};
 
-// The form of the record that a stretch begins with.
+// The form of the first record of t.
 pub fn form(t: &[u8]) -> Form
     ensures { λ r. ⌜ r ≡ formOf (nodeOf 0 (now (t .entry)) .kind) (nodeOf 0 (now (t .entry)) .detail) ⌝ }
 {
     form_of(forest::kind(t), forest::detail(t))
 }
 
-// The form of a kind with its detail.
+// The form of a node by its kind and detail.
 fn form_of(kind: u8, detail: u8) -> Form
     ensures { λ r. ⌜ r ≡ formOf kind detail ⌝ }
 {
@@ -79,7 +79,7 @@ pub fn reads_of(form: Form) -> Reads
     }
 }
 
-// The rule by which a child is read, by its kind: an argument that is no List is read as a type.
+// The rule for a child of a kind: an argument that is not a List is read as a type.
 pub fn rule_of(how: How, kind: u8) -> How
     ensures { λ r. ⌜ r ≡ ruleOf how kind ⌝ }
 {

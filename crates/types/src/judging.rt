@@ -1,5 +1,5 @@
-// The type rule and the argument rule: whether a stretch begins with a type or an argument, and the first refusal if
-// not.
+// The type rule and the argument rule: whether there is a type or an argument at the start of a part of the table, and
+// the first refusal if not.
 //
 // Ported from src/syntax/type_expr.rs of starlark_syntax 0.14.2 (unpack, unpack_argument), and changed: a type is a
 // stretch of the node table.
@@ -24,7 +24,7 @@ ghost use Rattle.types.specs.Types.{indexBase, index2Base, listLength, a
 ghost use Rattle.types.specs.Types.{«unpack», «unpack_argument»};
 ghost use Rattle.types.specs.Jobs.{shaped};
 
-// The base of the Index that a stretch begins with.
+// The base of the Index at the start of t.
 fn index_base(t: &[u8], node: usize) -> Shaped
     requires { ⌜ Headed node (now t) ⌝ }
     ensures { λ r. ⌜ shaped r ≡
@@ -41,7 +41,7 @@ fn index_base(t: &[u8], node: usize) -> Shaped
     Shaped::Accepted
 }
 
-// The base of the Index2 that a stretch begins with.
+// The base of the Index2 at the start of t.
 fn index2_base(edition: Edition, names: &[u8], t: &[u8], node: usize) -> Shaped
     requires { ⌜ Headed node (now t) ⌝ }
     ensures { λ r. ⌜ shaped r ≡
@@ -55,7 +55,7 @@ fn index2_base(edition: Edition, names: &[u8], t: &[u8], node: usize) -> Shaped
     paths::unpack_path(edition, names, k, node + 1)
 }
 
-// The items of the List that a stretch begins with: a type has two or more.
+// The number of items of the List at the start of t: a type has two or more.
 fn list_length(t: &[u8], node: usize) -> Shaped
     requires { ⌜ Headed node (now t) ⌝ }
     ensures { λ r. ⌜ shaped r ≡
@@ -73,7 +73,7 @@ fn list_length(t: &[u8], node: usize) -> Shaped
     Shaped::Accepted
 }
 
-// What is refused at the node that a stretch begins with, before its children are read.
+// The test at the first node of t, before its children are read.
 fn at_node(edition: Edition, names: &[u8], t: &[u8], node: usize) -> Shaped
     requires { ⌜ Headed node (now t) ⌝ }
     ensures { λ r. ⌜ shaped r ≡
@@ -94,8 +94,8 @@ fn at_node(edition: Edition, names: &[u8], t: &[u8], node: usize) -> Shaped
     }
 }
 
-// The type that a stretch begins with. A child that is read is a List of arguments or a type: this function decides
-// which, and each of the two rules gets a part of the children alone, so that the subtree is smaller at each call.
+// The type at the start of t. A child that is read is a List of arguments or a type. This function decides which, and
+// calls the rule on the children only, so that the subtree is smaller at each call.
 pub(crate) fn unpack(edition: Edition, names: &[u8], t: &[u8], node: usize) -> Shaped
     requires { ⌜ Headed node (now t) ⌝ }
     ensures { λ r. ⌜ shaped r ≡ «unpack» edition (now (names .entry)) (treeOf node (now (t .entry))) ⌝ }
@@ -136,7 +136,7 @@ pub(crate) fn unpack(edition: Edition, names: &[u8], t: &[u8], node: usize) -> S
     Shaped::Accepted
 }
 
-// The List of arguments that a stretch begins with. An item is a List of arguments again, or a type.
+// The List of arguments at the start of t. An item is a List of arguments again, or a type.
 fn unpack_argument(edition: Edition, names: &[u8], t: &[u8], node: usize) -> Shaped
     requires { ⌜ Headed node (now t) × (nodeOf 0 (now t) .kind ≡ kindList) ⌝ }
     ensures { λ r. ⌜ shaped r ≡ «unpack_argument» edition (now (names .entry)) (treeOf node (now (t .entry))) ⌝ }

@@ -26,7 +26,7 @@ ghost use Rattle.table.specs.Check.{Headed, headedOf};
 ghost use Rattle.types.specs.Types.{typesCheck, «dialect_check_type»};
 ghost use Rattle.types.specs.Jobs.{shaped, typeAt, typeShapeOf};
 
-// What a type may be by the kind of its node.
+// The forms of a type, by the kind of its node.
 pub enum Form {
     Ellipsis,
     Path,
@@ -51,13 +51,14 @@ pub struct Reads {
     pub others: How,
 }
 
-// What the type job answers: accepted, or why it is refused.
+// The answer of the type job: accepted, or the refusal.
 pub enum Shaped {
     Accepted,
     Refused(Refusal),
 }
 
-// Whether a node is a type in a dialect, by the edition of a number, for a buffer with room for so many shapes.
+// Whether a node is a type in a dialect and an edition, which is given by its number; room is the size of the buffer
+// for the shapes.
 pub fn judge(
     table: &[u8],
     names: &[u8],
@@ -79,8 +80,8 @@ pub fn judge(
     }
 }
 
-// The type that a stretch begins with, in a dialect and by an edition, for who has checked the table before. Its first
-// record has the index node. It takes any bytes, and reads none where they are no part of a table.
+// The type at the start of t, in a dialect and an edition, for callers that have checked the table. The first record of
+// t has the index node. Any bytes are accepted; if they are not part of a table, none is read.
 pub fn judge_type(names: &[u8], d: Dialect, edition: Edition, t: &[u8], node: u32) -> Shaped
     ensures { λ r. ⌜ shaped r ≡ «dialect_check_type» edition (now (names .entry)) (d .«enable_types»)
         (treeOf node (headedOf node (now (t .entry)))) ⌝ }
@@ -92,7 +93,7 @@ pub fn judge_type(names: &[u8], d: Dialect, edition: Edition, t: &[u8], node: u3
     dialect_check_type(edition, names, types, t, node as usize)
 }
 
-// What stands where no type can be read: 45, else 40, at the node.
+// The refusal where no type can be read: 45, else 40, at the node.
 fn no_type(types: DialectTypes, none: &[u8], node: u32) -> Shaped
     ensures { λ r. ⌜ shaped r ≡ andThen (typesCheck types (nodeOf node (now (none .entry))))
         (λ _. refusedAt invalidType (nodeOf node (now (none .entry)))) ⌝ }
@@ -103,7 +104,7 @@ fn no_type(types: DialectTypes, none: &[u8], node: u32) -> Shaped
     Shaped::Refused(table::refused_at(numbers::INVALID_TYPE, node, none))
 }
 
-// The same for a table that is sound, by an edition, in a dialect with these types.
+// The type job on a node of a sound table, in an edition and a dialect with these types.
 fn type_at(
     edition: Edition,
     table: &[u8],
@@ -125,7 +126,7 @@ fn type_at(
     dialect_check_type(edition, names, types, t, node)
 }
 
-// The type that a stretch begins with, by an edition, in a dialect with these types.
+// The type at the start of t, in an edition and a dialect with these types.
 fn dialect_check_type(
     edition: Edition,
     names: &[u8],

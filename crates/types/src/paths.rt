@@ -16,11 +16,10 @@ ghost use Rattle.table.specs.Check.{Within, Headed};
 ghost use Rattle.types.specs.Paths.{banned, objectPath, «unpack_path»};
 ghost use Rattle.types.specs.Jobs.{shaped};
 
-// The field `type`, which may not end a path by the first edition.
+// The field `type`, which may not end a path in the first edition.
 const TYPE: [u8; 4] = [116, 121, 112, 101];
 
-// Whether a path that ends in the field of the Dot that a stretch begins with is banned. No other rule looks at the
-// edition.
+// Whether a path that ends in the field of the Dot at the start of t is banned. No other rule depends on the edition.
 fn is_banned(edition: Edition, names: &[u8], t: &[u8]) -> bool
     ensures { λ r. ⌜ r ≡ banned edition (now (names .entry)) (nodeOf 0 (now (t .entry))) ⌝ }
 {
@@ -33,7 +32,7 @@ fn is_banned(edition: Edition, names: &[u8], t: &[u8]) -> bool
     }
 }
 
-// The path that a stretch begins with.
+// The path at the start of t.
 pub(crate) fn unpack_path(edition: Edition, names: &[u8], t: &[u8], node: usize) -> Shaped
     requires { ⌜ Headed node (now t) ⌝ }
     ensures { λ r. ⌜ shaped r ≡ «unpack_path» edition (now (names .entry)) (treeOf node (now (t .entry))) ⌝ }
@@ -49,7 +48,7 @@ pub(crate) fn unpack_path(edition: Edition, names: &[u8], t: &[u8], node: usize)
     object_path(is_banned(edition, names, t), &t[RECORD..e], node + 1)
 }
 
-// The object of a Dot in a path that is banned, or not.
+// The object of a Dot; ban says whether its path is banned.
 fn object_path(ban: bool, t: &[u8], node: usize) -> Shaped
     requires { ⌜ Within node (now t) ⌝ }
     ensures { λ r. ⌜ shaped r ≡ objectPath ban (forest node (now (t .entry))) ⌝ }

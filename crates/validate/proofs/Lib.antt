@@ -2,6 +2,7 @@ pub mod Bounds
 pub mod Refusals
 pub mod Lists
 pub mod Walks
+pub mod Sites
 pub mod Jobs
 pub mod Own
 pub mod Theorems

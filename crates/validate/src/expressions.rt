@@ -13,9 +13,9 @@ use table::numbers;
 ghost use mathlib.Core.Path.{_≡_};
 ghost use Prim.Native.Nat.{_+_, _*_, _/_};
 ghost use lib.ListN.{length};
-ghost use Rattle.forest.specs.Forest.{recordBytes, nodeOf, spanOf, kidsOf, treeOf, forest};
+ghost use Rattle.forest.specs.Forest.{recordBytes, nodeOf, spanOf, kidsOf, treeOf, forest, nodes};
 ghost use Rattle.errors.specs.Errors.{Stores};
-ghost use Rattle.validate.specs.Inner.{StoresFew};
+ghost use Rattle.validate.specs.Inner.{StoresFew, isSite, hasSite};
 ghost use Rattle.validate.specs.Module.{exprErrors, expr, «visit_expr»};
 ghost use Rattle.table.specs.Check.{Headed, Within, mostNodes};
 
@@ -80,7 +80,7 @@ fn check_expression(
 }
 
 // The expressions of the nodes side by side in a stretch whose first record has the index at, in turn.
-pub(crate) fn visit_expr(
+fn visit_expr(
     listing: Listing,
     d: Dialect,
     names: &[u8],
@@ -100,6 +100,129 @@ pub(crate) fn visit_expr(
         let free = errors::free(listing, errors.len(), total);
         let e = forest::span(left);
         total += check_expression(listing, d, names, left, e, place, &mut errors[free..]);
+        left = &left[e..];
+        place += e / RECORD;
+    }
+    total
+}
+
+// Whether the walk can find an error at a record of this kind.
+fn is_site(kind: u8) -> bool
+    ensures { λ r. ⌜ r ≡ isSite kind ⌝ }
+{
+    (kind == kinds::ELLIPSIS) | (kind == kinds::LAMBDA)
+}
+
+// Whether any record of a stretch is of such a kind: one look at each, in table order, until one is.
+fn has_site(t: &[u8]) -> bool
+    ensures { λ r. ⌜ r ≡ hasSite (nodes (forest 0 (now (t .entry)))) ⌝ }
+{
+    let mut left = t;
+    while RECORD <= left.len() {
+        if is_site(forest::kind(left)) {
+            return true;
+        }
+        left = &left[RECORD..];
+    }
+    false
+}
+
+// A tree of e bytes as in check_expression; what is below is walked only if it has such a record. It is for the
+// statements at the top level alone, so that each record is looked at once more and not once for each level above it.
+fn check_top(
+    listing: Listing,
+    d: Dialect,
+    names: &[u8],
+    t: &[u8],
+    e: usize,
+    at: usize,
+    errors: &mut [u32],
+) -> usize
+    requires { ⌜ Headed at (now t) ⌝ }
+    requires { ⌜ e ≡ spanOf (now t) ⌝ }
+    ensures { λ r. ⌜ Stores listing (expr d (now (names .entry)) (treeOf at (now (t .entry)))) (now (errors .entry)) r
+        (now (errors .exit)) ⌝ }
+{
+    let own = expr_errors(listing, d, names, t, at, errors);
+    let below = &t[RECORD..e];
+    if !has_site(below) {
+        return own;
+    }
+    let free = errors::free(listing, errors.len(), own);
+    let rest = visit_expr(listing, d, names, below, at + 1, &mut errors[free..]);
+    own + rest
+}
+
+// The statements at the top level, in turn.
+fn visit_tops(
+    listing: Listing,
+    d: Dialect,
+    names: &[u8],
+    t: &[u8],
+    at: usize,
+    errors: &mut [u32],
+) -> usize
+    requires { ⌜ Within at (now t) ⌝ }
+    ensures { λ r. ⌜ StoresFew listing (2 * mostNodes)
+        («visit_expr» d (now (names .entry)) (forest at (now (t .entry))))
+        (now (errors .entry)) r (now (errors .exit)) ⌝ }
+{
+    let mut left = t;
+    let mut place = at;
+    let mut total = 0;
+    while RECORD <= left.len() {
+        let free = errors::free(listing, errors.len(), total);
+        let e = forest::span(left);
+        total += check_top(listing, d, names, left, e, place, &mut errors[free..]);
+        left = &left[e..];
+        place += e / RECORD;
+    }
+    total
+}
+
+// A root of e bytes, and then the statements below it, which are the ones at the top level.
+fn check_root(
+    listing: Listing,
+    d: Dialect,
+    names: &[u8],
+    t: &[u8],
+    e: usize,
+    at: usize,
+    errors: &mut [u32],
+) -> usize
+    requires { ⌜ Headed at (now t) ⌝ }
+    requires { ⌜ e ≡ spanOf (now t) ⌝ }
+    ensures { λ r. ⌜ Stores listing (expr d (now (names .entry)) (treeOf at (now (t .entry)))) (now (errors .entry)) r
+        (now (errors .exit)) ⌝ }
+{
+    let own = expr_errors(listing, d, names, t, at, errors);
+    let free = errors::free(listing, errors.len(), own);
+    let below = &t[RECORD..e];
+    let rest = visit_tops(listing, d, names, below, at + 1, &mut errors[free..]);
+    own + rest
+}
+
+// All expressions of a module: those of its roots in turn. A sound table has one.
+pub(crate) fn visit_roots(
+    listing: Listing,
+    d: Dialect,
+    names: &[u8],
+    t: &[u8],
+    at: usize,
+    errors: &mut [u32],
+) -> usize
+    requires { ⌜ Within at (now t) ⌝ }
+    ensures { λ r. ⌜ StoresFew listing (2 * mostNodes)
+        («visit_expr» d (now (names .entry)) (forest at (now (t .entry))))
+        (now (errors .entry)) r (now (errors .exit)) ⌝ }
+{
+    let mut left = t;
+    let mut place = at;
+    let mut total = 0;
+    while RECORD <= left.len() {
+        let free = errors::free(listing, errors.len(), total);
+        let e = forest::span(left);
+        total += check_root(listing, d, names, left, e, place, &mut errors[free..]);
         left = &left[e..];
         place += e / RECORD;
     }

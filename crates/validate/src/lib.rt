@@ -92,6 +92,6 @@ fn validate_module(
     };
     let first = statements::visit_stmt(listing, d, names, table, 0, top, errors);
     let at = errors::free(listing, errors.len(), first);
-    let rest = expressions::visit_expr(listing, d, names, table, 0, &mut errors[at..]);
+    let rest = expressions::visit_roots(listing, d, names, table, 0, &mut errors[at..]);
     first + rest
 }

@@ -1,9 +1,9 @@
--- What is laid one after another: a block from its parts (`block-whole`), block 0 (`header-whole`), a run from its
--- blocks, a file from its runs (`file-whole`). The loop of a run keeps that what is left of the content, laid behind
--- the blocks that are done, makes the whole run (`Writing`): a turn writes the first block of what is left
--- (`run-first`) and moves on by 512 bytes (`run-on`). Each function writes at the front of what it is lent, so that a
--- part that is lent from a place on is laid over that place (`over-part`), and two parts one after the other are both
--- (`over-next`). Assumes nothing.
+-- What the writer's stores build: a block from its parts (`block-whole`), block 0 (`header-whole`), a run from its
+-- blocks, and a file from its runs (`file-whole`). The loop of a run keeps that the remaining content, written after
+-- the finished blocks, makes the whole run (`Writing`): a turn writes the first of the remaining blocks (`run-first`)
+-- and moves on by 512 bytes (`run-on`). Each function writes at the front of its buffer. So writing to a part that
+-- begins at some byte is writing to the whole from that byte on (`over-part`), and two such writes one after the
+-- other are one (`over-next`). Assumes nothing.
 use mathlib.Core.Path.{_≡_, refl, sym, ap, _∙_}
 use mathlib.Core.Bool.{true}
 use mathlib.Core.Logic.{⊎-elim}
@@ -37,7 +37,7 @@ use Rattle.tablefile.specs.File.{Content, headerOf, fileOf, mostBlocks}
 use Rattle.tablefile.proofs.Copies.{drop-zeros}
 use Rattle.writer.specs.Writing.{holding, bytesFor, isByte}
 
--- four bytes, and what is laid behind them
+-- four bytes, and the bytes that are written after them
 four-then : (d a b : List ℕ) {o₁ o₂ : List ℕ} → length a ≡ 4 → o₁ ≡ over 0 a d → o₂ ≡ over 4 b o₁
     → o₂ ≡ (a ++ b) ++ drop (4 + length b) d
 four-then d a b four o₁-is o₂-is =
@@ -54,7 +54,7 @@ pub begun-four : (a b : ℕ) {head : List ℕ} → head ≡ bytesOf 2 a ++ bytes
     → sum ≡ weighed (0 + length head) out → sum ≡ weighed 4 out
 begun-four a b {head} head-is out is = let e : 0 + length head ≡ 4 = omega (arith, pair-four a b head-is) in rw e at is
 
--- zeros weigh nothing
+-- zeros add nothing to the sum
 weighed-zeros : (a rest : List ℕ) (k n : ℕ) → k ≤ n
     → weighed (length a + k) (a ++ (replicate n 0 ++ rest)) ≡ weighed (length a) (a ++ (replicate n 0 ++ rest))
 unfolding weighed
@@ -68,7 +68,7 @@ weighed-zeros a rest (suc k) n h =
     let less : weighed (length a + k) l ≡ weighed (length a) l = weighed-zeros a rest k n (omega arith) in
     rw (e, none) (omega (arith, less))
 
--- a block, from 512 zero bytes: its head, its content, and the sum of both
+-- a block is made from 512 zero bytes: its head, its content, and the sum of both
 module _ (number : ℕ) (content d : List ℕ) {head o₁ o₂ o₃ : List ℕ} (fits : length content ≤ 504)
     (head-is : head ≡ bytesOf 2 number ++ bytesOf 2 (length content)) (o₁-is : o₁ ≡ over 0 (replicate 512 0) d)
     (o₂-is : o₂ ≡ over 0 head o₁) (o₃-is : o₃ ≡ over 4 content o₂) where
@@ -113,7 +113,7 @@ module _ (number : ℕ) (content d : List ℕ) {head o₁ o₂ o₃ : List ℕ} 
       ∙ rw all (ap (weighed 508) (sym laid ∙ front)
       ∙ weighed-front 508 (beforeSum number content) rest (omega (arith, length-front number content fits)))
 
-  -- LAW: that is the block of the number and the content
+  -- LAW: the result is the block of the number and the content
   block-whole : {sum : ℕ} → sum ≡ weighed (4 + length content) o₃ → {check o₄ : List ℕ} → check ≡ bytesOf 4 sum
       → o₄ ≡ over 508 check o₃ → o₄ ≡ over 0 (blockOf number content) d
   unfolding blockOf over
@@ -130,7 +130,7 @@ module _ (number : ℕ) (content d : List ℕ) {head o₁ o₂ o₃ : List ℕ} 
       ∙ rw (check-so, four, front, take-at f rest 508 long, behind, whole)
       (sym (append-assoc f (bytesOf 4 (sumOf f)) (drop 512 d)))
 
--- LAW: the same, as code lays it over bytes that have room for a block
+-- LAW: the same, written over the front of a buffer that has room for a block
 pub block-laid : (number : ℕ) (content d : List ℕ) {head o₁ o₂ o₃ : List ℕ} → length content ≤ 504 → 512 ≤ length d
     → head ≡ bytesOf 2 number ++ bytesOf 2 (length content) → o₁ ≡ laidAt 0 (replicate 512 0) d
     → o₂ ≡ over 0 head o₁ → o₃ ≡ over 4 content o₂ → length o₃ ≡ length o₂ → length o₂ ≡ length o₁ → {sum : ℕ}
@@ -144,13 +144,13 @@ block-laid number content d {o₃ = o₃} fits room head-is o₁-is o₂-is o₃
     let o₄-so = o₄-is ∙ laid-fits 508 check o₃ (omega arith) in
     block-whole number content d fits head-is o₁-so o₂-is o₃-is is check-is o₄-so
 
--- what is laid behind what is laid at the front
+-- bytes that are written after bytes at the front
 next-over : (d a b : List ℕ) (n : ℕ) → length a ≡ n → over n b (over 0 a d) ≡ over 0 (a ++ b) d
 next-over d a b n long =
     let at : n ≡ 0 + length a = omega arith in
     ap (λ (m : ℕ). over m b (over 0 a d)) at ∙ over-next 0 a d b
 
--- an edition takes a byte at most
+-- an edition takes at most one byte
 pub stated-few : (edition : Stated) → length (statedBytes edition) ≤ 1
 stated-few (Number n) = omega arith
 stated-few Nothing = omega arith
@@ -216,7 +216,7 @@ module _ (t names ds : List ℕ) {counts : List ℕ}
           → out ≡ over 0 (blockOf 0 (headerOf (holding t names ds edition))) d
       header-whole d out-is = rw header-laid at out-is
 
--- the edition, put at its place, or none: e is what code found it to be
+-- the edition, written at its place, or none: e is the edition that the code found
 module _ (edition : Stated) where
   module _ {n : ℕ} (e : edition ≡ Number n) where
     pub byte-number : ltb n 256 ≡ isByte edition
@@ -259,7 +259,7 @@ drop-used left = ⊎-elim
 pub used-fits : (left : List ℕ) {used : ℕ} → used ≡ min 504 (length left) → length (take (used - 0) left) ≤ 504
 used-fits left used-is = simp length-take (omega arith)
 
--- the loop over blocks: what is left, laid over the bytes as they are, makes the whole
+-- the invariant of `write_run`: the remaining blocks, written over the buffer as it is, make the whole run
 pub record Writing (d content : List ℕ) (first : ℕ) (out left : List ℕ) (done : ℕ) : Type 0 where
   pub room : 512 * (done + blocksFor (length left)) ≤ length out
   pub few : first ≤ mostBlocks
@@ -288,7 +288,7 @@ module _ {d content : List ℕ} {first : ℕ} {out left : List ℕ} {done : ℕ}
     pub run-block : 512 ≤ length (take (length out - 512 * done) (drop (512 * done) out))
     run-block = rw (tail-part (512 * done) out) (simp length-drop (omega (arith, run-room)))
 
-    -- the block that is written next, and what the loop is then
+    -- the block that is written next, and the invariant after it
     abbrev block : List ℕ
     block = blockOf (first + done) (take 504 left)
 
@@ -329,7 +329,7 @@ module _ {d content : List ℕ} {first : ℕ} {out left : List ℕ} {done : ℕ}
         over-part (512 * done) block out ys-so in
         rw (new, after) run-next
 
--- a file: block 0, the names' run, the nodes' run
+-- a file: block 0, the run of the names, the run of the nodes
 header-long : (c : Content) → length (c .dialect) ≤ 9 → length (blockOf 0 (headerOf c)) ≡ 512
 unfolding headerOf
 header-long c h = length-block 0 (headerOf c)
@@ -342,7 +342,7 @@ length-file c h =
     let first : ℕ = 1 + blocksFor (length (c .names)) in
     simp (length-append, header-long c h, length-run 1 (c .names), length-run first (c .table)) (omega arith)
 
--- the file as three functions write it: each is lent what stands from its place on
+-- the file as three calls write it: each gets the part of the buffer from its place on
 module _ (t names ds : List ℕ) (edition : Stated) (d : List ℕ) (pre : (length ds ≤ 9) × (isByte edition ≡ true)
     × (1 + blocksFor (length names) + blocksFor (length t) ≤ mostBlocks)
     × (bytesFor (length t) (length names) ≤ length d)) where
@@ -373,7 +373,7 @@ module _ (t names ds : List ℕ) (edition : Stated) (d : List ℕ) (pre : (lengt
           ∙ rw (f₁-is, at) (over-next 0 header d (runOf 1 names))
 
       module _ {k : ℕ} (k-is : k ≡ blocksFor (length names)) where
-        -- LAW: that is the file
+        -- LAW: the result is the file
         pub file-whole : {zs : List ℕ}
             → zs ≡ over 0 (runOf (1 + k) t) (take (length f₂ - 512 * (1 + k)) (drop (512 * (1 + k)) f₂))
             → putMid (512 * (1 + k)) (length f₂ - 512 * (1 + k)) f₂ zs ≡ over 0 (fileOf (holding t names ds edition)) d

@@ -1,5 +1,8 @@
--- Of a table 50,401 bytes are enough, of names 8,065 and of a dialect 10, one more than there may be: the answer to so
--- much of them is the answer to all, however long they are, and so is the file. Assumes nothing.
+-- 50,401 bytes of a table, 8,065 of names and 10 of a dialect are enough: one more than a file can have. The answer
+-- for these first bytes is the answer for all, however long they are, and so is the buffer (`read-enough`). If
+-- nothing was cut off, both are the same; if something was, it was too long before and after the cut, and both are
+-- refused with the same number: 1 for the table, 2 for the names, 5 for the dialect (`away-alike`). A case
+-- distinction for each of the three lengths; no induction. Assumes nothing.
 use mathlib.Core.Path.{_≡_, refl, sym}
 use mathlib.Core.Bool.{Bool, true, false}
 use mathlib.Core.Logic.{⊎-elim}
@@ -22,12 +25,12 @@ use Rattle.tablefile.specs.File.{Content}
 use Rattle.tablefile.specs.Reading.{editionRead}
 use Rattle.writer.specs.Writing.{holding, writeOf, fileAfter}
 
--- two contents that are answered alike, whatever the buffer, with the same bytes after
+-- two contents with the same answer and the same buffer at exit, whatever the buffer
 pub record Alike (c c′ : Content) : Type 0 where
   pub answer : (room : ℕ) → writeOf c room ≡ writeOf c′ room
   pub after : (buffer : List ℕ) → fileAfter c buffer ≡ fileAfter c′ buffer
 
--- both turned away for the same
+-- two contents that are refused alike
 away-alike : (c c′ : Content) {n : ℕ} {vs : List ℕ} → givenOf (c .table) (c .names) (c .dialect) ≡ turnedAway n vs
     → givenOf (c′ .table) (c′ .names) (c′ .dialect) ≡ turnedAway n vs → Alike c c′
 unfolding writeOf
@@ -52,11 +55,11 @@ module _ (t names ds : List ℕ) where
   unfolding givenOf
   long-names e h = rw (← check-names t names (sym e) refl h) refl
 
--- a dialect of ten bytes or more is none, whatever they are
+-- ten bytes or more are never a dialect
 long-dialect : (ds : List ℕ) → 9 < length ds → fromBytes ds ≡ Invalid
 long-dialect ds h = other-length ds (λ e. omega arith) (λ e. omega arith)
 
--- what is cut off of each decides nothing; the edition is the same
+-- the bytes that are cut off do not matter; the edition is the same
 module _ (t names ds : List ℕ) (edition : Stated) where
   abbrev cut : List ℕ → List ℕ → List ℕ → Content
   cut t′ names′ ds′ = holding t′ names′ ds′ edition
@@ -95,7 +98,7 @@ module _ (t names ds : List ℕ) (edition : Stated) where
       go false e h = away-alike (cut t part (take 10 ds)) (cut t names ds)
           (bad-table t part (take 10 ds) e) (bad-table t names ds e)
 
-  -- THEOREM
+  -- THEOREM: the first bytes of each decide
   pub read-enough : Alike (holding (take (suc mostBytes) t) (take (suc mostNames) names) (take 10 ds) edition)
       (holding t names ds edition)
   read-enough = ⊎-elim

@@ -1,4 +1,9 @@
--- Laws of the job, in the terms of code: 1 to 5, then 7, and what acceptance says. Assumes nothing.
+-- Laws of `write` and `write_unchecked`, one for each `return`. The job is 1 to 5, then 7. A content that passes 1 to
+-- 5 has at most 117 blocks, nine dialect bytes and an edition of one byte (`sound-few`), so no sum overflows. An
+-- accepted answer implies that 1 to 5 are passed and that the file fits (`passed-says`, as the record `Says`);
+-- `write-refused` and `write-done` give the buffer in both cases. `write_unchecked` tests lengths only: `unfit-table`
+-- to `fit-room` follow its tests, and `Fitting` lists what they imply (`fit-says`, `says-fit`). No induction. Assumes
+-- nothing.
 use mathlib.Core.Path.{_≡_, refl, sym, _∙_}
 use mathlib.Core.Bool.{Bool, true, false}
 use mathlib.Core.Logic.{⊎-elim}
@@ -32,7 +37,7 @@ use Rattle.writer.specs.Writing.{isByte, fitsIn, laidOver}
 use Rattle.fields.specs.Choice.{if'}
 use Rattle.fields.specs.Over.{over}
 
--- how many bytes a file takes, in the terms of code
+-- the returns of `room_for`
 module _ (t n room : ℕ) {k m : ℕ} (k-is : k ≡ blocksFor n) (m-is : m ≡ blocksFor t) where
   pub room-short : room < 512 * (1 + k + m) → refused shortBuffer [] ≡ roomCheck (bytesFor t n) room
   room-short h = rw (← k-is, ← m-is, lt-leb (512 * (1 + k + m)) room h) refl
@@ -40,8 +45,7 @@ module _ (t n room : ℕ) {k m : ℕ} (k-is : k ≡ blocksFor n) (m-is : m ≡ b
   pub room-enough : 512 * (1 + k + m) ≤ room → accepted (512 * (1 + k + m) ∷ []) ≡ roomCheck (bytesFor t n) room
   room-enough h = rw (← k-is, ← m-is, le-leb (512 * (1 + k + m)) room h) refl
 
--- what 1 to 5 say of lengths: no more blocks than a file has at most, no more dialect bytes than nine, and an edition
--- of one byte
+-- what 1 to 5 imply for the lengths: at most 117 blocks, at most nine dialect bytes, and an edition of one byte
 pub record Few (c : Content) : Type 0 where
   pub blocks : 1 + blocksFor (length (c .names)) + blocksFor (length (c .table)) ≤ mostBlocks
   pub dialect : length (c .dialect) ≤ 9
@@ -62,7 +66,7 @@ sound-few c sound =
       edition = byte-is (c .edition) (sound-byte c known);
     }
 
--- the judgement: x is what `edition_held` read, and g what `enter_rules` answered
+-- the returns of `judge`: x is the answer of `edition_held`, and g that of `enter_rules`
 module _ (t names ds : List ℕ) (edition : Stated) {x : EditionRead} (x-is : x ≡ editionHeld ds (statedBytes edition))
     (g : Ruled) (g-is : ruled g ≡ rulesOf t names ds x) where
   rules-are : ruled g ≡ rulesOf t names ds (editionHeld ds (statedBytes edition))
@@ -84,7 +88,7 @@ module _ (t names ds : List ℕ) (edition : Stated) {x : EditionRead} (x-is : x 
     unfolding writeOf
     job-room room r-is = r-is ∙ rw passed refl
 
--- LAW: what acceptance says: 1 to 5 are passed, there is room, and the answer is how many bytes are written
+-- LAW: what acceptance implies: 1 to 5 are passed, there is room, and the answer is the number of bytes written
 pub record Says (c : Content) (room : ℕ) : Type 0 where
   pub sound : soundCheck c ≡ accepted []
   pub few : Few c
@@ -115,7 +119,7 @@ module _ (c : Content) (room : ℕ) where
           let fits : size ≤ room = leb-true size room b-is in
           record { sound = sound; few = sound-few c sound; fits = fits; answer = sound-accepted sound fits }
 
--- the job, by its judgement a and whether that is a refusal
+-- the returns of `write`: a is its judgement, q whether that is a refusal
 module _ (t names ds : List ℕ) (edition : Stated) (file : List ℕ) {a : Answer}
     (a-is : a ≡ writeOf (holding t names ds edition) (length file)) {q : Bool} (q-is : q ≡ isRefused a) where
   pub write-refused : q ≡ true → file ≡ fileAfter (holding t names ds edition) file
@@ -145,7 +149,7 @@ module _ (t names ds : List ℕ) (edition : Stated) (file : List ℕ) {a : Answe
         → after ≡ fileAfter (holding t names ds edition) file
     write-done after-is = rw (says .answer) after-is
 
--- a file that is written unchecked: what does not fit, and what does
+-- the returns of `fits`: each length that is too large, then the edition and the room
 module _ (t n d : ℕ) (edition : Stated) (room : ℕ) where
   pub unfit-table : 50400 < t → false ≡ fitsIn t n d edition room
   unfolding fitsIn
@@ -184,7 +188,7 @@ module _ (t n d : ℕ) (edition : Stated) (room : ℕ) where
         fit-room h k-is m-is =
             rw (k-is, m-is, le-leb t 50400 few, le-leb n 8064 named, le-leb d 9 nine, ← q-is, h) refl
 
--- LAW: what fits, and that it is then written
+-- LAW: what the test of `write_unchecked` implies
 pub record Fitting (t n d : ℕ) (edition : Stated) (room : ℕ) : Type 0 where
   pub few : t ≤ 50400
   pub named : n ≤ 8064

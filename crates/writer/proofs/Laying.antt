@@ -1,5 +1,8 @@
--- Laws of the loop that lays bytes over a block, byte by byte, and weighs them: it lays them as blocks' loop does
--- (`Putting`), and the sum is over the places up to the last one laid (`Laying`). Assumes nothing.
+-- Laws of `lay`, the loop that copies bytes into a block and adds their weights to the sum. One invariant, `Laying`,
+-- has two parts: the bytes are copied as in the loop of blocks (`Putting`), and the sum is that of all places up to
+-- the last copied one (`Summed`). A byte that is stored at place at + i does not change the sum of the places before
+-- it, so each turn extends both parts by one place (`lay-on`). At the end the bytes are in the block (`lay-end`) and
+-- weighed (`lay-sum`). Assumes nothing.
 use mathlib.Core.Path.{_≡_, sym, ap, _∙_}
 use mathlib.Core.List.{List}
 use Prim.Native.Nat.{ℕ, _+_, _*_, _<_, _≤_, _^_}
@@ -13,7 +16,7 @@ use Rattle.blocks.specs.Block.{weightOf, weighed}
 use Rattle.blocks.proofs.Sums.{Summed, weighed-outside, weighed-small, weight-small, sum-on}
 use Rattle.blocks.proofs.Laying.{Putting, put-start, put-long, put-on, put-end}
 
--- the first i of some bytes are laid, and weighed with what stands before them
+-- the first i bytes are copied, and the sum covers them and the places before them
 pub record Laying (d bytes : List ℕ) (at : ℕ) (out : List ℕ) (sum i : ℕ) : Type 0 where
   pub put : Putting d bytes at out i
   pub summed : Summed out sum (at + i)

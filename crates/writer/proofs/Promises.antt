@@ -1,5 +1,7 @@
--- Two answers that meet the promise of a public function coincide, and so do the buffers that they leave, for every
--- table, names, dialect bytes, edition and buffer. Assumes nothing.
+-- Each public function has one answer: two answers that meet its promise are equal, and so are the buffers at exit,
+-- for every table, names, dialect bytes, edition and buffer. The answer of `write` is promised by its meaning; no two
+-- answers have the same meaning (`written-injective`), so `coincide-by` applies. Everything else is an equation
+-- (`coincide`). Assumes nothing.
 use mathlib.Core.Path.{_≡_, ap}
 use mathlib.Core.List.{List}
 use Prim.Native.Nat.{ℕ}
@@ -18,7 +20,7 @@ abbrev value : Answer → ℕ
 value (accepted vs) = getD vs 0 0
 value (refused n vs) = 0
 
--- no two answers mean the same
+-- no two answers have the same meaning
 pub written-injective : (r s : Written) → written r ≡ written s → r ≡ s
 written-injective (Accepted n) (Accepted m) e = ap Accepted (ap value e)
 written-injective (Accepted n) (Refused s) e = never (cc)

@@ -1,10 +1,9 @@
--- The writer, as request W-201 asks for it, over the promises of writer and reader, for every input:
--- what is written reads back as the same table, names, dialect and edition, none as none, so the reader does not refuse
--- it;
--- and is handed over so by `read_into`;
--- each file that the reader accepts is written again to the same bytes;
--- where 1 to 5 are passed it is refused, by 7, exactly if the blocks do not fit;
--- a refusal changes no byte, and bytes past the blocks always stay. Assumes nothing.
+-- The theorems of W-201 on the writer, from the promises of writer and reader, for every input. What is written is
+-- read back as the same table, names, dialect and edition, none as none, so the reader does not refuse it, and
+-- `read_into` gives the same parts. Each file that the reader accepts is written again to the same bytes. If 1 to 5
+-- are passed, it is refused exactly if the blocks do not fit, with 7. A refusal changes no byte, and bytes past the
+-- blocks always stay. An accepted answer leaves the file of the content (`Says` of Jobs), and that file reads back
+-- (tablefile's theorems); each claim is a step from there. Assumes nothing.
 use mathlib.Core.Path.{_≡_, refl, sym, ap, _∙_}
 use mathlib.Core.List.{List, [], _∷_, _++_}
 use Prim.Native.Nat.{ℕ, _*_, _<_, _≤_}
@@ -35,12 +34,12 @@ use Rattle.writer.proofs.Building.{length-file}
 use Rattle.writer.proofs.Jobs.{Says, passed-says, sound-few, sound-accepted}
 use Rattle.writer.proofs.Promises.{written-injective}
 
--- the promise of `write`, called with the parts of a content: the answer, and the buffer after
+-- the promise of `write`, called with the parts of a content: the answer, and the buffer at exit
 abbrev pub Write : Content → List ℕ → Written → List ℕ → Type 0
 Write c buffer r after = (written r ≡ writeOf c (length buffer)) × (after ≡ fileAfter c buffer)
 
 module _ (c : Content) (buffer : List ℕ) (r : Written) (after : List ℕ) (w : Write c buffer r after) where
-  -- what an accepted write says, and what it leaves
+  -- what an accepted write implies, and what it leaves
   module _ {n : ℕ} (good : r ≡ Accepted n) where
     answer-is : writeOf c (length buffer) ≡ accepted (n ∷ [])
     answer-is = sym (w .0) ∙ ap written good
@@ -57,14 +56,14 @@ module _ (c : Content) (buffer : List ℕ) (r : Written) (after : List ℕ) (w :
         value : {a b : ℕ} → Accepted a ≡ Accepted b → a ≡ b
         value e = cc
 
-    -- LAW: the file, and behind it what stood there
+    -- LAW: the buffer is the file and then the old bytes
     pub written-is : after ≡ fileOf c ++ drop n buffer
     written-is = w .1 ∙ rw (answer-is, written-length) (over-front (fileOf c) buffer)
 
     pub written-front : take n after ≡ fileOf c
     written-front = ap (take n) written-is ∙ take-at (fileOf c) (drop n buffer) n (sym written-length)
 
-    -- THEOREM: what is written reads back as the same table, names, dialect and edition
+    -- THEOREM: what is written is read back as the same table, names, dialect and edition
     module _ (table-bytes : Bytes (c .table)) (names-bytes : Bytes (c .names)) (dialect-bytes : Bytes (c .dialect))
       where
         sound-content : SoundContent c
@@ -89,7 +88,7 @@ module _ (c : Content) (buffer : List ℕ) (r : Written) (after : List ℕ) (w :
           unfolding loadedOf
           not-refused = ap (λ (l : Loaded). l .verdict) reads-back
 
-        -- THEOREM: and `read_into` hands the same over, into buffers that table and names fit
+        -- THEOREM: `read_into` writes the same table and names, if they fit its buffers
         pub back-content : contentAt (take n after) ≡ c
         back-content = ap contentAt written-front ∙ back-holds c sound-content
 
@@ -122,7 +121,7 @@ module _ (c : Content) (buffer : List ℕ) (r : Written) (after : List ℕ) (w :
       let told : writeOf c (length buffer) ≡ written (Refused why) = sym (w .0) ∙ ap written e in
       w .1 ∙ rw told refl
 
-  -- LAW: where 1 to 5 are passed it is refused exactly if the blocks do not fit, and by 7
+  -- LAW: if 1 to 5 are passed, it is refused exactly if the blocks do not fit, with 7
   module _ (sound : soundCheck c ≡ accepted []) where
     abbrev size : ℕ
     size = bytesFor (length (c .table)) (length (c .names))

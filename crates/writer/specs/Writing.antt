@@ -1,4 +1,4 @@
--- Writing a table file: the job's answer, and the buffer at exit. These are definitions.
+-- Writing a table file (docs/FORMAT.md, a table file): the job's answer, and the buffer at exit. These are definitions.
 use mathlib.Core.Bool.{Bool, true, _&&_}
 use mathlib.Core.List.{List, [], _∷_}
 use Prim.Native.Nat.{ℕ, _+_, _*_}
@@ -18,23 +18,23 @@ use Rattle.tablefile.specs.Reading.{soundCheck}
 use Rattle.writer.specs.declared.Written.{Written}
 use Rattle.writer.specs.declared.Written.the-variants.{Accepted, Refused}
 
--- what a file is to hold: a table, names, the bytes of a dialect, none or nine, and the number of an edition or nothing
+-- the content to write: a table, names, none or nine dialect bytes, and the number of an edition or nothing
 abbrev pub holding : List ℕ → List ℕ → List ℕ → Stated → Content
 holding t names bytes edition = record { table = t; names = names; dialect = bytes; edition = edition }
 
--- how many bytes the file of so many table and name bytes takes: 512 for block 0, and for each block of names and nodes
+-- the length of the file, given the lengths of table and names: 512 for block 0 and for each block of names and nodes
 abbrev pub bytesFor : ℕ → ℕ → ℕ
 bytesFor table names = blockBytes * (1 + blocksFor names + blocksFor table)
 
--- 7: the buffer is shorter than that; else the answer is how many bytes are written
+-- 7 if the buffer is shorter than that; else the answer is the number of bytes written
 abbrev pub roomCheck : ℕ → ℕ → Answer
 roomCheck size room = if' (leb size room) (λ _. accepted (size ∷ [])) (λ _. refused shortBuffer [])
 
--- the job, for a buffer of so many bytes: 1 to 5, then 7
+-- the job, for a buffer of `room` bytes: 1 to 5, then 7
 unfoldable pub writeOf : Content → ℕ → Answer
 writeOf c room = andThen (soundCheck c) (λ _. roomCheck (bytesFor (length (c .table)) (length (c .names))) room)
 
--- the buffer at exit: the file laid over its front when accepted, else as it was
+-- the buffer at exit: with the file written over its front if accepted, else unchanged
 abbrev pub afterwards : Answer → List ℕ → List ℕ → List ℕ
 afterwards (accepted vs) file buffer = over 0 file buffer
 afterwards (refused n vs) file buffer = buffer
@@ -53,13 +53,13 @@ fitsIn table names bytes edition room =
     leb table mostBytes
     && (leb names mostNames && (leb bytes 9 && (isByte edition && leb (bytesFor table names) room)))
 
--- the buffer after a file is written with no check of 1 to 5: the file over its front where it fits, else as it was
+-- the buffer after a file is written with no check of 1 to 5: with the file over its front if it fits, else unchanged
 unfoldable pub laidOver : Content → List ℕ → List ℕ
 laidOver c buffer =
     if' (fitsIn (length (c .table)) (length (c .names)) (length (c .dialect)) (c .edition) (length buffer))
     (λ _. over 0 (fileOf c) buffer) (λ _. buffer)
 
--- what the answers of code mean
+-- the meaning of the code's answers
 abbrev pub written : Written → Answer
 written (Accepted n) = accepted (n ∷ [])
 written (Refused r) = refusal r

@@ -1,5 +1,5 @@
-// The writer of table files: a table, its names, a dialect or none and an edition or none, to document 01's blocks,
-// into a lent buffer.
+// The writer of table files (docs/FORMAT.md, a table file): writes a table, its names, a dialect or none and an edition
+// or none as blocks into a buffer.
 use blocks::BLOCK_BYTES;
 use blocks::bytes;
 use dialect::Stated;
@@ -22,15 +22,15 @@ ghost use Rattle.tablefile.specs.File.{headerOf, fileOf, mostBlocks};
 ghost use Rattle.writer.specs.Writing.{holding, bytesFor, roomCheck, writeOf, fileAfter, fitsIn, laidOver};
 ghost use Rattle.writer.specs.Writing.{isByte, written};
 
-// The answer of the job: how many bytes are written, a multiple of 512, or why it is refused.
+// The answer of the job: the number of bytes written, a multiple of 512, or why it is refused.
 pub enum Written {
     Accepted(u32),
     Refused(Refusal),
 }
 
-// The table file of a table, its names, a dialect, nine bytes or none, and an edition, its number or nothing: 1 to 5,
-// then 7 for a buffer that is shorter than the file. An edition without a dialect is 5. A refusal changes no byte, and
-// bytes past the file stay.
+// Writes the file of a table, its names, nine dialect bytes or none, and the number of an edition or nothing. Refuses
+// with 1 to 5, then with 7 if the buffer is shorter than the file. An edition without a dialect is 5. A refusal changes
+// no byte, and bytes past the file stay.
 pub fn write(
     table: &[u8],
     names: &[u8],
@@ -96,7 +96,7 @@ fn is_byte(edition: Stated) -> bool
     }
 }
 
-// 1 to 5, then 7 for so many bytes of room.
+// Judges what is to be written: 1 to 5, then 7 for a buffer of `room` bytes.
 fn judge(table: &[u8], names: &[u8], dialect: &[u8], edition: Stated, room: usize) -> Written
     ensures { λ r. ⌜ written r ≡
         writeOf (holding (now (table .entry)) (now (names .entry)) (now (dialect .entry)) edition) room ⌝ }
@@ -112,7 +112,7 @@ fn judge(table: &[u8], names: &[u8], dialect: &[u8], edition: Stated, room: usiz
     }
 }
 
-// 7, or how many bytes the file of so many table and name bytes takes.
+// The length of the file, given the lengths of table and names, or 7 if the buffer is shorter.
 fn room_for(table: usize, names: usize, room: usize) -> Written
     requires { ⌜ 1 + blocksFor names + blocksFor table ≤ mostBlocks ⌝ }
     ensures { λ r. ⌜ written r ≡ roomCheck (bytesFor table names) room ⌝ }
@@ -169,7 +169,7 @@ fn write_header(table: &[u8], names: &[u8], dialect: &[u8], edition: Stated, out
     write_block(0, &header[0..used], out)
 }
 
-// Puts an edition, if there is one, at a place of block 0's content, and returns the place behind it.
+// Writes an edition, if there is one, at a place of block 0's content, and returns the place after it.
 fn put_edition(edition: Stated, at: usize, out: &mut [u8]) -> usize
     requires { ⌜ (isByte edition ≡ true) × (at < length (now out)) ⌝ }
     ensures { λ r. ⌜ now (out .exit) ≡ over at (statedBytes edition) (now (out .entry)) ⌝ }
@@ -184,8 +184,8 @@ fn put_edition(edition: Stated, at: usize, out: &mut [u8]) -> usize
     }
 }
 
-// Writes the blocks of a content at the front of some bytes, numbered from a number on: each is lent what stands from
-// its place on, one after another.
+// Writes the blocks of a content at the front of a buffer, with numbers that increase by one. Each block is written
+// to the part of the buffer from its place on.
 fn write_run(first: usize, content: &[u8], out: &mut [u8])
     requires { ⌜ (blockBytes * blocksFor (length (now content)) ≤ length (now out)) × (first ≤ mostBlocks) ⌝ }
     ensures { λ r. ⌜ now (out .exit) ≡ over 0 (runOf first (now (content .entry))) (now (out .entry)) ⌝ }
@@ -201,8 +201,8 @@ fn write_run(first: usize, content: &[u8], out: &mut [u8])
     }
 }
 
-// Writes a block at the front of some bytes, from 512 zero bytes: number, used bytes and content, weighed as they are
-// laid, and the sum.
+// Writes a block at the front of a buffer. It is made from 512 zero bytes: the number, the used bytes and the content
+// are copied and weighed, then the sum is added.
 fn write_block(number: usize, content: &[u8], out: &mut [u8])
     requires { ⌜ (length (now content) ≤ contentBytes) × (blockBytes ≤ length (now out)) ⌝ }
     ensures { λ r. ⌜ now (out .exit) ≡ over 0 (blockOf number (now (content .entry))) (now (out .entry)) ⌝ }
@@ -216,7 +216,7 @@ fn write_block(number: usize, content: &[u8], out: &mut [u8])
     bytes::put(&check, 508, out)
 }
 
-// Lays bytes over a block from a place on, and adds what they weigh to the sum of the places before.
+// Copies bytes into a block from a place on, and adds their weights to the sum of the places before.
 fn lay(bytes: &[u8], at: usize, before: u32, out: &mut [u8]) -> u32
     requires { ⌜ (at + length (now bytes) ≤ 508) × (508 ≤ length (now out)) × (before ≡ weighed at (now out)) ⌝ }
     ensures { λ r. ⌜ now (out .exit) ≡ over at (now (bytes .entry)) (now (out .entry)) ⌝ }

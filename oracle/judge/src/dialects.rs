@@ -45,7 +45,7 @@ fn to_bytes(dialect: &Dialect) -> [u8; BYTES] {
     ]
 }
 
-/// The crate's named dialects, in the order of document 01's rows, and its default last.
+/// The crate's named dialects, in the order of the rows of docs/FORMAT.md, and its default last.
 pub fn named() -> [(&'static str, [u8; BYTES]); 4] {
     [
         ("Standard", to_bytes(&Dialect::Standard)),

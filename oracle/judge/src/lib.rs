@@ -1,5 +1,5 @@
 //! The crate as judge: sound tables become its trees, its own functions run on them, and its messages and
-//! spans become document 01's numbers, nodes and spans.
+//! spans become numbers of docs/RULES.md, nodes and spans.
 
 pub mod back;
 pub mod dialects;

@@ -1,4 +1,4 @@
-//! The crate's messages as document 01's numbers. A message that is not known, or an internal error, stops
+//! The crate's messages as numbers of docs/RULES.md. A message that is not known, or an internal error, stops
 //! the run.
 
 use model::numbers::number;
@@ -63,7 +63,7 @@ fn number_of(message: &str) -> u32 {
     whole.or_else(part).unwrap_or_else(|| panic!("the crate's message is not known: {message}"))
 }
 
-/// An error of the crate: document 01's number, and its span.
+/// An error of the crate: its number of docs/RULES.md, and its span.
 pub fn number_and_span(error: EvalException) -> (u32, Span) {
     let error = error.into_error();
     if !matches!(error.kind(), ErrorKind::Parser(_) | ErrorKind::Other(_)) {

@@ -1,4 +1,4 @@
-//! The crate's own functions on a table's trees, answered in document 01's words.
+//! The crate's own functions on a table's trees, with answers as docs/RULES.md has them.
 
 use model::answer::Answer;
 use model::answer::Refusal;

@@ -260,7 +260,7 @@ impl Trees<'_, '_> {
         self.table.children_of(owner, Class::Parameter).collect()
     }
 
-    /// A list that is longer than document 02 permits is not given to the crate, which has no such limit.
+    /// A list with more than 48 entries is not given to the crate, which has no such limit.
     pub fn parameters(&self, owner: usize) -> Built<Vec<AstParameter>> {
         let nodes = self.parameter_nodes(owner);
         if nodes.len() > MOST_ENTRIES {
@@ -395,7 +395,7 @@ impl Trees<'_, '_> {
     }
 
     /// A first `for`, then clauses: a target and what follows it as a `for` where that can be and the node is
-    /// even, else a condition. Document 01 leaves it open, and no answer depends on it.
+    /// even, else a condition. The format leaves it open, and no answer depends on it.
     fn clauses(&self, nodes: &[usize]) -> Built<(ForClause, Vec<Clause>)> {
         let [var, over, rest @ ..] = nodes else { return Err(NotATree) };
         let first = ForClauseP { var: self.target(*var)?, over: self.expression(*over)? };

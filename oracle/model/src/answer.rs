@@ -21,7 +21,7 @@ pub struct Span {
     pub end: u32,
 }
 
-/// A refusal: its number, and the node and the span where document 01 gives them. 11 and 22 carry the node of the first earlier
+/// A refusal: its number, and the node and the span where docs/RULES.md gives them. 11 and 22 carry the node of the first earlier
 /// parameter or argument with an equal name besides.
 #[derive(Clone, Debug, PartialEq, Eq)]
 pub struct Refusal {

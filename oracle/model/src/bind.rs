@@ -1,4 +1,4 @@
-//! W-204: which argument of a call reaches which parameter of a def. Written from document 02.
+//! W-204: which argument of a call reaches which parameter of a def. Written from the request, not from the code.
 
 use crate::call::Argument;
 use crate::numbers::kind;

@@ -49,7 +49,7 @@ impl Dialect {
     }
 }
 
-/// No bytes is Extended (document 02, W-207); nine good bytes are themselves; all else is 5.
+/// No bytes is Extended (W-207); nine good bytes are themselves; all else is 5.
 pub fn from_bytes(bytes: &[u8]) -> Result<Dialect, Refusal> {
     if bytes.is_empty() {
         return Ok(Dialect::of(&row_of_none()));

@@ -1,4 +1,4 @@
-//! Document 02's figures (W-214): counts over files that are joined into one input, from the answers of the other jobs.
+//! The figures (W-214): counts over files that are joined into one input, from the answers of the other jobs.
 
 use crate::answer::Answer;
 use crate::file;

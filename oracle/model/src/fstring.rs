@@ -1,4 +1,4 @@
-//! The format text of an f-string, from its parts and back: document 02, W-210.
+//! The format text of an f-string, from its parts and back: W-210.
 
 use crate::answer::Answer;
 use crate::answer::Refusal;

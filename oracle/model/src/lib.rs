@@ -1,6 +1,6 @@
-//! Document 01 in Rust: its node table, its file, its limits, and what its definitions answer for every
+//! docs/FORMAT.md and docs/RULES.md in Rust: the node table, the file, the limits, and the answer for every
 //! table. Written from the document, so that it can judge tables that no tree of the crate can be.
-//! And document 02's binding of arguments to parameters, its rescue of files, its reader of format texts and its figures, which the crate does not have, and
+//! And the binding of arguments to parameters, the rescue of files, the reader of format texts and the figures, which the crate does not have, and
 //! the audit of a whole table by all jobs.
 
 pub mod answer;

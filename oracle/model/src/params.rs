@@ -8,7 +8,7 @@ use crate::numbers::number;
 use crate::planted::planted;
 use crate::planted::Fault;
 
-/// The most entries of a written list, marks counted (document 02, W-211). The crate has no such limit.
+/// The most entries of a written list, marks counted (W-211). The crate has no such limit.
 pub const MOST_ENTRIES: usize = 48;
 
 /// One written entry of a parameter list.

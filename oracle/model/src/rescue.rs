@@ -1,4 +1,4 @@
-//! Document 02's rescue of a damaged file (W-205), word by word: no search is shortened.
+//! The rescue of a damaged file (W-205), as the request words it: no search is shortened.
 
 use crate::answer::Refusal;
 use crate::dialect;

@@ -23,7 +23,7 @@ pub struct Record {
     pub begin: u32,
     pub end: u32,
     pub size: u16,
-    /// The number of the source file (document 02, W-208); 0 in a root Statements.
+    /// The number of the source file (W-208); 0 in a root Statements.
     pub file: u16,
     /// Source position of the name, in kind 61 alone.
     pub source: u32,
@@ -131,7 +131,7 @@ const fn exactly(class: Class, count: usize) -> Part {
 
 const NOTHING: Part = exactly(Class::Statement, 0);
 
-/// The children that document 01 gives a kind, in their order.
+/// The children of a kind, in the order of docs/FORMAT.md.
 pub fn children_rule(kind: u8, detail: u8) -> [Part; 3] {
     use Class::*;
     let typed = usize::from(detail == 1);
@@ -295,7 +295,7 @@ impl<'a> Table<'a> {
     }
 
     /// The first node, in index order, that stands deeper than permitted. The root has depth 1. Statements and expressions stand one deeper
-    /// than their parent, a parameter or an argument as deep as its parent (document 02, W-206).
+    /// than their parent, a parameter or an argument as deep as its parent (W-206).
     fn check_depth(&self) -> Result<(), Refusal> {
         let most = MOST_DEPTH + usize::from(planted(Fault::DepthOneMore));
         // Of the subtrees that are open: where each ends, and how deep its first record stands.

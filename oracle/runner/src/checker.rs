@@ -304,7 +304,7 @@ impl Checker {
         self.tally.first = Some(text);
     }
 
-    /// Runs one job whose answer document 01 gives by itself: its number, and where it says so, its words.
+    /// Runs one job whose answer is written down: its number and, where they are given, its words.
     pub fn expect(&mut self, request: &Request, number: u32, words: Option<&[u32]>) {
         if self.wants(&request.job) {
             let answer = model_answer(request);
@@ -366,7 +366,7 @@ fn or_stop<T>(request: &Request, judge: impl FnOnce() -> T) -> T {
     })
 }
 
-/// Numbers that document 01 adds: the crate has no tables, no nodes and no lent buffers.
+/// Numbers that the crate does not have, since it has no tables, no nodes and no buffers of a caller.
 fn is_ours(number: u32) -> bool {
     (number::TABLE_LENGTH..=number::SHORT_BUFFER).contains(&number)
 }

@@ -1,4 +1,4 @@
-//! Every small tree that document 01's rules of children permit.
+//! Every small tree that the rules of children (docs/FORMAT.md) permit.
 
 use model::numbers::kind;
 use model::table::children_rule;

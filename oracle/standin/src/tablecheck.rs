@@ -1,5 +1,5 @@
 //! Stands in for the program `tablecheck`: reads the table file that its argument names, or else standard
-//! input, and prints what document 01 says.
+//! input, and prints what docs/COMMANDS.md shows.
 
 use std::io::Read;
 

@@ -1,4 +1,4 @@
--- `arguments::arguments` meets its contract: the arguments stand behind the first child. Assumes nothing.
+-- `arguments::arguments` meets its contract: the arguments follow the first child. Assumes nothing.
 use Rattle.arguments.proofs.Steps.{call-answer}
 use borrow.Author.Needs.{needs}
 use Rattle.arguments.proofs.arguments.Statement.{statement}

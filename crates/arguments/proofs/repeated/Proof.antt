@@ -1,5 +1,5 @@
--- `arguments::repeated` meets its contract: named arguments alone repeat a name, and one that may not stand is new.
--- Assumes nothing.
+-- `arguments::repeated` meets its contract: only named arguments repeat a name, and one that the marks do not show is
+-- new. Assumes nothing.
 use borrow.Author.Tests.{not-true}
 use borrow.Author.Needs.{needs}
 use Rattle.arguments.proofs.Walking.{meets-none, meets-new, meets-searched}

@@ -1,4 +1,5 @@
--- `audit::pass` meets its contract: the module pass, then the walk over as much as a table has. Assumes nothing.
+-- `audit::pass` meets its contract: the module pass, then the walk over at most as many bytes as a table has. Assumes
+-- nothing.
 use native.Mathlib.Omega.{arith}
 use Rattle.table.proofs.Heads.{within-short}
 use Rattle.audit.proofs.Jobs.{own-few, pass-all}

@@ -1,4 +1,4 @@
--- `blocks::blocks_for` meets its contract: whole blocks, and one for what is left over. Assumes nothing.
+-- `blocks::blocks_for` meets its contract: the full blocks, and one more for a remainder. Assumes nothing.
 use borrow.Author.Needs.{needs}
 use Rattle.blocks.specs.Run.{blocksFor}
 use Rattle.blocks.proofs.blocks_for.Statement.{statement}

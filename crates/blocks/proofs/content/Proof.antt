@@ -1,4 +1,4 @@
--- `blocks::content` meets its contract: nothing, what a block that is cut short has, or 504 bytes. Assumes nothing.
+-- `blocks::content` meets its contract: no bytes, those of a block that is cut short, or 504. Assumes nothing.
 use borrow.Author.Needs.{needs}
 use Rattle.blocks.proofs.Runs.{content-none, content-short, content-cut, content-whole}
 use Rattle.blocks.proofs.content.Statement.{statement}

@@ -1,4 +1,4 @@
--- `blocks::examine` meets its contract: each return is one of the demands. Assumes nothing.
+-- `blocks::examine` meets its contract: each return is one of the tests. Assumes nothing.
 use borrow.Author.Needs.{needs}
 use borrow.Author.Tests.{not-true, not-false}
 use Rattle.blocks.proofs.Judging.{examine-check, examine-number, examine-used, examine-padding}

@@ -1,4 +1,5 @@
--- `blocks::first_block` meets its contract: the zero bytes are filled from the front. Assumes nothing.
+-- `blocks::first_block` meets its contract: the 512 zero bytes are overwritten from the front (`Filled`). Assumes
+-- nothing.
 use Prim.Native.Nat.{ℕ, _-_}
 use native.Mathlib.Omega.{arith}
 use borrow.Author.Needs.{needs}

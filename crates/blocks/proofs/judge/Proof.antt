@@ -1,4 +1,4 @@
--- `blocks::judge` meets its contract: a block that is short, or the demands on its 512 bytes. Assumes nothing.
+-- `blocks::judge` meets its contract: the block is short, or its 512 bytes are examined. Assumes nothing.
 use native.Mathlib.Omega.{arith}
 use borrow.Author.Needs.{needs}
 use Rattle.blocks.proofs.Judging.{judge-short, judge-long}

@@ -1,4 +1,4 @@
--- `blocks::judge_run` meets its contract: what is left decides. Assumes nothing.
+-- `blocks::judge_run` meets its contract: the blocks that remain decide the answer (`Running`). Assumes nothing.
 use borrow.Author.Needs.{needs}
 use Rattle.blocks.proofs.Runs.{Running, running-start, running-stop, running-long, running-on, running-end}
 use Rattle.blocks.proofs.judge_run.Statement.{statement}

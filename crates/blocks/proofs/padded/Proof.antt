@@ -1,4 +1,4 @@
--- `blocks::padded` meets its contract: what is left decides. Assumes nothing.
+-- `blocks::padded` meets its contract: the bytes that remain decide the answer (`Padding`). Assumes nothing.
 use Prim.Native.Nat.{_-_}
 use borrow.Author.Needs.{needs}
 use Rattle.blocks.proofs.Judging.{Padding, pad-start, pad-stop, pad-on, pad-end}

@@ -1,4 +1,4 @@
--- `blocks::sum` meets its contract: the sum over the places so far. Assumes nothing.
+-- `blocks::sum` meets its contract: the loop keeps the sum over the places so far (`Summing`). Assumes nothing.
 use Prim.Native.Nat.{_-_}
 use borrow.Author.Needs.{needs}
 use Rattle.blocks.proofs.Sums.{Summing, summing-start, summing-place, summing-few, summing-fits, summing-on}

@@ -1,4 +1,4 @@
--- `blocks::weight` meets its contract: the product is small. Assumes nothing.
+-- `blocks::weight` meets its contract: the product fits 32 bits. Assumes nothing.
 use native.Mathlib.Omega.{arith}
 use borrow.Author.Needs.{needs}
 use Rattle.blocks.proofs.Sums.{weight-small}

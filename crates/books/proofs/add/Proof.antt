@@ -1,4 +1,4 @@
--- `books::add` meets its contract: zone 0 is the line's. Assumes nothing.
+-- `books::add` meets its contract: zone 0 goes to the line book. Assumes nothing.
 use Rattle.books.proofs.Changing.{add-line, add-zone, zone-stays, zone-changes, line-stays, line-changes}
 use borrow.Author.Needs.{needs}
 use Rattle.books.proofs.add.Statement.{statement}

@@ -1,4 +1,4 @@
--- `books::judge_book` meets its contract: 95, then 96. Assumes nothing.
+-- `books::judge_book` meets its contract: 95 is tested before 96. Assumes nothing.
 use borrow.Author.Tests.{not-true, not-false}
 use Rattle.books.proofs.Laws.{judge-unsound, judge-twice, judge-passed}
 use borrow.Author.Needs.{needs}

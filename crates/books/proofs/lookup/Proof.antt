@@ -1,4 +1,4 @@
--- `books::lookup` meets its contract: the part of the answer. Assumes nothing.
+-- `books::lookup` meets its contract: the part is the one that the answer gives. Assumes nothing.
 use Rattle.books.proofs.Laws.{part-zone, part-line, part-refused, part-nothing}
 use borrow.Author.Needs.{needs}
 use Rattle.books.proofs.lookup.Statement.{statement}

@@ -1,4 +1,4 @@
--- `books::remove` meets its contract: zone 0 is the line's. Assumes nothing.
+-- `books::remove` meets its contract: zone 0 goes to the line book. Assumes nothing.
 use Rattle.books.proofs.Changing.{remove-line, remove-zone, zone-left, zone-loses, line-left, line-loses}
 use borrow.Author.Needs.{needs}
 use Rattle.books.proofs.remove.Statement.{statement}

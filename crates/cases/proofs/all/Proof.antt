@@ -1,4 +1,4 @@
--- `cases::all` ends: the number of requests left falls. Assumes nothing.
+-- `cases::all` ends, because the number of requests left falls. Assumes nothing.
 use borrow.Author.Needs.{needs}
 use Rattle.cases.proofs.all.Statement.{statement}
 use Rattle.cases.proofs.all.Tie as tie

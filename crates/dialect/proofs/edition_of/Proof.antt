@@ -1,4 +1,4 @@
--- `dialect::edition_of` meets its contract: each return stands behind the tests of `editionOf`. Assumes nothing.
+-- `dialect::edition_of` meets its contract: each return is behind the tests of `editionOf`. Assumes nothing.
 use mathlib.Core.Path.{sym}
 use Rattle.dialect.proofs.Editions.{edition-one, edition-two, edition-none}
 use Rattle.dialect.proofs.edition_of.Statement.{statement}

@@ -14,7 +14,7 @@ use Rattle.dialect.proofs.Laws.{empty-given, valid-given, invalid-given
 use Rattle.dialect.proofs.from_bytes.Statement.{statement}
 use Rattle.dialect.proofs.from_bytes.Tie as tie
 
--- no bytes, told by the length, and a dialect that is the one meant
+-- no bytes, seen by the length, and the default dialect
 empty : (bs : List ℕ) (d : Dialect) → length bs ≡ 0 → d ≡ dialectNamed noneGiven → Valid d ≡ fromBytes bs
 empty [] d h e = ap Valid e ∙ sym empty-given
 empty (b ∷ bs) d h e = absurd (omega arith)

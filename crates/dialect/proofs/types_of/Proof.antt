@@ -1,4 +1,4 @@
--- `dialect::types_of` meets its contract: each return stands behind the tests of `typesOf`. Assumes nothing.
+-- `dialect::types_of` meets its contract: each return is behind the tests of `typesOf`. Assumes nothing.
 use borrow.Author.Tests.{eq-eqb, ne-eqb}
 use Rattle.dialect.proofs.types_of.Statement.{statement}
 use Rattle.dialect.proofs.types_of.Tie as tie

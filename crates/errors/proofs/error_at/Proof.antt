@@ -1,4 +1,4 @@
--- `errors::error_at` meets its contract: the span is the record's. Assumes nothing.
+-- `errors::error_at` meets its contract: the span is that of the record. Assumes nothing.
 use borrow.Author.Needs.{needs}
 use Rattle.errors.proofs.error_at.Statement.{statement}
 use Rattle.errors.proofs.error_at.Tie as tie

@@ -1,4 +1,4 @@
--- `errors::free` meets its contract: behind the errors of a form, or at the end. Assumes nothing.
+-- `errors::free` meets its contract: each form has its own number of words. Assumes nothing.
 use borrow.Author.Needs.{needs}
 use Rattle.errors.proofs.free.Statement.{statement}
 use Rattle.errors.proofs.free.Tie as tie

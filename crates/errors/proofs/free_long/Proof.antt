@@ -1,4 +1,4 @@
--- `errors::free_long` meets its contract: behind errors with their node, or at the end. Assumes nothing.
+-- `errors::free_long` meets its contract: the words after errors with their node, or the end. Assumes nothing.
 use borrow.Author.Needs.{needs}
 use Rattle.errors.proofs.free_long.Statement.{statement}
 use Rattle.errors.proofs.free_long.Tie as tie

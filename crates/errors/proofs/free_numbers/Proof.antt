@@ -1,4 +1,4 @@
--- `errors::free_numbers` meets its contract: behind numbers, or at the end. Assumes nothing.
+-- `errors::free_numbers` meets its contract: the words after numbers, or the end. Assumes nothing.
 use borrow.Author.Needs.{needs}
 use Rattle.errors.proofs.free_numbers.Statement.{statement}
 use Rattle.errors.proofs.free_numbers.Tie as tie

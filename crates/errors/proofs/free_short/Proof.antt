@@ -1,4 +1,4 @@
--- `errors::free_short` meets its contract: behind errors without their node, or at the end. Assumes nothing.
+-- `errors::free_short` meets its contract: the words after errors without their node, or the end. Assumes nothing.
 use borrow.Author.Needs.{needs}
 use Rattle.errors.proofs.free_short.Statement.{statement}
 use Rattle.errors.proofs.free_short.Tie as tie

@@ -1,4 +1,4 @@
--- `errors::is_list_error` meets its contract: its two tests. Assumes nothing.
+-- `errors::is_list_error` meets its contract: the two tests are those of `isListError`. Assumes nothing.
 use borrow.Author.Needs.{needs}
 use Rattle.errors.proofs.is_list_error.Statement.{statement}
 use Rattle.errors.proofs.is_list_error.Tie as tie

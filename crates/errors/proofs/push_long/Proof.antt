@@ -1,4 +1,4 @@
--- `errors::push_long` meets its contract: its words where they fit. Assumes nothing.
+-- `errors::push_long` meets its contract: stores its words if they fit. Assumes nothing.
 use lib.ListN.{length-set}
 use native.Mathlib.Omega.{arith}
 use Rattle.errors.proofs.Storing.{long-fits, long-full}

@@ -1,4 +1,4 @@
--- `errors::push_number` meets its contract: its one word where it fits. Assumes nothing.
+-- `errors::push_number` meets its contract: stores its one word if it fits. Assumes nothing.
 use native.Mathlib.Omega.{arith}
 use Rattle.errors.proofs.Storing.{number-fits, number-full}
 use borrow.Author.Needs.{needs}

@@ -1,4 +1,5 @@
--- `figures::add_all` meets its contract: its nodes, what is counted node by node, the errors. Assumes nothing.
+-- `figures::add_all` meets its contract: it adds the nodes, what is counted node by node, and the errors. Assumes
+-- nothing.
 use Rattle.figures.proofs.Totals.{all-added, table-few}
 use borrow.Author.Needs.{needs}
 use Rattle.figures.proofs.add_all.Statement.{statement}

@@ -1,4 +1,4 @@
--- `figures::add_table` meets its contract: 1 to 5, then the figures of a file that they let in. Assumes nothing.
+-- `figures::add_table` meets its contract: 1 to 5, then the figures of a file that passes them. Assumes nothing.
 use Rattle.figures.proofs.Totals.{given-sound, table-added, table-refused}
 use borrow.Author.Needs.{needs}
 use Rattle.figures.proofs.add_table.Statement.{statement}

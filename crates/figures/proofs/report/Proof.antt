@@ -1,4 +1,5 @@
--- `figures::report` meets its contract: one step after another. Assumes nothing.
+-- `figures::report` meets its contract: the counters so far and the report of the rest make the report (`Running`).
+-- Assumes nothing.
 use Prim.Native.Nat.{_-_}
 use native.Mathlib.Omega.{arith}
 use lib.ListN.{length}

@@ -1,4 +1,4 @@
--- `figures::step` meets its contract: nothing, 76, or the file at the front. Assumes nothing.
+-- `figures::step` meets its contract: an empty window, 76, or the file at the front. Assumes nothing.
 use Rattle.figures.proofs.Running.{step-empty, step-many, step-front}
 use native.Mathlib.Omega.{arith}
 use borrow.Author.Needs.{needs}

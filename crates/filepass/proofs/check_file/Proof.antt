@@ -1,4 +1,4 @@
--- `filepass::check_file` meets its contract: 70 to 75, a bad edition, or the job on what the file holds. Assumes
+-- `filepass::check_file` meets its contract: 70 to 75, a bad edition, or the job on the content of the file. Assumes
 -- nothing.
 use borrow.Author.Needs.{needs}
 use Rattle.tablefile.proofs.Lends.{unpacked-table-long, unpacked-names-long}

@@ -1,4 +1,5 @@
--- `filepass::check_read` meets its contract: the answer to what was read, and its types' sizes. Assumes nothing.
+-- `filepass::check_read` meets its contract: the answer for the bytes read; the array types fix the sizes. Assumes
+-- nothing.
 use Rattle.filepass.proofs.Listing.{read-so}
 use borrow.Author.Needs.{needs}
 use Rattle.filepass.proofs.check_read.Statement.{statement}

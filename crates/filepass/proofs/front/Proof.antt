@@ -1,4 +1,4 @@
--- `filepass::front` meets its contract: all of the bytes, or the front of them. Assumes nothing.
+-- `filepass::front` meets its contract: all of the bytes, or the first of them. Assumes nothing.
 use Rattle.filepass.proofs.Listing.{front-all, front-part}
 use borrow.Author.Needs.{needs}
 use Rattle.filepass.proofs.front.Statement.{statement}

@@ -1,4 +1,4 @@
--- `fstring::begun` meets its contract: by the tests. Assumes nothing.
+-- `fstring::begun` meets its contract: the tests are those of the definition. Assumes nothing.
 use Rattle.fstring.proofs.Tallying.{begun-first, begun-later, begun-part}
 use Rattle.fstring.proofs.begun.Statement.{statement}
 use Rattle.fstring.proofs.begun.Tie as tie

@@ -1,4 +1,4 @@
--- `fstring::first_form` meets its contract: by the tests. Assumes nothing.
+-- `fstring::first_form` meets its contract: the tests are those of the definition, in its order. Assumes nothing.
 use borrow.Author.Needs.{needs}
 use borrow.Author.Tests.{not-true, not-false}
 use Rattle.fstring.proofs.Forms.{form-plain, form-doubled, form-empty, form-converted, form-stray}

@@ -1,4 +1,4 @@
--- `fstring::is_whole` meets its contract: what is left of the words decides. Assumes nothing.
+-- `fstring::is_whole` meets its contract: the words that are left decide. Assumes nothing.
 use borrow.Author.Needs.{needs}
 use lib.ListN.{length}
 use borrow.Author.Tests.{not-true, not-false}

@@ -1,4 +1,4 @@
--- `fstring::judge_text` meets its contract: the counts of the parts read so far. Assumes nothing.
+-- `fstring::judge_text` meets its contract: the numbers counted are those of the parts read so far. Assumes nothing.
 use borrow.Author.Needs.{needs}
 use lib.ListN.{length}
 use native.Mathlib.Omega.{arith}

@@ -1,4 +1,4 @@
--- `fstring::put_literal` meets its contract: one store, or none. Assumes nothing.
+-- `fstring::put_literal` meets its contract: it stores one byte or none. Assumes nothing.
 use borrow.Author.Needs.{needs}
 use Rattle.fstring.proofs.Storing.{kept-room, kept-byte, kept-none}
 use Rattle.fstring.proofs.put_literal.Statement.{statement}

@@ -1,4 +1,4 @@
--- `fstring::put_pair` meets its contract: two stores. Assumes nothing.
+-- `fstring::put_pair` meets its contract: it stores two words. Assumes nothing.
 use borrow.Author.Needs.{needs}
 use lib.Seq.{lt-length-set}
 use Rattle.fstring.proofs.Laying.{pair-second, pair-laid}

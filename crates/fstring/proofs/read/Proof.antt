@@ -1,5 +1,5 @@
--- `fstring::read` meets its contract: a refusal is passed on, and the parts of an accepted text are written. Assumes
--- nothing.
+-- `fstring::read` meets its contract: a refusal is returned as it is, and the parts of an accepted text are written.
+-- Assumes nothing.
 use borrow.Author.Needs.{needs}
 use Rattle.fstring.proofs.ReadJob.{read-refused, read-can, read-done}
 use Rattle.fstring.proofs.read.Statement.{statement}

@@ -1,4 +1,4 @@
--- `fstring::room_behind` meets its contract: what is left of the parts decides. Assumes nothing.
+-- `fstring::room_behind` meets its contract: the parts that are left decide. Assumes nothing.
 use borrow.Author.Needs.{needs}
 use lib.ListN.{length}
 use Rattle.fstring.proofs.Counting.{Spending, spend-start, spend-fits, spend-stop, spend-on, spend-end}

@@ -1,4 +1,4 @@
--- `fstring::room_behind_part` meets its contract: by the three forms. Assumes nothing.
+-- `fstring::room_behind_part` meets its contract: a part has one of three forms. Assumes nothing.
 use borrow.Author.Needs.{needs}
 use Rattle.fstring.proofs.Laying.{text-left, repr-left, plain-left}
 use Rattle.fstring.proofs.room_behind_part.Statement.{statement}

@@ -1,4 +1,4 @@
--- `fstring::room_behind_text` meets its contract: what is left of the text decides. Assumes nothing.
+-- `fstring::room_behind_text` meets its contract: the bytes that are left decide. Assumes nothing.
 use borrow.Author.Needs.{needs}
 use Prim.Native.Nat.{_-_}
 use lib.ListN.{length}

@@ -1,4 +1,4 @@
--- `fstring::room_less` meets its contract: by the test. Assumes nothing.
+-- `fstring::room_less` meets its contract: the test is that of the definition. Assumes nothing.
 use Rattle.fstring.proofs.Sizes.{leaving-fits, leaving-short}
 use Rattle.fstring.proofs.room_less.Statement.{statement}
 use Rattle.fstring.proofs.room_less.Tie as tie

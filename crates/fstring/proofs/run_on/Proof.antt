@@ -1,4 +1,4 @@
--- `fstring::run_on` meets its contract: by the test. Assumes nothing.
+-- `fstring::run_on` meets its contract: the test is that of the definition. Assumes nothing.
 use borrow.Author.Needs.{needs}
 use Rattle.fstring.proofs.Tallying.{run-text, run-none}
 use Rattle.fstring.proofs.run_on.Statement.{statement}

@@ -1,4 +1,4 @@
--- `fstring::sound_part` meets its contract: by the test. Assumes nothing.
+-- `fstring::sound_part` meets its contract: the test is that of the definition. Assumes nothing.
 use Rattle.fstring.proofs.Counting.{sound-text, sound-other}
 use Rattle.fstring.proofs.sound_part.Statement.{statement}
 use Rattle.fstring.proofs.sound_part.Tie as tie

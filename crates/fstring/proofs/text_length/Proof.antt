@@ -1,4 +1,4 @@
--- `fstring::text_length` meets its contract: by the test. Assumes nothing.
+-- `fstring::text_length` meets its contract: the test is that of the definition. Assumes nothing.
 use Rattle.fstring.proofs.Counting.{length-text, length-other}
 use Rattle.fstring.proofs.text_length.Statement.{statement}
 use Rattle.fstring.proofs.text_length.Tie as tie

@@ -1,4 +1,5 @@
--- `fstring::write` meets its contract: a refusal is passed on, and an accepted text is written. Assumes nothing.
+-- `fstring::write` meets its contract: a refusal is returned as it is, and an accepted text is written. Assumes
+-- nothing.
 use borrow.Author.Needs.{needs}
 use Rattle.fstring.proofs.Jobs.{write-refused, write-whole, write-room, write-done}
 use Rattle.fstring.proofs.write.Statement.{statement}

@@ -1,4 +1,4 @@
--- `fstring::write_byte` meets its contract: stored once or twice. Assumes nothing.
+-- `fstring::write_byte` meets its contract: the byte is stored once or twice. Assumes nothing.
 use borrow.Author.Needs.{needs}
 use lib.Seq.{lt-length-set}
 use Rattle.fstring.proofs.Laying.{byte-room, brace-room, byte-twice, byte-once}

@@ -1,4 +1,4 @@
--- `fstring::write_part` meets its contract: by the three forms. Assumes nothing.
+-- `fstring::write_part` meets its contract: a part has one of three forms. Assumes nothing.
 use borrow.Author.Needs.{needs}
 use lib.Seq.{lt-length-set}
 use Rattle.fstring.proofs.Laying.{text-room, text-laid, repr-first, repr-second, repr-third, repr-fourth}

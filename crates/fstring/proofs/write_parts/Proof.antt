@@ -1,5 +1,5 @@
--- `fstring::write_parts` meets its contract: what is left of the parts, laid over the buffer as it is, makes the whole.
--- Assumes nothing.
+-- `fstring::write_parts` meets its contract: the rest of the parts, laid over the buffer as it is, gives the buffer at
+-- exit. Assumes nothing.
 use borrow.Author.Needs.{needs}
 use lib.ListN.{length}
 use Rattle.fstring.proofs.Laying.{Writing, parts-start, parts-long, part-fits, part-room, parts-on, parts-end}

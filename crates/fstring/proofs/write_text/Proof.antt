@@ -1,5 +1,5 @@
--- `fstring::write_text` meets its contract: what is left of the text, laid over the buffer as it is, makes the whole.
--- Assumes nothing.
+-- `fstring::write_text` meets its contract: the rest of the text, laid over the buffer as it is, gives the buffer at
+-- exit. Assumes nothing.
 use borrow.Author.Needs.{needs}
 use Prim.Native.Nat.{_-_}
 use lib.ListN.{length}

@@ -1,4 +1,4 @@
--- `namesakes::argument_count` meets its contract: the arguments stand behind the callee. Assumes nothing.
+-- `namesakes::argument_count` meets its contract: the arguments follow the callee. Assumes nothing.
 use Rattle.namesakes.proofs.Whole.{count-told}
 use borrow.Author.Needs.{needs}
 use Rattle.namesakes.proofs.argument_count.Statement.{statement}

@@ -1,4 +1,4 @@
--- `rescue::count` meets its contract: those counted and those left are all. Assumes nothing.
+-- `rescue::count` meets its contract: the counted nodes and those of the rest are all. Assumes nothing.
 use borrow.Author.Needs.{needs}
 use lib.ListN.{length}
 use Rattle.soundness.proofs.Records.{Counting, count-start, count-on}

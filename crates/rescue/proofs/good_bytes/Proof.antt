@@ -1,4 +1,5 @@
--- `rescue::good_bytes` meets its contract: the blocks done and the good ones of what is left are all. Assumes nothing.
+-- `rescue::good_bytes` meets its contract: the blocks so far and the good ones of the rest are all (`Gathering`).
+-- Assumes nothing.
 use borrow.Author.Needs.{needs}
 use Prim.Native.Nat.{_-_}
 use Rattle.rescue.proofs.Leaves.{Gathering, gather-start, gather-end, gather-stop, gather-long, gather-on}

@@ -1,4 +1,4 @@
--- `rescue::leading` meets its contract: what is done and the leading children of what is left are all. Assumes nothing.
+-- `rescue::leading` meets its contract: the bytes so far and the leading children of the rest are all. Assumes nothing.
 use borrow.Author.Needs.{needs}
 use lib.ListN.{length}
 use borrow.Author.Tests.{not-true, not-false}

@@ -1,5 +1,5 @@
--- `rescue::put_kept` meets its contract: the blocks where they pass, since what a slice of u8 holds are bytes; else the
--- file of the cut. Assumes nothing.
+-- `rescue::put_kept` meets its contract: the blocks are copied if they pass, because a slice of u8 consists of bytes;
+-- else the file of the cut is written. Assumes nothing.
 use borrow.Author.Needs.{needs}
 use Rattle.rescue.proofs.Jobs.{lay-there, lay-room, lay-whole, lay-cut}
 use Rattle.rescue.proofs.put_kept.Statement.{statement}

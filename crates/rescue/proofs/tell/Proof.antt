@@ -1,4 +1,4 @@
--- `rescue::tell` meets its contract: each part is a number of the list. Assumes nothing.
+-- `rescue::tell` meets its contract: each field is a number of the list. Assumes nothing.
 use borrow.Author.Needs.{needs}
 use Rattle.rescue.proofs.tell.Statement.{statement}
 use Rattle.rescue.proofs.tell.Tie as tie

@@ -1,4 +1,5 @@
--- `shapes::type_shape` meets its contract: a refusal is passed on, and an accepted type is written. Assumes nothing.
+-- `shapes::type_shape` meets its contract: a refusal is returned as it is, and the shapes of an accepted type are
+-- written. Assumes nothing.
 use Rattle.shapes.proofs.Jobs.{job-refused, job-long, job-room, job-written}
 use borrow.Author.Needs.{needs}
 use Rattle.shapes.proofs.type_shape.Statement.{statement}

@@ -1,4 +1,4 @@
--- `starlark_checks::notice_word` meets its contract: by the test. Assumes nothing.
+-- `starlark_checks::notice_word` meets its contract: by cases of the test. Assumes nothing.
 use borrow.Author.Needs.{needs}
 use Rattle.starlark_checks.proofs.notice_word.Statement.{statement}
 use Rattle.starlark_checks.proofs.notice_word.Tie as tie

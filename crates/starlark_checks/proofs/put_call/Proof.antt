@@ -1,4 +1,4 @@
--- `starlark_checks::put_call` meets its contract: the words of the four values. Assumes nothing.
+-- `starlark_checks::put_call` meets its contract: it writes the words of the four values. Assumes nothing.
 use Rattle.starlark_checks.proofs.Told.{call-laid}
 use borrow.Author.Needs.{needs}
 use Rattle.starlark_checks.proofs.put_call.Statement.{statement}

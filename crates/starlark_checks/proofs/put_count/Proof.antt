@@ -1,4 +1,4 @@
--- `starlark_checks::put_count` meets its contract: the one word is laid first. Assumes nothing.
+-- `starlark_checks::put_count` meets its contract: the one word is written first. Assumes nothing.
 use mathlib.Core.Path.{refl}
 use borrow.Author.Needs.{needs}
 use Rattle.starlark_checks.proofs.put_count.Statement.{statement}

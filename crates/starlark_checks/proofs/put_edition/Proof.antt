@@ -1,4 +1,4 @@
--- `starlark_checks::put_edition` meets its contract: two words, laid from place 6 on. Assumes nothing.
+-- `starlark_checks::put_edition` meets its contract: two words are written from place 6 on. Assumes nothing.
 use borrow.Author.Needs.{needs}
 use Rattle.starlark_checks.proofs.Told.{edition-laid}
 use Rattle.starlark_checks.proofs.put_edition.Statement.{statement}

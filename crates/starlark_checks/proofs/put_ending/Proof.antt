@@ -1,4 +1,4 @@
--- `starlark_checks::put_ending` meets its contract: a refusal's position is laid in two words. Assumes nothing.
+-- `starlark_checks::put_ending` meets its contract: the position of a refusal is written as two words. Assumes nothing.
 use borrow.Author.Needs.{needs}
 use Rattle.starlark_checks.proofs.FigureTold.{ending-put}
 use Rattle.starlark_checks.proofs.put_ending.Statement.{statement}

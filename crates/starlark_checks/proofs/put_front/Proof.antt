@@ -1,4 +1,4 @@
--- `starlark_checks::put_front` meets its contract: six words are laid one after the other. Assumes nothing.
+-- `starlark_checks::put_front` meets its contract: six words are written one after the other. Assumes nothing.
 use borrow.Author.Needs.{needs}
 use Rattle.starlark_checks.proofs.Told.{nodes-fit, names-fit, dialect-fits, front-laid}
 use Rattle.starlark_checks.proofs.put_front.Statement.{statement}

@@ -1,4 +1,5 @@
--- `starlark_checks::put_held` meets its contract: what stands before the edition, then the edition. Assumes nothing.
+-- `starlark_checks::put_held` meets its contract: the words before the edition are written, then the edition. Assumes
+-- nothing.
 use borrow.Author.Needs.{needs}
 use Rattle.starlark_checks.proofs.Told.{held-laid}
 use Rattle.starlark_checks.proofs.put_held.Statement.{statement}

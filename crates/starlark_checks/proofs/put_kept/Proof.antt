@@ -1,4 +1,4 @@
--- `starlark_checks::put_kept` meets its contract: six words are laid one after the other. Assumes nothing.
+-- `starlark_checks::put_kept` meets its contract: six words are written one after the other. Assumes nothing.
 use mathlib.Core.Path.{refl}
 use borrow.Author.Needs.{needs}
 use Rattle.starlark_checks.proofs.put_kept.Statement.{statement}

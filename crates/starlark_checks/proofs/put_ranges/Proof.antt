@@ -1,6 +1,5 @@
--- `starlark_checks::put_ranges` meets its contract: each range is laid behind the one before it, and the flat
--- count last. Assumes
--- nothing.
+-- `starlark_checks::put_ranges` meets its contract: each range is written after the one before it, and the flat
+-- count last. Assumes nothing.
 use mathlib.Core.Path.{refl}
 use Rattle.starlark_checks.proofs.Told.{range-fit}
 use borrow.Author.Needs.{needs}

@@ -1,4 +1,4 @@
--- `starlark_checks::put_refused` meets its contract: each variant lays what it carries. Assumes nothing.
+-- `starlark_checks::put_refused` meets its contract: each variant writes what it carries. Assumes nothing.
 use borrow.Author.Needs.{needs}
 use Rattle.starlark_checks.proofs.Told.{spanned-number, spanned-laid}
 use Rattle.starlark_checks.proofs.put_refused.Statement.{statement}

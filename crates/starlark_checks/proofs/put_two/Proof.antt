@@ -1,4 +1,4 @@
--- `starlark_checks::put_two` meets its contract: the two words are laid first. Assumes nothing.
+-- `starlark_checks::put_two` meets its contract: the two words are written first. Assumes nothing.
 use mathlib.Core.Path.{refl}
 use borrow.Author.Needs.{needs}
 use Rattle.starlark_checks.proofs.put_two.Statement.{statement}

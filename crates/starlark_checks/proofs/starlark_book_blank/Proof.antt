@@ -1,4 +1,4 @@
--- `starlark_checks::starlark_book_blank` meets its contract: 0 or 95, and no word is put. Assumes nothing.
+-- `starlark_checks::starlark_book_blank` meets its contract: 0 or 95, and no word is written. Assumes nothing.
 use borrow.Author.Needs.{needs}
 use Rattle.starlark_checks.proofs.Places.{blank-made, blank-refused}
 use Rattle.starlark_checks.proofs.starlark_book_blank.Statement.{statement}

@@ -1,4 +1,4 @@
--- `starlark_checks::stated_of` meets its contract: by the test. Assumes nothing.
+-- `starlark_checks::stated_of` meets its contract: by cases of the test. Assumes nothing.
 use borrow.Author.Tests.{eq-eqb, ne-eqb}
 use Rattle.starlark_checks.proofs.stated_of.Statement.{statement}
 use Rattle.starlark_checks.proofs.stated_of.Tie as tie

@@ -1,4 +1,4 @@
--- `starlark_checks::stated_word` meets its contract: both variants, by their values. Assumes nothing.
+-- `starlark_checks::stated_word` meets its contract: by cases of the variant. Assumes nothing.
 use mathlib.Core.Path.{refl}
 use borrow.Author.Needs.{needs}
 use Rattle.starlark_checks.proofs.stated_word.Statement.{statement}

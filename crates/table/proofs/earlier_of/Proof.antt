@@ -1,4 +1,4 @@
--- `table::earlier_of` meets its contract: a refusal with a span may speak of an earlier node. Assumes nothing.
+-- `table::earlier_of` meets its contract: a refusal with a span may carry an earlier node. Assumes nothing.
 use borrow.Author.Needs.{needs}
 use Rattle.table.proofs.Answers.{earlier-spanned}
 use Rattle.table.proofs.earlier_of.Statement.{statement}

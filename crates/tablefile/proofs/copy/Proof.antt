@@ -1,4 +1,5 @@
--- `tablefile::copy` meets its contract: what is copied and what is left make the content. Assumes nothing.
+-- `tablefile::copy` meets its contract: the copied bytes and the remaining blocks make the content (`Copying`).
+-- Assumes nothing.
 use Prim.Native.Nat.{_-_}
 use borrow.Author.Needs.{needs}
 use Rattle.tablefile.proofs.Copies.{Copying, copy-start, copy-fits, copy-on, copy-end}

@@ -1,4 +1,5 @@
--- `tablefile::dialect_bytes` meets its contract: what is there of the bytes behind the counts. Assumes nothing.
+-- `tablefile::dialect_bytes` meets its contract: the bytes after the counts, or fewer if the file ends. Assumes
+-- nothing.
 use borrow.Author.Needs.{needs}
 use Rattle.tablefile.proofs.Lends.{dialect-away, dialect-short, dialect-there}
 use Rattle.tablefile.proofs.dialect_bytes.Statement.{statement}

@@ -1,4 +1,4 @@
--- `tablefile::dialect_in` meets its contract: 13 or 14 used bytes, or others. Assumes nothing.
+-- `tablefile::dialect_in` meets its contract: nine for 13 or 14 used bytes, else none. Assumes nothing.
 use Rattle.tablefile.proofs.Fronts.{dialect-nine, dialect-none}
 use Rattle.tablefile.proofs.dialect_in.Statement.{statement}
 use Rattle.tablefile.proofs.dialect_in.Tie as tie

@@ -1,4 +1,4 @@
--- `tablefile::dialect_of` meets its contract: the bytes of block 0 over zero bytes. Assumes nothing.
+-- `tablefile::dialect_of` meets its contract: the bytes of block 0 are written over zeros. Assumes nothing.
 use borrow.Author.Needs.{needs}
 use Rattle.tablefile.proofs.Copies.{dialect-laid}
 use Rattle.tablefile.proofs.dialect_of.Statement.{statement}

@@ -1,4 +1,4 @@
--- `tablefile::edition_in` meets its contract: 14 used bytes or others. Assumes nothing.
+-- `tablefile::edition_in` meets its contract: one for 14 used bytes, else none. Assumes nothing.
 use Rattle.tablefile.proofs.Fronts.{edition-one, edition-none}
 use Rattle.tablefile.proofs.edition_in.Statement.{statement}
 use Rattle.tablefile.proofs.edition_in.Tie as tie

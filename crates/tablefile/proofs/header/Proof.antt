@@ -1,4 +1,4 @@
--- `tablefile::header` meets its contract: each field is the definition's. Assumes nothing.
+-- `tablefile::header` meets its contract: each field is that of the definition. Assumes nothing.
 use borrow.Author.Needs.{needs}
 use Rattle.blocks.specs.Run.{blocksFor}
 use Rattle.tablefile.proofs.Fronts.{header-is}

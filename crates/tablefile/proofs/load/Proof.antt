@@ -1,4 +1,4 @@
--- `tablefile::load` meets its contract: each array is what the blocks hold. Assumes nothing.
+-- `tablefile::load` meets its contract: each array is the content of its blocks. Assumes nothing.
 use borrow.Author.Needs.{needs}
 use Rattle.tablefile.proofs.Loads.{load-fits, load-table, load-names, load-dialect, load-is}
 use Rattle.tablefile.proofs.load.Statement.{statement}

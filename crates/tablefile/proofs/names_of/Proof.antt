@@ -1,4 +1,4 @@
--- `tablefile::names_of` meets its contract: the content of the blocks over zero bytes. Assumes nothing.
+-- `tablefile::names_of` meets its contract: the content of the blocks is written over zeros. Assumes nothing.
 use borrow.Author.Needs.{needs}
 use Rattle.tablefile.proofs.Copies.{laid-names}
 use Rattle.tablefile.proofs.names_of.Statement.{statement}

@@ -1,4 +1,4 @@
--- `tablefile::put` meets its contract: out is filled from the front. Assumes nothing.
+-- `tablefile::put` meets its contract: out is filled from the front (`Filled`). Assumes nothing.
 use Prim.Native.Nat.{_-_}
 use native.Mathlib.Omega.{arith}
 use borrow.Author.Needs.{needs}

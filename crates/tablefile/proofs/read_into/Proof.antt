@@ -1,4 +1,5 @@
--- `tablefile::read_into` meets its contract: 70 to 75 refuse, or what was unpacked is handed over. Assumes nothing.
+-- `tablefile::read_into` meets its contract: 70 to 75 refuse, or the unpacked content goes to `hand_over`. Assumes
+-- nothing.
 use borrow.Author.Needs.{needs}
 use Rattle.tablefile.proofs.Lends.{unread-so, unread-kept, read-table-long, read-names-long, read-holds}
 use Rattle.tablefile.proofs.read_into.Statement.{statement}

@@ -1,4 +1,5 @@
--- `tablefile::stated_edition` meets its contract: the byte is missing, there is none, or it is there. Assumes nothing.
+-- `tablefile::stated_edition` meets its contract: the file ends before the byte, no edition is stated, or the byte is
+-- it. Assumes nothing.
 use native.Mathlib.Omega.{arith}
 use borrow.Author.Needs.{needs}
 use Rattle.tablefile.proofs.Lends.{edition-away, edition-absent, edition-there}

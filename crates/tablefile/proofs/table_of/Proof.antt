@@ -1,4 +1,4 @@
--- `tablefile::table_of` meets its contract: the content of the blocks over zero bytes. Assumes nothing.
+-- `tablefile::table_of` meets its contract: the content of the blocks is written over zeros. Assumes nothing.
 use borrow.Author.Needs.{needs}
 use Rattle.tablefile.proofs.Copies.{laid-run}
 use Rattle.tablefile.proofs.table_of.Statement.{statement}

@@ -1,5 +1,6 @@
--- `targets::check_assign` and `targets::check_each` meet their contracts: a leaf, a group of targets or an offender;
--- targets side by side in turn. Assumes nothing.
+-- `targets::check_assign` and `targets::check_each` meet their contracts: a node is a leaf, a group of targets or
+-- refused; siblings are read in turn. Each call is on a shorter part, or goes from siblings to their first (the
+-- measures). Assumes nothing.
 use borrow.Author.Needs.{needs}
 use lib.ListN.{length}
 use Prim.Native.Nat.{_+_, _*_}

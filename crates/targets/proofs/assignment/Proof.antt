@@ -1,4 +1,4 @@
--- `targets::assignment` meets its contract: 1 to 4, 6, then the rule of the node's stretch. Assumes nothing.
+-- `targets::assignment` meets its contract: 1 to 4 and 6, then the assignment rule on the node's tree. Assumes nothing.
 use Rattle.table.proofs.Entering.{job-refused, job-rule, job-long, job-within}
 use borrow.Author.Needs.{needs}
 use Rattle.targets.proofs.assignment.Statement.{statement}

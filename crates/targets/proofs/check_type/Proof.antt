@@ -1,5 +1,5 @@
--- `targets::check_type` meets its contract: no type, or one that an augmented assignment, a Tuple or a List does not
--- permit. Assumes nothing.
+-- `targets::check_type` meets its contract: no type, a type that is allowed, or one on an augmented assignment, a Tuple
+-- or a List. Assumes nothing.
 use Rattle.targets.proofs.Assignments.{type-unmarked, type-missing, type-augmented, type-tuple, type-good}
 use borrow.Author.Needs.{needs}
 use Rattle.targets.proofs.check_type.Statement.{statement}

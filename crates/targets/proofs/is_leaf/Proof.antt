@@ -1,4 +1,4 @@
--- `targets::is_leaf` meets its contract: the three tests. Assumes nothing.
+-- `targets::is_leaf` meets its contract: the three tests are those of `isLeaf`. Assumes nothing.
 use borrow.Author.Needs.{needs}
 use Rattle.targets.proofs.is_leaf.Statement.{statement}
 use Rattle.targets.proofs.is_leaf.Tie as tie

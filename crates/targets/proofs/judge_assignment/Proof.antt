@@ -1,4 +1,5 @@
--- `targets::judge_assignment` meets its contract: a stretch that is part of a table, or nothing. Assumes nothing.
+-- `targets::judge_assignment` meets its contract: bytes that are part of a table are read, any others have no leaf.
+-- Assumes nothing.
 use borrow.Author.Tests.{not-true, not-false}
 use Rattle.table.proofs.Heads.{headed-long, headed-within}
 use Rattle.targets.proofs.Assignments.{assign-none, assign-here}

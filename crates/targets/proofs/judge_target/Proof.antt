@@ -1,4 +1,5 @@
--- `targets::judge_target` meets its contract: a stretch that is part of a table, or nothing. Assumes nothing.
+-- `targets::judge_target` meets its contract: bytes that are part of a table are read, any others are refused with 30.
+-- Assumes nothing.
 use native.Mathlib.Omega.{arith}
 use borrow.Author.Tests.{not-true, not-false}
 use Rattle.table.proofs.Heads.{headed-long, headed-within}

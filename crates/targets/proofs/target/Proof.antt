@@ -1,4 +1,4 @@
--- `targets::target` meets its contract: 1 to 4, 6, then the rule of the node's stretch. Assumes nothing.
+-- `targets::target` meets its contract: 1 to 4 and 6, then the target rule on the node's tree. Assumes nothing.
 use native.Mathlib.Omega.{arith}
 use Rattle.table.proofs.Entering.{job-refused, job-rule, job-long, job-within}
 use borrow.Author.Needs.{needs}

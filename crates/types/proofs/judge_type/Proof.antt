@@ -1,4 +1,5 @@
--- `types::judge_type` meets its contract: a stretch that is part of a table, or nothing. Assumes nothing.
+-- `types::judge_type` meets its contract: bytes that are part of a table are read as a type, any others are refused.
+-- Assumes nothing.
 use borrow.Author.Tests.{not-true, not-false}
 use Rattle.table.proofs.Heads.{headed-long, headed-within}
 use Rattle.types.proofs.Jobs.{judge-none, judge-here}

@@ -1,4 +1,4 @@
--- `types::type_at` meets its contract: 6, 7, then the type that the node's stretch begins with. Assumes nothing.
+-- `types::type_at` meets its contract: 6, 7, then the type at the node. Assumes nothing.
 use borrow.Author.Tests.{not-true, not-false}
 use Rattle.types.proofs.Jobs.{at-no-node, at-short, at-type, at-long, at-within}
 use borrow.Author.Needs.{needs}

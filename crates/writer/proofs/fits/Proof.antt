@@ -1,4 +1,4 @@
--- `writer::fits` meets its contract: each length in turn, then the edition and the room. Assumes nothing.
+-- `writer::fits` meets its contract: it tests each length, then the edition and the room. Assumes nothing.
 use borrow.Author.Needs.{needs}
 use borrow.Author.Tests.{not-true, not-false}
 use Rattle.writer.proofs.Jobs.{unfit-table, unfit-names, unfit-dialect, unfit-edition, fit-one, fit-sum}

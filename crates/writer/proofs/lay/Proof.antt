@@ -1,4 +1,4 @@
--- `writer::lay` meets its contract: the bytes are laid over the block and weighed, one after another. Assumes nothing.
+-- `writer::lay` meets its contract: the bytes are copied and weighed one by one (`Laying`). Assumes nothing.
 use Prim.Native.Nat.{_-_}
 use lib.ListN.{length}
 use native.Mathlib.Omega.{arith}

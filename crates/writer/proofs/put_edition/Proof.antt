@@ -1,4 +1,4 @@
--- `writer::put_edition` meets its contract: a byte is put, or none. Assumes nothing.
+-- `writer::put_edition` meets its contract: one byte is written, or none. Assumes nothing.
 use borrow.Author.Needs.{needs}
 use Rattle.writer.proofs.Building.{byte-small, edition-put, edition-behind, edition-kept, edition-here}
 use Rattle.writer.proofs.put_edition.Statement.{statement}

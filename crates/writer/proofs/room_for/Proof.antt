@@ -1,4 +1,4 @@
--- `writer::room_for` meets its contract: the file's bytes fit, or 7. Assumes nothing.
+-- `writer::room_for` meets its contract: the file fits, or 7. Assumes nothing.
 use borrow.Author.Needs.{needs}
 use Rattle.writer.proofs.Jobs.{room-short, room-enough}
 use Rattle.writer.proofs.room_for.Statement.{statement}

@@ -1,4 +1,4 @@
--- `writer::write` meets its contract: a refusal is passed on, and an accepted file is written. Assumes nothing.
+-- `writer::write` meets its contract: a refusal is returned, else the file is written. Assumes nothing.
 use borrow.Author.Needs.{needs}
 use Rattle.writer.proofs.Jobs.{write-refused, write-nine, write-byte, write-few, write-room, write-done}
 use Rattle.writer.proofs.write.Statement.{statement}

@@ -1,4 +1,5 @@
--- `writer::write_run` meets its contract: what is left, laid over what is there, makes the whole. Assumes nothing.
+-- `writer::write_run` meets its contract: the remaining blocks, written over the buffer, make the run (`Writing`).
+-- Assumes nothing.
 use lib.ListN.{length}
 use borrow.Author.Needs.{needs}
 use Rattle.writer.proofs.Building.{Writing, used-fits, run-start, run-block, run-on, run-end}

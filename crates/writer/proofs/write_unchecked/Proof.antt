@@ -1,4 +1,5 @@
--- `writer::write_unchecked` meets its contract: it does not fit, or the file is written. Assumes nothing.
+-- `writer::write_unchecked` meets its contract: nothing changes if it does not fit, else the file is written. Assumes
+-- nothing.
 use borrow.Author.Needs.{needs}
 use borrow.Author.Tests.{not-true, not-false}
 use Rattle.writer.proofs.Jobs.{unfit-keeps, fit-writes, fit-laid}

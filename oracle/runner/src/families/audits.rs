@@ -338,7 +338,7 @@ fn other_roots(checker: &mut Checker) {
     expect_of(checker, &ON, &[(10, 1), (40, 2)], &cells);
 }
 
-/// 22 has the name's span, and document 01's example its own words.
+/// 22 has the name's span, and the sample `example` its own words.
 fn names_span(checker: &mut Checker) {
     let mut cells = Cells::default();
     cells.tree(kind::SIMPLE, 0, 0, |cells| {

@@ -277,7 +277,7 @@ enum Expected<'a> {
     Refused(u32, At),
 }
 
-/// The corner cases, answered by hand from document 02's words: parameters, arguments, answer.
+/// The corner cases, answered by hand: parameters, arguments, answer.
 const CORNERS: &[(&str, &str, Expected)] = {
     use At::Argument;
     use At::Parameter;

@@ -310,7 +310,7 @@ fn way_down(cells: &mut Cells, (between, detail): (u8, u8), levels: usize) {
 }
 
 /// Each way down, as deep as permitted and one deeper, by hand: under one simple statement 62 levels pass, and of 63 the first expression of
-/// the innermost is too deep. Parameters and arguments do not count (document 02, W-206). Then every job around the limit.
+/// the innermost is too deep. Parameters and arguments do not count (W-206). Then every job around the limit.
 fn depths(checker: &mut Checker) {
     let mut encoded = Encoded::default();
     for (between, detail, each, before) in WAYS {

@@ -1,4 +1,4 @@
-//! The examples that document 01 answers itself.
+//! The table of examples, whose answers are given.
 
 use model::file;
 use model::jobs::NONE;

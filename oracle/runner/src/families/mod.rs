@@ -113,7 +113,7 @@ const READERS: u32 = READ | CHECK_FILE;
 const FORMATS: u32 = FSTRING_WRITE | FSTRING_READ;
 
 pub const ALL: &[Family] = &[
-    family("document 01's examples", 1, ARCHIVE | FILE, examples::rows, [17, 17, 20]),
+    family("the table of examples", 1, ARCHIVE | FILE, examples::rows, [17, 17, 20]),
     family("boundaries", 1, ARCHIVE, boundaries::boundaries, [476_240, 63_130, 15_750]),
     family("parameter lists, every order", 4, PARAMS, lists::parameter_orders, [1_921_150, 1_857_110, 2_037_220]),
     family("parameter lists, random", 2, PARAMS, lists::random_parameters, [407_030, 393_470, 295_570]),

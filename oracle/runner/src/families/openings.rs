@@ -1,4 +1,4 @@
-//! Document 02's W-209: what becomes of a list of errors where a second dialect permits all that a first one does. Both clauses are tried on
+//! W-209: what becomes of a list of errors where a second dialect permits all that a first one does. Both clauses are tried on
 //! the lists of the archive and on those of the crate, each by itself.
 
 use judge::dialects;
@@ -114,7 +114,7 @@ pub fn all_pairs(checker: &mut Checker, plan: &Plan) {
     let rows: Vec<Vec<u8>> = dialect::all().into_iter().filter(|row| row.len() == BYTES).collect();
     let mut pairs: Vec<(usize, usize)> = (0..rows.len()).flat_map(|first| (0..rows.len()).map(move |second| (first, second))).collect();
     pairs.retain(|&(first, second)| permits_all(&rows[first], &rows[second]));
-    assert_eq!(pairs.len(), PAIRS, "the pairs that document 02 counts");
+    assert_eq!(pairs.len(), PAIRS, "the pairs that the request counts");
     each_random(checker, plan, 40, 120, |rng, _| grow::module(rng, false), |checker, _, random| {
         let (bytes, names) = (&random.encoded.table, &random.encoded.names);
         let table = Table::check(bytes, names).expect("the generated tables are sound");

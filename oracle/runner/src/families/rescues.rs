@@ -1,4 +1,4 @@
-//! The rescue of damaged files (document 02, W-205): every byte of the buffer is the model's, and what is kept is read back and rescued
+//! The rescue of damaged files (W-205): every byte of the buffer is the model's, and what is kept is read back and rescued
 //! again.
 
 use model::answer::Answer;
@@ -150,7 +150,7 @@ impl Damaged {
     }
 }
 
-/// Document 02's corner cases, with answers by hand: bytes, statements, nodes, dropped, bytes after (two words).
+/// Corner cases, with answers by hand: bytes, statements, nodes, dropped, bytes after (two words).
 pub fn corners(checker: &mut Checker, _plan: &Plan) {
     // A root and 43 breaks: block 0, two name blocks, node blocks of 21, 21 and 2 records.
     let good = Damaged::of(&contents(44, 505, &dialect::STANDARD));

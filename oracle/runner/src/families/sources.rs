@@ -1,4 +1,4 @@
-//! Tables of two and more source files (document 02, W-208): with right numbers, and with one that is wrong.
+//! Tables of two and more source files (W-208): with right numbers, and with one that is wrong.
 
 use model::answer::Span;
 use model::answer::AUDIT_WORDS;

@@ -1,4 +1,5 @@
--- `audit::places::if_expression` meets its contract: an expression, or none. Assumes nothing.
+-- `audit::places::if_expression` meets its contract: a child that is an expression has the role, any other has none.
+-- Assumes nothing.
 use Rattle.audit.proofs.Walks.{return-type, return-plain}
 use borrow.Author.Needs.{needs}
 use Rattle.audit.proofs.places.if_expression.Statement.{statement}

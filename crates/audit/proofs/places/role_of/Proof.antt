@@ -1,4 +1,4 @@
--- `audit::places::role_of` meets its contract: each of the roles. Assumes nothing.
+-- `audit::places::role_of` meets its contract: one case for each of the roles. Assumes nothing.
 use Rattle.audit.proofs.Walks.{role-return}
 use borrow.Author.Needs.{needs}
 use Rattle.audit.proofs.places.role_of.Statement.{statement}

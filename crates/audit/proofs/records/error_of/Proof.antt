@@ -1,4 +1,4 @@
--- `audit::records::error_of` meets its contract: what each refusal carries. Assumes nothing.
+-- `audit::records::error_of` meets its contract: one case for each form of a refusal. Assumes nothing.
 use Rattle.audit.proofs.Refused.{error-bare, error-placed, error-spanned}
 use borrow.Author.Needs.{needs}
 use Rattle.audit.proofs.records.error_of.Statement.{statement}

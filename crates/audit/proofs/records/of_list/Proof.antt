@@ -1,4 +1,4 @@
--- `audit::records::of_list` meets its contract: what is said of the list. Assumes nothing.
+-- `audit::records::of_list` meets its contract: the error of the list, if there is one. Assumes nothing.
 use Rattle.validate.proofs.Lists.{fault-small}
 use Rattle.audit.proofs.Refused.{list-none, list-one}
 use borrow.Author.Needs.{needs}

@@ -1,4 +1,4 @@
--- `audit::records::push_refusal` meets its contract: nothing, or the refusal. Assumes nothing.
+-- `audit::records::push_refusal` meets its contract: stores nothing, or the refusal. Assumes nothing.
 use Rattle.audit.proofs.Refused.{push-none, push-one}
 use borrow.Author.Needs.{needs}
 use Rattle.audit.proofs.records.push_refusal.Statement.{statement}

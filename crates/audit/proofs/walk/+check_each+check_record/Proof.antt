@@ -1,5 +1,5 @@
--- `audit::walk::check_record` and `check_each` meet their contracts: a record by itself and all below it, and records
--- side by side in turn. Assumes nothing.
+-- `audit::walk::check_record` and `check_each` meet their contracts: a record and then all records below it; siblings
+-- in turn. Assumes nothing.
 use native.Mathlib.Omega.{arith}
 use lib.ListN.{length}
 use Prim.Native.Nat.{_+_, _*_}

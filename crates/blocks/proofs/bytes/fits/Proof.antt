@@ -1,4 +1,5 @@
--- `blocks::bytes::fits` meets its contract: the place is there, and enough behind it. Assumes nothing.
+-- `blocks::bytes::fits` meets its contract: the place is within the buffer, and enough bytes follow it. Assumes
+-- nothing.
 use Rattle.blocks.proofs.Laying.{fits-not, fits-is}
 use Rattle.blocks.proofs.bytes.fits.Statement.{statement}
 use Rattle.blocks.proofs.bytes.fits.Tie as tie

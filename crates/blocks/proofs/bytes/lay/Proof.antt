@@ -1,4 +1,4 @@
--- `blocks::bytes::lay` meets its contract: the bytes are laid over the others one after another. Assumes nothing.
+-- `blocks::bytes::lay` meets its contract: the bytes are copied one by one (`Putting`). Assumes nothing.
 use Prim.Native.Nat.{_-_}
 use lib.ListN.{length}
 use native.Mathlib.Omega.{arith}

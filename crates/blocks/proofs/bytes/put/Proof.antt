@@ -1,4 +1,4 @@
--- `blocks::bytes::put` meets its contract: what fits is laid, and what does not changes nothing. Assumes nothing.
+-- `blocks::bytes::put` meets its contract: bytes that fit are written, others change nothing. Assumes nothing.
 use borrow.Author.Needs.{needs}
 use borrow.Author.Tests.{not-true, not-false}
 use Rattle.blocks.proofs.Laying.{put-away, put-room, put-whole}

@@ -1,4 +1,4 @@
--- `books::change::add_to` meets its contract: judged first, then written. Assumes nothing.
+-- `books::change::add_to` meets its contract: the entry is judged first and then written. Assumes nothing.
 use borrow.Author.Tests.{not-true, not-false}
 use Rattle.books.proofs.Changing.{may-nine, add-inside, add-away, add-to, written}
 use borrow.Author.Needs.{needs}

@@ -1,4 +1,4 @@
--- `books::change::blank_block` meets its contract: its head over zeros, and the sum. Assumes nothing.
+-- `books::change::blank_block` meets its contract: the head is written over zeros, then the sum. Assumes nothing.
 use Rattle.books.proofs.Blanks.{blank-block-is}
 use borrow.Author.Needs.{needs}
 use Rattle.books.proofs.change.blank_block.Statement.{statement}

@@ -1,4 +1,4 @@
--- `books::change::blank_blocks` meets its contract: the first blocks stand there. Assumes nothing.
+-- `books::change::blank_blocks` meets its contract: the first k blocks are written (`Blanking`). Assumes nothing.
 use Prim.Native.Nat.{_-_}
 use Rattle.books.proofs.Blanks.{Blanking, blank-start, blank-same, blank-room, blank-on, blank-end}
 use borrow.Author.Needs.{needs}

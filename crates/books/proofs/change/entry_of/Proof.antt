@@ -1,4 +1,4 @@
--- `books::change::entry_of` meets its contract: zone, setting and dialect over zeros. Assumes nothing.
+-- `books::change::entry_of` meets its contract: zone, setting and dialect are written over zeros. Assumes nothing.
 use Rattle.books.proofs.Changing.{entry-built}
 use borrow.Author.Needs.{needs}
 use Rattle.books.proofs.change.entry_of.Statement.{statement}

@@ -1,4 +1,4 @@
--- `books::change::put_entry` meets its contract: the place, then the sum. Assumes nothing.
+-- `books::change::put_entry` meets its contract: the place is written, then the sum. Assumes nothing.
 use Rattle.books.proofs.Changing.{put-entry-is}
 use borrow.Author.Needs.{needs}
 use Rattle.books.proofs.change.put_entry.Statement.{statement}

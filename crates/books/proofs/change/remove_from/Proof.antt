@@ -1,4 +1,4 @@
--- `books::change::remove_from` meets its contract: judged first, then written. Assumes nothing.
+-- `books::change::remove_from` meets its contract: the removal is judged first and then written. Assumes nothing.
 use Rattle.books.proofs.Changing.{remove-inside, removed}
 use borrow.Author.Needs.{needs}
 use Rattle.books.proofs.change.remove_from.Statement.{statement}

@@ -1,4 +1,4 @@
--- `books::places::empty` meets its contract: what is left decides. Assumes nothing.
+-- `books::places::empty` meets its contract: the bytes that remain decide the answer (`Zeroing`). Assumes nothing.
 use Prim.Native.Nat.{_-_}
 use lib.ListN.{length}
 use Rattle.books.proofs.Laws.{Zeroing, zero-start, zero-stop, zero-on, zero-end}

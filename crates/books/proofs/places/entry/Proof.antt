@@ -1,4 +1,4 @@
--- `books::places::entry` meets its contract: the 24 bytes there. Assumes nothing.
+-- `books::places::entry` meets its contract: the 24 bytes at that place. Assumes nothing.
 use Rattle.books.proofs.Laws.{entry-is}
 use borrow.Author.Needs.{needs}
 use Rattle.books.proofs.places.entry.Statement.{statement}

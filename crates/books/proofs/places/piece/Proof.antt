@@ -1,4 +1,4 @@
--- `books::places::piece` meets its contract: none, what is there, or n bytes. Assumes nothing.
+-- `books::places::piece` meets its contract: no bytes, fewer than n, or n. Assumes nothing.
 use Rattle.books.proofs.Laws.{piece-none, piece-cut, piece-whole}
 use borrow.Author.Needs.{needs}
 use Rattle.books.proofs.places.piece.Statement.{statement}

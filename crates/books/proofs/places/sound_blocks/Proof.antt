@@ -1,4 +1,4 @@
--- `books::places::sound_blocks` meets its contract: what the run says. Assumes nothing.
+-- `books::places::sound_blocks` meets its contract: true exactly if the run passes. Assumes nothing.
 use Rattle.books.proofs.Laws.{blocks-passed, blocks-refused}
 use borrow.Author.Needs.{needs}
 use Rattle.books.proofs.places.sound_blocks.Statement.{statement}

@@ -1,4 +1,4 @@
--- `books::places::sound_places` meets its contract: the places before are sound. Assumes nothing.
+-- `books::places::sound_places` meets its contract: the earlier places are sound (`Sounding`). Assumes nothing.
 use Prim.Native.Nat.{_-_}
 use borrow.Author.Tests.{not-true, not-false}
 use Rattle.books.proofs.Laws.{Sounding, sounding-start, sounding-stop, sounding-on, sounding-end}

@@ -1,4 +1,4 @@
--- `books::search::again` meets its contract: it is searched for where it may stand. Assumes nothing.
+-- `books::search::again` meets its contract: the entry is searched for only if it may occur before. Assumes nothing.
 use borrow.Author.Needs.{needs}
 use borrow.Author.Tests.{not-true, not-false}
 use Rattle.books.proofs.Marking.{again-not, again-seen}

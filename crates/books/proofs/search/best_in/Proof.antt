@@ -1,4 +1,4 @@
--- `books::search::best_in` meets its contract: the best of the places before. Assumes nothing.
+-- `books::search::best_in` meets its contract: the best of the earlier places (`Best`). Assumes nothing.
 use Prim.Native.Nat.{_-_}
 use Rattle.books.proofs.Laws.{Best, best-start, best-taken, best-left, best-end}
 use borrow.Author.Needs.{needs}

@@ -1,4 +1,4 @@
--- `books::search::first_empty` meets its contract: the first empty one of the places before. Assumes nothing.
+-- `books::search::first_empty` meets its contract: the first empty place so far (`Finding`). Assumes nothing.
 use Prim.Native.Nat.{_-_}
 use borrow.Author.Needs.{needs}
 use Rattle.books.specs.Book.{placesOf}

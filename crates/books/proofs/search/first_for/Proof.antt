@@ -1,4 +1,4 @@
--- `books::search::first_for` meets its contract: none of the places before is for this zone and setting. Assumes
+-- `books::search::first_for` meets its contract: no earlier place is for this zone and setting. Assumes
 -- nothing.
 use Prim.Native.Nat.{_-_}
 use Rattle.books.specs.Book.{placesOf}

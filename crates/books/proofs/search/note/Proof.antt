@@ -1,4 +1,4 @@
--- `books::search::note` meets its contract: an empty place, or its six bytes. Assumes nothing.
+-- `books::search::note` meets its contract: an empty place is not marked, any other by its six bytes. Assumes nothing.
 use borrow.Author.Needs.{needs}
 use Rattle.books.proofs.Marking.{empty-new, empty-stays, note-may, note-set}
 use Rattle.books.proofs.search.note.Statement.{statement}

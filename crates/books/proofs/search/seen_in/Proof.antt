@@ -1,4 +1,5 @@
--- `books::search::seen_in` meets its contract: the places before are for others. Assumes nothing.
+-- `books::search::seen_in` meets its contract: no earlier place is for this zone and setting (`Unseen`). Assumes
+-- nothing.
 use Prim.Native.Nat.{_-_}
 use Rattle.books.proofs.Laws.{Unseen, unseen-start, unseen-place, unseen-stop, unseen-on, unseen-end}
 use borrow.Author.Needs.{needs}

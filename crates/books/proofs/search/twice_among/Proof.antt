@@ -1,5 +1,5 @@
--- `books::search::twice_among` meets its contract: the places before stand once, and the marks know them. Assumes
--- nothing.
+-- `books::search::twice_among` meets its contract: no earlier entry repeats another, and the marks cover them
+-- (`Once`). Assumes nothing.
 use Prim.Native.Nat.{_-_}
 use borrow.Author.Needs.{needs}
 use Rattle.books.proofs.Marking.{Once, once-start, once-stop, once-on, once-long, noted-once, once-end}

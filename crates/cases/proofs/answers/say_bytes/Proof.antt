@@ -1,4 +1,4 @@
--- `cases::answers::say_bytes` ends: the bytes that are left fall. Assumes nothing.
+-- `cases::answers::say_bytes` ends, because the number of bytes left falls. Assumes nothing.
 use Prim.Native.Nat.{_≤_, _-_}
 use borrow.Author.Needs.{needs}
 use Rattle.cases.proofs.answers.say_bytes.Statement.{statement}

@@ -1,4 +1,4 @@
--- `cases::answers::say_words` ends: the words that are left fall. Assumes nothing.
+-- `cases::answers::say_words` ends, because the number of words left falls. Assumes nothing.
 use Prim.Native.Nat.{_≤_, _-_}
 use borrow.Author.Needs.{needs}
 use Rattle.cases.proofs.answers.say_words.Statement.{statement}

@@ -1,4 +1,4 @@
--- `deflist::walk::finish` meets its contract: a bare `*` asks for what follows it. Assumes nothing.
+-- `deflist::walk::finish` meets its contract: a bare `*` has a rule for what follows it. Assumes nothing.
 use mathlib.Core.Path.{refl}
 use Rattle.deflist.specs.Unpack.{finish}
 use borrow.Author.Needs.{needs}

@@ -1,4 +1,4 @@
--- `deflist::walk::judge` meets its contract: the list stands in the children. Assumes nothing.
+-- `deflist::walk::judge` meets its contract: the list is in the children. Assumes nothing.
 use Rattle.deflist.proofs.Walking.{judge-room, judge-list}
 use borrow.Author.Needs.{needs}
 use Rattle.deflist.proofs.walk.judge.Statement.{statement}

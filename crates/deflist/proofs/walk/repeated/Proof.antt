@@ -1,5 +1,5 @@
--- `deflist::walk::repeated` meets its contract: marks of a list repeat no name, and a name that may not stand is new.
--- Assumes nothing.
+-- `deflist::walk::repeated` meets its contract: marks of a list repeat no name, and a name that the name marks do not
+-- show is new. Assumes nothing.
 use borrow.Author.Tests.{not-true, not-false}
 use Rattle.deflist.proofs.Walking.{meets-none, meets-new, meets-searched}
 use borrow.Author.Needs.{needs}

@@ -1,4 +1,4 @@
--- `figures::nodes::add_call` meets its contract: one more call that is accepted or refused. Assumes nothing.
+-- `figures::nodes::add_call` meets its contract: one more accepted or refused call. Assumes nothing.
 use Rattle.figures.proofs.Lists.{call-accepted, call-refused}
 use borrow.Author.Needs.{needs}
 use Rattle.figures.proofs.nodes.add_call.Statement.{statement}

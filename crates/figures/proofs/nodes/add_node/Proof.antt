@@ -1,4 +1,4 @@
--- `figures::nodes::add_node` meets its contract: what its kind is counted by. Assumes nothing.
+-- `figures::nodes::add_node` meets its contract: each kind adds its figures. Assumes nothing.
 use Rattle.figures.proofs.ByKind.{node-there, node-bytes, node-word}
 use Rattle.figures.proofs.ByKind.{kind-list, kind-lambda, kind-call, kind-other}
 use borrow.Author.Needs.{needs}

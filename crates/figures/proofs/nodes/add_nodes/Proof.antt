@@ -1,4 +1,4 @@
--- `figures::nodes::add_nodes` meets its contract: one node after another. Assumes nothing.
+-- `figures::nodes::add_nodes` meets its contract: the first i nodes are counted. Assumes nothing.
 use Prim.Native.Nat.{_-_}
 use Rattle.figures.proofs.ByKind.{Walk, walk-start, walk-node, walk-on, walk-end}
 use borrow.Author.Needs.{needs}

@@ -1,4 +1,4 @@
--- `figures::told::add_errors` meets its contract: the numbers of all errors, each counted. Assumes nothing.
+-- `figures::told::add_errors` meets its contract: the number of each error is counted. Assumes nothing.
 use Rattle.figures.proofs.Occurring.{numbers-there, errors-added}
 use borrow.Author.Needs.{needs}
 use Rattle.figures.proofs.told.add_errors.Statement.{statement}

@@ -1,4 +1,4 @@
--- `figures::told::add_number` meets its contract: its counter, if it has one. Assumes nothing.
+-- `figures::told::add_number` meets its contract: the number has one counter, or none. Assumes nothing.
 use native.Mathlib.Omega.{arith}
 use Rattle.figures.proofs.Occurring.{list-least, list-most, module-least, module-most}
 use Rattle.figures.proofs.Occurring.{number-of-list, number-of-module, number-other}

@@ -1,4 +1,4 @@
--- `figures::told::add_numbers` meets its contract: one number after another. Assumes nothing.
+-- `figures::told::add_numbers` meets its contract: the first i numbers are counted. Assumes nothing.
 use Prim.Native.Nat.{_-_}
 use Rattle.figures.proofs.Occurring.{Counting, counting-start, counting-there, counting-on, counting-end}
 use borrow.Author.Needs.{needs}

@@ -1,4 +1,4 @@
--- `filetest::changes::change_all` ends: the bytes left fall. Assumes nothing.
+-- `filetest::changes::change_all` ends: the number of bytes left falls. Assumes nothing.
 use borrow.Author.Needs.{needs}
 use mathlib.Core.Path.{_≡_}
 use lib.ListN.{length}

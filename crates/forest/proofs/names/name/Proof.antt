@@ -1,4 +1,4 @@
--- `forest::names::name` meets its contract: each part is what the lent names have of the name. Assumes nothing.
+-- `forest::names::name` meets its contract: each part is what the name bytes have of the name. Assumes nothing.
 use Rattle.forest.proofs.Named.{name-outside, name-short, name-inside}
 use borrow.Author.Needs.{needs}
 use Rattle.forest.proofs.names.name.Statement.{statement}

@@ -1,4 +1,4 @@
--- `replay::requests::each_word` ends: what is left of the words falls. Assumes nothing.
+-- `replay::requests::each_word` ends: the number of words left falls. Assumes nothing.
 use Prim.Native.Nat.{_-_}
 use lib.ListN.{length}
 use borrow.Author.Needs.{needs}

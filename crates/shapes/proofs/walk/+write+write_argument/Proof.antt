@@ -1,6 +1,5 @@
--- `shapes::walk::write` and `write_argument` meet their contracts: a node's own shape, then those of its children by
--- the rule that each is read by. The measure is the size of the subtree that a stretch begins with, and nothing else.
--- Assumes nothing.
+-- `shapes::walk::write` and `write_argument` meet their contracts: the node's own shape, then those of its children,
+-- each by its rule. The measure is the size of the first subtree, which is smaller at each call. Assumes nothing.
 use borrow.Author.Needs.{needs}
 use lib.ListN.{length}
 use Rattle.forest.specs.Forest.{spanOf}

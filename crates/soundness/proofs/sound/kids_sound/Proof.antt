@@ -1,4 +1,4 @@
--- `soundness::sound::kids_sound` meets its contract: the rule of the kind, and where its last ones stand. Assumes
+-- `soundness::sound::kids_sound` meets its contract: the rule of the kind, and where its last ones begin. Assumes
 -- nothing.
 use borrow.Author.Needs.{needs}
 use Rattle.soundness.proofs.sound.kids_sound.Statement.{statement}

@@ -1,4 +1,4 @@
--- `soundness::sound::turn` meets its contract: each return is one case of where the record stands. Assumes nothing.
+-- `soundness::sound::turn` meets its contract: each return is one case of where the record is. Assumes nothing.
 use borrow.Author.Needs.{needs}
 use Rattle.soundness.proofs.Tops.{turn-opens}
 use Rattle.soundness.proofs.sound.turn.Statement.{statement}

@@ -1,4 +1,4 @@
--- `types::forms::form_of` meets its contract: the tests in turn. Assumes nothing.
+-- `types::forms::form_of` meets its contract: the tests in the order of the definition. Assumes nothing.
 use Rattle.types.proofs.FormOf.{form-ellipsis, form-path, form-index, form-index2, form-list, form-tuple}
 use Rattle.types.proofs.FormOf.{form-union, form-other}
 use Rattle.types.proofs.forms.form_of.Statement.{statement}

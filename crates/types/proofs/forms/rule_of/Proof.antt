@@ -1,4 +1,4 @@
--- `types::forms::rule_of` meets its contract: an argument is a List, or read as a type. Assumes nothing.
+-- `types::forms::rule_of` meets its contract: an argument is a List, or is read as a type. Assumes nothing.
 use Rattle.types.proofs.FormOf.{rule-unread, rule-type, rule-list, rule-other}
 use borrow.Author.Needs.{needs}
 use Rattle.types.proofs.forms.rule_of.Statement.{statement}

@@ -1,6 +1,5 @@
--- `types::judging::unpack` and `unpack_argument` meet their contracts: what is refused at a node, then its children by
--- the rule that each is read by. The measure is the size of the subtree that a stretch begins with, and nothing else.
--- Assumes nothing.
+-- `types::judging::unpack` and `unpack_argument` meet their contracts: the test at a node, then its children, each by
+-- its rule. The measure is the size of the first subtree, which is smaller at each call. Assumes nothing.
 use borrow.Author.Needs.{needs}
 use lib.ListN.{length}
 use Rattle.forest.specs.Forest.{spanOf, treeOf}

@@ -1,4 +1,4 @@
--- `types::judging::at_node` meets its contract: each form has its test. Assumes nothing.
+-- `types::judging::at_node` meets its contract: each form has its own test. Assumes nothing.
 use Rattle.types.specs.Types.{atNode}
 use Rattle.types.proofs.Bases.{at-form}
 use borrow.Author.Needs.{needs}

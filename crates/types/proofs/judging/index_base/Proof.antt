@@ -1,4 +1,4 @@
--- `types::judging::index_base` meets its contract: an Identifier, or 40. Assumes nothing.
+-- `types::judging::index_base` meets its contract: the base is an Identifier, else 40. Assumes nothing.
 use Rattle.types.proofs.Bases.{index-none, index-other, index-good}
 use borrow.Author.Needs.{needs}
 use Rattle.types.proofs.judging.index_base.Statement.{statement}

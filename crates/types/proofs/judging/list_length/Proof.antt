@@ -1,4 +1,4 @@
--- `types::judging::list_length` meets its contract: none is 41, one is 40. Assumes nothing.
+-- `types::judging::list_length` meets its contract: no item is 41, one item is 40. Assumes nothing.
 use Rattle.types.proofs.Bases.{list-none, list-one, list-more}
 use borrow.Author.Needs.{needs}
 use Rattle.types.proofs.judging.list_length.Statement.{statement}

@@ -1,4 +1,4 @@
--- `types::paths::is_banned` meets its contract: by the first edition the field's bytes are those of `type`, by the
+-- `types::paths::is_banned` meets its contract: in the first edition the field's bytes are compared with `type`, in the
 -- second nothing is banned. Assumes nothing.
 use mathlib.Core.Path.{_≡_, refl, _∙_}
 use mathlib.Core.Bool.{Bool}
@@ -13,7 +13,7 @@ use Rattle.types.specs.Paths.{typeField, banned}
 use Rattle.types.proofs.paths.is_banned.Statement.{statement}
 use Rattle.types.proofs.paths.is_banned.Tie as tie
 
--- the first edition, told by the match
+-- the match says that it is the first edition
 by-first : (edition : Edition) (names : List ℕ) (dot : Node) → edition ≡ One → {word : List ℕ}
     → word ≡ nameOf names dot → {r : Bool} → r ≡ same word typeField → r ≡ banned edition names dot
 by-first edition names dot first word-is r-is = r-is ∙ rw (first, word-is) refl
