@@ -1,11 +1,11 @@
-/* Numbers and kinds in words, for who prints them: starlark.h alone is enough to call the checks.
+/* Numbers and kinds in words, for printing. To call the checks, starlark.h is enough.
  * Made by tools/interfaces.py from docs/numbers.tsv and docs/kinds.tsv. */
 #ifndef STARLARK_NAMES_H
 #define STARLARK_NAMES_H
 
 #include "starlark.h"
 
-/* The name of a number, as docs/numbers.tsv has it; "ACCEPTED" for 0, "unknown" for what is no number. */
+/* The name of a number, as docs/numbers.tsv has it; "ACCEPTED" for 0, "unknown" for any other value. */
 static inline const char *starlark_number_name(uint32_t number) {
     switch (number) {
     case STARLARK_ACCEPTED: return "ACCEPTED";
@@ -151,7 +151,7 @@ static inline const char *starlark_number_words(uint32_t number) {
     }
 }
 
-/* The name of a kind of records, as docs/kinds.tsv has it; "unknown" for what is no kind. */
+/* The name of a kind of records, as docs/kinds.tsv has it; "unknown" for any other value. */
 static inline const char *starlark_kind_name(uint32_t kind) {
     switch (kind) {
     case STARLARK_KIND_STATEMENTS: return "Statements";

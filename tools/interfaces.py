@@ -1,8 +1,8 @@
 #!/usr/bin/env python3
-"""Makes what C, Rust and Python see of the numbers and kinds, from docs/numbers.tsv and docs/kinds.tsv, and compares the interfaces.
+"""Makes the numbers and kinds for C, Rust and Python from docs/numbers.tsv and docs/kinds.tsv, and compares the interfaces.
 
-interfaces.py           says whether all is as it must be (exit status 1 if not)
-interfaces.py --write   first writes anew what is made
+interfaces.py           reports whether everything agrees (exit status 1 if not)
+interfaces.py --write   first writes what is made
 
 Made: the enums and the dialects of include/starlark.h; include/starlark_names.h; bindings/rust/src/made.rs; python/ducatmuffin/numbers.py.
 Compared: the version, which the header has, the Rust crates, the Python package and the code; the header's constants with those of the code
@@ -155,14 +155,14 @@ def c_switch(name, what, cases):
 def names_header():
     numbers, kinds = rows("numbers.tsv"), rows("kinds.tsv")
     parts = [
-        c_switch("number_name", "The name of a number, as docs/numbers.tsv has it; \"ACCEPTED\" for 0, \"unknown\" for what is no number.",
+        c_switch("number_name", "The name of a number, as docs/numbers.tsv has it; \"ACCEPTED\" for 0, \"unknown\" for any other value.",
                  [("STARLARK_ACCEPTED", "ACCEPTED")] + [(f"STARLARK_NUMBER_{name}", name) for _, name, _, _ in numbers]),
         c_switch("number_words", "What a number means, in words.",
                  [("STARLARK_ACCEPTED", "accepted")] + [(f"STARLARK_NUMBER_{name}", words) for _, name, words, _ in numbers]),
-        c_switch("kind_name", "The name of a kind of records, as docs/kinds.tsv has it; \"unknown\" for what is no kind.",
+        c_switch("kind_name", "The name of a kind of records, as docs/kinds.tsv has it; \"unknown\" for any other value.",
                  [(f"STARLARK_KIND_{constant(name)}", name) for _, name, _ in kinds]),
     ]
-    return "/* Numbers and kinds in words, for who prints them: starlark.h alone is enough to call the checks.\n" \
+    return "/* Numbers and kinds in words, for printing. To call the checks, starlark.h is enough.\n" \
            " * Made by tools/interfaces.py from docs/numbers.tsv and docs/kinds.tsv. */\n" \
            "#ifndef STARLARK_NAMES_H\n#define STARLARK_NAMES_H\n\n#include \"starlark.h\"\n\n" + "\n".join(parts) + "\n#endif\n"
 
@@ -222,7 +222,7 @@ def value(text):
 
 
 def versions():
-    """The faults of the version: it stands in the header, as three numbers and as a string."""
+    """The faults of the version: the header has it as three numbers and as a string."""
     header = HEADER.read_text()
     parts = [re.search(rf"^#define STARLARK_VERSION_{part} (\d+)$", header, re.M) for part in ("MAJOR", "MINOR", "PATCH")]
     if not all(parts):

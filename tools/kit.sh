@@ -1,23 +1,23 @@
 # shellcheck shell=sh
-# Where the Rattle kit is, how a program that rt has built is run, and what a crate stands on. For scripts of sh: . tools/kit.sh
+# Where the Rattle kit is, how to run a program that rt has built, and which crates a crate uses. For sh scripts: . tools/kit.sh
 #
-# Sets kit (the kit's folder), kit_own (what it has for this machine), kit_toolchain (compiler and loader). Where there is no rt it sets
+# Sets kit (the kit's folder), kit_own (what it has for this machine), kit_toolchain (compiler and loader). Without rt it sets
 # kit= and returns 1. The Python tools have the same in tools/gate/repository.py.
 kit=
 command -v rt >/dev/null 2>&1 || return 1
-kit=${kit_known:-$(dirname "$(dirname "$(rt doc)")")} # a script that is run thousands of times is told the folder
+kit=${kit_known:-$(dirname "$(dirname "$(rt doc)")")} # a script that runs thousands of times gets the folder from its caller
 kit_own=$kit/on/$(uname -m)
 kit_toolchain=$kit_own/toolchain
 
-# Runs a program under the kit's loader; where the machine is no x86-64, under the kit's emulator too.
+# Runs a program under the kit's loader and, if the machine is not x86-64, under the kit's emulator.
 kit_run() {
     kit_emulator=$kit_toolchain/bin/qemu-x86_64
     [ -x "$kit_emulator" ] || kit_emulator=
     ${kit_emulator:+"$kit_emulator"} "$kit_toolchain/lib/ld-linux-x86-64.so.2" --library-path "$kit_toolchain/lib" "$@"
 }
 
-# What a crate stands on by a crates.txt: near, as its line has it, the kit's libraries among them; all, the crates of the repository, near
-# and far, and the crate itself.
+# The crates that a crate uses, by a crates.txt: near, those of its line, with the kit's libraries; all, the crates of the repository that it
+# uses directly or indirectly, and the crate itself.
 kit_crates() { # FILE near|all NAME
     awk -v which="$2" -v wanted="$3" '
         function visit(name, part, count, k) {

@@ -1,16 +1,19 @@
 #!/usr/bin/env python3
-"""Writes what was measured into docs/measured, so that no number there is copied by hand.
+"""Writes measurements into docs/measured, so that no number there is copied by hand.
 
-A document holds sections between the lines '<!-- measured: NAME -->' and '<!-- end -->'; what stands between them is this tool's. Each section
-says when it was measured, on what machine, and at which commit.
+A document has sections between the lines '<!-- measured: NAME -->' and '<!-- end -->', which this tool writes. Each section
+states when it was measured, on which machine, and at which commit.
 
 measured.py gate LOG       from the log of ./test (target/test.log): its steps, and its crates one by one
 measured.py quick LOG      from the output of oracle/compare: the jobs of each family
 measured.py long LOG       from the output of oracle/compare --long
-measured.py faults LOG     from the output of oracle/faults-port: each planted fault and where it showed
 measured.py jobs LOG       from the output of bench/run: its tables as they stand
+measured.py corpus LOG     from the output of bench/run --corpus
+measured.py versus LOG     from the output of bench/versus
 measured.py stack LOG      from the log of ./test or the output of bindings/run: the stack that each job needs
 measured.py sizes          lines and characters of code, definitions and proofs, crate by crate; reads the crates themselves
+
+docs/measured/FAULTS.md is written by `oracle/faults-port --write` and `tools/tests/faults.py --write`, from their logs.
 """
 import datetime
 import os
@@ -23,7 +26,8 @@ import sys
 sys.path.append(str(pathlib.Path(__file__).resolve().parent / "gate"))
 import repository  # noqa: E402
 
-PLACES = {"gate": "GATE", "quick": "COMPARISON", "long": "COMPARISON", "faults": "FAULTS", "jobs": "BENCHMARKS", "stack": "STACK", "sizes": "SIZES"}
+PLACES = {"gate": "GATE", "quick": "COMPARISON", "long": "COMPARISON", "faults": "FAULTS", "steps": "FAULTS", "jobs": "BENCHMARKS", "corpus": "BENCHMARKS",
+          "versus": "BENCHMARKS", "stack": "STACK", "sizes": "SIZES"}
 
 
 def table(head, rows):
@@ -42,7 +46,7 @@ def gate(log):
     tried = {}
     for crate in re.findall(r"^rt: must-fail (\w+)/\w+: refused", log, re.M):
         tried[crate] = tried.get(crate, 0) + 1
-    tries = log.partition("test: wrong:")[0]  # behind it the tool tries itself with bad edits
+    tries = log.partition("test: wrong:")[0]  # after it the tool tries itself with bad edits
     wrong = {crate: rest for crate, *rest in re.findall(r"^wrong (\w+): (\d+) edits in (\d+) checks, (\d+) s$", tries, re.M)}
     rows = [(f"`{c}`", checks.get(c, ""), tried.get(c, 0), *wrong.get(c, ("0", "0", "0"))) for c in repository.crates()]
     sums = ["all", *(sum(int(row[i] or 0) for row in rows) for i in range(1, 6))]
@@ -52,20 +56,11 @@ def gate(log):
 
 
 def families(log):
-    """The families of oracle/compare: six columns of numbers behind each name."""
+    """The families of oracle/compare: six columns of numbers after each name."""
     rows = re.findall(r"^(.+?) +" + r" +".join([r"(\d+)"] * 6) + "$", log, re.M)
     head = ["family", "jobs", "judged by the crate", "by the model alone", "refused with 1 to 7", "other comparisons", "differ"]
     last = re.findall(r"^compare: (.*)$", log, re.M)[-1]
     return f"**{last}**\n\n" + table(head, [(name, *map(number, counts)) for name, *counts in rows])
-
-
-def faults(log):
-    """Each planted fault with the first line of its edit, the jobs that were run and the family in which it showed."""
-    words = {edit.name: edit.words for crate in repository.crates() for edit in repository.edits(crate)}
-    words |= {f"plant/{path.stem}": repository.Edit(path).words for path in (repository.ROOT / "oracle" / "plant").glob("*.edit")}
-    rows = re.findall(r"^(\w+/\w+) +(call \w+|\w+(?:,\w+)*) +(.+)$", log, re.M)
-    last = log.strip().splitlines()[-1]
-    return f"**{last}**\n\n" + table(["fault", "what it does", "jobs run", "showed in"], [(n, words.get(n, [""])[0], jobs, at) for n, jobs, at in rows])
 
 
 def stack(log):
@@ -77,6 +72,11 @@ def stack(log):
 def jobs(log):
     """The tables of bench/run, which are in Markdown already, with the lines between them."""
     return log[log.index("|"):].strip() if "|" in log else log.strip()
+
+
+def whole(log):
+    """What a benchmark prints, as it stands."""
+    return log.strip()
 
 
 def sizes(_):
@@ -109,10 +109,11 @@ def write(name, text):
 
 
 def main(words):
-    if not words or words[0] not in PLACES or len(words) != (1 if words[0] == "sizes" else 2):
+    makers = {"gate": gate, "quick": families, "long": families, "jobs": jobs, "corpus": whole, "versus": whole, "stack": stack, "sizes": sizes}
+    if not words or words[0] not in makers or len(words) != (1 if words[0] == "sizes" else 2):
         sys.exit(__doc__)
     log = open(words[1], encoding="utf-8").read() if words[1:] else ""
-    write(words[0], {"gate": gate, "quick": families, "long": families, "faults": faults, "jobs": jobs, "stack": stack, "sizes": sizes}[words[0]](log))
+    write(words[0], makers[words[0]](log))
 
 
 if __name__ == "__main__":

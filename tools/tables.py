@@ -1,18 +1,19 @@
 #!/usr/bin/env python3
-"""Data of the gate's programs, made from texts. The form of a tree in words is that of python/ducatmuffin/table.py.
+"""Makes the data of the gate's programs from texts. python/ducatmuffin/table.py describes the text form of a tree.
 
 tables.py cases TEXT... OUT         the requests of crates/cases
 tables.py filecases TEXT... OUT     the table files of crates/filetest
 tables.py file TEXT OUT             the table file of a text (`ducat table` makes the same)
 tables.py files TEXT...             the same for several: from X.txt to X.table
-Each with --check behind it: only say whether the file is what its text gives (exit status 1 if not). What is wrong with a text is reported
+With --check at the end: only reports whether the file is that of its text (exit status 1 if not). An error in a text is reported
 with its line and kind, and nothing is written.
 
-A line of cases is 'label | what is asked | tree'. In cases names, details, positions and source file numbers may be anything: they want tables
-that are not sound. A record has the source file number 1, a root Statements 0; file=N gives one record another. Types are read by edition 1, or
+A line of cases is 'label | request | tree'. In cases, names, details, positions and source file numbers may be anything, since tables that are
+not sound are needed. A record has the source file number 1, a root Statements 0; file=N gives one record another. Types are read by edition 1, or
 by edition=N.
-Cases of files have, between label and tree: bits= the dialect's numbers, edition= the edition's byte, names= so many name bytes, byte=P:V byte P
-becomes V and its block's sum is made anew, damage=P:V the same without a new sum, more= so many zeros after the file, cut= so many bytes of it.
+Cases of files have, between label and tree: bits= the dialect's numbers, edition= the edition's byte, names= the number of name bytes, byte=P:V byte P
+becomes V and the sum of its block is updated, damage=P:V the same without a new sum, more= the number of zeros after the file, cut= the number
+of bytes that are kept.
 """
 import os
 import pathlib
@@ -29,7 +30,7 @@ from ducatmuffin import table as tables  # noqa: E402
 from ducatmuffin.table import TextError, file_of, table_of, trees  # noqa: E402
 
 JOBS = {"check": 1, "node": 2, "dialect": 3, "call": 4, "params": 5, "target": 6, "assignment": 7, "type": 8, "module": 9, "bind": 10,
-        "audit": 11, "format": 12, "parts": 13}
+        "audit": 11, "format": 12, "parts": 13, "namesakes": 14}
 numbers = tables._numbers
 WANTED = {"parameters": 1, "call": 2, "assignment": 3, "expression": 4}
 
@@ -52,12 +53,12 @@ def count(text):
 
 
 def request(line, number):
-    """A line of cases: a heading, or a label, what is asked, and the tree."""
+    """A line of cases: a heading, or a label, the request, and the tree."""
     if line.startswith("#"):
         return pack(0, line, b"", b"", b"", 0, 0, 0)
     label, asked, *tree = [part.strip() for part in line.split("|")] + [""] * ("|" not in line)
     if not asked or len(tree) > 1:
-        raise TextError(0, fault("a case is: label | what is asked | tree"))
+        raise TextError(0, fault("a case is: label | request | tree"))
     job, *words = asked.split()
     if job in ("format", "parts"):
         return format_case(job, label, words, tree[0] if tree else "")

@@ -18,6 +18,8 @@ use model::jobs;
 use model::numbers::number;
 use model::table::Table;
 use starlark_syntax::codemap::CodeMap;
+use starlark_syntax::dialect::Dialect;
+use starlark_syntax::syntax::ast::AstStmt;
 use starlark_syntax::syntax::ast::CallArgsP;
 use starlark_syntax::syntax::call::CallArgsUnpack;
 use starlark_syntax::syntax::def::DefParams;
@@ -62,9 +64,19 @@ fn trees<'a, 'n>(table: &'a Table<'n>) -> Trees<'a, 'n> {
 }
 
 /// The oracle's reading of a table, as it stands in front of a tree.
-fn read(input: &Input) -> Table<'_> {
+pub fn read(input: &Input) -> Table<'_> {
     let (table, names) = black_box((&input.table, &input.names));
     Table::check(table, names).unwrap_or_else(|_| unreachable!())
+}
+
+/// The tree of a table, made before the clock runs.
+pub fn ready(input: &'static Input) -> AstStmt {
+    trees(checked(input)).statement(0).expect("a tree")
+}
+
+/// The number of errors that the crate finds.
+pub fn validated(tree: &AstStmt, dialect: &Dialect) -> usize {
+    validate_module(black_box(tree), dialect, codemap()).len()
 }
 
 /// A measured job on which port and crate do not agree would say nothing. The crate does not tell where an equal name was.
@@ -323,7 +335,7 @@ pub fn rescue(input: &'static Input, damage: fn(&mut Vec<u8>)) -> Routes {
 }
 
 /// Read, check, build the tree, validate.
-fn rust_route(bytes: &[u8]) -> usize {
+pub fn rust_route(bytes: &[u8]) -> usize {
     let contents = file::read(black_box(bytes)).unwrap_or_else(|_| unreachable!());
     let table = Table::check(&contents.table, &contents.names).unwrap_or_else(|_| unreachable!());
     let tree = trees(&table).statement(0).expect("a tree");

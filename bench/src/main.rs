@@ -3,9 +3,11 @@
 //!   --rounds N           how often each route is timed (default 201)
 //!   --only TEXT          only the cases whose names hold TEXT
 //!   --alone ROUTE N      no times: each case's route of this name is run N times, for a profiler
+//!   --corpus FOLDER      the tables of a folder, each in turn, and no other case
 
 mod cases;
 mod clock;
+mod corpus;
 mod formats;
 mod measure;
 mod plain;
@@ -13,6 +15,7 @@ mod port;
 mod scripts;
 mod tables;
 
+use std::path::PathBuf;
 use std::process::ExitCode;
 
 use measure::Effort;
@@ -46,6 +49,7 @@ struct Options {
     rounds: usize,
     only: String,
     alone: Option<(String, usize)>,
+    corpus: Option<PathBuf>,
 }
 
 /// Recursion over 2,100 siblings needs some hundred kilobytes, a read file some more.
@@ -71,7 +75,7 @@ fn main() -> ExitCode {
 }
 
 fn read_options() -> Result<Options, String> {
-    let mut options = Options { rounds: 201, only: String::new(), alone: None };
+    let mut options = Options { rounds: 201, only: String::new(), alone: None, corpus: None };
     let mut left = std::env::args().skip(1);
     let number = |text: String| text.parse::<usize>().map_err(|_| format!("{text} is no number"));
     while let Some(option) = left.next() {
@@ -79,6 +83,7 @@ fn read_options() -> Result<Options, String> {
         match option.as_str() {
             "--rounds" => options.rounds = number(value()?)?.max(1),
             "--only" => options.only = value()?,
+            "--corpus" => options.corpus = Some(value()?.into()),
             "--alone" => options.alone = Some((value()?, number(value()?)?)),
             _ => return Err(format!("{option} is not known")),
         }
@@ -232,6 +237,9 @@ fn errors(nodes: usize, dialect: &[u8]) -> String {
 }
 
 fn run(options: &Options) {
+    if let Some(folder) = &options.corpus {
+        return corpus::print(folder, options.rounds);
+    }
     let all = all_cases().into_iter().filter(|case| case.name.contains(&options.only));
     if let Some((label, times)) = &options.alone {
         for case in all {

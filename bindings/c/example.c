@@ -1,4 +1,4 @@
-/* Every job from C, accepted and refused, on one table. A word behind its name is where the table file is put. The table joins two scripts. Source
+/* Every job from C, accepted and refused, on one table. Its argument, if any, is the name for the table file. The table joins two scripts. Source
  * file 1 is
  *
  *     def f(a, /, b, *, c, **k): break
@@ -43,7 +43,7 @@ static void put16(uint8_t *at, size_t value) {
     at[1] = value >> 8 & 255;
 }
 
-/* One node of the source file at hand, its subtree `size` nodes long; node i has the span 10 i to 10 i + 7. `name` is a part of `names`, or "". Answers
+/* One node of the current source file, its subtree `size` nodes long; node i has the span 10 i to 10 i + 7. `name` is a part of `names`, or "". Answers
  * the node. */
 static size_t node(int kind, int detail, size_t size, const char *name) {
     uint8_t *at = table + STARLARK_NODE_BYTES * nodes;
@@ -181,7 +181,7 @@ static void audit(const char *words, const uint8_t *dialect, size_t dialect_leng
     printf("\n");
 }
 
-/* The file in a buffer of `length` bytes, which hold 9: its first bytes, and how many are no longer so. An accepted one is put under the name
+/* The file in a buffer of `length` bytes, which are 9 before: its first bytes, and how many have changed. An accepted one is written under the name
  * `path`, where there is one. */
 static void write_file(const char *words, const uint8_t *dialect, size_t dialect_length, uint32_t edition, size_t length, const char *path) {
     uint32_t out[STARLARK_WORDS];
@@ -198,8 +198,8 @@ static void write_file(const char *words, const uint8_t *dialect, size_t dialect
     bytes("the first", file, 18);
 }
 
-/* What is kept of the first `input_length` bytes of the script's file, in a buffer of `length` bytes, which hold 9: what is told, and how many
- * bytes are no longer so. The byte at `damaged` of the file is changed, where there is one. */
+/* What is kept of the first `input_length` bytes of the script's file, in a buffer of `length` bytes, which are 9 before: the answer, and how many
+ * bytes have changed. The byte at `damaged` of the file is changed first, if there is one. */
 static void rescue(const char *words, size_t input_length, size_t damaged, size_t length) {
     uint32_t out[STARLARK_WORDS];
     static uint8_t input[STARLARK_FILE_BYTES], file[STARLARK_FILE_BYTES];
@@ -262,7 +262,7 @@ static void figures(const char *words, size_t damaged, size_t more) {
     uint32_t out[STARLARK_WORDS];
     uint64_t counts[STARLARK_FIGURES], steps[STARLARK_FIGURES] = {0};
     static uint8_t input[3 * STARLARK_FILE_BYTES];
-    size_t one = script_file(input, STARLARK_DIALECT_EXTENDED, 9, STARLARK_FILE_BYTES), length = 2 * one + more, at = 0;
+    size_t one = script_file(input, STARLARK_DIALECT_EXTENDED, 9, STARLARK_NONE, STARLARK_FILE_BYTES), length = 2 * one + more, at = 0;
     memcpy(input + one, input, one);
     memcpy(input + 2 * one, input, more);
     if (damaged < length) input[damaged] ^= 1;

@@ -10,7 +10,7 @@
 
 enum { MOST_PARTS = 4, PAGE = 65536, BUFFER = 4096 };
 
-/* a buffer that is lent, and how many of its elements */
+/* a buffer, and the number of its elements */
 struct part {
     void *at;
     size_t length;

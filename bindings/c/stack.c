@@ -1,6 +1,6 @@
 /* Measures what stack each job needs: it runs on a stack of its own that is made smaller and smaller, down to the smallest on which it
  * still ends. A stack that is too small meets a page that may not be touched, so each try is a process of its own.
- * Prints a line for each shape of table: the bytes of the smallest stack for each job that takes the node, behind it the number that it
+ * Prints a line for each shape of table: the bytes of the smallest stack for each job that takes the node, then the number that it
  * answers, and the most at the end.
  * Exits with 1 where a job needs more than half of STARLARK_STACK_BYTES. */
 #define _GNU_SOURCE
@@ -69,7 +69,7 @@ static void argument(int kind, size_t name_of) {
     close_node(at);
 }
 
-/* A job on the table at hand, which leaves its number. The binding job has the Def's node beside it. */
+/* A job on the current table, which leaves its number. The binding job has the Def's node beside it. */
 static size_t job_node, job_def;
 static uint32_t number;
 static void run_table(void) { number = starlark_table(table, STARLARK_NODE_BYTES * nodes, names, sizeof names, out); }
@@ -101,7 +101,7 @@ static void run_namesakes(void) {
     number = starlark_namesakes(table, STARLARK_NODE_BYTES * nodes, names, sizeof names, job_node, job_def, list, 2 * STARLARK_NODES, out);
 }
 
-/* The table's file without its last byte: the largest cut of its records, if there is one. The file is made before, in space that is not lent. */
+/* The table's file without its last byte: the largest cut of its records, if there is one. The file is made before, in other memory. */
 static uint8_t damaged[STARLARK_FILE_BYTES];
 static size_t damaged_bytes;
 static void damage(void) {
@@ -171,7 +171,7 @@ struct job {
           {"figures of a file", run_figures, 0}};
 enum { JOBS = sizeof jobs / sizeof *jobs };
 
-/* Whether a job ends on a stack of so many bytes. */
+/* Whether a job ends on a stack of this many bytes. */
 static int ends_on(void (*run)(void), size_t bytes) {
     fflush(stdout);
     pid_t child = fork();
@@ -225,7 +225,7 @@ static void measure(const char *shape, size_t node) {
     job_def = 0;
 }
 
-/* An expression of `depth` nodes below each other. Each has the child last that goes on; before it stand as many leaves as its kind asks for,
+/* An expression of `depth` nested nodes. The last child of each contains the next one; before it are as many leaves as its kind needs,
  * or, where it takes any number, as many as make the table `limit` nodes in the end. */
 static void nested(int kind, int leaf_kind, int depth, size_t limit) {
     size_t opened[STARLARK_DEPTH];
@@ -257,7 +257,7 @@ static void in_depth(const char *shape, int kind, int leaf_kind, size_t limit) {
     measure(shape, 2);
 }
 
-/* A deep expression, and behind it statements that a cut leaves out in part: what is kept of the cut file is deep, too. */
+/* A deep expression, and after it statements that a cut removes in part: what is kept of the cut file is deep, too. */
 static void deep_and_cut(const char *shape) {
     size_t root = open_node(STATEMENTS, 0), simple = open_node(SIMPLE, 0);
     nested(TUPLE, IDENTIFIER, STARLARK_DEPTH - 3, STARLARK_NODES - 50);
@@ -279,8 +279,8 @@ static void argument_lists(const char *shape, int depth) {
     measure(shape, 2);
 }
 
-/* A def, and in the default of its parameter so many lambdas, each in the default of a parameter of the one around it. Of 62 the chain has 127
- * records, 64 of which count. Before that parameter stand as many others as make the table `limit` nodes, none for 0. */
+/* A def, and in the default of its parameter a number of nested lambdas, each in the default of a parameter of the one around it. Of 62 the chain has 127
+ * records, 64 of which count. Before that parameter are as many others as make the table `limit` nodes, none for 0. */
 static size_t through_defaults(int lambdas, size_t limit) {
     size_t opened[STARLARK_DEPTH], defaults[STARLARK_DEPTH], def = open_node(DEF, 0), first = open_node(NORMAL, 2);
     size_t before = limit == 0 ? 0 : (limit - nodes - 3 * lambdas - 2) / lambdas;
@@ -389,7 +389,7 @@ static void many_arguments(void) {
     measure("1,048 arguments", 2);
 }
 
-/* A def with so many parameters, all of one kind, and a call behind it with so many arguments: by place, or by name from the last on. */
+/* A def with a number of parameters, all of one kind, and a call after it with a number of arguments: by place, or by name from the last on. */
 static void binding(const char *shape, int parameter, size_t parameters, int kind, size_t arguments) {
     size_t root = open_node(STATEMENTS, 0), def = open_node(DEF, 0);
     for (size_t i = 0; i < parameters; i++) leaf(parameter);

@@ -2,7 +2,7 @@
 
 Both lists are answers of the proved library. Where DIALECT permits all that the input's own dialect does, and both agree on top-level
 statements, the second list of the module pass is the first without the numbers of the switches that open (crates/opening): so what the move takes
-out is what the second answer lacks. An answer that is no part of the other one is a fault, and ends the command.
+out is what the second answer lacks. If the second answer is not a part of the first, that is a fault, and the command ends.
 """
 from . import check, dialects
 from .library import Refusal
@@ -150,7 +150,7 @@ def joined(lines):
 
 
 class Totals(check.Totals):
-    """What a run has found, with the inputs for which the new dialect is no opening."""
+    """What a run has found, with the inputs for which the new dialect is not an opening."""
 
     def __init__(self):
         super().__init__()

@@ -1,6 +1,6 @@
 """ducat bind: which argument of a call reaches which parameter of a def, and which arguments have the name of another parameter.
 
-The answers are the library's. Which call is paired with which def is said here, by the names of defs in the scripts: a table has none.
+The library gives the answers. This module pairs calls with defs, by the names of defs in the scripts: a table does not have them.
 """
 import os
 import re
@@ -70,7 +70,7 @@ class Tree:
 
 
 class Bytes:
-    """Places in bytes, where there is no script; an argument's text is told by its table."""
+    """Places in bytes, without a script; the text of an argument comes from its table."""
 
     scripts = NONE
 
@@ -134,7 +134,7 @@ class Places:
         return text_in(source, *self.tree.span(node)) if source else self.bytes.value(node)
 
     def of_table(self, node):
-        """The text of an argument or a call, as far as its table tells it."""
+        """The text of an argument or a call, as far as its table has it."""
         if self.tree.records[node].kind != CALL:
             return self.bytes.text(node)
         name = self.tree.callee(node)
@@ -199,7 +199,7 @@ class Binder:
         return self.tree.name(argument + 1) if path else None
 
     def namesakes(self, call, def_):
-        """The namesakes of an accepted call, in order. The library is asked where an argument has the name of a parameter: it reports no other."""
+        """The namesakes of an accepted call, in order. The library is called only if an argument has the name of a parameter: it reports no others."""
         if self.names_in(call, self.arguments_of, self.argument_name).isdisjoint(self.names_in(def_, self.flat_of, self.tree.name)):
             return ()
         answer, flat = self.library.namesakes(self.tree.table, self.tree.names, call, def_), self.flat_of(def_)
@@ -214,7 +214,7 @@ class Binder:
         return self.library.bind(self.tree.table, self.tree.names, call, def_)
 
     def answers(self, pairs):
-        """For each call with its defs the list of answers, in order. Many are asked in several threads: the library works without the lock."""
+        """For each call with its defs the list of answers, in order. Many pairs are bound in several threads: the library works without the lock."""
         def ask(pair):
             return [self.bound(pair[0], def_) for def_ in pair[1]]
 
@@ -389,7 +389,7 @@ class Whole:
                     parents(self.tree.records), lambda at: at)
 
     def notes(self):
-        """What is said of defs that no script names."""
+        """The notes about defs that no script names."""
         return [f"{self.scripts.note(file)}; {counted(len(defs), 'def')} of it {'is' if len(defs) == 1 else 'are'} paired with no call"
                 for file, defs in sorted(self.places.unnamed.items())]
 

@@ -105,7 +105,7 @@ def twice(book):
 
 
 class Asked:
-    """What a command was asked for, so that a refusal can be explained."""
+    """The request of a command, so that a refusal can be explained."""
 
     def __init__(self, books, names, entry=None):
         self.books, self.names, self.entry = books, names, entry
@@ -372,7 +372,7 @@ class ForCheck:
         return {"zone": self.zone, "setting": self.setting, "zone_book": self.book_json(0), "line_book": self.book_json(1)}
 
     def refused(self, options, out, front):
-        """Prints why nothing is checked. Returns the exit status. 97 is told of the line book, which is looked at last."""
+        """Prints why nothing is checked. Returns the exit status. 97 is reported for the line book, which is checked last."""
         refusal, status = self.refusal, status_of(self.refusal)
         if options.quiet:
             say(f"refused {refusal.number}: {refusal.words}{self.asked.why(refusal)}")

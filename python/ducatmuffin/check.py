@@ -32,7 +32,7 @@ class Options:
 
 
 class Answer:
-    """What is said of one input: its verdict, the number of its errors, and the bytes for standard output and standard error."""
+    """The result for one input: its verdict, the number of its errors, and the bytes for standard output and standard error."""
 
     __slots__ = ("verdict", "errors", "out", "err")
 
@@ -111,7 +111,7 @@ def parsed(found):
 
 
 def in_one_table(found):
-    """Makes one table of the statements, and says whether it is no larger than a table may be."""
+    """Makes one table of the statements, and returns whether it is within the limits of a table."""
     from . import export
     try:
         found.hold(*export.join([part.data for part in found.parts], found.statements, found.parts[0].file))
@@ -259,7 +259,7 @@ class Checker:
             found.why = reasons.why_table(found.table, found.names, found.dialect, refusal, found.edition)
 
     def earlier(self, found, error):
-        """The span of the first parameter or argument of the name that stands twice, and its node."""
+        """The span of the first parameter or argument with the repeated name, and its node."""
         if error.number not in REPEATED:
             return None
         for piece, node in self.nodes_of(found, error):
@@ -402,7 +402,7 @@ class Checker:
         return {**told, "entries": many} if many else told
 
 
-# ---- what is said of an input without a table
+# ---- messages for an input without a table
 
 def is_joined(one):
     return isinstance(one, inputs.Joined)
@@ -415,7 +415,7 @@ def start(found):
 
 
 def complaints(found):
-    """Why there is no answer, a line for each file. Of several scripts also what is not Starlark."""
+    """Why there is no answer, a line for each file. With several scripts also those that are not Starlark."""
     if not found.parts:
         return [f"{found.one.name}: {found.message}"]
     lines = []

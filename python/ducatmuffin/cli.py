@@ -1,4 +1,4 @@
-"""The command `ducat`: its words, and what they start. Each command has a module of its own, which is imported only when it is used."""
+"""The command `ducat`: its arguments and help texts. Each command has its own module, which is imported only when it is used."""
 import os
 import sys
 
@@ -555,7 +555,7 @@ def dialect_word(word, option="--dialect"):
 
 
 class Configured:
-    """The dialect of scripts by the command line or the configuration, and what is said of the configuration."""
+    """The dialect of scripts by the command line or the configuration, and the message about the configuration."""
 
     def __init__(self, options):
         from . import config

@@ -33,7 +33,7 @@ def told(dialect, script=False):
 
 
 def edition_told(edition):
-    """What stands behind a dialect where an edition of the type rules is given."""
+    """The text after a dialect if an edition of the type rules is given."""
     return "" if edition is None else f", edition {int(edition)}"
 
 

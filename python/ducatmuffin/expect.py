@@ -1,6 +1,6 @@
 """The release check of `ducat bind`: --expect DEF.PARAMETER=NAME says that every call of DEF passes NAME to PARAMETER.
 
-Which argument reaches which parameter is the library's answer. Which calls are judged, and what leaves an expectation unmet, is said here. Judged are
+The library answers which argument reaches which parameter. This module decides which calls are judged, and what leaves an expectation unmet. Judged are
 calls whose callee is the name DEF. Whatever could make another function of that name, or call DEF in another way, leaves it unmet.
 """
 import re
@@ -28,7 +28,7 @@ class Expectation:
 
 
 def expectation(text, where):
-    """An expectation, or Failed, which says where it stands."""
+    """An expectation, or Failed with its place."""
     found = FORM.fullmatch(text)
     if not found:
         raise Failed(f"{where}: {text or 'nothing'} is not an expectation: DEF.PARAMETER=NAME is needed, where NAME is a name or a path such as zone.tracks")
@@ -245,7 +245,7 @@ UNKNOWN = object()  # the value of a string that is not known
 
 
 def string_of(text):
-    """The bytes that a string stands for. A string of Starlark that is none of Python may be any."""
+    """The bytes that a string literal denotes. A literal of Starlark that Python does not accept may denote any bytes."""
     import ast
     try:
         return ast.literal_eval(text.decode()).encode()

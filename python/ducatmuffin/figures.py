@@ -110,7 +110,7 @@ class Window:
 
     def count(self, stream, progress):
         """Counts all of a stream. Returns the number of the refusal that ended it, or 0, and the position. Raises OSError or ValueError where a read fails,
-        unless a refusal stands before: only 70 depends on the bytes that follow."""
+        unless a refusal comes before: only 70 depends on the bytes that follow."""
         end, taken = 0, 0
         while True:
             end, ended, error = self.fill(stream, end)
@@ -156,7 +156,7 @@ def count(library, found, counts=NO_FIGURES, skip=0, measured=False, progress=No
 # ---- several processes
 
 def sizes_of(found):
-    """The size of each input, or None where one is no regular file: that cannot be read twice."""
+    """The size of each input, or None if one is not a regular file, which cannot be read twice."""
     sizes = []
     for one in found:
         try:

@@ -8,7 +8,7 @@ import errno
 import os
 import stat
 
-PENDING = set()  # what stands beside a file and is not yet renamed
+PENDING = set()  # temporary files that are not renamed yet
 
 
 def write(path, data):

@@ -15,7 +15,7 @@ RAW = re.compile(rb"(\{\{|\}\})|\r|\\(.)", re.DOTALL)
 
 
 def resolved(found):
-    """What stands for a match of WRITTEN."""
+    """The text that a match of WRITTEN denotes."""
     brace, *hexadecimal, octal, line, letter = found.groups()
     if brace:
         return brace[:1]
@@ -28,7 +28,7 @@ def resolved(found):
 
 
 def text_of(text, quote, raw):
-    """The text that a part of an f-string stands for. In a raw one a `\\` is left out before the quote alone."""
+    """The text that a part of an f-string denotes. In a raw one a `\\` is removed only before the quote."""
     if not raw:
         return WRITTEN.sub(resolved, text)
 

@@ -21,7 +21,7 @@ NAMES = ("BUILD", "BUCK", "WORKSPACE")
 
 
 def is_script(name, as_script=()):
-    """Whether a name is a script's: by itself, or by the globs of --as-script. Any other is a table file's."""
+    """Whether a name is that of a script: by its ending, or by the globs of --as-script. Any other is that of a table file."""
     last = os.path.basename(name)
     return last.endswith(ENDINGS) or last in NAMES or matches(last, name, as_script)
 

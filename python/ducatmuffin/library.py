@@ -5,9 +5,9 @@
     if isinstance(answer, Refusal): ...
 
 Each function takes any bytes (bytes, bytearray, memoryview) of any length and returns a dataclass: what the job answers, or a Refusal. Several
-threads may call at the same time: each has buffers of its own, and ctypes releases the interpreter's lock while the library works.
+threads may call at the same time: each has its own buffers, and ctypes releases the interpreter's lock while the library works.
 
-`room` is the length of the buffer that the job is lent: bytes for modes, shapes, files and format texts, words of four bytes for errors, bindings and
+`room` is the length of the buffer that the job gets: bytes for modes, shapes, files and format texts, words of four bytes for errors, bindings and
 the parts of a format text. Without it the buffer is never too short.
 """
 import ctypes
@@ -60,7 +60,7 @@ FUNCTIONS = {
     "figures_step": [ctypes.c_void_p, LENGTH, ctypes.c_void_p] + OUT,
     "version": [],
 }
-# the first words of the parts of a format text that are no text
+# the first words of the parts of a format text that are not text
 CONVERSIONS = {"none": 1, "str": 2, "repr": 3}
 
 
@@ -203,7 +203,7 @@ class Rescued:
 
 @dataclass(frozen=True)
 class Loaded:
-    """What a table file holds. `edition` is the edition byte as it stands, for `write`; `effective_edition` the one that holds, for `type` and `audit`."""
+    """The contents of a table file. `edition` is the edition byte, for `write`; `effective_edition` the one that applies, for `type` and `audit`."""
     table: bytes
     names: bytes
     dialect: Optional[bytes]
@@ -246,7 +246,7 @@ class BookRefusal:
 
 @dataclass(frozen=True)
 class Found:
-    """The dialect of a lookup: its nine bytes, the book that they stand in (0 the zone book, 1 the line book), and where they begin in it."""
+    """The dialect of a lookup: its nine bytes, their book (0 the zone book, 1 the line book), and where they begin in it."""
     dialect: bytes
     book: int
     at: int
@@ -326,7 +326,7 @@ def _node(node):
 
 
 def _room(room, most, size):
-    """The length that is lent, and a buffer of its own where the thread's is shorter."""
+    """The length of the buffer, and a new buffer if that of the thread is shorter."""
     if room is None:
         return most, None
     room = operator.index(room)
@@ -361,7 +361,7 @@ def _part_words(parts):
 
 
 def _word(number, what):
-    """A number of 32 bits: a larger one is no other number."""
+    """A number of 32 bits: a larger one is rejected, not cut."""
     number = operator.index(number)
     if not 0 <= number < 2 ** 32:
         raise ValueError(f"a {what} is from 0 to 4294967295: {number}")
@@ -369,7 +369,7 @@ def _word(number, what):
 
 
 def _edition(edition):
-    """An edition of 32 bits. Which are editions the library says (5). The word for none is no edition here: a job that would take it has None for it."""
+    """An edition of 32 bits. The library decides which numbers are editions (5). The C word for no edition is rejected: it is None here."""
     edition = _word(edition, "edition")
     if edition == NONE:
         raise ValueError(f"{NONE} is the C interface's word for no edition, which is None here")
@@ -519,7 +519,7 @@ class Library:
         return _refusal(number, own.out) if number else Targeted(own.out[0])
 
     def type(self, table: Bytes, names: Bytes, dialect: Optional[Bytes], edition: int, node: int, room: Optional[int] = None) -> Union[Shaped, Refusal]:
-        """Whether the expression at a node is a type in a dialect (None is no dialect, by which Extended is meant) and an edition of the type rules."""
+        """Whether the expression at a node is a type in a dialect (None is no dialect, which means Extended) and an edition of the type rules."""
         table, names, dialect, own = _bytes(table), _bytes(names), _bytes(dialect or b""), self._buffers
         edition = _edition(edition)
         room, buffer = _room(room, numbers.NODES, 1)
@@ -531,11 +531,11 @@ class Library:
         return _refusal(number, own.out) if number else Shaped(ctypes.string_at(lent, size))
 
     def module(self, table: Bytes, names: Bytes, dialect: Optional[Bytes], room: Optional[int] = None) -> Union[Errors, Refusal]:
-        """The module pass under a dialect (None is no dialect, by which Extended is meant)."""
+        """The module pass under a dialect (None is no dialect, which means Extended)."""
         return self._listed(self._module, table, names, dialect, (), room, numbers.ERROR_WORDS)
 
     def audit(self, table: Bytes, names: Bytes, dialect: Optional[Bytes], edition: int, room: Optional[int] = None) -> Union[Errors, Refusal]:
-        """Every job on every node that it fits, under a dialect (None is no dialect, by which Extended is meant) and an edition of the type rules."""
+        """Every job on every node that it applies to, under a dialect (None is no dialect, which means Extended) and an edition of the type rules."""
         return self._listed(self._audit, table, names, dialect, (_edition(edition),), room, numbers.AUDIT_WORDS)
 
     def _listed(self, job, table, names, dialect, edition, room, width):
@@ -601,7 +601,7 @@ class Library:
         return Errors(total, errors, own.out[1])
 
     def fstring_write(self, parts: Sequence[Part], dialect: Optional[Bytes], room: Optional[int] = None) -> Union[Formatted, Refusal]:
-        """The format text of an f-string's parts in a dialect (None is no dialect, by which Extended is meant)."""
+        """The format text of an f-string's parts in a dialect (None is no dialect, which means Extended)."""
         words, texts = _part_words(parts)
         return self.fstring_write_words(words, texts, dialect, room)
 

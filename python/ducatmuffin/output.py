@@ -109,7 +109,7 @@ class Out:
 
 
 def say(text, tool="ducat: "):
-    """A line on standard error. Where that cannot be written, nobody can be told."""
+    """Writes a line to standard error. A failure to write it is ignored."""
     tell(encoded(visible(tool + text)) + b"\n")
 
 
@@ -176,7 +176,7 @@ def text_of(version):
 
 
 class Report:
-    """The JSON of a run: one object, in which every input has a line of its own."""
+    """The JSON of a run: one object, with a line for each input."""
 
     def __init__(self, out, front):
         self.out, self.any = out, False

@@ -71,7 +71,7 @@ def whole(title, parts):
 
 
 def table(caption, head, rows):
-    """A table of cells that are escaped already, as its caption is. A cell that begins with a digit stands to the right. A wide one is scrolled by itself."""
+    """A table of cells that are escaped already, as its caption is. A cell that begins with a digit is aligned to the right. A wide table scrolls separately."""
     cells = "".join(f'<th scope="col">{cell}</th>' for cell in head)
     lines = "".join("<tr>" + f'<th scope="row">{row[0]}</th>' + "".join(f"<td{' class=n' if str(cell)[:1].isdigit() else ''}>{cell}</td>" for cell in row[1:])
                     + "</tr>\n" for row in rows)
@@ -80,7 +80,7 @@ def table(caption, head, rows):
 
 
 def bar(count, most):
-    """A bar of a figure, which stands beside its number."""
+    """A bar of a figure, beside its number."""
     width = round(160 * count / most) if most else 0
     return f'<svg aria-hidden="true" width="164" height="12"><rect class="bar" x="0" y="1" width="{max(width, 1 if count else 0)}" height="10"/></svg>'
 
@@ -134,7 +134,7 @@ def marked(data, begin, end, marks):
 
 class Drawing:
     """A call with the parameters of a def: arguments on the left, parameters on the right, and lines between them. An argument's line is by position,
-    by name, or collected; a parameter that takes its default has a stub. What has the name of another parameter has a line of its own kind, and a thin
+    by name, or collected; a parameter that takes its default has a stub. An argument with the name of another parameter has another kind of line, and a thin
     one to that parameter. Texts are columns of lines beside the drawing, so that a page of many calls stays small."""
 
     CLASSES = {"position": "a", "name": "b", "collected": "c", "default": "d", "exchanged": "s", "own name": "o"}

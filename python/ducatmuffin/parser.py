@@ -8,6 +8,8 @@ expression as a target, so that the proved checker judges them (10 to 19, 20 to 
 A node has a kind of docs/kinds.tsv. Its span begins with its first token and ends with its last; parentheses have no node, and belong to
 the span of the node around them.
 """
+import gc
+
 from .fstring import parts_of
 from .lexer import (BANG, BYTES, DEDENT, END, ERROR, FIELD, FIELD_END, FLOAT, FSTRING, FSTRING_END, INDENT, INT, NAME, NEWLINE, STRING, NotStarlark,
                     tokens)
@@ -58,8 +60,15 @@ class Node:
 
 
 def parse(script):
-    """The top-level statements of a script, which is UTF-8."""
-    return Parser(tokens(script)).file()
+    """The top-level statements of a script, which is UTF-8. The collector of cycles is paused meanwhile: nodes have none, and it would visit all
+    of them again and again, so that a line of a long script would cost more than twice one of a short script."""
+    collects = gc.isenabled()
+    gc.disable()
+    try:
+        return Parser(tokens(script)).file()
+    finally:
+        if collects:
+            gc.enable()
 
 
 def joined(statements):

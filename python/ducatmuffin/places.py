@@ -14,20 +14,20 @@ class Source:
         self.starts = [0] + [match.end() for match in re.finditer(b"\n", data)]
 
     def line_at(self, at):
-        """The line, from 0, in which a byte stands."""
+        """The line, from 0, of a byte."""
         return bisect.bisect_right(self.starts, at) - 1
 
     def line_before(self, at):
-        """The characters of a byte's line that stand before it. A byte order mark is none."""
+        """The characters before a byte in its line. A byte order mark is not counted."""
         before = self.bytes[self.starts[self.line_at(at)]:at].decode("utf-8", "replace")
         return before[1:] if before.startswith("\ufeff") else before
 
     def line_column(self, at):
-        """Where a byte stands: both from 1, and columns count characters."""
+        """The line and column of a byte: both from 1, and columns count characters."""
         return self.line_at(at) + 1, len(self.line_before(at)) + 1
 
     def is_beyond(self, begin, end):
-        """Whether nothing of a span stands in the script."""
+        """Whether a span is outside the script."""
         return len(self.bytes) < begin or begin == len(self.bytes) < end
 
     def drawn(self, begin, end):

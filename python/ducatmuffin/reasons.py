@@ -1,7 +1,7 @@
 """Why a table file is refused, in words beyond its number.
 
-Nothing is decided here. For 3 the library names the record, and this module says which rule of docs/FORMAT.md that record breaks. For 70 to 73 the
-library is asked about the first blocks: it answers 70 until the bad one is among them.
+Nothing is decided here. For 3 the library names the record, and this module finds the rule of docs/FORMAT.md that the record breaks. For 70 to 73 the
+library reads the first blocks: it answers 70 until the bad one is among them.
 """
 import struct
 
@@ -197,7 +197,7 @@ def entries(table, names, node):
 
 
 def too_many(many):
-    """What is said of a list with 19."""
+    """The words for a list with 19."""
     return f"it has {many}, and {PARAMETERS} are allowed"
 
 
@@ -221,7 +221,7 @@ class Why:
         self.sentence, self.block, self.node, self.kind = sentence, block, node, kind
 
     def __str__(self):
-        """What stands behind the words of a refusal."""
+        """The text after the words of a refusal."""
         said = "" if self.block is None else f", block {self.block}"
         if self.node is not None:
             known = f"kind {self.kind} {name_of(self.kind)}" if self.kind in KINDS else f"kind {self.kind}, which is none"

@@ -12,7 +12,7 @@ from .output import Failed, Progress, Report, digest, named, say
 from .table import file_of
 
 DRAWN = 2000  # the most pairs of an input that are drawn
-OPEN = 3  # so many inputs are shown unfolded
+OPEN = 3  # the number of inputs that are shown unfolded
 CELLS = 4000  # the most cells of the books' grid
 WORD = {ACCEPTED: "no errors", SYNTAX: "not Starlark", REFUSED: "refused", UNREADABLE: "not read", NO_TABLE: "without a table",
         OTHER: "of another dialect"}
@@ -163,7 +163,7 @@ class Maker:
     # ---- the text of an input
 
     def texts(self, shown):
-        """The text of each script with its errors marked, and the errors that stand in none."""
+        """The text of each script with its errors marked, and the errors that are in no script."""
         marks, outside, held = {}, [], shown.held
         for number, told in enumerate(shown.entry["errors"], 1):
             if "line" in told:

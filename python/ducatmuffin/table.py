@@ -9,7 +9,7 @@ from 0, in base 36. Sizes follow from the tree, names are put one after the othe
 
 Above the tree there may be such lines:
   # a comment
-  script: FILE          the script that the tree stands for; then each node quotes its part of it: (Break `break`)
+  script: FILE          the script of the tree; then each node quotes its part of it: (Break `break`)
   dialect: none         or Standard, Extended, AllOptionsInternal (all), or nine digits: 111000100
   edition: 2            the edition of the type rules, 1 or 2, where the file has that byte; there must be a dialect
   names: shared         equal names share their bytes
@@ -89,12 +89,12 @@ def encode(records) -> bytes:
 
 
 def kind_name(kind: int) -> str:
-    """The name of a kind, or `kind 13` for what is no kind."""
+    """The name of a kind, or `kind 13` for a number that is not a kind."""
     return numbers.KINDS[kind][0] if kind in numbers.KINDS else f"kind {kind}"
 
 
 def kind_class(kind: int) -> Optional[str]:
-    """statement, expression, parameter or argument; None for what is no kind."""
+    """statement, expression, parameter or argument; None for a number that is not a kind."""
     return numbers.KINDS[kind][1] if kind in numbers.KINDS else None
 
 
@@ -249,14 +249,14 @@ def _base36(n):
 
 
 def _repeated(match):
-    """A text so many times over, in one line, with its line ends behind it, so that the lines are still counted rightly."""
+    """A text repeated, in one line, with its line ends after it, so that the lines are still counted correctly."""
     times, text = match.groups()
     demand(len(times) < 6, f"^{times} is too often")
     return "".join(text.replace("#", _base36(n)).replace("\n", " ") for n in range(int(times))) + "\n" * text.count("\n")
 
 
 def trees(text: str, line: int = 1) -> List[Node]:
-    """The trees that stand side by side in a text, whose first line has this number."""
+    """The trees of a text, whose first line has this number."""
     roots = Node(0, 0)
     way, opened = [roots], False
     for token in TOKEN.findall(re.sub(r"\^(\d+)<([^>]*)>", _repeated, text)):
@@ -367,7 +367,7 @@ def _same_name(node, given):
 
 
 def _found(text, script, begin, end, node):
-    """Where a text stands in a part of a script: its begin and its end."""
+    """Where a text is in a part of a script: its begin and its end."""
     at = script.find(text, begin, end)
     demand(0 <= at, f"`{text.decode()}` is not between {begin} and {end} of the script", node)
     return at, at + len(text)
@@ -464,7 +464,7 @@ def _edition(word, dialect, off):
 
 
 def _given_names(word):
-    """The name bytes that a line gives: None for `shared`, else what stands in quotes."""
+    """The name bytes that a line gives: None for `shared`, else the text in quotes."""
     if word == "shared":
         return None
     demand(re.fullmatch(r'"([ !#-\[\]-~]|\\[\\"]|\\x[0-9a-f]{2})*"', word), f"{word} is neither shared nor name bytes in quotes")
@@ -478,7 +478,7 @@ def _escaped(names):
 
 
 def _at_line(make, text, line):
-    """What is made of a line's text; what is wrong with it is told with the line."""
+    """The value of a line's text; an error in it is reported with the line."""
     try:
         return make(text)
     except TextError as error:

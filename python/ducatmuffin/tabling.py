@@ -34,7 +34,7 @@ def entries(options, datas):
 
 
 def no_table(one, error):
-    """Why there is no table of a script: status 1 where it is not Starlark, as of any other error in it, 2 where it is larger than a table."""
+    """Why there is no table of a script: status 1 if it is not Starlark, as for any other error in it, 2 if it does not fit into a table."""
     from . import export
     return Failed(f"{one.name}:{error.line}:{error.column}: {error.message}", 1 if isinstance(error, export.ScriptSyntaxError) else 2)
 
@@ -102,7 +102,7 @@ def written_parts(folder, contents):
 
 
 def of_text(library, options, data):
-    """A text may stand for a table that is not sound, or for a file that is damaged: such a file is made as the text says."""
+    """A text may describe a table that is not sound, or a damaged file: such a file is made as described."""
     name = options.inputs[0].name
     folder = os.path.dirname(options.inputs[0].path or "")
 

@@ -1,6 +1,6 @@
 """Several processes for `ducat check --jobs N` and `ducat figures --jobs N`, with the answers in the order of the inputs.
 
-Process k takes the inputs k, k + N, k + 2 N, ... and writes its answers to a pipe of its own, from which they are read in turn. A process has
+Process k takes the inputs k, k + N, k + 2 N, ... and writes its answers to its own pipe, from which they are read in turn. A process has
 none of the command's own descriptors, and ends with the command, also where that ends by KILL.
 """
 import marshal

@@ -230,7 +230,7 @@ class Jobs(unittest.TestCase):
 
     def test_rescue(self):
         data, kept = support.sample("lost.table"), support.sample("lost.rescued")
-        said = [int(word) for word in re.findall(r"\d+", support.sample("lost.told").decode())]
+        said = [int(word) for word in re.findall(r"\d+", support.sample("lost.printed").decode())]
         answer = job("rescue", data)
         self.assertEqual(answer.data, kept)
         self.assertEqual([answer.statements, answer.nodes, answer.dropped, answer.bytes_after][:len(said)], said)

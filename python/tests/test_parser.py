@@ -2,6 +2,7 @@
 
 DUCAT_ROUNDS is the number of changed scripts, 20000 without it.
 """
+import gc
 import os
 import random
 import sys
@@ -200,6 +201,24 @@ def nested(self, name):
         self.assertNotIn(name, TABLES)
         self.assertTrue(error.message)
     self.assertEqual(sys.getrecursionlimit(), before)
+
+
+class Collector(unittest.TestCase):
+    """The parser pauses the collector of cycles. Afterwards it is as it was, also where the script is rejected."""
+
+    def setUp(self):
+        self.addCleanup(gc.enable if gc.isenabled() else gc.disable)
+
+    def test_it_is_as_it_was(self):
+        for before in (True, False):
+            for script, rejects in ((b"x = 1\n", False), (b"x = = 1\n", True), (b"x = 'a\n", True)):
+                (gc.enable if before else gc.disable)()
+                try:
+                    parser.parse(script)
+                    rejected = False
+                except lexer.NotStarlark:
+                    rejected = True
+                self.assertEqual((rejected, gc.isenabled()), (rejects, before), script)
 
 
 @support.each(nested, [(name,) for name in DEEP], "nested")

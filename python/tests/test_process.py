@@ -106,7 +106,7 @@ class Real(CommandTest):
 
     def test_all_commands(self):
         out = self.at("out")
-        self.assertEqual(real("rescue", "samples/lost.table", "-o", out)[:2], (1, support.sample("lost.told").decode()))
+        self.assertEqual(real("rescue", "samples/lost.table", "-o", out)[:2], (1, support.sample("lost.printed").decode()))
         self.assertEqual(real("table", "samples/example.txt", "-o", out)[:2], (0, "written 1536\n"))
         self.assertEqual(real("dump", out).status, 0)
         self.assertEqual(real("bind", "--script", "samples/take.star", "samples/take.table")[:2], (1, support.sample("take.bound").decode()))

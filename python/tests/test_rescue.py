@@ -42,7 +42,7 @@ class RescueTest(CommandTest):
 class Kept(RescueTest):
     def test_the_sample(self):
         self.rescued(1, (2, 16, 46, 0), support.sample("lost.rescued"), "samples/lost.table")
-        self.says(1, support.sample("lost.told").decode(), "", "rescue", "samples/lost.table", "-o", self.at("out.table"))
+        self.says(1, support.sample("lost.printed").decode(), "", "rescue", "samples/lost.table", "-o", self.at("out.table"))
 
     def test_what_is_kept_is_what_the_writer_writes(self):
         text = table.read_text(support.sample("lost.txt").decode(), lambda name: support.sample(name))

@@ -22,13 +22,13 @@ NAME = re.compile(r"(?=.*(?:\w[-_]\w|[a-z][A-Z]|\w::\w))[^\W\d_][\w′]*(?:(?:-|
 
 
 def found(path, folder):
-    """The file that a document means: from the root, under crates/, or beside the file that was named before."""
+    """The file that a document names: from the root, under crates/, or beside the file that was named before."""
     places = [ROOT / path, CRATES / path] + ([folder / path] if folder else [])
     return next((place for place in places if place.exists()), None)
 
 
 def cited(text):
-    """The citations of a line: each path with the names behind it. A colon starts the names, anything but a comma or 'and' ends them. The other
+    """The citations of a line: each path with the names after it. A colon starts the names, anything but a comma or 'and' ends them. The other
     names come without a path."""
     path, names, last = None, [], 0
     for match in re.finditer(r"`([^`]+)`", text):
@@ -120,12 +120,12 @@ def defined(path):
 
 @functools.cache
 def anywhere():
-    """The names that some file of the repository defines, and those of LISTS."""
+    """The names that some file of the repository defines, the names of files, and those of LISTS."""
     names = {name for file in LISTS for name in in_words((ROOT / file).read_text())}
     for folder in ("crates", "include", "bindings", "python", "tools", "oracle"):
         for path in sorted((ROOT / folder).rglob("*")):
-            if path.suffix in READ and "target" not in path.parts:
-                names |= defined(path)
+            if "target" not in path.parts:
+                names |= {path.name, *(defined(path) if path.suffix in READ else ())}
     return names
 
 

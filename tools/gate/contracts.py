@@ -11,9 +11,9 @@ class Unread(Exception):
     """A text that this module does not read."""
 
 
-# a token of a contract or statement: brackets and commas stand alone, all else is as the spaces divide it
+# a token of a contract or statement: a bracket or a comma, or the text between spaces
 TOKEN = re.compile(r"\[\]|[()\[\]{},]|[^\s()\[\]{},]+")
-# how a function begins: its visibility, what stands before fn, its name
+# how a function begins: its visibility, the words before fn, its name
 FUNCTION = re.compile(r'^( *)(pub(?:\([^)]*\))? )?((?:const |unsafe |extern "[^"]*" )*)fn (\w+)', re.M)
 NUMBERS = {"u8", "u16", "u32", "u64", "usize", "i32", "i64"}
 
@@ -35,7 +35,7 @@ def blanked(text):
 
 
 def closing(text, at):
-    """The place behind the bracket that closes the one at a place."""
+    """The place after the bracket that closes the one at a place."""
     depth = 0
     for place in range(at, len(text)):
         depth += (text[place] in "([{") - (text[place] in ")]}")
@@ -56,14 +56,14 @@ class Function:
         given = re.compile(r"\s*(?:->\s*((?:\[[^\]]*\]|[^{;\[])+?))?\s*(?=\{|;|requires\b|ensures\b|$)").match(code, end)
         clause = re.compile(r"\s*(requires|ensures)\s*(?=\{)")
         if not given:
-            raise Unread(fault(f"{self.name}: what stands behind its parameters"))
+            raise Unread(fault(f"{self.name}: the text after its parameters"))
         self.answer, at, self.clauses = given[1] and given[1].strip(), given.end(), []
         while found := clause.match(code, at):
             at = closing(code, found.end())
             self.clauses.append((found[1], source.text[found.end() + 1:at - 1].strip()))
         begin = re.compile(r"\s*").match(code, at).end()
         if code[begin:begin + 1] != "{":
-            raise Unread(fault(f"{self.name}: what stands between its contract and its body"))
+            raise Unread(fault(f"{self.name}: the text between its contract and its body"))
         self.promised = any(word == "ensures" for word, _ in self.clauses)
         self.body = (begin, closing(code, begin))
         self.words = words_above(source.text[:head.start()])
@@ -125,7 +125,7 @@ def parameter(words, holder):
 
 
 def words_above(before):
-    """The comment that stands right above a place, as one sentence; attributes may stand between."""
+    """The comment directly above a place, as one sentence; attributes may be between them."""
     words = []
     for line in reversed(before.splitlines()):
         line = line.strip()

@@ -43,7 +43,7 @@ def rows(text, head):
 
 
 def part(word):
-    """A part of the children: the details that it stands for (None is all), its class, and the numbers of it that may stand there, up to 9."""
+    """A part of the children: the details that it is for (None is all), its class, and the allowed numbers of it, up to 9."""
     details, one, pair, least, most = PART.fullmatch(word).groups()
     if pair:
         return details, CLASS[pair], {0, 2, 4, 6, 8}
@@ -53,13 +53,13 @@ def part(word):
 
 
 def parts(words, detail):
-    """The parts of the children that stand there for a detail."""
+    """The parts of the children for a detail."""
     found = [part(word) for word in re.findall(r"\[[^]]*\]|\(\w \w\)\*|[^\s\[\]]+", words)]
     return [(one, counts) for details, one, counts in found if details is None or str(detail) in re.findall(r"\d", details)]
 
 
 def merged(found):
-    """Parts of the same class side by side as one, with every sum of their numbers; those that never stand there left out."""
+    """Adjacent parts of the same class as one, with every sum of their numbers; without those that are always empty."""
     out = []
     for one, counts in found:
         if out and out[-1][0] == one:

@@ -1,14 +1,14 @@
 #!/usr/bin/env python3
-"""The gate, started by ./test: proves every crate from nothing, tries every wrong answer, runs every program, test and comparison.
+"""The gate, started by ./test: proves every crate anew, tries every wrong answer, runs every program, test and comparison.
 
-gate.py             every step. Prints first what is missing on this machine and which steps are skipped for it
-gate.py NAME...     these steps by themselves, on what target/ holds
+gate.py             every step. Prints first what is missing on this machine and which steps are skipped for that
+gate.py NAME...     only these steps, with what is in target/
 gate.py --list      the names of the steps, with what each shows
 
-STEPS lists every step once. .ci/steps lists their names a second time: a step that is in one list and not in the other fails the run, so that
-none is lost unnoticed. A step passes with status 0. Status 3 is a step that skips itself, allowed only where it has `needs`. Every other
+STEPS lists every step once. .ci/steps lists their names a second time: a step that is in only one of the lists fails the run, so that
+none is removed unnoticed. A step passes with status 0. Status 3 is a step that skips itself, allowed only if it has `needs`. Every other
 status fails, and so does a step that was never run. The last line is 'N passed, M failed'; N counts crates, wrong answers, tests of the
-package and steps. The exit status is 0 only where M is 0. target/test.log keeps what a whole run printed.
+package and steps. The exit status is 0 only if M is 0. target/test.log keeps what a whole run printed.
 """
 import os
 import pathlib
@@ -90,12 +90,13 @@ STEPS = [
         python("tools/tables.py", "cases", "crates/cases/cases.txt", "crates/cases/kinds.txt", "crates/cases/data/cases.bin", "--check"),
     ),
     Step("planted", "every fault for the comparison can be planted in the code", ("oracle/faults-port", "--check")),
+    Step("planted-steps", "every fault for a step of the gate can be planted", python("tools/tests/faults.py", "--check")),
     Step("cited", "every path, link and name that the documents cite exists", python("tools/gate/cited.py")),
     Step("counted", "every count in the documents is written by the tool that counts", python("tools/gate/counted.py")),
     Step("statements", "docs/STATEMENTS.md has the statements of the crate statements, and every theorem that is named is restated", python("tools/gate/statements_page.py", "--check")),
     Step("imports", "no file has an unused import", python("tools/gate/imports.py")),
     Step("lines", "line length and `.before` chains are within their limits", python("tools/gate/lines.py")),
-    Step("flake8", "flake8 finds no fault in the Python files", ("flake8", "--config", "tools/gate/flake8.ini", ".", "ducat", "bench/command", "oracle/faults-port"), ("flake8",)),
+    Step("flake8", "flake8 finds no fault in the Python files", ("flake8", "--config", "tools/gate/flake8.ini", ".", "ducat", "bench/command", "bench/corpus", "oracle/faults-port"), ("flake8",)),
     # rt ci is the verdict. It waits for all of a batch before it starts the next, so batches of four keep two processors busier.
     Step(
         "proofs",

@@ -1,8 +1,8 @@
 #!/usr/bin/env python3
-"""Tells imported names that a file does not use, in definitions, proofs and code.
+"""Reports imported names that a file does not use, in definitions, proofs and code.
 
-imports.py            a line for each file that imports what it does not use; status 1 if there is one
-imports.py --write    takes the unused names out; a `use` that is left with none goes
+imports.py            prints a line for each file with an unused import; status 1 if there is one
+imports.py --write    removes the unused names, and each `use` that is then empty
 """
 import re
 import sys
@@ -15,7 +15,7 @@ COMMENT = {".antt": re.compile(r"--.*"), ".rt": re.compile(r"//.*")}
 
 
 def is_used(name, body):
-    """Whether a name stands in a text: a word by itself, an operator by its parts."""
+    """Whether a text has a name: a word as a whole, an operator by its parts."""
     parts = [part for part in name.strip("«»").split("_") if part]
     if name.startswith("_") or name.endswith("_") and not re.match(r"\w", name):
         return all(part in body for part in parts)
@@ -24,7 +24,7 @@ def is_used(name, body):
 
 
 def local(entry):
-    """The name that an import brings in: the one behind `as`, if there is one."""
+    """The name that an import brings in: the one after `as`, if there is one."""
     return entry.split(" as ")[-1].strip()
 
 

@@ -1,11 +1,11 @@
 #!/usr/bin/env python3
-"""Holds code, definitions and proofs to lines that people read.
+"""Checks that lines of code, definitions and proofs are short enough to read.
 
   lines.py [PATH..]     names each line of more than 120 columns, and each chain of `.before` that is too long: more than four outside
                         a waypoint, more than six in one; PATH: files or folders, crates/ where there is none
 
-A waypoint gives a place on a function's way its name: `let judge = c .before .before .judge in`. Status 1 where something is reported, or
-where there is no file."""
+A waypoint gives a place on a function's way its name: `let judge = c .before .before .judge in`. Status 1 if something is reported, or
+if there is no file."""
 import os
 import re
 import sys

@@ -1,10 +1,10 @@
-"""The kit's intermediate code (MIR), as rattle-print-mir prints it: which steps a function does, and whether two functions are the same."""
+"""The kit's intermediate code (MIR), as rattle-print-mir prints it: which steps a function takes, and whether two functions are the same."""
 import re
 import sys
 
 sys.setrecursionlimit(20000)  # a function's statements are nested to the right
 
-# what a step may ask of a proof: a sum that it fits, a call what it requires, a part that it stands within; all other steps ask nothing
+# what a step may require of a proof: that a sum fits, that the precondition of a call holds, that a part is within its bounds; other steps require nothing
 ASKING = {
     *("add", "sub", "mul", "div", "rem", "neg", "cast", "offset", "addrOf", "deref"),
     *("call", "if", "switch", "arm", "loop", "exit", "return"),

@@ -87,7 +87,7 @@ def of_numbers():
     if given.pop("check_file", None) != given["file"]:
         faults.append(fault("include/starlark.h: starlark_check_file does not give the numbers that the program gives"))
     if given.pop("version", None):
-        faults.append(fault("include/starlark.h: starlark_version gives a number, and it is no job"))
+        faults.append(fault("include/starlark.h: starlark_version gives a number, but it is not a job"))
     if sorted(given) != sorted(JOBS):
         return [*faults, fault(f"include/starlark.h: its jobs are not those of docs/numbers.tsv: {sorted(given)}")], 0
     for number, _, _, by in rows:

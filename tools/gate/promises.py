@@ -1,23 +1,23 @@
 #!/usr/bin/env python3
-"""Holds every public function to its promise, from the text alone: no promise can vanish, or change, without a fault here.
+"""Checks that every public function has its promise (its contract), from the text of the sources: a promise that is removed or changed is a fault.
 
-A function is public where it is 'pub fn' or 'extern'. Of each, in a library or a program:
-- It has no 'requires'. An 'ensures' is an equation for its answer, and one for each '&mut' parameter at exit; right of it stands a
-  definition and no answer. A promise that is a record of equations (Stores) counts as its equations.
+A function is public if it is 'pub fn' or 'extern'. For each, in a library or a program:
+- It has no 'requires'. An 'ensures' is an equation for its answer, and one for each '&mut' parameter at exit; its right side is a
+  definition and not an answer. A promise that is a record of equations (Stores) counts as its equations.
 - proofs/Promises.antt of its crate has its theorem NAME-one: two answers that meet the contract coincide, and so do the buffers. Its
-  statement is written from the contract: every 'ensures' of r, every 'ensures' of s; a buffer x at exit is x-r and x-s. It must stand so
-  token by token, and each name in it must be imported from where the source imports it.
-- An edit of crates/NAME/wrong or must-fail, a wrong answer, stands in its body and nowhere else; with those of private functions that it
+  statement is made from the contract: every 'ensures' for r, every 'ensures' for s; a buffer x at exit is x-r and x-s. The statement must be
+  the same token by token, and each name in it must be imported from where the source imports it.
+- It has a wrong answer, an edit of crates/NAME/wrong or must-fail, in its body and nowhere else; with those of private functions that it
   calls it has two or more.
-- docs/PROMISES.md has it, with what it promises, the definitions, the wrong answers and the theorem. That part of the file is generated.
+- docs/PROMISES.md has it, with its promise, the definitions, the wrong answers and the theorem. That part of the file is generated.
 
-A function of a library that is not public promises something too.
+A private function of a library must have a promise too.
 
 A crate without code has wrong answers as well: two edits or more, each in definitions of its specs/ (of `statements`, which has none, in its
 statements), and docs/PROMISES.md lists them.
 
-promises.py            says each fault in a line; the last line is 'N public functions, M faults'; status 0 where M is 0
-promises.py --write    writes the generated part of docs/PROMISES.md, and the statements of theorems that stand; rt fmt lays these out
+promises.py            prints a line for each fault; the last line is 'N public functions, M faults'; status 0 if M is 0
+promises.py --write    writes the generated part of docs/PROMISES.md, and the statements of existing theorems; rt fmt lays these out
 """
 import functools
 import re
@@ -39,7 +39,7 @@ source_of = functools.cache(contracts.Source)
 
 
 class Crate:
-    """A crate's sources and theorems, and where its edits stand."""
+    """A crate's sources and theorems, and where its edits are."""
 
     def __init__(self, name):
         self.name, self.folder, self.sources = name, repository.CRATES / name, []
@@ -52,7 +52,7 @@ class Crate:
         self.edits = {edit.label: (edit, self.touched(edit)) for edit in repository.edits(name)}
 
     def touched(self, edit):
-        """The functions in whose bodies an edit's old texts stand, or the constants; None for a text that stands elsewhere or nowhere."""
+        """The functions whose bodies have an edit's old texts, or the constants; None for a text that is elsewhere or nowhere."""
         texts, found = {}, []
         for file, old, new in edit.pairs:
             path = self.folder / str(file)
@@ -65,7 +65,7 @@ class Crate:
 
     @functools.cache
     def own_edits(self, function):
-        """The edits that stand in a function's body and nowhere else."""
+        """The edits that are in a function's body and nowhere else."""
         return [label for label, (_, touched) in self.edits.items() if touched and set(touched) == {function.path}]
 
     @functools.cache
@@ -84,7 +84,7 @@ class Crate:
             place in reached or place and place.startswith("const ") and re.search(rf"\b{place[6:]}\b", bodies) for place in touched)]
 
     def callees(self, function):
-        """The functions of the crate that a function calls, as far as their names tell."""
+        """The functions of the crate that a function calls, found by their names."""
         code = function.source.code[slice(*function.body)]
         called = set(re.findall(r"((?:\w+::)*\w+)\(", code))
         return [other for other in self.functions if any(self.can_mean(function, words, other) for words in called)]
@@ -221,7 +221,7 @@ class Promise:
 
 
 def left_by(name, answer):
-    """A lent buffer at exit, where the answer is r or s."""
+    """A buffer at exit, where the answer is r or s."""
     return f"{name.strip('«»').replace('_', '-')}-{answer}"
 
 
@@ -251,7 +251,7 @@ def divided(words, mark):
 
 
 def grouped(words):
-    """Arguments that stand side by side: a bracket with what it holds is one, and so is a name with its projections."""
+    """Adjacent arguments: a bracket with its content is one, and so is a name with its projections."""
     parts, depth = [], 0
     for word in words:
         if depth == 0 and not word.startswith("."):
@@ -278,7 +278,7 @@ def faults_of(crate, promise):
         if not promise.fixes(lambda left: left == [left_by(name, "r")]):
             yield fault(f"no 'ensures' fixes what {name} is at exit by a definition")
     if not function.answer and not promise.buffers:
-        yield fault("it answers nothing and is lent nothing that it may change")
+        yield fault("it returns nothing and changes no buffer")
     if promise.ensures:
         for name, (module, _) in promise.definitions().items():
             if "·proofs" in module or ".proofs." in module:
@@ -286,7 +286,7 @@ def faults_of(crate, promise):
         yield from theorem_faults(crate, promise)
     own = crate.own_edits(function)
     if not own:
-        yield fault("no wrong answer (wrong/, must-fail/) stands in its body alone")
+        yield fault("no wrong answer (wrong/, must-fail/) is in its body alone")
     if len(own) + len(crate.lower_edits(function)) < 2:
         yield fault("it has fewer than two wrong answers, those of private functions that it calls included")
 
@@ -339,14 +339,14 @@ def edit_faults(crate):
             yield fault(f"{crate.name}: it has no code, and fewer than two wrong answers in its definitions")
         for label, (_, touched) in crate.edits.items():
             if not touched or None in touched:
-                yield fault(f"{crate.name}: a text that the wrong answer {label} changes stands in no definition")
+                yield fault(f"{crate.name}: a text that the wrong answer {label} changes is in no definition")
         return
     reached = {label for function in crate.public for label in (*crate.own_edits(function), *crate.lower_edits(function))}
     for label, (_, touched) in crate.edits.items():
         if not touched or None in touched:
-            yield fault(f"{crate.name}: a text that the wrong answer {label} changes stands in no function's body and no constant")
+            yield fault(f"{crate.name}: a text that the wrong answer {label} changes is in no function's body and no constant")
         elif label not in reached:
-            yield fault(f"{crate.name}: the wrong answer {label} stands in nothing that a public function calls")
+            yield fault(f"{crate.name}: the wrong answer {label} is in nothing that a public function calls")
 
 
 def table(crates, promises):

@@ -1,8 +1,8 @@
 """What the Python tools share: the repository's crates, the kit, the functions of a source file, and edits.
 
 An edit (crates/NAME/must-fail, crates/NAME/wrong, oracle/plant) has rt's own format: lines 'file: ', 'old: ' and 'new: ', several pairs
-allowed, each old text on one line and in its file once when the pairs before it are done; 'crate: ' where the folder does not tell the
-crate, 'function: ' where a constant is edited and the function that must be refused is named. Every other line is a comment.
+allowed, each old text on one line and in its file once when the pairs before it are done; 'crate: ' if the folder is not that of the
+crate, 'function: ' if a constant is edited and the function that must be refused is named. Every other line is a comment.
 """
 import pathlib
 import platform
@@ -21,7 +21,7 @@ HEAD = r"(?:pub(?:\(crate\))? )?(?:extern \"C\" )?fn "  # how a function begins
 
 
 def crates():
-    """The crates of crates.txt in its order: name to the names that it stands on, near ones alone."""
+    """The crates of crates.txt in its order: name to the names of the crates that it uses directly."""
     stands_on = {}
     for line in (ROOT / "crates.txt").read_text().splitlines():
         name, mark, rest = line.partition("#")[0].partition(":")

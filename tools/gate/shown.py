@@ -2,9 +2,9 @@
 """Compares what the documents show with what the command prints.
 
 A block of lines that are indented by four spaces, after the line '<!-- shown: COMMAND -->', is the standard output of COMMAND, run at the
-root. ROOM in a command is a temporary folder. README's first command is such a block without the mark (a reader sees no comment in it), and is
-listed here; of its second one README shows parts. So are files of samples/ that hold what a command prints. Status 1, with a line for each difference, where one differs; so where a
-document shows nothing.
+root. ROOM in a command is a temporary folder. README's first command is such a block without the mark, and is listed here; for its second one README shows
+parts of the output. Files of samples/ that have the output of a command are listed here too. Prints a line for each difference, and for a document
+that shows nothing; the exit status is then 1.
 """
 import re
 import shlex
@@ -56,7 +56,10 @@ def indented(text):
     return re.sub(r"^(?=.)", "    ", text, flags=re.M)
 
 
-def main(_):
+def main(words):
+    if "--help" in words:
+        print(__doc__.strip())
+        return 0
     faults = []
     readme = (ROOT / FIRST[0]).read_text()
     shown = [FIRST]

@@ -1,14 +1,14 @@
 #!/usr/bin/env python3
-"""Makes docs/STATEMENTS.md of crates/statements, so that page and crate cannot differ.
+"""Makes docs/STATEMENTS.md from crates/statements, so that page and crate cannot differ.
 
 statements_page.py            writes the page
-statements_page.py --check    status 1 where the page is not what the crate says, where a statement lacks a sentence or its words, where a
-                              module cites theorems of several crates, or where README.md, docs/PROOFS.md or a landing note names a
-                              theorem to users that no statement restates
+statements_page.py --check    status 1 if the page is not what the crate gives, if a statement lacks a sentence or its words, if a module
+                              cites theorems of several crates, or if README.md, docs/PROOFS.md or a landing note names a theorem to
+                              users that no statement restates
 
 A module of crates/statements/proofs opens with a comment: its title in capitals, an empty line, an introduction. Above each public statement
-stands a comment: the user's sentence, and from 'In words:' on what the statement says. The page has, in the order of Lib.antt, the sentence,
-the statement as it stands (only its lines are indented by their parentheses), the words, and the theorem that proves it; then where each
+there is a comment: the user's sentence, and from 'In words:' on the statement in words. The page has, in the order of Lib.antt, the sentence,
+the statement (only its lines are indented by their parentheses), the words, and the theorem that proves it; then where each
 name is defined.
 """
 import re
@@ -21,12 +21,12 @@ FOLDER = ROOT / "crates" / "statements" / "proofs"
 PAGE = ROOT / "docs" / "STATEMENTS.md"
 HEAD = """# What is proved, statement by statement
 
-This page is made of crates/statements by tools/gate/statements_page.py; the gate compares the two. Each statement is proved there by citing the
-theorem that is named below it. Nothing is bundled: every hypothesis is an arrow, and every claim of a conclusion stands by itself. So a
-theorem that asked more or said less would not prove its statement (tools/gate/weaker.py tries that).
+This page is made from crates/statements by tools/gate/statements_page.py; `./test statements` compares the two. Each statement is proved there by citing the
+theorem that is named below it. Nothing is abbreviated: every hypothesis is an arrow, and every claim of a conclusion is written out. So a
+theorem that assumed more or claimed less would not prove its statement (tools/gate/weaker.py tries that).
 
 Read `A → B` as "if A then B", `(x : A) →` as "for every x of A", `(x : A) ×` as "there is an x of A with", `×` as "and", `⊎` as "or",
-`↔` as "if and only if", `≡` as "is", `⊥` as "impossible". `getD l i 0` is number i of the list l, or 0 behind its end.
+`↔` as "if and only if", `≡` as "is", `⊥` as "impossible". `getD l i 0` is number i of the list l, or 0 after its end.
 """
 
 

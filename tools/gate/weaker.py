@@ -1,22 +1,22 @@
 #!/usr/bin/env python3
-"""Plants faults in the theorems that crates/statements cites, and sees that the statements then fail.
+"""Plants faults in the theorems that crates/statements cites, and checks that the statements then fail.
 
 weaker.py [MODULE...] [--records N] [--list] [--target DIR]
     after rt check; MODULE is a file of crates/statements/proofs (all of them); DIR has the proved libraries (target)
 
 Rules for a module of `statements`: it cites theorems of one crate, each file of them imported 'as theorem' or 'as theorem-NAME'; it imports
-nothing from a crate above that one; every statement is proved by citing one theorem. A module that breaks a rule is told and counts as bad.
---list says what each module cites, and which public theorems of these files no statement cites.
+nothing from a crate above that one; every statement is proved by citing one theorem. A module that breaks a rule is reported and counts as bad.
+--list prints what each module cites, and which public theorems of these files no statement cites.
 
-The tool copies the crate of the theorems, puts the module beside its proofs, and checks the copy over the modules that the crate's library
-holds, so that only what changed is checked:
-1. all weakened conclusions at once. For each conjunct of each cited theorem a theorem is put behind the right one, in which that conjunct is
+The tool copies the crate of the theorems, puts the module beside its proofs, and checks the copy over the modules of the crate's library,
+so that only what changed is checked:
+1. all weakened conclusions at once. For each conjunct of each cited theorem a theorem is put after the right one, in which that conjunct is
    Unit, proved by citing the right one (so the copy is proved); and beside the statement a copy that cites it, which must be refused. Records
-   and abbreviations in a conclusion are opened: a field of a record is a conjunct. For each theorem there is also one that asks ⊥ in addition.
-   A twin of each statement, which cites the right theorem, must be accepted: else a refusal says nothing.
-2. a field `never : ⊥` in each record that stands in a hypothesis, one check for each (--records N: the first N of each module). The module must
-   be refused for a reason of its own. Where the crate makes such a record in the proof of the theorem, it refuses the field itself, the theorem is
-   gone, and the module cannot tell: this is counted apart.
+   and abbreviations in a conclusion are opened: a field of a record is a conjunct. For each theorem there is also one that assumes ⊥ in addition.
+   A twin of each statement, which cites the right theorem, must be accepted: otherwise a refusal shows nothing.
+2. a field `never : ⊥` in each record of a hypothesis, one check for each (--records N: the first N of each module). The module must
+   be refused for its own reason. If the crate makes such a record in the proof of the theorem, the crate refuses the field, the theorem is
+   missing, and the module shows nothing: this is counted separately.
 The last line is 'N of M faults refused, A by the statements and B by the crate of the record alone'; status 0 where N is M and every twin is
 accepted.
 """

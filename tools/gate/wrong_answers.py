@@ -1,31 +1,31 @@
 #!/usr/bin/env python3
-"""Tries wrong answers: each edit of crates/NAME/wrong makes one function wrong in one point, and the prover must refuse it at a stated fact.
+"""Tries wrong answers: each edit of crates/NAME/wrong makes one function wrong in one point, and the prover must refuse it and name the goal.
 
-A trial takes seconds, where rt's own, of the edits of must-fail, takes a whole check of the crate:
-- The modules that an edit leaves as they are come from the crate's proved library (target/rlib), in the kit's folder of checked modules.
-- An edit of a function by itself makes a twin of it: the wrong function stands under a name of its own beside the right one, with the same
-  contract and a copy of the proof. So all such edits of a crate share one check, in which every other function must be proved. What is not
+A trial takes seconds, while a trial of rt, for the edits of must-fail, takes a whole check of the crate:
+- Modules that an edit does not change are taken from the crate's proved library (target/rlib), in the kit's folder of checked modules.
+- An edit of one function makes a twin of it: the wrong function is added under another name beside the right one, with the same
+  contract and a copy of the proof. So all such edits of a crate share one check, in which every other function must be proved. An edit that is not
   refused as a twin is tried again in place.
 - An edit of a constant, of a method or of functions that call one another is done in place. Edits of different functions share a check,
-  since a function's proof rests on the promises of those that it calls and not on their code. Where the prover says that an edited function calls one that is not proved, which may be another edit's work, the edit is tried again
-  without the edits that are settled, in the end alone. Every other function must be proved, or be refused for a function that it calls.
+  since a function's proof uses the promises of those that it calls and not their code. If the prover reports that an edited function calls one that is not
+  proved, which may be because of another edit, the edit is tried again without the edits that are settled, in the end alone. Every other function must be proved, or be refused for a function that it calls.
 
-A refusal counts only for the right reason. An edit is bad, and the run fails, where
+A refusal counts only for the right reason. An edit is bad, and the run fails, if
 - it touches anything but the body of a function or a constant; for a constant 'function: ' names the function that must be refused;
-- the function's code stays the same but for the order of operands that may be exchanged, or does other steps than before: other calls, sums,
-  casts, parts, branches. Then its proof would not fit, whatever the answer is. Both are seen in the kit's intermediate code (MIR);
-- the prover does not say which fact it cannot prove (FACTS), but that the proof does not fit, or nothing.
-A public function of a crate whose edits are all tried must have one that is refused at the function's own promise; else the run fails. That an
-edit is wrong, so that some run differs, is shown by oracle/faults-port, whose list has every edit.
+- the function's code stays the same except for the order of operands that may be exchanged, or takes other steps than before: other calls, sums,
+  casts, parts, branches. Then its proof would not fit, whatever the answer is. Both are checked in the kit's intermediate code (MIR);
+- the prover does not name the fact that it cannot prove (FACTS), but reports that the proof does not fit, or nothing.
+A public function of a crate whose edits are all tried must have one that is refused at the function's own promise; else the run fails.
+oracle/faults-port shows for every edit that it is wrong: some run gives another answer.
 The edits of must-fail are judged in the same way, and not counted, since rt counts them.
 
 A crate without code (demand3, reached, audited, examples) has edits of its definitions: each makes one definition of specs/ wrong, and the
 prover must refuse a theorem of the crate at a stated fact. `statements`, which has no specs/, has edits of its statements: each makes one say
-more than its theorem. Each such edit is a check of its own. It is bad where it stands in a comment, an import or a proof, or where the prover
-refuses the text and no fact: a name that is not known, a clause that does not fit.
+more than its theorem. Each such edit is a separate check. It is bad if it is in a comment, an import or a proof, or if the prover
+refuses the text and not a fact: an unknown name, a clause that does not fit.
 
 wrong_answers.py [NAME[/EDIT]...]    after rt check or rt ci. The last line is 'N wrong answers refused, M not'; status 0 where M is 0.
-wrong_answers.py --try FOLDER        every edit of FOLDER shows nothing ('crate: ' names its crate): each must be called bad, or not refused.
+wrong_answers.py --try FOLDER        every edit of FOLDER shows nothing ('crate: ' names its crate): each must be reported as bad, or not refused.
 """
 import os
 import pathlib
@@ -43,11 +43,11 @@ from reports import fault
 from repository import CRATES, HEAD, ROOT, BadEdit, Edit, definition_at, function_at
 
 TARGET = ROOT / "target"
-TWIN = "wrong"  # what the name of a wrong function has that stands beside the right one
+TWIN = "wrong"  # what is added to the name of a wrong function beside the right one
 WORK = TARGET / "wrong"
 KIT = repository.Kit()
 
-# how the prover says that a fact does not follow, and the word for it in the report; what else it says is no reason
+# how the prover reports that a fact does not follow, and the word for it in the report; its other messages are not a reason
 FACTS = {
     r"`search`: no proof of": "search",
     r"`search` does not close": "search",
@@ -66,7 +66,7 @@ PROMISE = re.compile(
 
 
 def compiler(name):
-    """The libraries that a crate stands on, as words for the kit's tools."""
+    """The libraries that a crate uses, as words for the kit's tools."""
     words = []
     for crate in ["std", *repository.crates()[name]]:
         home = TARGET if (CRATES / crate).is_dir() else KIT.own
@@ -88,7 +88,7 @@ def code_of(name, folder):
 
 
 def part_at(text, at):
-    """In what the place of a text stands: a 'body', a 'constant', or something else."""
+    """What a place of a text is in: a 'body', a 'constant', or something else."""
     before = text[: text.find("\n", at)]
     items = list(re.finditer(rf"^( *)(?:{HEAD}|(?:pub(?:\(crate\))? )?(const|struct|enum|impl|mod|use)\b|ghost use\b|#)", before, re.M))
     if not items:
@@ -103,7 +103,7 @@ def part_at(text, at):
 
 
 class Trial(Edit):
-    """An edit that is tried: the functions in which it stands, and the one that must be refused."""
+    """An edit that is tried: the functions that it is in, and the one that must be refused."""
 
     def __init__(self, path):
         super().__init__(path)
@@ -201,7 +201,7 @@ class Definition(Trial):
             if text.count(old) != 1:
                 raise BadEdit(fault(f"an 'old:' text is in {file} {text.count(old)} times in a crate without code"))
             if not definition_at(self.crate, file, text, text.find(old)):
-                raise BadEdit(fault(f"in {file} it stands in no definition"))
+                raise BadEdit(fault(f"in {file} it is in no definition"))
             texts[file] = text.replace(old, new)
         if not self.pairs:
             raise BadEdit(fault("it has no pair of 'old:' and 'new:' in a crate without code"))
@@ -463,7 +463,7 @@ def try_the_tool(folder):
         by_crate.setdefault(edit.crate, []).append(edit)
     verdicts = try_all(by_crate)
     believed = sum(right for _, right in verdicts)
-    print(f"{len(verdicts) - believed} edits that show nothing told as such, {believed} not")
+    print(f"{len(verdicts) - believed} edits that show nothing reported as such, {believed} not")
     return 0 if verdicts and not believed else 1
 
 

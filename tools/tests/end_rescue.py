@@ -1,12 +1,12 @@
 #!/usr/bin/env python3
-"""Ends the rescuing program by KILL, many times, and looks at OUT.
+"""Ends the rescuing program by KILL, many times, and checks OUT.
 
 end_rescue.py ROUNDS IN RESCUED COMMAND...    COMMAND is what runs the program, up to its three arguments; IN is a damaged file, RESCUED what
                                               is to be rescued of it
 
-Half of the rounds are ended after a time that is drawn at random from as long as a run takes, the others as soon as the new file stands
+Half of the rounds are ended after a random part of the time that a run takes, the others as soon as the new file is
 beside OUT, or a little later: while the program writes, flushes and renames. In each second round IN is OUT. While a round runs and after
-it OUT must be byte for byte the old file or the new one. The exit status is 1 if it ever was not, or where the rounds show nothing: where
+it OUT must be byte for byte the old file or the new one. The exit status is 1 if it ever was not, or if the rounds show nothing:
 none was ended before OUT was replaced with a part beside it, or none was ended after.
 """
 import os
@@ -84,7 +84,7 @@ def main(words):
             return 1
         for number in range(int(words[0])):
             rounds.run(room, number, longest)
-    print(f"end_rescue: ended {words[0]} times: OUT was the old file {rounds.old} times, the new one {rounds.new} times; the new one stood "
+    print(f"end_rescue: ended {words[0]} times: OUT was the old file {rounds.old} times, the new one {rounds.new} times; the new one was "
           f"beside it {rounds.beside} times, not yet whole {rounds.parts} times; {rounds.looks} looks meanwhile")
     if not rounds.beside or not rounds.new:
         print("end_rescue: the rounds show nothing: none was ended with the new file beside OUT, or none after")

@@ -301,8 +301,8 @@ IN_TABLES = [
     cases("cases", "a | check | (Break pad=1)", ":1: Break: there is no field pad"),
     cases("cases", "# heading\n\na | chek | (Break)", ":3: no job is called chek"),
     cases("cases", "# heading\na | check colour | (Break)", ":2: no wish is called colour"),
-    cases("cases", "a | check names=x | (Break)", ":1: x is not a number"), cases("cases", "a", ":1: a case is: label | what is asked | tree"),
-    cases("cases", "a | check | (Break) | b", ":1: a case is: label | what is asked | tree"),
+    cases("cases", "a | check names=x | (Break)", ":1: x is not a number"), cases("cases", "a", ":1: a case is: label | request | tree"),
+    cases("cases", "a | check | (Break) | b", ":1: a case is: label | request | tree"),
     cases("cases", "a | check bits=12x | (Break)", ":1: 12x is not made of digits"),
     cases("cases", "# heading\na | check | (Brake)", ":2: no kind is called Brake"),
     cases("cases", "a | format colour=1 | text", ":1: there is no such word for format: colour=1"),
@@ -315,7 +315,7 @@ IN_TABLES = [
     Planted("a text that is not there", line("a | | (Break)"), "^no.txt: ", ("file", "no.txt", "out")),
     Planted("a folder as the text", line("a | | (Break)"), r"^\.: ", ("file", ".", "out")),
     Planted("a folder that is not there", line("a | | (Break)"), "^no/out: ", ("filecases", "t.txt", "no/out")),
-    Planted("too few words", line("a | | (Break)"), "^Data of the gate's programs", ("file", "t.txt")),
+    Planted("too few words", line("a | | (Break)"), "^Makes the data of the gate's programs", ("file", "t.txt")),
     Planted("data that is not what its text gives", all_of(line("a | | (Break)"), created("out", "other")), "^out: is NOT what comes of t.txt", ("filecases", "t.txt", "out", "--check")),
     Planted("data that is not there", line("a | | (Break)"), "^out: is NOT what comes of t.txt", ("filecases", "t.txt", "out", "--check")),
     Planted("a sample", byte_changed("samples/example.table", 30), "^samples/example.table: is NOT what comes of samples/example.txt", ("files", "samples/example.txt", "--check")),
@@ -427,7 +427,7 @@ IN_PROMISES = [
     Planted("an answer that is '&mut'", changed(source("fields"), r"^(pub fn half\([^)]*\) -> )\w+", r"\1&mut u32"), "fields::half: its answer can be changed later"),
     Planted("a parameter that is named as the theorem's answer", changed(source("fields"), r"^(pub fn half\()(\w+)", r"\1r"), "fields::half: a parameter is named r or s"),
     Planted("a public function that answers nothing", added(source("fields"), "// Does nothing.\npub fn idle(n: u32) {\n}\n"),
-            "fields::idle: it answers nothing and is lent nothing that it may change"),
+            "fields::idle: it returns nothing and changes no buffer"),
     Planted("a promise that cites a proof", all_of(
         changed(source("targets"), "targeted r ≡ targetOf", "targeted r ≡ planted"),
         changed(source("targets"), "^ghost use ", "ghost use Rattle.targets.proofs.Promises.{planted};\nghost use ")),
@@ -467,9 +467,9 @@ IN_PROMISES = [
     Planted("a function that does not begin its line", added(source("blocks"), "#[inline] pub " + MADE_UP), "not read: blocks/src/lib.rt has a function that does not begin"),
     Planted("a trait", added(source("blocks"), "trait Made {\n}\n"), "not read: blocks/src/lib.rt has a trait or a macro"),
     Planted("a bracket that is open", added(source("blocks"), "pub fn made_up(n: u32) -> u32 {\n    (n\n"), "not read: a bracket that is never closed"),
-    Planted("words behind the parameters", added(source("blocks"), "pub fn made_up(n: u32) where T {\n}\n"), "not read: made_up: what stands behind its parameters"),
+    Planted("words behind the parameters", added(source("blocks"), "pub fn made_up(n: u32) where T {\n}\n"), "not read: made_up: the text after its parameters"),
     Planted("words behind a contract", added(source("blocks"), "pub fn made_up(n: u32) -> u32\n    ensures { λ r. ⌜ r ≡ n ⌝ }\n    decreases { n }\n{\n    n\n}\n"),
-            "not read: made_up: what stands between its contract and its body"),
+            "not read: made_up: the text between its contract and its body"),
     Planted("a parameter that is a pattern", added(source("blocks"), "pub fn made_up((a, b): Pair) -> u32 {\n    a\n}\n"), r"not read: a parameter '\(a, b\): Pair'"),
     Planted("a type that is generic", changed(source("fields"), r"^(pub fn half\([^)]*)\)", r"\1, more: Vec<u8>)"), "fields::half: not read: the type Vec<u8>"),
     Planted("a clause without a fact", changed(source("fields"), r"(?<=ensures \{ )λ r\. ⌜ r ≡ field 2 ([^⌝]*)⌝", r"r ≡ field 2 \1"), "fields::half: not read: the clause '.*' is no ⌜fact⌝"),
@@ -481,23 +481,23 @@ IN_PROMISES = [
     Planted("the place of the generated part", changed("docs/PROMISES.md", "^<!-- end of the generated part -->", "<!-- end -->"), "docs/PROMISES.md lacks the lines"),
     # wrong answers
     Planted("the wrong answers of a function moved to one that it calls", moved_edits("table", "check", "src/depth.rt", "if MOST_DEPTH < here {", "if 65 < here {"),
-            "table::check: no wrong answer .* stands in its body"),
+            "table::check: no wrong answer .* is in its body"),
     Planted("all wrong answers of a function but one deleted", removed("crates/fields/wrong/half_high_byte_first.edit"), "fields::half: it has fewer than two wrong answers"),
     Planted("a wrong answer in a contract", created("crates/fields/wrong/planted.edit", "file: src/lib.rt\nold: r ≡ field 2 (\nnew: r ≡ field 4 (\n"),
-            "fields: a text that the wrong answer planted changes stands in no function's body"),
+            "fields: a text that the wrong answer planted changes is in no function's body"),
     Planted("a wrong answer in a function that nothing calls", all_of(
         added(source("fields"), "fn lonely(n: u32) -> u32 {\n    n + 77\n}\n"), edited("fields", "src/lib.rt", "n + 77", "n + 78")),
-            "fields: the wrong answer planted stands in nothing that a public function calls"),
+            "fields: the wrong answer planted is in nothing that a public function calls"),
     Planted("the wrong answers of a crate without code deleted but for one", deleted("audited", 1), "audited: it has no code, and fewer than two wrong answers"),
     Planted("a wrong answer of a crate without code in a comment", edited("demand3", "specs/Cut.antt", "-- the parts joined", "-- the parts"),
-            "demand3: a text that the wrong answer planted changes stands in no definition"),
+            "demand3: a text that the wrong answer planted changes is in no definition"),
     Planted("a wrong answer of a crate without code in an import", edited("demand3", "specs/Cut.antt", "use mathlib.Core.Path.{_≡_", "use mathlib.Core.Path.{refl, _≡_"),
-            "demand3: a text that the wrong answer planted changes stands in no definition"),
+            "demand3: a text that the wrong answer planted changes is in no definition"),
     Planted("a wrong answer of a crate without code in a theorem",
             edited("demand3", "proofs/Demand3.antt", "holders (cutRanges c) i ≡ 1", "holders (cutRanges c) i ≡ 2"),
-            "demand3: a text that the wrong answer planted changes stands in no definition"),
+            "demand3: a text that the wrong answer planted changes is in no definition"),
     Planted("a wrong answer of `statements` in a proof", edited("statements", "proofs/Examples.antt", "how-many = theorem.how-many", "how-many = theorem.examples"),
-            "statements: a text that the wrong answer planted changes stands in no definition"),
+            "statements: a text that the wrong answer planted changes is in no definition"),
     Planted("a wrong answer of `statements` not in the document",
             edited("statements", "proofs/Examples.antt", "pub how-many : length table ≡ 14", "pub how-many : length table ≡ 13"),
             "docs/PROMISES.md lacks a line that the sources give .*planted"),
@@ -554,14 +554,25 @@ IN_COUNTED = [
                                             for path in [room.root / "README.md", *(room.root / "docs").rglob("*.md")]], "no document has a number that is counted"),
 ]
 
+STEPS = "tools/tests/faults.list"
+FIRST_OF_STEPS = r"^(header_bind_exchanged: [^\n]*\nstep: )prototypes"
+IN_STEPS = [
+    Planted("a fault whose text is not there", changed(HEADER, r"size_t call, size_t def,", "size_t def, size_t call,"), r"header_bind_exchanged: its text is in include/starlark\.h 0 times"),
+    Planted("a fault of a file that is gone", changed(STEPS, r"^(header_bind_exchanged: .*?file: include/)", r"\1nowhere/"), "header_bind_exchanged: there is no include/nowhere/"),
+    Planted("a fault without an edit", added(STEPS, "meadow: words alone\nstep: prototypes\n"), "meadow: it has no edit"),
+    Planted("a step that is not there", changed(STEPS, FIRST_OF_STEPS, r"\1nowhere"), "header_bind_exchanged: there is no step nowhere"),
+    Planted("a fault twice", changed(STEPS, r"^(header_bind_exchanged: .*?\n\n)", r"\1\1"), "header_bind_exchanged is listed twice"),
+    Planted("no fault", nothing, "the list is empty", ("--check", "nowhere")),
+]
+
 LIST = "oracle/port-faults.list"
 IN_FAULTS = [
-    Planted("a fault twice", changed(LIST, r"^(fields/half_factor[^\n]*\n)", r"\1\1"), "fields/half_factor stands twice"),
+    Planted("a fault twice", changed(LIST, r"^(fields/half_factor[^\n]*\n)", r"\1\1"), "fields/half_factor is listed twice"),
     Planted("another call", changed(LIST, r"\| call \w+", "| call nowhere"), "there is no call nowhere"),
-    Planted("a wrong answer that is not in the list", changed(LIST, r"^fields/half_factor[^\n]*\n", ""), "fields/half_factor is a wrong answer, and nothing says"),
+    Planted("a wrong answer that is not in the list", changed(LIST, r"^fields/half_factor[^\n]*\n", ""), "fields/half_factor is a wrong answer, and the list does not say"),
     Planted("an edit that is gone", removed("crates/fields/wrong/half_factor.edit"), "there is no edit fields/half_factor"),
     Planted("an edit whose text is not there", changed("crates/fields/wrong/half_factor.edit", r"^old: ", "old: x"), "fields/half_factor: its text is not there once"),
-    Planted("an edit without a pair", created("crates/fields/wrong/half_factor.edit", "Words alone.\n"), "fields/half_factor: it changes nothing"),
+    Planted("an edit without a pair", created("crates/fields/wrong/half_factor.edit", "Words alone.\n"), "fields/half_factor: it has no edit"),
     Planted("no such edit", nothing, "there is no such edit in the list", ("--check", "nowhere")),
 ]
 
@@ -580,6 +591,7 @@ CHECKS = [
     Check("statements_page.py", ("--check",), IN_STATEMENTS, WHOLE),
     Check("prototypes.py", (), IN_PROTOTYPES, WHOLE),
     Check("counted.py", (), IN_COUNTED, WHOLE),
+    Check("faults.py", ("--check",), IN_STEPS, WHOLE),
     Check("imports.py", (), IN_IMPORTS, FEW),
     Check("lines.py", (), IN_LINES, FEW),
     Check("tables.py", ("files", "samples/example.txt", "--check"), IN_TABLES, LISTED),

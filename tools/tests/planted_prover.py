@@ -140,7 +140,7 @@ IN_WRONG = [
     Planted("an edit with another call", edit(CODE + "old:     let next = at + 1;\nnew:     let next = at + 1; byte(b, at);\n"), "planted: BAD EDIT: fields::half does other steps than before"),
     Planted("a definition that is not there", edit(SPECS + "old: nowhere\nnew: b\n", "examples"), "planted: BAD EDIT: an 'old:' text is in specs/Table.antt 0 times in a crate without code"),
     Planted("an edit of a comment", all_of(added("crates/examples/specs/Table.antt", "-- meadow\n"), edit(SPECS + "old: -- meadow\nnew: -- field\n", "examples")),
-            "planted: BAD EDIT: in specs/Table.antt it stands in no definition"),
+            "planted: BAD EDIT: in specs/Table.antt it is in no definition"),
     Planted("an edit without a pair in a crate without code", edit("Words alone.\n", "examples"), "planted: BAD EDIT: it has no pair of 'old:' and 'new:' in a crate without code"),
     Planted("one edit that is refused", removed("crates/fields/wrong/half_factor.edit"), None),
 ]

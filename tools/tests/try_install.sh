@@ -3,7 +3,7 @@
 # header's link line, with the archive and with the shared library, and compares what the example prints with bindings/c/stdout. Loads the
 # installed Python package and runs the installed ducat, moved and without the repository. Then what tools/install must refuse.
 # STARLARK_LIB names another folder than target/native for the library.
-# Exit status: 0 all is as it must be; 1 something is not; 3 skipped: there is no C compiler.
+# Exit status: 0 as expected; 1 not as expected; 3 skipped: there is no C compiler.
 command -v cc >/dev/null 2>&1 || { echo "try_install: skipped for want of cc"; exit 3; }
 # shellcheck disable=SC2034
 try=try_install tool=tools/install
@@ -19,16 +19,16 @@ tried=$((tried + 1))
 for file in lib/libstarlark_checks.a "lib/$shared" include/starlark.h include/starlark_names.h lib/pkgconfig/starlark_checks.pc \
     lib/ducat/ducatmuffin/library.py lib/ducat/ducatmuffin/__init__.py; do
     [ -f "$prefix/$file" ] || fault "$file is not there"
-    grep -q "/a place/$file\$" "$room/told" || fault "$file is not told"
+    grep -q "/a place/$file\$" "$room/told" || fault "$file is not printed"
 done
 [ ! -f ducat ] || [ -x "$prefix/bin/ducat" ] || fault "bin/ducat is not there"
-[ "$(find "$prefix" -type f | sort)" = "$(sort "$room/told")" ] || fault "other files are there than are told: $(find "$prefix" -type f)"
+[ "$(find "$prefix" -type f | sort)" = "$(sort "$room/told")" ] || fault "other files are installed than are printed: $(find "$prefix" -type f)"
 cmp -s "$folder/libstarlark_checks.a" "$prefix/lib/libstarlark_checks.a" || fault "the archive is not the one that was built"
 cmp -s "$folder/libstarlark_checks.so" "$prefix/lib/$shared" || fault "the shared library is not the one that was built"
 tools/install "$prefix" >"$room/again" || fault "installing it again: exit status $?"
-cmp -s "$room/told" "$room/again" || fault "installing it again tells something else"
+cmp -s "$room/told" "$room/again" || fault "installing it again prints something else"
 
-# Compiles the example with the words behind the name, and runs it.
+# Compiles the example with the given words, and runs it.
 runs() {
     way=$1
     shift
@@ -73,8 +73,8 @@ if command -v pkg-config >/dev/null 2>&1; then
 fi
 loads "$room/moved"
 for header in starlark.h starlark_names.h; do
-    cc -std=c99 -Wall -Wextra -Werror -pedantic -fsyntax-only -x c "include/$header" || fault "$header is no C99"
-    ! command -v c++ >/dev/null 2>&1 || c++ -Wall -Wextra -Werror -pedantic -fsyntax-only -x c++ "include/$header" || fault "$header is no C++"
+    cc -std=c99 -Wall -Wextra -Werror -pedantic -fsyntax-only -x c "include/$header" || fault "$header is not C99"
+    ! command -v c++ >/dev/null 2>&1 || c++ -Wall -Wextra -Werror -pedantic -fsyntax-only -x c++ "include/$header" || fault "$header is not C++"
 done
 
 mkdir "$room/none"
@@ -102,4 +102,4 @@ tells 2 "" "install: $room/file/below cannot be written" "$room/file/below"
 mkdir -p "$room/taken/lib/libstarlark_checks.a/full"
 expect 2 /dev/null "install: $room/taken/lib/libstarlark_checks.a cannot be written" "$room/taken"
 
-[ "$faults" -eq 0 ] && echo "try_install: the library was installed, moved, compiled against, loaded and run, and $tried tries told what they must"
+[ "$faults" -eq 0 ] && echo "try_install: the library was installed, moved, compiled against, loaded and run, and $tried tries printed the expected line"

@@ -1,5 +1,5 @@
 #!/bin/sh
-# Runs tools/native-lib with a made-up kit whose rt proves two crates and refuses the third: each crate is told as it is proved, rt's last words
+# Runs tools/native-lib with a made-up kit whose rt proves two crates and refuses the third: each crate is reported when it is proved, rt's last words
 # are passed on, the exit status is 1, and no archive is made.
 # shellcheck disable=SC2034
 try=try_native tool=tools/native-lib
@@ -17,7 +17,7 @@ case \$1 in
 doc) echo "$room/kit/docs/START-HERE.md" ;;
 check | staticlib)
     printf '%s\n' 'fn base::f: proved' 'rt: base proved (5 s)' 'rt: middle proved (unchanged since it was last proved)' >&2
-    # what was told of the first two is there before rt ends
+    # the first two are reported before rt ends
     tries=0
     until [ "\$(grep -c 'crates\$' "$room/err")" -eq 2 ] || [ "\$tries" -eq 100 ]; do sleep 0.1; tries=\$((tries + 1)); done
     [ "\$tries" -lt 100 ] && echo 'rt: lower NOT PROVED (exit 1, 1 s)'
@@ -29,7 +29,7 @@ chmod +x "$room/bin/rt" "$own/bin/rattle"
 PATH=$room/bin:$PATH "$room/tools/native-lib" upper >"$room/out" 2>"$room/err"
 status=$?
 cat >"$room/expected" <<END
-native-lib: proving upper and what it stands on; from nothing this takes some minutes
+native-lib: proving upper and the crates that it uses; without earlier proofs this takes some minutes
 native-lib: base proved, 1 of 4 crates
 native-lib: middle proved, 2 of 4 crates
 fn base::f: proved
@@ -41,4 +41,4 @@ END
 [ ! -s "$room/out" ] || fault "printed $(cat "$room/out")"
 diff "$room/expected" "$room/err" || fault "said something else than expected"
 [ ! -e "$room/target/native/libupper.a" ] || fault "an archive was made of a crate that is not proved"
-[ "$faults" -eq 0 ] && echo "try_native: native-lib tells each crate while it proves, and makes nothing of what is not proved"
+[ "$faults" -eq 0 ] && echo "try_native: native-lib reports each crate while it proves, and compiles nothing that is not proved"

@@ -105,7 +105,7 @@ def rescued(room, words, source, lines, out, before=b"old", **more):
 def rescue(room):
     """tablerescue on the sample, with IN as OUT, on what it refuses, and on a file of three gigabytes."""
     lost, kept, take = ((SAMPLES / name).read_bytes() for name in ("lost.table", "lost.rescued", "take.table"))
-    told = (SAMPLES / "lost.told").read_text()
+    told = (SAMPLES / "lost.printed").read_text()
     rescued(room, "the sample", SAMPLES / "lost.table", told, kept)
     rescued(room, "IN as OUT", room / "out", told, kept, before=lost)
     rescued(room, "a whole file", SAMPLES / "take.table", "statements 3\nnodes 62\ndropped 0\nbytes 0\n", take)

@@ -1,5 +1,5 @@
 //! The functions of include/starlark.h, declared for Rust once. The crate has no link line: who uses it links an archive, a shared library or a
-//! stand-in. The header says what each function does and what the caller must see to; the crate `starlark-checks` is the safe wrapper.
+//! stand-in. The header describes what each function does and what the caller must ensure; the crate `starlark-checks` is the safe wrapper.
 #![no_std]
 
 /// The words that a function answers in.

@@ -376,7 +376,7 @@ fn show_figures(words: &str, input: &[u8]) {
 fn figures_of_files() {
     let script = def(vec![leaf(NORMAL, "a"), leaf(NO_ARGS, ""), leaf(NORMAL, "b")]);
     let mut file = vec![BEFORE; FILE_BYTES];
-    let size = script.table().write(&EXTENDED, &mut file).expect("the file is written");
+    let size = script.table().write(&EXTENDED, None, &mut file).expect("the file is written");
     let two = [&file[..size], &file[..size]].concat();
     show_figures("figures of two files", &two);
     show_figures("of no file", &[]);

@@ -65,7 +65,7 @@ fn accepted(job: impl FnOnce(&mut Words) -> u32, carries: bool) -> Result<Words,
     }
 }
 
-/// The nine dialect bytes of a zone at a setting, as they stand in their book: 95, 96, 97. Both books are always judged.
+/// The nine dialect bytes of a zone at a setting, a part of their book: 95, 96, 97. Both books are always checked.
 pub fn lookup<'a>(zone_book: &'a [u8], line_book: &'a [u8], zone: u32, setting: u32) -> Result<&'a [u8; DIALECT_BYTES], Refused> {
     let out = accepted(|out| interface::book_lookup(zone_book, line_book, zone, setting, out), true)?;
     let (found, at) = (if out[0] == 0 { zone_book } else { line_book }, out[1] as usize);

@@ -15,7 +15,7 @@ pub struct Error {
     pub node: Option<u32>,
 }
 
-/// The errors of a module: how many there are, and those that the lent list had room for, in order.
+/// The errors of a module: their number, and those that fit into the list, in order.
 #[derive(Clone, Copy, Debug, PartialEq, Eq)]
 pub struct Errors<'a> {
     pub total: u32,
@@ -43,7 +43,7 @@ impl<'a> Errors<'a> {
         Errors { total, words: &words[..stored * width], width }
     }
 
-    /// How many are stored: all of them, where the lent list is long enough.
+    /// The number of stored errors: all, if the list is long enough.
     pub fn stored(&self) -> usize {
         self.words.len() / self.width
     }

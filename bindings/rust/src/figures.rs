@@ -1,4 +1,4 @@
-//! Figures: counts over table files that stand one after another in one input.
+//! Figures: counts over the table files of one input, one after another.
 //!
 //! An empty input holds no file. Bytes after a file's last block begin the next file. A file that is refused ends the report: the files before it are
 //! counted, and the report has its number and the position of its first byte.
@@ -10,7 +10,7 @@
 //! let mut nodes = [0; 24];
 //! (nodes[0], nodes[16], nodes[18]) = (Kind::Break.into(), 1, 1);
 //! let mut file = [0; FILE_BYTES];
-//! let length = Table { nodes: &nodes, names: &[] }.write(&[], &mut file)?;
+//! let length = Table { nodes: &nodes, names: &[] }.write(&[], None, &mut file)?;
 //! let input = [&file[..length], &file[..length], &[0]].concat();
 //! let report = figures::report(&input);
 //! assert_eq!((report.figures.files, report.figures.error(Number::BreakMisplaced)), (2, Some(2)));

@@ -21,7 +21,7 @@ pub struct Formatted {
     pub enabled: bool,
 }
 
-/// The parts of a format text, in the buffers that were lent: two words for each, and the texts one after another.
+/// The parts of a format text, in the buffers of the caller: two words for each, and the texts one after another.
 #[derive(Clone, Copy, Debug, PartialEq, Eq)]
 pub struct Parts<'a> {
     words: &'a [u32],
@@ -94,7 +94,7 @@ fn wide(low: u32, high: u32) -> usize {
     (u64::from(high) << 32 | u64::from(low)) as usize
 }
 
-/// Where 63 stands.
+/// The place of 63.
 pub(crate) fn position(out: &[u32]) -> usize {
     wide(out[0], out[1])
 }
@@ -130,13 +130,13 @@ pub fn fstring_write(parts: &[Part], dialect: &[u8], text: &mut [u8]) -> Result<
 }
 
 /// The same of parts in words, as the C interface takes them: 5, 64, 7. A part is two words, 0 and the length of a text, or 1 (no conversion), 2
-/// (str), 3 (repr) and then 0; the texts stand one after another.
+/// (str), 3 (repr) and then 0; the texts follow each other.
 pub fn fstring_write_words(words: &[u32], texts: &[u8], dialect: &[u8], text: &mut [u8]) -> Result<Formatted, Refused> {
     let out = accepted(|out| interface::fstring_write(words, texts, dialect, text, out))?;
     Ok(Formatted { length: wide(out[0], out[1]), enabled: out[2] == 0 })
 }
 
-/// The parts of a format text: 63, 7. `words` is lent two for each part, `texts` the bytes of the texts; of a text of n bytes 2 n words and n bytes
+/// The parts of a format text: 63, 7. `words` needs two for each part, `texts` the bytes of the texts; of a text of n bytes 2 n words and n bytes
 /// are never too few, where no text part has 2^32 bytes or more. Text and doubled braces side by side are one part, and no part is [`Part::Str`].
 ///
 /// ```

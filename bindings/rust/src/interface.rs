@@ -1,5 +1,5 @@
 //! The C interface, called with slices. All that a call could break is kept by their types: a slice has its length, no pointer is null,
-//! and what is lent to be written overlaps nothing else. What is lent to be read may overlap: nothing is written there.
+//! and a buffer that is written overlaps no other. Buffers that are only read may overlap.
 
 use starlark_checks_raw::starlark_assignment;
 use starlark_checks_raw::starlark_audit;

@@ -1,7 +1,7 @@
 //! A safe wrapper of the proved checks: each job takes slices, and answers a value or why it refuses.
 //!
 //! Any bytes may come in. A job keeps nothing between calls and allocates nothing, but for the words that [`fstring_write`] makes of its parts.
-//! A job that refuses leaves the lent buffer as it was.
+//! A job that refuses leaves its buffer unchanged.
 //!
 //! What a job only reads may overlap: table, names, dialect and input may be parts of one slice. What it writes is borrowed `&mut`, so that
 //! the compiler rules out that it overlaps anything else.
@@ -94,8 +94,8 @@ pub struct Refused {
     pub at: At,
 }
 
-/// Where a refusal stands: nowhere, at a byte of a format text, at a node, or at a span of one. `file` is the node's source file number: the span is
-/// one in that script. `earlier` is for 11 and 22, and None for every other: the node of the first parameter or argument of the list that has the same name.
+/// The place of a refusal: nowhere, a byte of a format text, a node, or a node with its span. `file` is the node's source file number: the span is
+/// in that script. `earlier` is for 11 and 22, and None for every other: the node of the first parameter or argument of the list that has the same name.
 #[derive(Clone, Copy, Debug, PartialEq, Eq)]
 pub enum At {
     Nowhere,
@@ -115,7 +115,7 @@ pub struct Params {
     pub count: u32,
 }
 
-/// The arguments of an accepted call: how many, and the places of `*` and `**`, from 0.
+/// The arguments of an accepted call: the number of positional and named ones, and the indices of `*` and `**`, from 0.
 #[derive(Clone, Copy, Debug, PartialEq, Eq)]
 pub struct Call {
     pub positional: u32,
@@ -124,10 +124,10 @@ pub struct Call {
     pub star_star: Option<u32>,
 }
 
-/// The words that a job of the C interface answers in.
+/// The words of an answer of the C interface.
 pub const WORDS: usize = 12;
 
-/// The most nodes of a table, and so a mode or shape buffer of so many bytes is never too short.
+/// The most nodes of a table. A mode or shape buffer of this length is always long enough.
 pub const NODES: usize = 2_100;
 
 /// The bytes of a dialect.
@@ -145,19 +145,19 @@ pub const DEPTH: usize = 64;
 /// The entries of a written parameter list, marks counted: more are refused with 19.
 pub const PARAMETERS: usize = 48;
 
-/// A buffer of so many bytes is never too short for a table file.
+/// The most bytes of a table file. A buffer of this length is always long enough.
 pub const FILE_BYTES: usize = 59_904;
 
 /// No module has more errors: two for each node.
 pub const ERRORS: usize = 4_200;
 
-/// The words of an error of a module in a lent list: number, source file number, begin and end.
+/// The words of an error of a module in a list: number, source file number, begin and end.
 pub const ERROR_WORDS: usize = 4;
 
 /// No audit has more errors: four for each node.
 pub const AUDIT_ERRORS: usize = 8_400;
 
-/// The words of an error of an audit in a lent list: those of a module's, then the node.
+/// The words of an error of an audit in a list: those of a module's, then the node.
 pub const AUDIT_WORDS: usize = 5;
 
 /// How many counts figures have.
@@ -187,7 +187,7 @@ pub struct Namesake {
 }
 
 /// What is kept of a damaged table file: the bytes written, the statements and the nodes, how many nodes are dropped by the header's count, and
-/// how many bytes stand after the header's last block.
+/// the number of bytes after the last block that the header states.
 #[derive(Clone, Copy, Debug, PartialEq, Eq)]
 pub struct Rescued {
     pub bytes: usize,
@@ -212,8 +212,8 @@ pub enum Edition {
     Two = 2,
 }
 
-/// What a table file holds: so many nodes, `NODE_BYTES` each, so many name bytes, the dialect, if it has one, and the edition of the type rules, if it
-/// has that byte. `edition` is for [`Table::write`]; `effective_edition`, which is [`Edition::One`] where there is no byte, is for
+/// The contents of a table file: the number of nodes, `NODE_BYTES` each, the number of name bytes, the dialect, if it has one, and the edition of the
+/// type rules, if it has that byte. `edition` is for [`Table::write`]; `effective_edition`, which is [`Edition::One`] if there is no byte, is for
 /// [`Table::type_shape`] and [`Table::audit`].
 #[derive(Clone, Copy, Debug, PartialEq, Eq)]
 pub struct Held {
@@ -325,7 +325,7 @@ impl Table<'_> {
         accepted(|out| interface::type_shape(self, dialect, edition.into(), node, shapes, out)).map(|_| ())
     }
 
-    /// The errors that the module has under a dialect (nine bytes, or none for Extended). `errors` is lent [`ERROR_WORDS`] words for each; the
+    /// The errors that the module has under a dialect (nine bytes, or none for Extended). `errors` needs [`ERROR_WORDS`] words for each; the
     /// first that fit whole are stored.
     ///
     /// ```
@@ -345,7 +345,7 @@ impl Table<'_> {
     }
 
     /// The errors that every job on every node that it fits has under a dialect (nine bytes, or none for Extended) and an edition of the type rules.
-    /// `errors` is lent [`AUDIT_WORDS`] words for each; the first that fit whole are stored.
+    /// `errors` needs [`AUDIT_WORDS`] words for each; those that fit completely are stored.
     pub fn audit<'a>(self, dialect: &[u8], edition: Edition, errors: &'a mut [u32]) -> Result<Errors<'a>, Refused> {
         let out = accepted(|out| interface::audit(self, dialect, edition.into(), errors, out))?;
         Ok(Errors::of_audit(out[0], errors))
@@ -377,7 +377,7 @@ pub fn read(file: &[u8], table: &mut [u8], names: &mut [u8]) -> Result<Held, Ref
     Ok(Held { nodes: out[0] as usize, name_bytes: out[1] as usize, dialect, edition: stands, effective_edition: holds })
 }
 
-/// The errors of the module of a table file, under the dialect that it holds: 70 to 75, 3 to 5. `errors` is lent as by [`Table::module`].
+/// The errors of the module of a table file, under the dialect of the file: 70 to 75, 3 to 5. `errors` is as in [`Table::module`].
 pub fn check_file<'a>(file: &[u8], errors: &'a mut [u32]) -> Result<Listed<'a>, Refused> {
     let out = accepted(|out| interface::check_file(file, errors, out))?;
     Ok(Listed { errors: Errors::of_module(out[0], errors), nodes: out[1] })

@@ -1,4 +1,4 @@
-//! Numbers and kinds as Rust has them: from and to what stands in a table or a list, and in words.
+//! Numbers and kinds as Rust enums: conversions from and to the numbers in a table or a list, and words.
 
 use std::error::Error;
 use std::fmt;
@@ -15,7 +15,7 @@ use crate::Number;
 use crate::Refused;
 use crate::Shape;
 
-/// What a record stands for.
+/// The class of a record.
 #[derive(Clone, Copy, Debug, PartialEq, Eq, PartialOrd, Ord, Hash)]
 pub enum Class {
     Statement,
@@ -28,19 +28,19 @@ pub enum Class {
 #[derive(Clone, Copy, Debug, PartialEq, Eq)]
 pub struct UnknownNumber(pub u32);
 
-/// A byte that is no kind of records.
+/// A byte that is not a kind of records.
 #[derive(Clone, Copy, Debug, PartialEq, Eq)]
 pub struct UnknownKind(pub u8);
 
-/// A byte that is no mode of a parameter.
+/// A byte that is not a mode of a parameter.
 #[derive(Clone, Copy, Debug, PartialEq, Eq)]
 pub struct UnknownMode(pub u8);
 
-/// A number that is no edition of the type rules.
+/// A number that is not an edition of the type rules.
 #[derive(Clone, Copy, Debug, PartialEq, Eq)]
 pub struct UnknownEdition(pub u32);
 
-/// A byte that is no shape of a type.
+/// A byte that is not a shape of a type.
 #[derive(Clone, Copy, Debug, PartialEq, Eq)]
 pub struct UnknownShape(pub u8);
 
@@ -67,7 +67,7 @@ impl From<Number> for u32 {
     }
 }
 
-/// A word of a list of errors, or what a job of the C interface returns. 0 is no number: it is no refusal.
+/// A word of a list of errors, or what a job of the C interface returns. 0 is not a number: it means accepted.
 ///
 /// ```
 /// use starlark_checks::{Number, UnknownNumber};
@@ -183,19 +183,19 @@ impl TryFrom<u32> for Edition {
 
 impl fmt::Display for UnknownEdition {
     fn fmt(&self, f: &mut fmt::Formatter) -> fmt::Result {
-        write!(f, "{} is no edition of the type rules", self.0)
+        write!(f, "{} is not an edition of the type rules", self.0)
     }
 }
 
 impl fmt::Display for UnknownMode {
     fn fmt(&self, f: &mut fmt::Formatter) -> fmt::Result {
-        write!(f, "{} is no mode of a parameter", self.0)
+        write!(f, "{} is not a mode of a parameter", self.0)
     }
 }
 
 impl fmt::Display for UnknownShape {
     fn fmt(&self, f: &mut fmt::Formatter) -> fmt::Result {
-        write!(f, "{} is no shape of a type", self.0)
+        write!(f, "{} is not a shape of a type", self.0)
     }
 }
 
@@ -207,11 +207,11 @@ impl fmt::Display for UnknownNumber {
 
 impl fmt::Display for UnknownKind {
     fn fmt(&self, f: &mut fmt::Formatter) -> fmt::Result {
-        write!(f, "{} is no kind of records", self.0)
+        write!(f, "{} is not a kind of records", self.0)
     }
 }
 
-/// As `11: a parameter has the name of an earlier one (node 3, file 1, bytes 30 to 37; the name stands first at node 1)`.
+/// As `11: a parameter has the name of an earlier one (node 3, file 1, bytes 30 to 37; the name is used first at node 1)`.
 impl fmt::Display for Refused {
     fn fmt(&self, f: &mut fmt::Formatter) -> fmt::Result {
         write!(f, "{}", self.number)?;
@@ -221,7 +221,7 @@ impl fmt::Display for Refused {
             At::Node(node) => write!(f, " (node {node})"),
             At::Span { node, file, begin, end, earlier: None } => write!(f, " (node {node}, file {file}, bytes {begin} to {end})"),
             At::Span { node, file, begin, end, earlier: Some(first) } => {
-                write!(f, " (node {node}, file {file}, bytes {begin} to {end}; the name stands first at node {first})")
+                write!(f, " (node {node}, file {file}, bytes {begin} to {end}; the name is used first at node {first})")
             }
         }
     }

@@ -154,21 +154,22 @@ type-role AsTarget e = never (cc)
 type-role AsType e = refl
 type-role Plain e = never (cc)
 
--- LAW: the targets among the children of a record, kind by kind
-no-target-after : (ks : Forest) → roled isTarget Nowhere ks ≡ []
+-- children without a role are none that a test wants
+none-after : (test : Role → Bool) → test Plain ≡ false → (ks : Forest) → roled test Nowhere ks ≡ []
 unfolding roled
-no-target-after none = refl
-no-target-after (t then ts) = no-target-after ts
+none-after test plain none = refl
+none-after test plain (t then ts) = rw plain (none-after test plain ts)
 
+-- LAW: the targets among the children of a record, kind by kind
 target-first : (ks : Forest) → firstOf ks ≡ roled isTarget TargetFirst ks
 unfolding roled
 target-first none = refl
-target-first (t then ts) = rw (no-target-after ts) refl
+target-first (t then ts) = rw (none-after isTarget refl ts) refl
 
 no-target-type : (ks : Forest) → roled isTarget TypeFirst ks ≡ []
 unfolding roled
 no-target-type none = refl
-no-target-type (t then ts) = no-target-after ts
+no-target-type (t then ts) = none-after isTarget refl ts
 
 no-target-second : (ks : Forest) → roled isTarget TypeSecond ks ≡ []
 unfolding roled
@@ -189,7 +190,7 @@ no-target-return (t then ts) = go (eqb (classOf (kindIn t)) expression) (no-targ
 no-target-if : (b : Bool) (roles : Roles) (ks : Forest) → roled isTarget roles ks ≡ []
     → [] ≡ roled isTarget (rolesIf b roles) ks
 no-target-if true roles ks e = sym e
-no-target-if false roles ks e = sym (no-target-after ks)
+no-target-if false roles ks e = sym (none-after isTarget refl ks)
 
 targets-are : (k d : ℕ) (ks : Forest) → targetsOf k d ks ≡ roled isTarget (rolesOf k d) ks
 unfolding targetsOf rolesOf
@@ -207,23 +208,18 @@ targets-are k d ks = go (eqb k kindFor) (eqb k kindDef) (eqb k kindAssign || eqb
     go false false true e f = no-target-if (eqb d 1) TypeSecond ks (no-target-second ks)
     go false false false true f = no-target-if (eqb d 1 || eqb d 3) TypeFirst ks (no-target-type ks)
     go false false false false true = no-target-if (eqb d 1) TypeFirst ks (no-target-type ks)
-    go false false false false false = sym (no-target-after ks)
+    go false false false false false = sym (none-after isTarget refl ks)
 
 -- LAW: the types among the children of a record, kind by kind
-no-type-after : (ks : Forest) → roled isType Nowhere ks ≡ []
-unfolding roled
-no-type-after none = refl
-no-type-after (t then ts) = no-type-after ts
-
 no-type-target : (ks : Forest) → roled isType TargetFirst ks ≡ []
 unfolding roled
 no-type-target none = refl
-no-type-target (t then ts) = no-type-after ts
+no-type-target (t then ts) = none-after isType refl ts
 
 type-first : (ks : Forest) → firstOf ks ≡ roled isType TypeFirst ks
 unfolding roled
 type-first none = refl
-type-first (t then ts) = rw (no-type-after ts) refl
+type-first (t then ts) = rw (none-after isType refl ts) refl
 
 type-second : (ks : Forest) → secondOf ks ≡ roled isType TypeSecond ks
 unfolding roled
@@ -245,7 +241,7 @@ type-return (t then ts) = go (eqb (classOf (kindIn t)) expression) (type-return 
 type-if : (b : Bool) (l : List Tree) (roles : Roles) (ks : Forest) → l ≡ roled isType roles ks
     → ifTyped b l ≡ roled isType (rolesIf b roles) ks
 type-if true l roles ks e = e
-type-if false l roles ks e = sym (no-type-after ks)
+type-if false l roles ks e = sym (none-after isType refl ks)
 
 types-are : (k d : ℕ) (ks : Forest) → typesOf k d ks ≡ roled isType (rolesOf k d) ks
 unfolding typesOf rolesOf
@@ -264,7 +260,7 @@ types-are k d ks = by-for (eqb k kindFor) refl
     others false true e f = type-if (eqb d 1) (secondOf ks) TypeSecond ks (type-second ks)
     others false false true f = type-if (eqb d 1 || eqb d 3) (firstOf ks) TypeFirst ks (type-first ks)
     others false false false true = type-if (eqb d 1) (firstOf ks) TypeFirst ks (type-first ks)
-    others false false false false = sym (no-type-after ks)
+    others false false false false = sym (none-after isType refl ks)
 
     by-for : (a : Bool) → eqb k kindFor ≡ a → typesOf k d ks ≡ roled isType (rolesOf k d) ks
     by-for true h = let is : k ≡ kindFor = eqb-true k kindFor h in rw is (sym (no-type-target ks))
@@ -323,9 +319,9 @@ module _ (t names bytes : List ℕ) (n : ℕ) where
       let these : Each (λ (r : Node). Fitting t names (r .at)) (rootsIn trees) = rw (every-node t) fit in
       let nodes = all-roots (λ (r : Node). Fitting t names (r .at)) trees these in
       let as-target = back isTarget targetsOf targets-are Target Nowhere (forest 0 t)
-      (rw (no-target-after (forest 0 t)) tt) targets in
+      (rw (none-after isTarget refl (forest 0 t)) tt) targets in
       let as-type = back isType typesOf types-are Typed Nowhere (forest 0 t)
-      (rw (no-type-after (forest 0 t)) tt) types in
+      (rw (none-after isType refl (forest 0 t)) tt) types in
       let roles = all-join {P = AsTargets} {Q = AsTypes} {R = λ p. AsTargets p × AsTypes p} (λ p a b. (a, b)) trees
       as-target as-type in
       passes-zero t names bytes n known e (all-join {Q = λ p. AsTargets p × AsTypes p}

@@ -65,7 +65,7 @@ use Rattle.audited.specs.Checked.{Each}
 use Rattle.audited.specs.Files.{FileThere}
 
 module _ (t : List ℕ) where
-  -- a node with the number of its record; errors that have it
+  -- a node with the source file number of its record; errors with that number
   abbrev Here : Node → Type 0
   Here r = r .file ≡ fileAt t (r .at)
 
@@ -179,7 +179,7 @@ module _ (t : List ℕ) where
     module-at us h =
         both («visit_stmt» d names atTop us) («visit_expr» d names us) (stmts-at atTop us h) (exprs-at us h)
 
-    -- what the jobs refuse
+    -- the refusals of the jobs
     answer-at : (a : Answer) → Told Here a → Errs (answerErrors a)
     answer-at (accepted vs) h = tt
     answer-at (refused n vs) h =
@@ -209,7 +209,7 @@ module _ (t : List ℕ) where
         (told-type Here edition names (d .«enable_types») u h)
     role-at edition Plain u h = tt
 
-    -- every tree in its place has such nodes
+    -- every tree that the audit visits has such nodes
     abbrev Trees : List Placed → Type 0
     Trees ps = Each (λ (p : Placed). All Here (nodesOf (p .tree))) ps
 
@@ -261,7 +261,8 @@ module _ (t : List ℕ) where
   forest-here : All Here (nodes (forest 0 t))
   forest-here = rw (nodes-records 0 t) (records-here (length t / 24) 0)
 
-  -- THEOREM: an error from 10 on of the module pass, and of the audit, has the number of the record that it names
+  -- THEOREM: an error of the module pass or of the audit with a number from 10 on has the source file number of the
+  -- record that it names
   pub module-filed : (names bytes : List ℕ) → Errs (errorsOf t names bytes)
   unfolding errorsOf
   module-filed names bytes = go (givenOf t names bytes)

@@ -49,7 +49,7 @@ use Rattle.audited.proofs.Everywhere.{either, none-both, both-none}
 use Rattle.audited.proofs.Nodes.{Here}
 use Rattle.audited.proofs.Roled.{Fits, Roled}
 
--- an answer has no error exactly where it is accepted; the same of the outcome of a parameter list
+-- an answer has no error exactly if it is accepted; the same for the outcome of a parameter list
 quiet-accepted : (a : Answer) → answerErrors a ≡ [] → isAccepted a ≡ true
 quiet-accepted (accepted vs) e = refl
 quiet-accepted (refused n vs) e = never (cc)
@@ -70,7 +70,7 @@ list-quiet (def.refused n r) e = never (cc)
 list-quiet (def.repeated i r) e = never (cc)
 list-quiet (def.internal k r) e = never (cc)
 
--- the kinds of three jobs are apart
+-- no kind fits two of the three jobs
 call-no-list : (k : ℕ) → wants Call k ≡ true → wants Parameters k ≡ false
 unfolding wants
 call-no-list k h = rw (eqb-true k kindCall h) refl
@@ -96,7 +96,7 @@ module _ (names : List ℕ) (tree : Tree) where
   unfolding kindErrors
   assign-is h = let apart = assign-apart (kindIn tree) h in rw (apart .0, apart .1, h) refl
 
-  -- a tree of a kind is told nothing where each job of it is
+  -- a tree has no error by its kind if each job that fits it has none
   kind-quiet : (wants Parameters (kindIn tree) ≡ true
       → unpackError (told (limited (rootIn tree) (writtenIn names tree))) ≡ [])
       → (wants Call (kindIn tree) ≡ true → answerErrors (callAnswer names tree) ≡ [])

@@ -12,7 +12,7 @@ use lib.Seq.{take-all, take-take, drop-drop, length-take-le}
 use Rattle.fields.proofs.Basics.{drop-take}
 use Rattle.forest.specs.Forest.{sizeOf, nodeOf, spanOf, kidsOf, restOf, treeOf, forest}
 use Rattle.forest.proofs.Stretch.{forest-none, forest-tree, node-take, size-take, record-or-none}
-use Rattle.soundness.specs.Sound.{Context, contextOf}
+use Rattle.soundness.specs.Sound.{contextOf}
 use Rattle.soundness.proofs.SoundTables.{Sound, sound-size, sound-kids, sound-rest, sound-table}
 use Rattle.table.specs.Check.{stretchOf}
 use Rattle.table.proofs.Checking.{Clean, stretch-is}
@@ -102,29 +102,54 @@ module _ {t names : List ℕ} (c : Clean t names) where
       rw (forest-tree i bs big) (all-both (Here t) (placedTree role (treeOf i bs))
       (placed (rolesAfter roles) (forest (i + spanOf bs / 24) (restOf bs))) first rest)
 
+  -- a sound part that begins with a record: the node at i has sizeAt i records, and the records below it and after it
+  -- are sound parts again
+  abbrev sizeAt : ℕ → ℕ
+  sizeAt i = sizeOf (drop (24 * i) t)
+
+  module _ (i m : ℕ) (room : i + m ≤ length t / 24) (sound : Sound (contextOf t names) i (part t i m))
+      (big : 24 ≤ length (part t i m)) where
+    size-fits : (1 ≤ sizeAt i) × (sizeAt i ≤ m)
+    size-fits =
+        let long = part-long i m room in
+        let same : sizeOf (part t i m) ≡ sizeAt i = size-take (24 * m) (drop (24 * i) t) (omega arith) in
+        let fits = sound-size (contextOf t names) i (part t i m) sound big in
+        (omega (arith, fits, same), omega (arith, fits, same))
+
+    kids-are : kidsOf (part t i m) ≡ part t (i + 1) (sizeAt i - 1)
+    kids-are = kids-at i m room refl (size-fits .0) (size-fits .1)
+
+    rest-is : restOf (part t i m) ≡ part t (i + sizeAt i) (m - sizeAt i)
+    rest-is = rest-at i m room refl (size-fits .0) (size-fits .1)
+
+    next-is : i + spanOf (part t i m) / 24 ≡ i + sizeAt i
+    next-is = omega (arith, part-span i m room refl (size-fits .0) (size-fits .1))
+
+    kids-sound : Sound (contextOf t names) (i + 1) (part t (i + 1) (sizeAt i - 1))
+    kids-sound = rw kids-are at (sound-kids (contextOf t names) i (part t i m) sound big)
+
+    rest-sound : Sound (contextOf t names) (i + sizeAt i) (part t (i + sizeAt i) (m - sizeAt i))
+    rest-sound = rw (rest-is, next-is) at (sound-rest (contextOf t names) i (part t i m) sound big)
+
+    first-here : (role : Role) → Here t (placedAs role (treeOf i (part t i m)))
+    first-here role = record {
+      inside = omega (arith, size-fits);
+      same = tree-at i m room refl (size-fits .0) (size-fits .1);
+    }
+
   all-in : (k : ℕ) (roles : Roles) (i m : ℕ) → m ≤ k → i + m ≤ length t / 24
       → Sound (contextOf t names) i (part t i m) → All (Here t) (placed roles (forest i (part t i m)))
   all-in zero roles i m hk room sound = all-none roles i (part t i m) (omega (arith, part-long i m room))
   all-in (suc k) roles i m hk room sound =
       record-or-none (part t i m) (all-none roles i (part t i m)) λ big.
-      let bs : List ℕ = part t i m in
-      let x : (ℕ → Context) = contextOf t names in
-      let long = part-long i m room in
-      let s : ℕ = sizeOf (drop (24 * i) t) in
-      let same : sizeOf bs ≡ s = size-take (24 * m) (drop (24 * i) t) (omega arith) in
-      let fits = sound-size x i bs sound big in
-      let least : 1 ≤ s = omega (arith, fits, same) in
-      let most : s ≤ m = omega (arith, fits, same) in
-      let after : i + spanOf bs / 24 ≡ i + s = omega (arith, part-span i m room refl least most) in
-      let kids-are = kids-at i m room refl least most in
-      let rest-is = rest-at i m room refl least most in
-      let below : Roles = rolesOf (nodeOf i bs .kind) (nodeOf i bs .detail) in
-      let kids = all-in k below (i + 1) (s - 1) (omega arith) (omega arith)
-      (rw kids-are at (sound-kids x i bs sound big)) in
-      let rest = all-in k (rolesAfter roles) (i + s) (m - s) (omega arith) (omega arith)
-      (rw (rest-is, after) at (sound-rest x i bs sound big)) in
-      all-cut roles i bs big (record { inside = omega arith; same = tree-at i m room refl least most })
-      (rw kids-are kids) (rw (rest-is, after) rest)
+      let fits = size-fits i m room sound big in
+      let below : Roles = rolesOf (nodeOf i (part t i m) .kind) (nodeOf i (part t i m) .detail) in
+      let kids = all-in k below (i + 1) (sizeAt i - 1) (omega (arith, fits)) (omega (arith, fits))
+      (kids-sound i m room sound big) in
+      let rest = all-in k (rolesAfter roles) (i + sizeAt i) (m - sizeAt i) (omega (arith, fits)) (omega (arith, fits))
+      (rest-sound i m room sound big) in
+      all-cut roles i (part t i m) big (first-here i m room sound big _) (rw (kids-are i m room sound big) kids)
+      (rw (rest-is i m room sound big, next-is i m room sound big) rest)
 
   -- LAW: every tree of a sound table that the audit visits is the tree of a node
   pub all-here : (roles : Roles) → All (Here t) (placed roles (forest 0 t))

@@ -105,37 +105,44 @@ module _ (cs : List ℕ) (k d : ℕ) (are : cs ≡ wanted (kindOf k .kids d) (le
   unfolding kindOf rowIn wanted
   kwargs-fits h d-is = first-of cs _ are (rw (h, d-is) refl)
 
-  kids-fit : AllFit (rolesOf k d) cs
-  unfolding rolesOf
-  kids-fit =
-      go (eqb k kindFor) refl (eqb k kindDef) (eqb k kindAssign || eqb k kindAssignModify) refl (eqb k kindNormal) refl
-      (eqb k kindArgsParam || eqb k kindKwArgsParam) refl
-    where
-      one : eqb d 1 ≡ true → d ≡ 1
-      one e = eqb-true d 1 e
+  one : eqb d 1 ≡ true → d ≡ 1
+  one e = eqb-true d 1 e
 
-      go : (f : Bool) → eqb k kindFor ≡ f → (e a : Bool) → (eqb k kindAssign || eqb k kindAssignModify) ≡ a → (n : Bool)
-          → eqb k kindNormal ≡ n → (v : Bool) → (eqb k kindArgsParam || eqb k kindKwArgsParam) ≡ v
-          → AllFit (if' f (λ _. TargetFirst) (λ _.
-          if' e (λ _. ifTyped (eqb d 1) ReturnType) (λ _.
-          if' a (λ _. ifTyped (eqb d 1) TypeSecond) (λ _.
-          if' n (λ _. ifTyped (eqb d 1 || eqb d 3) TypeFirst) (λ _.
-          if' v (λ _. ifTyped (eqb d 1) TypeFirst) (λ _. Nowhere)))))) cs
-      go true f-is e a a-is n n-is v v-is = for-fits (eqb-true k kindFor f-is)
-      go false f-is true a a-is n n-is v v-is = typed-fits cs (eqb d 1) ReturnType (λ h. tt)
-      go false f-is false true a-is n n-is v v-is =
-          typed-fits cs (eqb d 1) TypeSecond λ h.
-          either (eqb k kindAssign) (eqb k kindAssignModify) a-is
-          (λ is. assign-fits (eqb-true k kindAssign is) (one h))
-          (λ is. modify-fits (eqb-true k kindAssignModify is) (one h))
-      go false f-is false false a-is true n-is v v-is =
-          typed-fits cs (eqb d 1 || eqb d 3) TypeFirst (normal-fits (eqb-true k kindNormal n-is))
-      go false f-is false false a-is false n-is true v-is =
+  -- the roles of the children of a parameter, and of any other kind
+  param-fits : AllFit (if' (eqb k kindNormal) (λ _. ifTyped (eqb d 1 || eqb d 3) TypeFirst) (λ _.
+      if' (eqb k kindArgsParam || eqb k kindKwArgsParam) (λ _. ifTyped (eqb d 1) TypeFirst) (λ _. Nowhere))) cs
+  param-fits = go (eqb k kindNormal) refl (eqb k kindArgsParam || eqb k kindKwArgsParam) refl
+    where
+      go : (n : Bool) → eqb k kindNormal ≡ n → (v : Bool) → (eqb k kindArgsParam || eqb k kindKwArgsParam) ≡ v
+          → AllFit (if' n (λ _. ifTyped (eqb d 1 || eqb d 3) TypeFirst) (λ _.
+          if' v (λ _. ifTyped (eqb d 1) TypeFirst) (λ _. Nowhere))) cs
+      go true n-is v v-is = typed-fits cs (eqb d 1 || eqb d 3) TypeFirst (normal-fits (eqb-true k kindNormal n-is))
+      go false n-is true v-is =
           typed-fits cs (eqb d 1) TypeFirst λ h.
           either (eqb k kindArgsParam) (eqb k kindKwArgsParam) v-is
           (λ is. args-fits (eqb-true k kindArgsParam is) (one h))
           (λ is. kwargs-fits (eqb-true k kindKwArgsParam is) (one h))
-      go false f-is false false a-is false n-is false v-is = tt
+      go false n-is false v-is = tt
+
+  kids-fit : AllFit (rolesOf k d) cs
+  unfolding rolesOf
+  kids-fit = go (eqb k kindFor) refl (eqb k kindDef) (eqb k kindAssign || eqb k kindAssignModify) refl
+    where
+      go : (f : Bool) → eqb k kindFor ≡ f → (e a : Bool) → (eqb k kindAssign || eqb k kindAssignModify) ≡ a
+          → AllFit (if' f (λ _. TargetFirst) (λ _.
+          if' e (λ _. ifTyped (eqb d 1) ReturnType) (λ _.
+          if' a (λ _. ifTyped (eqb d 1) TypeSecond) (λ _.
+          if' (eqb k kindNormal) (λ _. ifTyped (eqb d 1 || eqb d 3) TypeFirst) (λ _.
+          if' (eqb k kindArgsParam || eqb k kindKwArgsParam) (λ _. ifTyped (eqb d 1) TypeFirst) (λ _.
+          Nowhere)))))) cs
+      go true f-is e a a-is = for-fits (eqb-true k kindFor f-is)
+      go false f-is true a a-is = typed-fits cs (eqb d 1) ReturnType (λ h. tt)
+      go false f-is false true a-is =
+          typed-fits cs (eqb d 1) TypeSecond λ h.
+          either (eqb k kindAssign) (eqb k kindAssignModify) a-is
+          (λ is. assign-fits (eqb-true k kindAssign is) (one h))
+          (λ is. modify-fits (eqb-true k kindAssignModify is) (one h))
+      go false f-is false false a-is = param-fits
 
 -- a tree has a class that fits its role
 abbrev pub Roled : Placed → Type 0

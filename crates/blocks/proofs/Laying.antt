@@ -6,17 +6,17 @@
 use mathlib.Core.Path.{_≡_, refl, sym, ap, _∙_}
 use mathlib.Core.Bool.{Bool, true, false}
 use mathlib.Core.Logic.{⊎-elim}
-use mathlib.Core.List.{List, append-assoc}
+use mathlib.Core.List.{List, [], _++_, append-assoc, append-nil}
 use Prim.Native.Nat.{ℕ, _+_, _-_, _<_, _≤_}
 use native.Mathlib.Numerals.{add-one}
 use native.Mathlib.Omega.{arith}
-use lib.ListN.{length, getD, take, drop, set}
-use lib.Seq.{paste, paste-zero, paste-suc, length-paste, take-length}
+use lib.ListN.{length, getD, take, drop, set, replicate, length-replicate, drop-of-length-le}
+use lib.Seq.{paste, paste-zero, paste-suc, length-paste, take-length, length-take-le}
 use lib.Dec.{leb}
 use borrow.Author.Tests.{le-leb, lt-leb, leb-true}
 use Rattle.fields.specs.Over.{over}
 use Rattle.fields.proofs.Basics.{le-or-lt}
-use Rattle.fields.proofs.Over.{length-over}
+use Rattle.fields.proofs.Over.{length-over, over-front}
 use Rattle.blocks.specs.Laid.{laidAt}
 
 -- out has the first i of the bytes from place `at` on; every other byte is that of d
@@ -61,6 +61,29 @@ module _ (at : ℕ) (bs d : List ℕ) where
       (λ (h : at + length bs ≤ length d). ap length (laid-fits h) ∙ length-over at bs d h)
       (λ (h : length d < at + length bs). ap length (laid-away h))
       (le-or-lt (at + length bs) (length d))
+
+-- written over the front of a buffer that has room
+pub laid-front : (a d : List ℕ) → length a ≤ length d → laidAt 0 a d ≡ a ++ drop (length a) d
+laid-front a d h = laid-fits 0 a d (omega arith) ∙ over-front a d
+
+-- LAW: the first len bytes of a list, written over the front of a buffer
+pub laid-part : (from out : List ℕ) {len : ℕ} {after : List ℕ} → (len ≤ length from) × (len ≤ length out)
+    → after ≡ laidAt 0 (take (len - 0) from) out → after ≡ take len from ++ drop len out
+laid-part from out {len} (there, room) is =
+    let all : len - 0 ≡ len = omega arith in
+    let long : length (take len from) ≡ len = length-take-le len from there in
+    (rw all at is) ∙ laid-front (take len from) out (omega arith) ∙ rw long refl
+
+-- LAW: a whole block, written over 512 zero bytes
+pub block-copied : (bs : List ℕ) {b : List ℕ} → 512 ≤ length bs → b ≡ laidAt 0 (take 512 bs) (replicate 512 0)
+    → b ≡ take 512 bs
+block-copied bs h is =
+    let zeros : List ℕ = replicate 512 0 in
+    let all : length zeros ≡ 512 = length-replicate {A = ℕ} 512 0 in
+    let long : length (take 512 bs) ≡ 512 = length-take-le 512 bs h in
+    let none : drop (length (take 512 bs)) zeros ≡ [] =
+    drop-of-length-le zeros {i = length (take 512 bs)} (omega arith) in
+    is ∙ laid-front (take 512 bs) zeros (omega arith) ∙ rw none (append-nil (take 512 bs))
 
 -- the test for room, as the code computes it
 pub fits-not : (at n room : ℕ) → room < at → false ≡ leb (at + n) room

@@ -94,11 +94,7 @@ fn first_block(bytes: &[u8]) -> [u8; BLOCK_BYTES]
     ensures { λ r. ⌜ r ≡ take blockBytes (now (bytes .entry)) ⌝ }
 {
     let mut b = [0u8; BLOCK_BYTES];
-    let mut i = 0;
-    while i < BLOCK_BYTES {
-        b[i] = bytes[i];
-        i += 1;
-    }
+    bytes::put(&bytes[0..BLOCK_BYTES], 0, &mut b);
     b
 }
 

@@ -7,6 +7,7 @@ use dialect::Dialect;
 use dialect::DialectTypes;
 use forest::RECORD;
 use libc::STDOUT_FILENO;
+use namesakes::Named;
 use parameters::Counted;
 use parameters::Range;
 use parameters::Unpacked;
@@ -19,8 +20,8 @@ use targets::Targeted;
 use types::Shaped;
 use validate::Listed;
 
-// A request: its job, the lengths of its parts, and the job's node; a binding also has the node of the Def, beside that
-// of the Call. The edition of the type rules is in the same field as the node of the Def.
+// A request: its job, the lengths of its parts, and the job's node; a binding and namesakes also have the node of the
+// Def, beside that of the Call. The edition of the type rules is in the same field as the node of the Def.
 pub struct Asked {
     pub job: u16,
     pub label: usize,
@@ -333,6 +334,30 @@ fn say_bind(table: &[u8], names: &[u8], call: usize, def: usize, room: usize) {
     say_words(list);
 }
 
+fn say_named(n: Named) {
+    match n {
+        Named::Found(count) => {
+            say(b"reported ");
+            say_number(count as u64);
+        }
+        Named::Refused(r) => say_refusal(r),
+    }
+}
+
+// Runs the namesakes job, and prints its list of words at exit, in the same way.
+fn say_namesakes(table: &[u8], names: &[u8], call: usize, def: usize, room: usize) {
+    let mut space = [9u32; 64];
+    let lent: &mut [u32] = &mut space;
+    if lent.len() < room {
+        return;
+    }
+    let list = &mut lent[0..room];
+    let n = namesakes::namesakes(table, names, call, def, list);
+    say_named(n);
+    say(b", words");
+    say_words(list);
+}
+
 fn say_formatted(w: fstring::Written) {
     match w {
         fstring::Written::Accepted { length, enabled } => {
@@ -421,8 +446,9 @@ fn say_parts(text: &[u8], room: usize, texts_room: usize) {
 }
 
 // Jobs: 0 a heading, 1 the table check, 2 a job's node, 3 the bytes of a dialect, 4 a call's arguments, 5 parameters, 6
-// a target, 7 an assignment, 8 a type, 9 a module, 10 a binding, 11 an audit, 12 a format text, 13 its parts. For a
-// format text, the text bytes are in the place of the table, and the words of its parts in the place of the names.
+// a target, 7 an assignment, 8 a type, 9 a module, 10 a binding, 11 an audit, 12 a format text, 13 its parts, 14
+// namesakes. For a format text, the text bytes are in the place of the table, and the words of its parts in the place
+// of the names.
 pub(crate) fn answer(a: Asked, table: &[u8], names: &[u8], dialect: &[u8]) {
     let job = a.job;
     match job {
@@ -438,6 +464,7 @@ pub(crate) fn answer(a: Asked, table: &[u8], names: &[u8], dialect: &[u8]) {
         11 => say_audit(table, names, dialect, a.edition, a.room),
         12 => say_format(table, names, dialect, a.room),
         13 => say_parts(table, a.room, a.def),
+        14 => say_namesakes(table, names, a.node, a.def, a.room),
         _ => say(b""),
     }
 }

@@ -142,6 +142,16 @@ positional-more SeenSlash m n h = omega arith
 positional-more SeenStar m n h = omega arith
 positional-more SeenStarStar m n h = omega arith
 
+-- a mark counts nothing, and any other parameter one
+bounded-more : {m k : ℕ} (c : Counts) → Bounded m k c → Bounded (m + 1) k c
+bounded-more {m} c b = record {
+  positional = omega (arith, b .positional);
+  only = b .only;
+  args = place-more m (c .args) (b .args);
+  kwargs = place-more m (c .kwargs) (b .kwargs);
+  flat = omega (arith, b .flat);
+}
+
 pub bounded-on : {m k : ℕ} (s : State) (c : Counts) (kd : Kind) → Bounded m k c → Bounded (m + 1) k (count s c kd)
 bounded-on {m} s c (Normal d) b = record {
   positional = positional-more s m (c .«num_positional») (b .positional);
@@ -150,20 +160,8 @@ bounded-on {m} s c (Normal d) b = record {
   kwargs = place-more m (c .kwargs) (b .kwargs);
   flat = omega (arith, b .flat);
 }
-bounded-on {m} s c NoArgs b = record {
-  positional = omega (arith, b .positional);
-  only = b .only;
-  args = place-more m (c .args) (b .args);
-  kwargs = place-more m (c .kwargs) (b .kwargs);
-  flat = omega (arith, b .flat);
-}
-bounded-on {m} s c Slash b = record {
-  positional = omega (arith, b .positional);
-  only = b .only;
-  args = place-more m (c .args) (b .args);
-  kwargs = place-more m (c .kwargs) (b .kwargs);
-  flat = omega (arith, b .flat);
-}
+bounded-on s c NoArgs b = bounded-more c b
+bounded-on s c Slash b = bounded-more c b
 bounded-on {m} s c Args b = record {
   positional = omega (arith, b .positional);
   only = b .only;

@@ -54,6 +54,31 @@ fine-new : (f : Found) (c : Check) → firstly f c ≡ Fine → f ≡ Nothing
 fine-new (At i) c e = never (cc)
 fine-new Nothing c e = refl
 
+-- a parameter that repeats a name: the first of the list, or one behind it
+again-here : (before : List Param) (p : Param) (ps : List Param) {i : ℕ} → repeats before p ≡ At i
+    → Again before (p ∷ ps) i (nodeIn p)
+again-here before p ps e = record {
+  read = [];
+  again = p;
+  rest = ps;
+  cut = refl;
+  here = refl;
+  found = rw (append-nil before) e;
+  fresh = tt;
+}
+
+again-later : (before : List Param) (p : Param) (ps : List Param) {i : ℕ} {r : Node} → repeats before p ≡ Nothing
+    → Again (before ++ p ∷ []) ps i r → Again before (p ∷ ps) i r
+again-later before p ps new x = record {
+  read = p ∷ x .read;
+  again = x .again;
+  rest = x .rest;
+  cut = ap (λ (l : List Param). p ∷ l) (x .cut);
+  here = x .here;
+  found = rw (append-assoc before (p ∷ []) (x .read)) at (x .found);
+  fresh = (new, x .fresh);
+}
+
 run-repeated : (before : List Param) (u : Unpacking) (l : List Param) {i : ℕ} {r : Node} → Cleared u
     → run before u l ≡ repeated i r → Again before l i r
 unfolding run
@@ -65,30 +90,14 @@ run-repeated before u (p ∷ ps) {i} {r} clear h = go (check before (u .state) (
     go : (k : Check) → check before (u .state) (u .«seen_optional») p ≡ k
         → ((v : Unpacking) → Cleared v → run (before ++ p ∷ []) v ps ≡ repeated i r → Again (before ++ p ∷ []) ps i r)
         → Again before (p ∷ ps) i r
-    go Fine f rest =
-        let x = rest _ (clear-on before u p ps clear f) (sym (run-on before u p ps clear f) ∙ h) in
-        record {
-          read = p ∷ x .read;
-          again = x .again;
-          rest = x .rest;
-          cut = ap (λ (l : List Param). p ∷ l) (x .cut);
-          here = x .here;
-          found = rw (append-assoc before (p ∷ []) (x .read)) at (x .found);
-          fresh = (fine-new (repeats before p) _ f, x .fresh);
-        }
+    go Fine f rest = again-later before p ps (fine-new (repeats before p) _ f)
+        (rest _ (clear-on before u p ps clear f) (sym (run-on before u p ps clear f) ∙ h))
     go (Broken n) f rest = let both = sym (run-stop before u p ps f) ∙ h in never (cc)
     go (Repeated j) f rest =
         let both : repeated j (nodeIn p) ≡ repeated i r = sym (run-again before u p ps f) ∙ h in
         let same : j ≡ i = cc in
-        record {
-          read = [];
-          again = p;
-          rest = ps;
-          cut = refl;
-          here = cc;
-          found = rw (append-nil before) (found-repeated (repeats before p) _ _ (kindIn p) f ∙ ap At same);
-          fresh = tt;
-        }
+        let node : nodeIn p ≡ r = cc in
+        rw node at (again-here before p ps (found-repeated (repeats before p) _ _ (kindIn p) f ∙ ap At same))
 
 -- a name that is found again is one that the parameter has
 repeats-has : (before : List Param) (p : Param) {i : ℕ} → repeats before p ≡ At i

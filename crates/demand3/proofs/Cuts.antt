@@ -33,7 +33,7 @@ use Rattle.demand3.specs.Cut.{kwargsPart, join, SlashGood, StarGood, Goo
 use Rattle.demand3.specs.Cut.{partsOf, partModes}
 use Rattle.demand3.proofs.Walks.{Rules, Fresh, countsFrom, starFrom, run-accepted, run-finished}
 use Rattle.demand3.proofs.Shapes.{Defaults, tail, either-rules, NoSlash, Slashed, pos-rules, rules-either}
-use Rattle.demand3.proofs.Shapes.{rules-pos, slash-at, slash-from, none-either}
+use Rattle.demand3.proofs.Shapes.{AfterSlash, rules-pos, slash-at, slash-from, none-either}
 use Rattle.demand3.proofs.Names.{fresh-iff, defaults-iff}
 use Rattle.demand3.proofs.Counting.{plain, withTail, counts-either, counts-pos, starPlace, star-either}
 use Rattle.demand3.proofs.Counting.{star-pos, starVerdict, finish-tail, modes-either, modes-pos}
@@ -80,17 +80,11 @@ module _ (l : List Param) (only : Flat) (s : State) (first : firstState only ≡
   start-finished r f = run-finished [] (start only) l (clear-start only) (rw first r) f
       ∙ ap (λ (x : State). finish l (starFrom NoWritten 0 l) (countsFrom x (plain 0 only) l)) first
 
-  start-accepted : {c : Counts} → run [] (start only) l ≡ accepted c
-      → Rules s false l × Fresh [] l × (finish l (starFrom NoWritten 0 l) (countsFrom s (plain 0 only) l)
-      ≡ accepted c)
+  start-accepted : {c : Counts} → run [] (start only) l ≡ accepted c → Rules s false l × Fresh [] l
   unfolding start
   start-accepted h =
-      let r = run-accepted [] (start only) l (clear-start only) h in (
-        rw first at (r .0),
-        r .1,
-        ap (λ (x : State). finish l (starFrom NoWritten 0 l)
-            (countsFrom x (plain 0 only) l)) (sym first) ∙ r .2,
-      )
+      let r = run-accepted [] (start only) l (clear-start only) h in
+      (rw first at (r .rules), r .fresh)
 
 first-some : (n : ℕ) → 0 < n → firstState (flatAt n) ≡ BeforeSlash
 first-some n h = rw (ne-eqb n 0 (λ e. omega arith)) refl
@@ -165,9 +159,38 @@ slash-later (p ∷ ps) h e = let rest : slashFrom (0 + 1) ps ≡ AtWritten _ = r
     omega (arith, slash-from (0 + 1) ps rest)
 
 -- an accepted list has a cut, but for what must follow the `*`
-abbrev Loose : List Param → Type 0
-Loose l = (c : Cut) × (join c ≡ l) × SlashGood (c .before) × Fresh [] l
-    × Defaults false (firsts (c .before) ++ c .middle)
+record Loose (l : List Param) : Type 0 where
+  cut : Cut
+  joins : join cut ≡ l
+  slash : SlashGood (cut .before)
+  fresh : Fresh [] l
+  defaults : Defaults false (firsts (cut .before) ++ cut .middle)
+
+-- with `/`, before which there is a parameter
+slash-loose : (l : List Param) → Heads l → Fresh [] l → Slashed false l → Loose l
+slash-loose l heads f m = by-first (m .before) (m .is) (m .defaults)
+  where
+    by-first : (qs : List Ordinary)
+        → l ≡ ordinary qs ++ slash (m .mark) ∷ (ordinary (m .middle) ++ tail (m .star) (m .last))
+        → Defaults false (qs ++ m .middle) → Loose l
+    by-first [] e d = clash refl (subst Heads e heads)
+    by-first (q ∷ qs) e d = record {
+      cut = record { before = upToSlash (q ∷ qs) (m .mark); middle = m .middle; star = m .star; last = m .last };
+      joins = slash-form (q ∷ qs) (m .mark) _ ∙ sym e;
+      slash = tt;
+      fresh = f;
+      defaults = d;
+    }
+
+-- without `/`
+plain-loose : (l : List Param) → Fresh [] l → AfterSlash false l → Loose l
+plain-loose l f m = record {
+  cut = record { before = noSlash; middle = m .middle; star = m .star; last = m .last };
+  joins = sym (m .is);
+  slash = tt;
+  fresh = f;
+  defaults = m .defaults;
+}
 
 loose-cut : (l : List Param) {c : Counts} → unpack l ≡ accepted c → Loose l
 loose-cut l {c} h = go (firstSlash l) refl
@@ -179,30 +202,13 @@ loose-cut l {c} h = go (firstSlash l) refl
     walked x e = ap (λ (y : WrittenPlace). run [] (start (positionalOnly y)) l) (sym e) ∙ sym (unpack-walk l heads)
         ∙ h
 
-    some-first : (m : Slashed false l) → Fresh [] l → Loose l
-    some-first m f = by-first (m .0) (m .5) (m .6)
-      where
-        by-first : (qs : List Ordinary) → l ≡ ordinary qs ++ slash (m .1) ∷ (ordinary (m .2) ++ tail (m .3) (m .4))
-            → Defaults false (qs ++ m .2) → Loose l
-        by-first [] e d = clash refl (subst Heads e heads)
-        by-first (q ∷ qs) e d = (
-          record { before = upToSlash (q ∷ qs) (m .1); middle = m .2; star = m .3; last = m .4 },
-          slash-form (q ∷ qs) (m .1) _ ∙ sym e,
-          tt,
-          f,
-          d,
-        )
-
     slashed : {w : Written} → firstSlash l ≡ AtWritten w → Fresh [] l → Slashed false l ⊎ NoSlash l → Loose l
-    slashed e f (inl m) = some-first m f
-    slashed e f (inr none) = let z : AtWritten _ ≡ NoWritten = sym e ∙ none 0 in let y : _≡_ {A = ℕ} 0 1 = cc in
-        absurd (omega arith)
+    slashed e f (inl m) = slash-loose l heads f m
+    slashed e f (inr none) = let z : AtWritten _ ≡ NoWritten = sym e ∙ none 0 in never (cc)
 
     go : (x : WrittenPlace) → firstSlash l ≡ x → Loose l
-    go NoWritten e =
-        let r = start-accepted l (flatAt 0) SeenSlash refl (walked NoWritten e) in
-        let m = either-rules false l (r .0) in
-        (record { before = noSlash; middle = m .0; star = m .1; last = m .2 }, sym (m .3), tt, r .1, m .4)
+    go NoWritten e = let r = start-accepted l (flatAt 0) SeenSlash refl (walked NoWritten e) in
+        plain-loose l (r .1) (either-rules false l (r .0))
     go (AtWritten w) e =
         let r = start-accepted l (flatAt (w .0)) BeforeSlash (first-some (w .0) (slash-later l heads e))
         (walked (AtWritten w) e) in
@@ -234,17 +240,17 @@ cut-accepted c g =
 pub accepted-cut : (l : List Param) {a : Counts} → unpack l ≡ accepted a → (c : Cut) × (join c ≡ l) × Good c
 accepted-cut l h =
     let w = loose-cut l h in
-    let c = w .0 in
-    let f = subst (Fresh []) (sym (w .1)) (w .3) in
+    let c = w .cut in
+    let f = subst (Fresh []) (sym (w .joins)) (w .fresh) in
     let v = good-star (c .star) (c .last) (accepted (cutCounts c))
-    (sym (unpack-cut c (w .2) f (w .4)) ∙ ap unpack (w .1) ∙ h) in (
+    (sym (unpack-cut c (w .slash) f (w .defaults)) ∙ ap unpack (w .joins) ∙ h) in (
       c,
-      w .1,
+      w .joins,
       record {
-        slash = w .2;
+        slash = w .slash;
         star = v .0;
         distinct = fresh-iff (join c) .0 f;
-        defaulted = defaults-iff (firsts (c .before) ++ c .middle) .0 (w .4);
+        defaulted = defaults-iff (firsts (c .before) ++ c .middle) .0 (w .defaults);
       },
     )
 

@@ -201,27 +201,46 @@ pub modes-length : (p : Parts) → length (partModes p) ≡ rangesOf p .kwargs .
 modes-length p = simp (length-append, length-replicate) (omega arith)
 
 -- LAW: where the modes are at the front of a buffer, each flat parameter's mode is its range's
-pub modes-by-range : (p : Parts) (rest : List ℕ) → ByRange (rangesOf p) (partModes p ++ rest)
-modes-by-range p rest =
-    let a = length (p .posOnly) in
-    let b = length (p .posOrNamed) in
-    let s = length (p .args) in
-    let n = length (p .namedOnly) in
-    let k = length (p .kwargs) in
-    let A : List ℕ = replicate a 1 in
-    let B : List ℕ = replicate b 2 in
-    let S : List ℕ = replicate s 4 in
-    let N : List ℕ = replicate n 3 in
-    let K : List ℕ = replicate k 5 in
-    let ms : List ℕ = partModes p ++ rest in
-    record {
-      posOnly = λ i h g. mid-in [] a 1 (B ++ (S ++ (N ++ (K ++ rest)))) ms 0 (simp append-assoc) refl i h
-          (omega arith);
-      posOrNamed = mid-in A b 2 (S ++ (N ++ (K ++ rest))) ms a (simp append-assoc) (length-replicate a 1);
-      args = mid-in (A ++ B) s 4 (N ++ (K ++ rest)) ms (a + b) (simp append-assoc)
-          (simp (length-append, length-replicate));
-      namedOnly = mid-in (A ++ (B ++ S)) n 3 (K ++ rest) ms (a + b + s) (simp append-assoc)
-          (simp (length-append, length-replicate) (omega arith));
-      kwargs = mid-in (A ++ (B ++ (S ++ N))) k 5 rest ms (a + b + s + n) (simp append-assoc)
-          (simp (length-append, length-replicate) (omega arith));
-    }
+module _ (p : Parts) (rest : List ℕ) where
+  abbrev a : ℕ
+  a = length (p .posOnly)
+
+  abbrev b : ℕ
+  b = length (p .posOrNamed)
+
+  abbrev s : ℕ
+  s = length (p .args)
+
+  abbrev n : ℕ
+  n = length (p .namedOnly)
+
+  abbrev k : ℕ
+  k = length (p .kwargs)
+
+  abbrev ones : List ℕ
+  ones = replicate a 1
+
+  abbrev twos : List ℕ
+  twos = replicate b 2
+
+  abbrev fours : List ℕ
+  fours = replicate s 4
+
+  abbrev threes : List ℕ
+  threes = replicate n 3
+
+  abbrev fives : List ℕ
+  fives = replicate k 5
+
+  pub modes-by-range : ByRange (rangesOf p) (partModes p ++ rest)
+  modes-by-range = let ms : List ℕ = partModes p ++ rest in record {
+    posOnly = λ i h g. mid-in [] a 1 (twos ++ (fours ++ (threes ++ (fives ++ rest)))) ms 0 (simp append-assoc) refl i h
+        (omega arith);
+    posOrNamed = mid-in ones b 2 (fours ++ (threes ++ (fives ++ rest))) ms a (simp append-assoc) (length-replicate a 1);
+    args = mid-in (ones ++ twos) s 4 (threes ++ (fives ++ rest)) ms (a + b) (simp append-assoc)
+        (simp (length-append, length-replicate));
+    namedOnly = mid-in (ones ++ (twos ++ fours)) n 3 (fives ++ rest) ms (a + b + s) (simp append-assoc)
+        (simp (length-append, length-replicate) (omega arith));
+    kwargs = mid-in (ones ++ (twos ++ (fours ++ threes))) k 5 rest ms (a + b + s + n) (simp append-assoc)
+        (simp (length-append, length-replicate) (omega arith));
+  }

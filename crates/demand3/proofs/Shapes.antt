@@ -49,27 +49,45 @@ last-rules o (args x n ∷ ps) r = broken≢fine (r .0)
 last-rules o (kwargs x n ∷ ps) r = broken≢fine (r .0)
 
 -- after a star ordinary parameters, then perhaps `**kwargs`
-named-rules : (o : Bool) (l : List Param) → Rules SeenStar o l
-    → (qs : List Ordinary) × (k : Last) × (l ≡ ordinary qs ++ kwargsPart k)
-named-rules o [] r = ([], noKwargs, refl)
+record AfterStar (l : List Param) : Type 0 where
+  named : List Ordinary
+  last : Last
+  is : l ≡ ordinary named ++ kwargsPart last
+
+named-rules : (o : Bool) (l : List Param) → Rules SeenStar o l → AfterStar l
+named-rules o [] r = record { named = []; last = noKwargs; is = refl }
 named-rules o (normal x n d ∷ ps) r = let h = named-rules (o || d) ps (r .1) in
-    (one x n d ∷ h .0, h .1, and-then (h .2))
+    record { named = one x n d ∷ h .named; last = h .last; is = and-then (h .is) }
 named-rules o (noArgs x ∷ ps) r = broken≢fine (r .0)
 named-rules o (slash x ∷ ps) r = broken≢fine (r .0)
 named-rules o (args x n ∷ ps) r = broken≢fine (r .0)
-named-rules o (kwargs x n ∷ ps) r = ([], withKwargs x n, and-then (last-rules o ps (r .1)))
+named-rules o (kwargs x n ∷ ps) r =
+    record { named = []; last = withKwargs x n; is = and-then (last-rules o ps (r .1)) }
 
--- after `/`, or where there is none
-pub either-rules : (o : Bool) (l : List Param) → Rules SeenSlash o l
-    → (ms : List Ordinary) × (s : Star) × (k : Last) × (l ≡ ordinary ms ++ tail s k) × Defaults o ms
-either-rules o [] r = ([], noStar, noKwargs, refl, tt)
-either-rules o (normal x n d ∷ ps) r = let h = either-rules (o || d) ps (r .1) in
-    (one x n d ∷ h .0, h .1, h .2, and-then (h .3), (r .0, h .4))
-either-rules o (noArgs x ∷ ps) r = let h = named-rules o ps (r .1) in ([], bare x (h .0), h .1, and-then (h .2), tt)
+-- after `/`, or where there is none: the second part, a star with its part, and the last
+pub record AfterSlash (o : Bool) (l : List Param) : Type 0 where
+  pub middle : List Ordinary
+  pub star : Star
+  pub last : Last
+  pub is : l ≡ ordinary middle ++ tail star last
+  pub defaults : Defaults o middle
+
+pub either-rules : (o : Bool) (l : List Param) → Rules SeenSlash o l → AfterSlash o l
+either-rules o [] r = record { middle = []; star = noStar; last = noKwargs; is = refl; defaults = tt }
+either-rules o (normal x n d ∷ ps) r = let h = either-rules (o || d) ps (r .1) in record {
+  middle = one x n d ∷ h .middle;
+  star = h .star;
+  last = h .last;
+  is = and-then (h .is);
+  defaults = (r .0, h .defaults);
+}
+either-rules o (noArgs x ∷ ps) r = let h = named-rules o ps (r .1) in
+    record { middle = []; star = bare x (h .named); last = h .last; is = and-then (h .is); defaults = tt }
 either-rules o (slash x ∷ ps) r = broken≢fine (r .0)
 either-rules o (args x n ∷ ps) r = let h = named-rules o ps (r .1) in
-    ([], starred x n (h .0), h .1, and-then (h .2), tt)
-either-rules o (kwargs x n ∷ ps) r = ([], noStar, withKwargs x n, and-then (last-rules o ps (r .1)), tt)
+    record { middle = []; star = starred x n (h .named); last = h .last; is = and-then (h .is); defaults = tt }
+either-rules o (kwargs x n ∷ ps) r = let e = and-then (last-rules o ps (r .1)) in
+    record { middle = []; star = noStar; last = withKwargs x n; is = e; defaults = tt }
 
 -- a list without `/`, wherever it is counted from
 abbrev pub NoSlash : List Param → Type 0
@@ -92,20 +110,40 @@ named-no-slash o (args x n ∷ ps) r = broken≢fine (r .0)
 named-no-slash o (kwargs x n ∷ ps) r = none-more (kwargs x n) ps refl (rw (last-rules o ps (r .1)) none-empty)
 
 -- before `/`: the list has the form with `/`, or it has none
-abbrev pub Slashed : Bool → List Param → Type 0
-Slashed o l = (qs : List Ordinary) × (x : Node) × (ms : List Ordinary) × (s : Star) × (k : Last)
-    × (l ≡ ordinary qs ++ slash x ∷ (ordinary ms ++ tail s k)) × Defaults o (qs ++ ms)
+pub record Slashed (o : Bool) (l : List Param) : Type 0 where
+  pub before : List Ordinary
+  pub mark : Node
+  pub middle : List Ordinary
+  pub star : Star
+  pub last : Last
+  pub is : l ≡ ordinary before ++ slash mark ∷ (ordinary middle ++ tail star last)
+  pub defaults : Defaults o (before ++ middle)
 
 pub pos-rules : (o : Bool) (l : List Param) → Rules BeforeSlash o l → Slashed o l ⊎ NoSlash l
 pos-rules o [] r = inr none-empty
 pos-rules o (normal x n d ∷ ps) r = go (pos-rules (o || d) ps (r .1))
   where
     go : Slashed (o || d) ps ⊎ NoSlash ps → Slashed o (normal x n d ∷ ps) ⊎ NoSlash (normal x n d ∷ ps)
-    go (inl h) = inl (one x n d ∷ h .0, h .1, h .2, h .3, h .4, and-then (h .5), (r .0, h .6))
+    go (inl h) = inl (record {
+      before = one x n d ∷ h .before;
+      mark = h .mark;
+      middle = h .middle;
+      star = h .star;
+      last = h .last;
+      is = and-then (h .is);
+      defaults = (r .0, h .defaults);
+    })
     go (inr e) = inr (none-more (normal x n d) ps refl e)
 pos-rules o (noArgs x ∷ ps) r = inr (none-more (noArgs x) ps refl (named-no-slash o ps (r .1)))
-pos-rules o (slash x ∷ ps) r = let h = either-rules o ps (r .1) in
-    inl ([], x, h .0, h .1, h .2, and-then (h .3), h .4)
+pos-rules o (slash x ∷ ps) r = let h = either-rules o ps (r .1) in inl (record {
+  before = [];
+  mark = x;
+  middle = h .middle;
+  star = h .star;
+  last = h .last;
+  is = and-then (h .is);
+  defaults = h .defaults;
+})
 pos-rules o (args x n ∷ ps) r = inr (none-more (args x n) ps refl (named-no-slash o ps (r .1)))
 pos-rules o (kwargs x n ∷ ps) r = inr (none-more (kwargs x n) ps refl (rw (last-rules o ps (r .1)) none-empty))
 

@@ -11,7 +11,7 @@ use Rattle.forest.specs.declared.Found.{Found}
 use Rattle.forest.specs.declared.Found.the-variants.{At, Nothing}
 use Rattle.deflist.specs.Written.{Param, kindIn}
 use Rattle.deflist.specs.Unpack.{writtenAt, repeats, rule, firstly, check, nextState, nextOptional, nextStar, count}
-use Rattle.deflist.specs.Unpack.{advance, finish, accepted, refused, run}
+use Rattle.deflist.specs.Unpack.{Outcome, advance, finish, accepted, refused, run}
 use Rattle.deflist.specs.declared.State.{State}
 use Rattle.deflist.specs.declared.Check.{Check}
 use Rattle.deflist.specs.declared.Check.the-variants.{Fine, Broken, Repeated}
@@ -62,26 +62,32 @@ end-step before p ps star c =
     let long : length (before ++ p ∷ []) ≡ length before + 1 = length-append before (p ∷ []) in
     rw (whole, long) refl
 
+-- the outcome at the end of a walk
+abbrev pub ending : List Param → Unpacking → List Param → Outcome
+ending before u l = finish (before ++ l) (starFrom (u .«index_of_star») (length before) l)
+    (countsFrom (u .state) (u .counts) l)
+
 -- what is accepted keeps every rule, repeats no name, and ends with what is counted
+pub record Through (before : List Param) (u : Unpacking) (l : List Param) (c : Counts) : Type 0 where
+  pub rules : Rules (u .state) (u .«seen_optional») l
+  pub fresh : Fresh before l
+  pub ends : ending before u l ≡ accepted c
+
 pub run-accepted : (before : List Param) (u : Unpacking) (l : List Param) {c : Counts} → Cleared u
-    → run before u l ≡ accepted c
-    → Rules (u .state) (u .«seen_optional») l × Fresh before l
-    × (finish (before ++ l) (starFrom (u .«index_of_star») (length before) l)
-    (countsFrom (u .state) (u .counts) l) ≡ accepted c)
+    → run before u l ≡ accepted c → Through before u l c
 unfolding run advance
-run-accepted before u [] clear h = (tt, tt, rw (append-nil before) h)
+run-accepted before u [] clear h = record { rules = tt; fresh = tt; ends = rw (append-nil before) h }
 run-accepted before u (p ∷ ps) clear h =
     let fine = run-fine before u p ps h in
     let b = check-parts (repeats before p) (rule (u .state) (u .«seen_optional») (kindIn p)) fine in
     let r = run-accepted (before ++ p ∷ []) (advance u (writtenAt (length before)) (kindIn p)) ps
     (clear-on before u p ps clear fine) (sym (run-on before u p ps clear fine) ∙ h) in
-    ((b .1, r .0), (b .0, r .1), sym (end-step before p ps _ _) ∙ r .2)
+    record { rules = (b .1, r .rules); fresh = (b .0, r .fresh); ends = sym (end-step before p ps _ _) ∙ r .ends }
 
 -- and back
 pub run-finished : (before : List Param) (u : Unpacking) (l : List Param) → Cleared u
     → Rules (u .state) (u .«seen_optional») l → Fresh before l
-    → run before u l ≡ finish (before ++ l) (starFrom (u .«index_of_star») (length before) l)
-    (countsFrom (u .state) (u .counts) l)
+    → run before u l ≡ ending before u l
 unfolding run advance
 run-finished before u [] clear r f = rw (append-nil before) refl
 run-finished before u (p ∷ ps) clear r f =

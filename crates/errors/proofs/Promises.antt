@@ -1,6 +1,6 @@
 -- The contract of each public function leaves one answer: two answers that meet it are equal, and so are the two lists
--- of words at exit. `Stores` is two equations, one for the number returned and one for the list, so each follows from
--- the other answer's by transitivity. Assumes nothing.
+-- of words at exit. `Stores` is two equations, one for the number returned and one for the list, and each equates it
+-- with a definition; so two answers, or two lists, are equal to the same thing. Assumes nothing.
 use mathlib.Core.Path.{_≡_}
 use mathlib.Core.Bool.{Bool}
 use mathlib.Core.List.{List}

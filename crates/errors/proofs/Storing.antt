@@ -128,27 +128,31 @@ module _ (l : Listing) where
       some Audit = omega arith
       some Numbers = omega arith
 
-  -- LAW: after the first errors the next ones are stored from the first free word on, or nowhere if there is none
-  pub stored-append : (es fs : List Err) (xs : List ℕ) →
+  -- after the errors es the errors fs are stored from the first free word on, or nowhere if there is none
+  abbrev Appends : List Err → List Err → List ℕ → Type 0
+  Appends es fs xs =
       stored l (es ++ fs) xs ≡ take (min (width l * length es) (length xs)) (stored l es xs)
       ++ stored l fs (drop (min (width l * length es) (length xs)) (stored l es xs))
-  stored-append [] fs xs = let z : min (width l * 0) (length xs) ≡ 0 = omega arith in rw (z, stored-none xs) refl
-  stored-append (e ∷ es) fs xs =
-      room xs
-      (λ h.
+
+  -- one more error in front: it fits, or the list is full
+  append-fits : (e : Err) (es fs : List Err) (xs : List ℕ) → width l ≤ length xs → Appends es fs (drop (width l) xs)
+      → Appends (e ∷ es) fs xs
+  append-fits e es fs xs h others =
       let rest = stored l es (drop (width l) xs) in
       let k : ℕ = min (width l * length es) (length (drop (width l) xs)) in
       let m : min (width l * suc (length es)) (length xs) ≡ length (wordsOf l e) + k = omega
       (arith, words-width e, length-drop (width l) xs) in
       rw (
         stored-fits e (es ++ fs) xs h,
-        stored-append es fs (drop (width l) xs),
+        others,
         m,
         stored-fits e es xs h,
         take-append-add (wordsOf l e) rest k,
         drop-append-add (wordsOf l e) rest k,
-      ) (sym (append-assoc (wordsOf l e) (take k rest) (stored l fs (drop k rest)))))
-      (λ h.
+      ) (sym (append-assoc (wordsOf l e) (take k rest) (stored l fs (drop k rest))))
+
+  append-full : (e : Err) (es fs : List Err) (xs : List ℕ) → length xs < width l → Appends (e ∷ es) fs xs
+  append-full e es fs xs h =
       let m : min (width l * suc (length es)) (length xs) ≡ length xs = omega arith in
       rw (
         stored-full e (es ++ fs) xs h,
@@ -158,7 +162,16 @@ module _ (l : Listing) where
         drop-length xs,
         stored-nil fs,
         append-nil xs,
-      ) refl)
+      ) refl
+
+  -- LAW: after the first errors the next ones are stored from the first free word on, or nowhere if there is none
+  pub stored-append : (es fs : List Err) (xs : List ℕ) →
+      stored l (es ++ fs) xs ≡ take (min (width l * length es) (length xs)) (stored l es xs)
+      ++ stored l fs (drop (min (width l * length es) (length xs)) (stored l es xs))
+  stored-append [] fs xs = let z : min (width l * 0) (length xs) ≡ 0 = omega arith in rw (z, stored-none xs) refl
+  stored-append (e ∷ es) fs xs =
+      room xs (λ h. append-fits e es fs xs h (stored-append es fs (drop (width l) xs)))
+      (λ h. append-full e es fs xs h)
 
 -- as the code computes them: where the free words begin after `count` errors, the part of a list from an index on, and
 -- a list whose part from an index on was lent and has come back as ys

@@ -19,13 +19,38 @@ use Rattle.fstring.specs.Reading.{formAt, firstForm, behind, reach, legi
 use Rattle.fstring.specs.declared.Form.{Form}
 use Rattle.fstring.specs.declared.Form.the-variants.{Plain, Doubled, Empty, Converted, Stray}
 
+-- a doubled brace x, and `{!r}`, at the front of bytes that begin with a, b, c and d
+pub record SeenDoubled (x a b : ℕ) : Type 0 where
+  pub byte : x ≡ a
+  pub brace : isBrace a ≡ true
+  pub twice : b ≡ a
+
+pub record SeenConverted (a b c d : ℕ) : Type 0 where
+  pub opens : a ≡ opening
+  pub marked : b ≡ bang
+  pub letter : c ≡ letterR
+  pub closes : d ≡ closing
+
 -- what a form says about the first four bytes
 abbrev pub Seen : Form → ℕ → ℕ → ℕ → ℕ → Type 0
 Seen (Plain x) a b c d = (x ≡ a) × (isBrace a ≡ false)
-Seen (Doubled x) a b c d = (x ≡ a) × ((isBrace a ≡ true) × (b ≡ a))
+Seen (Doubled x) a b c d = SeenDoubled x a b
 Seen Empty a b c d = (a ≡ opening) × (b ≡ closing)
-Seen Converted a b c d = (a ≡ opening) × ((b ≡ bang) × ((c ≡ letterR) × (d ≡ closing)))
+Seen Converted a b c d = SeenConverted a b c d
 Seen Stray a b c d = isBrace a ≡ true
+
+-- the four tests of `{!r}` hold
+converted-seen : (a b c d : ℕ) → (eqb a opening && (eqb b bang && (eqb c letterR && eqb d closing))) ≡ true
+    → SeenConverted a b c d
+converted-seen a b c d h =
+    let rest : (eqb b bang && (eqb c letterR && eqb d closing)) ≡ true = and-right (eqb a opening) _ h in
+    let last : (eqb c letterR && eqb d closing) ≡ true = and-right (eqb b bang) _ rest in
+    record {
+      opens = eqb-true a opening (and-left _ (eqb b bang && (eqb c letterR && eqb d closing)) h);
+      marked = eqb-true b bang (and-left _ (eqb c letterR && eqb d closing) rest);
+      letter = eqb-true c letterR (and-left _ (eqb d closing) last);
+      closes = eqb-true d closing (and-right (eqb c letterR) _ last);
+    }
 
 pub seen : (a b c d : ℕ) → Seen (formAt a b c d) a b c d
 unfolding formAt
@@ -37,21 +62,10 @@ seen a b c d = go (isBrace a) (eqb b a) (eqb a opening && eqb b closing)
         → Seen (if' p (λ _. if' q (λ _. Doubled a) (λ _. if' r (λ _. Empty) (λ _. if' s (λ _. Converted) (λ _. Stray))))
         (λ _. Plain a)) a b c d
     go false q r s p-is q-is r-is s-is = (refl, p-is)
-    go true true r s p-is q-is r-is s-is = (refl, (p-is, eqb-true b a q-is))
+    go true true r s p-is q-is r-is s-is = record { byte = refl; brace = p-is; twice = eqb-true b a q-is }
     go true false true s p-is q-is r-is s-is =
         (eqb-true a opening (and-left _ (eqb b closing) r-is), eqb-true b closing (and-right (eqb a opening) _ r-is))
-    go true false false true p-is q-is r-is s-is =
-        let rest : (eqb b bang && (eqb c letterR && eqb d closing)) ≡ true = and-right (eqb a opening) _ s-is in
-        let last : (eqb c letterR && eqb d closing) ≡ true = and-right (eqb b bang) _ rest in (
-          eqb-true a opening (and-left _ (eqb b bang && (eqb c letterR && eqb d closing)) s-is),
-          (
-            eqb-true b bang (and-left _ (eqb c letterR && eqb d closing) rest),
-            (
-              eqb-true c letterR (and-left _ (eqb d closing) last),
-              eqb-true d closing (and-right (eqb c letterR) _ last),
-            ),
-          ),
-        )
+    go true false false true p-is q-is r-is s-is = converted-seen a b c d s-is
     go true false false false p-is q-is r-is s-is = p-is
 
 -- a byte that is not 0 is within the list
@@ -69,9 +83,9 @@ behind-fits c cs = go (formAt c (getD cs 0 0) (getD cs 1 0) (getD cs 2 0))
   where
     go : (f : Form) → Seen f c (getD cs 0 0) (getD cs 1 0) (getD cs 2 0) → behind f ≤ length cs
     go (Plain x) s = omega arith
-    go (Doubled x) s = there cs 0 (λ (z : getD cs 0 0 ≡ 0). brace-not-zero c (s .1 .0) (sym (s .1 .1) ∙ z))
+    go (Doubled x) s = there cs 0 (λ (z : getD cs 0 0 ≡ 0). brace-not-zero c (s .brace) (sym (s .twice) ∙ z))
     go Empty s = there cs 0 (λ (z : getD cs 0 0 ≡ 0). absurd (omega (arith, s .1)))
-    go Converted s = there cs 2 (λ (z : getD cs 2 0 ≡ 0). absurd (omega (arith, s .1 .1 .1)))
+    go Converted s = there cs 2 (λ (z : getD cs 2 0 ≡ 0). absurd (omega (arith, s .closes)))
     go Stray s = omega arith
 
 -- the bytes of a form after its first are skipped

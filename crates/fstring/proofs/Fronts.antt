@@ -93,19 +93,19 @@ first-of (Plain x) c cs s calm = record {
       (one-escaped x ∙ once-escaped x (ap isBrace (s .0) ∙ s .1));
 }
 first-of (Doubled x) c cs s calm =
-    let here = there cs 0 (λ (z : getD cs 0 0 ≡ 0). brace-not-zero c (s .1 .0) (sym (s .1 .1) ∙ z)) in
+    let here = there cs 0 (λ (z : getD cs 0 0 ≡ 0). brace-not-zero c (s .brace) (sym (s .twice) ∙ z)) in
     record {
-      bytes = ap (λ (y : List ℕ). c ∷ y) (take-one cs here ∙ ap (λ (y : ℕ). y ∷ []) (s .1 .1))
-          ∙ ap (λ (y : ℕ). y ∷ y ∷ []) (sym (s .0));
+      bytes = ap (λ (y : List ℕ). c ∷ y) (take-one cs here ∙ ap (λ (y : ℕ). y ∷ []) (s .twice))
+          ∙ ap (λ (y : ℕ). y ∷ y ∷ []) (sym (s .byte));
       format = λ ps. format-before (x ∷ []) ps ∙ ap (λ (y : List ℕ). y ++ formatOf ps)
-          (one-escaped x ∙ twice-escaped x (ap isBrace (s .0) ∙ s .1 .0));
+          (one-escaped x ∙ twice-escaped x (ap isBrace (s .byte) ∙ s .brace));
     }
 first-of Empty c cs s calm =
     let here = there cs 0 (λ (z : getD cs 0 0 ≡ 0). absurd (omega (arith, s .1))) in
     record { bytes = rw (take-one cs here, s .0, s .1) refl; format = λ ps. refl }
 first-of Converted c cs s calm =
-    let here = there cs 2 (λ (z : getD cs 2 0 ≡ 0). absurd (omega (arith, s .1 .1 .1))) in
-    record { bytes = rw (take-three cs here, s .0, s .1 .0, s .1 .1 .0, s .1 .1 .1) refl; format = λ ps. refl }
+    let here = there cs 2 (λ (z : getD cs 2 0 ≡ 0). absurd (omega (arith, s .closes))) in
+    record { bytes = rw (take-three cs here, s .opens, s .marked, s .letter, s .closes) refl; format = λ ps. refl }
 first-of Stray c cs s calm = clash refl calm
 
 -- LAW: the bytes up to the first stray brace, as the format text of some parts

@@ -18,11 +18,11 @@ use Rattle.dialect.specs.declared.Decoded.{Decoded}
 use Rattle.dialect.specs.declared.Decoded.the-variants.{Valid, Invalid}
 use Rattle.dialect.specs.Bytes.{fromBytes}
 use Rattle.table.specs.Numbers.{brokenPart, badDialect, shortBuffer}
-use Rattle.table.specs.Answer.{Answer, accepted, refused}
+use Rattle.table.specs.Answer.{Answer, accepted, refused, isRefused}
 use Rattle.fields.specs.Over.{over}
 use Rattle.fstring.specs.Words.{isWhole}
 use Rattle.fstring.specs.Writing.{notice, textFor, roomCheck, partsCheck, dialectCheck, writeOf}
-use Rattle.fstring.specs.Writing.{afterwards, textAfter, isRefused}
+use Rattle.fstring.specs.Writing.{afterwards, textAfter}
 use Rattle.fstring.specs.Steps.{leaving}
 use Rattle.fstring.specs.declared.Room.{Room}
 use Rattle.fstring.specs.declared.Room.the-variants.{Left, Short}

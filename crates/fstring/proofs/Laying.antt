@@ -25,7 +25,7 @@ use Rattle.fstring.specs.declared.Room.{Room}
 use Rattle.fstring.proofs.Sizes.{escaped-step, escaped-past}
 use Rattle.fstring.proofs.Counting.{firstLength, first-fits, rest-of, parts-step, parts-past}
 
--- a byte of text: once or, a brace, twice
+-- a byte of text: a brace is written twice, any other byte once
 module _ (c at : ℕ) (d : List ℕ) (h : at + length (escape c) ≤ length d) where
   pub byte-room : at < length d
   unfolding escape
@@ -55,7 +55,7 @@ module _ (c at : ℕ) (d : List ℕ) (h : at + length (escape c) ≤ length d) w
         let f : at + 1 ≤ length d = rw b at h in
         (rw b refl, rw b (over-sets at (c ∷ []) d f))
 
--- a text
+-- the invariant of the loop over the bytes of a text
 pub record Laying (d bytes : List ℕ) (at : ℕ) (out : List ℕ) (p i : ℕ) : Type 0 where
   pub long : length out ≡ length d
   pub fits : at + length (escaped bytes) ≤ length d
@@ -179,7 +179,7 @@ module _ (kind at : ℕ) (bytes d : List ℕ) (h : at + length (formOf (partOf k
       rw (plain-is kind bytes a b, add-one at) (over-sets at plainForm d plain-room),
     )
 
--- the parts
+-- the invariant of the loop over the parts
 pub record Writing (ws ts d left more out : List ℕ) (at : ℕ) : Type 0 where
   pub whole : isWhole left (length more) ≡ true
   pub long : length out ≡ length d
@@ -198,7 +198,7 @@ module _ {ws ts d left more out : List ℕ} {at : ℕ} (s : Writing ws ts d left
     pub part-fits : n ≤ length more
     part-fits = omega (arith, first-fits left (length more) (s .whole) h)
 
-    -- code cuts the text from 0 to n
+    -- the code cuts the text from 0 to n
     abbrev form : List ℕ
     form = formOf (partOf (getD left 0 0) (take (n - 0) more))
 
@@ -235,7 +235,7 @@ module _ {ws ts d left more out : List ℕ} {at : ℕ} (s : Writing ws ts d left
   pub parts-end : length left < 2 → out ≡ over 0 (textFor ws ts) d
   parts-end h = sym (over-none at out) ∙ ap (λ (t : List ℕ). over at t out) (sym (parts-past left more h)) ∙ s .same
 
--- two words, for the reader
+-- two words of the last part, which the reader writes
 module _ (kind n count : ℕ) (d : List ℕ) (h : (1 ≤ count) × (2 * count ≤ length d)) where
   pub pair-second : 2 * count - 2 + 1 < length d
   pair-second = omega (arith, h .0, h .1)

@@ -21,7 +21,7 @@ use Rattle.fields.proofs.Basics.{never}
 use Rattle.dialect.specs.declared.Dialect.{Dialect}
 use Rattle.dialect.specs.declared.Decoded.the-variants.{Valid}
 use Rattle.dialect.specs.Bytes.{fromBytes}
-use Rattle.table.specs.Answer.{Answer, accepted, refused}
+use Rattle.table.specs.Answer.{accepted, refused}
 use Rattle.table.specs.Numbers.{shortBuffer, strayBrace}
 use Rattle.fstring.specs.Parts.{Part, opening, closing, isBrace, plainForm, reprForm, formatOf, normal, textsOf}
 use Rattle.fstring.specs.Parts.{wordsOf, isShort}
@@ -135,15 +135,11 @@ module _ (t : List ℕ) (words bytes : ℕ) (s : Reading) (s-is : got s ≡ read
     format-not-stray p e = go (leb (2 * length (normal ps)) words
         && (leb (length (textsOf (normal ps))) bytes && isShort (normal ps))) (sym (ap got e) ∙ fits)
       where
-        numberIn : Answer → ℕ
-        numberIn (accepted vs) = 0
-        numberIn (refused n vs) = n
-
         go : (b : Bool) → refused strayBrace (p ∷ [])
             ≡ if' b (λ _. accepted (length (normal ps) ∷ length (textsOf (normal ps)) ∷ []))
             (λ _. refused shortBuffer []) → ⊥
-        go true f = absurd (omega (arith, ap numberIn f))
-        go false f = absurd (omega (arith, ap numberIn f))
+        go true f = absurd (omega (arith, ap places.numberIn f))
+        go false f = absurd (omega (arith, ap places.numberIn f))
 
     -- and 7 means that something does not fit, nothing else
     pub short-is-room : s ≡ Short → (words < 2 * length (normal ps))

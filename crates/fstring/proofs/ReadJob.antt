@@ -12,10 +12,10 @@ use borrow.Author.Tests.{leb-true, le-leb, eqb-true, eq-eqb}
 use Rattle.fields.proofs.Basics.{clash, and-left, and-right}
 use Rattle.fields.specs.Choice.{if'}
 use Rattle.table.specs.Numbers.{strayBrace, shortBuffer}
-use Rattle.table.specs.Answer.{Answer, accepted, refused}
+use Rattle.table.specs.Answer.{Answer, accepted, refused, isRefused}
 use Rattle.fields.specs.Over.{over}
 use Rattle.fstring.specs.Parts.{textsOf, wordsOf, isShort}
-use Rattle.fstring.specs.Writing.{afterwards, isRefused}
+use Rattle.fstring.specs.Writing.{afterwards}
 use Rattle.fstring.specs.Reading.{legible, partsIn, fitCheck, readOf, wordsAfter, textsAfter}
 use Rattle.fstring.specs.Steps.{Readable}
 

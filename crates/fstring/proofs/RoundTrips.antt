@@ -148,6 +148,24 @@ module _ (ws ts ds d w x : List ℕ) where
   written says = rw (says .answer) (ap (take (length (textFor ws ts))) (over-front (textFor ws ts) d)
       ∙ take-append-seam (textFor ws ts) (drop (length (textFor ws ts)) d))
 
+  -- reading the written text gives the normal form, whose texts are the text bytes lent
+  text-back : partsIn 0 (textFor ws ts) ≡ normal (partsOf ws ts)
+  unfolding textFor
+  text-back = reads-back (partsOf ws ts)
+
+  texts-back : isWhole ws (length ts) ≡ true → textsOf (normal (partsOf ws ts)) ≡ ts
+  texts-back whole = texts-normal (partsOf ws ts) ∙ texts-whole ws ts whole
+
+  can-read : isWhole ws (length ts) ≡ true → 2 * length (normal (partsOf ws ts)) ≤ length w → length ts ≤ length x
+      → isShort (normal (partsOf ws ts)) ≡ true → Readable (textFor ws ts) (length w) (length x)
+  unfolding textFor
+  can-read whole room texts short = record {
+    legal = legal-back (partsOf ws ts);
+    words-fit = rw text-back room;
+    bytes-fit = rw (text-back, texts-back whole) texts;
+    short = rw text-back short;
+  }
+
   pub write-then-read : (n v : ℕ) → writeOf ws ts ds (length d) ≡ accepted (n ∷ v ∷ [])
       → 2 * length (normal (partsOf ws ts)) ≤ length w → length ts ≤ length x
       → isShort (normal (partsOf ws ts)) ≡ true → ReadBack n
@@ -155,16 +173,9 @@ module _ (ws ts ds d w x : List ℕ) where
   write-then-read n v e room texts short =
       let says = passed-says ws ts ds (length d) (rw e refl) in
       let n-is : n ≡ length (textFor ws ts) = ap (λ (a : Answer). first a) (sym e ∙ says .answer) in
-      let back : partsIn 0 (textFor ws ts) ≡ normal (partsOf ws ts) = reads-back (partsOf ws ts) in
-      let same : textsOf (normal (partsOf ws ts)) ≡ ts =
-      texts-normal (partsOf ws ts) ∙ texts-whole ws ts (says .whole) in
-      let can : Readable (textFor ws ts) (length w) (length x) = record {
-        legal = legal-back (partsOf ws ts);
-        words-fit = rw back room;
-        bytes-fit = rw (back, same) texts;
-        short = rw back short;
-      } in
-      let read = readable-accepted (textFor ws ts) (length w) (length x) can in
+      let back : partsIn 0 (textFor ws ts) ≡ normal (partsOf ws ts) = text-back in
+      let same : textsOf (normal (partsOf ws ts)) ≡ ts = texts-back (says .whole) in
+      let read = readable-accepted (textFor ws ts) (length w) (length x) (can-read (says .whole) room texts short) in
       let it : take n (textAfter ws ts ds d) ≡ textFor ws ts =
       ap (λ (m : ℕ). take m (textAfter ws ts ds d)) n-is ∙ written says in
       record {

@@ -107,46 +107,37 @@ last-part done u p =
     ap wordsOf (append-nil (done ++ (closed u ++ (p ∷ []))) ∙ sym (append-assoc done (closed u) (p ∷ [])))
     ∙ words-append (done ++ closed u) (p ∷ [])
 
-last-byte : (f : Form) (c : ℕ) (done : List Part) (u : List ℕ) → f ≡ Plain c → Last f done u
-last-byte f c done u e = rw e record {
-  front = wordsOf done;
-  old = wordsOf (closed u);
-  short = closed-short u;
-  was = words-append done (closed u);
-  is = last-text done u c;
-}
+-- a byte of text writes the pair of the open text again, an expression writes a new pair
+module _ (f : Form) (done : List Part) (u : List ℕ) where
+  abbrev Ends : List ℕ → Type 0
+  Ends before = wordsOf (nextDone f done u ++ closed (nextOpen f u))
+      ≡ before ++ (formKind f ∷ length (nextOpen f u) ∷ [])
+
+  last-again : Ends (wordsOf done) → Last f done u
+  last-again e = record {
+    front = wordsOf done;
+    old = wordsOf (closed u);
+    short = closed-short u;
+    was = words-append done (closed u);
+    is = e;
+  }
+
+  last-new : Ends (wordsOf (done ++ closed u)) → Last f done u
+  last-new e = record {
+    front = wordsOf (done ++ closed u);
+    old = [];
+    short = omega arith;
+    was = sym (append-nil (wordsOf (done ++ closed u)));
+    is = e;
+  }
 
 pub last-of : (f : Form) (done : List Part) (u : List ℕ) → Last f done u
 unfolding wordsOf
-last-of (Plain c) done u = last-byte (Plain c) c done u refl
-last-of (Doubled c) done u = record {
-  front = wordsOf done;
-  old = wordsOf (closed u);
-  short = closed-short u;
-  was = words-append done (closed u);
-  is = last-text done u c;
-}
-last-of Empty done u = record {
-  front = wordsOf (done ++ closed u);
-  old = [];
-  short = omega arith;
-  was = sym (append-nil (wordsOf (done ++ closed u)));
-  is = last-part done u none;
-}
-last-of Converted done u = record {
-  front = wordsOf (done ++ closed u);
-  old = [];
-  short = omega arith;
-  was = sym (append-nil (wordsOf (done ++ closed u)));
-  is = last-part done u repr;
-}
-last-of Stray done u = record {
-  front = wordsOf (done ++ closed u);
-  old = [];
-  short = omega arith;
-  was = sym (append-nil (wordsOf (done ++ closed u)));
-  is = last-part done u none;
-}
+last-of (Plain c) done u = last-again (Plain c) done u (last-text done u c)
+last-of (Doubled c) done u = last-again (Doubled c) done u (last-text done u c)
+last-of Empty done u = last-new Empty done u (last-part done u none)
+last-of Converted done u = last-new Converted done u (last-part done u repr)
+last-of Stray done u = last-new Stray done u (last-part done u none)
 
 -- the parts so far are no more than all parts
 module _ {t left : List ℕ} {done : List Part} {u : List ℕ} (s : Reached t left done u) where

@@ -19,7 +19,7 @@ use Rattle.fields.proofs.Basics.{clash, le-or-lt}
 use Rattle.fields.specs.Choice.{if'}
 use Rattle.table.specs.Numbers.{strayBrace, shortBuffer}
 use Rattle.table.specs.Answer.{Answer, accepted, refused}
-use Rattle.fstring.specs.Parts.{Part, opening, closing, bang, letterR, plainForm, reprForm, isBrace}
+use Rattle.fstring.specs.Parts.{Part, opening, closing, bang, letterR, reprForm, isBrace}
 use Rattle.fstring.specs.Parts.{formatOf, normal, textsOf, isShort}
 use Rattle.fstring.specs.Reading.{formAt, firstForm, behind, legible, partsIn, reach, isStray, readOf}
 use Rattle.fstring.specs.Reading.{fitCheck}
@@ -34,22 +34,22 @@ use Rattle.fstring.specs.Claims.{NoForm, StrayPlace}
 front-byte : (n i : ℕ) (form l : List ℕ) → take n l ≡ form → i < n → getD l i 0 ≡ getD form i 0
 front-byte n i form l e h = sym (getD-take n l i 0 h) ∙ ap (λ (x : List ℕ). getD x i 0) e
 
+-- two bytes with which a form begins are not at the front of a stray brace
+not-two : (l : List ℕ) (a b : ℕ) → isStray (firstForm l) ≡ true → ((c d : ℕ) → isStray (formAt a b c d) ≡ false)
+    → take 2 l ≡ a ∷ b ∷ [] → ⊥
+unfolding firstForm
+not-two l a b e calm f =
+    let x : getD l 0 0 ≡ a = front-byte 2 0 _ l f (omega arith) in
+    let y : getD l 1 0 ≡ b = front-byte 2 1 _ l f (omega arith) in
+    clash (rw (x, y) at e) (calm (getD l 2 0) (getD l 3 0))
+
 -- a stray brace begins none of the four
 pub stray-none : (l : List ℕ) → isStray (firstForm l) ≡ true → NoForm l
 unfolding firstForm formAt
 stray-none l e = record {
-  no-opening-twice = λ (b : take 2 l ≡ opening ∷ opening ∷ []).
-      let x : getD l 0 0 ≡ opening = front-byte 2 0 _ l b (omega arith) in
-      let y : getD l 1 0 ≡ opening = front-byte 2 1 _ l b (omega arith) in
-      clash (rw (x, y) at e) refl;
-  no-closing-twice = λ (b : take 2 l ≡ closing ∷ closing ∷ []).
-      let x : getD l 0 0 ≡ closing = front-byte 2 0 _ l b (omega arith) in
-      let y : getD l 1 0 ≡ closing = front-byte 2 1 _ l b (omega arith) in
-      clash (rw (x, y) at e) refl;
-  no-plain = λ (b : take 2 l ≡ plainForm).
-      let x : getD l 0 0 ≡ opening = front-byte 2 0 _ l b (omega arith) in
-      let y : getD l 1 0 ≡ closing = front-byte 2 1 _ l b (omega arith) in
-      clash (rw (x, y) at e) refl;
+  no-opening-twice = not-two l opening opening e (λ c d. refl);
+  no-closing-twice = not-two l closing closing e (λ c d. refl);
+  no-plain = not-two l opening closing e (λ c d. refl);
   no-repr = λ (b : take 4 l ≡ reprForm).
       let x : getD l 0 0 ≡ opening = front-byte 4 0 _ l b (omega arith) in
       let y : getD l 1 0 ≡ bang = front-byte 4 1 _ l b (omega arith) in
@@ -88,14 +88,15 @@ none-stray l brace s = go (formAt (getD l 0 0) (getD l 1 0) (getD l 2 0) (getD l
     go : (f : Form) → Seen f (getD l 0 0) (getD l 1 0) (getD l 2 0) (getD l 3 0) → isStray f ≡ true
     go (Plain x) t = clash brace (t .1)
     go (Doubled x) t =
-        let two = take-two l (there l 1 (λ (z : getD l 1 0 ≡ 0). brace-not-zero _ brace (sym (t .1 .1) ∙ z))) in
-        absurd (two-alike _ _ brace (t .1 .1) (λ e. s .no-opening-twice (two ∙ e)) (λ e. s .no-closing-twice (two ∙ e)))
+        let two = take-two l (there l 1 (λ (z : getD l 1 0 ≡ 0). brace-not-zero _ brace (sym (t .twice) ∙ z))) in
+        absurd (two-alike _ _ brace (t .twice) (λ e. s .no-opening-twice (two ∙ e))
+        (λ e. s .no-closing-twice (two ∙ e)))
     go Empty t =
         let two = take-two l (there l 1 (λ (z : getD l 1 0 ≡ 0). absurd (omega (arith, t .1)))) in
         absurd (s .no-plain (two ∙ rw (t .0, t .1) refl))
     go Converted t =
-        let four = take-four l (there l 3 (λ (z : getD l 3 0 ≡ 0). absurd (omega (arith, t .1 .1 .1)))) in
-        absurd (s .no-repr (four ∙ rw (t .0, t .1 .0, t .1 .1 .0, t .1 .1 .1) refl))
+        let four = take-four l (there l 3 (λ (z : getD l 3 0 ≡ 0). absurd (omega (arith, t .closes)))) in
+        absurd (s .no-repr (four ∙ rw (t .opens, t .marked, t .letter, t .closes) refl))
     go Stray t = refl
 
 stray-brace : (l : List ℕ) → isStray (firstForm l) ≡ true → isBrace (getD l 0 0) ≡ true
@@ -149,6 +150,30 @@ place-refused t words bytes p s =
     ) in
     rw (at, ne-eqb p (length t) (λ (q : p ≡ length t). absurd (omega (arith, s .inside)))) refl
 
+strictly : (a b : ℕ) → a ≤ b → eqb a b ≡ false → a < b
+strictly a b h n = ⊎-elim (λ (f : b ≤ a). absurd (eqb-false a b n (omega arith))) (λ (f : a < b). f) (le-or-lt b a)
+
+-- the first byte that is not read, if there is one, is at such a place
+stray-place : (t : List ℕ) → legible 0 t < length t → StrayPlace t (legible 0 t)
+stray-place t less =
+    let s = front (length t) t (omega arith) in
+    record {
+      parts = s .parts;
+      before-it = s .same;
+      inside = less;
+      brace = brace-at t (legible 0 t) (s .stop less);
+      no-form = stray-none _ (s .stop less);
+    }
+
+-- the number of an answer, and the first number that a refusal carries
+abbrev pub numberIn : Answer → ℕ
+numberIn (accepted vs) = 0
+numberIn (refused n vs) = n
+
+abbrev placeIn : Answer → ℕ
+placeIn (accepted vs) = 0
+placeIn (refused n vs) = getD vs 0 0
+
 pub refused-place : (t : List ℕ) (words bytes p : ℕ) → readOf t words bytes ≡ refused strayBrace (p ∷ [])
     → StrayPlace t p
 unfolding readOf fitCheck
@@ -156,14 +181,6 @@ refused-place t words bytes p e = go (eqb (legible 0 t) (length t)) fit refl e
   where
     fit : Bool
     fit = leb (2 * length (partsIn 0 t)) words && (leb (length (textsOf (partsIn 0 t))) bytes && isShort (partsIn 0 t))
-
-    numberIn : Answer → ℕ
-    numberIn (accepted vs) = 0
-    numberIn (refused n vs) = n
-
-    placeIn : Answer → ℕ
-    placeIn (accepted vs) = 0
-    placeIn (refused n vs) = getD vs 0 0
 
     go : (a b : Bool) → eqb (legible 0 t) (length t) ≡ a
         → if' a (λ _. if' b (λ _. accepted (length (partsIn 0 t) ∷ length (textsOf (partsIn 0 t)) ∷ []))
@@ -173,19 +190,7 @@ refused-place t words bytes p e = go (eqb (legible 0 t) (length t)) fit refl e
     go true false a-is e = absurd (omega (arith, ap numberIn e))
     go false b a-is e =
         let at : p ≡ legible 0 t = ap placeIn (sym e) in
-        let s = front (length t) t (omega arith) in
-        let less : legible 0 t < length t = strictly (legible 0 t) (length t) (legible-most 0 t) a-is in
-        rw at record {
-          parts = s .parts;
-          before-it = s .same;
-          inside = less;
-          brace = brace-at t (legible 0 t) (s .stop less);
-          no-form = stray-none _ (s .stop less);
-        }
-      where
-        strictly : (a b : ℕ) → a ≤ b → eqb a b ≡ false → a < b
-        strictly a b h n =
-            ⊎-elim (λ (f : b ≤ a). absurd (eqb-false a b n (omega arith))) (λ (f : a < b). f) (le-or-lt b a)
+        rw at (stray-place t (strictly (legible 0 t) (length t) (legible-most 0 t) a-is))
 
 -- so a format text is never refused with 63, only with 7; and a text that is not 63 is the format text of what is read
 -- from it

@@ -52,11 +52,6 @@ afterwards (refused n vs) bs buffer = buffer
 unfoldable pub textAfter : List ℕ → List ℕ → List ℕ → List ℕ → List ℕ
 textAfter ws ts ds buffer = afterwards (writeOf ws ts ds (length buffer)) (textFor ws ts) buffer
 
--- whether an answer is a refusal
-abbrev pub isRefused : Answer → Bool
-isRefused (accepted vs) = false
-isRefused (refused n vs) = true
-
 -- the meaning of the answers of the code
 abbrev pub written : Written → Answer
 written (Accepted n enabled) = accepted (n ∷ notice enabled ∷ [])

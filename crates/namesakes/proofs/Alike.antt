@@ -3,7 +3,7 @@
 -- has its like at the same place of the other (`over`). Cite `alike-rules`. Assumes nothing.
 use mathlib.Core.Path.{_≡_, refl, sym, ap, _∙_}
 use mathlib.Core.Bool.{true}
-use mathlib.Core.Logic.{_⊎_, inl, inr}
+use mathlib.Core.Logic.{inl, inr}
 use mathlib.Core.List.{List, [], _∷_, _++_}
 use Prim.Native.Nat.{ℕ, zero, suc, _+_}
 use native.Mathlib.Omega.{arith}
@@ -20,8 +20,9 @@ use Rattle.arguments.specs.declared.Kind.{Kind}
 use Rattle.arguments.specs.declared.Kind.the-variants.{Positional, Named, Args, KwArgs}
 use Rattle.bind.specs.FlatList.{FlatParam}
 use Rattle.bind.specs.Job.{argumentsAt}
-use Rattle.reached.specs.Said.{IsAt, CanBeNamed, ByPlace}
+use Rattle.reached.specs.Said.{IsAt}
 use Rattle.reached.specs.Rules.{Matching, Rules}
+use Rattle.reached.proofs.Reaching.{HasArgument}
 use Rattle.namesakes.specs.Said.{calledBy, Alike}
 
 pub alike-sym : (xs ys : List Argument) → Alike xs ys → Alike ys xs
@@ -54,14 +55,22 @@ alike-names [] [] l = refl
 alike-names (x ∷ xs) (y ∷ ys) l =
     names-one x xs ∙ rw (l .0 .0, l .0 .1, alike-names xs ys (l .1)) (sym (names-one y ys))
 
--- an argument's like
-over : (xs ys : List Argument) → Alike xs ys → (k : ℕ) (a : Argument) → IsAt xs k a
-    → (b : Argument) × (IsAt ys k b × ((kindIn b ≡ kindIn a) × (calledBy b ≡ calledBy a)))
-over (x ∷ xs) (y ∷ ys) l zero a at = (
-  y,
-  (refl, (sym (l .0 .0) ∙ ap kindIn at, sym (l .0 .1) ∙ ap calledBy at)),
-)
-over (x ∷ xs) (y ∷ ys) l (suc k) a at = over xs ys (l .1) k a at
+-- an argument's like: at the same place, of the same kind, called by the same name
+record Like (ys : List Argument) (k : ℕ) (a : Argument) : Type 0 where
+  like : Argument
+  there : IsAt ys k like
+  kind : kindIn like ≡ kindIn a
+  called : calledBy like ≡ calledBy a
+
+over : (xs ys : List Argument) → Alike xs ys → (k : ℕ) (a : Argument) → IsAt xs k a → Like ys k a
+over (x ∷ xs) (y ∷ ys) l zero a at = record {
+  like = y;
+  there = refl;
+  kind = sym (l .0 .0) ∙ ap kindIn at;
+  called = sym (l .0 .1) ∙ ap calledBy at;
+}
+over (x ∷ xs) (y ∷ ys) l (suc k) a at = let o = over xs ys (l .1) k a at in
+    record { like = o .like; there = o .there; kind = o .kind; called = o .called }
 
 positional-of : (b : Argument) → kindIn b ≡ Positional → (s : Node) × (b ≡ positional s)
 positional-of (positional r) e = (r, refl)
@@ -91,26 +100,33 @@ module _ (xs ys : List Argument) (l : Alike xs ys) (k : ℕ) where
   pub positional-over : (r : Node) → IsAt xs k (positional r) → (s : Node) × IsAt ys k (positional s)
   positional-over r at =
       let o = over xs ys l k (positional r) at in
-      let is = positional-of (o .0) (o .1 .1 .0) in
-      (is .0, rw (is .1) at (o .1 .0))
+      let is = positional-of (o .like) (o .kind) in
+      (is .0, rw (is .1) at (o .there))
 
   named-over : (r : Node) (x : Name) → IsAt xs k (named r x) → (s : Node) × IsAt ys k (named s x)
   named-over r x at =
       let o = over xs ys l k (named r x) at in
-      let is = named-of (o .0) x (o .1 .1 .0) (o .1 .1 .1) in
-      (is .0, rw (is .1) at (o .1 .0))
+      let is = named-of (o .like) x (o .kind) (o .called) in
+      (is .0, rw (is .1) at (o .there))
 
   args-over : (r : Node) → IsAt xs k (args r) → (s : Node) × IsAt ys k (args s)
   args-over r at =
       let o = over xs ys l k (args r) at in
-      let is = args-of (o .0) (o .1 .1 .0) in
-      (is .0, rw (is .1) at (o .1 .0))
+      let is = args-of (o .like) (o .kind) in
+      (is .0, rw (is .1) at (o .there))
 
   kwargs-over : (r : Node) → IsAt xs k (kwargs r) → (s : Node) × IsAt ys k (kwargs s)
   kwargs-over r at =
       let o = over xs ys l k (kwargs r) at in
-      let is = kwargs-of (o .0) (o .1 .1 .0) in
-      (is .0, rw (is .1) at (o .1 .0))
+      let is = kwargs-of (o .like) (o .kind) in
+      (is .0, rw (is .1) at (o .there))
+
+-- a parameter that has an argument has its like
+argument-over : (xs ys : List Argument) → Alike xs ys → (i : ℕ) (p : FlatParam) → HasArgument xs i p
+    → HasArgument ys i p
+argument-over xs ys l i p (inl (r, (at, b))) = let o = positional-over xs ys l i r at in inl (o .0, (o .1, b))
+argument-over xs ys l i p (inr (k, (r, (at, c)))) = let o = named-over xs ys l k r (p .name) at in
+    inr (k, (o .0, (o .1, c)))
 
 -- LAW: the rules of two lists
 alike-matching : (fs : List FlatParam) (xs ys : List Argument) → Alike xs ys → Matching fs xs → Matching fs ys
@@ -125,15 +141,8 @@ alike-matching fs xs ys l m =
           let o = named-over ys xs back k r x at in
           let p = positional-over ys xs back i s bt in
           m .notTwice k (o .0) (p .0) x i (o .1) nm (p .1) pl;
-      needed = λ i p at d. go i p (m .needed i p at d);
+      needed = λ i p at d. argument-over xs ys l i p (m .needed i p at d);
     }
-  where
-    go : (i : ℕ) (p : FlatParam) → ((r : Node) × (IsAt xs i (positional r) × ByPlace p))
-        ⊎ ((k : ℕ) × ((r : Node) × (IsAt xs k (named r (p .name)) × CanBeNamed p)))
-        → ((r : Node) × (IsAt ys i (positional r) × ByPlace p))
-        ⊎ ((k : ℕ) × ((r : Node) × (IsAt ys k (named r (p .name)) × CanBeNamed p)))
-    go i p (inl (r, (at, b))) = let o = positional-over xs ys l i r at in inl (o .0, (o .1, b))
-    go i p (inr (k, (r, (at, c)))) = let o = named-over xs ys l k r (p .name) at in inr (k, (o .0, (o .1, c)))
 
 alike-ordered : (xs ys : List Argument) → Alike xs ys → (a : CallArgs) → Ordered xs a → Ordered ys a
 alike-ordered xs ys l a o = record {

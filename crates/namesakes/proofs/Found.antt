@@ -48,32 +48,41 @@ pub record Sake (fs : List FlatParam) (x : Name) (i : ℕ) : Type 0 where
   pub is : Ordinary param
   pub name : param .name ≡ x
 
-pub ordinary-found : (fs : List FlatParam) (x : Name) (k i : ℕ) → ordinaryFrom k x fs ≡ At i
-    → (j : ℕ) × ((i ≡ k + j) × Sake fs x j)
+-- what the search finds, counted from k
+pub record SakeFrom (fs : List FlatParam) (x : Name) (k i : ℕ) : Type 0 where
+  pub place : ℕ
+  pub is : i ≡ k + place
+  pub sake : Sake fs x place
+
+sake-behind : (p : FlatParam) (fs : List FlatParam) (x : Name) (k i : ℕ) → SakeFrom fs x (k + 1) i
+    → SakeFrom (p ∷ fs) x k i
+sake-behind p fs x k i r =
+    let s : Sake fs x (r .place) = r .sake in
+    record {
+      place = suc (r .place);
+      is = omega (arith, r .is);
+      sake = record { param = s .param; there = s .there; is = s .is; name = s .name };
+    }
+
+pub ordinary-found : (fs : List FlatParam) (x : Name) (k i : ℕ) → ordinaryFrom k x fs ≡ At i → SakeFrom fs x k i
 unfolding ordinaryFrom
 ordinary-found [] x k i e = never (cc)
 ordinary-found (p ∷ fs) x k i e =
     go (ordinary (p .mode)) (same (p .name) x) refl refl e (ordinary-found fs x (k + 1) i)
   where
-    on : (ordinaryFrom (k + 1) x fs ≡ At i → (j : ℕ) × ((i ≡ k + 1 + j) × Sake fs x j))
-        → ordinaryFrom (k + 1) x fs ≡ At i → (j : ℕ) × ((i ≡ k + j) × Sake (p ∷ fs) x j)
-    on rest e =
-        let r = rest e in
-        let s : Sake fs x (r .0) = r .1 .1 in
-        let far : i ≡ k + suc (r .0) = omega (arith, r .1 .0) in
-        (suc (r .0), (far, record { param = s .param; there = s .there; is = s .is; name = s .name }))
-
     go : (a b : Bool) → ordinary (p .mode) ≡ a → same (p .name) x ≡ b
         → if' (a && b) (λ _. At k) (λ _. ordinaryFrom (k + 1) x fs) ≡ At i
-        → (ordinaryFrom (k + 1) x fs ≡ At i → (j : ℕ) × ((i ≡ k + 1 + j) × Sake fs x j))
-        → (j : ℕ) × ((i ≡ k + j) × Sake (p ∷ fs) x j)
+        → (ordinaryFrom (k + 1) x fs ≡ At i → SakeFrom fs x (k + 1) i) → SakeFrom (p ∷ fs) x k i
     go true true f g e rest =
-        let is : i ≡ k = cc in
-        let near : i ≡ k + 0 = omega arith in
+        let here : i ≡ k = cc in
         let name : p .name ≡ x = same-bytes-equal (p .name) x g in
-        (0, (near, record { param = p; there = refl; is = mode-is (p .mode) f; name = name }))
-    go true false f g e rest = on rest e
-    go false b f g e rest = on rest e
+        record {
+          place = 0;
+          is = omega arith;
+          sake = record { param = p; there = refl; is = mode-is (p .mode) f; name = name };
+        }
+    go true false f g e rest = sake-behind p fs x k i (rest e)
+    go false b f g e rest = sake-behind p fs x k i (rest e)
 
 pub ordinary-missed : (fs : List FlatParam) (x : Name) (k : ℕ) → ordinaryFrom k x fs ≡ Nothing → (i : ℕ)
     (p : FlatParam) → IsAt fs i p → Ordinary p → p .name ≡ x → ⊥

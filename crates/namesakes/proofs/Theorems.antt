@@ -116,8 +116,8 @@ module _ (t names : List ℕ) (call def : ℕ) (words : List ℕ) {vs : List ℕ
   unfolding namesakeOf
   sake-at x q e =
       let f = ordinary-found fs x 0 q e in
-      let same : f .0 ≡ q = omega (arith, f .1 .0) in
-      rw same at (f .1 .1)
+      let same : f .place ≡ q = omega (arith, f .is) in
+      rw same at (f .sake)
 
   no-sake : (q : ℕ) → namesakeOf fs nameless ≡ At q → ⊥
   unfolding namesakeOf
@@ -130,10 +130,10 @@ module _ (t names : List ℕ) (call def : ℕ) (words : List ℕ) {vs : List ℕ
       go : (r : Place) → ordinaryFrom 0 (p .name) fs ≡ r → r ≡ At q
       go (At i) e =
           let f = ordinary-found fs (p .name) 0 i e in
-          let s : Sake fs (p .name) (f .0) = f .1 .1 in
-          let same : f .0 ≡ q = one-name (listOf t names def) (ps .counts) (ps .outcome) (f .0) q (s .param) p
+          let s : Sake fs (p .name) (f .place) = f .sake in
+          let same : f .place ≡ q = one-name (listOf t names def) (ps .counts) (ps .outcome) (f .place) q (s .param) p
           (s .there) there (s .name) in
-          ap At (omega (arith, f .1 .0))
+          ap At (omega (arith, f .is))
       go Nothing e = absurd (ordinary-missed fs (p .name) 0 e q p there o refl)
 
   -- an argument that has the name of an ordinary parameter and reaches another is in the list

@@ -147,66 +147,68 @@ mutual
   object-small ban none = refl
   object-small ban (t then ts) = base-small ban t
 
-path-small : (edition : Edition) (names : List ℕ) (t : Tree) → small («unpack_path» edition names t) ≡ true
-unfolding «unpack_path»
-path-small edition names (node r ks) =
-    if-small (eqb (r .kind) kindIdentifier) _ _ refl
-    (if-small (eqb (r .kind) kindDot) _ _ (object-small (banned edition names r) ks) refl)
+module _ (edition : Edition) (names : List ℕ) where
+  path-small : (t : Tree) → small («unpack_path» edition names t) ≡ true
+  unfolding «unpack_path»
+  path-small (node r ks) =
+      if-small (eqb (r .kind) kindIdentifier) _ _ refl
+      (if-small (eqb (r .kind) kindDot) _ _ (object-small (banned edition names r) ks) refl)
 
-node-small : (edition : Edition) (names : List ℕ) (form : Form) (r : Node) (ks : Forest)
-    → small (atNode edition names form r ks) ≡ true
-unfolding atNode indexBase index2Base listLength
-node-small edition names Ellipsis r ks = refl
-node-small edition names Path r ks = path-small edition names (node r ks)
-node-small edition names Index r none = refl
-node-small edition names Index r (node b bs then ts) = if-small (eqb (b .kind) kindIdentifier) _ _ refl refl
-node-small edition names Index2 r none = refl
-node-small edition names Index2 r (b then ts) = path-small edition names b
-node-small edition names ListForm r none = refl
-node-small edition names ListForm r (t then none) = refl
-node-small edition names ListForm r (t then (u then ts)) = refl
-node-small edition names Union r ks = refl
-node-small edition names Tuple r ks = refl
-node-small edition names Other r ks = refl
+  node-small : (form : Form) (r : Node) (ks : Forest)
+      → small (atNode edition names form r ks) ≡ true
+  unfolding atNode indexBase index2Base listLength
+  node-small Ellipsis r ks = refl
+  node-small Path r ks = path-small (node r ks)
+  node-small Index r none = refl
+  node-small Index r (node b bs then ts) = if-small (eqb (b .kind) kindIdentifier) _ _ refl refl
+  node-small Index2 r none = refl
+  node-small Index2 r (b then ts) = path-small b
+  node-small ListForm r none = refl
+  node-small ListForm r (t then none) = refl
+  node-small ListForm r (t then (u then ts)) = refl
+  node-small Union r ks = refl
+  node-small Tuple r ks = refl
+  node-small Other r ks = refl
 
-rule-type : (edition : Edition) (names : List ℕ) (r : Node) (ks : Forest) (children : Reads → Answer)
-    → ((reads : Reads) → small (children reads) ≡ true) → small (typeRule edition names r ks children) ≡ true
-rule-type edition names r ks children below =
-    then-small (atNode edition names (formOf (r .kind) (r .detail)) r ks) _
-    (node-small edition names (formOf (r .kind) (r .detail)) r ks) (below (readsOf (formOf (r .kind) (r .detail))))
+  rule-type : (r : Node) (ks : Forest) (children : Reads → Answer)
+      → ((reads : Reads) → small (children reads) ≡ true) → small (typeRule edition names r ks children) ≡ true
+  rule-type r ks children below =
+      then-small (atNode edition names (formOf (r .kind) (r .detail)) r ks) _
+      (node-small (formOf (r .kind) (r .detail)) r ks) (below (readsOf (formOf (r .kind) (r .detail))))
 
-child-small : (how : How) (x y : Unit {0} → Answer) → small (x tt) ≡ true → small (y tt) ≡ true
-    → small (ofChild how (accepted []) x y) ≡ true
-child-small Unread x y p q = refl
-child-small AsType x y p q = p
-child-small AsArgument x y p q = q
+  child-small : (how : How) (x y : Unit {0} → Answer) → small (x tt) ≡ true → small (y tt) ≡ true
+      → small (ofChild how (accepted []) x y) ≡ true
+  child-small Unread x y p q = refl
+  child-small AsType x y p q = p
+  child-small AsArgument x y p q = q
 
-mutual
-  unfolding «unpack»
+  mutual
+    unfolding «unpack»
 
-  unpack-small : (edition : Edition) (names : List ℕ) (t : Tree) → small («unpack» edition names t) ≡ true
-  unpack-small edition names (node r ks) =
-      rule-type edition names r ks (λ reads. unpackEach reads edition names ks)
-      (λ reads. types-small reads edition names ks)
+    unpack-small : (t : Tree) → small («unpack» edition names t) ≡ true
+    unpack-small (node r ks) =
+        rule-type r ks (λ reads. unpackEach reads edition names ks)
+        (λ reads. types-small reads ks)
 
-  argument-small : (edition : Edition) (names : List ℕ) (t : Tree) → small («unpack_argument» edition names t) ≡ true
-  argument-small edition names (node r ks) =
-      if-small (eqb (r .kind) kindList) _ _ (types-small argumentsOnly edition names ks)
-      (rule-type edition names r ks (λ reads. unpackEach reads edition names ks)
-      (λ reads. types-small reads edition names ks))
+    argument-small : (t : Tree) → small («unpack_argument» edition names t) ≡ true
+    argument-small (node r ks) =
+        if-small (eqb (r .kind) kindList) _ _ (types-small argumentsOnly ks)
+        (rule-type r ks (λ reads. unpackEach reads edition names ks)
+        (λ reads. types-small reads ks))
 
-  types-small : (reads : Reads) (edition : Edition) (names : List ℕ) (ts : Forest)
-      → small (unpackEach reads edition names ts) ≡ true
-  types-small reads edition names none = refl
-  types-small reads edition names (t then ts) =
-      then-small
-      (ofChild (reads .first) (accepted []) (λ _. «unpack» edition names t) (λ _. «unpack_argument» edition names t)) _
-      (child-small (reads .first) _ _ (unpack-small edition names t) (argument-small edition names t))
-      (types-small (readsAs (reads .others) (reads .others)) edition names ts)
+    types-small : (reads : Reads) (ts : Forest)
+        → small (unpackEach reads edition names ts) ≡ true
+    types-small reads none = refl
+    types-small reads (t then ts) =
+        then-small
+        (ofChild (reads .first) (accepted []) (λ _. «unpack» edition names t)
+        (λ _. «unpack_argument» edition names t)) _
+        (child-small (reads .first) _ _ (unpack-small t) (argument-small t))
+        (types-small (readsAs (reads .others) (reads .others)) ts)
 
-pub type-small : (edition : Edition) (names : List ℕ) (types : DialectTypes) (t : Tree)
-    → small («dialect_check_type» edition names types t) ≡ true
-unfolding «dialect_check_type»
-type-small edition names types (node r ks) =
-    then-small (typesCheck types r) _ (if-small (permitsTypes types) _ _ refl refl)
-    (unpack-small edition names (node r ks))
+  pub type-small : (types : DialectTypes) (t : Tree)
+      → small («dialect_check_type» edition names types t) ≡ true
+  unfolding «dialect_check_type»
+  type-small types (node r ks) =
+      then-small (typesCheck types r) _ (if-small (permitsTypes types) _ _ refl refl)
+      (unpack-small (node r ks))

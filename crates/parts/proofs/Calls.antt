@@ -6,7 +6,7 @@
 use mathlib.Core.Path.{_≡_, refl, ap}
 use mathlib.Core.Bool.{Bool, true, false}
 use mathlib.Core.List.{List, [], _∷_, _++_}
-use Prim.Native.Nat.{ℕ, suc}
+use Prim.Native.Nat.{ℕ}
 use lib.ListN.{length}
 use lib.Dec.{eqb}
 use Rattle.fields.specs.Choice.{if'}
@@ -29,6 +29,7 @@ use Rattle.arguments.specs.declared.Check.{Check}
 use Rattle.arguments.specs.declared.Check.the-variants.{Fine, Broken, Repeated}
 use Rattle.arguments.specs.declared.Walk.{Walk}
 use Rattle.parts.specs.Parts.{SameRecord, SameTree, SameTrees, read}
+use Rattle.parts.proofs.Pairs.{made, made-length, made-more, isAt}
 use Rattle.parts.proofs.Read.{Answers}
 
 -- an entry of two lists: its kind and name, and its record in each, which have the same span and the same position of
@@ -52,13 +53,18 @@ at-name-same : (p : Pair) (n i j : ℕ) → Answers (refusedAtName n (p .one) i)
 unfolding read
 at-name-same p n i j = rw (p .file, p .source, p .nameLen) refl
 
-unfoldable oneList : List Pair → List Argument
-oneList [] = []
-oneList (p ∷ ps) = argument (p .kind) (p .one) (p .name) ∷ oneList ps
+abbrev oneOf : Pair → Argument
+oneOf p = argument (p .kind) (p .one) (p .name)
 
-unfoldable otherList : List Pair → List Argument
-otherList [] = []
-otherList (p ∷ ps) = argument (p .kind) (p .other) (p .name) ∷ otherList ps
+abbrev otherOf : Pair → Argument
+otherOf p = argument (p .kind) (p .other) (p .name)
+
+-- the two lists that pairs make
+abbrev oneList : List Pair → List Argument
+oneList ps = made oneOf ps
+
+abbrev otherList : List Pair → List Argument
+otherList ps = made otherOf ps
 
 record Paired (l m : List Argument) : Type 0 where
   pairs : List Pair
@@ -81,7 +87,7 @@ module _ (names others : List ℕ) where
 
   arguments-paired : (ts us : Forest) → SameTrees names others ts us
       → Paired (argumentsIn names ts) (argumentsIn others us)
-  unfolding argumentsIn argumentOf kindAt SameTrees oneList otherList
+  unfolding argumentsIn argumentOf kindAt SameTrees made
   arguments-paired none none h = record { pairs = []; is-one = refl; is-other = refl }
   arguments-paired none (u then us) h = absurd h
   arguments-paired (t then ts) none h = absurd h
@@ -117,36 +123,9 @@ kind-made Named r n = refl
 kind-made Args r n = refl
 kind-made KwArgs r n = refl
 
--- both lists have the same length, also with one more entry
-one-length : (ps : List Pair) → length (oneList ps) ≡ length ps
-unfolding oneList
-one-length [] = refl
-one-length (p ∷ ps) = ap suc (one-length ps)
-
-other-length : (ps : List Pair) → length (otherList ps) ≡ length ps
-unfolding otherList
-other-length [] = refl
-other-length (p ∷ ps) = ap suc (other-length ps)
-
-one-more : (bs : List Pair) (p : Pair)
-    → oneList bs ++ argument (p .kind) (p .one) (p .name) ∷ [] ≡ oneList (bs ++ p ∷ [])
-unfolding oneList
-one-more [] p = refl
-one-more (b ∷ bs) p = ap (λ (l : List Argument). argument (b .kind) (b .one) (b .name) ∷ l) (one-more bs p)
-
-other-more : (bs : List Pair) (p : Pair)
-    → otherList bs ++ argument (p .kind) (p .other) (p .name) ∷ [] ≡ otherList (bs ++ p ∷ [])
-unfolding otherList
-other-more [] p = refl
-other-more (b ∷ bs) p = ap (λ (l : List Argument). argument (b .kind) (b .other) (b .name) ∷ l) (other-more bs p)
-
 -- an earlier argument with a name is in both lists or in neither
-abbrev isAt : Found → Bool
-isAt (At i) = true
-isAt Nothing = false
-
 found-same : (x : Name) (ps : List Pair) → isAt (firstSame x (oneList ps)) ≡ isAt (firstSame x (otherList ps))
-unfolding firstSame hasName oneList otherList
+unfolding firstSame hasName made
 found-same x [] = refl
 found-same x (p ∷ ps) = go (p .kind) (found-same x ps)
   where
@@ -201,20 +180,21 @@ module _ (p : Pair) (next more : Unit {0} → Outcome) (on-same : Same (next tt)
 
 run-same : (bs : List Pair) (w : Walk) (ps : List Pair)
     → Same (run (oneList bs) w (oneList ps)) (run (otherList bs) w (otherList ps))
-unfolding run oneList otherList
+unfolding run made
 run-same bs w [] =
-    rw (one-length bs, other-length bs) (choose-same (eqb (total (w .counts)) (length bs)) _ _ _ _ refl refl)
+    rw (made-length oneOf bs, made-length otherOf bs)
+    (choose-same (eqb (total (w .counts)) (length bs)) _ _ _ _ refl refl)
 run-same bs w (p ∷ ps) =
     rw (node-made (p .kind) (p .one) (p .name), node-made (p .kind) (p .other) (p .name))
     (rw (kind-made (p .kind) (p .one) (p .name), kind-made (p .kind) (p .other) (p .name))
-    (rw (one-more bs p, other-more bs p, one-length bs, other-length bs)
+    (rw (made-more oneOf bs p, made-more otherOf bs p, made-length oneOf bs, made-length otherOf bs)
     (turn-same p _ _ (choose-same (taken (w .counts) (p .kind)) _ _ _ _ refl
     (run-same (bs ++ p ∷ []) (advance w (length bs) (p .kind)) ps)) bs (w .stage) (p .kind) (p .name))))
 
 -- LAW: a call
 pub call-same : (names others : List ℕ) (t u : Tree) → SameTree names others t u
     → Answers (callAnswer names t) (callAnswer others u)
-unfolding callAnswer unpack oneList otherList
+unfolding callAnswer unpack made
 call-same names others t u h =
     let both = call-paired names others t u h in
     rw (both .is-one, both .is-other) (run-same [] start (both .pairs))

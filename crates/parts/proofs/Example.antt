@@ -15,8 +15,9 @@ use Rattle.deflist.specs.Unpack.{hasName, firstSame, repeats, advance, step, fi
 use Rattle.deflist.specs.Limited.{limited}
 use Rattle.validate.specs.Params.{everyMark, «validate_params», withParams}
 use Rattle.validate.specs.Module.{armOf, f, exprErrors, expr, «validate_module»}
-use Rattle.parts.specs.Parts.{_beside_, SameRecord, SameTree, joined, Kept, under, read, readInTurn}
-use Rattle.parts.specs.Example.{recordAt, rootAt, wholeNames, inTwo, twice, misplaced}
+use Rattle.parts.specs.Parts.{_beside_, SameRecord, SameTree, SameTrees, joined, Kept, under, read, readInTurn}
+use Rattle.parts.specs.Example.{recordAt, rootAt, parameterAt, lambdaAt, breakAt, wholeNames, inTwo}
+use Rattle.parts.specs.Example.{twice, misplaced}
 
 -- a record at two indices in two tables says the same if its name is the same
 same-record : {names others : List ℕ} (i j kind len start there begin stop size : ℕ)
@@ -34,34 +35,28 @@ same-record i j kind len start there begin stop size h = record {
   name = h;
 }
 
--- EXAMPLE: the hypothesis holds: the name is at 1 in `xa` and at 0 in `a`, and `break` is node 6, then node 1
+-- the lambda, with the parameter `a` whose name is at 1 in `xa` and at 0 in `a`; and `break`, node 6, then node 1
+parameter-same : (i begin stop : ℕ)
+    → SameTree wholeNames (97 ∷ []) (parameterAt i 1 begin stop) (parameterAt i 0 begin stop)
+unfolding SameTree nameOf
+parameter-same i begin stop = (same-record i i kindNormal 1 1 0 begin stop 1 refl, tt)
+
+lambda-same : SameTrees wholeNames (97 ∷ []) (lambdaAt 1) (lambdaAt 0)
+unfolding SameTree nameOf
+lambda-same =
+    let statement = same-record 1 1 kindOtherSimple 0 0 0 0 14 5 refl in
+    let lambda = same-record 2 2 kindLambda 0 0 0 0 14 4 refl in
+    let body = same-record 5 5 kindInt 0 0 0 13 14 1 refl in
+    ((statement, ((lambda, (parameter-same 3 7 8, (parameter-same 4 10 11, ((body, tt), tt)))), tt)), tt)
+
+break-same : SameTrees wholeNames [] (breakAt 6) (breakAt 1)
+unfolding SameTree nameOf
+break-same = ((same-record 6 1 kindBreak 0 0 0 15 20 1 refl, tt), tt)
+
+-- EXAMPLE: the hypothesis holds
 pub kept : Kept wholeNames inTwo
-unfolding Kept SameTree nameOf
-kept =
-    let parameter : (i begin stop : ℕ) → SameRecord wholeNames (97 ∷ []) (recordAt i kindNormal 1 1 begin stop 1)
-    (recordAt i kindNormal 1 0 begin stop 1)
-    = λ i begin stop. same-record i i kindNormal 1 1 0 begin stop 1 refl in (
-      refl,
-      (
-        (
-          (
-            same-record 1 1 kindOtherSimple 0 0 0 0 14 5 refl,
-            (
-              (
-                same-record 2 2 kindLambda 0 0 0 0 14 4 refl,
-                (
-                  (parameter 3 7 8, tt),
-                  ((parameter 4 10 11, tt), ((same-record 5 5 kindInt 0 0 0 13 14 1 refl, tt), tt)),
-                ),
-              ),
-              tt,
-            ),
-          ),
-          tt,
-        ),
-        (refl, (((same-record 6 1 kindBreak 0 0 0 15 20 1 refl, tt), tt), tt)),
-      ),
-    )
+unfolding Kept
+kept = (refl, (lambda-same, (refl, (break-same, tt))))
 
 -- EXAMPLE: the words that are read of the whole, and of the parts in turn
 abbrev extended : Dialect

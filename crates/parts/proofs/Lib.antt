@@ -1,4 +1,5 @@
 pub mod Read
+pub mod Pairs
 pub mod Targets
 pub mod Types
 pub mod Lists

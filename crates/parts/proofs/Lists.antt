@@ -6,7 +6,7 @@
 use mathlib.Core.Path.{_≡_, refl, ap}
 use mathlib.Core.Bool.{Bool, true, false, not}
 use mathlib.Core.List.{List, [], _∷_, _++_}
-use Prim.Native.Nat.{ℕ, zero, suc, _+_}
+use Prim.Native.Nat.{ℕ, _+_}
 use lib.ListN.{length, drop}
 use lib.Dec.{eqb, ltb}
 use Rattle.fields.specs.Choice.{if'}
@@ -37,6 +37,7 @@ use Rattle.errors.specs.Errors.{errAt, unless}
 use Rattle.validate.specs.Params.{isMark, notPermitted, permits, everyMark, marks, unpackError}
 use Rattle.validate.specs.declared.Mark.{Mark}
 use Rattle.parts.specs.Parts.{SameRecord, SameTrees, read}
+use Rattle.parts.proofs.Pairs.{made, made-length, made-drop, made-more, isAt}
 use Rattle.parts.proofs.Read.{Reads, reads-both, reads-if, reads-at}
 
 -- two records with the same span and source file
@@ -57,13 +58,18 @@ record Pair : Type 0 where
   other : Node
   place : SamePlace one other
 
-unfoldable oneList : List Pair → List Param
-oneList [] = []
-oneList (p ∷ ps) = param (p .kind) (p .one) (p .name) ∷ oneList ps
+abbrev oneOf : Pair → Param
+oneOf p = param (p .kind) (p .one) (p .name)
 
-unfoldable otherList : List Pair → List Param
-otherList [] = []
-otherList (p ∷ ps) = param (p .kind) (p .other) (p .name) ∷ otherList ps
+abbrev otherOf : Pair → Param
+otherOf p = param (p .kind) (p .other) (p .name)
+
+-- the two lists that pairs make
+abbrev oneList : List Pair → List Param
+oneList ps = made oneOf ps
+
+abbrev otherList : List Pair → List Param
+otherList ps = made otherOf ps
 
 pub record Paired (l m : List Param) : Type 0 where
   pairs : List Pair
@@ -82,7 +88,7 @@ module _ (names others : List ℕ) where
 
   -- LAW: the parameters that come first among trees that say the same
   pub params-paired : (ts us : Forest) → SameTrees names others ts us → Paired (paramsIn names ts) (paramsIn others us)
-  unfolding paramsIn paramOf kindAt SameTrees oneList otherList
+  unfolding paramsIn paramOf kindAt SameTrees made
   params-paired none none h = record { pairs = []; is-one = refl; is-other = refl }
   params-paired none (u then us) h = absurd h
   params-paired (t then ts) none h = absurd h
@@ -123,47 +129,9 @@ kind-made Slash r n = refl
 kind-made Args r n = refl
 kind-made KwArgs r n = refl
 
--- both lists have the same length, and are made from pairs after any number of entries
-one-length : (ps : List Pair) → length (oneList ps) ≡ length ps
-unfolding oneList
-one-length [] = refl
-one-length (p ∷ ps) = ap suc (one-length ps)
-
-other-length : (ps : List Pair) → length (otherList ps) ≡ length ps
-unfolding otherList
-other-length [] = refl
-other-length (p ∷ ps) = ap suc (other-length ps)
-
-one-drop : (n : ℕ) (ps : List Pair) → drop n (oneList ps) ≡ oneList (drop n ps)
-unfolding oneList
-one-drop zero ps = refl
-one-drop (suc n) [] = refl
-one-drop (suc n) (p ∷ ps) = one-drop n ps
-
-other-drop : (n : ℕ) (ps : List Pair) → drop n (otherList ps) ≡ otherList (drop n ps)
-unfolding otherList
-other-drop zero ps = refl
-other-drop (suc n) [] = refl
-other-drop (suc n) (p ∷ ps) = other-drop n ps
-
-one-more : (bs : List Pair) (p : Pair) → oneList bs ++ param (p .kind) (p .one) (p .name) ∷ [] ≡ oneList (bs ++ p ∷ [])
-unfolding oneList
-one-more [] p = refl
-one-more (b ∷ bs) p = ap (λ (l : List Param). param (b .kind) (b .one) (b .name) ∷ l) (one-more bs p)
-
-other-more : (bs : List Pair) (p : Pair)
-    → otherList bs ++ param (p .kind) (p .other) (p .name) ∷ [] ≡ otherList (bs ++ p ∷ [])
-unfolding otherList
-other-more [] p = refl
-other-more (b ∷ bs) p = ap (λ (l : List Param). param (b .kind) (b .other) (b .name) ∷ l) (other-more bs p)
-
 -- an earlier parameter with a name is in both lists or in neither
-abbrev isAt : Found → Bool
-isAt (At i) = true
-isAt Nothing = false
-
 found-same : (x : Name) (ps : List Pair) → isAt (firstSame x (oneList ps)) ≡ isAt (firstSame x (otherList ps))
-unfolding firstSame hasName oneList otherList
+unfolding firstSame hasName made
 found-same x [] = refl
 found-same x (p ∷ ps) = go (p .kind) (found-same x ps)
   where
@@ -209,19 +177,19 @@ module _ {r s : Node} (h : SamePlace r s) (next then' : Unpacking → Outcome)
       → Same (after (step (oneList bs) u (param k r n)) (nodeIn (param k r n)) next)
       (after (step (otherList bs) u (param k s n)) (nodeIn (param k s n)) then')
   unfolding step repeats
-  turn-same bs u (Normal d) n = rw (one-length bs, other-length bs)
+  turn-same bs u (Normal d) n = rw (made-length oneOf bs, made-length otherOf bs)
       (checked-same (firstSame n (oneList bs)) (firstSame n (otherList bs)) (found-same n bs)
       (rule (u .state) (u .«seen_optional») (Normal d)) (keep u (writtenAt (length bs)) (Normal d)))
-  turn-same bs u NoArgs n = rw (one-length bs, other-length bs)
+  turn-same bs u NoArgs n = rw (made-length oneOf bs, made-length otherOf bs)
       (checked-same Nothing Nothing refl (rule (u .state) (u .«seen_optional») NoArgs)
       (keep u (writtenAt (length bs)) NoArgs))
-  turn-same bs u Slash n = rw (one-length bs, other-length bs)
+  turn-same bs u Slash n = rw (made-length oneOf bs, made-length otherOf bs)
       (checked-same Nothing Nothing refl (rule (u .state) (u .«seen_optional») Slash)
       (keep u (writtenAt (length bs)) Slash))
-  turn-same bs u Args n = rw (one-length bs, other-length bs)
+  turn-same bs u Args n = rw (made-length oneOf bs, made-length otherOf bs)
       (checked-same (firstSame n (oneList bs)) (firstSame n (otherList bs)) (found-same n bs)
       (rule (u .state) (u .«seen_optional») Args) (keep u (writtenAt (length bs)) Args))
-  turn-same bs u KwArgs n = rw (one-length bs, other-length bs)
+  turn-same bs u KwArgs n = rw (made-length oneOf bs, made-length otherOf bs)
       (checked-same (firstSame n (oneList bs)) (firstSame n (otherList bs)) (found-same n bs)
       (rule (u .state) (u .«seen_optional») KwArgs) (keep u (writtenAt (length bs)) KwArgs))
 
@@ -236,7 +204,7 @@ next-same q c KwArgs = place-at (q .place) noNormalAfterStar
 
 star-same : (ps : List Pair) (c : Counts)
     → Same (fromStar (oneList ps) (accepted c)) (fromStar (otherList ps) (accepted c))
-unfolding oneList otherList
+unfolding made
 star-same [] c = refl
 star-same (p ∷ []) c =
     rw (node-made (p .kind) (p .one) (p .name), node-made (p .kind) (p .other) (p .name)) (place-at (p .place) starLast)
@@ -246,18 +214,19 @@ finish-same : (ps : List Pair) (star : WrittenPlace) (c : Counts)
     → Same (finish (oneList ps) star c) (finish (otherList ps) star c)
 unfolding finish
 finish-same ps NoWritten c = refl
-finish-same ps (AtWritten i) c = rw (one-drop (i .0) ps, other-drop (i .0) ps) (star-same (drop (i .0) ps) c)
+finish-same ps (AtWritten i) c =
+    rw (made-drop oneOf (i .0) ps, made-drop otherOf (i .0) ps) (star-same (drop (i .0) ps) c)
 
 run-same : (bs : List Pair) (u : Unpacking) (ps : List Pair)
     → Same (run (oneList bs) u (oneList ps)) (run (otherList bs) u (otherList ps))
-unfolding run oneList otherList
+unfolding run made
 run-same bs u [] = finish-same bs (u .«index_of_star») (u .counts)
 run-same bs u (p ∷ ps) =
     turn-same (p .place) _ _
-    (λ v. rw (one-more bs p, other-more bs p) (run-same (bs ++ p ∷ []) v ps)) bs u (p .kind) (p .name)
+    (λ v. rw (made-more oneOf bs p, made-more otherOf bs p) (run-same (bs ++ p ∷ []) v ps)) bs u (p .kind) (p .name)
 
 slash-same : (i : ℕ) (ps : List Pair) → slashFrom i (oneList ps) ≡ slashFrom i (otherList ps)
-unfolding slashFrom oneList otherList
+unfolding slashFrom made
 slash-same i [] = refl
 slash-same i (p ∷ ps) =
     rw (kind-made (p .kind) (p .one) (p .name), kind-made (p .kind) (p .other) (p .name), slash-same (i + 1) ps) refl
@@ -268,7 +237,7 @@ choose-same true x y v w p q = p
 choose-same false x y v w p q = q
 
 unpack-same : (ps : List Pair) → Same (unpack (oneList ps)) (unpack (otherList ps))
-unfolding unpack oneList otherList
+unfolding unpack made
 unpack-same [] = run-same [] _ []
 unpack-same (p ∷ ps) =
     rw (kind-made (p .kind) (p .one) (p .name), kind-made (p .kind) (p .other) (p .name), slash-same 0 (p ∷ ps))
@@ -281,14 +250,14 @@ module _ {names others : List ℕ} {r s : Node} (h : SameRecord names others r s
   pub list-same : Paired l m → Reads (unpackError (told (limited r l))) (unpackError (told (limited s m)))
   unfolding limited
   list-same both =
-      rw (both .is-one, both .is-other, one-length (both .pairs), other-length (both .pairs))
+      rw (both .is-one, both .is-other, made-length oneOf (both .pairs), made-length otherOf (both .pairs))
       (choose-same (ltb mostParameters (length (both .pairs))) _ _ _ _
       (reads-at h tooManyParameters)
       (unpack-same (both .pairs)))
 
 -- LAW: the `*` and `/` markers of a list
 every-same : (m : Mark) (ps : List Pair) → Reads (everyMark m (oneList ps)) (everyMark m (otherList ps))
-unfolding everyMark oneList otherList
+unfolding everyMark made
 every-same m [] = refl
 every-same m (p ∷ ps) =
     rw (kind-made (p .kind) (p .one) (p .name), kind-made (p .kind) (p .other) (p .name))

@@ -24,15 +24,23 @@ use Rattle.bind.specs.declared.Reach.the-variants.{Fills, Joins, Nowhere}
 use Rattle.reached.specs.Said.{IsAt}
 use Rattle.reached.proofs.Walk.{Took, took-other}
 
--- a turn is accepted
+-- a turn is accepted: the words after it, and what it did
+record Turned (place : ℕ) (r : Reach) (a : Argument) (ws : List ℕ) : Type 0 where
+  words : List ℕ
+  accepts : turn place r (kindIn a) (nodeIn a) ws ≡ accepted words
+  took : Took place a ws words r
+
 turn-accepts : (place : ℕ) (r : Reach) (a : Argument) (ws : List ℕ) → (r ≡ Nowhere → ⊥)
-    → ((i : ℕ) → r ≡ Fills i → getD ws i 0 ≡ 0)
-    → (vs : List ℕ) × ((turn place r (kindIn a) (nodeIn a) ws ≡ accepted vs) × Took place a ws vs r)
+    → ((i : ℕ) → r ≡ Fills i → getD ws i 0 ≡ 0) → Turned place r a ws
 unfolding turn
 turn-accepts place (Fills i) a ws some void =
     let z = void i refl in
-    (set (set ws i (nodeIn a .at)) place i, (rw (le-ltb 0 (getD ws i 0) (omega arith)) refl, (z, refl)))
-turn-accepts place (Joins i) a ws some void = (set ws place i, (refl, refl))
+    record {
+      words = set (set ws i (nodeIn a .at)) place i;
+      accepts = rw (le-ltb 0 (getD ws i 0) (omega arith)) refl;
+      took = (z, refl);
+    }
+turn-accepts place (Joins i) a ws some void = record { words = set ws place i; accepts = refl; took = refl }
 turn-accepts place Nowhere a ws some void = absurd (some refl)
 
 module _ (flat : ℕ) (d : DefParamIndices) (fs : List FlatParam)
@@ -44,6 +52,24 @@ module _ (flat : ℕ) (d : DefParamIndices) (fs : List FlatParam)
     pub apart : (j l : ℕ) (a b : Argument) (i : ℕ) → j < l → IsAt qs j a → IsAt qs l b
         → reaches d fs (k + j) a ≡ Fills i → reaches d fs (k + l) b ≡ Fills i → ⊥
 
+  -- after the turn of the first, the others are free
+  free-behind : (k : ℕ) (ws vs : List ℕ) (a : Argument) (qs : List Argument) → Free k ws (a ∷ qs)
+      → Took (flat + k) a ws vs (reaches d fs k a) → Free (k + 1) vs qs
+  free-behind k ws vs a qs f t = record {
+    some = λ j b at e. f .some (suc j) b at (rw (next j) at e);
+    void = λ j b i at e.
+        let here : k ≡ k + 0 = omega arith in
+        let inside = small (k + 1 + j) b i e in
+        took-other (flat + k) a ws vs (reaches d fs k a) i t (λ n. absurd (omega arith))
+        (λ r. f .apart 0 (suc j) a b i (omega arith) refl at (rw here at r) (rw (next j) at e))
+        ∙ f .void (suc j) b i at (rw (next j) at e);
+    apart = λ j l b c i h at ct r q. f .apart (suc j) (suc l) b c i (omega arith) at ct (rw (next j) at r)
+        (rw (next l) at q);
+  }
+    where
+      next : (j : ℕ) → k + 1 + j ≡ k + suc j
+      next j = omega arith
+
   -- LAW: so the walk is accepted
   pub along-accepts : (k : ℕ) (ws : List ℕ) (qs : List Argument) → Free k ws qs
       → (us : List ℕ) × (along flat d fs k ws qs ≡ accepted us)
@@ -53,24 +79,8 @@ module _ (flat : ℕ) (d : DefParamIndices) (fs : List FlatParam)
       let here : k + 0 ≡ k = omega arith in
       let t = turn-accepts (flat + k) (reaches d fs k a) a ws (λ e. f .some 0 a refl (rw here e))
       (λ i e. f .void 0 a i refl (rw here e)) in
-      let rest = along-accepts (k + 1) (t .0) qs (more (t .0) (t .1 .1)) in
-      (rest .0, rw (t .1 .0) (rest .1))
-    where
-      next : (j : ℕ) → k + 1 + j ≡ k + suc j
-      next j = omega arith
-
-      more : (vs : List ℕ) → Took (flat + k) a ws vs (reaches d fs k a) → Free (k + 1) vs qs
-      more vs t = record {
-        some = λ j b at e. f .some (suc j) b at (rw (next j) at e);
-        void = λ j b i at e.
-            let here : k ≡ k + 0 = omega arith in
-            let inside = small (k + 1 + j) b i e in
-            took-other (flat + k) a ws vs (reaches d fs k a) i t (λ n. absurd (omega arith))
-            (λ r. f .apart 0 (suc j) a b i (omega arith) refl at (rw here at r) (rw (next j) at e))
-            ∙ f .void (suc j) b i at (rw (next j) at e);
-        apart = λ j l b c i h at ct r q. f .apart (suc j) (suc l) b c i (omega arith) at ct (rw (next j) at r)
-            (rw (next l) at q);
-      }
+      let rest = along-accepts (k + 1) (t .words) qs (free-behind k ws (t .words) a qs f (t .took)) in
+      (rest .0, rw (t .accepts) (rest .1))
 
 -- LAW: no star, none left empty
 pub star-accepts : (qs : List Argument) → ((k : ℕ) (r : Node) → IsAt qs k (args r) → ⊥)

@@ -2,8 +2,8 @@
 -- passes: the list because it has a good cut, the call because its arguments are in order, and the walk by Accepts. For
 -- that each argument reaches something (`somewhere`: the rules give it a parameter at its place, one of its name, or a
 -- star), no two fill one parameter (`apart`: by two places, by two names, or by a place and a name, which the rules
--- forbid), and each parameter without a default is filled (`needed`). No induction here but on the names of the
--- arguments (`two-names-in`). Assumes nothing.
+-- forbid), and each parameter without a default is filled (`needed`). The only induction is on the arguments, for two
+-- of one name (`names-apart`). Assumes nothing.
 use mathlib.Core.Path.{_≡_, refl, sym, ap, _∙_}
 use mathlib.Core.Bool.{Bool, true, false}
 use mathlib.Core.Logic.{_⊎_, inl, inr}
@@ -16,6 +16,7 @@ use borrow.Author.Tests.{le-leb}
 use Rattle.fields.specs.Choice.{if'}
 use Rattle.fields.proofs.Basics.{never}
 use Rattle.forest.specs.Forest.{Node, nodeOf}
+use Rattle.forest.specs.Names.{Distinct}
 use Rattle.table.specs.Answer.{accepted}
 use Rattle.table.specs.Check.{stretchOf}
 use Rattle.table.specs.declared.Place.{Place}
@@ -38,44 +39,55 @@ use Rattle.bind.specs.FlatList.{FlatParam, flats}
 use Rattle.bind.specs.Binding.{namedFrom, collected, byPlace, byName, reaches, along, binding}
 use Rattle.bind.specs.Job.{noWords, listsBound, argumentsAt, entryOf, wordsOf, bindOf}
 use Rattle.bind.specs.declared.Reach.the-variants.{Fills, Nowhere}
-use Rattle.reached.specs.Said.{IsAt, CanBeNamed, ByPlace}
+use Rattle.reached.specs.Said.{IsAt}
 use Rattle.reached.specs.Rules.{Named, Star, Placed, Matching, Rules}
 use Rattle.reached.proofs.Walk.{was-empty, Nodes}
 use Rattle.reached.proofs.Params.{within, same-at, mode-at}
 use Rattle.reached.proofs.Reaching as reaching
-use Rattle.reached.proofs.Nodes.{call-rising}
+use Rattle.reached.proofs.Reaching.{HasArgument}
+use Rattle.reached.proofs.Nodes.{call-nodes}
 use Rattle.reached.proofs.Accepts.{Free, along-accepts, star-accepts, empty-accepts}
 
--- two named arguments are two names
-one-name-in : (qs : List Argument) (j : ℕ) (r : Node) (x : Name) → IsAt qs j (named r x)
-    → (m : ℕ) × ((m < length (namesOf qs)) × (getD (namesOf qs) m [] ≡ x))
-one-name-in (positional s ∷ qs) zero r x e = never (cc)
-one-name-in (named s y ∷ qs) zero r x e = let same : y ≡ x = cc in (0, (omega arith, same))
-one-name-in (args s ∷ qs) zero r x e = never (cc)
-one-name-in (kwargs s ∷ qs) zero r x e = never (cc)
-one-name-in (positional s ∷ qs) (suc j) r x e = one-name-in qs j r x e
-one-name-in (named s y ∷ qs) (suc j) r x e = let k = one-name-in qs j r x e in
-    (suc (k .0), (omega (arith, k .1 .0), k .1 .1))
-one-name-in (args s ∷ qs) (suc j) r x e = one-name-in qs j r x e
-one-name-in (kwargs s ∷ qs) (suc j) r x e = one-name-in qs j r x e
+-- the name of a named argument, among the names
+record NameIn (qs : List Argument) (x : Name) : Type 0 where
+  pub place : ℕ
+  pub inside : place < length (namesOf qs)
+  pub is : getD (namesOf qs) place [] ≡ x
 
-pub two-names-in : (qs : List Argument) (j l : ℕ) (r s : Node) (x y : Name) → j < l → IsAt qs j (named r x)
-    → IsAt qs l (named s y) → (m : ℕ) × ((n : ℕ) × ((m < n) × ((n < length (namesOf qs))
-    × ((getD (namesOf qs) m [] ≡ x) × (getD (namesOf qs) n [] ≡ y)))))
-two-names-in qs j zero r s x y h e f = absurd (omega arith)
-two-names-in (positional u ∷ qs) zero (suc l) r s x y h e f = never (cc)
-two-names-in (named u z ∷ qs) zero (suc l) r s x y h e f =
-    let same : z ≡ x = cc in
-    let k = one-name-in qs l s y f in
-    (0, (suc (k .0), (omega arith, (omega (arith, k .1 .0), (same, k .1 .1)))))
-two-names-in (args u ∷ qs) zero (suc l) r s x y h e f = never (cc)
-two-names-in (kwargs u ∷ qs) zero (suc l) r s x y h e f = never (cc)
-two-names-in (positional u ∷ qs) (suc j) (suc l) r s x y h e f = two-names-in qs j l r s x y (omega arith) e f
-two-names-in (named u z ∷ qs) (suc j) (suc l) r s x y h e f =
-    let k = two-names-in qs j l r s x y (omega arith) e f in
-    (suc (k .0), (suc (k .1 .0), (omega (arith, k .1 .1 .0), (omega (arith, k .1 .1 .1 .0), k .1 .1 .1 .1))))
-two-names-in (args u ∷ qs) (suc j) (suc l) r s x y h e f = two-names-in qs j l r s x y (omega arith) e f
-two-names-in (kwargs u ∷ qs) (suc j) (suc l) r s x y h e f = two-names-in qs j l r s x y (omega arith) e f
+name-in : (qs : List Argument) (j : ℕ) (r : Node) (x : Name) → IsAt qs j (named r x) → NameIn qs x
+name-in (positional s ∷ qs) zero r x e = never (cc)
+name-in (named s y ∷ qs) zero r x e = let same : y ≡ x = cc in record { place = 0; inside = omega arith; is = same }
+name-in (args s ∷ qs) zero r x e = never (cc)
+name-in (kwargs s ∷ qs) zero r x e = never (cc)
+name-in (positional s ∷ qs) (suc j) r x e = let k = name-in qs j r x e in
+    record { place = k .place; inside = k .inside; is = k .is }
+name-in (named s y ∷ qs) (suc j) r x e = let k = name-in qs j r x e in
+    record { place = suc (k .place); inside = omega (arith, k .inside); is = k .is }
+name-in (args s ∷ qs) (suc j) r x e = let k = name-in qs j r x e in
+    record { place = k .place; inside = k .inside; is = k .is }
+name-in (kwargs s ∷ qs) (suc j) r x e = let k = name-in qs j r x e in
+    record { place = k .place; inside = k .inside; is = k .is }
+
+distinct-rest : (x : Name) (ns : List Name) → Distinct (x ∷ ns) → Distinct ns
+distinct-rest x ns d i j h g e = d (suc i) (suc j) (omega arith) (omega arith) e
+
+-- LAW: where names are distinct, no two named arguments have the same one
+pub names-apart : (qs : List Argument) → Distinct (namesOf qs) → (j l : ℕ) (r s : Node) (x y : Name) → j < l
+    → IsAt qs j (named r x) → IsAt qs l (named s y) → x ≡ y → ⊥
+names-apart qs d j zero r s x y h e f same = absurd (omega arith)
+names-apart (positional u ∷ qs) d zero (suc l) r s x y h e f same = never (cc)
+names-apart (named u z ∷ qs) d zero (suc l) r s x y h e f same =
+    let own : z ≡ x = cc in
+    let k = name-in qs l s y f in
+    d 0 (suc (k .place)) (omega arith) (omega (arith, k .inside)) (own ∙ same ∙ sym (k .is))
+names-apart (args u ∷ qs) d zero (suc l) r s x y h e f same = never (cc)
+names-apart (kwargs u ∷ qs) d zero (suc l) r s x y h e f same = never (cc)
+names-apart (positional u ∷ qs) d (suc j) (suc l) r s x y h e f same =
+    names-apart qs d j l r s x y (omega arith) e f same
+names-apart (named u z ∷ qs) d (suc j) (suc l) r s x y h e f same =
+    names-apart qs (distinct-rest z (namesOf qs) d) j l r s x y (omega arith) e f same
+names-apart (args u ∷ qs) d (suc j) (suc l) r s x y h e f same = names-apart qs d j l r s x y (omega arith) e f same
+names-apart (kwargs u ∷ qs) d (suc j) (suc l) r s x y h e f same = names-apart qs d j l r s x y (omega arith) e f same
 
 pub zeros : (n i : ℕ) → getD {A = ℕ} (replicate n 0) i 0 ≡ 0
 zeros zero i = refl
@@ -176,9 +188,7 @@ module _ (t ns : List ℕ) (call def : ℕ) (list : List ℕ) (rules : Rules t n
       let q = by-name l i s y f in
       let same : p .param ≡ q .param = same-at fs i (p .param) (q .param) (p .there) (q .there) in
       let names : x ≡ y = sym (p .name) ∙ ap (λ (z : FlatParam). z .name) same ∙ q .name in
-      let two = two-names-in qs j l r s x y h at bt in
-      rules .order .1 .distinct (two .0) (two .1 .0) (two .1 .1 .0) (two .1 .1 .1 .0)
-      (two .1 .1 .1 .1 .0 ∙ names ∙ sym (two .1 .1 .1 .1 .1))
+      names-apart qs (rules .order .1 .distinct) j l r s x y h at bt names
 
   abbrev flat : ℕ
   flat = countedOf c .flat
@@ -203,7 +213,7 @@ module _ (t ns : List ℕ) (call def : ℕ) (list : List ℕ) (rules : Rules t n
   walk = along-accepts flat d fs small 0 none-yet qs free
 
   nodes : Nodes qs
-  nodes j a e = let r = call-rising t ns call in omega (arith, r .1 .0, r .1 .1 .least j a e)
+  nodes = call-nodes t ns call
 
   filled : (k : ℕ) (a : Argument) (i : ℕ) → IsAt qs k a → reaches d fs k a ≡ Fills i → getD (walk .0) i 0 ≡ 0 → ⊥
   filled k a i at e z =
@@ -219,14 +229,13 @@ module _ (t ns : List ℕ) (call def : ℕ) (list : List ℕ) (rules : Rules t n
       z′ : getD (walk .0) i 0 ≡ 0
       z′ = rw (from-zero i) at z
 
-      go : ((r : Node) × (IsAt qs i (positional r) × ByPlace p))
-          ⊎ ((k : ℕ) × ((r : Node) × (IsAt qs k (named r (p .name)) × CanBeNamed p))) → ⊥
-      go (inl x) =
-          let placed : Placed fs i = record { param = p; there = sits; byPlace = x .1 .1 } in
-          filled i (positional (x .0)) i (x .1 .0) (placed-fills i (x .0) placed) z′
-      go (inr x) =
-          let it : Named fs (p .name) i = record { param = p; there = sits; canBe = x .1 .1 .1; name = refl } in
-          filled (x .0) (named (x .1 .0) (p .name)) i (x .1 .1 .0) (named-fills (x .0) (x .1 .0) (p .name) i it) z′
+      go : HasArgument qs i p → ⊥
+      go (inl (r, (at, b))) =
+          let placed : Placed fs i = record { param = p; there = sits; byPlace = b } in
+          filled i (positional r) i at (placed-fills i r placed) z′
+      go (inr (k, (r, (at, b)))) =
+          let it : Named fs (p .name) i = record { param = p; there = sits; canBe = b; name = refl } in
+          filled k (named r (p .name)) i at (named-fills k r (p .name) i it) z′
 
   -- THEOREM: a call and a def that meet the rules are accepted
   pub complete : bindOf t ns call def (length list) ≡ accepted (length fs ∷ length qs ∷ [])

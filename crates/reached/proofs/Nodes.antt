@@ -1,7 +1,7 @@
 -- The nodes of a call's arguments: each is behind the call, and behind the argument before it (`Rising`). An argument's
 -- node is the index of its record, and the next argument begins after its subtree; so they rise along the stretch
--- (`rising`, by `forest-induction` on the siblings). Cite `call-rising`: the first node is not 0, so no argument has
--- the word of an empty parameter. Assumes nothing.
+-- (`rising`, by `forest-induction` on the siblings). Cite `call-rising`, and
+-- `call-nodes`: the first node is not 0, so no argument has the word of an empty parameter. Assumes nothing.
 use mathlib.Core.Path.{_≡_, refl, ap}
 use mathlib.Core.List.{List, [], _∷_}
 use Prim.Native.Nat.{ℕ, zero, suc, _+_, _/_, _<_, _≤_}
@@ -46,10 +46,24 @@ rising ns =
     (rising-more i (i + spanOf t / 24) (argumentOf ns (nodeOf i t)) _
     (ap (λ x. x .at) (arg-node ns i t)) (omega arith) rs))
 
+-- the first node of some arguments, which is not 0, and that the nodes rise from there
+pub record FromFirst (qs : List Argument) : Type 0 where
+  pub first : ℕ
+  pub positive : 0 < first
+  pub rising : Rising first qs
+
 -- LAW: the arguments of a call
-pub call-rising : (t ns : List ℕ) (call : ℕ) → (first : ℕ) × ((0 < first) × Rising first (argumentsAt t ns call))
+pub call-rising : (t ns : List ℕ) (call : ℕ) → FromFirst (argumentsAt t ns call)
 unfolding argumentsAt
 call-rising t ns call =
     let s = stretchOf t call in
     let first = call + 1 + spanOf (kidsOf s) / 24 in
-    (first, (omega arith, rw (args-behind ns call s) at (rising ns first (behindCallee s))))
+    record {
+      first = first;
+      positive = omega arith;
+      rising = rw (args-behind ns call s) at (rising ns first (behindCallee s));
+    }
+
+-- LAW: no argument of a call has the node 0
+pub call-nodes : (t ns : List ℕ) (call j : ℕ) (a : Argument) → IsAt (argumentsAt t ns call) j a → 0 < nodeIn a .at
+call-nodes t ns call j a e = let r = call-rising t ns call in omega (arith, r .positive, r .rising .least j a e)

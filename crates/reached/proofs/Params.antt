@@ -35,6 +35,7 @@ use Rattle.bind.specs.Binding.{calledByName, namedFrom}
 use Rattle.bind.proofs.Lists.{flats-modes}
 use Rattle.bind.proofs.Entry.{flats-long}
 use Rattle.reached.specs.Said.{IsAt, CanBeNamed}
+use Rattle.reached.specs.Rules.{Named}
 
 -- number i of a list is there, and is one
 pub there : {A : Type 0} (l : List A) (i : ℕ) → i < length l → (x : A) × IsAt l i x
@@ -93,75 +94,96 @@ no-kwargs : (l : Last) (m : ℕ) → placeOf (kwargsPlace l m) ≡ Nothing → l
 no-kwargs noKwargs m e = refl
 no-kwargs (withKwargs r n) m e = never (cc)
 
-pub stands : (ps : List Param) (c : Counts) → unpack ps ≡ accepted c → Stands ps c
-stands ps c h =
+-- the modes of a cut's flat parameters, where each index has the mode of its range
+module _ (cut : Cut) (ms : List ℕ) (ranges : ByRange (cutRanges cut) ms) where
+  -- below the positional count, and from there on
+  front : (i : ℕ) → i < cutCounts cut .«num_positional» .0
+      → (getD ms i 0 ≡ modePosOnly) ⊎ (getD ms i 0 ≡ modePosOrName)
+  front i g = go (le-or-lt (length (partsOf cut .posOnly)) i)
+    where
+      go : (length (partsOf cut .posOnly) ≤ i) ⊎ (i < length (partsOf cut .posOnly))
+          → (getD ms i 0 ≡ modePosOnly) ⊎ (getD ms i 0 ≡ modePosOrName)
+      go (inl x) = inr (ranges .posOrNamed i x g)
+      go (inr x) = inl (ranges .posOnly i (omega arith) x)
+
+  back : (i : ℕ) → cutCounts cut .«num_positional» .0 ≤ i → i < cutCounts cut .flat .0
+      → 2 < getD ms i 0
+  back i g h = go (le-or-lt (cutRanges cut .args .upto) i) (le-or-lt (cutRanges cut .namedOnly .upto) i)
+    where
+      go : (cutRanges cut .args .upto ≤ i) ⊎ (i < cutRanges cut .args .upto)
+          → (cutRanges cut .namedOnly .upto ≤ i) ⊎ (i < cutRanges cut .namedOnly .upto) → 2 < getD ms i 0
+      go (inr x) y = omega (arith, ranges .args i g x)
+      go (inl x) (inr y) = omega (arith, ranges .namedOnly i x y)
+      go (inl x) (inl y) = omega (arith, ranges .kwargs i y h)
+
+  -- no index has the mode of a part that is not there
+  some-args : (i : ℕ) → i < cutCounts cut .flat .0
+      → getD ms i 0 ≡ modeArgs → length (argsPart (cut .star)) ≡ 0 → ⊥
+  some-args i h m none = go (le-or-lt (cutRanges cut .posOnly .upto) i)
+      (le-or-lt (cutRanges cut .posOrNamed .upto) i) (le-or-lt (cutRanges cut .namedOnly .upto) i)
+    where
+      go : (cutRanges cut .posOnly .upto ≤ i) ⊎ (i < cutRanges cut .posOnly .upto)
+          → (cutRanges cut .posOrNamed .upto ≤ i) ⊎ (i < cutRanges cut .posOrNamed .upto)
+          → (cutRanges cut .namedOnly .upto ≤ i) ⊎ (i < cutRanges cut .namedOnly .upto) → ⊥
+      go (inr x) y z = absurd (omega (arith, ranges .posOnly i (omega arith) x))
+      go (inl x) (inr y) z = absurd (omega (arith, ranges .posOrNamed i x y))
+      go (inl x) (inl y) (inr z) = absurd (omega (arith, ranges .namedOnly i (omega arith) z))
+      go (inl x) (inl y) (inl z) = absurd (omega (arith, ranges .kwargs i z h))
+
+  some-kwargs : (i : ℕ) → i < cutCounts cut .flat .0
+      → getD ms i 0 ≡ modeKwargs → length (kwargsPart (cut .last)) ≡ 0 → ⊥
+  some-kwargs i h m none = go (le-or-lt (cutRanges cut .posOnly .upto) i)
+      (le-or-lt (cutRanges cut .posOrNamed .upto) i) (le-or-lt (cutRanges cut .args .upto) i)
+    where
+      go : (cutRanges cut .posOnly .upto ≤ i) ⊎ (i < cutRanges cut .posOnly .upto)
+          → (cutRanges cut .posOrNamed .upto ≤ i) ⊎ (i < cutRanges cut .posOrNamed .upto)
+          → (cutRanges cut .args .upto ≤ i) ⊎ (i < cutRanges cut .args .upto) → ⊥
+      go (inr x) y z = absurd (omega (arith, ranges .posOnly i (omega arith) x))
+      go (inl x) (inr y) z = absurd (omega (arith, ranges .posOrNamed i x y))
+      go (inl x) (inl y) (inr z) = absurd (omega (arith, ranges .args i y z))
+      go (inl x) (inl y) (inl z) = absurd (omega (arith, ranges .namedOnly i z (omega arith)))
+
+-- the cut of an accepted list: it counts the same, and each flat parameter has the mode of its range
+record Accepted (ps : List Param) (c : Counts) : Type 0 where
+  cut : Cut
+  counted : c ≡ cutCounts cut
+  ranges : ByRange (cutRanges cut) (modes ps)
+  long : length (flats ps) ≡ cutCounts cut .flat .0
+
+accepted-ranges : (ps : List Param) (c : Counts) → unpack ps ≡ accepted c → Accepted ps c
+accepted-ranges ps c h =
     let w = accepted-cut ps h in
     let cut : Cut = w .0 in
     let both : accepted c ≡ accepted (cutCounts cut) = sym h ∙ ap unpack (sym (w .1)) ∙ cut-accepted cut (w .2) in
     let counted : c ≡ cutCounts cut = cc in
     let these : modes ps ≡ partModes (partsOf cut) = ap modes (sym (w .1)) ∙ cut-modes cut (w .2 .slash) in
-    let ranges : ByRange (cutRanges cut) (modes ps) = rw (these ∙ sym (append-nil (partModes (partsOf cut))))
-    (modes-by-range (partsOf cut) []) in
-    let long : length (flats ps) ≡ cutCounts cut .flat .0 = flats-long ps h ∙ ap (λ (x : Counts). x .flat .0) counted in
-    rw counted (record {
+    record {
+      cut = cut;
+      counted = counted;
+      ranges = rw (these ∙ sym (append-nil (partModes (partsOf cut)))) (modes-by-range (partsOf cut) []);
+      long = flats-long ps h ∙ ap (λ (x : Counts). x .flat .0) counted;
+    }
+
+pub stands : (ps : List Param) (c : Counts) → unpack ps ≡ accepted c → Stands ps c
+stands ps c h =
+    let a = accepted-ranges ps c h in
+    let cut : Cut = a .cut in
+    let long : length (flats ps) ≡ cutCounts cut .flat .0 = a .long in
+    rw (a .counted) (record {
       few = omega (arith, long);
-      front = λ i g. front cut i g ranges;
-      back = λ i g h. back cut i g (omega (arith, long)) ranges;
+      front = λ i g. front cut (modes ps) (a .ranges) i g;
+      back = λ i g h. back cut (modes ps) (a .ranges) i g (omega (arith, long));
       args = λ i g.
           let k = args-at (cut .star) _ i g in
-          (omega (arith, long, k .0, k .1), ranges .args i (omega (arith, k .0)) (omega (arith, k .0, k .1)));
+          (omega (arith, long, k .0, k .1), a .ranges .args i (omega (arith, k .0)) (omega (arith, k .0, k .1)));
       kwargs = λ i g.
           let k = kwargs-at (cut .last) _ i g in
-          (omega (arith, long, k .0, k .1), ranges .kwargs i (omega (arith, k .0)) (omega (arith, k .0, k .1)));
-      someArgs = λ i g m n. some-args cut i (omega (arith, long)) ranges m (no-args (cut .star) _ n);
-      someKwargs = λ i g m n. some-kwargs cut i (omega (arith, long)) ranges m (no-kwargs (cut .last) _ n);
+          (omega (arith, long, k .0, k .1), a .ranges .kwargs i (omega (arith, k .0)) (omega (arith, k .0, k .1)));
+      someArgs = λ i g m n.
+          some-args cut (modes ps) (a .ranges) i (omega (arith, long)) m (no-args (cut .star) _ n);
+      someKwargs = λ i g m n.
+          some-kwargs cut (modes ps) (a .ranges) i (omega (arith, long)) m (no-kwargs (cut .last) _ n);
     })
-  where
-    front : (cut : Cut) (i : ℕ) → i < cutCounts cut .«num_positional» .0 → ByRange (cutRanges cut) (modes ps)
-        → (getD (modes ps) i 0 ≡ modePosOnly) ⊎ (getD (modes ps) i 0 ≡ modePosOrName)
-    front cut i g ranges = go (le-or-lt (length (partsOf cut .posOnly)) i)
-      where
-        go : (length (partsOf cut .posOnly) ≤ i) ⊎ (i < length (partsOf cut .posOnly))
-            → (getD (modes ps) i 0 ≡ modePosOnly) ⊎ (getD (modes ps) i 0 ≡ modePosOrName)
-        go (inl x) = inr (ranges .posOrNamed i x g)
-        go (inr x) = inl (ranges .posOnly i (omega arith) x)
-
-    back : (cut : Cut) (i : ℕ) → cutCounts cut .«num_positional» .0 ≤ i → i < cutCounts cut .flat .0
-        → ByRange (cutRanges cut) (modes ps) → 2 < getD (modes ps) i 0
-    back cut i g h ranges = go (le-or-lt (cutRanges cut .args .upto) i) (le-or-lt (cutRanges cut .namedOnly .upto) i)
-      where
-        go : (cutRanges cut .args .upto ≤ i) ⊎ (i < cutRanges cut .args .upto)
-            → (cutRanges cut .namedOnly .upto ≤ i) ⊎ (i < cutRanges cut .namedOnly .upto) → 2 < getD (modes ps) i 0
-        go (inr x) y = omega (arith, ranges .args i g x)
-        go (inl x) (inr y) = omega (arith, ranges .namedOnly i x y)
-        go (inl x) (inl y) = omega (arith, ranges .kwargs i y h)
-
-    -- in which range an index is
-    some-args : (cut : Cut) (i : ℕ) → i < cutCounts cut .flat .0 → ByRange (cutRanges cut) (modes ps)
-        → getD (modes ps) i 0 ≡ modeArgs → length (argsPart (cut .star)) ≡ 0 → ⊥
-    some-args cut i h ranges m none = go (le-or-lt (cutRanges cut .posOnly .upto) i)
-        (le-or-lt (cutRanges cut .posOrNamed .upto) i) (le-or-lt (cutRanges cut .namedOnly .upto) i)
-      where
-        go : (cutRanges cut .posOnly .upto ≤ i) ⊎ (i < cutRanges cut .posOnly .upto)
-            → (cutRanges cut .posOrNamed .upto ≤ i) ⊎ (i < cutRanges cut .posOrNamed .upto)
-            → (cutRanges cut .namedOnly .upto ≤ i) ⊎ (i < cutRanges cut .namedOnly .upto) → ⊥
-        go (inr x) y z = absurd (omega (arith, ranges .posOnly i (omega arith) x))
-        go (inl x) (inr y) z = absurd (omega (arith, ranges .posOrNamed i x y))
-        go (inl x) (inl y) (inr z) = absurd (omega (arith, ranges .namedOnly i (omega arith) z))
-        go (inl x) (inl y) (inl z) = absurd (omega (arith, ranges .kwargs i z h))
-
-    some-kwargs : (cut : Cut) (i : ℕ) → i < cutCounts cut .flat .0 → ByRange (cutRanges cut) (modes ps)
-        → getD (modes ps) i 0 ≡ modeKwargs → length (kwargsPart (cut .last)) ≡ 0 → ⊥
-    some-kwargs cut i h ranges m none = go (le-or-lt (cutRanges cut .posOnly .upto) i)
-        (le-or-lt (cutRanges cut .posOrNamed .upto) i) (le-or-lt (cutRanges cut .args .upto) i)
-      where
-        go : (cutRanges cut .posOnly .upto ≤ i) ⊎ (i < cutRanges cut .posOnly .upto)
-            → (cutRanges cut .posOrNamed .upto ≤ i) ⊎ (i < cutRanges cut .posOrNamed .upto)
-            → (cutRanges cut .args .upto ≤ i) ⊎ (i < cutRanges cut .args .upto) → ⊥
-        go (inr x) y z = absurd (omega (arith, ranges .posOnly i (omega arith) x))
-        go (inl x) (inr y) z = absurd (omega (arith, ranges .posOrNamed i x y))
-        go (inl x) (inl y) (inr z) = absurd (omega (arith, ranges .args i y z))
-        go (inl x) (inl y) (inl z) = absurd (omega (arith, ranges .namedOnly i z (omega arith)))
 
 -- the names of the flat parameters are those of the list, and so distinct
 flat-names : (s : State) (l : List Param) → map (λ (p : FlatParam). p .name) (flatsFrom s l) ≡ namesOf l
@@ -216,53 +238,45 @@ called : (p : FlatParam) → CanBeNamed p → calledByName (p .mode) ≡ true
 called p (inl e) = rw e refl
 called p (inr e) = rw e refl
 
-pub record Found (fs : List FlatParam) (x : Name) (i : ℕ) : Type 0 where
-  pub param : FlatParam
-  pub there : IsAt fs i param
-  pub canBe : CanBeNamed param
-  pub name : param .name ≡ x
+-- what the search finds, counted from k: the parameter of the name
+pub record FoundFrom (fs : List FlatParam) (x : Name) (k i : ℕ) : Type 0 where
+  pub place : ℕ
+  pub is : i ≡ k + place
+  pub here : Named fs x place
 
-pub name-found : (fs : List FlatParam) (x : Name) (k i : ℕ) → namedFrom k x fs ≡ At i
-    → (j : ℕ) × ((i ≡ k + j) × Found fs x j)
+found-behind : (p : FlatParam) (fs : List FlatParam) (x : Name) (k i : ℕ) → FoundFrom fs x (k + 1) i
+    → FoundFrom (p ∷ fs) x k i
+found-behind p fs x k i r = record {
+  place = suc (r .place);
+  is = omega (arith, r .is);
+  here = record {
+    param = r .here .param;
+    there = r .here .there;
+    canBe = r .here .canBe;
+    name = r .here .name;
+  };
+}
+
+pub name-found : (fs : List FlatParam) (x : Name) (k i : ℕ) → namedFrom k x fs ≡ At i → FoundFrom fs x k i
 unfolding namedFrom
 name-found [] x k i e = never (cc)
 name-found (p ∷ fs) x k i e = go (calledByName (p .mode)) (same (p .name) x) refl refl e (name-found fs x (k + 1) i)
   where
-    on : (namedFrom (k + 1) x fs ≡ At i → (j : ℕ) × ((i ≡ k + 1 + j) × Found fs x j))
-        → namedFrom (k + 1) x fs ≡ At i → (j : ℕ) × ((i ≡ k + j) × Found (p ∷ fs) x j)
-    on rest e =
-        let r = rest e in (
-          suc (r .0),
-          (
-            omega (arith, r .1 .0),
-            record {
-              param = r .1 .1 .param;
-              there = r .1 .1 .there;
-              canBe = r .1 .1 .canBe;
-              name = r .1 .1 .name;
-            },
-          ),
-        )
-
     go : (a b : Bool) → calledByName (p .mode) ≡ a → same (p .name) x ≡ b
         → if' (a && b) (λ _. At k) (λ _. namedFrom (k + 1) x fs) ≡ At i
-        → (namedFrom (k + 1) x fs ≡ At i → (j : ℕ) × ((i ≡ k + 1 + j) × Found fs x j))
-        → (j : ℕ) × ((i ≡ k + j) × Found (p ∷ fs) x j)
-    go true true f g e rest =
-        let is : i ≡ k = cc in (
-          0,
-          (
-            omega arith,
-            record {
-              param = p;
-              there = refl;
-              canBe = found-mode (p .mode) f;
-              name = same-bytes-equal (p .name) x g;
-            },
-          ),
-        )
-    go true false f g e rest = on rest e
-    go false b f g e rest = on rest e
+        → (namedFrom (k + 1) x fs ≡ At i → FoundFrom fs x (k + 1) i) → FoundFrom (p ∷ fs) x k i
+    go true true f g e rest = let same-index : i ≡ k = cc in record {
+      place = 0;
+      is = omega arith;
+      here = record {
+        param = p;
+        there = refl;
+        canBe = found-mode (p .mode) f;
+        name = same-bytes-equal (p .name) x g;
+      };
+    }
+    go true false f g e rest = found-behind p fs x k i (rest e)
+    go false b f g e rest = found-behind p fs x k i (rest e)
 
 pub name-missed : (fs : List FlatParam) (x : Name) (k : ℕ) → namedFrom k x fs ≡ Nothing → (i : ℕ) (p : FlatParam)
     → IsAt fs i p → CanBeNamed p → p .name ≡ x → ⊥

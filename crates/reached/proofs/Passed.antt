@@ -11,7 +11,7 @@ use lib.ListN.{length, getD, drop, length-replicate, List·getD-append}
 use Rattle.forest.specs.Forest.{nodeOf}
 use Rattle.table.specs.Answer.{Answer, accepted, refused, andThen}
 use Rattle.table.specs.Check.{stretchOf}
-use Rattle.table.proofs.Answers.{never-passed}
+use Rattle.table.proofs.Answers.{never-passed, passed-both}
 use Rattle.deflist.specs.Written.{Param}
 use Rattle.deflist.specs.Unpack as outcome
 use Rattle.deflist.specs.Unpack.{unpack}
@@ -35,17 +35,12 @@ use Rattle.reached.specs.Said.{IsAt}
 use Rattle.reached.proofs.Walk.{Index, Nodes, along-long, own-word}
 use Rattle.reached.proofs.Params.{within}
 use Rattle.reached.proofs.Reaching as reaching
-use Rattle.reached.proofs.Nodes.{Rising, call-rising}
+use Rattle.reached.proofs.Nodes.{Rising, call-rising, call-nodes}
 
--- checks in order that are passed
-both-passed : (a : Answer) (next : Unit {0} → Answer) {vs : List ℕ} → andThen a next ≡ accepted vs
-    → (us : List ℕ) × ((a ≡ accepted us) × (next tt ≡ accepted vs))
-both-passed (accepted us) next e = (us, (refl, e))
-both-passed (refused n us) next e = never-passed e
-
+-- a check that is passed, and the next with its values
 with-passed : (a : Answer) (next : List ℕ → Answer) {vs : List ℕ} → andWith a next ≡ accepted vs
-    → (us : List ℕ) × ((a ≡ accepted us) × (next us ≡ accepted vs))
-with-passed (accepted us) next e = (us, (refl, e))
+    → (us : List ℕ) × (a ≡ accepted us) × (next us ≡ accepted vs)
+with-passed (accepted us) next e = (us, refl, e)
 with-passed (refused n us) next e = never-passed e
 
 module _ (t ns : List ℕ) (call def : ℕ) (list : List ℕ) where
@@ -54,6 +49,10 @@ module _ (t ns : List ℕ) (call def : ℕ) (list : List ℕ) where
 
   abbrev qs : List Argument
   qs = argumentsAt t ns call
+
+  -- the walk along the arguments, with no words yet
+  abbrev walk : Counts → Answer
+  walk c = along (countedOf c .flat) (countedOf c .indices) fs 0 (noWords (countedOf c) qs) qs
 
   -- what an accepted binding has passed
   pub record Passed : Type 0 where
@@ -66,66 +65,66 @@ module _ (t ns : List ℕ) (call def : ℕ) (list : List ℕ) where
     pub stars : List ℕ
     pub noStar : starCheck qs ≡ accepted stars
     pub words : List ℕ
-    pub walked : along (countedOf counts .flat) (countedOf counts .indices) fs 0 (noWords (countedOf counts) qs) qs
-        ≡ accepted words
+    pub walked : walk counts ≡ accepted words
     pub empties : List ℕ
     pub noEmpty : emptyCheck 0 fs words ≡ accepted empties
     pub exit : listAfter t ns call def list ≡ words ++ drop (length words) list
 
+  -- the three steps of the binding, once the lists keep their own rules
+  passed-binding : Entered t ns call def (length list) → (c : Counts)
+      → limited (nodeOf def (stretchOf t def)) (listOf t ns def) ≡ outcome.accepted c → {cs ws : List ℕ}
+      → outcomeAnswer (calling.unpack qs) ≡ accepted cs
+      → binding (countedOf c) fs (noWords (countedOf c) qs) qs ≡ accepted ws
+      → listAfter t ns call def list ≡ ws ++ drop (length ws) list → Passed
+  unfolding binding
+  passed-binding n c u {cs} {ws} o b x =
+      let star = passed-both (starCheck qs) _ b in
+      let along = with-passed (walk c) _ (star .2) in
+      let empty = passed-both (emptyCheck 0 fs (along .0)) _ (along .2) in
+      let same : accepted (along .0) ≡ accepted ws = empty .2 in
+      let these : along .0 ≡ ws = cc in
+      record {
+        entry = n;
+        counts = c;
+        short = limited-accepted _ (listOf t ns def) u .0;
+        outcome = limited-accepted _ (listOf t ns def) u .1;
+        callValues = cs;
+        inOrder = o;
+        stars = star .0;
+        noStar = star .1;
+        words = along .0;
+        walked = along .1;
+        empties = empty .0;
+        noEmpty = empty .1;
+        exit = rw these x;
+      }
+
+  -- the lists, which keep their own rules
+  passed-lists : Entered t ns call def (length list) → (o : outcome.Outcome)
+      → limited (nodeOf def (stretchOf t def)) (listOf t ns def) ≡ o
+      → {ws : List ℕ} → counting o (λ c. andThen (outcomeAnswer (calling.unpack qs)) (λ _.
+      binding c fs (noWords c qs) qs)) ≡ accepted ws
+      → listAfter t ns call def list ≡ ws ++ drop (length ws) list → Passed
+  passed-lists n (outcome.accepted c) u b x =
+      let k = passed-both (outcomeAnswer (calling.unpack qs)) _ b in
+      passed-binding n c u (k .1) (k .2) x
+  passed-lists n (outcome.refused m r) u b x = never-passed b
+  passed-lists n (outcome.repeated i r) u b x = never-passed b
+  passed-lists n (outcome.internal m r) u b x = never-passed b
+
+  -- LAW: an accepted binding has passed every step
   pub passed : {vs : List ℕ} → bindOf t ns call def (length list) ≡ accepted vs → Passed
-  unfolding bindOf wordsOf listsBound binding listAfter
+  unfolding bindOf wordsOf listsBound listAfter
   passed {vs} e = by-words (wordsOf t ns call def (length list)) refl e
     where
-      by-binding : Entered t ns call def (length list) → (c : Counts)
-          → limited (nodeOf def (stretchOf t def)) (listOf t ns def) ≡ outcome.accepted c → {cs ws : List ℕ}
-          → outcomeAnswer (calling.unpack qs) ≡ accepted cs
-          → binding (countedOf c) fs (noWords (countedOf c) qs) qs ≡ accepted ws
-          → listAfter t ns call def list ≡ ws ++ drop (length ws) list → Passed
-      by-binding n c u {cs} {ws} o b x =
-          let list-kept = limited-accepted _ (listOf t ns def) u in
-          let first = both-passed (starCheck qs) _ b in
-          let second = with-passed
-          (along (countedOf c .flat) (countedOf c .indices) fs 0 (noWords (countedOf c) qs) qs) _
-          (first .1 .1) in
-          let third = both-passed (emptyCheck 0 fs (second .0)) _ (second .1 .1) in
-          let same : accepted (second .0) ≡ accepted ws = third .1 .1 in
-          let these : second .0 ≡ ws = cc in
-          record {
-            entry = n;
-            counts = c;
-            short = list-kept .0;
-            outcome = list-kept .1;
-            callValues = cs;
-            inOrder = o;
-            stars = first .0;
-            noStar = first .1 .0;
-            words = second .0;
-            walked = second .1 .0;
-            empties = third .0;
-            noEmpty = third .1 .0;
-            exit = rw these x;
-          }
-
-      by-counts : Entered t ns call def (length list) → (o : outcome.Outcome)
-          → limited (nodeOf def (stretchOf t def)) (listOf t ns def) ≡ o
-          → {ws : List ℕ} → counting o (λ c. andThen (outcomeAnswer (calling.unpack qs)) (λ _.
-          binding c fs (noWords c qs) qs)) ≡ accepted ws
-          → listAfter t ns call def list ≡ ws ++ drop (length ws) list → Passed
-      by-counts n (outcome.accepted c) u b x =
-          let k = both-passed (outcomeAnswer (calling.unpack qs)) _ b in
-          by-binding n c u (k .1 .0) (k .1 .1) x
-      by-counts n (outcome.refused m r) u b x = never-passed b
-      by-counts n (outcome.repeated i r) u b x = never-passed b
-      by-counts n (outcome.internal m r) u b x = never-passed b
-
       by-words : (a : Answer) → wordsOf t ns call def (length list) ≡ a → answeredAt a t ns call def ≡ accepted vs
           → Passed
       by-words (refused n us) w e = never-passed e
       by-words (accepted ws) w e =
-          let k = both-passed (entryOf t ns call def (length list)) _ w in
+          let k = passed-both (entryOf t ns call def (length list)) _ w in
           let x : listAfter t ns call def list ≡ ws ++ drop (length ws) list = rw w refl in
-          by-counts (entered t ns call def (length list) (k .1 .0))
-          (limited (nodeOf def (stretchOf t def)) (listOf t ns def)) refl (k .1 .1) x
+          passed-lists (entered t ns call def (length list) (k .1))
+          (limited (nodeOf def (stretchOf t def)) (listOf t ns def)) refl (k .2) x
 
 -- the words of the list at exit
 module _ (t ns : List ℕ) (call def : ℕ) (list : List ℕ) (p : Passed t ns call def list) where
@@ -155,11 +154,11 @@ module _ (t ns : List ℕ) (call def : ℕ) (list : List ℕ) (p : Passed t ns c
   word-is i h = ap (λ (l : List ℕ). getD l i 0) (p .exit)
       ∙ List·getD-append (p .words) (drop (length (p .words)) list) 0 i (omega (arith, long))
 
-  pub rise : Rising (call-rising t ns call .0) (argumentsAt t ns call)
-  rise = call-rising t ns call .1 .1
+  pub rise : Rising (call-rising t ns call .first) (argumentsAt t ns call)
+  rise = call-rising t ns call .rising
 
   pub nodes : Nodes (argumentsAt t ns call)
-  nodes j a e = omega (arith, call-rising t ns call .1 .0, rise .least j a e)
+  nodes = call-nodes t ns call
 
   pub enough : countedOf (p .counts) .flat + 0 + length (argumentsAt t ns call) ≤ length none-yet
   enough = omega (arith, length-replicate {A = ℕ} (countedOf (p .counts) .flat + length (argumentsAt t ns call)) 0)

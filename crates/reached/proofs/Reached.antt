@@ -22,18 +22,20 @@ use Rattle.table.specs.Numbers.{emptyParameter, unknownNamed, alreadyFilled}
 use Rattle.table.specs.Answer.{accepted, refused, refusedAt}
 use Rattle.table.proofs.Answers.{never-passed}
 use Rattle.deflist.specs.Written.{Name, Param}
-use Rattle.deflist.specs.Unpack.{modePosOnly, modeArgs, modeKwargs, modes}
+use Rattle.deflist.specs.Unpack.{modePosOnly, modeArgs, modeKwargs, modes, unpack}
+use Rattle.deflist.specs.Unpack as outcome
+use Rattle.deflist.specs.declared.Counts.{Counts}
 use Rattle.parameters.specs.Indices.{countedOf}
 use Rattle.parameters.specs.Params.{listOf}
 use Rattle.parameters.specs.declared.DefParamIndices.{DefParamIndices}
 use Rattle.arguments.specs.Written.{Argument, positional, named, nodeIn}
 use Rattle.bind.specs.FlatList.{FlatParam}
 use Rattle.bind.specs.Binding.{namedFrom, byPlace, byName, reaches, emptyCheck}
-use Rattle.bind.specs.Job.{argumentsAt, bindOf}
+use Rattle.bind.specs.Job.{argumentsAt, bindOf, listAfter}
 use Rattle.bind.specs.declared.Reach.{Reach}
 use Rattle.bind.specs.declared.Reach.the-variants.{Fills, Joins}
 use Rattle.reached.specs.Said.{IsAt, Ordinary, CanBeNamed, ByPlace, Starred, flatsAt, parameterWord, argumentWord}
-use Rattle.reached.proofs.Walk.{Index, Filler, was-empty, once, comes-from}
+use Rattle.reached.proofs.Walk.{Index, Filler, Nodes, was-empty, once, comes-from}
 use Rattle.reached.proofs.Params.{within, same-at, there, mode-at, name-missed, one-name}
 use Rattle.reached.specs.Said.{Against}
 use Rattle.reached.specs.Rules.{Rules}
@@ -76,70 +78,114 @@ module _ (t names : List ℕ) (call def : ℕ) (list : List ℕ) {vs : List ℕ}
   abbrev taken : ℕ → ℕ
   taken i = parameterWord t names call def list i
 
-  -- what an argument reaches, by its word
-  data-of : (k : ℕ) (a : Argument) → IsAt qs k a
-      → (reaches d fs k a ≡ Fills (own k)) ⊎ (reaches d fs k a ≡ Joins (own k))
-  data-of k a at = go (reaches d fs k a) refl (passing.reached-is t names call def list pass k a at)
+  -- what `pass` says, by shorter names
+  abbrev c : Counts
+  c = pass .counts
+
+  ok : unpack ps ≡ outcome.accepted c
+  ok = pass .outcome
+
+  abbrev flat : ℕ
+  flat = countedOf c .flat
+
+  abbrev none-yet : List ℕ
+  none-yet = passing.none-yet t names call def list pass
+
+  small : (k : ℕ) (a : Argument) (i : ℕ) → reaches d fs k a ≡ Fills i → i < flat
+  small = reaching.small ps c ok
+
+  nodes : Nodes qs
+  nodes = passing.nodes t names call def list pass
+
+  enough : flat + 0 + length qs ≤ length none-yet
+  enough = passing.enough t names call def list pass
+
+  word-is : (i : ℕ) → i < length fs + length qs → getD (listAfter t names call def list) i 0 ≡ getD (pass .words) i 0
+  word-is = passing.word-is t names call def list pass
+
+  reached-is : (k : ℕ) (a : Argument) → IsAt qs k a → Index (reaches d fs k a) (own k)
+  reached-is = passing.reached-is t names call def list pass
+
+  -- what is reached has the index i: it is filled or joined
+  abbrev Lands : Reach → ℕ → Type 0
+  Lands r i = (r ≡ Fills i) ⊎ (r ≡ Joins i)
+
+  -- an argument's word is the index of what it reaches
+  lands : (k : ℕ) (a : Argument) → IsAt qs k a → Lands (reaches d fs k a) (own k)
+  lands k a at = go (reaches d fs k a) refl (reached-is k a at)
     where
       go : (r : Reach) → reaches d fs k a ≡ r → Index r (own k)
-          → (reaches d fs k a ≡ Fills (own k)) ⊎ (reaches d fs k a ≡ Joins (own k))
+          → Lands (reaches d fs k a) (own k)
       go (Fills i) e w = inl (e ∙ ap Fills (sym w))
       go (Joins i) e w = inr (e ∙ ap Joins (sym w))
 
   -- "Accepted calls use every argument once": its one word is the index of a flat parameter
   pub every-argument : (k : ℕ) (a : Argument) → IsAt qs k a → (p : FlatParam) × IsAt fs (own k) p
-  every-argument k a at = go (data-of k a at)
+  every-argument k a at = go (lands k a at)
     where
-      go : (reaches d fs k a ≡ Fills (own k)) ⊎ (reaches d fs k a ≡ Joins (own k)) → (p : FlatParam) × IsAt fs (own k) p
-      go (inl e) = let s = reaching.fills-ordinary ps (pass .counts) (pass .outcome) k a (own k) e in
+      go : Lands (reaches d fs k a) (own k) → (p : FlatParam) × IsAt fs (own k) p
+      go (inl e) = let s = reaching.fills-ordinary ps c ok k a (own k) e in
           (s .param, s .there)
-      go (inr e) = let s = reaching.joins-starred ps (pass .counts) (pass .outcome) k a (own k) e in
+      go (inr e) = let s = reaching.joins-starred ps c ok k a (own k) e in
           (s .param, s .there)
 
   -- an argument that reaches an ordinary parameter fills it
   fills : (k : ℕ) (a : Argument) (p : FlatParam) → IsAt qs k a → IsAt fs (own k) p → Ordinary p
       → reaches d fs k a ≡ Fills (own k)
-  fills k a p at there o = go (data-of k a at)
+  fills k a p at there o = go (lands k a at)
     where
-      go : (reaches d fs k a ≡ Fills (own k)) ⊎ (reaches d fs k a ≡ Joins (own k)) → reaches d fs k a ≡ Fills (own k)
+      go : Lands (reaches d fs k a) (own k) → reaches d fs k a ≡ Fills (own k)
       go (inl e) = e
       go (inr e) =
-          let s = reaching.joins-starred ps (pass .counts) (pass .outcome) k a (own k) e in
+          let s = reaching.joins-starred ps c ok k a (own k) e in
           let same : s .param ≡ p = same-at fs (own k) (s .param) p (s .there) there in
           apart p o (rw same at (s .kind))
 
+  -- the argument that a parameter takes: its number, and that it fills the parameter and is its word
+  record Taker (i : ℕ) : Type 0 where
+    pub number : ℕ
+    pub argument : Argument
+    pub there : IsAt qs number argument
+    pub fills : reaches d fs number argument ≡ Fills i
+    pub word : taken i ≡ nodeIn argument .at
+
   -- a parameter whose word is not 0 has its argument
-  filler : (i : ℕ) → i < length fs → (taken i ≡ 0 → ⊥)
-      → (k : ℕ) × ((a : Argument) × (IsAt qs k a × ((reaches d fs k a ≡ Fills i) × (taken i ≡ nodeIn a .at))))
+  filler : (i : ℕ) → i < length fs → (taken i ≡ 0 → ⊥) → Taker i
   filler i h n =
-      let flat = reaching.flat-is ps (pass .counts) (pass .outcome) in
-      let word = passing.word-is t names call def list pass i (omega arith) in
-      go word (comes-from (countedOf (pass .counts) .flat) d fs (reaching.small ps (pass .counts) (pass .outcome)) 0
-      (passing.none-yet t names call def list pass) qs (pass .words) (pass .walked)
-      (passing.nodes t names call def list pass) (passing.enough t names call def list pass) i (omega arith))
+      let flat-is = reaching.flat-is ps c ok in
+      let word = word-is i (omega arith) in
+      go word (comes-from flat d fs small 0
+      none-yet qs (pass .words) (pass .walked)
+      nodes enough i (omega arith))
     where
       go : taken i ≡ getD (pass .words) i 0
-          → (getD (pass .words) i 0 ≡ getD (passing.none-yet t names call def list pass) i 0)
-          ⊎ Filler (countedOf (pass .counts) .flat) d fs (reaching.small ps (pass .counts) (pass .outcome)) 0 qs
+          → (getD (pass .words) i 0 ≡ getD none-yet i 0)
+          ⊎ Filler flat d fs small 0 qs
           (pass .words) i
-          → (k : ℕ) × ((a : Argument) × (IsAt qs k a × ((reaches d fs k a ≡ Fills i) × (taken i ≡ nodeIn a .at))))
+          → Taker i
       go w (inl e) =
-          let flat = reaching.flat-is ps (pass .counts) (pass .outcome) in
-          absurd (n (w ∙ e ∙ getD-replicate (countedOf (pass .counts) .flat + length qs) i 0 0 (omega arith)))
+          let flat-is = reaching.flat-is ps c ok in
+          absurd (n (w ∙ e ∙ getD-replicate (flat + length qs) i 0 0 (omega arith)))
       go w (inr f) =
           let zero-more : 0 + f .number ≡ f .number = omega arith in
-          (f .number, (f .argument, (f .there, (rw zero-more at (f .fills), w ∙ f .word))))
+          record {
+            number = f .number;
+            argument = f .argument;
+            there = f .there;
+            fills = rw zero-more at (f .fills);
+            word = w ∙ f .word;
+          }
 
   -- an argument that fills a parameter is its word
   filled-word : (k : ℕ) (a : Argument) (i : ℕ) → IsAt qs k a → reaches d fs k a ≡ Fills i → taken i ≡ nodeIn a .at
   filled-word k a i at r =
       let zero-more : k ≡ 0 + k = omega arith in
-      let flat = reaching.flat-is ps (pass .counts) (pass .outcome) in
-      let inside = reaching.small ps (pass .counts) (pass .outcome) k a i r in
-      passing.word-is t names call def list pass i (omega arith)
-      ∙ was-empty (countedOf (pass .counts) .flat) d fs (reaching.small ps (pass .counts) (pass .outcome)) 0
-      (passing.none-yet t names call def list pass) qs (pass .words) (pass .walked)
-      (passing.nodes t names call def list pass) (passing.enough t names call def list pass) k a i at
+      let flat-is = reaching.flat-is ps c ok in
+      let inside = small k a i r in
+      word-is i (omega arith)
+      ∙ was-empty flat d fs small 0
+      none-yet qs (pass .words) (pass .walked)
+      nodes enough k a i at
       (rw zero-more at r) .1
 
   -- "an ordinary parameter takes at most one"
@@ -148,9 +194,9 @@ module _ (t names : List ℕ) (call def : ℕ) (list : List ℕ) {vs : List ℕ}
   at-most-one p k l a b at bt same sits o =
       let first : 0 + k ≡ k = omega arith in
       let second : 0 + l ≡ l = omega arith in
-      once (countedOf (pass .counts) .flat) d fs (reaching.small ps (pass .counts) (pass .outcome)) 0
-      (passing.none-yet t names call def list pass) qs (pass .words) (pass .walked)
-      (passing.nodes t names call def list pass) (passing.enough t names call def list pass) k l a b (own k) at bt
+      once flat d fs small 0
+      none-yet qs (pass .words) (pass .walked)
+      nodes enough k l a b (own k) at bt
       (rw first (fills k a p at sits o)) (rw (second, same) (fills l b p bt (rw same at sits) o))
 
   -- two arguments of one node are one
@@ -163,6 +209,13 @@ module _ (t names : List ℕ) (call def : ℕ) (list : List ℕ) {vs : List ℕ}
       go (inl x) (inr y) = let h = passing.rise t names call def list pass .rises k l a b y at bt in
           absurd (omega arith)
 
+  -- the argument that a parameter takes is the one of its number
+  taker-reaches : (i k : ℕ) (a : Argument) (f : Taker i) → f .number ≡ k → IsAt qs k a → reaches d fs k a ≡ Fills i
+  taker-reaches i k a f same at =
+      let mine : IsAt qs k (f .argument) = rw same at (f .there) in
+      let is : f .argument ≡ a = same-at qs k (f .argument) a mine at in
+      rw (same, is) at (f .fills)
+
   -- "the two halves of the list agree": parameter i has argument k if and only if argument k reached i
   pub halves-agree : (i k : ℕ) (p : FlatParam) (a : Argument) → IsAt fs i p → Ordinary p → IsAt qs k a
       → (taken i ≡ nodeIn a .at) ↔ (own k ≡ i)
@@ -170,15 +223,10 @@ module _ (t names : List ℕ) (call def : ℕ) (list : List ℕ) {vs : List ℕ}
     where
       forth : taken i ≡ nodeIn a .at → own k ≡ i
       forth e =
-          let some = passing.nodes t names call def list pass k a at in
+          let some = nodes k a at in
           let f = filler i (within fs i p sits) (λ z. absurd (omega arith)) in
-          let same : f .0 ≡ k = one-node (f .0) k (f .1 .0) a (f .1 .1 .0) at (sym (f .1 .1 .1 .1) ∙ e) in
-          let r : reaches d fs (f .0) (f .1 .0) ≡ Fills i = f .1 .1 .1 .0 in
-          let mine : IsAt qs k (f .1 .0) = rw same at (f .1 .1 .0) in
-          let is : f .1 .0 ≡ a = same-at qs k (f .1 .0) a mine at in
-          let w : Index (reaches d fs k a) (own k) = passing.reached-is t names call def list pass k a at in
-          let reach : reaches d fs k a ≡ Fills i = rw (same, is) at r in
-          rw reach at w
+          let same : f .number ≡ k = one-node (f .number) k (f .argument) a (f .there) at (sym (f .word) ∙ e) in
+          rw (taker-reaches i k a f same at) at (reached-is k a at)
 
       back : own k ≡ i → taken i ≡ nodeIn a .at
       back e = let here : IsAt fs (own k) p = rw e sits in
@@ -198,7 +246,7 @@ module _ (t names : List ℕ) (call def : ℕ) (list : List ℕ) {vs : List ℕ}
       go true e = eqb-true (taken i) 0 e
       go false e =
           let f = filler i (within fs i p sits) (eqb-false (taken i) 0 e) in
-          let x = reaching.fills-ordinary ps (pass .counts) (pass .outcome) (f .0) (f .1 .0) i (f .1 .1 .1 .0) in
+          let x = reaching.fills-ordinary ps c ok (f .number) (f .argument) i (f .fills) in
           let same : x .param ≡ p = same-at fs i (x .param) p (x .there) sits in
           apart p (rw same at (x .kind)) s
 
@@ -206,80 +254,79 @@ module _ (t names : List ℕ) (call def : ℕ) (list : List ℕ) {vs : List ℕ}
   pub positional-fills : (k : ℕ) (r : Node) (p : FlatParam) → IsAt qs k (positional r) → IsAt fs k p → ByPlace p
       → own k ≡ k
   unfolding reaches
-  positional-fills k r p at sits b = go (data-of k (positional r) at)
+  positional-fills k r p at sits b = go (lands k (positional r) at)
     where
       behind : ByPlace p → p .mode ≡ getD (modes (listOf t names def)) k 0
           → 2 < getD (modes (listOf t names def)) k 0 → own k ≡ k
       behind (inl x) m h = absurd (omega arith)
       behind (inr x) m h = absurd (omega arith)
 
-      go : (byPlace d k ≡ Fills (own k)) ⊎ (byPlace d k ≡ Joins (own k)) → own k ≡ k
-      go (inl e) = reaching.place-filled ps (pass .counts) (pass .outcome) k (own k) e .0
+      go : Lands (byPlace d k) (own k) → own k ≡ k
+      go (inl e) = reaching.place-filled ps c ok k (own k) e .0
       go (inr e) =
-          let past = reaching.place-joined ps (pass .counts) (pass .outcome) k (own k) e .0 in
-          let more = reaching.st ps (pass .counts) (pass .outcome) .back k past (within fs k p sits) in
+          let past = reaching.place-joined ps c ok k (own k) e .0 in
+          let more = reaching.st ps c ok .back k past (within fs k p sits) in
           behind b (mode-at (listOf t names def) k p sits) more
 
   -- "later ones `*args`"
   pub positional-collected : (k : ℕ) (r : Node) (p : FlatParam) → IsAt qs k (positional r)
       → ((q : FlatParam) → IsAt fs k q → ByPlace q → ⊥) → IsAt fs (own k) p → p .mode ≡ modeArgs
   unfolding reaches
-  positional-collected k r p at none sits = go (data-of k (positional r) at)
+  positional-collected k r p at none sits = go (lands k (positional r) at)
     where
-      go : (byPlace d k ≡ Fills (own k)) ⊎ (byPlace d k ≡ Joins (own k)) → p .mode ≡ modeArgs
+      go : Lands (byPlace d k) (own k) → p .mode ≡ modeArgs
       go (inl e) =
-          let below = reaching.place-filled ps (pass .counts) (pass .outcome) k (own k) e .1 in
-          let s = reaching.front-sits ps (pass .counts) (pass .outcome) k below in
+          let below = reaching.place-filled ps c ok k (own k) e .1 in
+          let s = reaching.front-sits ps c ok k below in
           absurd (none (s .param) (s .there) (s .kind))
       go (inr e) =
-          let s = reaching.args-sits ps (pass .counts) (pass .outcome) (own k)
-          (reaching.place-joined ps (pass .counts) (pass .outcome) k (own k) e .1) in
+          let s = reaching.args-sits ps c ok (own k)
+          (reaching.place-joined ps c ok k (own k) e .1) in
           let same : s .param ≡ p = same-at fs (own k) (s .param) p (s .there) sits in
           rw same at (s .kind)
+
+  -- a parameter that an argument called x reaches: it can be named and has that name, or it is `**kwargs` and none has
+  abbrev pub ByItsName : Name → FlatParam → Type 0
+  ByItsName x p = (CanBeNamed p × (p .name ≡ x))
+      ⊎ ((p .mode ≡ modeKwargs) × ((i : ℕ) (q : FlatParam) → IsAt fs i q → CanBeNamed q → q .name ≡ x → ⊥))
 
   -- "A named one reaches the PosOrName or NameOnly parameter whose name has equal bytes, or `**kwargs` if and only if
   -- none has"
   pub named-reaches : (k : ℕ) (r : Node) (x : Name) (p : FlatParam) → IsAt qs k (named r x) → IsAt fs (own k) p
-      → (CanBeNamed p × (p .name ≡ x))
-      ⊎ ((p .mode ≡ modeKwargs) × ((i : ℕ) (q : FlatParam) → IsAt fs i q → CanBeNamed q → q .name ≡ x → ⊥))
+      → ByItsName x p
   unfolding reaches
-  named-reaches k r x p at sits = go (data-of k (named r x) at)
+  named-reaches k r x p at sits = go (lands k (named r x) at)
     where
-      go : (byName (namedFrom 0 x fs) (d .kwargs) ≡ Fills (own k))
-          ⊎ (byName (namedFrom 0 x fs) (d .kwargs) ≡ Joins (own k))
-          → (CanBeNamed p × (p .name ≡ x))
-          ⊎ ((p .mode ≡ modeKwargs) × ((i : ℕ) (q : FlatParam) → IsAt fs i q → CanBeNamed q → q .name ≡ x → ⊥))
+      go : Lands (byName (namedFrom 0 x fs) (d .kwargs)) (own k)
+          → ByItsName x p
       go (inl e) =
-          let f = reaching.named-sits ps (pass .counts) (pass .outcome) x (own k)
-          (reaching.name-filled ps (pass .counts) (pass .outcome) (namedFrom 0 x fs) (own k) e) in
+          let f = reaching.named-sits ps c ok x (own k)
+          (reaching.name-filled ps c ok (namedFrom 0 x fs) (own k) e) in
           let same : f .param ≡ p = same-at fs (own k) (f .param) p (f .there) sits in
           inl (rw same at (f .canBe), rw same at (f .name))
       go (inr e) =
-          let j = reaching.name-joined ps (pass .counts) (pass .outcome) (namedFrom 0 x fs) (own k) e in
-          let s = reaching.kwargs-sits ps (pass .counts) (pass .outcome) (own k) (j .1) in
+          let j = reaching.name-joined ps c ok (namedFrom 0 x fs) (own k) e in
+          let s = reaching.kwargs-sits ps c ok (own k) (j .1) in
           let same : s .param ≡ p = same-at fs (own k) (s .param) p (s .there) sits in
           inr (rw same at (s .kind), λ i q iq c n. name-missed fs x 0 (j .0) i q iq c n)
 
   -- and that parameter is the only one of the name
   pub named-reaches-it : (k i : ℕ) (r : Node) (x : Name) (p : FlatParam) → IsAt qs k (named r x) → IsAt fs i p
       → CanBeNamed p → p .name ≡ x → own k ≡ i
-  named-reaches-it k i r x p at sits c n =
+  named-reaches-it k i r x p at sits can n =
       let q = every-argument k (named r x) at in
       go (q .0) (q .1) (named-reaches k r x (q .0) at (q .1))
     where
-      go : (q : FlatParam) → IsAt fs (own k) q → (CanBeNamed q × (q .name ≡ x))
-          ⊎ ((q .mode ≡ modeKwargs) × ((i : ℕ) (q : FlatParam) → IsAt fs i q → CanBeNamed q → q .name ≡ x → ⊥))
-          → own k ≡ i
-      go q there (inl (d, m)) = one-name ps (pass .counts) (pass .outcome) (own k) i q p there sits (m ∙ sym n)
-      go q there (inr (m, none)) = absurd (none i p sits c n)
+      go : (q : FlatParam) → IsAt fs (own k) q → ByItsName x q → own k ≡ i
+      go q there (inl (d, m)) = one-name ps c ok (own k) i q p there sits (m ∙ sym n)
+      go q there (inr (m, none)) = absurd (none i p sits can n)
 
   -- "No argument reaches a PosOnly parameter by name": what keeps the two lists from being exchanged
   pub no-name-reaches-pos-only : (k : ℕ) (r : Node) (x : Name) (p : FlatParam) → IsAt qs k (named r x)
       → IsAt fs (own k) p → p .mode ≡ modePosOnly → ⊥
   no-name-reaches-pos-only k r x p at sits m = go (named-reaches k r x p at sits)
     where
-      go : (CanBeNamed p × (p .name ≡ x))
-          ⊎ ((p .mode ≡ modeKwargs) × ((i : ℕ) (q : FlatParam) → IsAt fs i q → CanBeNamed q → q .name ≡ x → ⊥)) → ⊥
+      go : ByItsName x p → ⊥
       go (inl (inl e, n)) = absurd (omega arith)
       go (inl (inr e, n)) = absurd (omega arith)
       go (inr (e, n)) = absurd (omega arith)
@@ -307,12 +354,12 @@ module _ (t names : List ℕ) (call def : ℕ) (list : List ℕ) {vs : List ℕ}
   pub needed-has-argument : (i : ℕ) (p : FlatParam) → IsAt fs i p → p .default ≡ false
       → (k : ℕ) × ((a : Argument) × (IsAt qs k a × ((own k ≡ i) × (taken i ≡ nodeIn a .at))))
   needed-has-argument i p sits n =
-      let word = passing.word-is t names call def list pass i (omega (arith, within fs i p sits)) in
+      let word = word-is i (omega (arith, within fs i p sits)) in
       let zero-more : 0 + i ≡ i = omega arith in
       let f = filler i (within fs i p sits)
       (λ z. never-empty 0 fs (pass .words) (pass .noEmpty) i p sits n (rw zero-more (sym word ∙ z))) in
-      let w = passing.reached-is t names call def list pass (f .0) (f .1 .0) (f .1 .1 .0) in
-      (f .0, (f .1 .0, (f .1 .1 .0, (rw (f .1 .1 .1 .0) at w, f .1 .1 .1 .1))))
+      let w = reached-is (f .number) (f .argument) (f .there) in
+      (f .number, (f .argument, (f .there, (rw (f .fills) at w, f .word))))
 
   -- "Every ordinary parameter with word 0 has a default"
   pub empty-has-default : (i : ℕ) (p : FlatParam) → IsAt fs i p → taken i ≡ 0 → p .default ≡ true
@@ -322,7 +369,7 @@ module _ (t names : List ℕ) (call def : ℕ) (list : List ℕ) {vs : List ℕ}
       go true e = refl
       go false e =
           let f = needed-has-argument i p sits e in
-          let some = passing.nodes t names call def list pass (f .0) (f .1 .0) (f .1 .1 .0) in
+          let some = nodes (f .0) (f .1 .0) (f .1 .1 .0) in
           absurd (omega (arith, f .1 .1 .1 .1))
 
 -- "with `**kwargs` 82 never arises"

@@ -27,10 +27,15 @@ use Rattle.bind.specs.FlatList.{FlatParam, flats}
 use Rattle.bind.specs.Binding.{namedFrom, collected, byPlace, byName, reaches}
 use Rattle.bind.specs.declared.Reach.the-variants.{Fills, Joins}
 use Rattle.bind.proofs.Entry.{flats-long}
-use Rattle.reached.specs.Said.{IsAt, Ordinary, ByPlace, Starred}
+use Rattle.reached.specs.Said.{IsAt, Ordinary, ByPlace, Starred, CanBeNamed}
 use Rattle.reached.specs.Rules.{Named, Placed}
-use Rattle.reached.proofs.Params.{there, within, mode-at, Stands, stands, Found, name-found, name-missed}
-use Rattle.reached.proofs.Params.{one-name}
+use Rattle.reached.proofs.Params.{there, within, mode-at, Stands, stands, name-found, name-missed}
+use Rattle.reached.proofs.Params.{one-name, same-at, moved}
+
+-- parameter i has an argument: the positional one of its place, or a named one of its name
+abbrev pub HasArgument : List Argument → ℕ → FlatParam → Type 0
+HasArgument qs i p = ((r : Node) × (IsAt qs i (positional r) × ByPlace p))
+    ⊎ ((k : ℕ) × ((r : Node) × (IsAt qs k (named r (p .name)) × CanBeNamed p)))
 
 module _ (ps : List Param) (c : Counts) (outcome : unpack ps ≡ accepted c) where
   abbrev pub d : DefParamIndices
@@ -120,11 +125,11 @@ module _ (ps : List Param) (c : Counts) (outcome : unpack ps ≡ accepted c) whe
       let x = there (flats ps) i (k .0) in
       record { param = x .0; there = x .1; kind = mode-at ps i (x .0) (x .1) ∙ k .1 }
 
-  pub named-sits : (x : Name) (i : ℕ) → namedFrom 0 x (flats ps) ≡ At i → Found (flats ps) x i
+  pub named-sits : (x : Name) (i : ℕ) → namedFrom 0 x (flats ps) ≡ At i → Named (flats ps) x i
   named-sits x i e =
       let k = name-found (flats ps) x 0 i e in
-      let same : k .0 ≡ i = omega (arith, k .1 .0) in
-      rw same at (k .1 .1)
+      let same : k .place ≡ i = omega (arith, k .is) in
+      rw same at (k .here)
 
   -- LAW: what fills is ordinary, what joins is starred
   pub fills-ordinary : (k : ℕ) (a : Argument) (i : ℕ) → reaches d (flats ps) k a ≡ Fills i → Sits i Ordinary
@@ -167,9 +172,26 @@ module _ (ps : List Param) (c : Counts) (outcome : unpack ps ≡ accepted c) whe
   pub named-by : (k i : ℕ) (r : Node) (x : Name) → reaches d (flats ps) k (named r x) ≡ Fills i
       → Named (flats ps) x i
   unfolding reaches
-  named-by k i r x e =
-      let f = named-sits x i (name-filled (namedFrom 0 x (flats ps)) i e) in
-      record { param = f .param; there = f .there; canBe = f .canBe; name = f .name }
+  named-by k i r x e = named-sits x i (name-filled (namedFrom 0 x (flats ps)) i e)
+
+  -- LAW: an argument that fills a parameter is its argument, by its place or by its name
+  pub has-argument : (qs : List Argument) (k : ℕ) (a : Argument) (i : ℕ) (p : FlatParam) → IsAt qs k a
+      → reaches d (flats ps) k a ≡ Fills i → IsAt (flats ps) i p → HasArgument qs i p
+  unfolding reaches
+  has-argument qs k (positional r) i p at e sits =
+      let b = placed-by k i r e in
+      let q = b .1 in
+      let here : k ≡ i = sym (b .0) in
+      let moves = moved (flats ps) k i (q .param) here (q .there) in
+      let is : q .param ≡ p = same-at (flats ps) i (q .param) p moves sits in
+      inl (r, (moved qs k i (positional r) here at, rw is at (q .byPlace)))
+  has-argument qs k (named r x) i p at e sits =
+      let q = named-by k i r x e in
+      let is : q .param ≡ p = same-at (flats ps) i (q .param) p (q .there) sits in
+      let its : x ≡ p .name = sym (q .name) ∙ ap (λ (z : FlatParam). z .name) is in
+      inr (k, (r, (rw its at at, rw is at (q .canBe))))
+  has-argument qs k (args r) i p at e sits = never (cc)
+  has-argument qs k (kwargs r) i p at e sits = never (cc)
 
   -- a place below the positional count
   below : (k : ℕ) → Placed (flats ps) k → k < c .«num_positional» .0

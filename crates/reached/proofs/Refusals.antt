@@ -33,8 +33,12 @@ use Rattle.reached.specs.Said.{flatsAt}
 use Rattle.reached.proofs.Early.{Early, early-entry, EarlyOutcome, early-limited, early-call}
 
 -- a refusal of two checks in order is one of them
+-- the first of two steps refuses, or it is passed and the second does
+abbrev pub OneRefuses : Answer → (List ℕ → Answer) → ℕ → List ℕ → Type 0
+OneRefuses a next n vs = (a ≡ refused n vs) ⊎ ((us : List ℕ) × ((a ≡ accepted us) × (next us ≡ refused n vs)))
+
 either : (a : Answer) (next : Unit {0} → Answer) {n : ℕ} {vs : List ℕ} → andThen a next ≡ refused n vs
-    → (a ≡ refused n vs) ⊎ ((us : List ℕ) × ((a ≡ accepted us) × (next tt ≡ refused n vs)))
+    → OneRefuses a (λ us. next tt) n vs
 either (accepted us) next e = inr (us, (refl, e))
 either (refused m us) next e = inl e
 
@@ -43,7 +47,7 @@ not-early (accepted us) n e f h = never (cc)
 not-early (refused m us) n e f h = let same : m ≡ n = cc in absurd (omega arith)
 
 with-refused : (a : Answer) (next : List ℕ → Answer) {n : ℕ} {vs : List ℕ} → andWith a next ≡ refused n vs
-    → (a ≡ refused n vs) ⊎ ((us : List ℕ) × ((a ≡ accepted us) × (next us ≡ refused n vs)))
+    → OneRefuses a next n vs
 with-refused (accepted us) next e = inr (us, (refl, e))
 with-refused (refused m us) next e = inl e
 
@@ -90,44 +94,44 @@ module _ (t ns : List ℕ) (call def : ℕ) where
   abbrev qs : List Argument
   qs = argumentsAt t ns call
 
+  -- the def's list, then the call's arguments, then the binding: the first two give no number of 80 or more
+  late-lists : (n : ℕ) {vs : List ℕ} → 80 ≤ n → (o : outcome.Outcome)
+      → limited (nodeOf def (stretchOf t def)) (listOf t ns def) ≡ o → EarlyOutcome o
+      → counting o (λ c. andThen (outcomeAnswer (calling.unpack qs)) (λ _.
+      binding c (flatsAt t ns def) (noWords c qs) qs)) ≡ refused n vs → Late t ns call def n vs
+  late-lists n {vs} low (outcome.accepted c) u early b = go (either (outcomeAnswer (calling.unpack qs)) _ b)
+    where
+      go : OneRefuses (outcomeAnswer (calling.unpack qs))
+          (λ _. binding (countedOf c) (flatsAt t ns def) (noWords (countedOf c) qs) qs) n vs → Late t ns call def n vs
+      go (inl y) = absurd (not-early (outcomeAnswer (calling.unpack qs)) n (early-call qs) y low)
+      go (inr (values, (ordered, refuses))) = record {
+        counts = c;
+        outcome = limited-accepted _ (listOf t ns def) u .1;
+        callValues = values;
+        inOrder = ordered;
+        refuses = refuses;
+      }
+  late-lists n low (outcome.refused m r) u early b = let same : m ≡ n = cc in absurd (omega arith)
+  late-lists n low (outcome.repeated i r) u early b = let same : n ≡ 11 = cc in absurd (omega arith)
+  late-lists n low (outcome.internal x r) u early b = let same : n ≡ 0 = cc in absurd (omega arith)
+
+  -- LAW: nor does the entry, so such a refusal is the binding's
   pub late : (room n : ℕ) {vs : List ℕ} → bindOf t ns call def room ≡ refused n vs → 80 ≤ n → Late t ns call def n vs
   unfolding bindOf wordsOf listsBound
   late room n {vs} e low = by-words (wordsOf t ns call def room) refl e
     where
-      by-counts : (o : outcome.Outcome) → limited (nodeOf def (stretchOf t def)) (listOf t ns def) ≡ o → EarlyOutcome o
-          → counting o (λ c. andThen (outcomeAnswer (calling.unpack qs)) (λ _.
-          binding c (flatsAt t ns def) (noWords c qs) qs)) ≡ refused n vs → Late t ns call def n vs
-      by-counts (outcome.accepted c) u early b = go (either (outcomeAnswer (calling.unpack qs)) _ b)
-        where
-          go : (outcomeAnswer (calling.unpack qs) ≡ refused n vs)
-              ⊎ ((us : List ℕ) × ((outcomeAnswer (calling.unpack qs) ≡ accepted us)
-              × (binding (countedOf c) (flatsAt t ns def) (noWords (countedOf c) qs) qs ≡ refused n vs)))
-              → Late t ns call def n vs
-          go (inl y) = absurd (not-early (outcomeAnswer (calling.unpack qs)) n (early-call qs) y low)
-          go (inr y) = record {
-            counts = c;
-            outcome = limited-accepted _ (listOf t ns def) u .1;
-            callValues = y .0;
-            inOrder = y .1 .0;
-            refuses = y .1 .1;
-          }
-      by-counts (outcome.refused m r) u early b = let same : m ≡ n = cc in absurd (omega arith)
-      by-counts (outcome.repeated i r) u early b = let same : n ≡ 11 = cc in absurd (omega arith)
-      by-counts (outcome.internal x r) u early b = let same : n ≡ 0 = cc in absurd (omega arith)
-
       by-words : (a : Answer) → wordsOf t ns call def room ≡ a → answeredAt a t ns call def ≡ refused n vs
           → Late t ns call def n vs
       by-words (accepted ws) w e = never (cc)
       by-words (refused m us) w e = go (either (entryOf t ns call def room) _ (w ∙ e))
         where
-          go : (entryOf t ns call def room ≡ refused n vs)
-              ⊎ ((us : List ℕ) × ((entryOf t ns call def room ≡ accepted us)
-              × (listsBound (nodeOf def (stretchOf t def)) (listOf t ns def) qs ≡ refused n vs)))
-              → Late t ns call def n vs
+          go : OneRefuses (entryOf t ns call def room)
+              (λ _. listsBound (nodeOf def (stretchOf t def)) (listOf t ns def) qs) n vs → Late t ns call def n vs
           go (inl y) = absurd
               (not-early (entryOf t ns call def room) n (early-entry t ns call def room) y low)
-          go (inr y) = by-counts (limited (nodeOf def (stretchOf t def)) (listOf t ns def)) refl
-              (early-limited _ (listOf t ns def)) (y .1 .1)
+          go (inr (us, (entered, refuses))) = late-lists n low
+              (limited (nodeOf def (stretchOf t def)) (listOf t ns def)) refl
+              (early-limited _ (listOf t ns def)) refuses
 
   abbrev fold : Counts → Answer
   fold c = along (countedOf c .flat) (countedOf c .indices) (flatsAt t ns def) 0 (noWords (countedOf c) qs) qs
@@ -136,38 +140,35 @@ module _ (t ns : List ℕ) (call def : ℕ) where
   abbrev pub Steps : Counts → ℕ → List ℕ → Type 0
   Steps c n vs = (starCheck qs ≡ refused n vs)
       ⊎ ((us : List ℕ) × ((starCheck qs ≡ accepted us)
-      × ((fold c ≡ refused n vs)
-      ⊎ ((ws : List ℕ) × ((fold c ≡ accepted ws) × (emptyCheck 0 (flatsAt t ns def) ws ≡ refused n vs))))))
+      × OneRefuses (fold c) (λ ws. emptyCheck 0 (flatsAt t ns def) ws) n vs))
 
+  -- the last step: what follows it accepts
+  last-step : (us : List ℕ) (n : ℕ) {vs : List ℕ}
+      → andThen (emptyCheck 0 (flatsAt t ns def) us) (λ _. accepted us) ≡ refused n vs
+      → emptyCheck 0 (flatsAt t ns def) us ≡ refused n vs
+  last-step us n {vs} x = go (either (emptyCheck 0 (flatsAt t ns def) us) _ x)
+    where
+      go : OneRefuses (emptyCheck 0 (flatsAt t ns def) us) (λ _. accepted us) n vs
+          → emptyCheck 0 (flatsAt t ns def) us ≡ refused n vs
+      go (inl y) = y
+      go (inr (ws, (s, y))) = never (cc)
+
+  -- LAW: one of the three steps refuses
   pub steps : (c : Counts) (n : ℕ) {vs : List ℕ}
       → binding (countedOf c) (flatsAt t ns def) (noWords (countedOf c) qs) qs ≡ refused n vs → Steps c n vs
   unfolding binding
   steps c n {vs} b = first (either (starCheck qs) _ b)
     where
-      third : (us : List ℕ) → andThen (emptyCheck 0 (flatsAt t ns def) us) (λ _. accepted us) ≡ refused n vs
-          → emptyCheck 0 (flatsAt t ns def) us ≡ refused n vs
-      third us x = go (either (emptyCheck 0 (flatsAt t ns def) us) _ x)
-        where
-          go : (emptyCheck 0 (flatsAt t ns def) us ≡ refused n vs)
-              ⊎ ((ws : List ℕ) × ((emptyCheck 0 (flatsAt t ns def) us ≡ accepted ws)
-              × (accepted us ≡ refused n vs)))
-              → emptyCheck 0 (flatsAt t ns def) us ≡ refused n vs
-          go (inl y) = y
-          go (inr y) = let z : accepted us ≡ refused n vs = y .1 .1 in never (cc)
+      rest : List ℕ → Answer
+      rest ws = andThen (emptyCheck 0 (flatsAt t ns def) ws) (λ _. accepted ws)
 
-      second : (us : List ℕ) → starCheck qs ≡ accepted us
-          → (fold c ≡ refused n vs) ⊎ ((ws : List ℕ) × ((fold c ≡ accepted ws)
-          × (andThen (emptyCheck 0 (flatsAt t ns def) ws) (λ _. accepted ws) ≡ refused n vs)))
-          → Steps c n vs
+      second : (us : List ℕ) → starCheck qs ≡ accepted us → OneRefuses (fold c) rest n vs → Steps c n vs
       second us s (inl y) = inr (us, (s, inl y))
-      second us s (inr y) = inr (us, (s, inr (y .0, (y .1 .0, third (y .0) (y .1 .1)))))
+      second us s (inr (ws, (walked, y))) = inr (us, (s, inr (ws, (walked, last-step ws n y))))
 
-      first : (starCheck qs ≡ refused n vs) ⊎ ((us : List ℕ) × ((starCheck qs ≡ accepted us)
-          × (andWith (fold c) (λ us. andThen (emptyCheck 0 (flatsAt t ns def) us) (λ _. accepted us))
-          ≡ refused n vs)))
-          → Steps c n vs
+      first : OneRefuses (starCheck qs) (λ _. andWith (fold c) rest) n vs → Steps c n vs
       first (inl y) = inl y
-      first (inr y) = second (y .0) (y .1 .0) (with-refused (fold c) _ (y .1 .1))
+      first (inr (us, (s, y))) = second us s (with-refused (fold c) rest y)
 
   pub walking : (room n : ℕ) {vs : List ℕ} → bindOf t ns call def room ≡ refused n vs → 80 < n
       → n < 84 → Walking t ns call def n vs

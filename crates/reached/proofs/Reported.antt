@@ -16,7 +16,7 @@ use native.Mathlib.Omega.{arith}
 use lib.ListN.{length, getD, length-replicate}
 use lib.Dec.{eqb, ltb}
 use borrow.Author.Tests.{eq-eqb, eqb-true, ltb-true, ltb-false}
-use Rattle.fields.proofs.Basics.{never}
+use Rattle.fields.proofs.Basics.{never, clash}
 use Rattle.fields.specs.Choice.{if'}
 use Rattle.forest.specs.Forest.{Node}
 use Rattle.table.specs.Numbers.{starArgument, tooManyPositional, emptyParameter}
@@ -35,17 +35,18 @@ use Rattle.bind.specs.FlatList.{FlatParam}
 use Rattle.bind.specs.Binding.{collected, byPlace, reaches, unreached, along, isStar, starCheck, emptyCheck}
 use Rattle.bind.specs.Job.{noWords, argumentsAt, bindOf}
 use Rattle.bind.specs.declared.Reach.the-variants.{Fills, Nowhere}
-use Rattle.reached.specs.Said.{IsAt, CanBeNamed, ByPlace, flatsAt}
+use Rattle.reached.specs.Said.{IsAt, ByPlace, flatsAt}
 use Rattle.reached.specs.Rules.{Named, Placed}
 use Rattle.reached.specs.Refused.{spanned, FirstStar, TooMany, LeftEmpty}
 use Rattle.reached.proofs.Walk.{Nodes, Filler, was-empty, comes-from}
-use Rattle.reached.proofs.Params.{there, within, moved, same-at, mode-at}
-use Rattle.reached.proofs.Nodes.{call-rising}
+use Rattle.reached.proofs.Params.{there, within, mode-at}
+use Rattle.reached.proofs.Nodes.{call-nodes}
 use Rattle.reached.proofs.Complete.{zeros}
 use Rattle.reached.proofs.Reaching as reaching
+use Rattle.reached.proofs.Reaching.{HasArgument}
 use Rattle.reached.proofs.Refusals.{star-number, empty-number, Late, Walking, late, Steps, steps, walking}
 use Rattle.reached.proofs.Stops as stops
-use Rattle.reached.proofs.Stops.{Why, stop-at, stars, star-stars}
+use Rattle.reached.proofs.Stops.{Why, stop-at}
 
 -- the search for a star: where it finds none, and where it finds one
 star-none : (qs : List Argument) {us : List ℕ} → starCheck qs ≡ accepted us → (k : ℕ) (a : Argument) → IsAt qs k a
@@ -119,46 +120,47 @@ record Hole (k : ℕ) (fs : List FlatParam) (us vs : List ℕ) : Type 0 where
   word : getD us (k + index) 0 ≡ 0
   before : (i : ℕ) (p : FlatParam) → i < index → IsAt fs i p → p .default ≡ false → getD us (k + i) 0 ≡ 0 → ⊥
 
+-- a hole behind a parameter that is filled, or has a default
+hole-later : (k : ℕ) (p : FlatParam) (fs : List FlatParam) (us vs : List ℕ)
+    → (not (p .default) && eqb (getD us k 0) 0) ≡ false → Hole (k + 1) fs us vs → Hole k (p ∷ fs) us vs
+hole-later k p fs us vs test h = record {
+  index = suc (h .index);
+  param = h .param;
+  there = h .there;
+  carries = h .carries;
+  without = h .without;
+  word = rw (next (h .index)) at (h .word);
+  before = before;
+}
+  where
+    next : (j : ℕ) → k + 1 + j ≡ k + suc j
+    next j = omega arith
+
+    before : (i : ℕ) (q : FlatParam) → i < suc (h .index) → IsAt (p ∷ fs) i q → q .default ≡ false
+        → getD us (k + i) 0 ≡ 0 → ⊥
+    before zero q l at n z =
+        let here : k + 0 ≡ k = omega arith in
+        let its : p .default ≡ false = ap (λ (x : FlatParam). x .default) at ∙ n in
+        let hit : (not (p .default) && eqb (getD us k 0) 0) ≡ true = rw
+        (its, eq-eqb (getD us k 0) 0 (rw here at z)) refl in
+        clash hit test
+    before (suc i) q l at n z = h .before i q (omega arith) at n (rw (← next i) at z)
+
 hole : (k : ℕ) (fs : List FlatParam) (us : List ℕ) {vs : List ℕ} → emptyCheck k fs us ≡ refused emptyParameter vs
     → Hole k fs us vs
 unfolding emptyCheck
 hole k [] us e = never (cc)
 hole k (p ∷ fs) us {vs} e = go (p .default) (eqb (getD us k 0) 0) refl refl e (λ f. hole (k + 1) fs us f)
   where
-    next : (j : ℕ) → k + 1 + j ≡ k + suc j
-    next j = omega arith
-
     here : k + 0 ≡ k
     here = omega arith
-
-    later : (not (p .default) && eqb (getD us k 0) 0) ≡ false → Hole (k + 1) fs us vs → Hole k (p ∷ fs) us vs
-    later test h = record {
-      index = suc (h .index);
-      param = h .param;
-      there = h .there;
-      carries = h .carries;
-      without = h .without;
-      word = rw (next (h .index)) at (h .word);
-      before = before;
-    }
-      where
-        before : (i : ℕ) (q : FlatParam) → i < suc (h .index) → IsAt (p ∷ fs) i q → q .default ≡ false
-            → getD us (k + i) 0 ≡ 0 → ⊥
-        before zero q l at n z =
-            let its : p .default ≡ false = ap (λ (x : FlatParam). x .default) at ∙ n in
-            let zero-word : getD us k 0 ≡ 0 = rw here at z in
-            let hit : (not (p .default) && eqb (getD us k 0) 0) ≡ true = rw
-            (its, eq-eqb (getD us k 0) 0 zero-word) refl in
-            let both : true ≡ false = sym hit ∙ test in
-            never (cc)
-        before (suc i) q l at n z = h .before i q (omega arith) at n (rw (← next i) at z)
 
     go : (b c : Bool) → p .default ≡ b → eqb (getD us k 0) 0 ≡ c
         → if' (not b && c) (λ _. refusedAt emptyParameter (p .node)) (λ _. emptyCheck (k + 1) fs us)
         ≡ refused emptyParameter vs → (emptyCheck (k + 1) fs us ≡ refused emptyParameter vs → Hole (k + 1) fs us vs)
         → Hole k (p ∷ fs) us vs
-    go true c f g e rest = later (rw f refl) (rest e)
-    go false false f g e rest = later (rw (f, g) refl) (rest e)
+    go true c f g e rest = hole-later k p fs us vs (rw f refl) (rest e)
+    go false false f g e rest = hole-later k p fs us vs (rw (f, g) refl) (rest e)
     go false true f g e rest = record {
       index = 0;
       param = p;
@@ -217,9 +219,9 @@ module _ (t ns : List ℕ) (call def room : ℕ) where
         let at = stop-at flat d fs small 0 none-yet qs starArgument vs e in
         go (at .number) (at .argument) (at .there) (at .why)
       where
-        go : (j : ℕ) (a : Argument) → IsAt qs j a → Why flat d fs small 0 none-yet qs j a starArgument → ⊥
+        go : (j : ℕ) (a : Argument) → IsAt qs j a → Why d fs 0 none-yet qs j a starArgument → ⊥
         go j a there (inl x) = star-none qs s j a there (star-kind a (x .1))
-        go j a there (inr x) = absurd (omega (arith, x .1 .1 .0))
+        go j a there (inr x) = absurd (omega (arith, x .number))
 
     -- nor 84
     no-empty-there : {vs : List ℕ} → along flat d fs 0 none-yet qs ≡ refused emptyParameter vs → ⊥
@@ -227,14 +229,14 @@ module _ (t ns : List ℕ) (call def room : ℕ) where
         let at = stop-at flat d fs small 0 none-yet qs emptyParameter vs e in
         go (at .number) (at .argument) (at .why)
       where
-        go : (j : ℕ) (a : Argument) → Why flat d fs small 0 none-yet qs j a emptyParameter → ⊥
+        go : (j : ℕ) (a : Argument) → Why d fs 0 none-yet qs j a emptyParameter → ⊥
         go j a (inl x) = not-empty a (x .1)
-        go j a (inr x) = absurd (omega (arith, x .1 .1 .0))
+        go j a (inr x) = absurd (omega (arith, x .number))
 
     -- a parameter whose word is 0 after the walk has no argument, and any other has one
     module _ (us : List ℕ) (walked : along flat d fs 0 none-yet qs ≡ accepted us) where
       nodes : Nodes qs
-      nodes j a e = let r = call-rising t ns call in omega (arith, r .1 .0, r .1 .1 .least j a e)
+      nodes = call-nodes t ns call
 
       long : flat + 0 + length qs ≤ length none-yet
       long = omega (arith, length-replicate {A = ℕ} (flat + length qs) 0)
@@ -245,35 +247,15 @@ module _ (t ns : List ℕ) (call def room : ℕ) where
           let some = nodes k a at in
           absurd (omega (arith, w .1))
 
-      filled-by : (i : ℕ) (p : FlatParam) → IsAt fs i p → (getD us i 0 ≡ 0 → ⊥)
-          → ((r : Node) × (IsAt qs i (positional r) × ByPlace p))
-          ⊎ ((k : ℕ) × ((r : Node) × (IsAt qs k (named r (p .name)) × CanBeNamed p)))
+      filled-by : (i : ℕ) (p : FlatParam) → IsAt fs i p → (getD us i 0 ≡ 0 → ⊥) → HasArgument qs i p
       filled-by i p sits n =
           go (comes-from flat d fs small 0 none-yet qs us walked nodes long i
           (omega (arith, reaching.flat-is ps c outcome, within fs i p sits)))
         where
-          of : (k : ℕ) (a : Argument) → IsAt qs k a → reaches d fs k a ≡ Fills i
-              → ((r : Node) × (IsAt qs i (positional r) × ByPlace p))
-              ⊎ ((k : ℕ) × ((r : Node) × (IsAt qs k (named r (p .name)) × CanBeNamed p)))
-          of k (positional r) at e =
-              let b = reaching.placed-by ps c outcome k i r e in
-              let q = b .1 in
-              let here : k ≡ i = sym (b .0) in
-              let is : q .param ≡ p = same-at fs i (q .param) p (moved fs k i (q .param) here (q .there)) sits in
-              inl (r, (moved qs k i (positional r) here at, rw is at (q .byPlace)))
-          of k (named r x) at e =
-              let q = reaching.named-by ps c outcome k i r x e in
-              let is : q .param ≡ p = same-at fs i (q .param) p (q .there) sits in
-              let its : x ≡ p .name = sym (q .name) ∙ ap (λ (z : FlatParam). z .name) is in
-              inr (k, (r, (rw its at at, rw is at (q .canBe))))
-          of k (args r) at e = absurd (stars d fs k i r e)
-          of k (kwargs r) at e = absurd (star-stars d fs k i r e)
-
-          go : (getD us i 0 ≡ getD none-yet i 0) ⊎ Filler flat d fs small 0 qs us i
-              → ((r : Node) × (IsAt qs i (positional r) × ByPlace p))
-              ⊎ ((k : ℕ) × ((r : Node) × (IsAt qs k (named r (p .name)) × CanBeNamed p)))
+          go : (getD us i 0 ≡ getD none-yet i 0) ⊎ Filler flat d fs small 0 qs us i → HasArgument qs i p
           go (inl e) = absurd (n (e ∙ zeros (flat + length qs) i))
-          go (inr f) = of (f .number) (f .argument) (f .there) (rw (from-zero (f .number)) at (f .fills))
+          go (inr f) = reaching.has-argument ps c outcome qs (f .number) (f .argument) i p (f .there)
+              (rw (from-zero (f .number)) at (f .fills)) sits
 
       left-empty : {vs : List ℕ} → emptyCheck 0 fs us ≡ refused emptyParameter vs → LeftEmpty fs qs vs
       left-empty e =
@@ -367,6 +349,27 @@ module _ (t ns : List ℕ) (call def room : ℕ) where
       go l (inr (us, (s, inl y))) = absurd (no-empty-there (l .counts) (l .outcome) y)
       go l (inr (us, (s, inr y))) = left-empty (l .counts) (l .outcome) (y .0) (y .1 .0) (y .1 .1)
 
+  -- the positional argument at which 81 stops: no parameter is at its place, and there is no `*args`
+  too-many : {vs : List ℕ} (w : Walking t ns call def tooManyPositional vs) (j : ℕ) (r : Node)
+      → IsAt qs j (positional r) → vs ≡ spanned r
+      → ((i : ℕ) (b : Argument) → i < j → IsAt qs i b
+      → reaches (countedOf (w .counts) .indices) fs (0 + i) b ≡ Nowhere → ⊥)
+      → reaches (countedOf (w .counts) .indices) fs (0 + j) (positional r) ≡ Nowhere → TooMany fs qs vs
+  unfolding reaches
+  too-many {vs} w j r at v before y =
+      let k = no-args (w .counts) (w .outcome) j (rw (from-zero (w .counts) (w .outcome) j) at y) in
+      record {
+        number = j;
+        node = r;
+        there = at;
+        carries = v;
+        noArgs = λ i p sits m. reaching.st ps (w .counts) (w .outcome) .someArgs i (within fs i p sits)
+            (sym (mode-at ps i p sits) ∙ m) (k .1);
+        noPlace = λ p sits b. behind (w .counts) (w .outcome) j p sits b (k .0);
+        first = earlier (w .counts) (w .outcome) j r at
+            (stops.in-turn t ns call def room tooManyPositional vs w) before (k .1);
+      }
+
   -- "81 at the first positional too many without `*args`"
   pub too-many-is-first : {vs : List ℕ} → bindOf t ns call def room ≡ refused tooManyPositional vs → TooMany fs qs vs
   unfolding reaches unreached
@@ -379,23 +382,10 @@ module _ (t ns : List ℕ) (call def room : ℕ) where
           → vs ≡ spanned (nodeIn a)
           → ((i : ℕ) (b : Argument) → i < j → IsAt qs i b
           → reaches (countedOf (w .counts) .indices) fs (0 + i) b ≡ Nowhere → ⊥)
-          → Why (countedOf (w .counts) .flat) (countedOf (w .counts) .indices) fs
-          (small (w .counts) (w .outcome)) 0 (noWords (countedOf (w .counts)) qs) qs j a tooManyPositional
+          → Why (countedOf (w .counts) .indices) fs 0 (noWords (countedOf (w .counts)) qs) qs j a tooManyPositional
           → TooMany fs qs vs
-      go w j a at v before (inr y) = absurd (omega (arith, y .1 .1 .0))
+      go w j a at v before (inr y) = absurd (omega (arith, y .number))
       go w j (named r x) at v before (inl y) = absurd (omega (arith, y .1))
       go w j (args r) at v before (inl y) = absurd (omega (arith, y .1))
       go w j (kwargs r) at v before (inl y) = absurd (omega (arith, y .1))
-      go w j (positional r) at v before (inl y) =
-          let k = no-args (w .counts) (w .outcome) j (rw (from-zero (w .counts) (w .outcome) j) at (y .0)) in
-          record {
-            number = j;
-            node = r;
-            there = at;
-            carries = v;
-            noArgs = λ i p sits m. reaching.st ps (w .counts) (w .outcome) .someArgs i (within fs i p sits)
-                (sym (mode-at ps i p sits) ∙ m) (k .1);
-            noPlace = λ p sits b. behind (w .counts) (w .outcome) j p sits b (k .0);
-            first = earlier (w .counts) (w .outcome) j r at
-                (stops.in-turn t ns call def room tooManyPositional vs w) before (k .1);
-          }
+      go w j (positional r) at v before (inl y) = too-many w j r at v before (y .0)

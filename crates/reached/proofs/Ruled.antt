@@ -26,13 +26,14 @@ use Rattle.bind.specs.Binding.{namedFrom, reaches}
 use Rattle.bind.specs.Job.{argumentsAt, bindOf}
 use Rattle.bind.specs.declared.Reach.{Reach}
 use Rattle.bind.specs.declared.Reach.the-variants.{Fills, Joins}
-use Rattle.reached.specs.Said.{IsAt, CanBeNamed, ByPlace, flatsAt, parameterWord, argumentWord}
+use Rattle.reached.specs.Said.{IsAt, flatsAt, parameterWord, argumentWord}
 use Rattle.reached.specs.Rules.{Named, Star, Placed, Rules}
 use Rattle.reached.proofs.Walk.{Index}
 use Rattle.reached.proofs.Params.{moved, same-at}
 use Rattle.reached.proofs.Passed as passing
 use Rattle.reached.proofs.Passed.{Passed}
 use Rattle.reached.proofs.Reaching as reaching
+use Rattle.reached.proofs.Reaching.{HasArgument}
 use Rattle.reached.proofs.Stops.{call-ordered}
 use Rattle.reached.proofs.Reached as theorem
 
@@ -120,55 +121,21 @@ module _ (t names : List ℕ) (call def : ℕ) (list : List ℕ) {vs : List ℕ}
       let some = passing.nodes t names call def list pass k a at in
       absurd (omega arith)
 
-  -- an argument for each parameter without default
-  needed : (i : ℕ) (p : FlatParam) → IsAt fs i p → p .default ≡ false
-      → ((r : Node) × (IsAt qs i (positional r) × ByPlace p))
-      ⊎ ((k : ℕ) × ((r : Node) × (IsAt qs k (named r (p .name)) × CanBeNamed p)))
-  unfolding reaches
-  needed i p sits n =
-      let x = theorem.needed-has-argument t names call def list bound i p sits n in
-      go (x .0) (x .1 .0) (x .1 .1 .0) (x .1 .1 .1 .0) (x .1 .1 .1 .1)
+  -- an argument for each parameter without default: the one that its word names reaches it, and no star does
+  needed : (i : ℕ) (p : FlatParam) → IsAt fs i p → p .default ≡ false → HasArgument qs i p
+  needed i p sits n = go (theorem.needed-has-argument t names call def list bound i p sits n)
     where
-      by-place : (k : ℕ) (r : Node) → IsAt qs k (positional r) → own k ≡ i → taken i ≡ r .at → (y : Reach)
-          → reaches d fs k (positional r) ≡ y → Index y (own k)
-          → (r : Node) × (IsAt qs i (positional r) × ByPlace p)
-      by-place k r at o e (Fills j) f w =
-          let b = reaching.placed-by ps c (pass .outcome) k j r f in
-          let same : k ≡ i = sym (b .0) ∙ sym w ∙ o in
-          let q = b .1 in
-          let is : q .param ≡ p = same-at fs i (q .param) p (moved fs k i (q .param) same (q .there)) sits in
-          (r, (moved qs k i (positional r) same at, rw is at (q .byPlace)))
-      by-place k r at o e (Joins j) f w =
-          let s = reaching.args-sits ps c (pass .outcome) j (reaching.place-joined ps c (pass .outcome) k j f .1) in
-          let same : j ≡ i = sym w ∙ o in
-          let there = moved fs j i (s .param) same (s .there) in
-          absurd (no-star-word i p (s .param) sits there (inl (s .kind)) k (positional r) at e)
+      by-reach : (k : ℕ) (a : Argument) → IsAt qs k a → own k ≡ i → taken i ≡ nodeIn a .at → (y : Reach)
+          → reaches d fs k a ≡ y → Index y (own k) → HasArgument qs i p
+      by-reach k a at o e (Fills j) f w =
+          reaching.has-argument ps c (pass .outcome) qs k a i p at (f ∙ ap Fills (sym w ∙ o)) sits
+      by-reach k a at o e (Joins j) f w =
+          let s = reaching.joins-starred ps c (pass .outcome) k a j f in
+          let there = moved fs j i (s .param) (sym w ∙ o) (s .there) in
+          absurd (no-star-word i p (s .param) sits there (s .kind) k a at e)
 
-      by-name : (k : ℕ) (r : Node) (x : Name) → IsAt qs k (named r x) → own k ≡ i → taken i ≡ r .at → (y : Reach)
-          → reaches d fs k (named r x) ≡ y → Index y (own k)
-          → (k : ℕ) × ((r : Node) × (IsAt qs k (named r (p .name)) × CanBeNamed p))
-      by-name k r x at o e (Fills j) f w =
-          let q = reaching.named-by ps c (pass .outcome) k j r x f in
-          let same : j ≡ i = sym w ∙ o in
-          let is : q .param ≡ p = same-at fs i (q .param) p (moved fs j i (q .param) same (q .there)) sits in
-          let its : x ≡ p .name = sym (q .name) ∙ ap (λ (z : FlatParam). z .name) is in
-          (k, (r, (rw its at at, rw is at (q .canBe))))
-      by-name k r x at o e (Joins j) f w =
-          let s = reaching.kwargs-sits ps c (pass .outcome) j
-          (reaching.name-joined ps c (pass .outcome) (namedFrom 0 x fs) j f .1) in
-          let same : j ≡ i = sym w ∙ o in
-          let there = moved fs j i (s .param) same (s .there) in
-          absurd (no-star-word i p (s .param) sits there (inr (s .kind)) k (named r x) at e)
-
-      go : (k : ℕ) (a : Argument) → IsAt qs k a → own k ≡ i → taken i ≡ nodeIn a .at
-          → ((r : Node) × (IsAt qs i (positional r) × ByPlace p))
-          ⊎ ((k : ℕ) × ((r : Node) × (IsAt qs k (named r (p .name)) × CanBeNamed p)))
-      go k (positional r) at o e =
-          inl (by-place k r at o e (reaches d fs k (positional r)) refl (word k (positional r) at))
-      go k (named r x) at o e =
-          inr (by-name k r x at o e (reaches d fs k (named r x)) refl (word k (named r x) at))
-      go k (args r) at o e = absurd (no-star k r at)
-      go k (kwargs r) at o e = absurd (no-star-star k r at)
+      go : (k : ℕ) × ((a : Argument) × (IsAt qs k a × ((own k ≡ i) × (taken i ≡ nodeIn a .at)))) → HasArgument qs i p
+      go (k, (a, (at, (o, e)))) = by-reach k a at o e (reaches d fs k a) refl (word k a at)
 
   -- "a call and a def that are accepted meet the rules (stated without the job)"
   pub accepted-has-rules : Rules t names call def (length list)

@@ -43,21 +43,65 @@ use Rattle.bind.specs.declared.Reach.the-variants.{Fills, Joins, Nowhere}
 use Rattle.reached.specs.Said.{IsAt, flatsAt, Against}
 use Rattle.reached.specs.Refused.{spanned}
 use Rattle.reached.proofs.Walk.{took, took-other}
-use Rattle.reached.proofs.Params.{within, same-at, mode-at, Found}
+use Rattle.reached.specs.Rules as rules
+use Rattle.reached.proofs.Params.{within, same-at, mode-at}
 use Rattle.reached.proofs.Reaching as reaching
-use Rattle.reached.proofs.Complete.{two-names-in, zeros}
+use Rattle.reached.proofs.Complete.{names-apart, zeros}
 use Rattle.reached.proofs.Refusals.{Walking, walking}
 
-module _ (flat : ℕ) (d : DefParamIndices) (fs : List FlatParam)
-    (small : (k : ℕ) (a : Argument) (i : ℕ) → reaches d fs k a ≡ Fills i → i < flat) where
-  -- a parameter was filled before: at first, or by an earlier argument
-  abbrev pub Before : ℕ → List ℕ → List Argument → ℕ → ℕ → Type 0
-  Before k ws qs j i = (0 < getD ws i 0)
-      ⊎ ((l : ℕ) × ((b : Argument) × ((l < j) × (IsAt qs l b × (reaches d fs (k + l) b ≡ Fills i)))))
+-- a turn is refused with 83: its parameter has a word
+record Full (r : Reach) (ws : List ℕ) (n : ℕ) : Type 0 where
+  pub index : ℕ
+  pub fills : r ≡ Fills index
+  pub number : n ≡ alreadyFilled
+  pub full : 0 < getD ws index 0
 
+-- why a turn is refused: it reaches nothing, or its parameter has a word
+abbrev Halts : Reach → Argument → List ℕ → ℕ → Type 0
+Halts r a ws n = ((r ≡ Nowhere) × (n ≡ unreached (kindIn a))) ⊎ Full r ws n
+
+turn-stops : (place : ℕ) (r : Reach) (a : Argument) (ws : List ℕ) {n : ℕ} {vs : List ℕ}
+    → turn place r (kindIn a) (nodeIn a) ws ≡ refused n vs → Halts r a ws n × (vs ≡ spanned (nodeIn a))
+unfolding turn
+turn-stops place (Fills i) a ws {n} {vs} e = go (ltb 0 (getD ws i 0)) refl e
+  where
+    go : (b : Bool) → ltb 0 (getD ws i 0) ≡ b → if' b (λ _. refusedAt alreadyFilled (nodeIn a)) (λ _.
+        accepted (set (set ws i (nodeIn a .at)) place i)) ≡ refused n vs
+        → Halts (Fills i) a ws n × (vs ≡ spanned (nodeIn a))
+    go true f e =
+        let same : n ≡ alreadyFilled = cc in
+        let these : vs ≡ spanned (nodeIn a) = cc in
+        (inr record { index = i; fills = refl; number = same; full = ltb-true 0 (getD ws i 0) f }, these)
+    go false f e = never (cc)
+turn-stops place (Joins i) a ws e = never (cc)
+turn-stops place Nowhere a ws {n} {vs} e =
+    let same : n ≡ unreached (kindIn a) = cc in
+    let these : vs ≡ spanned (nodeIn a) = cc in
+    (inl (refl, same), these)
+
+module _ (d : DefParamIndices) (fs : List FlatParam) where
+  -- an argument before number j fills parameter i
+  pub record FilledBy (k : ℕ) (qs : List Argument) (j i : ℕ) : Type 0 where
+    pub number : ℕ
+    pub argument : Argument
+    pub earlier : number < j
+    pub there : IsAt qs number argument
+    pub fills : reaches d fs (k + number) argument ≡ Fills i
+
+  -- parameter i was filled before argument j: at first, or by an earlier argument
+  abbrev pub Before : ℕ → List ℕ → List Argument → ℕ → ℕ → Type 0
+  Before k ws qs j i = (0 < getD ws i 0) ⊎ FilledBy k qs j i
+
+  -- 83: argument j fills a parameter that was filled before
+  pub record Twice (k : ℕ) (ws : List ℕ) (qs : List Argument) (j : ℕ) (a : Argument) (n : ℕ) : Type 0 where
+    pub index : ℕ
+    pub fills : reaches d fs (k + j) a ≡ Fills index
+    pub number : n ≡ alreadyFilled
+    pub before : Before k ws qs j index
+
+  -- why the walk stops at argument j: it reaches nothing, or its parameter was filled before
   abbrev pub Why : ℕ → List ℕ → List Argument → ℕ → Argument → ℕ → Type 0
-  Why k ws qs j a n = ((reaches d fs (k + j) a ≡ Nowhere) × (n ≡ unreached (kindIn a)))
-      ⊎ ((i : ℕ) × ((reaches d fs (k + j) a ≡ Fills i) × ((n ≡ alreadyFilled) × Before k ws qs j i)))
+  Why k ws qs j a n = ((reaches d fs (k + j) a ≡ Nowhere) × (n ≡ unreached (kindIn a))) ⊎ Twice k ws qs j a n
 
   -- the argument at which it stops
   pub record Stopped (k : ℕ) (ws : List ℕ) (qs : List Argument) (n : ℕ) (vs : List ℕ) : Type 0 where
@@ -68,114 +112,123 @@ module _ (flat : ℕ) (d : DefParamIndices) (fs : List FlatParam)
     pub carries : vs ≡ spanned (nodeIn argument)
     pub before : (j : ℕ) (b : Argument) → j < number → IsAt qs j b → reaches d fs (k + j) b ≡ Nowhere → ⊥
 
-  turn-stops : (place : ℕ) (r : Reach) (a : Argument) (ws : List ℕ) {n : ℕ} {vs : List ℕ}
-      → turn place r (kindIn a) (nodeIn a) ws ≡ refused n vs
-      → (((r ≡ Nowhere) × (n ≡ unreached (kindIn a)))
-      ⊎ ((i : ℕ) × ((r ≡ Fills i) × ((n ≡ alreadyFilled) × (0 < getD ws i 0))))) × (vs ≡ spanned (nodeIn a))
-  unfolding turn
-  turn-stops place (Fills i) a ws {n} {vs} e = go (ltb 0 (getD ws i 0)) refl e
-    where
-      go : (b : Bool) → ltb 0 (getD ws i 0) ≡ b → if' b (λ _. refusedAt alreadyFilled (nodeIn a)) (λ _.
-          accepted (set (set ws i (nodeIn a .at)) place i)) ≡ refused n vs
-          → (((Fills i ≡ Nowhere) × (n ≡ unreached (kindIn a)))
-          ⊎ ((j : ℕ) × ((Fills i ≡ Fills j) × ((n ≡ alreadyFilled) × (0 < getD ws j 0))))) × (vs ≡ spanned (nodeIn a))
-      go true f e = let same : n ≡ alreadyFilled = cc in let these : vs ≡ spanned (nodeIn a) = cc in
-          (inr (i, (refl, (same, ltb-true 0 (getD ws i 0) f))), these)
-      go false f e = never (cc)
-  turn-stops place (Joins i) a ws e = never (cc)
-  turn-stops place Nowhere a ws {n} {vs} e = let same : n ≡ unreached (kindIn a) = cc in
-      let these : vs ≡ spanned (nodeIn a) = cc in (inl (refl, same), these)
+module _ (flat : ℕ) (d : DefParamIndices) (fs : List FlatParam)
+    (small : (k : ℕ) (a : Argument) (i : ℕ) → reaches d fs k a ≡ Fills i → i < flat) where
+  -- argument k, and those behind it
+  module _ (k : ℕ) (ws : List ℕ) (a : Argument) (qs : List Argument) where
+    next : (j : ℕ) → k + 1 + j ≡ k + suc j
+    next j = omega arith
 
+    here : k ≡ k + 0
+    here = omega arith
+
+    -- the walk stops at it
+    stops-here : (n : ℕ) → Halts (reaches d fs k a) a ws n → Why d fs k ws (a ∷ qs) 0 a n
+    stops-here n (inl x) = inl (rw (← here) (x .0), x .1)
+    stops-here n (inr x) = inr record {
+      index = x .index;
+      fills = rw (← here) (x .fills);
+      number = x .number;
+      before = inl (x .full);
+    }
+
+    stopped-here : (n : ℕ) (vs : List ℕ) → Halts (reaches d fs k a) a ws n → vs ≡ spanned (nodeIn a)
+        → Stopped d fs k ws (a ∷ qs) n vs
+    stopped-here n vs h v = record {
+      number = 0;
+      argument = a;
+      there = refl;
+      why = stops-here n h;
+      carries = v;
+      before = λ j b l at x. absurd (omega arith);
+    }
+
+    -- or goes on with the words us
+    module _ (us : List ℕ) (t : turn (flat + k) (reaches d fs k a) (kindIn a) (nodeIn a) ws ≡ accepted us) where
+      -- a word that its turn does not write was there before
+      was-there : (j i : ℕ) → i < flat → 0 < getD us i 0 → (reaches d fs k a ≡ Fills i → ⊥)
+          → Before d fs k ws (a ∷ qs) (suc j) i
+      was-there j i inside x m =
+          let same = took-other (flat + k) a ws us (reaches d fs k a) i
+          (took (flat + k) (reaches d fs k a) a ws us t) (λ z. absurd (omega arith)) m in
+          inl (omega arith)
+
+      -- a word that is there after its turn was there before, or is its own
+      before-or-own : (j i : ℕ) → i < flat → 0 < getD us i 0 → Before d fs k ws (a ∷ qs) (suc j) i
+      before-or-own j i inside x = by-reach (reaches d fs k a) refl
+        where
+          by-index : (l : ℕ) → reaches d fs k a ≡ Fills l → (b : Bool) → eqb l i ≡ b
+              → Before d fs k ws (a ∷ qs) (suc j) i
+          by-index l r true m = inr record {
+            number = 0;
+            argument = a;
+            earlier = omega arith;
+            there = refl;
+            fills = rw (← here) (r ∙ ap Fills (eqb-true l i m));
+          }
+          by-index l r false m = was-there j i inside x (λ z. let both : Fills l ≡ Fills i = sym r ∙ z in
+              let same : l ≡ i = cc in eqb-false l i m same)
+
+          by-reach : (r : Reach) → reaches d fs k a ≡ r → Before d fs k ws (a ∷ qs) (suc j) i
+          by-reach (Fills l) r = by-index l r (eqb l i) refl
+          by-reach (Joins l) r = was-there j i inside x
+              (λ z. let both : Joins l ≡ Fills i = sym r ∙ z in never (cc))
+          by-reach Nowhere r = was-there j i inside x
+              (λ z. let both : Nowhere ≡ Fills i = sym r ∙ z in never (cc))
+
+      -- what holds of those behind it, counted from it
+      earlier : (j i : ℕ) → i < flat → Before d fs (k + 1) us qs j i → Before d fs k ws (a ∷ qs) (suc j) i
+      earlier j i inside (inl x) = before-or-own j i inside x
+      earlier j i inside (inr x) = inr record {
+        number = suc (x .number);
+        argument = x .argument;
+        earlier = omega (arith, x .earlier);
+        there = x .there;
+        fills = rw (next (x .number)) at (x .fills);
+      }
+
+      later : (n j : ℕ) (b : Argument) → Why d fs (k + 1) us qs j b n → Why d fs k ws (a ∷ qs) (suc j) b n
+      later n j b (inl x) = inl (rw (next j) at (x .0), x .1)
+      later n j b (inr x) = inr record {
+        index = x .index;
+        fills = rw (next j) at (x .fills);
+        number = x .number;
+        before = earlier j (x .index) (small (k + 1 + j) b (x .index) (x .fills)) (x .before);
+      }
+
+      -- those before the one at which it stops reach something
+      passed : (m : ℕ) → ((j : ℕ) (b : Argument) → j < m → IsAt qs j b → reaches d fs (k + 1 + j) b ≡ Nowhere → ⊥)
+          → (j : ℕ) (b : Argument) → j < suc m → IsAt (a ∷ qs) j b → reaches d fs (k + j) b ≡ Nowhere → ⊥
+      passed m rest zero b h at x =
+          let mine : reaches d fs k a ≡ Nowhere = rw (here, at) x in
+          rw mine at (took (flat + k) (reaches d fs k a) a ws us t)
+      passed m rest (suc j) b h at x = rest j b (omega arith) at (rw (next j) x)
+
+      stopped-later : (n : ℕ) (vs : List ℕ) → Stopped d fs (k + 1) us qs n vs → Stopped d fs k ws (a ∷ qs) n vs
+      stopped-later n vs s = record {
+        number = suc (s .number);
+        argument = s .argument;
+        there = s .there;
+        why = later n (s .number) (s .argument) (s .why);
+        carries = s .carries;
+        before = passed (s .number) (s .before);
+      }
+
+  -- LAW: a refused walk stops at an argument, for one of the two reasons
   pub stop-at : (k : ℕ) (ws : List ℕ) (qs : List Argument) (n : ℕ) (vs : List ℕ)
-      → along flat d fs k ws qs ≡ refused n vs → Stopped k ws qs n vs
+      → along flat d fs k ws qs ≡ refused n vs → Stopped d fs k ws qs n vs
   unfolding along
   stop-at k ws [] n vs e = never (cc)
   stop-at k ws (a ∷ qs) n vs e = go (turn (flat + k) (reaches d fs k a) (kindIn a) (nodeIn a) ws) refl e
       (λ us f. stop-at (k + 1) us qs n vs f)
     where
-      next : (j : ℕ) → k + 1 + j ≡ k + suc j
-      next j = omega arith
-
-      here : k ≡ k + 0
-      here = omega arith
-
-      first : (((reaches d fs k a ≡ Nowhere) × (n ≡ unreached (kindIn a)))
-          ⊎ ((i : ℕ) × ((reaches d fs k a ≡ Fills i) × ((n ≡ alreadyFilled) × (0 < getD ws i 0)))))
-          → Why k ws (a ∷ qs) 0 a n
-      first (inl x) = inl (rw (← here) (x .0), x .1)
-      first (inr x) = inr (x .0, (rw (← here) (x .1 .0), (x .1 .1 .0, inl (x .1 .1 .1))))
-
-      -- a word that is there after this turn was there before it, or is this argument's
-      earlier : (us : List ℕ) → turn (flat + k) (reaches d fs k a) (kindIn a) (nodeIn a) ws ≡ accepted us → (j i : ℕ)
-          → i < flat → Before (k + 1) us qs j i → Before k ws (a ∷ qs) (suc j) i
-      earlier us t j i inside (inr x) =
-          inr (suc (x .0), (x .1 .0, (omega (arith, x .1 .1 .0), (x .1 .1 .1 .0, rw (next (x .0)) at (x .1 .1 .1 .1)))))
-      earlier us t j i inside (inl x) = by-reach (reaches d fs k a) refl
-        where
-          other : (reaches d fs k a ≡ Fills i → ⊥) → Before k ws (a ∷ qs) (suc j) i
-          other m =
-              let same = took-other (flat + k) a ws us (reaches d fs k a) i
-              (took (flat + k) (reaches d fs k a) a ws us t) (λ z. absurd (omega arith)) m in
-              inl (omega arith)
-
-          by-index : (l : ℕ) → reaches d fs k a ≡ Fills l → (b : Bool) → eqb l i ≡ b → Before k ws (a ∷ qs) (suc j) i
-          by-index l r true m = inr (0, (a, (omega arith, (refl, rw (← here) (r ∙ ap Fills (eqb-true l i m))))))
-          by-index l r false m = other (λ z. let both : Fills l ≡ Fills i = sym r ∙ z in
-              let same : l ≡ i = cc in eqb-false l i m same)
-
-          by-reach : (r : Reach) → reaches d fs k a ≡ r → Before k ws (a ∷ qs) (suc j) i
-          by-reach (Fills l) r = by-index l r (eqb l i) refl
-          by-reach (Joins l) r = other (λ z. let both : Joins l ≡ Fills i = sym r ∙ z in never (cc))
-          by-reach Nowhere r = other (λ z. let both : Nowhere ≡ Fills i = sym r ∙ z in never (cc))
-
-      later : (us : List ℕ) → turn (flat + k) (reaches d fs k a) (kindIn a) (nodeIn a) ws ≡ accepted us → (j : ℕ)
-          (b : Argument) → Why (k + 1) us qs j b n → Why k ws (a ∷ qs) (suc j) b n
-      later us t j b (inl x) = inl (rw (next j) at (x .0), x .1)
-      later us t j b (inr x) =
-          inr (
-            x .0,
-            (
-              rw (next j) at (x .1 .0),
-              (
-                x .1 .1 .0,
-                earlier us t j (x .0) (small (k + 1 + j) b (x .0) (x .1 .0)) (x .1 .1 .1),
-              ),
-            ),
-          )
-
-      -- those before it reach something
-      passed : (us : List ℕ) → turn (flat + k) (reaches d fs k a) (kindIn a) (nodeIn a) ws ≡ accepted us → (m : ℕ)
-          → ((j : ℕ) (b : Argument) → j < m → IsAt qs j b → reaches d fs (k + 1 + j) b ≡ Nowhere → ⊥) → (j : ℕ)
-          (b : Argument) → j < suc m → IsAt (a ∷ qs) j b → reaches d fs (k + j) b ≡ Nowhere → ⊥
-      passed us t m rest zero b h at x =
-          let mine : reaches d fs k a ≡ Nowhere = rw (here, at) x in
-          rw mine at (took (flat + k) (reaches d fs k a) a ws us t)
-      passed us t m rest (suc j) b h at x = rest j b (omega arith) at (rw (next j) x)
-
       go : (y : Answer) → turn (flat + k) (reaches d fs k a) (kindIn a) (nodeIn a) ws ≡ y
           → andWith y (λ us. along flat d fs (k + 1) us qs) ≡ refused n vs
-          → ((us : List ℕ) → along flat d fs (k + 1) us qs ≡ refused n vs → Stopped (k + 1) us qs n vs)
-          → Stopped k ws (a ∷ qs) n vs
-      go (refused m us) t e rest =
-          let s = turn-stops (flat + k) (reaches d fs k a) a ws (t ∙ e) in
-          record {
-            number = 0;
-            argument = a;
-            there = refl;
-            why = first (s .0);
-            carries = s .1;
-            before = λ j b h at x. absurd (omega arith);
-          }
-      go (accepted us) t e rest =
-          let s = rest us e in
-          record {
-            number = suc (s .number);
-            argument = s .argument;
-            there = s .there;
-            why = later us t (s .number) (s .argument) (s .why);
-            carries = s .carries;
-            before = passed us t (s .number) (s .before);
-          }
+          → ((us : List ℕ) → along flat d fs (k + 1) us qs ≡ refused n vs → Stopped d fs (k + 1) us qs n vs)
+          → Stopped d fs k ws (a ∷ qs) n vs
+      go (refused m us) t e rest = let s = turn-stops (flat + k) (reaches d fs k a) a ws (t ∙ e) in
+          stopped-here k ws a qs n vs (s .0) (s .1)
+      go (accepted us) t e rest = stopped-later k ws a qs us t n vs (rest us e)
 
 -- a star fills nothing
 pub stars : (d : DefParamIndices) (fs : List FlatParam) (k i : ℕ) (r : Node) → reaches d fs k (args r) ≡ Fills i → ⊥
@@ -269,7 +322,7 @@ module _ (t ns : List ℕ) (call def room : ℕ) where
     pub small : (k : ℕ) (a : Argument) (i : ℕ) → reaches d fs k a ≡ Fills i → i < flat
     small = reaching.small ps (w .counts) (w .outcome)
 
-    pub stop : Stopped flat d fs small 0 none-yet qs n vs
+    pub stop : Stopped d fs 0 none-yet qs n vs
     stop = stop-at flat d fs small 0 none-yet qs n vs (w .stops)
 
     -- a named argument that reaches nothing: there is no `**kwargs`
@@ -304,11 +357,39 @@ module _ (t ns : List ℕ) (call def room : ℕ) where
     unfolding reaches
     by-place k i r e = reaching.place-filled ps (w .counts) (w .outcome) k i e .0
 
-    by-name : (k i : ℕ) (r : Node) (x : Name) → reaches d fs k (named r x) ≡ Fills i → Found fs x i
-    unfolding reaches
-    by-name k i r x e = reaching.named-sits ps (w .counts) (w .outcome) x i
-        (reaching.name-filled ps (w .counts) (w .outcome) (namedFrom 0 x fs) i e)
+    by-name : (k i : ℕ) (r : Node) (x : Name) → reaches d fs k (named r x) ≡ Fills i → rules.Named fs x i
+    by-name = reaching.named-by ps (w .counts) (w .outcome)
 
+    -- a named argument whose parameter a positional one has filled
+    named-against : (k l i : ℕ) (r s : Node) (x : Name) → IsAt qs k (named r x) → IsAt qs l (positional s)
+        → reaches d fs k (named r x) ≡ Fills i → reaches d fs l (positional s) ≡ Fills i → vs ≡ spanned r
+        → Against fs qs vs
+    named-against k l i r s x at bt e f v = let q = by-name k i r x e in record {
+      number = k;
+      node = r;
+      name = x;
+      there = at;
+      carries = v;
+      index = i;
+      param = q .param;
+      sits = q .there;
+      same = q .name;
+      canBe = q .canBe;
+      other = s;
+      first = rw (by-place l i s f) bt;
+    }
+
+    -- no two named arguments fill one parameter: its name would be that of both
+    not-two-named : (k l i : ℕ) (r s : Node) (x y : Name) → IsAt qs k (named r x) → IsAt qs l (named s y) → l < k
+        → reaches d fs k (named r x) ≡ Fills i → reaches d fs l (named s y) ≡ Fills i → ⊥
+    not-two-named k l i r s x y at bt h e f =
+        let p = by-name k i r x e in
+        let q = by-name l i s y f in
+        let same : q .param ≡ p .param = same-at fs i (q .param) (p .param) (q .there) (p .there) in
+        let names : y ≡ x = sym (q .name) ∙ ap (λ (z : FlatParam). z .name) same ∙ p .name in
+        names-apart qs (order .1 .distinct) l k s r y x h bt at names
+
+    -- LAW: of two arguments that fill one parameter, the later is named and the earlier positional
     against : (k l i : ℕ) (a b : Argument) → IsAt qs k a → IsAt qs l b → l < k → reaches d fs k a ≡ Fills i
         → reaches d fs l b ≡ Fills i → vs ≡ spanned (nodeIn a) → Against fs qs vs
     against k l i (args r) b at bt h e f v = absurd (stars d fs k i r e)
@@ -320,30 +401,8 @@ module _ (t ns : List ℕ) (call def room : ℕ) where
     against k l i (positional r) (positional s) at bt h e f v = absurd
         (omega (arith, by-place k i r e, by-place l i s f))
     against k l i (positional r) (named s x) at bt h e f v = absurd (omega (arith, in-turn k l r s x at bt))
-    against k l i (named r x) (positional s) at bt h e f v =
-        let q = by-name k i r x e in
-        record {
-          number = k;
-          node = r;
-          name = x;
-          there = at;
-          carries = v;
-          index = i;
-          param = q .param;
-          sits = q .there;
-          same = q .name;
-          canBe = q .canBe;
-          other = s;
-          first = rw (by-place l i s f) bt;
-        }
-    against k l i (named r x) (named s y) at bt h e f v =
-        let p = by-name k i r x e in
-        let q = by-name l i s y f in
-        let same : q .param ≡ p .param = same-at fs i (q .param) (p .param) (q .there) (p .there) in
-        let names : y ≡ x = sym (q .name) ∙ ap (λ (z : FlatParam). z .name) same ∙ p .name in
-        let two = two-names-in qs l k s r y x h bt at in
-        absurd (order .1 .distinct (two .0) (two .1 .0) (two .1 .1 .0) (two .1 .1 .1 .0)
-        (two .1 .1 .1 .1 .0 ∙ names ∙ sym (two .1 .1 .1 .1 .1)))
+    against k l i (named r x) (positional s) at bt h e f v = named-against k l i r s x at bt e f v
+    against k l i (named r x) (named s y) at bt h e f v = absurd (not-two-named k l i r s x y at bt h e f)
 
   -- THEOREM: with `**kwargs` 82 never arises
   pub unknown-without-kwargs : {vs : List ℕ} → bindOf t ns call def room ≡ refused unknownNamed vs → (i : ℕ)
@@ -354,10 +413,10 @@ module _ (t ns : List ℕ) (call def room : ℕ) where
       go w (s .number) (s .argument) (s .why)
     where
       go : (w : Walking t ns call def unknownNamed vs) (j : ℕ) (a : Argument)
-          → Why (flat unknownNamed vs w) (d unknownNamed vs w) fs (small unknownNamed vs w) 0
+          → Why (d unknownNamed vs w) fs 0
           (none-yet unknownNamed vs w) qs j a unknownNamed → ⊥
       go w j a (inl x) = no-kwargs unknownNamed vs w (0 + j) a (x .0) (x .1) i p sits m
-      go w j a (inr x) = absurd (omega (arith, x .1 .1 .0))
+      go w j a (inr x) = absurd (omega (arith, x .number))
 
   -- THEOREM: 83 arises only against a positional argument
   pub filled-by-a-positional : {vs : List ℕ} → bindOf t ns call def room ≡ refused alreadyFilled vs → Against fs qs vs
@@ -374,11 +433,13 @@ module _ (t ns : List ℕ) (call def room : ℕ) where
       other-number (kwargs r) e = absurd (omega (arith, e))
 
       go : (w : Walking t ns call def alreadyFilled vs) (j : ℕ) (a : Argument) → IsAt qs j a → vs ≡ spanned (nodeIn a)
-          → Why (flat alreadyFilled vs w) (d alreadyFilled vs w) fs (small alreadyFilled vs w) 0
+          → Why (d alreadyFilled vs w) fs 0
           (none-yet alreadyFilled vs w) qs j a alreadyFilled → Against fs qs vs
       go w j a at v (inl x) = absurd (other-number a (x .1))
-      go w j a at v (inr (i, (r, (n, inl x)))) = absurd
-          (omega (arith, zeros (flat alreadyFilled vs w + length qs) i))
-      go w j a at v (inr (i, (r, (n, inr x)))) =
-          against alreadyFilled vs w j (x .0) i a (x .1 .0) at (x .1 .1 .1 .0) (x .1 .1 .0)
-          (rw (from-zero j) at r) (rw (from-zero (x .0)) at (x .1 .1 .1 .1)) v
+      go w j a at v (inr y) = by-earlier (y .before)
+        where
+          by-earlier : Before (d alreadyFilled vs w) fs 0
+              (none-yet alreadyFilled vs w) qs j (y .index) → Against fs qs vs
+          by-earlier (inl x) = absurd (omega (arith, zeros (flat alreadyFilled vs w + length qs) (y .index)))
+          by-earlier (inr x) = against alreadyFilled vs w j (x .number) (y .index) a (x .argument) at (x .there)
+              (x .earlier) (rw (from-zero j) at (y .fills)) (rw (from-zero (x .number)) at (x .fills)) v

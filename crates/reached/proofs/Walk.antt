@@ -82,16 +82,28 @@ Nodes qs = (j : ℕ) (a : Argument) → IsAt qs j a → 0 < nodeIn a .at
 -- a walk whose ordinary parameters lie below the flat count
 module _ (flat : ℕ) (d : DefParamIndices) (fs : List FlatParam)
     (small : (k : ℕ) (a : Argument) (i : ℕ) → reaches d fs k a ≡ Fills i → i < flat) where
+  -- a turn of an accepted walk: the words after it, what it did, and that the rest is accepted
+  record Step (k : ℕ) (ws : List ℕ) (a : Argument) (qs : List Argument) (us : List ℕ) : Type 0 where
+    words : List ℕ
+    turned : Took (flat + k) a ws words (reaches d fs k a)
+    rest : along flat d fs (k + 1) words qs ≡ accepted us
+    long : length words ≡ length ws
+
   step : (k : ℕ) (ws : List ℕ) (a : Argument) (qs : List Argument) (us : List ℕ)
-      → along flat d fs k ws (a ∷ qs) ≡ accepted us
-      → (vs : List ℕ) × (Took (flat + k) a ws vs (reaches d fs k a) × (along flat d fs (k + 1) vs qs ≡ accepted us))
+      → along flat d fs k ws (a ∷ qs) ≡ accepted us → Step k ws a qs us
   unfolding along
   step k ws a qs us e = go (turn (flat + k) (reaches d fs k a) (kindIn a) (nodeIn a) ws) refl e
     where
       go : (x : Answer) → turn (flat + k) (reaches d fs k a) (kindIn a) (nodeIn a) ws ≡ x
-          → andWith x (λ vs. along flat d fs (k + 1) vs qs) ≡ accepted us
-          → (vs : List ℕ) × (Took (flat + k) a ws vs (reaches d fs k a) × (along flat d fs (k + 1) vs qs ≡ accepted us))
-      go (accepted vs) f e = (vs, (took (flat + k) (reaches d fs k a) a ws vs f, e))
+          → andWith x (λ vs. along flat d fs (k + 1) vs qs) ≡ accepted us → Step k ws a qs us
+      go (accepted vs) f e =
+          let t = took (flat + k) (reaches d fs k a) a ws vs f in
+          record {
+            words = vs;
+            turned = t;
+            rest = e;
+            long = took-long (flat + k) a ws vs (reaches d fs k a) t;
+          }
       go (refused n vs) f e = never-passed e
 
   none-left : (k : ℕ) (ws us : List ℕ) → along flat d fs k ws [] ≡ accepted us → us ≡ ws
@@ -102,9 +114,8 @@ module _ (flat : ℕ) (d : DefParamIndices) (fs : List FlatParam)
   pub along-long : (k : ℕ) (ws : List ℕ) (qs : List Argument) (us : List ℕ) → along flat d fs k ws qs ≡ accepted us
       → length us ≡ length ws
   along-long k ws [] us e = ap length (none-left k ws us e)
-  along-long k ws (a ∷ qs) us e =
-      let s = step k ws a qs us e in
-      along-long (k + 1) (s .0) qs us (s .1 .1) ∙ took-long (flat + k) a ws (s .0) (reaches d fs k a) (s .1 .0)
+  along-long k ws (a ∷ qs) us e = let s = step k ws a qs us e in
+      along-long (k + 1) (s .words) qs us (s .rest) ∙ s .long
 
   -- the words of earlier arguments stay, and so do those of filled parameters
   stays : (k : ℕ) (ws : List ℕ) (qs : List Argument) (us : List ℕ) → along flat d fs k ws qs ≡ accepted us
@@ -112,8 +123,8 @@ module _ (flat : ℕ) (d : DefParamIndices) (fs : List FlatParam)
   stays k ws [] us e j h = ap (λ (l : List ℕ). getD l (flat + j) 0) (none-left k ws us e)
   stays k ws (a ∷ qs) us e j h =
       let s = step k ws a qs us e in
-      stays (k + 1) (s .0) qs us (s .1 .1) j (omega arith)
-      ∙ took-other (flat + k) a ws (s .0) (reaches d fs k a) (flat + j) (s .1 .0) (λ g. absurd (omega arith))
+      stays (k + 1) (s .words) qs us (s .rest) j (omega arith)
+      ∙ took-other (flat + k) a ws (s .words) (reaches d fs k a) (flat + j) (s .turned) (λ g. absurd (omega arith))
       (λ g. let n = small k a (flat + j) g in absurd (omega arith))
 
   filled : (k : ℕ) (ws : List ℕ) (qs : List Argument) (us : List ℕ) → along flat d fs k ws qs ≡ accepted us
@@ -121,10 +132,11 @@ module _ (flat : ℕ) (d : DefParamIndices) (fs : List FlatParam)
   filled k ws [] us e i h g = ap (λ (l : List ℕ). getD l i 0) (none-left k ws us e)
   filled k ws (a ∷ qs) us e i h g =
       let s = step k ws a qs us e in
-      let same : getD (s .0) i 0 ≡ getD ws i 0 = took-other (flat + k) a ws (s .0) (reaches d fs k a) i (s .1 .0)
-      (λ n. absurd (omega arith))
-      (λ n. let was : Took (flat + k) a ws (s .0) (Fills i) = rw n at (s .1 .0) in absurd (omega (arith, was .0))) in
-      filled (k + 1) (s .0) qs us (s .1 .1) i h (omega arith) ∙ same
+      let same : getD (s .words) i 0 ≡ getD ws i 0 = took-other (flat + k) a ws (s .words) (reaches d fs k a) i
+      (s .turned) (λ n. absurd (omega arith))
+      (λ n. let was : Took (flat + k) a ws (s .words) (Fills i) = rw n at (s .turned) in
+      absurd (omega (arith, was .0))) in
+      filled (k + 1) (s .words) qs us (s .rest) i h (omega arith) ∙ same
 
   -- LAW: each argument's own word is the index that it reaches
   pub own-word : (k : ℕ) (ws : List ℕ) (qs : List Argument) (us : List ℕ) → along flat d fs k ws qs ≡ accepted us
@@ -133,15 +145,28 @@ module _ (flat : ℕ) (d : DefParamIndices) (fs : List FlatParam)
   own-word k ws (b ∷ qs) us e long zero a at =
       let s = step k ws b qs us e in
       let here : k + 0 ≡ k = omega arith in
-      let mine = took-place (flat + k) b ws (s .0) (reaches d fs k b) (s .1 .0) (omega arith) in
-      let word : getD us (flat + k) 0 ≡ getD (s .0) (flat + k) 0 = stays (k + 1) (s .0) qs us (s .1 .1) k
+      let mine = took-place (flat + k) b ws (s .words) (reaches d fs k b) (s .turned) (omega arith) in
+      let word : getD us (flat + k) 0 ≡ getD (s .words) (flat + k) 0 = stays (k + 1) (s .words) qs us (s .rest) k
       (omega arith) in
       rw (here, word, ← at) mine
   own-word k ws (b ∷ qs) us e long (suc j) a at =
       let s = step k ws b qs us e in
       let next : k + 1 + j ≡ k + suc j = omega arith in
-      let same = took-long (flat + k) b ws (s .0) (reaches d fs k b) (s .1 .0) in
-      rw next at (own-word (k + 1) (s .0) qs us (s .1 .1) (omega arith) j a at)
+      rw next at (own-word (k + 1) (s .words) qs us (s .rest) (omega (arith, s .long)) j a at)
+
+  -- after its turn the parameter that an argument fills has its node; before it, it was empty
+  module _ (k : ℕ) (ws : List ℕ) (b : Argument) (qs : List Argument) (us : List ℕ) (s : Step k ws b qs us) (i : ℕ)
+      (r : reaches d fs k b ≡ Fills i) where
+    filling : Took (flat + k) b ws (s .words) (Fills i)
+    filling = rw r at (s .turned)
+
+    first-empty : getD ws i 0 ≡ 0
+    first-empty = filling .0
+
+    now-filled : flat + k + suc (length qs) ≤ length ws → getD (s .words) i 0 ≡ nodeIn b .at
+    now-filled long =
+        let inside : i < flat = small k b i r in
+        took-filled (flat + k) b ws (s .words) i filling (omega arith) (omega arith)
 
   -- LAW: a parameter that an argument fills was empty, and has the argument's node
   pub was-empty : (k : ℕ) (ws : List ℕ) (qs : List Argument) (us : List ℕ) → along flat d fs k ws qs ≡ accepted us
@@ -150,28 +175,22 @@ module _ (flat : ℕ) (d : DefParamIndices) (fs : List FlatParam)
   was-empty k ws (b ∷ qs) us e nodes long zero a i at r =
       let s = step k ws b qs us e in
       let here : k + 0 ≡ k = omega arith in
-      let r′ : reaches d fs k b ≡ Fills i = rw (here, ← at) at r in
-      let t : Took (flat + k) b ws (s .0) (Fills i) = rw r′ at (s .1 .0) in
-      let inside : i < flat = small k b i r′ in
-      let now : getD (s .0) i 0 ≡ nodeIn b .at = took-filled (flat + k) b ws (s .0) i t (omega arith) (omega arith) in
+      let mine : reaches d fs k b ≡ Fills i = rw (here, ← at) at r in
+      let now = now-filled k ws b qs us s i mine long in
       let node : 0 < nodeIn b .at = nodes 0 b refl in
-      let stays-so = filled (k + 1) (s .0) qs us (s .1 .1) i inside (omega arith) in
-      (t .0, stays-so ∙ now ∙ ap (λ (x : Argument). nodeIn x .at) at)
+      let kept = filled (k + 1) (s .words) qs us (s .rest) i (small k b i mine) (omega arith) in
+      (first-empty k ws b qs us s i mine, kept ∙ now ∙ ap (λ (x : Argument). nodeIn x .at) at)
   was-empty k ws (b ∷ qs) us e nodes long (suc j) a i at r =
       let s = step k ws b qs us e in
       let next : k + suc j ≡ k + 1 + j = omega arith in
-      let same = took-long (flat + k) b ws (s .0) (reaches d fs k b) (s .1 .0) in
-      let rest = was-empty (k + 1) (s .0) qs us (s .1 .1) (λ l c p. nodes (suc l) c p) (omega arith) j a i at
-      (rw next at r) in
+      let rest = was-empty (k + 1) (s .words) qs us (s .rest) (λ l c p. nodes (suc l) c p) (omega (arith, s .long)) j a
+      i at (rw next at r) in
       let inside : i < flat = small (k + suc j) a i r in
       let other : reaches d fs k b ≡ Fills i → ⊥ = λ n.
-      let t : Took (flat + k) b ws (s .0) (Fills i) = rw n at (s .1 .0) in
-      let now : getD (s .0) i 0 ≡ nodeIn b .at = took-filled (flat + k) b ws (s .0) i t (omega arith) (omega arith) in
-      let node : 0 < nodeIn b .at = nodes 0 b refl in absurd (omega (arith, rest .0)) in (
-        sym (took-other (flat + k) b ws (s .0) (reaches d fs k b) i (s .1 .0) (λ n. absurd (omega arith)) other)
-            ∙ rest .0,
-        rest .1,
-      )
+      absurd (omega (arith, rest .0, now-filled k ws b qs us s i n long, nodes 0 b refl)) in
+      let same = took-other (flat + k) b ws (s .words) (reaches d fs k b) i (s .turned) (λ n. absurd (omega arith))
+      other in
+      (sym same ∙ rest .0, rest .1)
 
   -- LAW: no two arguments fill one parameter
   later : (k : ℕ) (ws : List ℕ) (c : Argument) (qs : List Argument) (us : List ℕ)
@@ -180,13 +199,9 @@ module _ (flat : ℕ) (d : DefParamIndices) (fs : List FlatParam)
       → reaches d fs (k + 1 + l) b ≡ Fills i → ⊥
   later k ws c qs us e nodes long l b i bt r q =
       let s = step k ws c qs us e in
-      let t : Took (flat + k) c ws (s .0) (Fills i) = rw r at (s .1 .0) in
-      let inside : i < flat = small k c i r in
-      let now : getD (s .0) i 0 ≡ nodeIn c .at = took-filled (flat + k) c ws (s .0) i t (omega arith) (omega arith) in
-      let same = took-long (flat + k) c ws (s .0) (reaches d fs k c) (s .1 .0) in
-      let node : 0 < nodeIn c .at = nodes 0 c refl in
-      let was = was-empty (k + 1) (s .0) qs us (s .1 .1) (λ m x p. nodes (suc m) x p) (omega arith) l b i bt q in
-      absurd (omega (arith, was .0))
+      let was = was-empty (k + 1) (s .words) qs us (s .rest) (λ m x p. nodes (suc m) x p) (omega (arith, s .long)) l b i
+      bt q in
+      absurd (omega (arith, was .0, now-filled k ws c qs us s i r long, nodes 0 c refl))
 
   pub once : (k : ℕ) (ws : List ℕ) (qs : List Argument) (us : List ℕ) → along flat d fs k ws qs ≡ accepted us
       → Nodes qs → flat + k + length qs ≤ length ws → (j l : ℕ) (a b : Argument) (i : ℕ) → IsAt qs j a → IsAt qs l b
@@ -202,11 +217,10 @@ module _ (flat : ℕ) (d : DefParamIndices) (fs : List FlatParam)
       absurd (later k ws c qs us e nodes long j a i at (rw (here, ← bt) at q) (rw next at r))
   once k ws (c ∷ qs) us e nodes long (suc j) (suc l) a b i at bt r q =
       let s = step k ws c qs us e in
-      let same = took-long (flat + k) c ws (s .0) (reaches d fs k c) (s .1 .0) in
       let first : k + suc j ≡ k + 1 + j = omega arith in
       let second : k + suc l ≡ k + 1 + l = omega arith in
-      ap suc (once (k + 1) (s .0) qs us (s .1 .1) (λ m x p. nodes (suc m) x p) (omega arith) j l a b i at bt
-      (rw first at r) (rw second at q))
+      ap suc (once (k + 1) (s .words) qs us (s .rest) (λ m x p. nodes (suc m) x p) (omega (arith, s .long)) j l a b i at
+      bt (rw first at r) (rw second at q))
 
   -- the argument that fills a parameter
   pub record Filler (k : ℕ) (qs : List Argument) (us : List ℕ) (i : ℕ) : Type 0 where
@@ -216,54 +230,54 @@ module _ (flat : ℕ) (d : DefParamIndices) (fs : List FlatParam)
     pub fills : reaches d fs (k + number) argument ≡ Fills i
     pub word : getD us i 0 ≡ nodeIn argument .at
 
+  -- a parameter's word is as it was, or an argument fills it
+  abbrev pub Origin : ℕ → List ℕ → List Argument → List ℕ → ℕ → Type 0
+  Origin k ws qs us i = (getD us i 0 ≡ getD ws i 0) ⊎ Filler k qs us i
+
+  -- where the first argument does not fill it, the rest decides
+  origin-behind : (k : ℕ) (ws : List ℕ) (a : Argument) (qs : List Argument) (us : List ℕ) (s : Step k ws a qs us)
+      (i : ℕ) → i < flat → (reaches d fs k a ≡ Fills i → ⊥) → Origin (k + 1) (s .words) qs us i
+      → Origin k ws (a ∷ qs) us i
+  origin-behind k ws a qs us s i h n (inl x) =
+      inl (x ∙ took-other (flat + k) a ws (s .words) (reaches d fs k a) i (s .turned) (λ m. absurd (omega arith)) n)
+  origin-behind k ws a qs us s i h n (inr x) =
+      let next : k + 1 + x .number ≡ k + suc (x .number) = omega arith in
+      inr (record {
+        number = suc (x .number);
+        argument = x .argument;
+        there = x .there;
+        fills = rw next at (x .fills);
+        word = x .word;
+      })
+
+  -- where the first argument fills it, that is the one
+  origin-here : (k : ℕ) (ws : List ℕ) (a : Argument) (qs : List Argument) (us : List ℕ)
+      → along flat d fs k ws (a ∷ qs) ≡ accepted us → Nodes (a ∷ qs) → flat + k + suc (length qs) ≤ length ws → (i : ℕ)
+      → reaches d fs k a ≡ Fills i → Origin k ws (a ∷ qs) us i
+  origin-here k ws a qs us e nodes long i r =
+      let zero-more : k ≡ k + 0 = omega arith in
+      let mine : reaches d fs (k + 0) a ≡ Fills i = rw (← zero-more) r in
+      let word = was-empty k ws (a ∷ qs) us e nodes long 0 a i refl mine .1 in
+      inr (record { number = 0; argument = a; there = refl; fills = mine; word = word })
+
   -- LAW: a parameter's word is as it was, or an argument fills it
   pub comes-from : (k : ℕ) (ws : List ℕ) (qs : List Argument) (us : List ℕ) → along flat d fs k ws qs ≡ accepted us
-      → Nodes qs → flat + k + length qs ≤ length ws → (i : ℕ) → i < flat
-      → (getD us i 0 ≡ getD ws i 0) ⊎ Filler k qs us i
+      → Nodes qs → flat + k + length qs ≤ length ws → (i : ℕ) → i < flat → Origin k ws qs us i
   comes-from k ws [] us e nodes long i h = inl (ap (λ (l : List ℕ). getD l i 0) (none-left k ws us e))
-  comes-from k ws (a ∷ qs) us e nodes long i h =
-      let s = step k ws a qs us e in
-      let same = took-long (flat + k) a ws (s .0) (reaches d fs k a) (s .1 .0) in
-      by-first (reaches d fs k a) refl
-      (comes-from (k + 1) (s .0) qs us (s .1 .1) (λ m x p. nodes (suc m) x p) (omega arith) i h)
+  comes-from k ws (a ∷ qs) us e nodes long i h = by-first (reaches d fs k a) refl
+      (comes-from (k + 1) (s .words) qs us (s .rest) (λ m x p. nodes (suc m) x p) (omega (arith, s .long)) i h)
     where
-      s : (vs : List ℕ) × (Took (flat + k) a ws vs (reaches d fs k a) × (along flat d fs (k + 1) vs qs ≡ accepted us))
+      s : Step k ws a qs us
       s = step k ws a qs us e
 
-      further : (reaches d fs k a ≡ Fills i → ⊥) → (getD us i 0 ≡ getD (s .0) i 0) ⊎ Filler (k + 1) qs us i
-          → (getD us i 0 ≡ getD ws i 0) ⊎ Filler k (a ∷ qs) us i
-      further n (inl x) = inl (x ∙ took-other (flat + k) a ws (s .0) (reaches d fs k a) i (s .1 .0)
-          (λ m. absurd (omega arith)) n)
-      further n (inr x) =
-          let next : k + 1 + x .number ≡ k + suc (x .number) = omega arith in
-          inr (record {
-            number = suc (x .number);
-            argument = x .argument;
-            there = x .there;
-            fills = rw next at (x .fills);
-            word = x .word;
-          })
-
-      here : reaches d fs k a ≡ Fills i → Filler k (a ∷ qs) us i
-      here r =
-          let zero-more : k ≡ k + 0 = omega arith in
-          let r′ : reaches d fs (k + 0) a ≡ Fills i = rw (← zero-more) r in
-          record {
-            number = 0;
-            argument = a;
-            there = refl;
-            fills = r′;
-            word = was-empty k ws (a ∷ qs) us e nodes long 0 a i refl r′ .1;
-          }
-
-      by-first : (r : Reach) → reaches d fs k a ≡ r
-          → (getD us i 0 ≡ getD (s .0) i 0) ⊎ Filler (k + 1) qs us i
-          → (getD us i 0 ≡ getD ws i 0) ⊎ Filler k (a ∷ qs) us i
+      by-first : (r : Reach) → reaches d fs k a ≡ r → Origin (k + 1) (s .words) qs us i → Origin k ws (a ∷ qs) us i
       by-first (Fills j) r rest = by-index (eqb j i) refl
         where
-          by-index : (b : Bool) → eqb j i ≡ b → (getD us i 0 ≡ getD ws i 0) ⊎ Filler k (a ∷ qs) us i
-          by-index true m = inr (here (r ∙ ap Fills (eqb-true j i m)))
-          by-index false m = further (λ n. let both : Fills j ≡ Fills i = sym r ∙ n in
+          by-index : (b : Bool) → eqb j i ≡ b → Origin k ws (a ∷ qs) us i
+          by-index true m = origin-here k ws a qs us e nodes long i (r ∙ ap Fills (eqb-true j i m))
+          by-index false m = origin-behind k ws a qs us s i h (λ n. let both : Fills j ≡ Fills i = sym r ∙ n in
               let same : j ≡ i = cc in eqb-false j i m same) rest
-      by-first (Joins j) r rest = further (λ n. let both : Joins j ≡ Fills i = sym r ∙ n in never (cc)) rest
-      by-first Nowhere r rest = further (λ n. let both : Nowhere ≡ Fills i = sym r ∙ n in never (cc)) rest
+      by-first (Joins j) r rest = origin-behind k ws a qs us s i h
+          (λ n. let both : Joins j ≡ Fills i = sym r ∙ n in never (cc)) rest
+      by-first Nowhere r rest = origin-behind k ws a qs us s i h
+          (λ n. let both : Nowhere ≡ Fills i = sym r ∙ n in never (cc)) rest

@@ -5,7 +5,7 @@
 -- `whole-file`). No induction. Assumes nothing.
 use mathlib.Core.Path.{_≡_, refl, sym, ap, _∙_}
 use mathlib.Core.Bool.{Bool, true, false, _&&_}
-use mathlib.Core.List.{List, [], _∷_, _++_}
+use mathlib.Core.List.{List, [], _∷_}
 use Prim.Native.Nat.{ℕ, _+_, _*_, _-_, _/_, _<_, _≤_, _^_}
 use native.Mathlib.Omega.{arith}
 use lib.ListN.{length, take, drop, length-take, length-drop}
@@ -19,7 +19,9 @@ use Rattle.fields.proofs.Spelling.{Bytes}
 use Rattle.table.specs.Numbers.{shortBuffer, badHeader, nothingKept}
 use Rattle.table.specs.Answer.{accepted, refused, passes}
 use Rattle.table.specs.Check.{checkOf}
+use Rattle.blocks.specs.Laid.{laidAt}
 use Rattle.blocks.specs.Run.{blocksFor, contentOf}
+use Rattle.blocks.proofs.Laying.{laid-part}
 use Rattle.blocks.proofs.Goods.{held, held-blocks, good-there}
 use Rattle.tablefile.specs.File.{Content, fileOf}
 use Rattle.tablefile.specs.Lending.{copied}
@@ -147,12 +149,13 @@ module _ {bs : List ℕ} {h : Heading} {names t : List ℕ} {whole : Bool} (k : 
     file-long = length-file (kept bs) (fin-kept .dialect) ∙ rw (k .table, k .ready .called) refl
 
     pub lay-whole : whole ≡ true → Bytes bs → {after : List ℕ}
-        → after ≡ take (h .taken) bs ++ drop (h .taken) file → after ≡ over 0 (fileOf (kept bs)) file
+        → after ≡ laidAt 0 (take (h .taken - 0) bs) file → after ≡ over 0 (fileOf (kept bs)) file
     lay-whole e small laid =
         let same : fileOf (kept bs) ≡ take (h .taken) bs = whole-file bs (sym (k .passed) ∙ e) small
         ∙ rw (k .ready .heading) refl in
         let long : length (fileOf (kept bs)) ≡ h .taken = file-long ∙ sym (taken e) in
-        laid ∙ sym (over-front (fileOf (kept bs)) file ∙ rw (long, same) refl)
+        laid-part bs file (lay-there e, lay-room e) laid
+        ∙ sym (over-front (fileOf (kept bs)) file ∙ rw (long, same) refl)
 
     pub lay-cut : {ds : List ℕ} → ds ≡ contentAt bs .dialect → {edition : Stated} → edition ≡ contentAt bs .edition
         → {after : List ℕ} → after ≡ laidOver (holding t names ds edition) file

@@ -2,6 +2,7 @@
 // number of the root's first children that lie in good blocks, with names, dialect and edition whole.
 use blocks::BLOCK_BYTES;
 use blocks::Judged;
+use blocks::bytes;
 use dialect::Decoded;
 use dialect::EditionRead;
 use forest::Found;
@@ -16,10 +17,10 @@ use table::numbers;
 use tablefile::Heading;
 ghost use mathlib.Core.Path.{_≡_};
 ghost use mathlib.Core.Bool.{_&&_};
-ghost use mathlib.Core.List.{[], _∷_, _++_};
+ghost use mathlib.Core.List.{[], _∷_};
 ghost use Prim.Native.Nat.{_*_, _-_, _/_, _≤_, _<_};
 ghost use lib.Dec.{leb};
-ghost use lib.ListN.{length, take, drop};
+ghost use lib.ListN.{length};
 ghost use Rattle.fields.specs.Over.{over};
 ghost use Rattle.forest.specs.Forest.{recordBytes, forest, roots};
 ghost use Rattle.table.specs.Answer.{passes};
@@ -276,7 +277,8 @@ fn put_kept(input: &[u8], h: Heading, names: &[u8], table: &[u8], whole: bool, f
     ensures { λ r. ⌜ now (file .exit) ≡ over 0 (fileOf (kept (now (input .entry)))) (now (file .entry)) ⌝ }
 {
     if whole {
-        put(input, h.taken, file);
+        let n = h.taken;
+        bytes::put(&input[0..n], 0, file);
         return;
     }
     writer::write_unchecked(
@@ -286,18 +288,6 @@ fn put_kept(input: &[u8], h: Heading, names: &[u8], table: &[u8], whole: bool, f
         tablefile::stated_edition(input),
         file,
     )
-}
-
-// Copies the first len bytes of `from` to the front of out.
-fn put(from: &[u8], len: usize, out: &mut [u8])
-    requires { ⌜ (len ≤ length (now from)) × (len ≤ length (now out)) ⌝ }
-    ensures { λ r. ⌜ now (out .exit) ≡ take len (now (from .entry)) ++ drop len (now (out .entry)) ⌝ }
-{
-    let mut j = 0;
-    while j < len {
-        out[j] = from[j];
-        j += 1;
-    }
 }
 
 // The counts of a table that is kept, for a file of `bytes` bytes.

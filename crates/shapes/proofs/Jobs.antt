@@ -15,7 +15,7 @@ use Rattle.fields.specs.Choice.{if'}
 use Rattle.dialect.specs.declared.Edition.{Edition}
 use Rattle.dialect.specs.Editions.{editionOf}
 use Rattle.forest.specs.Forest.{nodeOf, treeOf}
-use Rattle.table.specs.Answer.{Answer, accepted, refused, andThen}
+use Rattle.table.specs.Answer.{Answer, accepted, refused, andThen, isRefused}
 use Rattle.table.specs.Check.{Ruling, byRules, unruled, rulesOf, inRules, nodeFits, nodeCheck, stretchOf}
 use Rattle.table.specs.declared.Wanted.the-variants.{Expression}
 use Rattle.table.proofs.Handed.{passed, stretch-within}
@@ -23,7 +23,7 @@ use Rattle.table.proofs.Ruling.{rules-known}
 use Rattle.types.specs.Types.{typesCheck, «unpack», «dialect_check_type»}
 use Rattle.types.specs.Jobs.{roomCheck, typeAt, typeShapeOf}
 use Rattle.types.proofs.Jobs.{given-sound}
-use Rattle.shapes.specs.Shapes.{shapesOf, written, isRefused}
+use Rattle.shapes.specs.Shapes.{shapesOf, written}
 use Rattle.shapes.specs.Jobs.{shapesAfter}
 
 -- an answer that is no refusal

@@ -16,7 +16,7 @@ use Rattle.forest.proofs.Stretch.{forest-none, kids-part, rest-part, length-kid
 use Rattle.soundness.specs.KindNumbers.{kindList}
 use Rattle.types.specs.Forms.{formOf, shapeOf, listShape, readsAs, readsOf, ruleOf}
 use Rattle.types.specs.Forms.{argumentsOnly, ofChild}
-use Rattle.types.proofs.Reading.{first-and-rest, by-rule, argument-list, falls}
+use Rattle.types.proofs.Reading.{first-and-rest, by-rule, falls}
 use Rattle.types.specs.declared.Form.{Form}
 use Rattle.types.specs.declared.How.{How}
 use Rattle.types.specs.declared.How.the-variants.{Unread, AsType, AsArgument}
@@ -49,9 +49,6 @@ module _ (i : ℕ) (t s : List ℕ) (how : How) {rule : How} {k : ℕ} (k-is : k
   as-chosen : {h : How} → rule ≡ h → written (shapesChild h (treeOf i t)) s ≡ written (shapesChild how (treeOf i t)) s
   as-chosen e = ap (λ (x : How). written (shapesChild x (treeOf i t)) s) (sym e)
       ∙ ap (λ (ss : List Shape). written ss s) chosen
-
-  pub child-is-list : rule ≡ AsArgument → nodeOf 0 t .kind ≡ kindList
-  child-is-list h = sym k-is ∙ argument-list how k (sym rule-is ∙ h)
 
   pub child-unread : rule ≡ Unread → s ≡ written (shapesChild how (treeOf i t)) s
   unfolding written

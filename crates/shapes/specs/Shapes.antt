@@ -2,7 +2,6 @@
 -- The nodes are those that TypeExprUnpackP::unpack of src/syntax/type_expr.rs reads.
 -- Copyright 2018 The Starlark in Rust Authors. Copyright (c) Facebook, Inc. and its affiliates.
 -- Licensed under Apache-2.0; changed.
-use mathlib.Core.Bool.{Bool, true, false}
 use mathlib.Core.List.{List, [], _∷_, _++_}
 use Prim.Native.Nat.{ℕ, _+_, _≤_, _<_}
 use lib.Dec.{eqb}
@@ -10,7 +9,7 @@ use lib.ListN.{set}
 use Rattle.fields.specs.Choice.{if'}
 use Rattle.forest.specs.Forest.{Node, Tree, node, Forest, none, _then_}
 use Rattle.soundness.specs.KindNumbers.{kindList}
-use Rattle.table.specs.Answer.{Answer, accepted, refused}
+use Rattle.table.specs.Answer.{Answer, isRefused}
 use Rattle.types.specs.Forms.{formOf, shapeOf, listShape, readsAs, readsOf, argumentsOnly, ofChild}
 use Rattle.types.specs.declared.Reads.{Reads}
 
@@ -63,11 +62,6 @@ Rising lo hi (s ∷ ss) = (lo ≤ s .at) × ((s .at < hi) × Rising (s .at + 1) 
 unfoldable pub Proper : List Shape → Type 0
 Proper [] = Unit {0}
 Proper (s ∷ ss) = (1 ≤ s .shape) × ((s .shape ≤ 7) × Proper ss)
-
--- whether an answer is a refusal
-abbrev pub isRefused : Answer → Bool
-isRefused (accepted vs) = false
-isRefused (refused n vs) = true
 
 -- a buffer after an answer: a refusal changes nothing, acceptance writes the shapes
 abbrev pub afterAnswer : Answer → List Shape → List ℕ → List ℕ

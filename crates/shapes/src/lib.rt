@@ -4,9 +4,9 @@ mod walk;
 use types::Shaped;
 ghost use mathlib.Core.Path.{_≡_};
 ghost use lib.ListN.{length};
+ghost use Rattle.table.specs.Answer.{isRefused};
 ghost use Rattle.types.specs.Jobs.{shaped, typeShapeOf};
 ghost use Rattle.shapes.specs.Jobs.{shapesAfter};
-ghost use Rattle.shapes.specs.Shapes.{isRefused};
 
 // The type job: whether a node is a type in a dialect and an edition, which is given by its number. If it is, the shape
 // of each node that is read as a type or argument is written into the buffer; a refusal changes nothing.

@@ -143,6 +143,32 @@ pub record Counts (i : ℕ) (bs : List ℕ) (k : ℕ) : Type 0 where
   pub from : i ≤ k
   pub counts : weight (nodeOf 0 (drop (24 * (k - i)) bs) .kind) ≡ 1
 
+-- the first node of a stretch, one below it, and one behind its subtree
+counts-here : (i : ℕ) (bs : List ℕ) (d k : ℕ) → i ≡ k → d ≤ mostDepth → mostDepth < d + weight (nodeOf i bs .kind)
+    → Counts i bs k
+counts-here i bs d k here low over =
+    let first : 24 * (k - i) ≡ 0 = omega arith in
+    record { from = omega arith; counts = rw first (omega (arith, weight-little (nodeOf i bs .kind), over)) }
+
+counts-below : (i : ℕ) (bs : List ℕ) (k : ℕ) → Counts (i + 1) (kidsOf bs) k → k < i + 1 + length (kidsOf bs) / 24
+    → Counts i bs k
+counts-below i bs k below inside =
+    let place : 1 + (k - (i + 1)) ≡ k - i = omega (arith, below .from) in
+    record {
+      from = omega (arith, below .from);
+      counts = rw (kid-kind bs (k - (i + 1)) (omega (arith, below .from)), place) at (below .counts);
+    }
+
+counts-behind : (i : ℕ) (bs : List ℕ) (k : ℕ) → 24 ≤ length bs → Counts (i + spanOf bs / 24) (restOf bs) k
+    → k < i + spanOf bs / 24 + length (restOf bs) / 24 → Counts i bs k
+counts-behind i bs k big behind inside =
+    let place : spanOf bs / 24 + (k - (i + spanOf bs / 24)) ≡ k - i = omega (arith, behind .from) in
+    record {
+      from = omega (arith, behind .from);
+      counts = rw (rest-kind bs (k - (i + spanOf bs / 24)) big (omega (arith, behind .from)), place)
+          at (behind .counts);
+    }
+
 -- LAW: the first node that is too deep counts, so it is no parameter and no argument
 deep-counts-in : (i : ℕ) (bs : List ℕ) (d k : ℕ) → d ≤ mostDepth → firstDeep d (forest i bs) ≡ At k → Counts i bs k
 unfolding firstDeep
@@ -163,29 +189,14 @@ deep-counts-in =
         → (x : Found) → firstDeep (d + weight (nodeOf i bs .kind)) (forest (i + 1) (kidsOf bs)) ≡ x
         → orElse (if' b (λ _. At i) (λ _. x)) (λ _. firstDeep d (forest (i + spanOf bs / 24) (restOf bs))) ≡ At k
         → Counts i bs k
-    go i bs big d k low ks rs true b-is x x-is f =
-        let here : i ≡ k = cc in
-        let first : 24 * (k - i) ≡ 0 = omega arith in
-        let over : mostDepth < d + weight (nodeOf i bs .kind) = ltb-true mostDepth _ b-is in
-        record { from = omega arith; counts = rw first (omega (arith, weight-little (nodeOf i bs .kind), over)) }
+    go i bs big d k low ks rs true b-is x x-is f = let here : i ≡ k = cc in
+        counts-here i bs d k here low (ltb-true mostDepth _ b-is)
     go i bs big d k low ks rs false b-is (At j) x-is f =
         let same : j ≡ k = cc in
-        let below = ks k (ltb-false mostDepth _ b-is) (x-is ∙ ap At same) in
-        let inside = deep-inside (i + 1) (kidsOf bs) (d + weight (nodeOf i bs .kind)) k (x-is ∙ ap At same) in
-        let place : 1 + (k - (i + 1)) ≡ k - i = omega (arith, below .from) in
-        record {
-          from = omega (arith, below .from);
-          counts = rw (kid-kind bs (k - (i + 1)) (omega (arith, below .from)), place) at (below .counts);
-        }
+        let found = x-is ∙ ap At same in
+        counts-below i bs k (ks k (ltb-false mostDepth _ b-is) found) (deep-inside (i + 1) (kidsOf bs) _ k found)
     go i bs big d k low ks rs false b-is Nothing x-is f =
-        let behind = rs k low f in
-        let inside = deep-inside (i + spanOf bs / 24) (restOf bs) d k f in
-        let place : spanOf bs / 24 + (k - (i + spanOf bs / 24)) ≡ k - i = omega (arith, behind .from) in
-        record {
-          from = omega (arith, behind .from);
-          counts = rw (rest-kind bs (k - (i + spanOf bs / 24)) big (omega (arith, behind .from)), place)
-              at (behind .counts);
-        }
+        counts-behind i bs k big (rs k low f) (deep-inside (i + spanOf bs / 24) (restOf bs) d k f)
 
 pub deep-counts : (t : List ℕ) (k : ℕ) → firstDeep 0 (forest 0 t) ≡ At k
     → weight (nodeOf k (drop (24 * k) t) .kind) ≡ 1

@@ -2,6 +2,7 @@
 // all of the bytes.
 use blocks::BLOCK_BYTES;
 use blocks::Judged;
+use blocks::bytes;
 use dialect::Stated;
 use forest::RECORD;
 use table::MOST_BYTES;
@@ -386,11 +387,7 @@ fn put(from: &[u8], len: usize, out: &mut [u8])
     requires { ⌜ (len ≤ length (now from)) × (len ≤ length (now out)) ⌝ }
     ensures { λ r. ⌜ now (out .exit) ≡ take len (now (from .entry)) ++ drop len (now (out .entry)) ⌝ }
 {
-    let mut j = 0;
-    while j < len {
-        out[j] = from[j];
-        j += 1;
-    }
+    bytes::put(&from[0..len], 0, out)
 }
 
 // Copies len content bytes, of the blocks numbered from `first` on, to the front of out, block by block.

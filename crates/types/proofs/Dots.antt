@@ -48,7 +48,7 @@ module _ (ban : Bool) (i : ℕ) (t : List ℕ) where
       object-dot h {e} e-is r-is = r-is ∙ rw
           (kids-part e t e-is, forest-tree i t big, ← k-is, ne-eqb k kindIdentifier no, eq-eqb k kindDot h) refl
 
--- the ban looks at the name of a record, and not at its index
+-- the ban depends on the name of a record, and not on its index
 banned-there : (edition : Edition) (names : List ℕ) (i : ℕ) (t : List ℕ)
     → banned edition names (nodeOf i t) ≡ banned edition names (nodeOf 0 t)
 unfolding nameOf

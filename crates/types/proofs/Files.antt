@@ -20,7 +20,7 @@ use Rattle.dialect.specs.Editions.{editionOf}
 use Rattle.dialect.specs.Rows.{permitsTypes}
 use Rattle.table.specs.Numbers.{dotInType, expectingPath, dotTypeBan, invalidType, emptyListInType, typesDisabled}
 use Rattle.table.specs.Numbers.{shortBuffer, wrongNode}
-use Rattle.table.specs.Answer.{Answer, accepted, refused, andThen, refusedAt}
+use Rattle.table.specs.Answer.{Answer, accepted, refused, andThen}
 use Rattle.table.specs.Check.{Ruling, byRules, unruled, rulesOf, inRules, nodeFits, stretchOf}
 use Rattle.table.specs.Carrying.{CarriesFile}
 use Rattle.table.specs.declared.Wanted.the-variants.{Expression}
@@ -33,7 +33,7 @@ use Rattle.table.proofs.Filed.{fits-filed}
 use Rattle.table.proofs.Filed.{files-told}
 use Rattle.types.specs.Forms.{formOf, readsAs, readsOf, argumentsOnly, ofChild}
 use Rattle.types.specs.Paths.{banned, objectPath, basePath, «unpack_path»}
-use Rattle.types.specs.Types.{indexBase, index2Base, listLength, atNode, typeRule, «unpack», «unpack_argument»}
+use Rattle.types.specs.Types.{indexBase, index2Base, listLength, atNode, «unpack», «unpack_argument»}
 use Rattle.types.specs.Types.{unpackEach, typesCheck, «dialect_check_type»}
 use Rattle.types.specs.Jobs.{roomCheck, typeAt, typeShapeOf}
 use Rattle.types.specs.declared.How.{How}
@@ -42,7 +42,7 @@ use Rattle.types.specs.declared.Reads.{Reads}
 use Rattle.types.specs.declared.Form.{Form}
 use Rattle.types.specs.declared.Form.the-variants.{Ellipsis, Path, Index, Index2, List, Union, Tuple, Other}
 
-module _ (P : Node → Type 0) (edition : Edition) where
+module _ (P : Node → Type 0) (edition : Edition) (names : L.List ℕ) where
   mutual
     unfolding objectPath
 
@@ -53,32 +53,27 @@ module _ (P : Node → Type 0) (edition : Edition) where
     told-base : (ban : Bool) (t : Tree) → All P (nodesOf t) → Told P (basePath ban t)
     told-base ban (node r ks) h =
         let here = all-tree P r ks h in
-        told-if P (eqb (r .kind) kindIdentifier) (λ _. if' ban (λ _. refusedAt dotTypeBan r) (λ _. accepted L.[])) (λ _.
-        if' (eqb (r .kind) kindDot) (λ _. objectPath ban ks) (λ _. refusedAt dotInType r))
-        (told-if P ban (λ _. refusedAt dotTypeBan r) (λ _. accepted L.[]) (told-at P dotTypeBan r (here .0)) tt)
-        (told-if P (eqb (r .kind) kindDot) (λ _. objectPath ban ks) (λ _. refusedAt dotInType r)
-        (told-object ban ks (here .1)) (told-at P dotInType r (here .0)))
+        told-if P (eqb (r .kind) kindIdentifier) _ _ (told-if P ban _ _ (told-at P dotTypeBan r (here .0)) tt)
+        (told-if P (eqb (r .kind) kindDot) _ _ (told-object ban ks (here .1)) (told-at P dotInType r (here .0)))
 
-  told-path : (names : L.List ℕ) (t : Tree) → All P (nodesOf t) → Told P («unpack_path» edition names t)
+  told-path : (t : Tree) → All P (nodesOf t) → Told P («unpack_path» edition names t)
   unfolding «unpack_path»
-  told-path names (node r ks) h =
+  told-path (node r ks) h =
       let here = all-tree P r ks h in
-      told-if P (eqb (r .kind) kindIdentifier) (λ _. accepted L.[]) (λ _.
-      if' (eqb (r .kind) kindDot) (λ _. objectPath (banned edition names r) ks) (λ _. refusedAt expectingPath r)) tt
-      (told-if P (eqb (r .kind) kindDot) (λ _. objectPath (banned edition names r) ks) (λ _. refusedAt expectingPath r)
-      (told-object (banned edition names r) ks (here .1)) (told-at P expectingPath r (here .0)))
+      told-if P (eqb (r .kind) kindIdentifier) _ _ tt
+      (told-if P (eqb (r .kind) kindDot) _ _ (told-object (banned edition names r) ks (here .1))
+      (told-at P expectingPath r (here .0)))
 
   told-index : (r : Node) (ks : Forest) → P r → Told P (indexBase r ks)
   unfolding indexBase
   told-index r none p = told-at P invalidType r p
   told-index r (node b bs then ts) p =
-      told-if P (eqb (b .kind) kindIdentifier) (λ _. accepted L.[]) (λ _. refusedAt invalidType r) tt
-      (told-at P invalidType r p)
+      told-if P (eqb (b .kind) kindIdentifier) _ _ tt (told-at P invalidType r p)
 
-  told-index2 : (names : L.List ℕ) (ks : Forest) → All P (nodes ks) → Told P (index2Base edition names ks)
+  told-index2 : (ks : Forest) → All P (nodes ks) → Told P (index2Base edition names ks)
   unfolding index2Base
-  told-index2 names none h = tt
-  told-index2 names (b then ts) h = told-path names b (all-row P b ts h .0)
+  told-index2 none h = tt
+  told-index2 (b then ts) h = told-path b (all-row P b ts h .0)
 
   told-list : (r : Node) (ks : Forest) → P r → Told P (listLength r ks)
   unfolding listLength
@@ -86,17 +81,17 @@ module _ (P : Node → Type 0) (edition : Edition) where
   told-list r (t then none) p = told-at P invalidType r p
   told-list r (t then (u then ts)) p = tt
 
-  told-node : (names : L.List ℕ) (f : Form) (r : Node) (ks : Forest) → All P (nodesOf (node r ks))
+  told-node : (f : Form) (r : Node) (ks : Forest) → All P (nodesOf (node r ks))
       → Told P (atNode edition names f r ks)
   unfolding atNode
-  told-node names Ellipsis r ks h = tt
-  told-node names Path r ks h = told-path names (node r ks) h
-  told-node names Index r ks h = told-index r ks (all-tree P r ks h .0)
-  told-node names Index2 r ks h = told-index2 names ks (all-tree P r ks h .1)
-  told-node names List r ks h = told-list r ks (all-tree P r ks h .0)
-  told-node names Union r ks h = tt
-  told-node names Tuple r ks h = tt
-  told-node names Other r ks h = told-at P invalidType r (all-tree P r ks h .0)
+  told-node Ellipsis r ks h = tt
+  told-node Path r ks h = told-path (node r ks) h
+  told-node Index r ks h = told-index r ks (all-tree P r ks h .0)
+  told-node Index2 r ks h = told-index2 ks (all-tree P r ks h .1)
+  told-node List r ks h = told-list r ks (all-tree P r ks h .0)
+  told-node Union r ks h = tt
+  told-node Tuple r ks h = tt
+  told-node Other r ks h = told-at P invalidType r (all-tree P r ks h .0)
 
   -- a child, by how it is read
   told-child : (how : How) (x y : Answer) → Told P x → Told P y
@@ -108,45 +103,37 @@ module _ (P : Node → Type 0) (edition : Edition) where
   mutual
     unfolding «unpack»
 
-    told-unpack : (names : L.List ℕ) (t : Tree) → All P (nodesOf t) → Told P («unpack» edition names t)
-    told-unpack names (node r ks) h =
-        told-then P (atNode edition names (formOf (r .kind) (r .detail)) r ks) (λ _.
-        unpackEach (readsOf (formOf (r .kind) (r .detail))) edition names ks)
-        (told-node names (formOf (r .kind) (r .detail)) r ks h)
-        (told-each (readsOf (formOf (r .kind) (r .detail))) names ks (all-tree P r ks h .1))
+    told-unpack : (t : Tree) → All P (nodesOf t) → Told P («unpack» edition names t)
+    told-unpack (node r ks) h =
+        let form : Form = formOf (r .kind) (r .detail) in
+        told-then P (atNode edition names form r ks) _ (told-node form r ks h)
+        (told-each (readsOf form) ks (all-tree P r ks h .1))
 
-    told-argument : (names : L.List ℕ) (t : Tree) → All P (nodesOf t) → Told P («unpack_argument» edition names t)
-    told-argument names (node r ks) h =
+    told-argument : (t : Tree) → All P (nodesOf t) → Told P («unpack_argument» edition names t)
+    told-argument (node r ks) h =
+        let form : Form = formOf (r .kind) (r .detail) in
         let below = all-tree P r ks h .1 in
-        told-if P (eqb (r .kind) kindList) (λ _. unpackEach argumentsOnly edition names ks) (λ _.
-        typeRule edition names r ks (λ reads. unpackEach reads edition names ks))
-        (told-each argumentsOnly names ks below)
-        (told-then P (atNode edition names (formOf (r .kind) (r .detail)) r ks) (λ _.
-        unpackEach (readsOf (formOf (r .kind) (r .detail))) edition names ks)
-        (told-node names (formOf (r .kind) (r .detail)) r ks h)
-        (told-each (readsOf (formOf (r .kind) (r .detail))) names ks below))
+        told-if P (eqb (r .kind) kindList) _ _ (told-each argumentsOnly ks below)
+        (told-then P (atNode edition names form r ks) _ (told-node form r ks h) (told-each (readsOf form) ks below))
 
-    told-each : (reads : Reads) (names : L.List ℕ) (ts : Forest) → All P (nodes ts)
-        → Told P (unpackEach reads edition names ts)
-    told-each reads names none h = tt
-    told-each reads names (t then ts) h =
+    told-each : (reads : Reads) (ts : Forest) → All P (nodes ts) → Told P (unpackEach reads edition names ts)
+    told-each reads none h = tt
+    told-each reads (t then ts) h =
         let both = all-row P t ts h in
         told-then P
         (ofChild (reads .first) (accepted L.[]) (λ _. «unpack» edition names t)
-        (λ _. «unpack_argument» edition names t))
-        (λ _. unpackEach (readsAs (reads .others) (reads .others)) edition names ts)
+        (λ _. «unpack_argument» edition names t)) _
         (told-child (reads .first) («unpack» edition names t) («unpack_argument» edition names t)
-        (told-unpack names t (both .0))
-        (told-argument names t (both .0)))
-        (told-each (readsAs (reads .others) (reads .others)) names ts (both .1))
+        (told-unpack t (both .0)) (told-argument t (both .0)))
+        (told-each (readsAs (reads .others) (reads .others)) ts (both .1))
 
-  pub told-type : (names : L.List ℕ) (types : DialectTypes) (t : Tree) → All P (nodesOf t)
+  pub told-type : (types : DialectTypes) (t : Tree) → All P (nodesOf t)
       → Told P («dialect_check_type» edition names types t)
   unfolding «dialect_check_type»
-  told-type names types (node r ks) h =
-      told-then P (typesCheck types r) (λ _. «unpack» edition names (node r ks))
-      (told-if P (permitsTypes types) (λ _. accepted L.[]) (λ _. refusedAt typesDisabled r) tt
-      (told-at P typesDisabled r (all-tree P r ks h .0))) (told-unpack names (node r ks) h)
+  told-type types (node r ks) h =
+      told-then P (typesCheck types r) _
+      (told-if P (permitsTypes types) _ _ tt (told-at P typesDisabled r (all-tree P r ks h .0)))
+      (told-unpack (node r ks) h)
 
 -- THEOREM: every refusal from 10 on of the type job carries the number of the node that it names
 module _ (t names bytes : L.List ℕ) (n i room : ℕ) where

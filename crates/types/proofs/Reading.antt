@@ -75,6 +75,11 @@ argument-list AsArgument k e = go (eqb k kindList) refl e
     go true is e = eqb-true k kindList is
     go false is e = never (cc)
 
+-- LAW: so a child for which the argument rule is chosen is a List
+pub child-is-list : (t : List ℕ) (how : How) {rule : How} {k : ℕ} → k ≡ nodeOf 0 t .kind → rule ≡ ruleOf how k
+    → rule ≡ AsArgument → nodeOf 0 t .kind ≡ kindList
+child-is-list t how {rule} {k} k-is rule-is h = sym k-is ∙ argument-list how k (sym rule-is ∙ h)
+
 -- LAW: the first subtree among the children of a node is smaller than the node's subtree
 pub falls : (t left : List ℕ) → length left + 24 ≤ spanOf t → spanOf left < spanOf t
 falls t left h = omega arith
@@ -92,20 +97,21 @@ module _ (edition : Edition) (names : List ℕ) (i : ℕ) (t : List ℕ) (how : 
   unfolding «unpack»
   chosen = rw (rule-is, k-is) (by-rule (nodeOf 0 t .kind) (accepted []) _ _ how)
 
-  pub child-is-list : rule ≡ AsArgument → nodeOf 0 t .kind ≡ kindList
-  child-is-list h = sym k-is ∙ argument-list how k (sym rule-is ∙ h)
+  as-chosen : {h : How} → rule ≡ h
+      → unpackChild h edition names (treeOf i t) ≡ unpackChild how edition names (treeOf i t)
+  as-chosen e = ap (λ (x : How). unpackChild x edition names (treeOf i t)) (sym e) ∙ chosen
 
   pub child-unread : rule ≡ Unread → accepted [] ≡ unpackChild how edition names (treeOf i t)
-  child-unread h = ap (λ (x : How). unpackChild x edition names (treeOf i t)) (sym h) ∙ chosen
+  child-unread h = as-chosen h
 
   module _ {r : Answer} where
     pub child-type : rule ≡ AsType → r ≡ «unpack» edition names (treeOf i t)
         → r ≡ unpackChild how edition names (treeOf i t)
-    child-type h r-is = r-is ∙ ap (λ (x : How). unpackChild x edition names (treeOf i t)) (sym h) ∙ chosen
+    child-type h r-is = r-is ∙ as-chosen h
 
     pub child-list : rule ≡ AsArgument → r ≡ «unpack_argument» edition names (treeOf i t)
         → r ≡ unpackChild how edition names (treeOf i t)
-    child-list h r-is = r-is ∙ ap (λ (x : How). unpackChild x edition names (treeOf i t)) (sym h) ∙ chosen
+    child-list h r-is = r-is ∙ as-chosen h
 
 -- the invariant of both loops: what is left is smaller than the node's subtree, and judging it gives the whole answer
 pub record Judging (edition : Edition) (names : List ℕ) (others : How) (t : List ℕ) (whole : Answer) (left : List ℕ)

@@ -3,9 +3,9 @@
 -- own and then those below it, in table order. Code looks at the records of a stretch one after the other, not at its
 -- trees. That is the same (`scan-start`), because the nodes of a stretch's forest are its records in order (forest's
 -- `nodes-records`); the loop keeps that what is left decides (`Scanning`). Cite `top-quiet` where the look
--- finds nothing. Assumes nothing.
+-- finds nothing, and `top-walked` where it finds something. Assumes nothing.
 use mathlib.Core.Path.{_≡_, refl, sym, ap, _∙_}
-use mathlib.Core.Bool.{Bool, true, false, _||_, not}
+use mathlib.Core.Bool.{Bool, true, false, _||_}
 use mathlib.Core.List.{List, [], _∷_, _++_, append-nil}
 use Prim.Native.Nat.{ℕ, zero, suc, _+_, _-_, _/_, _<_, _≤_}
 use native.Mathlib.Omega.{arith}
@@ -16,14 +16,15 @@ use Rattle.fields.proofs.Basics.{never}
 use Rattle.fields.proofs.Fields.{tail-part}
 use Rattle.dialect.specs.declared.Dialect.{Dialect}
 use Rattle.dialect.specs.Rows.{permitsTypes}
-use Rattle.forest.specs.Forest.{Node, nodeOf, spanOf, kidsOf, Tree, node, Forest, none, _then_, forest, treeOf, nodes}
-use Rattle.forest.specs.Forest.{nodesOf}
-use Rattle.forest.proofs.Stretch.{kids-part, records, nodes-records}
+use Rattle.forest.specs.Forest.{Node, nodeOf, spanOf, restOf, Tree, node, Forest, none, _then_, forest, treeOf}
+use Rattle.forest.specs.Forest.{nodes, nodesOf}
+use Rattle.forest.proofs.Stretch.{forest-none, kids-part, records, nodes-records}
+use Rattle.forest.proofs.Prefix.{forest-part}
 use Rattle.soundness.specs.KindNumbers.{kindEllipsis, kindLambda}
 use Rattle.table.specs.Numbers.{ellipsisNotPermitted, lambdaNotPermitted}
-use Rattle.errors.specs.declared.Err.{Err}
 use Rattle.errors.specs.declared.Listing.{Listing}
 use Rattle.errors.specs.Errors.{unless, Stores}
+use Rattle.errors.proofs.Storing.{stores-none}
 use Rattle.validate.specs.Inner.{isSite, hasSite}
 use Rattle.validate.specs.Params.{withParams}
 use Rattle.validate.specs.Module.{exprErrors, expr, «visit_expr»}
@@ -127,12 +128,39 @@ module _ {t : List ℕ} where
     scan-end short =
         let n : length left / 24 ≡ 0 = omega arith in rw (← s .same, nodes-records 0 left, n) refl
 
--- a tree whose stretch below the first record has no site has that record's errors alone
-pub top-quiet : {l : Listing} (d : Dialect) (names : List ℕ) (i : ℕ) (t : List ℕ) {e : ℕ} → e ≡ spanOf t
-    → {m : ℕ} {xs ys : List ℕ} → Stores l (exprErrors d names (nodeOf i t) (children i t)) xs m ys
-    → {b : Bool} → b ≡ sites (made e t) → b ≡ false → Stores l (expr d names (treeOf i t)) xs m ys
-unfolding expr
-top-quiet d names i t {e} e-is own b-is not-there =
-    let none-below : hasSite (nodes (children i t)) ≡ false =
-    sites-records (i + 1) (kidsOf t) ∙ ap sites (sym (kids-part e t e-is)) ∙ sym b-is ∙ not-there in
-    rw (no-sites d names (children i t) none-below, append-nil) own
+-- the stretch that code makes of the first tree of a stretch is that tree alone
+abbrev pub alone : ℕ → List ℕ → List ℕ
+alone e t = take (e - 0) t
+
+module _ (i : ℕ) (t : List ℕ) {e : ℕ} (big : 24 ≤ length t) (e-is : e ≡ spanOf t) where
+  tree-alone : forest i (alone e t) ≡ treeOf i t then none
+  tree-alone =
+      let size : e - 0 ≡ spanOf t = omega (arith, e-is) in
+      let zero-left : spanOf t - spanOf t ≡ 0 = omega arith in
+      let nothing : take (spanOf t - spanOf t) (restOf t) ≡ [] = rw zero-left refl in
+      rw size (forest-part (spanOf t) t big (omega arith) (omega arith) i
+      ∙ rw (nothing, forest-none (i + spanOf t / 24) [] (omega arith)) refl)
+
+  module _ {l : Listing} (d : Dialect) (names : List ℕ) where
+    -- the walk over the tree alone
+    pub top-walked : {m : ℕ} {xs ys : List ℕ} → Stores l («visit_expr» d names (forest i (alone e t))) xs m ys
+        → Stores l (expr d names (treeOf i t)) xs m ys
+    unfolding expr
+    top-walked s = rw append-nil at (rw tree-alone at s)
+
+    -- where that has no site, there is no error
+    pub top-quiet : {b : Bool} → b ≡ sites (alone e t) → b ≡ false → (xs : List ℕ)
+        → Stores l (expr d names (treeOf i t)) xs 0 xs
+    top-quiet b-is not-there xs =
+        let no : hasSite (nodes (forest i (alone e t))) ≡ false =
+        sites-records i (alone e t) ∙ sym b-is ∙ not-there in
+        top-walked (rw (no-sites d names (forest i (alone e t)) no) (stores-none xs))
+
+    -- a record that is no site, and the walk over what is below it
+    pub root-on : {k : ℕ} → k ≡ nodeOf 0 t .kind → {b : Bool} → b ≡ isSite k → b ≡ false → {m : ℕ} {xs ys : List ℕ}
+        → Stores l («visit_expr» d names (forest (i + 1) (made e t))) xs m ys
+        → Stores l (expr d names (treeOf i t)) xs m ys
+    unfolding expr
+    root-on k-is b-is not-here s =
+        let no : isSite (nodeOf i t .kind) ≡ false = ap isSite (sym k-is) ∙ sym b-is ∙ not-here in
+        rw (own-quiet d names (nodeOf i t) (children i t) no, ← kids-part e t e-is) s

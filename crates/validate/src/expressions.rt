@@ -127,8 +127,8 @@ fn has_site(t: &[u8]) -> bool
     false
 }
 
-// A tree of e bytes as in check_expression; what is below is walked only if it has such a record. It is for the
-// statements at the top level alone, so that each record is looked at once more and not once for each level above it.
+// A statement at the top level, whose tree takes e bytes: it is walked only if it has such a record. No statement below
+// it is looked at so again, so that no record is looked at once for each level above it.
 fn check_top(
     listing: Listing,
     d: Dialect,
@@ -143,14 +143,11 @@ fn check_top(
     ensures { λ r. ⌜ Stores listing (expr d (now (names .entry)) (treeOf at (now (t .entry)))) (now (errors .entry)) r
         (now (errors .exit)) ⌝ }
 {
-    let own = expr_errors(listing, d, names, t, at, errors);
-    let below = &t[RECORD..e];
-    if !has_site(below) {
-        return own;
+    let tree = &t[0..e];
+    if !has_site(tree) {
+        return 0;
     }
-    let free = errors::free(listing, errors.len(), own);
-    let rest = visit_expr(listing, d, names, below, at + 1, &mut errors[free..]);
-    own + rest
+    visit_expr(listing, d, names, tree, at, errors)
 }
 
 // The statements at the top level, in turn.
@@ -180,7 +177,8 @@ fn visit_tops(
     total
 }
 
-// A root of e bytes, and then the statements below it, which are the ones at the top level.
+// A root, whose tree takes e bytes: the statements below it are the ones at the top level. A root that is itself such a
+// record, which no sound table has, is walked as any other.
 fn check_root(
     listing: Listing,
     d: Dialect,
@@ -195,11 +193,10 @@ fn check_root(
     ensures { λ r. ⌜ Stores listing (expr d (now (names .entry)) (treeOf at (now (t .entry)))) (now (errors .entry)) r
         (now (errors .exit)) ⌝ }
 {
-    let own = expr_errors(listing, d, names, t, at, errors);
-    let free = errors::free(listing, errors.len(), own);
-    let below = &t[RECORD..e];
-    let rest = visit_tops(listing, d, names, below, at + 1, &mut errors[free..]);
-    own + rest
+    if is_site(forest::kind(t)) {
+        return visit_expr(listing, d, names, &t[0..e], at, errors);
+    }
+    visit_tops(listing, d, names, &t[RECORD..e], at + 1, errors)
 }
 
 // All expressions of a module: those of its roots in turn. A sound table has one.

@@ -6,9 +6,6 @@ use crate::answer::AUDIT_WORDS;
 use crate::call;
 use crate::dialect::Dialect;
 use crate::dialect::Edition;
-use crate::jobs::argument_refusal;
-use crate::jobs::unpacked;
-use crate::jobs::Written;
 use crate::module;
 use crate::numbers::kind;
 use crate::numbers::number;
@@ -19,6 +16,9 @@ use crate::table::Class;
 use crate::table::Table;
 use crate::targets;
 use crate::types;
+use crate::written::argument_refusal;
+use crate::written::unpacked;
+use crate::written::Written;
 
 /// A job beside the module pass, in the order in which what is refused at one record is told.
 #[derive(Clone, Copy, Debug, PartialEq, Eq, PartialOrd, Ord)]

@@ -200,15 +200,3 @@ pub fn good_blocks(bytes: &[u8]) -> usize {
     };
     bytes.chunks_exact(BLOCK).enumerate().take_while(|&block| passes(block)).count()
 }
-
-/// What the program tablecheck prints for a file.
-pub fn printed(file: &[u8]) -> String {
-    let contents = match read(file) {
-        Ok(contents) => contents,
-        Err(refusal) => return format!("refused {}\n", refusal.number),
-    };
-    let answer = crate::jobs::module(&contents.table, &contents.names, &contents.dialect);
-    let lines = answer.errors.iter().map(|[number, file, begin, end]| format!("{number} {file} {begin} {end}\n"));
-    let nodes = contents.table.len() / RECORD_BYTES;
-    format!("nodes {nodes}\n{}errors {}\n", lines.collect::<String>(), answer.errors.len())
-}

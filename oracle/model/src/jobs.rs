@@ -9,14 +9,12 @@ pub use crate::answer::NONE;
 use crate::audit;
 use crate::bind;
 use crate::call;
-use crate::call::Argument;
 use crate::call::Called;
 use crate::dialect;
 use crate::file;
 use crate::file::Contents;
 use crate::fstring;
 use crate::module;
-use crate::module::entries;
 use crate::numbers::kind;
 use crate::numbers::number;
 use crate::params;
@@ -29,6 +27,11 @@ use crate::table::Table;
 use crate::table::RECORD_BYTES;
 use crate::targets;
 use crate::types;
+use crate::written::argument_refusal;
+use crate::written::entries;
+use crate::written::short_enough;
+use crate::written::unpacked;
+use crate::written::Written;
 
 fn answered(result: Result<Answer, Refusal>) -> Answer {
     result.unwrap_or_else(Answer::from)
@@ -71,46 +74,6 @@ fn params_of(table: &Table, owner: usize, modes: usize) -> Result<Answer, Refusa
     }
 }
 
-/// The list of a Def or Lambda: 19 at the owner, otherwise the rules of the list.
-pub(crate) fn unpacked(table: &Table, owner: usize, nodes: &[usize]) -> Result<params::Unpacked, Refusal> {
-    let rules = || {
-        let at_entry = |(number, at): params::At| parameter_refusal(table, number, nodes, at);
-        params::unpack(&entries(table, nodes)).map_err(at_entry)
-    };
-    if planted(Fault::TooManyAfterTheRules) {
-        rules()?;
-    }
-    short_enough(table, owner, nodes)?;
-    rules()
-}
-
-/// 19: a list has at most 48 entries, marks counted.
-fn short_enough(table: &Table, owner: usize, nodes: &[usize]) -> Result<(), Refusal> {
-    let marks = entries(table, nodes).iter().filter(|entry| entry.is_mark()).count();
-    let many = nodes.len() - if planted(Fault::TooManyByFlatCount) { marks } else { 0 };
-    let most = params::MOST_ENTRIES + usize::from(planted(Fault::OneEntryMore));
-    if many <= most || table.kind(owner) == kind::LAMBDA && planted(Fault::TooManyNotInLambdas) {
-        return Ok(());
-    }
-    let node = if planted(Fault::TooManyAtTheEntry) { nodes[params::MOST_ENTRIES] } else { owner };
-    Err(table.refuse(number::TOO_MANY_PARAMETERS, node))
-}
-
-/// 11 carries the first earlier parameter with an equal name.
-fn parameter_refusal(table: &Table, number: u32, nodes: &[usize], at: usize) -> Refusal {
-    let refusal = table.refuse(number, nodes[at]);
-    match first_equal(table, &nodes[..at], nodes[at]) {
-        Some(_) if planted(Fault::EarlierIsThePlace) => refusal.with_earlier(at),
-        Some(earlier) if number == number::DUPLICATED_PARAMETER => refusal.with_earlier(earlier),
-        _ => refusal,
-    }
-}
-
-/// The first of these nodes whose name is a node's.
-fn first_equal(table: &Table, before: &[usize], node: usize) -> Option<usize> {
-    before.iter().copied().find(|&earlier| table.name(earlier) == table.name(node))
-}
-
 fn unpacked_answer(unpacked: &params::Unpacked, written: usize) -> Answer {
     let ranges = unpacked.ranges().into_iter().flat_map(|range| [range.start, range.end]);
     let mut bytes = unpacked.modes();
@@ -134,22 +97,6 @@ pub fn call(table: &[u8], names: &[u8], node: usize) -> Answer {
     }))
 }
 
-/// 22 has the name's span, and carries the first earlier argument with an equal name.
-pub(crate) fn argument_refusal(table: &Table, number: u32, nodes: &[usize], at: usize) -> Refusal {
-    let node = nodes[at];
-    match first_equal(table, &nodes[..at], node) {
-        Some(earlier) if number == number::REPEATED_NAMED => {
-            let at_argument = planted(Fault::RepeatedAtArgumentSpan);
-            let mut span = if at_argument { table.span(node) } else { table.records[node].name_span() };
-            if planted(Fault::RepeatedFileZero) {
-                span.file = 0;
-            }
-            Refusal::spanned(number, node, span).with_earlier(earlier)
-        }
-        _ => table.refuse(number, node),
-    }
-}
-
 fn called_answer(called: &Called) -> Answer {
     let place = |place: Option<u32>| place.unwrap_or(NONE);
     Answer::accepted(vec![called.positional, called.named, place(called.star), place(called.star_star)])
@@ -166,34 +113,6 @@ pub fn bind(table: &[u8], names: &[u8], call: usize, def: usize, room: usize) ->
         long_enough(room, owned.nodes.len() - marks + called.nodes.len())?;
         bound(&table, def, &owned, &called)
     }))
-}
-
-/// The written children of one class, by their nodes.
-pub(crate) struct Written<'t, 'n> {
-    table: &'t Table<'n>,
-    pub(crate) nodes: Vec<usize>,
-}
-
-impl<'t, 'n> Written<'t, 'n> {
-    pub(crate) fn of(table: &'t Table<'n>, owner: usize, class: Class) -> Written<'t, 'n> {
-        Written { table, nodes: table.children_of(owner, class).collect() }
-    }
-
-    pub(crate) fn arguments(&self) -> Vec<Argument<'n>> {
-        let argument = |&node: &usize| Argument { kind: self.table.kind(node), name: self.table.name(node) };
-        self.nodes.iter().map(argument).collect()
-    }
-
-    fn marks(&self) -> usize {
-        entries(self.table, &self.nodes).iter().filter(|entry| entry.is_mark()).count()
-    }
-
-    /// The nodes without those of marks.
-    fn flat_nodes(&self) -> Vec<usize> {
-        let entries = entries(self.table, &self.nodes);
-        let flat = self.nodes.iter().zip(entries).filter(|(_, entry)| !entry.is_mark());
-        flat.map(|(&node, _)| node).collect()
-    }
 }
 
 /// The Def's 10 to 19, the call's 20 to 24, then 80 to 84.
@@ -360,6 +279,18 @@ pub fn check_file(file: &[u8]) -> Answer {
         }
         answer
     }))
+}
+
+/// What the program tablecheck prints for a file.
+pub fn printed(file: &[u8]) -> String {
+    let contents = match file::read(file) {
+        Ok(contents) => contents,
+        Err(refusal) => return format!("refused {}\n", refusal.number),
+    };
+    let answer = module(&contents.table, &contents.names, &contents.dialect);
+    let lines = answer.errors.iter().map(|[number, file, begin, end]| format!("{number} {file} {begin} {end}\n"));
+    let nodes = contents.table.len() / RECORD_BYTES;
+    format!("nodes {nodes}\n{}errors {}\n", lines.collect::<String>(), answer.errors.len())
 }
 
 /// The format text of parts, into a buffer of so many bytes.

@@ -1,15 +1,13 @@
 //! The module pass.
 
 use crate::dialect::Dialect;
-use crate::jobs::unpacked;
 use crate::numbers::kind;
 use crate::numbers::number;
-use crate::params::Entry;
 use crate::planted::planted;
 use crate::planted::Fault;
-use crate::table::normal_parts;
 use crate::table::Class;
 use crate::table::Table;
+use crate::written::unpacked;
 
 /// An error: its number, and the node whose span it has.
 #[derive(Clone, Copy, Debug, PartialEq, Eq, PartialOrd, Ord)]
@@ -173,14 +171,4 @@ impl Pass<'_, '_> {
         let parent = &self.table.records[node - 1];
         parent.kind == kind::NORMAL && parent.detail == 2
     }
-}
-
-/// The entries of a parameter list, as its rules read them.
-pub fn entries<'n>(table: &Table<'n>, nodes: &[usize]) -> Vec<Entry<'n>> {
-    let entry = |&node: &usize| {
-        let record = &table.records[node];
-        let has_default = record.kind == kind::NORMAL && normal_parts(record.detail).1;
-        Entry { kind: record.kind, name: table.name(node), has_default }
-    };
-    nodes.iter().map(entry).collect()
 }

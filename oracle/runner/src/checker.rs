@@ -18,7 +18,6 @@ use model::dialect::Edition;
 use model::figures;
 use model::file;
 use model::jobs;
-use model::module;
 use model::numbers::number;
 use model::planted::planted;
 use model::planted::Fault;
@@ -26,6 +25,7 @@ use model::table::Class;
 use model::table::Record;
 use model::table::Table;
 use model::table::RECORD_BYTES;
+use model::written;
 
 use crate::cut;
 use crate::port::Effect;
@@ -154,7 +154,7 @@ impl Checker {
             let answer = model_answer(request);
             let table = Table::check(request.table, request.names).expect("the generated tables are sound");
             let nodes: Vec<usize> = table.children_of(node, Class::Parameter).collect();
-            let agrees = cut::agrees(&module::entries(&table, &nodes), &answer);
+            let agrees = cut::agrees(&written::entries(&table, &nodes), &answer);
             self.note(agrees || is_ours(answer.number), || {
                 format!("demand 3 says otherwise than {answer:?} of {}", hex(request.table))
             });

@@ -12,6 +12,6 @@ fn main() -> std::io::Result<()> {
             bytes
         }
     };
-    print!("{}", model::file::printed(&file));
+    print!("{}", model::jobs::printed(&file));
     Ok(())
 }

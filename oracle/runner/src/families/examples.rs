@@ -1,6 +1,7 @@
 //! The table of examples, whose answers are given.
 
 use model::file;
+use model::jobs;
 use model::jobs::NONE;
 use model::numbers::kind;
 use model::table::Record;
@@ -187,7 +188,7 @@ fn program(checker: &mut Checker, plan: &Plan) {
     for dialect in [&[][..], &model::dialect::STANDARD] {
         let contents = file::Contents { table: table.clone(), names: b"abc".to_vec(), dialect: dialect.to_vec(), edition: None };
         let written = file::write(&contents);
-        let printed = file::printed(&written);
+        let printed = jobs::printed(&written);
         let expected = "nodes 6\n13 1 14 15\n55 1 20 25\nerrors 2\n";
         checker.note(printed == expected, || format!("the model prints {printed:?}"));
         compare_output(checker, plan, &written, true);

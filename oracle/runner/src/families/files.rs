@@ -10,6 +10,7 @@ use model::dialect;
 use model::file;
 use model::file::Contents;
 use model::file::BLOCK;
+use model::jobs;
 use model::numbers::kind;
 use model::table::MOST_DEPTH;
 use model::table::MOST_FILE;
@@ -32,7 +33,7 @@ pub fn compare_output(checker: &mut Checker, plan: &Plan, bytes: &[u8], by_name:
     let Some(program) = plan.program.as_ref().filter(|_| checker.wants_job(FILE)) else {
         return;
     };
-    let expected = file::printed(bytes);
+    let expected = jobs::printed(bytes);
     let printed = if by_name { run_by_name(program, bytes) } else { run_by_input(program, bytes) };
     let printed = printed.unwrap_or_else(|error| panic!("{program} cannot be run: {error}"));
     let number = file::read(bytes).err().map_or(0, |refusal| refusal.number);

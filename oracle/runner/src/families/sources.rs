@@ -284,7 +284,7 @@ fn lists_of_two_files(checker: &mut Checker) {
     let audited = jobs::audit(table, names, &LITTLE, FIRST_EDITION).audited;
     checker.note(audited == audit, || format!("the model audits {audited:?}, by hand it is {audit:?}"));
     let bytes = file::write(&Contents { table: table.clone(), names: names.clone(), dialect: LITTLE.to_vec(), edition: None });
-    let printed = file::printed(&bytes);
+    let printed = jobs::printed(&bytes);
     let lines: String = module.iter().map(|[number, file, begin, end]| format!("{number} {file} {begin} {end}\n")).collect();
     checker.note(printed == format!("nodes 22\n{lines}errors 7\n"), || format!("the model prints {printed:?}"));
     for errors in 0..=AUDIT_WORDS * audit.len() + 2 {

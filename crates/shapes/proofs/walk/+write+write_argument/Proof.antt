@@ -5,8 +5,9 @@ use lib.ListN.{length}
 use Rattle.forest.specs.Forest.{spanOf}
 use Rattle.types.specs.Forms.{argumentsOnly}
 use Rattle.types.specs.declared.How.the-variants.{AsArgument}
+use Rattle.types.proofs.Reading.{child-is-list}
 use Rattle.shapes.proofs.Writing.{Writing, kidsWritten, kids-start, items-start, type-written, list-written}
-use Rattle.shapes.proofs.Writing.{child-is-list, child-unread, child-type, child-list, item-type}
+use Rattle.shapes.proofs.Writing.{child-unread, child-type, child-list, item-type}
 use Rattle.shapes.proofs.Writing.{each-on, each-end, each-falls, still-long}
 use Prim.Native.Nat.{ℕ, _<_}
 use borrow.Fn.Kinds.{In}

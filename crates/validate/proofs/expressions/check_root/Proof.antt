@@ -1,6 +1,6 @@
--- `validate::expressions::check_root` meets its contract: a record by itself, and the statements below it. Assumes
--- nothing.
-use Rattle.validate.proofs.Walks.{expr-on}
+-- `validate::expressions::check_root` meets its contract: the walk where the root is a site, else the statements
+-- below it. Assumes nothing.
+use Rattle.validate.proofs.Sites.{top-walked, root-on}
 use borrow.Author.Needs.{needs}
 use Rattle.validate.proofs.expressions.check_root.Statement.{statement}
 use Rattle.validate.proofs.expressions.check_root.Tie as tie
@@ -14,12 +14,13 @@ check-root-spec =
     (λ c. search needs)
     (λ c. search needs)
     (λ c. search needs)
+    (λ c κs. search needs)
     (λ c. search needs)
+    (λ c. search top-walked)  -- returns
     (λ c. search needs)
     (λ c. search needs)
     (λ c. search needs)
     (λ c. search needs)
     (λ c κs. search needs)
     (λ c. search needs)
-    (λ c. search needs)
-    (λ c. search expr-on))  -- returns
+    (λ c. search root-on))  -- returns-2

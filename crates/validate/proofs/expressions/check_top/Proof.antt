@@ -1,8 +1,7 @@
--- `validate::expressions::check_top` meets its contract: a record by itself, and all below it where that has a site.
--- Assumes nothing.
+-- `validate::expressions::check_top` meets its contract: nothing where the tree has no site, else the walk. Assumes
+-- nothing.
 use borrow.Author.Tests.{not-true}
-use Rattle.validate.proofs.Walks.{expr-on}
-use Rattle.validate.proofs.Sites.{top-quiet}
+use Rattle.validate.proofs.Sites.{top-quiet, top-walked}
 use borrow.Author.Needs.{needs}
 use Rattle.validate.proofs.expressions.check_top.Statement.{statement}
 use Rattle.validate.proofs.expressions.check_top.Tie as tie
@@ -11,20 +10,11 @@ pub check-top-spec : {M : Type 1} → statement M
 check-top-spec =
     tie.close
     (tie.spec
-    (λ c κs. search needs)
     (λ c. search needs)
     (λ c. search needs)
     (λ c. search needs)
     (λ c κs. search needs)
-    (λ c. search needs)
     (λ c. search (top-quiet, not-true))  -- returns
     (λ c κs. search needs)
     (λ c. search needs)
-    (λ c. search needs)
-    (λ c. search needs)
-    (λ c. search needs)
-    (λ c. search needs)
-    (λ c κs. search needs)
-    (λ c. search needs)
-    (λ c. search needs)
-    (λ c. search expr-on))  -- returns-2
+    (λ c. search top-walked))  -- returns-2
