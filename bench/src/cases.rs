@@ -63,7 +63,7 @@ fn trees<'a, 'n>(table: &'a Table<'n>) -> Trees<'a, 'n> {
     Trees { table, spans: Spans::Table }
 }
 
-/// The oracle's reading of a table, as it stands in front of a tree.
+/// The oracle's reading of a table, as it is in front of a tree.
 pub fn read(input: &Input) -> Table<'_> {
     let (table, names) = black_box((&input.table, &input.names));
     Table::check(table, names).unwrap_or_else(|_| unreachable!())

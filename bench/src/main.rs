@@ -177,7 +177,7 @@ fn audit_cases() -> Vec<Case> {
     all
 }
 
-/// Files whole and damaged: cut in the middle and in the last block, with a bad block in the middle, with bytes behind it.
+/// Files whole and damaged: cut in the middle and in the last block, with a bad block in the middle, with bytes after it.
 fn rescue_cases() -> Vec<Case> {
     let damages: [(&str, fn(&mut Vec<u8>)); 5] = [
         ("whole", |_| {}),
@@ -227,7 +227,7 @@ fn name_cases() -> Vec<Case> {
     all
 }
 
-/// How many errors the module of so many nodes has, in words.
+/// How many errors the module of the given number of nodes has, in words.
 fn errors(nodes: usize, dialect: &[u8]) -> String {
     let input = scripts::module(nodes);
     match model::jobs::module(&input.table, &input.names, dialect).errors.len() {

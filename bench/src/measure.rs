@@ -4,7 +4,7 @@ use std::hint::black_box;
 
 use crate::clock;
 
-/// A route runs so many times and says how many nanoseconds it took.
+/// A route runs the given number of times and says how many nanoseconds it took.
 pub struct Route<'a> {
     pub label: &'static str,
     run: Box<dyn FnMut(usize) -> f64 + 'a>,
@@ -41,7 +41,7 @@ impl<'a> Route<'a> {
         (self.run)(times)
     }
 
-    /// How often it must run for a sample of about so many nanoseconds.
+    /// How often it must run for a sample of about the given number of nanoseconds.
     fn times_for(&mut self, sample: f64) -> usize {
         let mut times = 1;
         loop {

@@ -21,7 +21,7 @@ fn long_name(number: usize) -> String {
     format!("{}_{number}", WORDS[number % WORDS.len()])
 }
 
-/// `def f(a, b, c = 1, *, d = 2, **kwargs)` of so many entries, a third of them without a default, and `pass`. The Def is node 0.
+/// `def f(a, b, c = 1, *, d = 2, **kwargs)` of the given number of entries, a third of them without a default, and `pass`. The Def is node 0.
 pub fn parameters(entries: usize) -> Input {
     let mut tables = Tables::default();
     tables.node(kind::DEF, |t| {
@@ -44,7 +44,7 @@ pub fn plain_parameters(entries: usize) -> Input {
     named_parameters(Family::Short, entries)
 }
 
-/// `f(1, 2, a = 3, b = 4, **kwargs)` of so many arguments, a quarter of them positional. The Call is node 1.
+/// `f(1, 2, a = 3, b = 4, **kwargs)` of the given number of arguments, a quarter of them positional. The Call is node 1.
 pub fn arguments(entries: usize) -> Input {
     let mut tables = Tables::default();
     tables.node(kind::SIMPLE, |t| {
@@ -112,7 +112,7 @@ fn text() -> String {
     (0..8_016).map(|_| letter(next() % 52)).collect()
 }
 
-/// So many names of a family, and the text that they stand in where they overlap.
+/// The given number of names of a family, and the text that they are in where they overlap.
 fn names(family: Family, entries: usize) -> (String, Vec<String>) {
     let overlapping = entries >= 1_000;
     let all = if overlapping { text() } else { String::new() };
@@ -132,7 +132,7 @@ fn names(family: Family, entries: usize) -> (String, Vec<String>) {
     (if matches!(family, Family::Short) { String::new() } else { all }, names)
 }
 
-/// `def f(a, b, c)` with so many names of a family, and `pass`. The Def is node 0.
+/// `def f(a, b, c)` with the given number of names of a family, and `pass`. The Def is node 0.
 pub fn named_parameters(family: Family, entries: usize) -> Input {
     let (text, names) = names(family, entries);
     let mut tables = Tables::from_text(&text);
@@ -143,7 +143,7 @@ pub fn named_parameters(family: Family, entries: usize) -> Input {
     input(tables, 0)
 }
 
-/// `f(a = 1, b = 2, c = 3)` with so many names of a family. The Call is node 1.
+/// `f(a = 1, b = 2, c = 3)` with the given number of names of a family. The Call is node 1.
 pub fn named_arguments(family: Family, entries: usize) -> Input {
     let (text, names) = names(family, entries);
     let mut tables = Tables::from_text(&text);
@@ -165,10 +165,10 @@ pub enum Written {
     Shuffled,
 }
 
-/// Where the Def of a binding stands; the Call is the input's node.
+/// Where the Def of a binding is; the Call is the input's node.
 pub const BOUND_DEF: usize = 1;
 
-/// `def f(a, b, c)` with so many parameters without default, and behind it `f(1, 2, 3)` or `f(a = 1, b = 2, c = 3)` with as many arguments.
+/// `def f(a, b, c)` with the given number of parameters without default, and after it `f(1, 2, 3)` or `f(a = 1, b = 2, c = 3)` with as many arguments.
 pub fn binding(entries: usize, written: Written) -> Input {
     let mut tables = Tables::default();
     let mut call = 0;
@@ -226,7 +226,7 @@ pub fn middle_type() -> Input {
     })
 }
 
-/// `typing.Callable[[a, b, ...], c]` with so many types in its list.
+/// `typing.Callable[[a, b, ...], c]` with the given number of types in its list.
 pub fn large_type(items: usize) -> Input {
     typed(|t| {
         t.node(kind::INDEX2, |t| {
@@ -255,8 +255,8 @@ pub fn target(items: usize) -> Input {
     })
 }
 
-/// A module of exactly so many nodes: parts of build scripts in turn, then `pass` for what is left. Extended accepts it; in Standard the
-/// bare `*` of each def and the statements that stand at the top level are errors.
+/// A module of exactly the given number of nodes: parts of build scripts in turn, then `pass` for what is left. Extended accepts it; in Standard the
+/// bare `*` of each def and the statements that are at the top level are errors.
 pub fn module(nodes: usize) -> Input {
     const PARTS: [fn(&mut Tables, usize); 6] = [loads, constants, function, rule, comprehension, top_level];
     let mut tables = Tables::default();

@@ -1,4 +1,4 @@
-//! Tables as a converter of scripts would write them: each name stands once in the name bytes, and all is of source file 1.
+//! Tables as a converter of scripts would write them: each name is once in the name bytes, and all is of source file 1.
 
 use std::collections::BTreeMap;
 
@@ -19,7 +19,7 @@ impl Tables {
         self.records.len()
     }
 
-    /// Name bytes that stand there before any name: a name that occurs in them is taken from there, so that names may overlap.
+    /// Name bytes that are there before any name: a name that occurs in them is taken from there, so that names may overlap.
     pub fn from_text(text: &str) -> Tables {
         Tables { names: text.as_bytes().to_vec(), text: text.len(), ..Tables::default() }
     }

@@ -32,7 +32,7 @@ ROOM = os.path.join(support.ROOT, "target", "page")
 CALLS = "order_{0}(trains, tracks, gap=60)\norder_{0}({1})\n"
 # the time of the load event, or 0 before it
 ENDED = "const e = performance.getEntriesByType('navigation')[0]; return e.loadEventEnd ? e.loadEventEnd - e.startTime : 0"
-# the contrast of each text of the page with what is behind it, by the formula of WCAG 2: those below 4.5
+# the contrast of each text of the page with its background, by the formula of WCAG 2: those below 4.5
 CONTRASTS = """
 const channel = c => (c /= 255) <= 0.03928 ? c / 12.92 : Math.pow((c + 0.055) / 1.055, 2.4);
 const rgb = s => s.match(/[\\d.]+/g).map(Number);

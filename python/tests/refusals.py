@@ -99,7 +99,7 @@ def book(entries):
 
 
 def file(text, at=None, value=None):
-    """A table file, of which a byte may be changed and the sum of its block made right; `more: N` are bytes behind it."""
+    """A table file, of which a byte may be changed and the sum of its block made right; `more: N` are bytes after it."""
     more, _, rest = text.partition("\n") if text.startswith("more: ") else ("", "", text)
     data = table.read_text(rest).file()
     if at is not None:

@@ -42,12 +42,12 @@ def order_{0}(trains, tracks, /, gap=90, *others, **limits):
 
 
 def of_lines(lines):
-    """A script of defs, about so many lines, cut at the end of a def."""
+    """A script of defs, of about the given number of lines, cut at the end of a def."""
     return (HEAD + "".join(DEF.format(at) for at in range((lines - HEAD.count("\n")) // DEF.count("\n")))).encode()
 
 
 def timed(work, lines, times):
-    """The least processor time of so many runs, for a line, and what the last gives."""
+    """The least processor time of the given number of runs, for a line, and what the last gives."""
     best = None
     for _ in range(times):
         began = time.process_time()

@@ -237,7 +237,7 @@ class Limit(CommandTest):
     WORDS = "the parameter list has more than 48 entries, `*` and `/` counted"
 
     def list_of(self, many, front="", back=""):
-        """A def with a list of so many entries, and a lambda with the same."""
+        """A def with a list of the given number of entries, and a lambda with the same."""
         given = (front + back).replace("(Int)", "").count("(")
         entries = front + "".join(f"(Normal p{at})" for at in range(many - given)) + back
         return self.made("long", f"dialect: AllOptionsInternal\n(Statements (Def {entries} (OtherSimple)) (OtherSimple (Lambda {entries} (Int))))")

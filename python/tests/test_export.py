@@ -15,7 +15,7 @@ from ducatmuffin import export, numbers
 from ducatmuffin import table as tables
 from ducatmuffin.parser import FIELDS, joined
 
-# a sample whose text is no tree of its script, so that it can be refused with 3
+# a sample whose text is not a tree of its script, so that it can be refused with 3
 UNSOUND_SAMPLE = "unsound"
 
 # A script, and its tree in the text form. What quotes nothing is the whole script at the root, else its own name, or what
@@ -211,7 +211,7 @@ TOO_LARGE = [
 
 
 def lists(depth):
-    """A script of a statement and so many lists in each other."""
+    """A script of a statement and the given number of nested lists."""
     return "[" * depth + "]" * depth
 
 
@@ -222,7 +222,7 @@ def calls(depth):
 # the most calls in each other: a statement, and a call and its argument for each, and the innermost expression
 MOST_CALLS = (numbers.DEPTH - 2) // (1 + tables.weight(numbers.KIND["Positional"]))
 LETTERS = [f"n{number:02}".ljust(126, "_") for number in range(64)]
-# the largest script within a limit, the smallest beyond it, where that is refused, and what is said
+# the largest script within a limit, the smallest beyond it, where that is refused, and the message
 LIMITS = [
     ("pass\n" * 2099, "pass\n" * 2100, "2100:1", "at most 2100, and this has 2101 nodes"),
     ("\n".join(LETTERS), "\n".join(LETTERS + ["a"]), "65:1", "at most 8064, and this has 8065 bytes of names"),
@@ -435,7 +435,7 @@ def library_functions(files):
 
 
 def packed(functions):
-    """Scripts one behind the other, as many as a table has room for."""
+    """Scripts one after the other, as many as a table has room for."""
     together, nodes, names = "", 1, 0
     for function in functions:
         table, of_names = answered(function)[0]

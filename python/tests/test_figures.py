@@ -109,7 +109,7 @@ class Counts(CommandTest):
         for number, bad in refused_files().items():
             for before in range(3):
                 data = b"".join(GOOD[:before])
-                # what is cut off is whole again where the next file's bytes fill it up, so the cut one stands last
+                # what is cut off is whole again where the next file's bytes fill it up, so the cut one is last
                 after = b"" if number == 70 else GOOD[0]
                 self.assertEqual(self.counted(data + bad + after), Report(modelled(data).figures, number, len(data)))
 
@@ -230,7 +230,7 @@ class Command(CommandTest):
         missing = self.at("missing.table")
         for jobs in ("1", "2"):
             self.says(2, "", f"ducat: {missing}: No such file or directory\n", "figures", "--jobs", jobs, *names, missing)
-        # what stands after a refused file is not read
+        # what is after a refused file is not read
         bad = self.put("bad.table", refused_files()[72])
         self.says(2, text_of(Report(counts_of(GOOD[0]), 72, len(GOOD[0]))), "", "figures", names[0], bad, missing)
         descriptor = os.open(self.room, os.O_RDONLY)

@@ -319,7 +319,7 @@ class Scripts(JoinTest):
         self.assertEqual([line.partition(": ")[0] for line in out.splitlines() if line.startswith("samples")], [f"{ZONE}:4:16", f"{ZONE}:4:15", f"{ZONE}:5:1"])
 
     def test_a_number_without_a_script(self):
-        """Its errors are told in bytes, with a note."""
+        """Its errors are reported in bytes, with a note."""
         note = "    note: source file 1 has no script: --script 1=SCRIPT names it\n"
         self.says(1, f"nodes 52\n13 1 128 133: {numbers.WORDS[13]}\n{note}{IN_ZONE}errors 3\n", "", "check", "--script", f"2={ZONE}", JOINED)
         ran = self.run_ducat("check", "--explain", "--script", f"2={ZONE}", JOINED)

@@ -40,7 +40,7 @@ def summed(data):
 
 
 def refusal(number, *carried, file=None):
-    """A refusal; what has a span has a source file number, 1 where nothing else is said."""
+    """A refusal; what has a span has a source file number, 1 if no other is given."""
     return Refusal(number, numbers.WORDS[number], *carried, file=1 if file is None and len(carried) > 1 else file)
 
 
@@ -357,7 +357,7 @@ class Inputs(unittest.TestCase):
 
 class Threads(unittest.TestCase):
     def test_several_threads(self):
-        """Each thread has its own buffers: what one is told is not what another has asked."""
+        """Each thread has its own buffers: the answer of one does not depend on another."""
         files = [support.sample(f"{name}.table") for name in ("example", "lambda", "take", "unsound", "whole", "statements")]
         expected = [(job("check_file", data), job("read", data), job("rescue", data)) for data in files]
         faults = []

@@ -14,7 +14,7 @@ NAMES = "abcd"
 
 
 def naming(count):
-    """The names of so many entries, up to a change of letters: every choice of which of them are equal."""
+    """The names of the given number of entries, up to a change of letters: every choice of which of them are equal."""
     def further(chosen):
         if len(chosen) == count:
             yield chosen

@@ -7,7 +7,7 @@ import support
 from ducatmuffin import numbers, table
 
 NAME = "n" * 255
-# a text, and what is said of it, with its line
+# a text, and the message about it, with its line
 WRONG = [
     # the tree
     ("", ": there is no tree"),
@@ -249,7 +249,7 @@ names: shared
             self.same(held, b"", bytes(digits[:5] + [number >> 8] + digits[5:]))
 
     def test_every_edition(self):
-        """Any byte of an edition has a text, one that is no edition with `rules: off`."""
+        """Any byte of an edition has a text, one that is not an edition with `rules: off`."""
         held, row = table.encode([table.Record(6, 0, 0, 0, 0, 1, 1, 1)]), numbers.DIALECTS["standard"]
         for edition in range(256):
             text = self.same(held, b"", row, edition)

@@ -1,4 +1,4 @@
-//! Every job from Rust, accepted and refused, with what it makes of the buffer that it is lent. Each line is a small script. A word behind its name
+//! Every job from Rust, accepted and refused, with what it makes of the buffer that it is lent. Each line is a small script. A word after its name
 //! is where a table file is put.
 
 use starlark_checks::check_file;
@@ -46,10 +46,10 @@ const KW_ARGS: u8 = Kind::KwArgsArg as u8;
 /// What each place of a buffer holds before a job.
 const BEFORE: u8 = 9;
 
-/// A tree: a kind, its detail, a name or "", and what stands below it.
+/// A tree: a kind, its detail, a name or "", and what is below it.
 struct Tree(u8, u8, &'static str, Vec<Tree>);
 
-/// The bytes of a tree's table and names. Node i has the span 10 i to 10 i + 7, and a Named's name stands at 10 i + 2. The statements under a root
+/// The bytes of a tree's table and names. Node i has the span 10 i to 10 i + 7, and a Named's name is at 10 i + 2. The statements under a root
 /// Statements are of source files 1, 2 and so on; any other root is of source file 1.
 #[derive(Default)]
 struct Script {
@@ -76,7 +76,7 @@ impl Script {
         self.close(at);
     }
 
-    /// The record of a tree without what stands below it; its first byte. Its size is filled in when it is closed.
+    /// The record of a tree without what is below it; its first byte. Its size is filled in when it is closed.
     fn open(&mut self, tree: &Tree, file: u16) -> usize {
         let Tree(kind, detail, name, _) = tree;
         let at = self.nodes.len();
@@ -321,7 +321,7 @@ fn rescues() {
     show_rescue("cut in its name block", &file[..1023], FILE_BYTES);
 }
 
-/// What a file holds in so many bytes for table and names, and how many of them are no longer what they were.
+/// What a file holds in the given number of bytes for table and names, and how many of them are no longer what they were.
 fn show_read(words: &str, file: &[u8], table_room: usize, names_room: usize) {
     let (mut table, mut names) = (vec![BEFORE; table_room], vec![BEFORE; names_room]);
     let answer = read(file, &mut table, &mut names);

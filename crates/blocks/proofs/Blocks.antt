@@ -207,43 +207,75 @@ module _ (number : ℕ) (content : List ℕ) (fits : length content ≤ 504) whe
       padding = rw first padded-so;
     }
 
--- THEOREM: a block that passes is the block of its content and nothing else
-pub passed-is-block : (number used : ℕ) (bs : List ℕ) → used ≤ 504 → Bytes bs → Passing number used bs
-    → take 512 bs ≡ blockOf number (take used (drop 4 bs))
-unfolding blockOf beforeSum
-passed-is-block number used bs fits small p =
-    let b : List ℕ = take 512 bs in
-    let long : length b ≡ 512 = length-take-le 512 bs (p .long) in
-    let small-b : Bytes b = bytes-take bs 512 small in
-    let f : List ℕ = take 508 b in
-    let long-f : length f ≡ 508 = length-take-le 508 b (omega arith) in
-    let small-f : Bytes f = bytes-take b 508 small-b in
-    let content : List ℕ = take used (drop 4 bs) in
-    let inside : take used (drop 4 f) ≡ content =
-    ap (λ (x : List ℕ). take used (drop 4 x)) (take-take 508 512 bs (omega arith))
-    ∙ ap (take used) (drop-take 4 508 bs) ∙ take-take used 504 (drop 4 bs) fits in
-    let long-c : length content ≡ used = length-take-le used (drop 4 bs)
-    (simp length-drop (omega (arith, p .long))) in
-    let a : take 2 f ≡ bytesOf 2 number = sym (bytes-field 2 f 0 small-f (omega arith))
-    ∙ ap (bytesOf 2) (field-take 2 b 508 0 (omega arith) ∙ p .numbered) in
-    let u : take 2 (drop 2 f) ≡ bytesOf 2 (length content) = sym (bytes-field 2 f 2 small-f (omega arith))
-    ∙ ap (bytesOf 2) (field-take 2 b 508 2 (omega arith) ∙ p .said ∙ sym long-c) in
-    let behind : length (drop (4 + used) f) ≡ 504 - length content = simp length-drop (omega arith) in
-    let z : drop (4 + used) f ≡ replicate (504 - length content) 0 = zeros-are (drop (4 + used) f) (p .padding)
-    ∙ ap (λ (n : ℕ). replicate n 0) behind in
-    let four : drop 4 f ≡ content ++ replicate (504 - length content) 0 =
-    sym (take-append-drop used (drop 4 f)) ∙ rw (inside, drop-drop used 4 f, z) refl in
-    let two : drop 2 f ≡ bytesOf 2 (length content) ++ (content ++ replicate (504 - length content) 0) =
-    sym (take-append-drop 2 (drop 2 f)) ∙ rw (u, drop-drop 2 2 f, four) refl in
-    let front : f ≡ bytesOf 2 number ++ (bytesOf 2 (length content)
-    ++ (content ++ replicate (504 - length content) 0)) =
-    sym (take-append-drop 2 f) ∙ rw (a, two) refl in
-    let sum : sumOf b ≡ sumOf f = ap sumOf (sym (take-append-drop 508 b))
-    ∙ sum-front f (drop 508 b) (omega arith) in
-    let s : drop 508 b ≡ bytesOf 4 (sumOf f) =
-    sym (take-all 4 (drop 508 b) (simp length-drop (omega arith))) ∙ sym (bytes-field 4 b 508 small-b (omega arith))
-    ∙ ap (bytesOf 4) (sym (p .check) ∙ sum) in
-    sym (take-append-drop 508 b) ∙ rw (s, front) refl
+-- the parts of a block that passes: the whole block, the 508 bytes before its sum, and its content
+module _ (number used : ℕ) (bs : List ℕ) (fits : used ≤ 504) (small : Bytes bs) (p : Passing number used bs) where
+  abbrev whole : List ℕ
+  whole = take 512 bs
+
+  abbrev front : List ℕ
+  front = take 508 whole
+
+  abbrev inside : List ℕ
+  inside = take used (drop 4 bs)
+
+  whole-long : length whole ≡ 512
+  whole-long = length-take-le 512 bs (p .long)
+
+  whole-small : Bytes whole
+  whole-small = bytes-take bs 512 small
+
+  front-long : length front ≡ 508
+  front-long = length-take-le 508 whole (omega (arith, whole-long))
+
+  front-small : Bytes front
+  front-small = bytes-take whole 508 whole-small
+
+  inside-long : length inside ≡ used
+  inside-long = length-take-le used (drop 4 bs) (simp length-drop (omega (arith, p .long)))
+
+  -- bytes 0 to 1, and 2 to 3
+  number-part : take 2 front ≡ bytesOf 2 number
+  number-part = sym (bytes-field 2 front 0 front-small (omega (arith, front-long)))
+      ∙ ap (bytesOf 2) (field-take 2 whole 508 0 (omega arith) ∙ p .numbered)
+
+  used-part : take 2 (drop 2 front) ≡ bytesOf 2 (length inside)
+  used-part = sym (bytes-field 2 front 2 front-small (omega (arith, front-long)))
+      ∙ ap (bytesOf 2) (field-take 2 whole 508 2 (omega arith) ∙ p .said ∙ sym inside-long)
+
+  -- from byte 4 on: the content, then zeros
+  padding-part : drop (4 + used) front ≡ replicate (504 - length inside) 0
+  padding-part =
+      let behind : length (drop (4 + used) front) ≡ 504 - length inside =
+      simp length-drop (omega (arith, front-long, inside-long)) in
+      zeros-are (drop (4 + used) front) (p .padding) ∙ ap (λ (n : ℕ). replicate n 0) behind
+
+  content-part : drop 4 front ≡ inside ++ replicate (504 - length inside) 0
+  content-part =
+      let there : take used (drop 4 front) ≡ inside =
+      ap (λ (x : List ℕ). take used (drop 4 x)) (take-take 508 512 bs (omega arith))
+      ∙ ap (take used) (drop-take 4 508 bs) ∙ take-take used 504 (drop 4 bs) fits in
+      sym (take-append-drop used (drop 4 front)) ∙ rw (there, drop-drop used 4 front, padding-part) refl
+
+  -- all bytes before the sum, and the sum
+  front-part : front ≡ beforeSum number inside
+  unfolding beforeSum
+  front-part =
+      let two : drop 2 front ≡ bytesOf 2 (length inside) ++ (inside ++ replicate (504 - length inside) 0) =
+      sym (take-append-drop 2 (drop 2 front)) ∙ rw (used-part, drop-drop 2 2 front, content-part) refl in
+      sym (take-append-drop 2 front) ∙ rw (number-part, two) refl
+
+  sum-part : drop 508 whole ≡ bytesOf 4 (sumOf front)
+  sum-part =
+      let sum : sumOf whole ≡ sumOf front = ap sumOf (sym (take-append-drop 508 whole))
+      ∙ sum-front front (drop 508 whole) (omega (arith, front-long)) in
+      sym (take-all 4 (drop 508 whole) (simp length-drop (omega (arith, whole-long))))
+      ∙ sym (bytes-field 4 whole 508 whole-small (omega (arith, whole-long)))
+      ∙ ap (bytesOf 4) (sym (p .check) ∙ sum)
+
+  -- THEOREM: a block that passes is the block of its content and nothing else
+  pub passed-is-block : take 512 bs ≡ blockOf number (take used (drop 4 bs))
+  unfolding blockOf
+  passed-is-block = sym (take-append-drop 508 whole) ∙ rw (sum-part, front-part) refl
 
 -- THEOREM: if any one byte of a block that passes is changed, the block is refused with 72, whatever number and used
 -- bytes are expected

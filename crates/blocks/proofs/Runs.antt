@@ -292,6 +292,25 @@ unfolding judgeRun runOf
 run-passes number content rest small few = blocks-pass (blocksFor (length content)) number content rest refl small
     few
 
+-- the content of a full first block and of the others, and that of a block that is the last one
+hold-full : (content more : List ℕ) → 504 ≤ length content
+    → take (length (drop 504 content)) more ≡ drop 504 content
+    → take (length content) ((take 504 content ++ replicate (504 - length (take 504 content)) 0) ++ more) ≡ content
+hold-full content more q there =
+    let here : List ℕ = take 504 content in
+    let long : length here ≡ 504 = length-take-le 504 content q in
+    let none : 504 - length here ≡ 0 = omega arith in
+    let all : length content ≡ length here + length (drop 504 content) = omega (arith, length-drop 504 content) in
+    rw (all, none, append-nil here, take-append-add here more (length (drop 504 content)), there)
+    (take-append-drop 504 content)
+
+hold-last : (content more : List ℕ) → length content < 504
+    → take (length content) ((take 504 content ++ replicate (504 - length (take 504 content)) 0) ++ more) ≡ content
+hold-last content more q =
+    let whole : take 504 content ≡ content = take-all 504 content (omega arith) in
+    rw (whole, append-assoc content (replicate (504 - length content) 0) more)
+    (take-at content (replicate (504 - length content) 0 ++ more) (length content) refl)
+
 blocks-hold : (n number : ℕ) (content rest : List ℕ) → length content ≤ 504 * n
     → take (length content) (contents n (blocksOf n number content ++ rest)) ≡ content
 unfolding blocksOf contents
@@ -301,27 +320,16 @@ blocks-hold (suc n) number content rest h =
     let here : List ℕ = take 504 content in
     let fits : length here ≤ 504 = simp length-take (omega arith) in
     let others : List ℕ = blocksOf n (number + 1) (drop 504 content) in
-    let pad : List ℕ = replicate (504 - length here) 0 in
-    let more : List ℕ = contents n (others ++ rest) in
     let less : length (drop 504 content) ≤ 504 * n = simp length-drop (omega arith) in
-    let there : take (length (drop 504 content)) more
-    ≡ drop 504 content = blocks-hold n (number + 1) (drop 504 content) rest less in
     rw (
       append-assoc (blockOf number here) others rest,
       drop-at (blockOf number here) (others ++ rest) 512 (length-block number here fits),
       content-there number here fits (others ++ rest),
     )
     (⊎-elim
-    (λ (q : 504 ≤ length content).
-    let long : length here ≡ 504 = length-take-le 504 content q in
-    let none : 504 - length here ≡ 0 = omega arith in
-    let all : length content ≡ length here + length (drop 504 content) = omega (arith, length-drop 504 content) in
-    rw (all, none, append-nil here, take-append-add here more (length (drop 504 content)), there)
-    (take-append-drop 504 content))
-    (λ (q : length content < 504).
-    let whole : here ≡ content = take-all 504 content (omega arith) in
-    rw (whole, append-assoc content (replicate (504 - length content) 0) more)
-    (take-at content (replicate (504 - length content) 0 ++ more) (length content) refl))
+    (λ (q : 504 ≤ length content). hold-full content (contents n (others ++ rest)) q
+    (blocks-hold n (number + 1) (drop 504 content) rest less))
+    (λ (q : length content < 504). hold-last content (contents n (others ++ rest)) q)
     (le-or-lt 504 (length content)))
 
 pub run-holds : (number : ℕ) (content rest : List ℕ)

@@ -16,13 +16,14 @@ use Rattle.fields.proofs.Basics.{never, and-left, and-right}
 use Rattle.books.specs.declared.Looked.{Looked}
 use Rattle.books.specs.declared.Looked.the-variants.{Zone, Line, Refused}
 use Rattle.books.specs.declared.Changed.{Changed}
-use Rattle.books.specs.declared.Changed.the-variants.{Placed, Refused as Away}
+use Rattle.books.specs.declared.Changed.the-variants.{Placed, Refused as Away, Bare}
 use Rattle.books.specs.Book.{placesOf, placeAt, entryAt, settingOf, soundLength, soundBook, twiceIn, seenIn}
 use Rattle.books.specs.Lookup.{fits, bestSetting, bestIn, told, lookupOf, looked}
 use Rattle.books.specs.Change.{firstIn, emptyAt, forAt, mayAdd, bookNumber, foundOr, placeToAdd, addIn, removeIn}
-use Rattle.books.specs.Change.{addOf, removeOf, blankOf}
+use Rattle.books.specs.Change.{addOf, removeOf, changed, blankOf}
 use Rattle.books.proofs.Changing.{first-inside}
-use Rattle.starlark_checks.specs.Words.{number, words, laid}
+use Rattle.starlark_checks.specs.Words.{number, words, laid, PlaceFits}
+use Rattle.starlark_checks.proofs.Told.{Put}
 
 best-inside : (zone asked : ℕ) (book : List ℕ) (n : ℕ) → bestIn zone asked book n ≤ n
 unfolding bestIn
@@ -126,24 +127,48 @@ module _ (line : Bool) (book : List ℕ) (zone setting b p : ℕ) where
       go true s true e = never (cc)
       go false s t e = never (cc)
 
-module _ (zb lb : List ℕ) (zone setting b p : ℕ) {a : Changed} where
-  pub added-fits : (dialect : List ℕ) → a ≡ addOf zb lb zone setting dialect → a ≡ Placed b p → p < 2 ^ 32
+module _ (zb lb : List ℕ) (zone setting b p : ℕ) where
+  added-small : (dialect : List ℕ) → addOf zb lb zone setting dialect ≡ Placed b p → p < 2 ^ 32
   unfolding addOf
-  added-fits dialect a-is e = go (eqb zone 0) (sym a-is ∙ e)
+  added-small dialect = go (eqb zone 0)
     where
       go : (t : Bool) → if' t (λ _. addIn true lb zone setting dialect) (λ _. addIn false zb zone setting dialect)
           ≡ Placed b p → p < 2 ^ 32
       go true f = add-small true lb zone setting b p dialect f
       go false f = add-small false zb zone setting b p dialect f
 
-  pub removed-fits : a ≡ removeOf zb lb zone setting → a ≡ Placed b p → p < 2 ^ 32
+  removed-small : removeOf zb lb zone setting ≡ Placed b p → p < 2 ^ 32
   unfolding removeOf
-  removed-fits a-is e = go (eqb zone 0) (sym a-is ∙ e)
+  removed-small = go (eqb zone 0)
     where
       go : (t : Bool) → if' t (λ _. removeIn true lb zone setting) (λ _. removeIn false zb zone setting)
           ≡ Placed b p → p < 2 ^ 32
       go true f = remove-small true lb zone setting b p f
       go false f = remove-small false zb zone setting b p f
+
+-- LAW: an answer whose places all fit, and the place of an arm
+places-fit : (a : Changed) → ((b p : ℕ) → a ≡ Placed b p → p < 2 ^ 32) → PlaceFits a
+places-fit (Placed b p) f = f b p refl
+places-fit (Away n b) f = tt
+places-fit (Bare n) f = tt
+
+pub place-fits : {a : Changed} {b p : ℕ} → PlaceFits a → a ≡ Placed b p → p < 2 ^ 32
+place-fits fit e = rw e at fit
+
+module _ (zb lb : List ℕ) (zone setting : ℕ) {a : Changed} {B : Type 0} where
+  pub added-fits : (dialect : List ℕ) → (a ≡ addOf zb lb zone setting dialect) × B → PlaceFits a
+  added-fits dialect (a-is, rest) = places-fit a (λ b p e. added-small zb lb zone setting b p dialect (sym a-is ∙ e))
+
+  pub removed-fits : (a ≡ removeOf zb lb zone setting) × B → PlaceFits a
+  removed-fits (a-is, rest) = places-fit a (λ b p e. removed-small zb lb zone setting b p (sym a-is ∙ e))
+
+-- LAW: what is written for the answer of the code is written for the promised one; B is the promise on the books
+pub changed-told : {a x : Changed} {B : Type 0} {n : ℕ} (xs : List ℕ) {ys : List ℕ} → (a ≡ x) × B
+    → Put words (changed a) n xs ys → (n ≡ number (changed x)) × ((ys ≡ laid (words (changed x)) 0 xs) × B)
+changed-told xs (e, b) (i, w) = (
+  i ∙ ap (λ (c : Changed). number (changed c)) e,
+  (w ∙ ap (λ (c : Changed). laid (words (changed c)) 0 xs) e, b),
+)
 
 -- an arm of the match writes the number and the words of the definition
 module _ (zb lb : List ℕ) (zone setting : ℕ) {l : Looked} (l-is : l ≡ lookupOf zb lb zone setting) where

@@ -1,7 +1,7 @@
 -- The answers as a C caller gets them: the number that is returned, and the twelve words at exit, from a job's answer.
 -- These are definitions.
 use mathlib.Core.List.{List, [], _∷_, _++_}
-use Prim.Native.Nat.{ℕ, _+_, _/_, _%_, _≤_}
+use Prim.Native.Nat.{ℕ, _+_, _/_, _%_, _<_, _≤_, _^_}
 use lib.Dec.{eqb}
 use lib.ListN.{set, getD, take, drop}
 use Rattle.fields.specs.Choice.{if'}
@@ -11,6 +11,8 @@ use Rattle.dialect.specs.declared.Stated.the-variants.{Number, Nothing}
 use Rattle.table.specs.Answer.{Answer, accepted, refused, andThen}
 use Rattle.tablefile.specs.Reading.{headerAt, contentAt, numberHeld}
 use Rattle.tablefile.specs.Lending.{intoCheck}
+use Rattle.books.specs.declared.Changed.{Changed}
+use Rattle.books.specs.declared.Changed.the-variants.{Placed, Refused, Bare}
 
 -- the number that is returned: 0 for accepted
 abbrev pub number : Answer → ℕ
@@ -94,3 +96,9 @@ laid (v ∷ vs) i xs = laid vs (i + 1) (set xs i v)
 abbrev pub Fit : List ℕ → Type 0
 Fit [] = Unit {0}
 Fit (v ∷ vs) = (v ≤ 4294967295) × Fit vs
+
+-- the place in the answer of an addition or a removal fits a word
+abbrev pub PlaceFits : Changed → Type 0
+PlaceFits (Placed book place) = place < 2 ^ 32
+PlaceFits (Refused n book) = Unit {0}
+PlaceFits (Bare n) = Unit {0}

@@ -50,7 +50,7 @@ ghost use Rattle.books.specs.Change.{addOf, zoneAdded, lineAdded, removeOf, zon
 ghost use Rattle.books.specs.Change.{blankOf, blankAfter};
 ghost use Rattle.starlark_checks.specs.Words.{number, words, callWords, rescueWords, laid, Fit, placeIn};
 ghost use Rattle.starlark_checks.specs.Words.{statedOf, statedWord, frontValues, editionValues};
-ghost use Rattle.starlark_checks.specs.Words.{heldValues, readOf, passWords};
+ghost use Rattle.starlark_checks.specs.Words.{heldValues, readOf, passWords, PlaceFits};
 ghost use Rattle.starlark_checks.specs.Version.{version};
 ghost use Rattle.figures.specs.Reporting.{stepOf, figuresAfter, reportOf};
 ghost use Rattle.starlark_checks.specs.FigureWords.{endingNumber, endingWords, stepAnswer};
@@ -676,6 +676,19 @@ fn put_book(n: u32, book: u32, out: &mut [u32; 12]) -> u32
     n
 }
 
+// Writes the answer of an addition or a removal, whose place fits a word.
+fn put_changed(answer: Changed, out: &mut [u32; 12]) -> u32
+    requires { ⌜ PlaceFits answer ⌝ }
+    ensures { λ r. ⌜ r ≡ number (changed answer) ⌝ }
+    ensures { λ r. ⌜ now (out .exit) ≡ laid (words (changed answer)) 0 (now (out .entry)) ⌝ }
+{
+    match answer {
+        Changed::Placed(book, place) => put_two(book, place as u32, out),
+        Changed::Refused(n, book) => put_book(n, book, out),
+        Changed::Bare(n) => n,
+    }
+}
+
 // The lookup in two books: writes the book, 0 the zone book or 1 the line book, and the position of the nine bytes in
 // it.
 #[no_mangle]
@@ -723,11 +736,7 @@ pub extern "C" fn starlark_book_add(
         lineAdded (now («zone_book» .entry)) (now («line_book» .entry)) zone setting (now (dialect .entry)) ⌝ }
 {
     let answer = books::add(zone_book, line_book, zone, setting, dialect);
-    match answer {
-        Changed::Placed(book, place) => put_two(book, place as u32, out),
-        Changed::Refused(n, book) => put_book(n, book, out),
-        Changed::Bare(n) => n,
-    }
+    put_changed(answer, out)
 }
 
 // Removes the entry of exactly this zone and setting from its book: writes the book and the place.
@@ -750,11 +759,7 @@ pub extern "C" fn starlark_book_remove(
         lineRemoved (now («zone_book» .entry)) (now («line_book» .entry)) zone setting ⌝ }
 {
     let answer = books::remove(zone_book, line_book, zone, setting);
-    match answer {
-        Changed::Placed(book, place) => put_two(book, place as u32, out),
-        Changed::Refused(n, book) => put_book(n, book, out),
-        Changed::Bare(n) => n,
-    }
+    put_changed(answer, out)
 }
 
 // Makes an empty book of a buffer of 1 to 100 blocks; any other length is 95.

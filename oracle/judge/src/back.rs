@@ -41,7 +41,7 @@ pub fn must_be_the_table(table: &Table, tree: &AstStmt) -> Vec<Place> {
     assert_eq!(rows.all.len(), table.records.len(), "a tree has a record for each of the table's");
     for (node, row) in rows.all.iter().enumerate() {
         let record = &table.records[node];
-        // The crate's targets do not tell a list from a tuple.
+        // The crate's targets do not distinguish a list and a tuple.
         let kind = if rows.targets.contains(&node) { kind::TUPLE } else { record.kind };
         let size = table.size(node);
         let expected = Row { kind, detail: record.detail, name: table.name(node).to_vec(), size, node };

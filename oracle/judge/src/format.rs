@@ -18,7 +18,7 @@ use crate::messages;
 use crate::trees::Built;
 use crate::trees::NotATree;
 
-/// Where the f-string stands.
+/// Where the f-string is.
 const BEGIN: usize = 3;
 const END: usize = 11;
 

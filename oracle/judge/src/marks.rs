@@ -1,4 +1,4 @@
-//! Spans that tell which record they came from.
+//! Spans that identify the record they came from.
 //!
 //! The crate only carries spans along. So its trees get a span of their own for each record, and from the
 //! span of an error one sees which record it is at, even where a table repeats its positions.

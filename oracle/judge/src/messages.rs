@@ -48,7 +48,7 @@ const WHOLE: &[(&str, u32)] = &[
     ("Your Starlark dialect must enable f-strings to use them", number::F_STRINGS_DISABLED),
 ];
 
-/// Messages with a changing part: how they begin, what stands in them, the number.
+/// Messages with a changing part: how they begin, what is in them, the number.
 const PARTS: &[(&str, &str, u32)] = &[
     ("`", ".type` is not allowed in type expression, use `", number::DOT_TYPE_BAN),
     ("", " expression is not allowed in type expression", number::INVALID_TYPE),

@@ -307,7 +307,7 @@ impl<'a, 'n> Module<'a, 'n> {
         Judged { by_statement: answer(self.by_statement(dialect)), whole: self.whole(dialect).map(answer) }
     }
 
-    /// The errors of one module: those of statements in the crate's order, and those of expressions. The errors of each expression stand in
+    /// The errors of one module: those of statements in the crate's order, and those of expressions. The errors of each expression are in
     /// the crate's order, and the expressions in table order, since the crate's is not known.
     fn listed(&self, module: &AstStmt, file: u32, dialect: &Dialect) -> (Vec<Told>, Vec<Told>) {
         let mut statements = Vec::new();
@@ -348,7 +348,7 @@ impl<'a, 'n> Audit<'a, 'n> {
         Audit { table, module: Module::of(table) }
     }
 
-    /// The whole list, where the whole table is a tree of the crate; where its functions are run is told by that tree.
+    /// The whole list, where the whole table is a tree of the crate; that tree determines where its functions are run.
     pub fn judged(&self, dialect: &Dialect) -> Built<Judged> {
         let module = self.module.as_ref().map_err(|none| *none)?;
         let mut refused: Vec<Found> = Vec::new();
@@ -368,7 +368,7 @@ impl<'a, 'n> Audit<'a, 'n> {
         Ok(Judged { by_statement: answer(module.by_statement(dialect)), whole })
     }
 
-    /// Of a table that is no tree: what the crate says of those of these places that are.
+    /// Of a table that is not a tree: what the crate says of those of these places that are.
     pub fn parts<'s>(
         &'s self,
         dialect: &'s Dialect,

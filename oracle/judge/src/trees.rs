@@ -47,7 +47,7 @@ use starlark_syntax::syntax::grammar_util::check_assign;
 
 use crate::marks;
 
-/// This part of the table is no tree of the crate.
+/// This part of the table is not a tree of the crate.
 #[derive(Clone, Copy, Debug, PartialEq, Eq)]
 pub struct NotATree;
 
@@ -56,7 +56,7 @@ pub type Built<T> = Result<T, NotATree>;
 /// Which spans a tree has.
 #[derive(Clone, Copy, Debug, PartialEq, Eq)]
 pub enum Spans {
-    /// One of its own for each record, to tell it by.
+    /// One of its own for each record, to identify it.
     Marks,
     /// Those of the table.
     Table,
@@ -67,7 +67,7 @@ pub struct Trees<'a, 'n> {
     pub spans: Spans,
 }
 
-/// Operators that are not `|`; which one stands in a tree does not matter.
+/// Operators that are not `|`; which one is in a tree does not matter.
 const OTHER_OPS: [BinOp; 20] = [
     BinOp::Or,
     BinOp::And,
@@ -251,7 +251,7 @@ impl Trees<'_, '_> {
         Ok(self.spanned(node, TypeExprP { expr, payload: () }))
     }
 
-    /// Only what the crate's own rule takes as a target can stand in its trees as one.
+    /// Only what the crate's own rule takes as a target can be in its trees as one.
     fn target(&self, node: usize) -> Built<AstAssignTarget> {
         check_assign(CodeMap::empty_static(), self.expression(node)?).map_err(|_| NotATree)
     }

@@ -1,4 +1,4 @@
-//! The runner, linked with the archive that is compared. It stands apart from the runner, so that another archive is a link and no build.
+//! The runner, linked with the archive that is compared. It is separate from the runner, so that another archive needs only a link.
 
 fn main() -> std::process::ExitCode {
     runner::main()

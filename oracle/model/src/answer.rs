@@ -49,24 +49,24 @@ impl Refusal {
     }
 }
 
-/// A job's whole effect: the number (0: accepted), the first words of `out`, and what the lent buffer gets.
+/// A job's whole effect: the number (0: accepted), the first words of `out`, and what the buffer gets.
 #[derive(Clone, Debug, Default, PartialEq, Eq)]
 pub struct Answer {
     pub number: u32,
     pub words: Vec<u32>,
-    /// For a mode or shape buffer, from its start; 0 where the lent byte stays (no mode or shape is 0).
+    /// For a mode or shape buffer, from its start; 0 where the byte stays (no mode or shape is 0).
     pub bytes: Vec<u8>,
     /// The module pass's errors: number, file, begin, end.
     pub errors: Vec<[u32; ERROR_WORDS]>,
     /// The audit's errors: number, file, begin, end, node.
     pub audited: Vec<[u32; AUDIT_WORDS]>,
-    /// A table file, or a table that is read, which goes to the start of the lent buffer byte by byte.
+    /// A table file, or a table that is read, which goes to the start of the buffer byte by byte.
     pub file: Vec<u8>,
-    /// Names that are read, which go to the start of the second lent buffer.
+    /// Names that are read, which go to the start of the second buffer.
     pub names: Vec<u8>,
-    /// A binding or the parts of a format text, which go to the start of the lent list word by word.
+    /// A binding or the parts of a format text, which go to the start of the list word by word.
     pub list: Vec<u32>,
-    /// The counts of figures, which are written whole; none where the lent ones stay.
+    /// The counts of figures, which are written whole; none where they stay.
     pub counts: Vec<u64>,
     /// A notice beside an accepted answer (62), which is among its words too; 0 where there is none.
     pub notice: u32,

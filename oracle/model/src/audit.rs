@@ -20,7 +20,7 @@ use crate::written::argument_refusal;
 use crate::written::unpacked;
 use crate::written::Written;
 
-/// A job beside the module pass, in the order in which what is refused at one record is told.
+/// A job beside the module pass, in the order in which the refusals at one record are reported.
 #[derive(Clone, Copy, Debug, PartialEq, Eq, PartialOrd, Ord)]
 pub enum Job {
     Params,
@@ -50,7 +50,7 @@ pub fn audit(table: &Table, dialect: &Dialect, edition: Edition) -> Vec<Refusal>
     if planted(Fault::AuditJobsFirst) { [refused, own].concat() } else { [own, refused].concat() }
 }
 
-/// Where each job is asked, in table order.
+/// Where each job is run, in table order.
 pub fn places(table: &Table) -> Vec<Place> {
     let mut places: Vec<Place> = (0..table.records.len()).flat_map(|node| places_of(table, node)).collect();
     places.sort();
@@ -60,7 +60,7 @@ pub fn places(table: &Table) -> Vec<Place> {
     places
 }
 
-/// The job on a record itself, and those on what stands below it: a For's target, a type.
+/// The job on a record itself, and those on what is below it: a For's target, a type.
 fn places_of(table: &Table, node: usize) -> impl Iterator<Item = Place> {
     let own = match table.kind(node) {
         kind::DEF | kind::LAMBDA => Some(Job::Params),

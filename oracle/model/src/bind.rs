@@ -37,7 +37,7 @@ impl Parameter<'_> {
     }
 }
 
-/// What a refusal stands at: an argument by its place in the call, or a parameter by its flat index.
+/// The place of a refusal: an argument by its place in the call, or a parameter by its flat index.
 #[derive(Clone, Copy, Debug, PartialEq, Eq)]
 pub enum At {
     Argument(usize),

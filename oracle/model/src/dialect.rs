@@ -12,7 +12,7 @@ pub const STANDARD: [u8; BYTES] = [1, 1, 1, 0, 0, 0, 1, 0, 0];
 pub const EXTENDED: [u8; BYTES] = [1, 1, 1, 1, 0, 2, 1, 1, 0];
 pub const ALL_OPTIONS_INTERNAL: [u8; BYTES] = [1, 1, 1, 1, 1, 2, 1, 1, 1];
 
-/// Where `enable_types` stands: it has three values, the others two.
+/// Where `enable_types` is: it has three values, the others two.
 pub const TYPES_AT: usize = 5;
 
 #[derive(Clone, Copy, Debug, PartialEq, Eq)]
@@ -79,7 +79,7 @@ pub fn edition(number: u32) -> Result<Edition, Refusal> {
     }
 }
 
-/// What a file says of it: no byte, or one byte behind a dialect's nine.
+/// What a file says of it: no byte, or one byte after a dialect's nine.
 pub fn edition_in_file(dialect: &[u8], byte: Option<u8>) -> Result<Edition, Refusal> {
     match byte {
         None => Ok(Edition::One),

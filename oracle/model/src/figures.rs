@@ -14,7 +14,7 @@ use crate::table::RECORD_BYTES;
 pub const COUNTS: usize = 32;
 pub const MOST_FILES: u64 = 4_294_967_295;
 
-/// Where each count stands; the first mode, and the first errors of both rows.
+/// Where each count is; the first mode, and the first errors of both rows.
 pub const FILES: usize = 0;
 pub const NODES: usize = 1;
 pub const LISTS: usize = 2;
@@ -89,7 +89,7 @@ fn front(window: &[u8], files: u64) -> Result<(usize, Counts), u32> {
     Ok((taken, of_file(&held)))
 }
 
-/// The step: the counts of one file more, held to 64 bits, and how many bytes it takes.
+/// The step: the counts of one file more, limited to 64 bits, and how many bytes it takes.
 pub fn step(window: &[u8], counts: &Counts) -> Result<(usize, Counts), u32> {
     let (taken, more) = front(window, counts[FILES])?;
     let wraps = planted(Fault::FiguresSumsWrapped);

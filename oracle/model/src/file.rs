@@ -14,7 +14,7 @@ pub const BLOCK: usize = 512;
 pub const CONTENT: usize = 504;
 const CONTENT_AT: usize = 4;
 const CHECK_AT: usize = 508;
-/// Only whole records stand in a block.
+/// A block has only whole records.
 const NODE_CONTENT: usize = 21 * RECORD_BYTES;
 const COUNTS: usize = 4;
 /// How many bytes block 0 uses; the last is for a planted fault alone.
@@ -37,7 +37,7 @@ pub struct Header {
     pub edition: Option<u8>,
 }
 
-/// The sum that stands at a block's end.
+/// The sum that is at a block's end.
 pub fn check_sum(block: &[u8]) -> u32 {
     let first = if planted(Fault::SumFactorFromZero) { 0 } else { 1 };
     block[..CHECK_AT].iter().zip(first..).map(|(&byte, factor)| u32::from(byte) * factor).sum()

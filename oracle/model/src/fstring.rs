@@ -129,7 +129,7 @@ pub fn parts_in(text: &[u8]) -> Result<Vec<Part>, usize> {
     Ok(if planted(Fault::TextsNotJoined) { parts } else { normal(&parts) })
 }
 
-/// The writer: 5, 64, then 7 for a buffer of so many bytes.
+/// The writer: 5, 64, then 7 for a buffer of the given number of bytes.
 pub fn write(words: &[u32], texts: &[u8], dialect: &[u8], room: usize) -> Result<Answer, Refusal> {
     let dialect = dialect::from_bytes(dialect)?;
     let short = Refusal::bare(number::SHORT_BUFFER);
@@ -149,7 +149,7 @@ pub fn write(words: &[u32], texts: &[u8], dialect: &[u8], room: usize) -> Result
     Ok(Answer { file: text, notice, ..Answer::accepted(words) })
 }
 
-/// The reader, into so many words and bytes: 63 with its position, then 7.
+/// The reader, into the given number of words and bytes: 63 with its position, then 7.
 pub fn read(text: &[u8], words_room: usize, texts_room: usize) -> Answer {
     let short = || Answer::from(Refusal::bare(number::SHORT_BUFFER));
     if planted(Fault::ShortBeforeStray) && words_room < 2 {

@@ -102,7 +102,7 @@ fn called_answer(called: &Called) -> Answer {
     Answer::accepted(vec![called.positional, called.named, place(called.star), place(called.star_star)])
 }
 
-/// The binding of a Call's arguments to a Def's parameters, into a list of so many words.
+/// The binding of a Call's arguments to a Def's parameters, into a list of the given number of words.
 pub fn bind(table: &[u8], names: &[u8], call: usize, def: usize, room: usize) -> Answer {
     answered(Table::check(table, names).and_then(|table| {
         table.wanted_node(call, |kind| kind == kind::CALL)?;
@@ -173,7 +173,7 @@ fn refused_type(refusal: Refusal, node: usize) -> Answer {
     refused
 }
 
-/// All errors, whatever fits: the lent list takes the first of them that fit whole.
+/// All errors, whatever fits: the list takes the first of them that fit whole.
 pub fn module(table: &[u8], names: &[u8], dialect: &[u8]) -> Answer {
     answered(Table::check(table, names).and_then(|table| {
         let dialect = dialect::from_bytes(dialect)?;
@@ -181,7 +181,7 @@ pub fn module(table: &[u8], names: &[u8], dialect: &[u8]) -> Answer {
     }))
 }
 
-/// The table file, into a buffer of so many bytes. An edition of NONE is none.
+/// The table file, into a buffer of the given number of bytes. An edition of NONE is none.
 pub fn write(table: &[u8], names: &[u8], dialect: &[u8], edition: u32, room: usize) -> Answer {
     answered(Table::check(table, names).and_then(|_| {
         dialect::from_bytes(dialect)?;
@@ -194,7 +194,7 @@ pub fn write(table: &[u8], names: &[u8], dialect: &[u8], edition: u32, room: usi
     }))
 }
 
-/// The edition byte that the writer writes: none, or a number, 1 or 2, behind a dialect.
+/// The edition byte that the writer writes: none, or a number, 1 or 2, after a dialect.
 fn edition_to_write(dialect: &[u8], edition: u32) -> Result<Option<u8>, Refusal> {
     if edition == NONE {
         return Ok(None);
@@ -205,7 +205,7 @@ fn edition_to_write(dialect: &[u8], edition: u32) -> Result<Option<u8>, Refusal>
     Ok(byte.filter(|_| edition != 1 || !planted(Fault::EditionOneNotWritten)))
 }
 
-/// The rescue of a damaged file, into a buffer of so many bytes: 90, 91, then 7.
+/// The rescue of a damaged file, into a buffer of the given number of bytes: 90, 91, then 7.
 pub fn rescue(input: &[u8], room: usize) -> Answer {
     if planted(Fault::ShortBeforeNothingKept) && room < file::BLOCK {
         return Answer::from(Refusal::bare(number::SHORT_BUFFER));
@@ -230,7 +230,7 @@ pub fn audit(table: &[u8], names: &[u8], dialect: &[u8], edition: u32) -> Answer
     }))
 }
 
-/// The reader, into buffers of so many bytes: its refusals, then 7.
+/// The reader, into buffers of the given number of bytes: its refusals, then 7.
 pub fn read(file: &[u8], table: usize, names: usize) -> Answer {
     if planted(Fault::ReadShortFirst) && table < RECORD_BYTES {
         return Answer::from(Refusal::bare(number::SHORT_BUFFER));
@@ -261,7 +261,7 @@ fn dialect_words(dialect: &[u8]) -> [u32; 4] {
     [is_there, word(0), word(4), word(8)]
 }
 
-/// The edition byte as it stands, or NONE; and the edition that holds.
+/// The edition byte, or NONE; and the edition that applies.
 fn edition_words(edition: Option<u8>) -> [u32; 2] {
     let stands = edition.map_or(if planted(Fault::ReadOneForNoEdition) { 1 } else { NONE }, u32::from);
     let holds = edition.map_or(if planted(Fault::ReadNoEditionHolds) { NONE } else { 1 }, u32::from);
@@ -293,12 +293,12 @@ pub fn printed(file: &[u8]) -> String {
     format!("nodes {nodes}\n{}errors {}\n", lines.collect::<String>(), answer.errors.len())
 }
 
-/// The format text of parts, into a buffer of so many bytes.
+/// The format text of parts, into a buffer of the given number of bytes.
 pub fn fstring_write(words: &[u32], texts: &[u8], dialect: &[u8], room: usize) -> Answer {
     answered(fstring::write(words, texts, dialect, room))
 }
 
-/// The parts of a format text, into so many words and bytes.
+/// The parts of a format text, into the given number of words and bytes.
 pub fn fstring_read(text: &[u8], words: usize, texts: usize) -> Answer {
     fstring::read(text, words, texts)
 }

@@ -45,7 +45,7 @@ impl Unpacked {
         [&self.pos_only, &self.pos_or_named, &self.args, &self.named_only, &self.kwargs]
     }
 
-    /// A mode for each flat parameter: that of the range it stands in.
+    /// A mode for each flat parameter: that of the range it is in.
     pub fn modes(&self) -> Vec<u8> {
         const MODES: [u8; 5] = [mode::POS_ONLY, mode::POS_OR_NAME, mode::ARGS, mode::NAME_ONLY, mode::KWARGS];
         let mut modes = vec![0; self.flat as usize];
@@ -85,7 +85,7 @@ pub fn unpack(entries: &[Entry]) -> Result<Unpacked, At> {
 struct Walk {
     seen: Seen,
     default_seen: bool,
-    /// Where the bare `*` stands.
+    /// Where the bare `*` is.
     star: Option<usize>,
 }
 
@@ -162,7 +162,7 @@ fn check_after_star(entries: &[Entry], star: usize) -> Result<(), At> {
     }
 }
 
-/// The ranges of an accepted list, read off from where its marks and stars stand.
+/// The ranges of an accepted list, read off from where its marks and stars are.
 fn ranges(entries: &[Entry]) -> Unpacked {
     let flat_before = |at: usize| entries[..at].iter().filter(|e| !e.is_mark()).count() as u32;
     let place = |wanted: u8| entries.iter().position(|e| e.kind == wanted);

@@ -1,5 +1,5 @@
-//! Faults that can be planted one at a time, to see whether the comparison finds them: in the stand-in, which the model must tell,
-//! in the stand-in and the runner's model alike, which the crate alone can tell, or in the runner, which its least counts tell.
+//! Faults that can be planted one at a time, to see whether the comparison finds them: in the stand-in, which the model must detect,
+//! in both the stand-in and the runner's model, which only the crate can detect, or in the runner, which its least counts detect.
 //!
 //! Without the feature `faults` none is ever planted. With it, the environment variable ORACLE_FAULT names the one that is, for the
 //! runner's model ORACLE_MODEL_FAULT. oracle/faults.list says what each does.

@@ -15,7 +15,7 @@ use crate::table::Record;
 use crate::table::Table;
 use crate::table::RECORD_BYTES;
 
-/// What is kept of a file: the sound file, and what is told of it.
+/// What is kept of a file: the sound file, and what is reported about it.
 pub struct Rescued {
     pub file: Vec<u8>,
     pub statements: usize,

@@ -1,4 +1,4 @@
-//! The node table: records, which of them are sound, and how deep they stand.
+//! The node table: records, which of them are sound, and how deep they are.
 
 use crate::answer::Refusal;
 use crate::answer::Span;
@@ -70,7 +70,7 @@ impl Record {
         Span { file: u32::from(self.file), begin: self.begin, end: self.end }
     }
 
-    /// Where the name of a named argument stands in the source.
+    /// Where the name of a named argument is in the source.
     pub fn name_span(&self) -> Span {
         Span { begin: self.source, end: self.source + u32::from(self.name_len), ..self.span() }
     }
@@ -111,7 +111,7 @@ pub fn most_detail(kind: u8) -> u8 {
     }
 }
 
-/// One part of a record's children: at least and at most so many of a class.
+/// One part of a record's children: the least and the most number of a class.
 #[derive(Clone, Copy)]
 pub struct Part {
     pub class: Class,
@@ -294,11 +294,11 @@ impl<'a> Table<'a> {
         child == end && classes_fit(record, &classes)
     }
 
-    /// The first node, in index order, that stands deeper than permitted. The root has depth 1. Statements and expressions stand one deeper
+    /// The first node, in index order, that is deeper than permitted. The root has depth 1. Statements and expressions are one deeper
     /// than their parent, a parameter or an argument as deep as its parent (W-206).
     fn check_depth(&self) -> Result<(), Refusal> {
         let most = MOST_DEPTH + usize::from(planted(Fault::DepthOneMore));
-        // Of the subtrees that are open: where each ends, and how deep its first record stands.
+        // Of the subtrees that are open: where each ends, and how deep its first record is.
         let mut open: Vec<(usize, usize)> = Vec::new();
         for (node, record) in self.records.iter().enumerate() {
             while open.last().is_some_and(|&(end, _)| end <= node) {

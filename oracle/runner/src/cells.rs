@@ -11,7 +11,7 @@ use model::table::RECORD_BYTES;
 
 use crate::rng::Rng;
 
-/// Where the number of the source file stands in a record.
+/// Where the number of the source file is in a record.
 pub const FILE_AT: usize = 18;
 
 /// One record to be: its name is a number, spelled when the table is written.
@@ -136,7 +136,7 @@ pub fn letters(name: u8) -> String {
     String::from_utf8(spelled(Spelling::Letters, name)).expect("letters are text")
 }
 
-/// Where spans stand.
+/// Where spans are.
 #[derive(Clone, Copy, Debug, PartialEq, Eq)]
 pub enum Spans {
     /// Each record has its own.
@@ -150,7 +150,7 @@ pub enum Spans {
 pub enum Files {
     /// All of one.
     One(u16),
-    /// One number after another from 1 to so many, and from 1 on again: many statements share one.
+    /// One number after another from 1 to a limit, and from 1 on again: many statements share one.
     Turns(u16),
     /// Each has a number of its own, by this seed.
     Each(u64),
@@ -186,7 +186,7 @@ pub fn write_files(table: &mut [u8], files: Files) {
 #[derive(Clone, Copy, Debug)]
 pub struct Style {
     pub spelling: Spelling,
-    /// Equal names stand once in the name bytes, or once for each use.
+    /// Equal names are stored once in the name bytes, or once for each use.
     pub shared: bool,
     pub spans: Spans,
     pub files: Files,

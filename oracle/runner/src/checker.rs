@@ -37,7 +37,7 @@ use crate::port::JOBS;
 use crate::port::NAMES;
 use crate::record::Recorder;
 
-/// How often the crate is asked once more with the table's own spans.
+/// How often the crate is called once more with the table's own spans.
 const OWN_SPANS_ONCE_IN: u64 = 16;
 
 /// One more than the greatest number.
@@ -53,7 +53,7 @@ pub struct Tally {
     pub by_crate: u64,
     /// Jobs refused with 1 to 7, which the crate does not have.
     pub refused: u64,
-    /// Comparisons that are no jobs: of the model with the document, with demand 3, with the crate's constants, with Python.
+    /// Comparisons that are not jobs: of the model with the document, with demand 3, with the crate's constants, with Python.
     pub others: u64,
     /// Of these, calls that Python has made.
     pub by_python: u64,
@@ -212,7 +212,7 @@ impl Checker {
         }
     }
 
-    /// Of a table that is no tree of the crate, the parts that are trees: each must have what the model tells there.
+    /// Of a table that is not a tree of the crate, the parts that are trees: each must have what the model gives there.
     fn check_parts(&mut self, request: &Request, table: &Table, judge: &run::Audit, dialect: &[u8]) {
         let of_crate = dialects::from_bytes(dialect);
         let of_model = model::dialect::from_bytes(dialect).expect("the audit has accepted it");
@@ -274,7 +274,7 @@ impl Checker {
         self.kept.extend_from_slice(request.names);
     }
 
-    /// What is only lent to be read must be as it was.
+    /// Memory that is only read must be unchanged.
     fn inputs_are_kept(&self, request: &Request) -> bool {
         let (table, names) = self.kept.split_at(front(request.table).len());
         table == front(request.table) && names == request.names
@@ -343,7 +343,7 @@ impl Checker {
         self.note(equal, what);
     }
 
-    /// A comparison that is no job.
+    /// A comparison that is not a job.
     pub fn note(&mut self, equal: bool, what: impl FnOnce() -> String) {
         self.tally.others += 1;
         self.difference_unless(equal, what);
@@ -357,7 +357,7 @@ impl Checker {
     }
 }
 
-/// What stops the run (a message that is not known, an internal error) is said with the input that did it.
+/// What stops the run (a message that is not known, an internal error) is printed with the input that caused it.
 fn or_stop<T>(request: &Request, judge: impl FnOnce() -> T) -> T {
     std::panic::catch_unwind(std::panic::AssertUnwindSafe(judge)).unwrap_or_else(|_| {
         let Request { table, names, job } = request;

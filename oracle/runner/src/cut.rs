@@ -67,7 +67,7 @@ fn names_are_distinct(list: &[Entry]) -> bool {
     (1..names.len()).all(|at| !names[..at].contains(&names[at]))
 }
 
-/// In the first two parts none without default stands after one with.
+/// In the first two parts none without default is after one with.
 fn defaults_are_last(part: &[Entry]) -> bool {
     let normals = part.iter().filter(|entry| entry.kind == kind::NORMAL);
     normals.skip_while(|entry| !entry.has_default).all(|entry| entry.has_default)

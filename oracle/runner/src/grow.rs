@@ -164,7 +164,7 @@ impl<'r> Grower<'r> {
         self.rng.within(usize::from(kind::POSITIONAL), usize::from(kind::STAR_STAR_ARGUMENT)) as u8
     }
 
-    /// What may stand on the left of an assignment.
+    /// What may be on the left of an assignment.
     pub fn target(&mut self) {
         let kinds = [kind::IDENTIFIER, kind::IDENTIFIER, kind::DOT, kind::INDEX, kind::TUPLE, kind::LIST];
         let kind = if self.is_full() { kind::IDENTIFIER } else { self.rng.pick(&kinds) };
@@ -277,7 +277,7 @@ pub fn module(rng: &mut Rng, wild: bool) -> Cells {
     grower.cells
 }
 
-/// A module of about so many records.
+/// A module of about the given number of records.
 pub fn large_module(rng: &mut Rng, records: usize, wild: bool) -> Cells {
     let mut cells = Cells::default();
     let root = cells.open(kind::STATEMENTS, 0, 0);

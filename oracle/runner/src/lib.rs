@@ -101,7 +101,7 @@ fn write_sample(path: &str, done: &[Done]) {
     println!("{crate_s} answers of the crate and {model_s} of the model, {} bytes, are in {path}", bytes.len());
 }
 
-/// The parts of the families that are asked for, in order.
+/// The parts of the families that are requested, in order.
 fn items(options: &Options) -> Vec<Item<'static>> {
     let plan = |part: u64, parts: u64| Plan {
         seed: options.seed,

@@ -76,7 +76,7 @@ impl Options {
         self.scale > 1
     }
 
-    /// Whether all families of the jobs asked for are run to their end.
+    /// Whether all families of the requested jobs are run to their end.
     pub fn is_whole(&self) -> bool {
         self.only.is_none() && !self.stop
     }
@@ -86,13 +86,13 @@ impl Options {
         self.is_whole() && !self.chosen
     }
 
-    /// Whether a family is run with all its jobs and inputs, so that its counts tell something.
+    /// Whether a family is run with all its jobs and inputs, so that its counts are meaningful.
     pub fn runs_to_its_end(&self, family: &Family) -> bool {
         let has_program = self.program.is_some() || family.jobs != 1 << FILE;
         !self.stop && !self.chosen && has_program && self.asks(family)
     }
 
-    /// Whether a family is to be run: its name is asked for, and one of its jobs is.
+    /// Whether a family is to be run: its name is requested, and one of its jobs.
     pub fn asks(&self, family: &Family) -> bool {
         let named = self.only.as_ref().is_none_or(|only| family.name.contains(only.as_str()));
         named && (0..JOBS).any(|job| self.wanted[job] && family.jobs >> job & 1 == 1)

@@ -1,4 +1,4 @@
-//! The archive's C interface, called with lent buffers that have a pattern, and guards on both sides.
+//! The archive's C interface, called with buffers that have a pattern, and guards on both sides.
 
 use std::fmt;
 
@@ -128,14 +128,14 @@ pub struct Request<'a> {
 const GUARD: usize = 8;
 const COUNTS: usize = model::figures::COUNTS;
 
-/// Everything that a job may change, guards included: the answer's number, `out`, the counts of figures, and the lent buffers. And the dialect and the words of a format
+/// Everything that a job may change, guards included: the answer's number, `out`, the counts of figures, and the buffers. And the dialect and the words of a format
 /// text's parts, which no job may change.
 #[derive(Clone, Debug, PartialEq, Eq)]
 pub struct Effect {
     pub number: u32,
     pub out: [u32; 12 + 2 * GUARD],
     pub bytes: Vec<u8>,
-    /// The second buffer of bytes, which the two readers alone are lent.
+    /// The second buffer of bytes, which only the two readers get.
     pub names: Vec<u8>,
     pub words: Vec<u32>,
     pub dialect: Vec<u8>,
@@ -171,7 +171,7 @@ fn guarded_words(words: &[u32]) -> Vec<u32> {
 }
 
 impl Effect {
-    /// The lent memory before the job.
+    /// The memory before the job.
     pub fn before(job: &Job) -> Effect {
         let (bytes, words) = match *job {
             Job::Params { modes, .. } => (modes, 0),

@@ -1,8 +1,8 @@
-//! A sample of the answers, for programs that replay them without the crate at hand.
+//! A sample of the answers, for programs that replay them without the crate.
 //!
 //! Each request is a head of 20 bytes, then table, names and dialect, then what the answer made of the lent
 //! memory: the words of `out` that it wrote, and the whole buffer, which was filled with `FILL` before. The head
-//! says whether the crate has given the answer, or the model alone. The words of a format text's parts stand where names stand, four bytes each.
+//! says whether the crate has given the answer, or the model alone. The words of a format text's parts are where names are, four bytes each.
 
 use std::collections::HashMap;
 
@@ -23,7 +23,7 @@ pub const CRATE: usize = 1;
 /// So many of each job, number and judge from each part of a family.
 const OF_EACH: u32 = 3;
 
-/// Of these jobs, whose requests are large, so many of all parts together.
+/// Of these jobs, whose requests are large, the number for all parts together.
 const LARGE: [&str; 5] = ["write", "rescue", "audit", "read", "check_file"];
 
 const MOST_TABLE_BYTES: usize = 40 * 24;
@@ -33,7 +33,7 @@ const MOST_PART_BYTES: usize = 48;
 const MOST_ROOM: usize = 150;
 const MOST_FILE_ROOM: usize = 2_048;
 
-/// What stands behind a head, at the most.
+/// What is after a head, at the most.
 const MOST_BODY: usize = 4_096;
 
 type Key = (usize, u32, usize);

@@ -84,7 +84,7 @@ fn too_few(options: &Options, all: &Tally) -> Vec<String> {
     few.map(|job| format!("{} {} of {}", NAMES[job], all.of_job[job], LEAST[job])).collect()
 }
 
-/// Of each job asked for, the numbers that no input has brought about; where only some families are run, of those jobs that they have.
+/// Of each requested job, the numbers that no input has brought about; where only some families are run, of those jobs that they have.
 fn never_given(options: &Options, all: &Tally) -> Vec<String> {
     let is_asked = |job: usize| options.wanted[job] && (job != FILE || options.program.is_some());
     let numbers = numbers_of_jobs();

@@ -36,7 +36,7 @@ impl Small {
         small
     }
 
-    /// Every tree of a class with so many records, at most one more than those at hand.
+    /// Every tree of a class with the given number of records, at most one more than those made.
     pub fn each(&self, wanted: Class, size: usize, see: &mut dyn FnMut(&[Cell])) {
         for kind in kind::all().filter(|&kind| class(kind) == Some(wanted)) {
             for detail in 0..=most_detail(kind) {

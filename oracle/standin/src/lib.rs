@@ -1,4 +1,4 @@
-//! The C interface of the port, answered by the model: stands in for the proved archive until that is there,
+//! The C interface of the port, answered by the model: a stand-in for the proved archive,
 //! and takes planted faults.
 
 use model::answer::Answer;
@@ -11,7 +11,7 @@ use model::planted::Fault;
 
 type Out = *mut [u32; 12];
 
-/// A lent slice, from its pointer and length. An empty one may have any pointer.
+/// A slice, from its pointer and length. An empty one may have any pointer.
 unsafe fn lent<'a, T>(start: *const T, length: usize) -> &'a [T] {
     if length == 0 { &[] } else { std::slice::from_raw_parts(start, length) }
 }
@@ -26,7 +26,7 @@ unsafe fn give(answer: Answer, out: Out) -> u32 {
     answer.number
 }
 
-/// Writes bytes into the lent buffer too.
+/// Writes bytes into the buffer too.
 unsafe fn give_bytes(answer: Answer, buffer: &mut [u8], out: Out) -> u32 {
     answer.write_bytes(buffer);
     give(answer, out)
@@ -58,7 +58,7 @@ pub unsafe extern "C" fn starlark_params(
     give_bytes(answer, lent_mut(modes, modes_len), out)
 }
 
-/// Changes the first byte of memory that is lent to be read.
+/// Changes the first byte of memory that is only read.
 unsafe fn change(start: *const u8, length: usize) {
     if length > 0 {
         *start.cast_mut() ^= 1;
@@ -312,7 +312,7 @@ fn exchange<const WIDTH: usize>(errors: &mut [[u32; WIDTH]], other: usize) {
     errors.iter_mut().for_each(|error| error.swap(1, other));
 }
 
-/// As many errors as there are rooms of so many words; of the last what fits.
+/// As many errors as there are rooms of the given number of words; of the last what fits.
 fn store_in_room<const WIDTH: usize>(errors: &[[u32; WIDTH]], list: &mut [u32], room: usize) {
     let words = errors.iter().take(list.len() / room).flatten();
     list.iter_mut().zip(words).for_each(|(place, word)| *place = *word);

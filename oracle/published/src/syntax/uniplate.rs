@@ -76,7 +76,7 @@ impl<P: AstPayload> StmtP<P> {
             | StmtP::Pass
             | StmtP::Load(_) => {}
         }
-        // A statement's own expressions stand before its inner statements.
+        // A statement's own expressions are before its inner statements.
         self.visit_stmt(|inner| inner.node.own_exprs(see));
     }
 }

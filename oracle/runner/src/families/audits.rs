@@ -165,7 +165,7 @@ fn refused_types(checker: &mut Checker) {
     expect(checker, &ON, &[], |cells| typed(cells, kind::ASSIGN, name, name));
 }
 
-/// A type's own refusal stands beside the assignment's: 32 and 33 say nothing of the type itself.
+/// A type's own refusal is beside the assignment's: 32 and 33 say nothing of the type itself.
 fn assignments(checker: &mut Checker) {
     let tuple = |cells: &mut Cells| cells.tree(kind::TUPLE, 0, 0, name);
     expect(checker, &ON, &[(32, 3), (40, 3)], |cells| typed(cells, kind::ASSIGN_MODIFY, name, int));
@@ -197,7 +197,7 @@ fn for_statement(cells: &mut Cells, target: impl FnOnce(&mut Cells), body: impl 
     });
 }
 
-/// A refused For is not entered by the module pass, and its target and what stands in it are looked at all the same. The target of a
+/// A refused For is not entered by the module pass, and its target and what is in it are looked at all the same. The target of a
 /// comprehension is not.
 fn for_targets(checker: &mut Checker) {
     let to_break = |cells: &mut Cells| cells.leaf(kind::BREAK, 0, 0);
@@ -220,7 +220,7 @@ fn for_targets(checker: &mut Checker) {
     }
 }
 
-/// A call or a lambda that is a target or a type: its own refusal first, then the other's, then what stands below it.
+/// A call or a lambda that is a target or a type: its own refusal first, then the other's, then what is below it.
 fn two_at_one_record(checker: &mut Checker) {
     let nested = |cells: &mut Cells| {
         cells.tree(kind::CALL, 0, 0, |cells| {
@@ -287,7 +287,7 @@ fn calls(checker: &mut Checker) {
     }
 }
 
-/// The module pass's own errors stand in front, in its order, without 10 to 19; those of lists stay where the list is.
+/// The module pass's own errors are in front, in its order, without 10 to 19; those of lists stay where the list is.
 fn own_errors(checker: &mut Checker) {
     expect(checker, &OFF, &[], |_| {});
     let list = |cells: &mut Cells| {
@@ -306,7 +306,7 @@ fn own_errors(checker: &mut Checker) {
         cells.leaf(kind::BREAK, 0, 0);
     });
     expect(checker, &NO_TYPES, &[(60, 3), (45, 3)], |cells| typed(cells, kind::ASSIGN, name, ellipsis));
-    // A call of the first statement stands behind the last expression's error.
+    // A call of the first statement is after the last expression's error.
     expect(checker, &NO_TYPES, &[(57, 8), (60, 10), (20, 6)], |cells| {
         cells.tree(kind::SIMPLE, 0, 0, bad_call);
         cells.leaf(kind::RETURN, 0, 0);

@@ -33,18 +33,18 @@ use crate::rng::Rng;
 pub struct Pair<'a> {
     pub list: &'a [Listed],
     pub call: &'a [Listed],
-    /// Chooses where the call stands, and what stands below parameters and arguments.
+    /// Chooses where the call is, and what is below parameters and arguments.
     pub number: u64,
 }
 
-/// Where the two stand in their table.
+/// Where the two are in their table.
 #[derive(Clone, Copy, Debug, Default)]
 pub struct Nodes {
     pub call: usize,
     pub def: usize,
 }
 
-/// Where the call stands.
+/// Where the call is.
 #[derive(Clone, Copy, PartialEq, Eq)]
 enum Place {
     Behind,
@@ -55,7 +55,7 @@ enum Place {
 }
 
 impl Pair<'_> {
-    /// How many words the lent list needs.
+    /// How many words the list needs.
     pub fn needed(&self) -> usize {
         self.list.len() + self.call.len()
     }
@@ -195,7 +195,7 @@ pub fn orders(checker: &mut Checker, plan: &Plan) {
     }
 }
 
-/// Every call of up to so many arguments, with the names of a list.
+/// Every call of up to the given number of arguments, with the names of a list.
 pub fn each_call(list: &[Listed], most: usize, see: &mut dyn FnMut(&[Listed])) {
     let names = list.iter().filter(|(form, _)| form.named).map(|&(_, name)| name + 1).max();
     for length in 0..=most {
@@ -269,7 +269,7 @@ pub fn bindings_of_module(checker: &mut Checker, random: &super::Random) {
     }
 }
 
-/// What a row of the corner cases must answer. An argument is told by its place in the call, from 0, a parameter by its place in
+/// What a row of the corner cases must answer. An argument is given by its place in the call, from 0, a parameter by its place in
 /// the written list.
 enum Expected<'a> {
     /// For each flat parameter the argument that it takes; for each argument the flat index that it reaches.
@@ -351,7 +351,7 @@ fn read(text: &str, entry: fn(&str) -> Listed) -> Vec<Listed> {
     text.split_whitespace().map(entry).collect()
 }
 
-/// The corner cases, wherever the call stands: in a list that just suffices, one that is longer, one that is a word short.
+/// The corner cases, wherever the call is: in a list that just suffices, one that is longer, one that is a word short.
 pub fn corners(checker: &mut Checker, _plan: &Plan) {
     for (list, call, expected) in CORNERS {
         let (list, call) = (read(list, parameter), read(call, argument));

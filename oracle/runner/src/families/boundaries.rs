@@ -38,7 +38,7 @@ pub fn boundaries(checker: &mut Checker, plan: &Plan) {
     wrong_in_several_ways(checker);
 }
 
-/// A root Statements with so many records in all.
+/// A root Statements with the given number of records in all.
 fn flat_table(records: usize) -> Vec<u8> {
     let mut cells = Cells::default();
     cells.tree(kind::STATEMENTS, 0, 0, |cells| (1..records).for_each(|_| cells.leaf(kind::BREAK, 0, 0)));
@@ -93,7 +93,7 @@ fn name_bytes(checker: &mut Checker) {
     }
 }
 
-/// A table that holds one record of each kind with a name, and the nodes where they stand.
+/// A table that holds one record of each kind with a name, and the nodes where they are.
 fn named_records() -> (Cells, Vec<usize>) {
     let mut cells = Cells::default();
     cells.tree(kind::SIMPLE, 0, 0, |cells| {
@@ -176,7 +176,7 @@ fn nodes_and_buffers(checker: &mut Checker, rng: &mut Rng) {
     }
 }
 
-/// The table lent as its own names, too: what is only read may overlap.
+/// The table passed as its own names, too: what is only read may overlap.
 fn overlapping(checker: &mut Checker) {
     // Rows of their own, so that the other jobs stay as they were.
     let mut rng = Rng::new(13, 1);
@@ -191,7 +191,7 @@ fn overlapping(checker: &mut Checker) {
     }
 }
 
-/// A list of so many entries: ordinary ones with names of their own, where `marked` with `/` and `*` among them, and one that breaks a rule.
+/// A list of the given number of entries: ordinary ones with names of their own, where `marked` with `/` and `*` among them, and one that breaks a rule.
 fn add_entries(cells: &mut Cells, count: usize, marked: bool, broken: Broken) {
     for place in 0..count {
         let name = place as u8;
@@ -269,7 +269,7 @@ fn error_lists(checker: &mut Checker) {
 }
 
 /// Ways from an expression to the next one below it: the record between them, or the parent itself, and its detail; then how many records a
-/// level has before the next one begins, and how many of the innermost level stand before its first expression.
+/// level has before the next one begins, and how many of the innermost level are before its first expression.
 const WAYS: [(u8, u8, usize, usize); 12] = [
     (kind::NOT, 0, 1, 1),
     (kind::CALL, 0, 1, 1),

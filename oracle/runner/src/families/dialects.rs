@@ -59,7 +59,7 @@ fn ask(checker: &mut Checker, encoded: &Encoded, dialect: &[u8]) {
     }
 }
 
-/// A module whose errors tell every switch of a dialect that the pass looks at.
+/// A module whose errors show every switch of a dialect that the pass looks at.
 fn telling_module() -> Encoded {
     let mut cells = Cells::default();
     cells.tree(kind::STATEMENTS, 0, 0, |cells| {
@@ -92,7 +92,7 @@ fn telling_module() -> Encoded {
     encoded
 }
 
-/// The C interface has no function that tells the rows, so they are read from the port's own source: the
+/// The C interface has no function that returns the rows, so they are read from the port's own source: the
 /// first three arrays of nine numbers in it.
 fn rows_of_source(checker: &mut Checker, source: &str) {
     let text = std::fs::read_to_string(source).unwrap_or_else(|error| panic!("{source}: {error}"));

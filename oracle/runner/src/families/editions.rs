@@ -1,4 +1,4 @@
-//! The editions of the type rules (W-212): edition 1 is the crate's, edition 2 is held to the model and to edition 1; and block 0 with an edition byte.
+//! The editions of the type rules (W-212): edition 1 is the crate's, edition 2 is compared with the model and with edition 1; and block 0 with an edition byte.
 
 use model::dialect::ALL_OPTIONS_INTERNAL;
 use model::dialect::EXTENDED;
@@ -58,7 +58,7 @@ fn check_lists_of_editions(checker: &mut Checker, table: &[u8], names: &[u8], di
     checker.note(is_tied, || format!("edition 1 lists {first:?}, edition 2 {second:?}"));
 }
 
-/// Numbers that are no edition, those among them that are 1 or 2 in fewer bits.
+/// Numbers that are not editions, those among them that are 1 or 2 in fewer bits.
 fn no_editions() -> impl Iterator<Item = u32> {
     let in_fewer_bits = (3..32).flat_map(|bit| [1u32 << bit, (1 << bit) + 1, (1 << bit) + 2, (1 << bit) - 1]);
     [0, 3, NO_EDITION - 1].into_iter().chain(4..=300).chain(in_fewer_bits)
@@ -111,7 +111,7 @@ fn by_hand(checker: &mut Checker) {
             x_type(cells);
         })
     });
-    // The first that is refused counts, so that edition 2 may refuse what stands behind.
+    // The first that is refused counts, so that edition 2 may refuse what is after.
     expect_types(checker, [44, 40], |cells| {
         cells.tree(kind::TUPLE, 0, 0, |cells| {
             x_type(cells);
@@ -164,7 +164,7 @@ fn numbers(checker: &mut Checker) {
     }
 }
 
-/// The writer: none, or 1 or 2 behind a dialect; 5 comes before 7.
+/// The writer: none, or 1 or 2 after a dialect; 5 comes before 7.
 fn writers(checker: &mut Checker) {
     let mut ask = |dialect: &[u8], edition: u32, file: usize, number: u32| {
         let Contents { table, names, .. } = &contents(22, 505, dialect);
@@ -204,7 +204,7 @@ fn look(checker: &mut Checker, bytes: &[u8], expected: [u32; 2]) {
     checker.expect(&request(Job::Rescue { file: MOST }), of_rescue, None);
 }
 
-/// A file whose block 0 says so many used bytes, has them in `content`, and has its sum put right.
+/// A file whose block 0 says the given number of used bytes, has them in `content`, and has its sum put right.
 fn with_block_0(used: u16, content: &[u8]) -> Vec<u8> {
     let mut bytes = file::write(&contents(22, 505, &STANDARD));
     bytes[USED_AT..USED_AT + 2].copy_from_slice(&used.to_le_bytes());

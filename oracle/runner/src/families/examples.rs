@@ -87,7 +87,7 @@ fn refused_lists(checker: &mut Checker) {
     expect_list(checker, &[STAR, SLASH], 15, None);
     expect_list(checker, &[STAR], 17, None);
     expect_list(checker, &[STAR, kwargs(K)], 18, None);
-    // The first name that is equal stands at node 1.
+    // The first name that is equal is at node 1.
     expect_list(checker, &[kwargs(K), plain(K)], 11, Some(&[2, 23, 26, 1, 1]));
     expect_list(checker, &[STAR, kwargs(K), plain(X)], 12, None);
 }

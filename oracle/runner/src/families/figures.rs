@@ -38,7 +38,7 @@ use crate::rng::Rng;
 /// The largest file, which a step must see whole.
 const WINDOW: usize = 117 * BLOCK;
 
-/// A file of random joins is put to the crate once in so many.
+/// A file of random joins is given to the crate once in a while.
 const CRATE_ONCE_IN: usize = 4;
 
 fn report(checker: &mut Checker, input: &[u8]) {

@@ -75,7 +75,7 @@ pub fn files(checker: &mut Checker, plan: &Plan) {
 /// Looks at a file, which the program is to be named or handed as its input.
 pub type See<'s> = &'s mut dyn FnMut(&mut Checker, &[u8], bool);
 
-/// Counts, used bytes, cuts, depths, each byte of a file, and so many files with random damage.
+/// Counts, used bytes, cuts, depths, each byte of a file, and the given number of files with random damage.
 pub fn each_file(checker: &mut Checker, plan: &Plan, quick: u64, see: See) {
     let mut rng = plan.rng(14);
     counts(checker, see);
@@ -86,7 +86,7 @@ pub fn each_file(checker: &mut Checker, plan: &Plan, quick: u64, see: See) {
     damaged(checker, plan, quick, see);
 }
 
-/// A sound table of so many records and names of so many bytes.
+/// A sound table of the given number of records and names of the given number of bytes.
 pub fn contents(records: usize, names: usize, dialect: &[u8]) -> Contents {
     let mut cells = Cells::default();
     cells.tree(kind::STATEMENTS, 0, 0, |cells| (1..records).for_each(|_| cells.leaf(kind::BREAK, 0, 0)));
@@ -171,7 +171,7 @@ fn depths(checker: &mut Checker, rng: &mut Rng, see: See) {
     }
 }
 
-/// Every byte of an accepted file changed: the sum must tell.
+/// Every byte of an accepted file changed: the sum must show it.
 fn every_byte(checker: &mut Checker, plan: &Plan, rng: &mut Rng, see: See) {
     let mut bytes = file::write(&contents(2, 3, &dialect::STANDARD));
     for at in 0..bytes.len() {

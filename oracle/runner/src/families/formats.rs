@@ -203,7 +203,7 @@ pub fn random(checker: &mut Checker, plan: &Plan) {
     }
 }
 
-/// One of so many kinds of parts; the sixth is a text that may be no UTF-8.
+/// One of a number of kinds of parts; the sixth is a text that need not be UTF-8.
 fn random_part(rng: &mut Rng, kinds: usize) -> Part {
     match rng.below(kinds) {
         0 => Part::None,

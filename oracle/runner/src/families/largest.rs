@@ -1,4 +1,4 @@
-//! The largest of everything: names, lists, trees, error lists and files of each size that stands next to a power of two or a limit. A fault
+//! The largest of everything: names, lists, trees, error lists and files of each size that is next to a power of two or a limit. A fault
 //! that begins at some size shows here, whatever the size is.
 
 use model::answer::AUDIT_WORDS;
@@ -210,7 +210,7 @@ fn each_bit(checker: &mut Checker, length: usize) {
     }
 }
 
-/// `type` with each byte changed to each value, taken out, or put in; and with more and more behind it.
+/// `type` with each byte changed to each value, taken out, or put in; and with more and more after it.
 fn nearly_type() -> Vec<Vec<u8>> {
     let name = b"type".to_vec();
     let mut fields = vec![name.clone()];
@@ -270,7 +270,7 @@ fn too_many(most: usize) -> impl Iterator<Item = usize> {
     sizes(most).into_iter().chain([MOST_ENTRIES + 1, MOST_ENTRIES + 2]).filter(|&size| MOST_ENTRIES < size)
 }
 
-/// What stands at a place of a list of so many parameters: all ordinary; half of them before `/`; behind `*args`; behind `*`, with
+/// What is at a place of a list of the given number of parameters: all ordinary; half of them before `/`; after `*args`; after `*`, with
 /// `**kwargs` at the end.
 fn parameter(form: usize, place: usize, count: usize) -> u8 {
     match form {
@@ -309,7 +309,7 @@ fn check_parameters(checker: &mut Checker, count: usize, form: usize) {
     growing.ask(checker, Job::Audit { dialect: &ALL_OPTIONS_INTERNAL, edition: FIRST_EDITION, errors: 9 });
 }
 
-/// What stands at a place of a call: all positional; all named; half and half; a star and a double star at the end.
+/// What is at a place of a call: all positional; all named; half and half; a star and a double star at the end.
 fn argument(form: usize, place: usize, count: usize) -> u8 {
     match form {
         0 => kind::POSITIONAL,
@@ -321,7 +321,7 @@ fn argument(form: usize, place: usize, count: usize) -> u8 {
     }
 }
 
-/// A statement that calls with so many arguments, and the Call's node.
+/// A statement that calls with the given number of arguments, and the Call's node.
 fn add_call(growing: &mut Growing, names: &[usize], form: usize) -> usize {
     let node = growing.nodes() + 1;
     growing.tree(kind::SIMPLE, 0, |growing| {
@@ -346,7 +346,7 @@ fn check_arguments(checker: &mut Checker, count: usize, form: usize) {
     growing.ask(checker, Job::Audit { dialect: &ALL_OPTIONS_INTERNAL, edition: FIRST_EDITION, errors: 9 });
 }
 
-/// A name that stands once more at the end of a list: of long lists every earlier place is tried, so that whatever a check notes of the names
+/// A name that is repeated at the end of a list: of long lists every earlier place is tried, so that whatever a check notes of the names
 /// between the two is tried too. The numbers of a list differ by less than 3,844, so that its names do.
 fn repeated_names(checker: &mut Checker, turns: &mut Turns) {
     for from in (1..=12).map(|set| set * WITHOUT_ORDER) {
@@ -425,7 +425,7 @@ fn check_binding(checker: &mut Checker, names: &[usize], parameters: usize, coun
     }
 }
 
-/// Targets of many leaves, types of many nodes, and jobs at nodes far behind.
+/// Targets of many leaves, types of many nodes, and jobs at nodes far from the start.
 pub fn trees(checker: &mut Checker, plan: &Plan) {
     let mut turns = Turns::of(plan);
     for (leaf, records) in [(kind::IDENTIFIER, 1), (kind::DOT, 2), (kind::INDEX, 3)] {
@@ -460,7 +460,7 @@ fn add_leaf(growing: &mut Growing, leaf: u8) {
     growing.close(node);
 }
 
-/// A target of so many leaves, alone, in an assignment and in a for; and one with a leaf less that is refused at its last.
+/// A target of the given number of leaves, alone, in an assignment and in a for; and one with a leaf less that is refused at its last.
 fn check_leaves(checker: &mut Checker, group: u8, leaf: u8, count: usize) {
     for refused in [false, true] {
         let add_group = |growing: &mut Growing| {
@@ -510,7 +510,7 @@ fn check_types(checker: &mut Checker, group: u8, count: usize) {
     }
 }
 
-/// Every job at nodes behind so many others.
+/// Every job at nodes after the given number of others.
 fn check_far_nodes(checker: &mut Checker, before: usize) {
     let dialect = &ALL_OPTIONS_INTERNAL[..];
     let mut growing = Growing::default();
@@ -619,7 +619,7 @@ fn check_file(checker: &mut Checker, records: usize, names: usize) {
         }
     };
     of_file(&whole, checker);
-    // The last record is none, in a block whose sum is right; the last block is cut; a byte stands behind it.
+    // The last record is not a record, in a block whose sum is right; the last block is cut; a byte is after it.
     let mut unsound = whole.clone();
     let last = unsound.len() - BLOCK;
     unsound[last + 4 + (records - 1) % IN_A_BLOCK * RECORD_BYTES] = 0;

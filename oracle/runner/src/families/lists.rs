@@ -48,12 +48,12 @@ pub const ARGUMENTS: [Form; 4] = [
     form(kind::STAR_STAR_ARGUMENT, 0, false),
 ];
 
-/// Every list of so many forms, with every pattern of equal names.
+/// Every list of the given number of forms, with every pattern of equal names.
 pub fn each_list(forms: &[Form], length: usize, see: &mut dyn FnMut(&[Listed])) {
     with_known_names(forms, length, 0, see)
 }
 
-/// The same where so many names are known before.
+/// The same where the given number of names are known before.
 pub fn with_known_names(forms: &[Form], length: usize, names: u8, see: &mut dyn FnMut(&[Listed])) {
     extend_list(forms, length, names, &mut Vec::with_capacity(length), see)
 }
@@ -159,7 +159,7 @@ pub fn random_parameters(checker: &mut Checker, plan: &Plan) {
     });
 }
 
-/// A good list with so many entries put in, taken out or changed.
+/// A good list with the given number of entries put in, taken out or changed.
 pub fn nearly_good_list(rng: &mut Rng, most: usize, disturbed: usize) -> Vec<Listed> {
     let [plain, with_default, star, slash, args, kwargs] = PARAMETERS;
     let count = rng.within(0, most);

@@ -41,7 +41,7 @@ use crate::rng::Rng;
 #[derive(Clone, Debug)]
 pub struct Plan {
     pub seed: u64,
-    /// 1 for the quick run; so many times as many random jobs in the long one.
+    /// 1 for the quick run; in the long one the factor for the number of random jobs.
     pub scale: u64,
     pub part: u64,
     pub parts: u64,
@@ -221,7 +221,7 @@ impl Random<'_> {
     }
 }
 
-/// This part's share of `quick` random trees, each handed on as a table.
+/// This part's share of `quick` random trees, each passed on as a table.
 pub fn each_random(
     checker: &mut Checker,
     plan: &Plan,

@@ -126,7 +126,7 @@ pub fn large(checker: &mut Checker, plan: &Plan) {
     });
 }
 
-/// Sound tables with targets that are none, names that are no text, and so on: every job on them.
+/// Sound tables with targets that are not targets, names that are not text, and so on: every job on them.
 pub fn no_trees(checker: &mut Checker, plan: &Plan) {
     let dialects = dialect::all();
     let mut not_text = Encoded::default();

@@ -12,7 +12,7 @@ use crate::checker::Checker;
 use crate::port::Job;
 use crate::port::Request;
 
-/// How many entries a list has: as few as can be, and so many that the port notes names in few marks, and in many.
+/// How many entries a list has: as few as can be, and enough that the port notes names in few marks, and in many.
 const ENTRIES: [usize; 3] = [2, 30, 300];
 
 /// The longest name.
@@ -63,7 +63,7 @@ impl List {
         self.node += 1;
     }
 
-    /// The list as it stands, with source file numbers; where there are two statements each has its own.
+    /// The list itself, with source file numbers; where there are two statements each has its own.
     fn with_files(mut self) -> List {
         write_files(&mut self.table, Files::Turns(MOST_FILE));
         self
@@ -90,7 +90,7 @@ impl List {
     }
 }
 
-/// The Def of a binding; its Call stands behind it.
+/// The Def of a binding; its Call is after it.
 const BOUND_DEF: usize = 1;
 
 impl List {
@@ -115,7 +115,7 @@ impl List {
     }
 }
 
-/// A list of so many names: one in front, one at the end, and others between them.
+/// A list of the given number of names: one in front, one at the end, and others between them.
 fn between(entries: usize, first: &[u8], second: &[u8]) -> Vec<Vec<u8>> {
     let mut names = vec![first.to_vec()];
     names.extend((2..entries).map(filler));

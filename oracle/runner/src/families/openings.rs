@@ -70,7 +70,7 @@ impl Lists {
     }
 }
 
-/// The archive's own list of errors, of so many words each.
+/// The archive's own list of errors, of the given number of words each.
 fn of_archive(random: &Random, job: Job, width: usize) -> Vec<Found> {
     let mut effect = Effect::before(&job);
     effect.run(&random.request(job), false);
@@ -120,7 +120,7 @@ pub fn all_pairs(checker: &mut Checker, plan: &Plan) {
         let table = Table::check(bytes, names).expect("the generated tables are sound");
         let tree = run::Module::of(&table).ok();
         let lists: Vec<Lists> = rows.iter().map(|row| module_lists(random, tree.as_ref(), row)).collect();
-        // First the clauses themselves, so that what breaks them is told by them.
+        // First the clauses themselves, so that they report what breaks them.
         for &(first, second) in &pairs {
             check_pair(checker, random, [&rows[first], &rows[second]], [&lists[first], &lists[second]], false);
         }

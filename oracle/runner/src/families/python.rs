@@ -36,7 +36,7 @@ const AT_ONCE: usize = 20_000;
 enum Expected {
     NoDef,
     NoCall,
-    /// A number, and the name that the message has where it tells the same fault.
+    /// A number, and the name that the message has if it reports the same fault.
     Refused(u32, String),
     Reached(String),
 }

@@ -1,4 +1,4 @@
-//! The reader into lent buffers, and reader and module pass in one: the files that the rescue and the program are given, and what the
+//! The reader into buffers, and reader and module pass in one: the files that the rescue and the program are given, and what the
 //! writer makes. Every byte of the buffers is the model's.
 
 use model::answer::ERROR_WORDS;
@@ -70,7 +70,7 @@ fn look(checker: &mut Checker, bytes: &[u8], turn: usize) {
     }
 }
 
-/// A file whose answers are known: what is told of the reading, and how many errors there are.
+/// A file whose answers are known: what the reader reports, and how many errors there are.
 fn expect(checker: &mut Checker, held: &Contents, told: &[u32], errors: &[[u32; ERROR_WORDS]]) {
     let bytes = file::write(held);
     let (table, names) = (held.table.len(), held.names.len());
@@ -132,7 +132,7 @@ pub fn corners(checker: &mut Checker, _plan: &Plan) {
     gigabytes(checker);
 }
 
-/// A def with so many parameters.
+/// A def with the given number of parameters.
 fn listed(entries: usize) -> Contents {
     let mut cells = Cells::default();
     cells.tree(kind::DEF, 0, 0, |cells| {
@@ -168,7 +168,7 @@ fn blocks_refused(checker: &mut Checker) {
     refuse(checker, &sealed(0, 4, 0), number::COUNTS, &[]);
     refuse(checker, &sealed(0, 7, 255), number::COUNTS, &[]);
     refuse(checker, &[&good[..], &[0]].concat(), number::BYTES_LEFT_OVER, &[]);
-    // A bad block in front of a short one, and behind it nothing is looked at.
+    // A bad block in front of a short one, and after it nothing is looked at.
     let mut both = good[..1_600].to_vec();
     both[600] ^= 1;
     refuse(checker, &both, number::BLOCK_CHECK, &[]);

@@ -34,7 +34,7 @@ use crate::rng::Rng;
 /// The most bytes of a file.
 const MOST: usize = 117 * BLOCK;
 
-/// Where the fields of a record stand.
+/// Where the fields of a record are.
 const KIND_AT: usize = 0;
 const DETAIL_AT: usize = 1;
 const NAME_LENGTH_AT: usize = 2;
@@ -66,7 +66,7 @@ fn look_again(checker: &mut Checker, input: &[u8], kept: &Answer) {
     expect(checker, &kept.file, kept.file.len(), &told);
 }
 
-/// A file whose answer is known: what is told of it, or a number.
+/// A file whose answer is known: what is reported, or a number.
 fn expect(checker: &mut Checker, input: &[u8], room: usize, told: &[u32]) {
     let request = Request { table: input, names: &[], job: Job::Rescue { file: room } };
     checker.expect(&request, 0, Some(told));
@@ -195,7 +195,7 @@ fn bad_headers(checker: &mut Checker, good: &Damaged) {
     }
 }
 
-/// What stands after the header's blocks, 0 where the file is shorter; whatever is kept.
+/// What is after the header's blocks, 0 where the file is shorter; whatever is kept.
 fn bytes_after(checker: &mut Checker, good: &Damaged) {
     expect(checker, &good.bytes, 3_072, &[3_072, 43, 44, 0, 0, 0]);
     for after in [1, 7, 512, 70_000] {
@@ -272,7 +272,7 @@ fn unsound_children(checker: &mut Checker, good: &Damaged) {
     for size in [0, 2, 19, 20, 65_535] {
         expect(checker, &good.size(25, size).bytes, 2_560, &[2_560, 24, 25, 19, 0, 0]);
     }
-    // A break, `not not … 1` of so many, a break. 61 stand at depth 64.
+    // A break, a chain of `not not … 1`, a break. 61 are at depth 64.
     for (nots, told) in [(61, [2_560, 3, 66, 0, 0, 0]), (62, [1_024, 1, 2, 65, 0, 0])] {
         let mut cells = Cells::default();
         cells.tree(kind::STATEMENTS, 0, 0, |cells| {
@@ -329,7 +329,7 @@ fn across_blocks(checker: &mut Checker) {
     expect(checker, &across.size(0, 26).bytes, 1_024, &[1_024, 15, 16, 16, 0, 0]);
     expect(checker, &across.size(0, 27).bytes, 1_536, &[1_536, 16, 27, 5, 0, 0]);
     expect(checker, &across.field(20, FILE_AT, &[2]).bytes, 1_024, &[1_024, 15, 16, 16, 0, 0]);
-    // The Statements may take in the break behind it.
+    // The Statements may take in the break after it.
     expect(checker, &across.size(16, 12).bytes, 1_536, &[1_536, 20, 32, 0, 0, 0]);
     // But not where that is of another source file.
     let of_many = Damaged::of_files(&cells, &dialect::STANDARD, Files::Turns(MOST_FILE));
@@ -491,7 +491,7 @@ pub fn each_record(plan: &Plan, see: See) {
     }
 }
 
-/// Of all sizes that could be within the table one in so many, those around what is left of it, and some that are far too large.
+/// Of all sizes that could be within the table one in a fixed number, those around what is left of it, and some that are far too large.
 fn damaged_sizes(record: u16, counted: u16, of: u16) -> Vec<u16> {
     let left = counted - record;
     let inside = (0..=left + 2).filter(|size| (size + record) % of == 0 || *size < 4 || size + 1 >= left);

@@ -325,7 +325,7 @@ fn bindings_of_two_files(checker: &mut Checker) {
     const CALL: u16 = 40;
     let (of_def, of_call) = (u32::from(DEF), u32::from(CALL));
     let entry = |cells: &mut Cells, kind: u8, name: u8| cells.leaf(kind, 0, name);
-    // The def's parameters; the call's arguments, each with an Int below; the refusal. The def stands at node 1, its first parameter at 2.
+    // The def's parameters; the call's arguments, each with an Int below; the refusal. The def is at node 1, its first parameter at 2.
     type Row<'a> = (&'a [(u8, u8)], &'a [(u8, u8)], u32, usize, u32, u32);
     let a = (kind::NORMAL, 0);
     let b = (kind::NORMAL, 1);

@@ -38,7 +38,7 @@ fn smallest(cells: &mut Cells, class: Class) {
     }
 }
 
-/// A record where its class may stand, in a table that is sound if it is.
+/// A record in a place for its class, in a table that is sound if it is.
 fn placed(cells: &mut Cells, kind: u8, record: impl FnOnce(&mut Cells)) {
     cells.clear();
     match class(kind) {
@@ -84,7 +84,7 @@ pub fn children(checker: &mut Checker, plan: &Plan) {
     }
 }
 
-/// A table in which each kind stands with each detail.
+/// A table that has each kind with each detail.
 fn sampler() -> Cells {
     let mut cells = Cells::default();
     cells.tree(kind::STATEMENTS, 0, 0, |cells| {
@@ -228,7 +228,7 @@ pub fn depth(checker: &mut Checker, plan: &Plan) {
     each_random(checker, plan, 12, 20_000, grow, |checker, rng, random| {
         let Encoded { mut table, names, .. } = random.encoded.clone();
         if rng.once_in(4) {
-            // Too deep and unsound: the unsound record is what counts, wherever it stands.
+            // Too deep and unsound: the unsound record is what counts, wherever it is.
             let node = rng.below(random.cells.all.len());
             table[24 * node + FILE_AT + 1] |= 0x80;
         }

@@ -55,7 +55,7 @@ fn group(token: &TokenTree) -> Option<Group> {
     }
 }
 
-/// What stands in the brackets of `[display(...)]`.
+/// What is in the brackets of `[display(...)]`.
 fn display_attribute(attribute: &Group) -> Option<TokenStream> {
     let mut tokens = attribute.stream().into_iter();
     let is_display = tokens.next().is_some_and(|t| t.to_string() == "display");
@@ -84,7 +84,7 @@ fn each_variant(body: &[TokenTree]) -> String {
     format!("match self {{ {} }}", arms.collect::<String>())
 }
 
-/// The words that stand before a sign, as field names before a colon.
+/// The words that are before a sign, as field names before a colon.
 fn words_before(body: &[TokenTree], sign: char) -> Vec<String> {
     body.windows(2)
         .filter(|pair| matches!(&pair[1], TokenTree::Punct(p) if p.as_char() == sign))
