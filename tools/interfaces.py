@@ -14,6 +14,7 @@ import re
 import sys
 
 sys.path.append(str(pathlib.Path(__file__).resolve().parent / "gate"))
+from reports import ended, fault  # noqa: E402
 from repository import CRATES, ROOT  # noqa: E402
 
 HEADER, NAMES = ROOT / "include" / "starlark.h", ROOT / "include" / "starlark_names.h"
@@ -35,6 +36,10 @@ COUNTED = [*range(10, 20), *range(50, 62)]
 DIALECTS = {"Standard": "STANDARD", "Extended": "EXTENDED", "AllOptionsInternal": "ALL"}
 
 
+class Unmade(Exception):
+    """What cannot be made of the lists and the header."""
+
+
 def rows(name):
     """The rows of a list in docs/, without its head."""
     return [line.split("\t") for line in (ROOT / "docs" / name).read_text().splitlines()[1:]]
@@ -52,7 +57,8 @@ def constant(name):
 
 def in_c(words):
     """Words as a comment or a string of C may hold them."""
-    assert "*/" not in words and "/*" not in words and '"' not in words and "\\" not in words, words
+    if re.search(r'\*/|/\*|["\\]', words):
+        raise Unmade(fault(f"docs/numbers.tsv: neither a comment nor a string of C may hold these words: {words}"))
     return words
 
 
@@ -90,7 +96,8 @@ def dialects():
     code = (CRATES / "dialect" / "src" / "lib.rt").read_text()
     names = re.findall(r"^    (\w+),$", re.search(r"^pub enum Name \{\n(.*?)^\}", code, re.M | re.S)[1], re.M)
     rows_found = [[int(digit) for digit in re.findall(r"\d", row)] for row in re.findall(r"^    \[([\d, ]+)\],$", code, re.M)]
-    assert names == list(DIALECTS) and all(len(row) == len(switches()) for row in rows_found), "crates/dialect has other dialects"
+    if names != list(DIALECTS) or any(len(row) != len(switches()) for row in rows_found):
+        raise Unmade(fault("crates/dialect/src/lib.rt: its dialects are not those of tools/interfaces.py"))
     return {DIALECTS[name]: row for name, row in zip(names, rows_found)}
 
 
@@ -99,7 +106,8 @@ def with_dialects(text):
     for name, row in dialects().items():
         made = f'#define STARLARK_DIALECT_{name} ((const uint8_t *)"{"".join(f"{chr(92)}{byte}" for byte in row)}")'
         text, count = re.subn(rf"^#define STARLARK_DIALECT_{name}\b.*$", lambda _: made, text, flags=re.M)
-        assert count == 1, f"include/starlark.h has not one STARLARK_DIALECT_{name}"
+        if count != 1:
+            raise Unmade(fault(f"include/starlark.h has STARLARK_DIALECT_{name} {count} times"))
     return text
 
 
@@ -192,7 +200,8 @@ def rust():
 def with_enum(text, name, made):
     """The header's text with this enum in the place of the one of its name."""
     found, count = re.subn(rf"^enum starlark_{name} \{{\n.*?^\}};\n", lambda _: made, text, flags=re.M | re.S)
-    assert count == 1, f"include/starlark.h has not one enum starlark_{name}"
+    if count != 1:
+        raise Unmade(fault(f"include/starlark.h has the enum starlark_{name} {count} times"))
     return found
 
 
@@ -217,16 +226,16 @@ def versions():
     header = HEADER.read_text()
     parts = [re.search(rf"^#define STARLARK_VERSION_{part} (\d+)$", header, re.M) for part in ("MAJOR", "MINOR", "PATCH")]
     if not all(parts):
-        return ["include/starlark.h: the version is not there as three numbers"]
+        return [fault("include/starlark.h: the version is not there as three numbers")]
     version = ".".join(part[1] for part in parts)
     held = {"include/starlark.h": re.search(r'^#define STARLARK_VERSION "(.*)"$', header, re.M),
             "bindings/rust/Cargo.toml": re.search(r'^version = "(.*)"$', (RUST / "Cargo.toml").read_text(), re.M),
             "bindings/raw/Cargo.toml": re.search(r'^version = "(.*)"$', (RAW / "Cargo.toml").read_text(), re.M),
             "python/ducatmuffin/__init__.py": re.search(r'^__version__ = "(.*)"$', (PYTHON / "__init__.py").read_text(), re.M)}
-    told = [f"{path}: the version is not {version}" for path, found in held.items() if not found or found[1] != version]
+    told = [fault(f"{path}: the version is not {version}") for path, found in held.items() if not found or found[1] != version]
     defined = re.search(r"^version = versionOf (\d+) (\d+) (\d+)$", (CRATES / "starlark_checks" / "specs" / "Version.antt").read_text(), re.M)
     if not defined or ".".join(defined.groups()) != version:
-        told.append(f"crates/starlark_checks/specs/Version.antt: the version is not {version}")
+        told.append(fault(f"crates/starlark_checks/specs/Version.antt: the version is not {version}"))
     return told
 
 
@@ -237,11 +246,11 @@ def constants():
     for name in SHARED:
         found = re.search(rf"^pub const {name}: usize = (.*);$", wrapper, re.M)
         if not found or value(found[1]) is None or value(found[1]) != value(said.get(name, "")):
-            faults.append(f"bindings/rust/src/lib.rs: {name} is not the header's STARLARK_{name}")
+            faults.append(fault(f"bindings/rust/src/lib.rs: {name} is not the header's STARLARK_{name}"))
     for name, (path, of) in {name: place.split(": ") for name, place in IN_CODE.items()}.items():
         found = code_value((CRATES / path).read_text(), of)
         if found is None or found != value(said.get(name, "")):
-            faults.append(f"include/starlark.h: STARLARK_{name} is not {of} of crates/{path}")
+            faults.append(fault(f"include/starlark.h: STARLARK_{name} is not {of} of crates/{path}"))
     return faults
 
 
@@ -264,7 +273,7 @@ def stored():
     told = []
     for what, cases, found in (("modes", MODES, modes), ("shapes", SHAPES, shapes)):
         if sorted((int(byte), name) for name, byte in found) != list(enumerate(cases, 1)):
-            told.append(f"tools/interfaces.py: the {what} are not those of the definitions")
+            told.append(fault(f"tools/interfaces.py: the {what} are not those of the definitions"))
     return told
 
 
@@ -280,27 +289,28 @@ def declared():
             kind, of = re.fullmatch(r"(.*?)(\w+)", word).groups()
             wanted.append(f"{of}: {'*mut Words' if of == 'out' else kinds_c.get(kind)}")
         if re.split(r",\s*", rust_text.get(name, "none").strip()) != (wanted or [""]):
-            told.append(f"bindings/raw/src/lib.rs: starlark_{name} is not declared as in the header")
+            told.append(fault(f"bindings/raw/src/lib.rs: starlark_{name} is not declared as in the header"))
     if sorted(header) != sorted(rust_text):
-        told.append("bindings/raw/src/lib.rs declares other functions than the header")
+        told.append(fault("bindings/raw/src/lib.rs declares other functions than the header"))
     return told
 
 
 def faults():
     """All that is not as it must be."""
-    wrong = [path for path, text in made().items() if not path.exists() or path.read_text() != text]
-    told = [f"{path.relative_to(ROOT)} is not what the lists give (tools/interfaces.py --write makes it)" for path in wrong]
+    try:
+        differ = [path for path, text in made().items() if not path.exists() or path.read_text() != text]
+    except Unmade as unmade:
+        return [*unmade.args]
+    told = [fault(f"{path.relative_to(ROOT)} is not what the lists give (tools/interfaces.py --write makes it)") for path in differ]
     return told + versions() + constants() + stored() + declared()
 
 
-def main():
-    if "--write" in sys.argv:
+def main(words):
+    if words == ["--write"]:
         for path, text in made().items():
             path.write_text(text)
-    found = faults()
-    print("\n".join(found) or "interfaces.py: C, Rust and Python have the enums, names, constants, functions and version of the lists and the header")
-    return 1 if found else 0
+    return ended(faults(), "interfaces.py: C, Rust and Python have the enums, names, constants, functions and version of the lists and the header")
 
 
 if __name__ == "__main__":
-    sys.exit(main())
+    sys.exit(main(sys.argv[1:]))

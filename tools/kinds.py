@@ -18,6 +18,7 @@ import re
 import sys
 
 sys.path.append(str(pathlib.Path(__file__).resolve().parent / "gate"))
+from reports import ended, fault  # noqa: E402
 from repository import CRATES, ROOT  # noqa: E402
 from tables import tables, trees  # noqa: E402
 
@@ -58,6 +59,10 @@ ONE = {"statement": ["body statement", "statement"],
 SOME = 3  # is tried for "any number"
 
 
+class Unknown(Exception):
+    """Sentences that this script does not read."""
+
+
 def counts(words, own):
     """A part of a rule as a class, and how many children of it are allowed: as a test, and as the numbers that are tried."""
     for one, known in ONE.items():
@@ -82,7 +87,7 @@ def counts(words, own):
         return own, lambda n: numbers[0] <= n, [numbers[0], numbers[0] + 1, numbers[0] + SOME]
     if re.fullmatch(r"\d+( each for \d+ to \d+)?", words):
         return own, lambda n: n == numbers[0], [numbers[0]]
-    raise ValueError(f"unknown words in a sentence: {words}")
+    raise Unknown(fault(f"unknown words in a sentence: {words}"))
 
 
 class Kind:
@@ -138,13 +143,15 @@ def read(text):
                 kinds.update({n: Kind(n, own.lower(), rule) for n in range(int(each[1]), int(each[2]) + 1)})
         if none:
             without = listed(none)
-            assert without and all(kinds[n].rule == "none" for n in without), none
+            if not without or any(kinds[n].rule != "none" for n in without):
+                raise Unknown(fault(f"document 01's words are not those of the rules before them: {none}"))
     for n in listed(re.search(r"Names stand on ([\d, and]*),", text)[1]):
         kinds[n].named = True
     for n, most in re.findall(r"\(kind (\d+): 0 to (\d+)\)", text):
         kinds[int(n)].details = int(most)
     kinds[int(re.search(r"position of the name in kind (\d+)", text)[1])].placed = True
-    assert sorted(kinds) == sorted(WORD), "the sentences do not give the kinds of the package"
+    if sorted(kinds) != sorted(WORD):
+        raise Unknown(fault("the sentences do not give the kinds of the package"))
     return kinds
 
 
@@ -315,26 +322,28 @@ def made(text):
     return "\n".join(cases.cases) + "\n", "\n".join(cases.answers) + "\n", len(cases.trees)
 
 
-def main():
+def main(words):
     text = (FOLDER / "sentences.txt").read_text()
-    cases, answers, count = made(text)
+    try:
+        cases, answers, count = made(text)
+    except Unknown as unknown:
+        return ended([*unknown.args], "")
     stdout = FOLDER / "stdout"
     above = stdout.read_text().partition(HEADING)[0]
     files = {FOLDER / "kinds.txt": cases, stdout: above + answers}
-    if "--check" not in sys.argv:
+    if words != ["--check"]:
         for path, wanted in files.items():
             path.write_text(wanted)
-    faults = [f"{path.relative_to(ROOT)} is NOT what the sentences give" for path, wanted in files.items()
+    faults = [fault(f"{path.relative_to(ROOT)} is NOT what the sentences give") for path, wanted in files.items()
               if not path.exists() or path.read_text() != wanted]
     at_hand = all(document.exists() for document in DOCUMENTS)
     if at_hand:
         documents = "".join(document.read_text() for document in DOCUMENTS)
         quoted = [line for line in text.splitlines() if not line.startswith("#")]
-        faults += [f"neither the scope nor a request has these words: {line}" for line in quoted if line not in documents]
+        faults += [fault(f"neither the scope nor a request has these words: {line}") for line in quoted if line not in documents]
     where = "which are those of the scope and the requests" if at_hand else "which were not compared: the scope and the requests are not present"
-    print("\n".join(faults) or f"crates/cases: {count} cases and answers are what the sentences give, {where}")
-    return 1 if faults else 0
+    return ended(faults, f"crates/cases: {count} cases and answers are what the sentences give, {where}")
 
 
 if __name__ == "__main__":
-    sys.exit(main())
+    sys.exit(main(sys.argv[1:]))

@@ -22,11 +22,12 @@ import struct
 import sys
 
 sys.path.append(str(pathlib.Path(__file__).resolve().parent / "gate"))
+from reports import Fault, ended, fault  # noqa: E402
 from repository import ROOT  # noqa: E402
 
 sys.path.insert(0, str(ROOT / "python"))
 from ducatmuffin import table as tables  # noqa: E402
-from ducatmuffin.table import TextError, demand, file_of, table_of, trees  # noqa: E402
+from ducatmuffin.table import TextError, file_of, table_of, trees  # noqa: E402
 
 JOBS = {"check": 1, "node": 2, "dialect": 3, "call": 4, "params": 5, "target": 6, "assignment": 7, "type": 8, "module": 9, "bind": 10,
         "audit": 11, "format": 12, "parts": 13, "namesakes": 14}
@@ -36,12 +37,14 @@ WANTED = {"parameters": 1, "call": 2, "assignment": 3, "expression": 4}
 
 def digits(text):
     """Bytes, each given by a digit."""
-    demand(re.fullmatch("[0-9]*", text), f"{text} is not made of digits")
+    if not re.fullmatch("[0-9]*", text):
+        raise TextError(0, fault(f"{text} is not made of digits"))
     return bytes(int(digit) for digit in text)
 
 
 def looked_up(word, names, what):
-    demand(word in names, f"no {what} is called {word}")
+    if word not in names:
+        raise TextError(0, fault(f"no {what} is called {word}"))
     return names[word]
 
 
@@ -54,7 +57,8 @@ def request(line, number):
     if line.startswith("#"):
         return pack(0, line, b"", b"", b"", 0, 0, 0)
     label, asked, *tree = [part.strip() for part in line.split("|")] + [""] * ("|" not in line)
-    demand(asked and len(tree) < 2, "a case is: label | request | tree")
+    if not asked or len(tree) > 1:
+        raise TextError(0, fault("a case is: label | request | tree"))
     job, *words = asked.split()
     if job in ("format", "parts"):
         return format_case(job, label, words, tree[0] if tree else "")
@@ -83,7 +87,8 @@ def format_case(job, label, words, text):
     """A case of a format text: of `format` the third part of the line is the texts, and `words` has the words of the parts; of `parts` it is the
     text, and `texts` has the room of the second buffer."""
     said = dict(word.partition("=")[::2] for word in words)
-    demand(set(said) <= {"words", "bits", "room", "texts"}, f"there is no such word for {job}: {' '.join(words)}")
+    if not set(said) <= {"words", "bits", "room", "texts"}:
+        raise TextError(0, fault(f"there is no such word for {job}: {' '.join(words)}"))
     parts = b"".join(struct.pack("<I", int(word)) for word in said.get("words", "").split(",") if word)
     room, texts = count(said.get("room", "0")), count(said.get("texts", "0"))
     return pack(JOBS[job], label + ": ", text.encode(), parts, digits(said.get("bits", "")), 0, room, 0, texts)
@@ -98,7 +103,8 @@ def at_line(make, line, number):
     try:
         return make(line, number)
     except TextError as error:
-        raise TextError(error.line or number, error.message) from None
+        error.line = error.line or number
+        raise
 
 
 def table_file(path):
@@ -118,18 +124,21 @@ def file_case(line, number):
     if line.startswith("#"):
         return struct.pack("<HH", len(line.encode()), 0) + line.encode()
     parts = [part.strip() for part in line.split("|")]
-    demand(len(parts) == 3, "a case is: label | what is done to the file | tree")
+    if len(parts) != 3:
+        raise TextError(0, fault("a case is: label | what is done to the file | tree"))
     label, done, tree = parts
     said = [word.partition("=")[::2] for word in done.split()]
     for key, _ in said:
-        demand(key in ("names", "bits", "edition", "byte", "damage", "more", "cut"), f"there is no {key} to be done to a file")
+        if key not in ("names", "bits", "edition", "byte", "damage", "more", "cut"):
+            raise TextError(0, fault(f"there is no {key} to be done to a file"))
     (table, names), once = table_of(trees(tree, number)), dict(said)
     edition = numbers(once["edition"], None, [255])[0] if "edition" in once else None
     made = bytearray(file_of(table, names.ljust(count(once.get("names", "0")), b"a"), digits(once.get("bits", "")), edition))
     for key, value in said:
         if key in ("byte", "damage"):
             at, byte = numbers(value, ":", [len(made) - 1, 255])
-            demand(made[at] != byte, f"{label}: byte {at} is {byte} already")
+            if made[at] == byte:
+                raise TextError(0, fault(f"{label}: byte {at} is {byte} already"))
             made[at] = byte
         if key == "byte":
             summed(made, at)
@@ -161,14 +170,14 @@ def made_of(texts, maker):
         try:
             made += maker(text)
         except TextError as error:
-            sys.exit(f"{text}:{error.line}: {error.message}" if error.line else f"{text}: {error.message}")
+            sys.exit(Fault(error.message).at(f"{text}:{error.line}" if error.line else text))
         except (OSError, struct.error) as error:
-            sys.exit(f"{text}: {error}")
+            sys.exit(fault(f"{text}: {error}"))
     return made
 
 
-def main():
-    what, *files = [word for word in sys.argv[1:] if word != "--check"] or [""]
+def main(words):
+    what, *files = [word for word in words if word != "--check"] or [""]
     make = MAKERS.get(what)
     most = len(files) if what in ("cases", "filecases") else 2
     if what == "files":
@@ -176,22 +185,19 @@ def main():
     elif make and 2 <= len(files) <= most:
         pairs = [(files[:-1], files[-1], make)]
     else:
-        sys.exit(__doc__)
-    right = True
+        sys.exit(fault(__doc__))
+    faults = []
     for out, made, texts in [(out, made_of(texts, maker), texts) for texts, out, maker in pairs]:
         try:
-            if "--check" not in sys.argv:
-                open(out, "wb").write(made)
-            elif not os.path.exists(out) or open(out, "rb").read() != made:
-                print(f"{out}: is NOT what comes of {' and '.join(texts)}")
-                right = False
+            if "--check" not in words:
+                pathlib.Path(out).write_bytes(made)
+            elif not os.path.exists(out) or pathlib.Path(out).read_bytes() != made:
+                faults.append(fault(f"{out}: is NOT what comes of {' and '.join(texts)}"))
         except OSError as error:
-            sys.exit(f"{out}: {error}")
-    if "--check" in sys.argv and right:
-        of = "their texts" if what == "files" else " and ".join(pairs[0][0])
-        print(f"{', '.join(out for _, out, _ in pairs)}: what comes of {of}")
-    return 0 if right else 1
+            sys.exit(fault(f"{out}: {error}"))
+    of = "their texts" if what == "files" else " and ".join(pairs[0][0])
+    return ended(faults, f"{', '.join(out for _, out, _ in pairs)}: what comes of {of}") if "--check" in words else 0
 
 
 if __name__ == "__main__":
-    sys.exit(main())
+    sys.exit(main(sys.argv[1:]))

@@ -4,6 +4,8 @@ It reads what rt fmt lays out and stops (Unread) at what it does not know, so th
 """
 import re
 
+from reports import fault
+
 
 class Unread(Exception):
     """A text that this module does not read."""
@@ -39,7 +41,7 @@ def closing(text, at):
         depth += (text[place] in "([{") - (text[place] in ")]}")
         if depth == 0:
             return place + 1
-    raise Unread("a bracket that is never closed")
+    raise Unread(fault("a bracket that is never closed"))
 
 
 class Function:
@@ -54,14 +56,14 @@ class Function:
         given = re.compile(r"\s*(?:->\s*((?:\[[^\]]*\]|[^{;\[])+?))?\s*(?=\{|;|requires\b|ensures\b|$)").match(code, end)
         clause = re.compile(r"\s*(requires|ensures)\s*(?=\{)")
         if not given:
-            raise Unread(f"{self.name}: the text after its parameters")
+            raise Unread(fault(f"{self.name}: the text after its parameters"))
         self.answer, at, self.clauses = given[1] and given[1].strip(), given.end(), []
         while found := clause.match(code, at):
             at = closing(code, found.end())
             self.clauses.append((found[1], source.text[found.end() + 1:at - 1].strip()))
         begin = re.compile(r"\s*").match(code, at).end()
         if code[begin:begin + 1] != "{":
-            raise Unread(f"{self.name}: the text between its contract and its body")
+            raise Unread(fault(f"{self.name}: the text between its contract and its body"))
         self.promised = any(word == "ensures" for word, _ in self.clauses)
         self.body = (begin, closing(code, begin))
         self.words = words_above(source.text[:head.start()])
@@ -80,12 +82,12 @@ class Source:
         inner = file.removeprefix("src/").removesuffix(".rt")
         self.modules = [] if inner in ("lib", "main") else inner.split("/")
         if re.search(r"\b(trait|macro_rules)\b", self.code):
-            raise Unread(f"{crate}/{file} has a trait or a macro")
+            raise Unread(fault(f"{crate}/{file} has a trait or a macro"))
         impls = re.finditer(r"^impl (\w+) (?=\{)", self.code, re.M)
         self.impls = [(found[1], found.end(), closing(self.code, found.end())) for found in impls]
         self.functions = [Function(self, head, self.holder_at(head.start())) for head in FUNCTION.finditer(self.code)]
         if len(self.functions) != len(re.findall(r"\bfn\s+\w", self.code)):
-            raise Unread(f"{crate}/{file} has a function that does not begin its line as rt fmt has it")
+            raise Unread(fault(f"{crate}/{file} has a function that does not begin its line as rt fmt has it"))
         self.ghosts = imports(re.findall(r"^ghost use ([^;]+);", self.code, re.M))
 
     def holder_at(self, place):
@@ -118,7 +120,7 @@ def parameter(words, holder):
         return "self", words.replace("self", holder)
     name, mark, kind = words.partition(":")
     if not mark or not re.fullmatch(r"(?:mut )?\w+", name.strip()):
-        raise Unread(f"a parameter '{words}'")
+        raise Unread(fault(f"a parameter '{words}'"))
     return name.strip().removeprefix("mut "), kind.strip()
 
 
@@ -155,7 +157,7 @@ def logic_type(kind):
     if kind in NUMBERS:
         return "ℕ"
     if not re.fullmatch(r"(?:\w+::)*\w+", kind):
-        raise Unread(f"the type {kind}")
+        raise Unread(fault(f"the type {kind}"))
     return "Bool" if kind == "bool" else kind.rpartition("::")[2]
 
 
@@ -168,14 +170,14 @@ def said(clause, answer, exit_of):
     """What an 'ensures' says of an answer, as tokens: what is lent by its name, at exit as exit_of has it, the answer by the name given."""
     parts = re.fullmatch(r"λ (\S+)\. ⌜(.*)⌝", clause, re.S)
     if not parts:
-        raise Unread(f"the clause '{clause}'")
+        raise Unread(fault(f"the clause '{clause}' is no ⌜fact⌝ of an answer"))
     text = re.sub(rf"\(now {parts[1]}\)|(?<!\S)now {parts[1]}(?!\S)", parts[1], parts[2])
     text = re.sub(rf"(?<![^\s(]){re.escape(parts[1])}(?=[\s).]|$)", answer, text)
     now = r"now \((\S+) \.(entry|exit)\)"
     text = re.sub(rf"\({now}\)|{now}", lambda m: standing(m[1] or m[3], m[2] or m[4], exit_of), text)
     words = tokens(text)
     if {"now", ".entry", ".exit"} & set(words):
-        raise Unread(f"the clause '{clause}'")
+        raise Unread(fault(f"the clause '{clause}' speaks of 'now' in another way"))
     return words
 
 

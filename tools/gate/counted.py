@@ -11,6 +11,7 @@ that names a commit is a record of that commit, and stays.
 import re
 import sys
 
+from reports import ended, fault
 from repository import ROOT, crates, edits, is_library
 
 DOCUMENTS = ["README.md", *(f"docs/{name}.md" for name in ("CONTRIBUTING", "CRATES", "FORMAT", "PROOFS")),
@@ -20,11 +21,6 @@ COUNTED = r"crates|functions|wrong answers|theorems|planted faults|faults in the
 UNWRITTEN = re.compile(rf"(?<![\w-])(\d[\d,]*(?<!,)) ((?:new |other |more )?(?:{COUNTED}))\b")
 COMMIT = re.compile(r"\b(?=[0-9a-f]*\d)[0-9a-f]{7}\b")
 FAULTS = []
-
-
-def fault(words):
-    """A message; every message is made here."""
-    return words
 
 
 def report(message):
@@ -98,8 +94,7 @@ def main(words):
             report(fault(f"{document}: from line {line} on: nothing writes the count \"{found}\""))
     if not marked:
         report(fault("no document has a number that is counted"))
-    print("\n".join(FAULTS) or f"counted.py: the {marked} counts of the documents are right, and no other stands there")
-    return 1 if FAULTS else 0
+    return ended(FAULTS, f"counted.py: the {marked} counts of the documents are right, and no other stands there")
 
 
 if __name__ == "__main__":

@@ -12,6 +12,7 @@ import re
 import struct
 import sys
 
+from reports import ended, fault
 from repository import CRATES, ROOT
 
 sys.path.append(str(ROOT / "tools"))
@@ -24,6 +25,10 @@ FIRST, LAST = (f"<!-- made by tools/gate/format.py: {where} here -->\n" for wher
 WORD = {number: word for word, number in tables.KIND.items()}
 CLASS = {"S": "statement", "E": "expression", "P": "parameter", "A": "argument"}
 PART = re.compile(r"(?:\[([\d, ]+): )?(\((\w) \3\)\*|\w)(?:\*|\{(\d+),(\d*)\})?\]?")
+
+
+class NoSample(Exception):
+    """A sample that is no table file."""
 
 
 def rows(text, head):
@@ -69,17 +74,17 @@ def of_kinds(text):
     known = kinds.read((CRATES / "cases" / "sentences.txt").read_text())
     table, faults = rows(text, "Number | Kind"), []
     if [(int(number), word) for number, word, *_ in table] != sorted(WORD.items()):
-        return ["the kinds are not those of the package in their order"]
+        return [fault("the kinds are not those of the package in their order")]
     for number, word, children, details, named, _ in table:
         kind = known[int(number)]
         if int(details) != kind.details:
-            faults.append(f"{word}: the largest detail is {kind.details}")
+            faults.append(fault(f"{word}: the largest detail is {kind.details}"))
         if (named == "yes") != kind.named:
-            faults.append(f"{word}: whether it has a name")
+            faults.append(fault(f"{word}: whether it has a name"))
         for detail in range(kind.details + 1):
             wanted = merged([(one, {n for n in range(10) if may_be(n)}) for one, may_be, _ in kind.parts(detail)])
             if merged(parts(children, detail)) != wanted:
-                faults.append(f"{word}: its children with detail {detail}")
+                faults.append(fault(f"{word}: its children with detail {detail}"))
     return faults
 
 
@@ -92,15 +97,17 @@ def of_dialects(text):
     table = rows(text, "Byte | Switch")
     faults = []
     if [row[:2] for row in table] != [[str(at), field] for at, field in enumerate(fields)]:
-        faults.append("the switches are not those of crates/dialect in their order")
+        faults.append(fault("the switches are not those of crates/dialect in their order"))
     head = text[text.index("| Byte | Switch |"):].splitlines()[0].split(" | ")[4:]
-    if [name.rstrip(" |") for name in head] != names or [list(column) for column in zip(*(row[4:] for row in table))] != numbers:
-        faults.append("the three rows are not those of crates/dialect")
+    if [name.rstrip(" |") for name in head] != names:
+        faults.append(fault("the names of the three rows are not those of crates/dialect"))
+    if [list(column) for column in zip(*(row[4:] for row in table))] != numbers:
+        faults.append(fault("the three rows are not those of crates/dialect"))
     if any(tables.DIALECTS[name.lower()] != bytes(map(int, row)) for name, row in zip(names, numbers)):
-        faults.append("the package has other rows of dialects than crates/dialect")
+        faults.append(fault("the package has other rows of dialects than crates/dialect"))
     meant = re.search(r"^const NONE_GIVEN: Name = Name::(\w+);", code, re.M)[1]
     if f"**No dialect.** No dialect bytes mean {meant}." not in text:
-        faults.append(f"no dialect bytes mean {meant}")
+        faults.append(fault(f"no dialect bytes mean {meant}"))
     return faults
 
 
@@ -112,7 +119,7 @@ def of_limits(text):
               "size": said["NODES"], "source file number of a top-level statement": said["LAST_FILE"], "depth": said["DEPTH"],
               "bytes of a table file": said["FILE_BYTES"]}
     found = {row[0].partition(",")[0]: int(row[2].replace(",", "")) for row in rows(text, "Limit | Least")}
-    return [f"the limit of {what} is {most:,}" for what, most in wanted.items() if found.get(what) != most]
+    return [fault(f"the limit of {what} is {most:,}") for what, most in wanted.items() if found.get(what) != most]
 
 
 def of_depth(text):
@@ -120,7 +127,9 @@ def of_depth(text):
     defined = (CRATES / "table" / "specs" / "Depth.antt").read_text()
     counted = re.findall(r"^    if' \(eqb class (\w+)\) \(λ _\. 1\)", defined, re.M)
     said = re.search(r"A (\w+) or an (\w+) is one deeper than its parent; a parameter or an argument has the depth of its parent\.", text)
-    return [] if said and counted == [*said.groups()] else ["what counts in the depth is not what the definition of weight says"]
+    if said and counted == [*said.groups()]:
+        return []
+    return [fault("what counts in the depth is not what the definition of weight says")]
 
 
 def hexed(part):
@@ -130,13 +139,13 @@ def hexed(part):
 def fields_of(record, names, at):
     """A record in words: its fields that are not 0."""
     kind, detail, length, start, begin, end, size, file, position = struct.unpack("<BBHIIIHHI", record)
-    told = [f"{WORD[kind]}" + (f", detail {detail}" if detail else "")]
+    said = [f"{WORD[kind]}" + (f", detail {detail}" if detail else "")]
     if length:
-        told.append(f"name `{names[start:start + length].decode()}`: {length} byte{'s' * (length > 1)} from {start} on")
-    told.append(f"bytes {begin} to {end}")
-    told.append(f"{size} record{'s' * (size > 1)}" + (f": nodes {at} to {at + size - 1}" if size > 1 else ""))
-    told.append(f"source file {file}")
-    return "; ".join(told + [f"its name at {position}"] * (WORD[kind] == "Named"))
+        said.append(f"name `{names[start:start + length].decode()}`: {length} byte{'s' * (length > 1)} from {start} on")
+    said.append(f"bytes {begin} to {end}")
+    said.append(f"{size} record{'s' * (size > 1)}" + (f": nodes {at} to {at + size - 1}" if size > 1 else ""))
+    said.append(f"source file {file}")
+    return "; ".join(said + [f"its name at {position}"] * (WORD[kind] == "Named"))
 
 
 def example():
@@ -149,11 +158,13 @@ def example():
     first = 1 + -(-count // 504)
     names = b"".join(one[4:4 + n] for one, n in zip(blocks[1:first], used[1:first]))
     table = b"".join(one[4:4 + n] for one, n in zip(blocks[first:], used[first:]))
-    assert len(names) == count and len(table) == 24 * nodes
+    if len(names) != count or len(table) != 24 * nodes:
+        raise NoSample(fault("the blocks of samples/example.table do not hold the names and nodes that its header has"))
     lines += ["| Bytes of the file | Hexadecimal | What it is |", "|---|---|---|"]
     for number, (one, n) in enumerate(zip(blocks, used)):
         at, content, total = 512 * number, one[4:4 + n], struct.unpack_from("<I", one, 508)[0]
-        assert tables._block(number, content) == one, f"block {number} of the sample is not a block"
+        if tables._block(number, content) != one:
+            raise NoSample(fault(f"block {number} of samples/example.table is not a block"))
         lines.append(f"| {at} to {at + 3} | `{hexed(one[:4])}` | block {number}, {n} bytes used |")
         if number == 0:
             dialect = "no dialect" if n == 4 else "the dialect " + " ".join(map(str, content[4:]))
@@ -179,19 +190,24 @@ def example():
     return "\n".join(lines) + "\n\n"
 
 
-def main():
+def of_example(made):
+    """The faults of the example at the end of the page."""
+    try:
+        return [] if made == example() else [fault("the example is not samples/example.table (tools/format.py --write makes it)")]
+    except NoSample as none:
+        return [*none.args]
+
+
+def main(words):
     text = PAGE.read_text()
     above, rest = text.split(FIRST)
     made, below = rest.split(LAST)
-    if "--write" in sys.argv:
+    if words == ["--write"]:
         made = example()
         PAGE.write_text(above + FIRST + made + LAST + below)
-    faults = of_kinds(text) + of_dialects(text) + of_limits(text) + of_depth(text)
-    faults += [] if made == example() else ["the example is not samples/example.table (tools/gate/format.py --write makes it)"]
-    told = "docs/FORMAT.md: its kinds, dialects, limits and example are those of the repository"
-    print("\n".join(f"docs/FORMAT.md: {fault}" for fault in faults) or told)
-    return 1 if faults else 0
+    faults = of_kinds(text) + of_dialects(text) + of_limits(text) + of_depth(text) + of_example(made)
+    return ended(faults, "docs/FORMAT.md: its kinds, dialects, limits and example are those of the repository", "docs/FORMAT.md: ")
 
 
 if __name__ == "__main__":
-    sys.exit(main())
+    sys.exit(main(sys.argv[1:]))

@@ -22,6 +22,7 @@ import threading
 import time
 from typing import NamedTuple, Optional, Tuple
 
+from reports import fault
 from repository import ROOT
 
 REQUIRED = ROOT / ".ci" / "steps"
@@ -63,15 +64,14 @@ def data(kind, text, made):
 
 STEPS = [
     Step("gate", "the gate reports a step that fails, is missing, or skips itself without a reason", python("tools/tests/try_gate.py")),
+    Step("try-checks", "every check script reports a planted fault for each message that it can give", python("tools/tests/try_checks.py")),
     Step("promises", "every public function has a contract, a theorem and wrong answers", python("tools/gate/promises.py")),
-    Step("try-promises", "a removed promise is reported", python("tools/tests/try_promises.py")),
     Step("layout", "rt fmt would change no file", ("rt", "fmt", "--check")),
     Step("numbers", "the numbers, rules and kinds in documents, code, definitions and interfaces agree", python("tools/gate/numbers.py")),
     Step("prototypes", "header, package and wrapper have the functions, constants and fields of the code", python("tools/gate/prototypes.py")),
     Step("format", "docs/FORMAT.md agrees with code and definitions, and its example is the sample", python("tools/gate/format.py")),
     Step("try-native", "native-lib reports what is proved, and refuses to compile what is not", ("tools/tests/try_native.sh",)),
     Step("samples", "the sample tables are those of their texts", ("sh", "-c", "exec python3 tools/tables.py files samples/*.txt --check")),
-    Step("try-tables", "tables.py reports a wrong line of cases", python("tools/tests/try_tables.py")),
     Step("tablecheck-data", "the input of tablecheck is a sample", data("file", "samples/example.txt", "crates/tablecheck/data/example.table")),
     Step("tablerescue-data", "the input of tablerescue is a sample", data("file", "samples/lost.txt", "crates/tablerescue/data/lost.table")),
     Step(
@@ -96,7 +96,6 @@ STEPS = [
     Step("statements", "docs/STATEMENTS.md has the statements of the crate statements, and every theorem that is named is restated", python("tools/gate/statements_page.py", "--check")),
     Step("imports", "no file has an unused import", python("tools/gate/imports.py")),
     Step("lines", "line length and `.before` chains are within their limits", python("tools/gate/lines.py")),
-    Step("try-lines", "lines.py reports a long line and a long chain", python("tools/gate/lines.py", "--try")),
     Step("flake8", "flake8 finds no fault in the Python files", ("flake8", "--config", "tools/gate/flake8.ini", ".", "ducat", "bench/command", "bench/corpus", "oracle/faults-port"), ("flake8",)),
     # rt ci is the verdict. It waits for all of a batch before it starts the next, so batches of four keep two processors busier.
     Step(
@@ -190,11 +189,11 @@ class Gate:
         """A fault for each name that is in one of the two lists alone, and for each that is there twice."""
         listed = [step.name for step in self.steps]
         for name in sorted(set(demanded) - set(listed)):
-            self.fail(f"the step {name} of .ci/steps is not in tools/gate/gate.py")
+            self.fail(fault(f"the step {name} of .ci/steps is not in tools/gate/gate.py"))
         for name in sorted(set(listed) - set(demanded)):
-            self.fail(f"the step {name} of tools/gate/gate.py is not in .ci/steps")
+            self.fail(fault(f"the step {name} of tools/gate/gate.py is not in .ci/steps"))
         for name in sorted({name for name in listed if listed.count(name) > 1}):
-            self.fail(f"the step {name} is in tools/gate/gate.py more than once")
+            self.fail(fault(f"the step {name} is in tools/gate/gate.py more than once"))
 
     def fail(self, text):
         self.failed += 1
@@ -283,7 +282,7 @@ class Gate:
             less = less or int(status != 0 or more == 0)
         self.passed += more
         self.failed += less
-        came = f"{more} passed" if step.counts and not less else "passed" if not less else f"FAILED, status {status}"
+        came = f"{more} passed" if step.counts and not less else "passed" if not less else fault(f"FAILED, status {status}")
         self.say(f"test: {step.name}: {came} ({seconds} s)")
 
     def run(self, step):
@@ -340,7 +339,7 @@ class Gate:
             self.report_beside(room, results)
         for step in self.steps:
             if step.name not in self.ended:
-                self.fail(f"the step {step.name} was not run")
+                self.fail(fault(f"the step {step.name} was not run"))
 
     def run_some(self, names):
         for step in self.steps:
@@ -369,7 +368,7 @@ def main(words):
         return 0
     unknown = [word for word in words if word not in names]
     if unknown:
-        print(f"test: there is no step {unknown[0]}; ./test --list prints the names", file=sys.stderr)
+        print(fault(f"test: there is no step {unknown[0]}; ./test --list prints the names"), file=sys.stderr)
         return 2
     if words:
         gate = Gate(STEPS)

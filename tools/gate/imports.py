@@ -8,6 +8,7 @@ import re
 import sys
 
 import repository
+from reports import ended, fault
 
 USE = re.compile(r"^((?:pub )?(?:ghost )?use )([^\s{;]+?)(?:\.\{([^}]*)\}|((?: as \S+)?))(;?)\n", re.M)
 COMMENT = {".antt": re.compile(r"--.*"), ".rt": re.compile(r"//.*")}
@@ -17,7 +18,7 @@ def is_used(name, body):
     """Whether a text has a name: a word as a whole, an operator by its parts."""
     parts = [part for part in name.strip("«»").split("_") if part]
     if name.startswith("_") or name.endswith("_") and not re.match(r"\w", name):
-        return all(re.search(r"(?<!\S)[(]?" + re.escape(part), body) or part in body for part in parts)
+        return all(part in body for part in parts)
     word = re.escape(name.strip("«»"))
     return re.search(rf"(?<![\w'′«-]){word}(?![\w'′»-])|«{word}»", body) is not None
 
@@ -53,17 +54,16 @@ def kept(text, suffix):
 
 
 def main(words):
-    faults = 0
+    faults = []
     for path in sorted(p for p in repository.CRATES.rglob("*") if p.suffix in COMMENT):
         text = path.read_text()
         new, gone = kept(text, path.suffix)
         if gone:
-            faults += len(gone)
-            print(f"{path.relative_to(repository.ROOT)}: {', '.join(gone)}")
+            faults.append(fault(f"{path.relative_to(repository.ROOT)} imports and does not use {', '.join(gone)}"))
             if words == ["--write"]:
                 path.write_text(new)
-    print(f"imports.py: {faults} imported names are not used")
-    return 1 if faults and words != ["--write"] else 0
+    status = ended(faults, "imports.py: every imported name is used")
+    return 0 if words == ["--write"] else status
 
 
 if __name__ == "__main__":

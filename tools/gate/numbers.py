@@ -14,6 +14,7 @@ numbers.py --write  first writes docs/RULES.md
 import re
 import sys
 
+from reports import ended, fault
 from repository import CRATES, ROOT
 
 sys.path[:0] = [str(ROOT / "tools"), str(ROOT / "python")]
@@ -45,9 +46,9 @@ def said_of(path, pattern):
     return [(int(number), name) for name, number in re.findall(pattern, (CRATES / path).read_text(), re.M)]
 
 
-def differing(path, wanted, found):
-    """A fault where a file's list is not the wanted one."""
-    return [f"{path} differs: {sorted(set(wanted) ^ set(found)) or 'in its order'}"] if wanted != found else []
+def difference(wanted, found):
+    """In what a list that is not the wanted one differs, in words."""
+    return f"differs: {sorted(set(wanted) ^ set(found)) or 'in its order'}"
 
 
 def ranges(text):
@@ -64,8 +65,6 @@ def given_by_jobs():
         given[job] = set(ranges(", ".join(listed)))
     # a file is checked by the program and by starlark_check_file; the reader refuses with 74 what 1 and 2 would refuse
     given["file"] = given["module"] - {1, 2} | set(range(70, 76))
-    if given.pop("check_file", None) != given["file"]:
-        given["check_file, which does not give what the program does,"] = set()
     return given
 
 
@@ -73,23 +72,28 @@ def of_numbers():
     """The faults of the numbers given back."""
     head, *rows = [line.split("\t") for line in (ROOT / "docs" / "numbers.tsv").read_text().splitlines()]
     if head != HEAD or any(len(row) != len(HEAD) or not row[2].strip() for row in rows):
-        return [f"docs/numbers.tsv: a row is not {', '.join(HEAD)}"], 0
+        return [fault(f"docs/numbers.tsv: a row is not {', '.join(HEAD)}")], 0
     table = [(int(number), name) for number, name, _, _ in rows]
     faults = []
     if [number for number, _ in table] != GIVEN:
-        faults.append("docs/numbers.tsv: its numbers are not the known ones in their order")
-    faults += differing("crates/table/src/numbers.rt", table, said_of("table/src/numbers.rt", r"^pub const (\w+): u32 = (\d+);"))
-    definitions = [(number, camel(name)) for number, name in table]
-    faults += differing("crates/table/specs/Numbers.antt", definitions, said_of("table/specs/Numbers.antt", r"^(\w+) = (\d+)$"))
+        faults.append(fault("docs/numbers.tsv: its numbers are not the known ones in their order"))
+    code = said_of("table/src/numbers.rt", r"^pub const (\w+): u32 = (\d+);")
+    if code != table:
+        faults.append(fault(f"crates/table/src/numbers.rt {difference(table, code)}"))
+    definitions, specs = [(number, camel(name)) for number, name in table], said_of("table/specs/Numbers.antt", r"^(\w+) = (\d+)$")
+    if specs != definitions:
+        faults.append(fault(f"crates/table/specs/Numbers.antt {difference(definitions, specs)}"))
     given = given_by_jobs()
+    if given.pop("check_file", None) != given["file"]:
+        faults.append(fault("include/starlark.h: starlark_check_file does not give the numbers that the program gives"))
     if given.pop("version", None):
-        faults.append("include/starlark.h: starlark_version gives a number, but it is not a job")
+        faults.append(fault("include/starlark.h: starlark_version gives a number, but it is not a job"))
     if sorted(given) != sorted(JOBS):
-        return [*faults, f"include/starlark.h: its jobs are not those of docs/numbers.tsv: {sorted(given)}"], 0
+        return [*faults, fault(f"include/starlark.h: its jobs are not those of docs/numbers.tsv: {sorted(given)}")], 0
     for number, _, _, by in rows:
         wanted = ", ".join(job for job in JOBS if int(number) in given[job])
         if by != wanted:
-            faults.append(f"docs/numbers.tsv: {number} is given by '{by}', in the header by '{wanted}'")
+            faults.append(fault(f"docs/numbers.tsv: {number} is given by '{by}', in the header by '{wanted}'"))
     return faults, len(table)
 
 
@@ -97,12 +101,18 @@ def of_kinds():
     """The faults of the kinds' numbers."""
     code = said_of("soundness/src/kinds.rt", r"^pub const (\w+): u8 = (\d+);")
     specs = said_of("soundness/specs/KindNumbers.antt", r"^kind(\w+) = (\d+)$")
-    words = [(number, word) for word, number in tables.KIND.items()]
-    faults = differing("crates/soundness/specs/KindNumbers.antt", words, specs)
+    words, faults = [(number, word) for word, number in tables.KIND.items()], []
+    if specs != words:
+        faults.append(fault(f"crates/soundness/specs/KindNumbers.antt {difference(words, specs)}"))
     classes = {number: kind.own for number, kind in kinds.read((kinds.FOLDER / "sentences.txt").read_text()).items()}
     table = [tuple(line.split("\t")) for line in (ROOT / "docs" / "kinds.tsv").read_text().splitlines()]
-    faults += differing("docs/kinds.tsv", [("number", "name", "class")] + [(str(n), word, classes[n]) for n, word in words], table)
-    return faults + differing("crates/soundness/src/kinds.rt", words, [(number, capitals(name)) for number, name in code]), len(words)
+    wanted = [("number", "name", "class")] + [(str(n), word, classes[n]) for n, word in words]
+    if table != wanted:
+        faults.append(fault(f"docs/kinds.tsv {difference(wanted, table)}"))
+    in_code = [(number, capitals(name)) for number, name in code]
+    if in_code != words:
+        faults.append(fault(f"crates/soundness/src/kinds.rt {difference(words, in_code)}"))
+    return faults, len(words)
 
 
 PAGE = ROOT / "docs" / "RULES.md"
@@ -161,28 +171,29 @@ def of_rules(write):
     """The faults of docs/RULES.md, and of the lines of the crate that the rules cite."""
     _, *rows = [line.split("\t") for line in (ROOT / "docs" / "numbers.tsv").read_text().splitlines()]
     if [*rules.RULES] != GIVEN or [*rules.EXAMPLES] != GIVEN or [n for first, last, *_ in SECTIONS for n in GIVEN if first <= n <= last] != GIVEN:
-        return ["python/ducatmuffin/rules.py: its numbers are not those of docs/numbers.tsv"]
+        return [fault("python/ducatmuffin/rules.py: its numbers are not those of docs/numbers.tsv")]
     if write:
         PAGE.write_text(page(rows))
-    faults = [] if PAGE.exists() and PAGE.read_text() == page(rows) else ["docs/RULES.md is not what the lists give (tools/gate/numbers.py --write makes it)"]
+    faults = []
+    if not PAGE.exists() or PAGE.read_text() != page(rows):
+        faults.append(fault("docs/RULES.md is not what the lists give (tools/gate/numbers.py --write makes it)"))
     for number, (_, source) in rules.RULES.items():
         if source.line and PUBLISHED.exists() and source.words not in (PUBLISHED / source.file).read_text().splitlines()[source.line - 1]:
-            faults.append(f"python/ducatmuffin/rules.py: {number}: line {source.line} of {source.file} does not have: {source.words}")
+            faults.append(fault(f"python/ducatmuffin/rules.py: {number}: line {source.line} of {source.file} does not have: {source.words}"))
         document = ROOT / source.file
         if not source.line and not (document.exists() and (document.suffix != ".md" or f"\n## {source.words}\n" in document.read_text())):
-            faults.append(f"python/ducatmuffin/rules.py: {number}: {source.file} has no section {source.words}")
+            faults.append(fault(f"python/ducatmuffin/rules.py: {number}: {source.file} has no section {source.words}"))
     return faults
 
 
-def main():
+def main(words):
     (faults, count), (more, known) = of_numbers(), of_kinds()
     faults += more
-    faults += [] if faults else of_rules("--write" in sys.argv)
+    faults += [] if faults else of_rules("--write" in words)
     faults += [] if faults else interfaces.faults()
     said = f"docs/numbers.tsv: its {count} numbers, names, jobs and rules, and the {known} kinds, are those of code, definitions, header, wrapper and docs/RULES.md"
-    print("\n".join(faults) or said)
-    return 1 if faults else 0
+    return ended(faults, said)
 
 
 if __name__ == "__main__":
-    sys.exit(main())
+    sys.exit(main(sys.argv[1:]))

@@ -16,6 +16,7 @@ import ctypes
 import re
 import sys
 
+from reports import ended, fault
 from repository import CRATES, ROOT
 
 sys.path[:0] = [str(ROOT / "python"), str(ROOT / "tools")]
@@ -46,11 +47,6 @@ WIDTHS = {"byte": 1, "half": 2, "word": 4}
 # the header's constants that something else compares: the version, made texts, and the stack, which bindings/c/stack.c measures
 ELSEWHERE = {"VERSION", "VERSION_MAJOR", "VERSION_MINOR", "VERSION_PATCH", "STACK_BYTES", "DIALECT_STANDARD", "DIALECT_EXTENDED", "DIALECT_ALL"}
 FAULTS = []
-
-
-def fault(words):
-    """A message; every message is made here."""
-    return words
 
 
 def report(message):
@@ -310,8 +306,7 @@ def main(_):
     enums()
     fields()
     told = f"prototypes.py: the {len(code)} functions, the constants and the tables of fields are those of the code"
-    print("\n".join(FAULTS) or told)
-    return 1 if FAULTS else 0
+    return ended(FAULTS, told)
 
 
 if __name__ == "__main__":

@@ -12,6 +12,7 @@ import subprocess
 import sys
 import tempfile
 
+from reports import ended, fault
 from repository import ROOT
 
 DOCUMENTS = ("docs/COMMANDS.md",)
@@ -63,25 +64,25 @@ def main(words):
     readme = (ROOT / FIRST[0]).read_text()
     shown = [FIRST]
     if f"    {FIRST[1]}\n" not in readme or FIRST[2] not in readme:
-        faults.append("README.md does not show the first command with what it prints")
+        faults.append(fault("README.md does not show the first command with what it prints"))
     if f"    {PARTS[1]}\n" not in readme or any(part not in readme for part in PARTS[2]):
-        faults.append("README.md does not show the release check with parts of what it prints")
+        faults.append(fault("README.md does not show the release check with parts of what it prints"))
     if readme.count("\n") > 150:
-        faults.append(f"README.md has {readme.count(chr(10))} lines, and 150 are allowed")
+        faults.append(fault(f"README.md has {readme.count(chr(10))} lines, and 150 are allowed"))
     for document in DOCUMENTS:
         found = [(document, command, block.rstrip("\n") + "\n") for command, block in MARKED.findall((ROOT / document).read_text())]
         shown += found
         if not found:
-            faults.append(f"{document} shows nothing")
+            faults.append(fault(f"{document} shows nothing"))
     shown += [(path, command, indented((ROOT / path).read_text())) for path, command in RECORDED]
     with tempfile.TemporaryDirectory() as room:
         said = printed(PARTS[1], room)
-        faults += [f"{PARTS[0]}: `{PARTS[1]}` does not print this part:\n{part}" for part in PARTS[2] if part not in said]
+        faults += [fault(f"{PARTS[0]}: `{PARTS[1]}` does not print this part:\n{part}") for part in PARTS[2] if part not in said]
         for document, command, block in shown:
-            if printed(command, room) != block:
-                faults.append(f"{document}: `{command}` prints something else than is shown:\n{printed(command, room)}")
-    print("\n".join(faults) or f"shown.py: {len(shown) + 1} commands print what the documents show")
-    return 1 if faults else 0
+            said = printed(command, room)
+            if said != block:
+                faults.append(fault(f"{document}: `{command}` prints something else than is shown:\n{said}"))
+    return ended(faults, f"shown.py: {len(shown) + 1} commands print what the documents show")
 
 
 if __name__ == "__main__":

@@ -14,6 +14,7 @@ name is defined.
 import re
 import sys
 
+from reports import ended, fault
 from repository import ROOT
 
 FOLDER = ROOT / "crates" / "statements" / "proofs"
@@ -54,7 +55,7 @@ def page():
         opening = lines[: next(i for i, l in enumerate(lines) if not l.startswith("--"))]
         files = {alias: (crate, file) for crate, file, alias in re.findall(r"^use Rattle·(\w+)\.proofs\.(\w+) as (theorem\S*)$", text, re.M)}
         if len({crate for crate, _ in files.values()}) != 1:
-            wrong.append(f"{name}: it cites theorems of {len({crate for crate, _ in files.values()})} crates; tools/gate/weaker.py can try those of one")
+            wrong.append(fault(f"{name}: it cites theorems of {len({crate for crate, _ in files.values()})} crates; tools/gate/weaker.py can try those of one"))
         out += [f"## {words(opening[:1]).capitalize() if words(opening[:1]).isupper() else words(opening[:1])}", "", words(opening[2:]), ""]
         used = set()
         for i, line in enumerate(lines):
@@ -74,7 +75,7 @@ def page():
                 stop += 1
             cited = re.findall(r"(?<![^\s(])(theorem[^\s.()]*)\.([^\s()]+)", "\n".join(lines[end:stop]))
             if not (sentence and said and cited):
-                wrong.append(f"{name}.{m.group(1)}: no sentence, no words, or no theorem")
+                wrong.append(fault(f"{name}.{m.group(1)}: no sentence, no words, or no theorem"))
             count += 1
             out += [sentence.strip(), "", "```text", *laid(lines[i:end]), "```", "", f"{said[:1].upper() + said[1:]}", ""]
             crate, file = files[cited[0][0]] if cited else ("", "")
@@ -98,7 +99,7 @@ INSTANCES = {"Example.antt"}
 
 
 def unrestated():
-    """The theorems that the documents name to users and no statement cites: (document, name, file). Where the document names the file before
+    """The theorems that the documents name to users and no statement cites. Where the document names the file before
     the theorem, that file's theorem must be restated; else one of that name."""
     restated, public = {}, {}
     for path in FOLDER.glob("*.antt"):
@@ -116,29 +117,22 @@ def unrestated():
             for name in re.findall(r"`([^`\s]+)`", names):
                 seen.add(name)
                 if file in public.get(name, ()) and file not in restated.get(name, ()):
-                    yield document.relative_to(ROOT), name, file
+                    yield fault(f"{document.relative_to(ROOT)} names {name} of {file}, which no statement restates")
         for name in dict.fromkeys(re.findall(r"`([a-z0-9]+(?:-[a-z0-9]+)+)`", text)):
             if name in public and name not in restated and name not in seen and not ONE_ANSWER.fullmatch(name):
-                yield document.relative_to(ROOT), name, min(public[name])
+                yield fault(f"{document.relative_to(ROOT)} names {name} of no file, as {min(public[name])} has it, which no statement restates")
 
 
-def main():
+def main(words):
     text, wrong, count = page()
-    for w in wrong:
-        print(f"statements_page.py: {w}")
-    if "--check" in sys.argv:
-        same = PAGE.exists() and PAGE.read_text() == text
-        if not same:
-            print("statements_page.py: docs/STATEMENTS.md is not what crates/statements says")
-        named = list(unrestated())
-        for document, name, file in named:
-            print(f"statements_page.py: {document} names {name} of {file}, which no statement restates")
-        print(f"statements_page.py: {count} statements, {len(named)} theorems named and not restated")
-        sys.exit(0 if same and not wrong and not named else 1)
-    PAGE.write_text(text)
-    print(f"statements_page.py: {count} statements")
-    sys.exit(1 if wrong else 0)
+    if words == ["--check"]:
+        if not PAGE.exists() or PAGE.read_text() != text:
+            wrong.append(fault("docs/STATEMENTS.md is not what crates/statements says"))
+        wrong += unrestated()
+    else:
+        PAGE.write_text(text)
+    return ended(wrong, f"statements_page.py: {count} statements, and every theorem that the documents name is restated", "statements_page.py: ")
 
 
 if __name__ == "__main__":
-    main()
+    sys.exit(main(sys.argv[1:]))

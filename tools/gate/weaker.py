@@ -30,6 +30,7 @@ import sys
 import time
 
 import repository
+from reports import fault
 from repository import CRATES, ROOT
 
 TARGET = ROOT / "target"
@@ -339,7 +340,7 @@ def check(name, folder):
     shutil.rmtree(kept)
     (folder / ".log").write_text(done.stdout)
     if not re.search(r"^logic=(?:not-)?proved", done.stdout, re.M):
-        sys.exit(f"weaker.py: no verdict on {folder}: {done.stdout[-400:]}")
+        sys.exit(fault(f"weaker.py: no verdict on {folder}: {done.stdout[-400:]}"))
     return re.findall(rf"^{re.escape(str(folder))}/(\S+?):\d+:\d+: error: (?:`([^`]*)`: )?(.*)", done.stdout, re.M)
 
 
@@ -366,7 +367,7 @@ class Module:
         self.path, self.text = path, path.read_text()
         found = re.findall(r"^use Rattle·(\w+)\.proofs\.(\w+) as (theorem\S*)$", self.text, re.M)
         if len({crate for crate, _, _ in found}) != 1:
-            sys.exit(f"weaker.py: {path.stem} cites theorems of {len({crate for crate, _, _ in found})} crates")
+            sys.exit(fault(f"weaker.py: {path.stem} cites theorems of {len({crate for crate, _, _ in found})} crates"))
         self.crate = found[0][0]
         self.files = {alias: file for _, file, alias in found}
         self.inside = re.sub(rf"Rattle\.{self.crate}\.(specs|proofs)\.", rf"Rattle·{self.crate}·\1.\1.", self.text)
@@ -383,9 +384,9 @@ class Module:
             stands |= set(below)
             todo += below
         for crate in sorted(set(re.findall(r"^use Rattle·(\w+)", self.text, re.M)) - stands):
-            yield f"it imports from {crate}, which {self.crate} does not stand on"
+            yield fault(f"it imports from {crate}, which {self.crate} does not stand on")
         for name in self.uncited:
-            yield f"{name} cites no theorem"
+            yield fault(f"{name} cites no theorem")
 
     def place(self, crate, r, new):
         """The module of a weakened record in the copy."""
@@ -428,7 +429,7 @@ class Module:
             ways.append(None)
             for w in ways:
                 n = next(label)
-                weak, fault = f"{cited}-{n}", f"{name}-{n}"
+                weak, bad = f"{cited}-{n}", f"{name}-{n}"
                 pad = " " * t.indent
                 if w is None:
                     text, what = f"{pad}pub {weak} : ⊥ → {t.sig}\n{pad}{weak} never = {cited}\n", "asks ⊥ in addition"
@@ -439,10 +440,10 @@ class Module:
                     records += w.records
                     what = w.what
                 inserted.setdefault(alias, {}).setdefault(t.end, []).append(text)
-                faults[fault] = (cited, what)
-                copy = self.body(name).replace(f"pub {name} :", f"pub {fault} :").replace(f"\n{name} ", f"\n{fault} ").replace(f"{alias}.{cited}", f"{alias}.{weak}")
+                faults[bad] = (cited, what)
+                copy = self.body(name).replace(f"pub {name} :", f"pub {bad} :").replace(f"\n{name} ", f"\n{bad} ").replace(f"{alias}.{cited}", f"{alias}.{weak}")
                 for r, new, _ in w.records if w else []:
-                    head, eq, body = copy.partition(f"\n{fault} ")
+                    head, eq, body = copy.partition(f"\n{bad} ")
                     copy = head + eq + re.sub(rf"(?<![\w-]){re.escape(r.name)}(?![\w-])", new, body)
                 statements.append(copy)
         for alias, places in inserted.items():
@@ -484,14 +485,14 @@ class Module:
         errors = check(self.crate, folder)
         broken = [e for e in errors if e[0] != "proofs/Weaker.antt"]
         for e in broken:
-            print(f"  the planted theorem itself is not proved: {e[0]} {e[1]}: {e[2][:300]}")
+            print("  " + fault(f"the planted theorem itself is not proved: {e[0]} {e[1]}: {e[2][:300]}"))
         ours = {e[1]: e[2] for e in errors if e[0] == "proofs/Weaker.antt"}
         twins = [n for n in self.cited if f"{n}-twin" in ours]
         stood = [f for f in faults if f not in ours or NOT_ADMITTED in ours[f]]
         for f in stood:
-            print(f"  NOT REFUSED: {f}: {faults[f][0]} without: {faults[f][1]}{' (' + ours[f][:200] + ')' if f in ours else ''}")
+            print("  " + fault(f"NOT REFUSED: {f}: {faults[f][0]} without: {faults[f][1]}{' (' + ours[f][:200] + ')' if f in ours else ''}"))
         for n in twins:
-            print(f"  its twin is refused too: {n}: {ours[n + '-twin'][:300]}")
+            print("  " + fault(f"its twin is refused too: {n}: {ours[n + '-twin'][:300]}"))
         return len(faults) - len(stood), len(faults), len(twins) + len(broken)
 
     def hypotheses(self):
@@ -531,15 +532,19 @@ class Module:
         return ours, theirs, gone
 
 
-def main():
+def main(given):
     words = argparse.ArgumentParser(description=__doc__, formatter_class=argparse.RawDescriptionHelpFormatter)
     words.add_argument("modules", nargs="*")
     words.add_argument("--records", type=int, default=1000)
     words.add_argument("--list", action="store_true")
     words.add_argument("--target", type=pathlib.Path, default=TARGET)
-    asked = words.parse_args()
+    asked = words.parse_args(given)
     Module.libraries = asked.target
     refused = tried = bad = masked = 0
+    for name in asked.modules:
+        if not (CRATES / "statements" / "proofs" / f"{name}.antt").exists():
+            bad += 1
+            print(fault(f"weaker.py: there is no module {name} of crates/statements"))
     for path in sorted((CRATES / "statements" / "proofs").glob("*.antt")):
         if path.stem == "Lib" or asked.modules and path.stem not in asked.modules:
             continue
@@ -559,12 +564,16 @@ def main():
             began = time.time()
             ours, theirs, gone = m.record(r)
             refused, tried, masked = refused + bool(ours), tried + 1, masked + gone
-            said = f"refused by the statements ({' '.join(sorted({e[1] for e in ours}))})" if ours else "its crate refuses it, and a theorem is gone" if gone else "NOT REFUSED by the statements"
+            said = f"refused by the statements ({' '.join(sorted({e[1] for e in ours}))})" if ours else "its crate refuses it, and a theorem is gone" if gone else fault("NOT REFUSED by the statements")
             print(f"{path.stem}: {r.name} with `never : ⊥`: {said}; {'refused' if theirs else 'not refused'} by its own crate ({' '.join(sorted({e[1] for e in theirs})) or '-'}) ({time.time() - began:.1f} s)", flush=True)
-    if not asked.list:
-        print(f"{refused + masked} of {tried} faults refused, {refused} by the statements and {masked} by the crate of the record alone" + (f", {bad} bad" if bad else ""))
-        sys.exit(0 if refused + masked == tried and not bad else 1)
+    if asked.list:
+        return 0
+    if not tried:
+        bad += 1
+        print(fault("weaker.py: no fault was planted"))
+    print(f"{refused + masked} of {tried} faults refused, {refused} by the statements and {masked} by the crate of the record alone" + (f", {bad} bad" if bad else ""))
+    return 0 if refused + masked == tried and not bad else 1
 
 
 if __name__ == "__main__":
-    main()
+    sys.exit(main(sys.argv[1:]))

@@ -39,6 +39,7 @@ from concurrent.futures import ThreadPoolExecutor
 import mir
 import promises
 import repository
+from reports import fault
 from repository import CRATES, HEAD, ROOT, BadEdit, Edit, definition_at, function_at
 
 TARGET = ROOT / "target"
@@ -82,7 +83,7 @@ def code_of(name, folder):
     words += ["--lib", f"{name}={folder / 'src' / 'lib.rt'}", *compiler(name)]
     done = subprocess.run(words, capture_output=True, text=True)
     if done.returncode != 0:
-        raise BadEdit(f"{name} with its edits is no program: {(done.stdout + done.stderr)[:400]}")
+        raise BadEdit(fault(f"{name} with its edits is no program: {(done.stdout + done.stderr)[:400]}"))
     return {f: body for f, body in mir.functions(done.stdout).items() if f.startswith(name + "::")}
 
 
@@ -114,19 +115,19 @@ class Trial(Edit):
         texts = {}
         for file, old, new in self.pairs:
             if not file.startswith("src/"):
-                raise BadEdit(f"it edits {file}, which is no code")
+                raise BadEdit(fault(f"it edits {file}, which is no code"))
             text = texts.get(file) or (CRATES / self.crate / file).read_text()
             if text.count(old) != 1:
-                raise BadEdit(f"an 'old:' text is in {file} {text.count(old)} times")
+                raise BadEdit(fault(f"an 'old:' text is in {file} {text.count(old)} times"))
             part = part_at(text, text.find(old))
             if part not in ("body", "constant"):
-                raise BadEdit(f"it edits {part}")
+                raise BadEdit(fault(f"it edits {part}"))
             self.functions.add(function_at(self.crate, file, text.partition(old)[0]) if part == "body" else None)
             texts[file] = text.replace(old, new)
         if not self.pairs:
-            raise BadEdit("it has no pair of 'old:' and 'new:'")
+            raise BadEdit(fault("it has no pair of 'old:' and 'new:'"))
         if None in self.functions and not self.function:
-            raise BadEdit("it edits a constant and has no 'function:'")
+            raise BadEdit(fault("it edits a constant and has no 'function:'"))
 
     @property
     def meant(self):
@@ -184,9 +185,9 @@ class Trial(Edit):
         for function in sorted(self.meant):
             old, new = before.get(function), after.get(name(function))
             if not new or mir.ordered(old) == mir.ordered(new):
-                raise BadEdit(f"the code of {function} stays the same")
+                raise BadEdit(fault(f"the code of {function} stays the same"))
             if mir.steps(old) != mir.steps(new):
-                raise BadEdit(f"{function} does other steps than before, so that its proof does not fit")
+                raise BadEdit(fault(f"{function} does other steps than before, so that its proof does not fit"))
 
 
 class Definition(Trial):
@@ -198,12 +199,12 @@ class Definition(Trial):
             path = CRATES / self.crate / str(file)
             text = texts.get(file) or (path.read_text() if path.is_file() else "")
             if text.count(old) != 1:
-                raise BadEdit(f"an 'old:' text is in {file} {text.count(old)} times")
+                raise BadEdit(fault(f"an 'old:' text is in {file} {text.count(old)} times in a crate without code"))
             if not definition_at(self.crate, file, text, text.find(old)):
-                raise BadEdit(f"in {file} it is in no definition")
+                raise BadEdit(fault(f"in {file} it is in no definition"))
             texts[file] = text.replace(old, new)
         if not self.pairs:
-            raise BadEdit("it has no pair of 'old:' and 'new:'")
+            raise BadEdit(fault("it has no pair of 'old:' and 'new:' in a crate without code"))
 
     def apply(self, folder):
         for file, old, new in self.pairs:
@@ -230,7 +231,7 @@ def check(name, folder, kept):
     (folder / ".log").write_text(done.stdout)
     verdict = {0: r"^logic=proved ", 1: r"^logic=not-proved"}.get(done.returncode)
     if not verdict or not re.search(verdict, done.stdout, re.M):
-        raise BadEdit(f"no verdict: {done.stdout[-300:]}")
+        raise BadEdit(fault(f"no verdict: {done.stdout[-300:]}"))
     return done.stdout
 
 
@@ -280,11 +281,11 @@ def reason(said, function, folder):
     errors = [error for error in errors if own.match(error) and "was not admitted (it has" not in error]
     errors += re.findall(rf"^fn {re.escape(function)}: no proof: .*", said, re.M)
     if not errors:
-        raise BadEdit(f"{function} is refused, and no fact is named")
+        raise BadEdit(fault(f"{function} is refused, and no fact is named"))
     head = re.sub(r"^(?:\S+: error: `[^`]*`: |fn \S+: no proof: expected `[^`]*` in [^;]*; )", "", errors[0]).partition("\n")[0]
     tactic = next((tactic for words, tactic in FACTS.items() if re.match(words, head)), None)
     if not tactic:
-        raise BadEdit(f"{function} is refused at no stated fact: {head[:300]}")
+        raise BadEdit(fault(f"{function} is refused at no stated fact: {head[:300]}"))
     need = need_at(errors[0])
     if PROMISE.search(errors[0]) or need.startswith("returns"):
         return f"its promise, {tactic}"
@@ -318,7 +319,7 @@ def settle_twin(edit, before, after, said, refused):
     """The same of a wrong function that stands beside the right one; refused are the functions that the prover does not prove."""
     edit.judge_code(before, after, lambda function: edit.twin())
     if edit.twin() not in refused:
-        return False, f"NOT REFUSED in {edit.twin()}"
+        return False, fault(f"NOT REFUSED in {edit.twin()}")
     return True, f"refused, as it must be, at {edit.alone}: {reason(said, edit.twin(), CRATES / edit.crate)}"
 
 
@@ -341,9 +342,9 @@ def settle(edit, before, after, said, refused):
     touched = {f for f in after if after[f] != before.get(f)}
     others = sorted(refused - set().union(*(with_cycle(f, CRATES / edit.crate) for f in touched)))
     if others:
-        raise BadEdit(f"{', '.join(others)} refused, which no edit touches")
+        raise BadEdit(fault(f"{', '.join(others)} refused, which no edit touches"))
     if not edit.meant <= refused:
-        return False, f"NOT REFUSED in {' and '.join(sorted(edit.meant - refused))}"
+        return False, fault(f"NOT REFUSED in {' and '.join(sorted(edit.meant - refused))}")
     reasons = [f"{function}: {reason(said, function, CRATES / edit.crate)}" for function in sorted(edit.meant)]
     return True, f"refused, as it must be, at {'; '.join(reasons)}"
 
@@ -368,13 +369,13 @@ def settle_definition(edit, build):
     errors = re.findall(rf"(?m)^{re.escape(str(folder))}/(\S+?):\d+:\d+: error: (?:`([^`]*)`: )?(.*)", said)
     errors = [e for e in errors if "was not admitted (it has" not in e[2]]
     if re.search(r"(?m)^logic=proved ", said):
-        return False, "NOT REFUSED"
+        return False, fault("NOT REFUSED")
     if not errors or not errors[0][0].startswith("proofs/"):
-        raise BadEdit(f"no theorem is refused, but: {errors[0] if errors else said[-300:]}")
+        raise BadEdit(fault(f"no theorem is refused, but: {errors[0] if errors else said[-300:]}"))
     file, theorem, words = errors[0]
     tactic = next((tactic for pattern, tactic in FACTS.items() if re.match(pattern, words)), None)
     if not tactic:
-        raise BadEdit(f"{theorem} of {file} is refused at no stated fact: {words[:300]}")
+        raise BadEdit(fault(f"{theorem} of {file} is refused at no stated fact: {words[:300]}"))
     return True, f"refused, as it must be, at {theorem} of {file}: {tactic}"
 
 
@@ -486,9 +487,11 @@ def main(wanted):
     refused = sum(right and edit.counted for edit, right in verdicts)
     failed = sum(not right for _, right in verdicts)
     bare = [path for name in by_crate if not wanted or name in wanted for path in without_own(name, by_crate[name])]
-    print("".join(f"wrong: {path} has no edit that is refused at its own promise\n" for path in bare), end="")
-    print(f"{refused} wrong answers refused, {failed} not")
-    return 0 if verdicts and not failed and not bare else 1
+    faults = [fault(f"wrong: {path} has no edit that is refused at its own promise") for path in bare]
+    if not verdicts:
+        faults.append(fault("wrong: no edit was tried"))
+    print("".join(f"{one}\n" for one in faults) + f"{refused} wrong answers refused, {failed} not")
+    return 1 if failed or faults else 0
 
 
 if __name__ == "__main__":

@@ -34,17 +34,13 @@ HERE = pathlib.Path(__file__).resolve().parent
 sys.path[:0] = [str(HERE.with_name("gate")), str(HERE.parent)]
 import gate  # noqa: E402
 import measured  # noqa: E402
+from reports import ended, fault  # noqa: E402
 from repository import ROOT  # noqa: E402
 
 LIST, LOG = HERE / "faults.list", ROOT / "oracle" / "target" / "step-faults.jsonl"
 SECONDS = 1200
 LIBRARY = "libstarlark_checks.so"
 FAULTS = []
-
-
-def fault(words):
-    """A message; every message is made here."""
-    return words
 
 
 class Planted:
@@ -105,8 +101,7 @@ def checked(chosen):
             FAULTS.append(fault(f"{one.name} is listed twice"))
     if not chosen:
         FAULTS.append(fault("the list is empty"))
-    print("\n".join(f"faults.list: {words}" for words in FAULTS) or f"faults.py: {len(chosen)} faults can be planted")
-    return 1 if FAULTS else 0
+    return ended(FAULTS, f"faults.py: {len(chosen)} faults can be planted", "faults.list: ")
 
 
 # ---- the copy

@@ -1,8 +1,10 @@
 #!/usr/bin/env python3
 """Tries the gate itself: plants faults in made-up lists of steps and demands that each is reported, and that nothing else is.
 
-The trials run gate.py's own code on commands that take no time. Status 1, with a line for each fault, where one is not as it must be.
+The trials run gate.py's own code on commands that take no time. Status 1, with a line for each fault, where one is not as it must be, or where
+no trial reaches a message of gate.py.
 """
+import contextlib
 import io
 import os
 import pathlib
@@ -14,6 +16,7 @@ import time
 
 sys.path.append(str(pathlib.Path(__file__).resolve().parent.with_name("gate")))
 import gate  # noqa: E402
+import reports  # noqa: E402
 from gate import BESIDE, FIRST, PROOFS, WRONG, Gate, Step  # noqa: E402
 
 FAULTS = []
@@ -112,10 +115,14 @@ def as_command():
             done = subprocess.run([gate.ROOT / "test", *words], env={**os.environ, "PATH": path}, capture_output=True, text=True)
             if (done.returncode, done.stdout, done.stderr) != (status, "", said):
                 FAULTS.append(f"{TRIED[-1]}: status {done.returncode}, {done.stdout!r}, {done.stderr!r}")
-    TRIED.append("./test try-lines")
-    done = subprocess.run([gate.ROOT / "test", "try-lines"], capture_output=True, text=True)
+    TRIED.append("an unknown step")
+    with contextlib.redirect_stderr(io.StringIO()) as said:
+        if gate.main(["nonsense"]) != 2 or "there is no step nonsense" not in said.getvalue():
+            FAULTS.append(f"an unknown step: {said.getvalue()!r}")
+    TRIED.append("./test lines")
+    done = subprocess.run([gate.ROOT / "test", "lines"], capture_output=True, text=True)
     if done.returncode != 0 or not done.stdout.endswith("test: 0 steps skipped\n1 passed, 0 failed\n"):
-        FAULTS.append(f"./test try-lines: status {done.returncode}, {done.stdout!r}, {done.stderr!r}")
+        FAULTS.append(f"./test lines: status {done.returncode}, {done.stdout!r}, {done.stderr!r}")
 
 
 SIGNALLED = """
@@ -167,6 +174,9 @@ def is_gone(pid):
 def main():
     for trials in (statuses, counts, lists, beside, as_command, signals):
         trials()
+    path = pathlib.Path(gate.__file__)
+    FAULTS.extend(f"{path.name}:{line}: no trial reaches this message" for line in reports.unreached(path))
+    FAULTS.extend(f"{path.name}:{line}: this is not reported by reports.fault" for line in reports.unmeasured(path))
     print("\n".join(f"try_gate: {fault}" for fault in FAULTS) or f"try_gate: {len(TRIED)} trials came out as they must")
     return 1 if FAULTS else 0
 
