@@ -5,7 +5,7 @@
 -- `nodes-records`); the loop keeps that what is left decides (`Scanning`). Cite `top-quiet` where the look
 -- finds nothing, and `top-walked` where it finds something. Assumes nothing.
 use mathlib.Core.Path.{_≡_, refl, sym, ap, _∙_}
-use mathlib.Core.Bool.{Bool, true, false, _||_, not}
+use mathlib.Core.Bool.{Bool, true, false, _||_}
 use mathlib.Core.List.{List, [], _∷_, _++_, append-nil}
 use Prim.Native.Nat.{ℕ, zero, suc, _+_, _-_, _/_, _<_, _≤_}
 use native.Mathlib.Omega.{arith}
@@ -16,13 +16,12 @@ use Rattle.fields.proofs.Basics.{never}
 use Rattle.fields.proofs.Fields.{tail-part}
 use Rattle.dialect.specs.declared.Dialect.{Dialect}
 use Rattle.dialect.specs.Rows.{permitsTypes}
-use Rattle.forest.specs.Forest.{Node, nodeOf, spanOf, kidsOf, restOf, Tree, node, Forest, none, _then_, forest, treeOf, nodes}
-use Rattle.forest.specs.Forest.{nodesOf}
+use Rattle.forest.specs.Forest.{Node, nodeOf, spanOf, restOf, Tree, node, Forest, none, _then_, forest, treeOf}
+use Rattle.forest.specs.Forest.{nodes, nodesOf}
 use Rattle.forest.proofs.Stretch.{forest-none, kids-part, records, nodes-records}
 use Rattle.forest.proofs.Prefix.{forest-part}
 use Rattle.soundness.specs.KindNumbers.{kindEllipsis, kindLambda}
 use Rattle.table.specs.Numbers.{ellipsisNotPermitted, lambdaNotPermitted}
-use Rattle.errors.specs.declared.Err.{Err}
 use Rattle.errors.specs.declared.Listing.{Listing}
 use Rattle.errors.specs.Errors.{unless, Stores}
 use Rattle.errors.proofs.Storing.{stores-none}
