@@ -1,5 +1,8 @@
--- How many errors there can be: a module has no more than twice its nodes, so that no count overflows and a list of
--- 4,200 errors holds all. Assumes nothing.
+-- A module has no more errors than twice its nodes (`module-few`), so that no count overflows and a list of 4,200
+-- errors holds all. Each node pays for what is reported at it: two errors for a statement or an expression, one for a
+-- parameter that is a mark. The induction is on the forest, over statements and expressions together (`forest-few`),
+-- because a parameter pays for its mark whoever owns the list. Below it the same bounds stand in bytes, as the code's
+-- sums need them (`stmts-few` to `list-few`). Assumes nothing.
 use mathlib.Core.Path.{_≡_, refl}
 use mathlib.Core.Bool.{Bool, true, false}
 use mathlib.Core.List.{List, [], _∷_}

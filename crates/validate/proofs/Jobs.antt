@@ -1,4 +1,7 @@
--- Laws of the module job, in the terms of code: one for each return. Assumes nothing.
+-- The module job is the check of 1 to 5 and then the pass. The pass reads 50,400 bytes at most, and of a table that
+-- has passed the check that is all (`pass-is`), so that it counts and stores what the job's definition says. There is
+-- one law for each return: a refusal changes no word (`job-refused`), and a total is the number of errors
+-- (`job-total`). Assumes nothing.
 use mathlib.Core.Path.{_≡_, refl, sym}
 use mathlib.Core.List.{List, [], _∷_}
 use Prim.Native.Nat.{ℕ, _-_, _*_, _≤_}

@@ -1,4 +1,8 @@
--- Laws of the checks of a parameter list, in the terms of code: one for each return. Assumes nothing.
+-- The errors of a parameter list are every `*` and then every `/` that the dialect does not permit, and then the
+-- list's one error. Code reads the marks in a loop over records, the definition over written parameters; in the loop
+-- the marks of what is left come next (`Marking`, `mark-on`). Which records are marks does not depend on names
+-- (`same-marks`), so code reads none there. `params-all` joins the three checks, each lent the words that the one
+-- before it leaves free, and `with-all` puts the error of the def or lambda in front. Assumes nothing.
 use mathlib.Core.Path.{_≡_, refl, sym, _∙_}
 use mathlib.Core.Bool.{Bool, true, false, not}
 use mathlib.Core.List.{List, [], _∷_, _++_}

@@ -1,5 +1,7 @@
--- Where no parameter list is refused, the module pass has no error of 10 to 19: its own errors are then all. Assumes
--- nothing.
+-- Where no parameter list is refused (`listsPass`), the module pass has no error of 10 to 19, so that its own errors
+-- are all. Every other number is looked at once: those of marks, of statements by their arm (`own-arm`), of
+-- expressions (`own-expr`). The induction is on the forest, for statements and expressions at once (`own-forest`).
+-- Cite `own-module`. Assumes nothing.
 use mathlib.Core.Path.{_≡_, refl, _∙_}
 use mathlib.Core.Bool.{Bool, true, false, _&&_, _||_, not}
 use mathlib.Core.List.{List, [], _∷_, _++_}

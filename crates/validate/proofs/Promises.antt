@@ -1,4 +1,6 @@
--- Two answers that meet the promise of a public function coincide, and so do the two lists of words. Assumes nothing.
+-- Two answers that meet the promise of a public function coincide, and so do the two lists of words: a promise is an
+-- equation for each of them, and an answer is determined by what it means (`listed-injective`). Each statement is
+-- written from its function's contract, which tools/promises.py checks. Assumes nothing.
 use mathlib.Core.Path.{_≡_, sym, ap}
 use mathlib.Core.List.{List}
 use Prim.Native.Nat.{ℕ}

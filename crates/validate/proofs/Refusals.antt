@@ -1,5 +1,7 @@
--- Every refusal of a parameter list is one of 10 to 19, so a form that leaves these out leaves nothing of a list to be
--- judged. Assumes nothing.
+-- Every refusal of a parameter list is one of 10 to 19 (`list-in`). So a form of the list of errors that leaves these
+-- out keeps nothing of a parameter list (`list-left`), and code need not judge it (`own-judges-none`). It is shown
+-- rule by rule: a check, a step and the end of `unpack` refuse by such a number or not at all. The induction is on the
+-- parameters that are left (`run-in`). Assumes nothing.
 use mathlib.Core.Path.{_≡_, refl}
 use mathlib.Core.Bool.{Bool, true, false}
 use mathlib.Core.List.{List, [], _∷_, _++_}

@@ -1,7 +1,7 @@
 -- The expression walk finds errors at two kinds of record alone, `...` and a lambda (`isSite`), so a forest that has
 -- neither has no errors of expressions (`no-sites`): by induction on the forest, since an expression's errors are its
 -- own and then those below it, in table order. Code looks at the records of a stretch one after the other, not at its
--- trees. That is the same (`scan-start`), because the nodes of a stretch's forest are its records in order (forest's
+-- trees. That is the same (`sites-records`), because the nodes of a stretch's forest are its records in order (forest's
 -- `nodes-records`); the loop keeps that what is left decides (`Scanning`). Cite `top-quiet` where the look
 -- finds nothing, and `top-walked` where it finds something. Assumes nothing.
 use mathlib.Core.Path.{_≡_, refl, sym, ap, _∙_}

@@ -1,5 +1,9 @@
--- Laws of the two walks over a stretch, in the terms of code: which kinds are statements, and one for each return and
--- each loop. Assumes nothing.
+-- The code walks the trees of a stretch in a loop and what is below each by recursion; the definitions walk a forest.
+-- Both come to the same errors in the same order. In the loop the errors of what is left come next (`Visiting`), and
+-- `each-on` goes from one tree to the next, because a stretch is its first tree and what follows (forest's
+-- `each-cut`). For a tree there is one law for each return: a statement by its arm (`f-none` to `f-def`), an
+-- expression by its own record and by what is below it (`expr-leaf`, `expr-on`). A kind is a statement's where it is 1
+-- to 12, computed for every byte (`statement-range`). Assumes nothing.
 use mathlib.Core.Path.{_≡_, refl, sym, _∙_}
 use mathlib.Core.Bool.{Bool, true, false, _&&_, not}
 use mathlib.Core.List.{List, [], _∷_, _++_, append-nil}
