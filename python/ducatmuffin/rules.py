@@ -1,7 +1,7 @@
 """ducat rule NUMBER: what a number means, its rule, where the rule comes from, which jobs give the number, and an example that gives it.
 
 The example is a script or, where no script gives the number, a table in text form, a format text, words of parts or commands. docs/RULES.md is
-made from these lists (tools/rules_page.py).
+made from these lists (tools/gate/numbers.py --write).
 """
 from typing import NamedTuple, Tuple
 
