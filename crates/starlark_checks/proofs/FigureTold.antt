@@ -28,17 +28,17 @@ use Rattle.starlark_checks.specs.Words.{laid}
 use Rattle.starlark_checks.specs.FormatWords.{twoWords}
 use Rattle.starlark_checks.specs.FigureWords.{endingNumber, endingWords}
 
--- the number and the words for the end of a report
-abbrev pub EndPut : Ending → ℕ → List ℕ → List ℕ → Type 0
-EndPut e n xs ys = (n ≡ endingNumber e) × (ys ≡ laid (endingWords e) 0 xs)
+-- the number and the words for the end of a report, from a place on
+abbrev pub EndPut : Ending → ℕ → ℕ → List ℕ → List ℕ → Type 0
+EndPut e n place xs ys = (n ≡ endingNumber e) × (ys ≡ laid (endingWords e) place xs)
 
 -- LAW: a refusal's number, and its position in two words
-pub ending-put : {e : Ending} (n at : ℕ) (xs : List ℕ) {ys : List ℕ} → e ≡ RefusedAt n at
-    → ys ≡ laid (twoWords at) 0 xs → EndPut e n xs ys
-ending-put n at xs q p = rw q (refl, p)
+pub ending-put : {e : Ending} (n at place : ℕ) (xs : List ℕ) {ys : List ℕ} → e ≡ RefusedAt n at
+    → ys ≡ laid (twoWords at) place xs → EndPut e n place xs ys
+ending-put n at place xs q p = rw q (refl, p)
 
 -- LAW: the words for the report of the code are those for the promised report
-pub report-put : (v w : Reported) {n : ℕ} (xs : List ℕ) {ys : List ℕ} → v ≡ w → EndPut (v .ending) n xs ys
+pub report-put : (v w : Reported) {n : ℕ} (xs : List ℕ) {ys : List ℕ} → v ≡ w → EndPut (v .ending) n 0 xs ys
     → (n ≡ endingNumber (w .ending)) × ((ys ≡ laid (endingWords (w .ending)) 0 xs) × (v .figures ≡ w .figures))
 report-put v w xs q (i, p) =
     let k = ap (λ (r : Reported). r .ending) q in

@@ -25,7 +25,7 @@ use validate::Listed;
 use writer::Written;
 ghost use mathlib.Core.Path.{_≡_};
 ghost use mathlib.Core.List.{[], _∷_};
-ghost use Prim.Native.Nat.{_+_, _<_};
+ghost use Prim.Native.Nat.{_+_, _^_, _<_};
 ghost use lib.ListN.{length};
 ghost use Rattle.table.specs.Answer.{accepted, refused, refusal};
 ghost use Rattle.table.specs.Numbers.{strayBrace};
@@ -778,14 +778,15 @@ pub extern "C" fn starlark_book_blank(book: &mut [u8], out: &mut [u32; 12]) -> u
 
 // The end of a report: returns 0 or the number of the refused file, and writes its position as two words, the low one
 // first.
-fn put_ending(ending: Ending, out: &mut [u32; 12]) -> u32
+fn put_ending(ending: Ending, place: usize, out: &mut [u32; 12]) -> u32
+    requires { ⌜ place < 11 ⌝ }
     ensures { λ r. ⌜ r ≡ endingNumber ending ⌝ }
-    ensures { λ r. ⌜ now (out .exit) ≡ laid (endingWords ending) 0 (now (out .entry)) ⌝ }
+    ensures { λ r. ⌜ now (out .exit) ≡ laid (endingWords ending) place (now (out .entry)) ⌝ }
 {
     match ending {
         Ending::Whole => 0,
         Ending::Refused { number, at } => {
-            put_wide(at, 0, out);
+            put_wide(at, place, out);
             number
         }
     }
@@ -807,7 +808,18 @@ pub extern "C" fn starlark_figures(
     let counters = report.figures;
     *figures = counters;
     let ending = report.ending;
-    put_ending(ending, out)
+    put_ending(ending, 0, out)
+}
+
+// Writes the number of bytes that a step takes into the word at a place.
+fn put_taken(n: usize, place: usize, out: &mut [u32; 12]) -> u32
+    requires { ⌜ place < 12 ⌝ }
+    requires { ⌜ n < 2 ^ 32 ⌝ }
+    ensures { λ r. ⌜ r ≡ 0 ⌝ }
+    ensures { λ u. ⌜ now (out .exit) ≡ laid (n ∷ []) place (now (out .entry)) ⌝ }
+{
+    out[place] = n as u32;
+    0
 }
 
 // One step: adds the file at the front of a window to the counters, and writes the number of bytes that it takes.
@@ -824,7 +836,7 @@ pub extern "C" fn starlark_figures_step(
 {
     let answer = figures::step(window, figures);
     match answer {
-        Stepped::Taken(n) => put_count(n as u32, out),
+        Stepped::Taken(n) => put_taken(n, 0, out),
         Stepped::Refused(number) => number,
     }
 }

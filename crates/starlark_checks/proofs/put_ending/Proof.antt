@@ -12,4 +12,4 @@ put-ending-spec =
     (λ c. search needs)
     (λ c κs. search needs)
     (λ c. search needs)
-    (λ c. ending-put _ _ _ (c .before .before .before .ending .given .1) (c .put-wide .ensures)))  -- returns-2
+    (λ c. ending-put _ _ _ _ (c .before .before .before .ending .given .1) (c .put-wide .ensures)))  -- returns-2

@@ -15,14 +15,13 @@ starlark-figures-step-spec =
     (tie.spec
     (λ c κs. search needs)
     (λ c. search needs)
-    (λ c. record { fits = search step-fits })  -- cast-put-count
-    (λ c κs. search needs)
+    (λ c κs. search (needs, step-fits))  -- put-taken-requires
     (λ c. search needs)
     (λ c.  -- returns
     let answer = c .before .before .before .answer in
     let job = c .before .before .before .before .before .step in
     told-with words stepAnswer _ _ _ _ _ _ (ap stepAnswer (job .ensures .0), job .ensures .1) answer.given.1
-    (c .put-count .ensures))
+    (c .put-taken .ensures))
     (λ c.  -- returns-2
     let answer2 = c .before .answer2 in
     let job = c .before .before .before .step in
