@@ -2,6 +2,7 @@ pub mod Packing
 pub mod Search
 pub mod Tops
 pub mod Records
+pub mod Ranges
 pub mod SoundTables
 pub mod Files
 pub mod OneStatement

@@ -22,7 +22,7 @@ use Rattle.soundness.specs.Packed.{rules, ruleAt, ruleOf, rulesIn, rules
 use Rattle.soundness.specs.Packed.{classAt}
 
 -- the row of a number that no kind has
-abbrev none : ℕ → Kind
+abbrev pub none : ℕ → Kind
 none n = kind n 0 0 noName (λ d. exactly [])
 
 -- a number that is none of some, as code tests it: the last of them outermost
@@ -63,14 +63,14 @@ kind-apart-in (k ∷ ks) ns n e a = go (memberOf (k .number) ns) refl e (λ t. k
     go false t e rest = never (cc)
 
 -- an arm of code: the kind k is the number n, at which the row is computed
-pub row-arm : (row n k : ℕ) → k ≡ n → row / 0x100_0000_0000 % 16 ≡ classOf n
-    → row / 0x10_0000_0000 % 4 ≡ kindOf n .details → eqb (row / 0x1_0000_0000 % 16) 1 ≡ kindOf n .named
+pub row-arm : (row n k : ℕ) → k ≡ n → row / 0x1000_0000_0000_0000 % 16 ≡ classOf n
+    → row / 0x100_0000_0000_0000 % 4 ≡ kindOf n .details → eqb (row / 0x10_0000_0000_0000 % 16) 1 ≡ kindOf n .named
     → rulesIn row ≡ rulesOf n → RowOf k row
 row-arm row n k k-is c d m r = rw k-is record { class = c; details = d; named = m; rules = r }
 
 -- a number that no kind has: the row is empty
 row-empty : (k : ℕ) → kindOf k ≡ none k → RowOf k 0
-unfolding rulesIn rulesOf ruleAt ruleOf
+unfolding rulesIn rulesOf ruleAt ruleOf childrenOf
 row-empty k empty = record {
   class = sym (ap (λ (r : Kind). r .class) empty);
   details = sym (ap (λ (r : Kind). r .details) empty);
@@ -78,9 +78,12 @@ row-empty k empty = record {
   rules = rw empty refl;
 }
 
-pub row-none : (k : ℕ) → Apart numbersDown k → RowOf k 0
+pub kind-none : (k : ℕ) → Apart numbersDown k → kindOf k ≡ none k
 unfolding kindOf
-row-none k a = row-empty k (kind-apart-in kinds numbersDown k refl a)
+kind-none k a = kind-apart-in kinds numbersDown k refl a
+
+pub row-none : (k : ℕ) → Apart numbersDown k → RowOf k 0
+row-none k a = row-empty k (kind-none k a)
 
 -- a number that is none of the first n, the last of them first, is past them
 abbrev down : ℕ → List ℕ
@@ -91,19 +94,40 @@ past : (n m : ℕ) → Apart (down n) m → n ≤ m
 past zero m a = omega arith
 past (suc n) m a = let h : n ≤ m = past n m (a .0) in omega (arith, a .1)
 
--- the rule of a row at a detail, and none past the details
-module _ {k row : ℕ} (row-is : RowOf k row) where
-  pub rule-here : (i : ℕ) → getD (rulesIn row) i (exactly []) ≡ getD (rulesOf k) i (exactly [])
-  rule-here i = ap (λ (l : List Children). getD l i (exactly [])) (row-is .rules)
+-- the number of a rule past the details: none
+pub rule-beyond : (row d : ℕ) → 1 ≤ d → Apart (3 ∷ 2 ∷ 1 ∷ []) d → ruleAt 0 ≡ getD (rulesIn row) d (exactly [])
+unfolding ruleAt rulesIn
+rule-beyond row d one a =
+    let late : 4 ≤ d = omega (arith, a .1, a .0 .1, a .0 .0 .1) in
+    sym (List·getD-eq-default (rulesIn row) (exactly []) late)
 
-  pub rule-beyond : (d : ℕ) → Apart (down 4) d → ruleAt 0 ≡ ruleOf k d
-  unfolding ruleAt ruleOf
-  rule-beyond d a = rw (lt-leb d (kindOf k .details) (omega (arith, past 4 d a, row-is .details))) refl
+-- the rule of a row at a detail
+module _ {k row : ℕ} (row-is : RowOf k row) where
+  rule-late : (d : ℕ) → 4 ≤ d → exactly [] ≡ ruleOf k d
+  unfolding ruleOf
+  rule-late d h = rw (lt-leb d (kindOf k .details) (omega (arith, row-is .details))) refl
+
+  rules-of : (d : ℕ) → getD (rulesOf k) d (exactly []) ≡ ruleOf k d
+  unfolding rulesOf
+  rules-of zero = refl
+  rules-of (suc zero) = refl
+  rules-of (suc (suc zero)) = refl
+  rules-of (suc (suc (suc zero))) = refl
+  rules-of (suc (suc (suc (suc d)))) =
+      let late : 4 ≤ suc (suc (suc (suc d))) = omega arith in
+      List·getD-eq-default (rulesOf k) (exactly []) late ∙ rule-late _ late
+
+  pub rule-in : (d : ℕ) → getD (rulesIn row) d (exactly []) ≡ ruleOf k d
+  rule-in d = ap (λ (l : List Children). getD l d (exactly [])) (row-is .rules) ∙ rules-of d
+
+  pub rule-first : (d : ℕ) → d ≡ 0 → childrenOf (row / 0x1000 % 0x100_0000_0000) ≡ ruleOf k d
+  unfolding rulesIn
+  rule-first d e = rw e (rule-in 0)
 
 -- a number that no rule has: it permits nothing
-pub rule-none : (m : ℕ) → Apart (down 18) m → childrenOf 0 ≡ ruleAt m
+pub rule-none : (m : ℕ) → Apart (down 5) m → childrenOf 0 ≡ ruleAt m
 unfolding childrenOf ruleAt
-rule-none m a = sym (List·getD-eq-default rules (exactly []) (past 18 m a))
+rule-none m a = sym (List·getD-eq-default rules (exactly []) (past 5 m a))
 
 -- a place past three: no class
 pub class-none : (a b c j : ℕ) → Apart (down 3) j → 0 ≡ getD (a ∷ b ∷ c ∷ []) j 0

@@ -29,7 +29,7 @@ use Rattle.soundness.specs.Sound.{Context, fieldsSound, wholeTrees, clas
 use Rattle.soundness.specs.Sound.{wanted, permits, kidsSound, soundNode, soundAt, context, contextOf}
 use Rattle.soundness.specs.Sound.{contextIn, rootSound, recordSound, firstFalse, firstUnsound, soundIn, unsoundIn}
 use Rattle.soundness.specs.Packed.{ruleOf, numberSound, LastFrom, childSound, childOf, rootEnd, Turned}
-use Rattle.soundness.specs.Packed.{Searched}
+use Rattle.soundness.specs.Packed.{Searched, inRange, childIn}
 use Rattle.soundness.proofs.Packing.{length-wanted}
 use Rattle.soundness.proofs.Search.{Looking, look-start, look-here, look-on, look-end}
 use Rattle.soundness.proofs.Tops.{Placed, place-start, Turns, turn-files}
@@ -98,7 +98,6 @@ module _ {t left : List ℕ} {n : ℕ} (s : Counting t left n) where
   count-end h = let none-left : length (classes (forest 0 left)) ≡ 0 = rw (forest-none 0 left h) refl in
       omega (arith, s .all)
 
--- both of two tests
 -- what children a rule permits, as the two tests of code
 permits-tests : (c : Children) (cs : List ℕ)
     → permits c cs ≡ (numberSound c (length cs) && same cs (wanted c (length cs)))
@@ -141,7 +140,7 @@ abbrev ordered : Children → List ℕ → List ℕ → ℕ → Bool
 ordered c t left j = wholeTrees (forest 0 left) && same (classes (forest 0 left)) (drop j (wanted c (kidsNumber t)))
 
 -- the children, by the two tests of code; the order matters only where the number is permitted
-kids-tests : (c : Children) (t : List ℕ) {r : Bool}
+pub kids-tests : (c : Children) (t : List ℕ) {r : Bool}
     → (numberSound c (kidsNumber t) ≡ true → fixed c ≤ kidsNumber t → r ≡ ordered c t t 0)
     → (numberSound c (kidsNumber t) ≡ false → r ≡ false) → r ≡ kidsSound c (forest 0 t)
 unfolding kidsSound numberSound
@@ -301,6 +300,23 @@ module _ (t : List ℕ) (big : 24 ≤ length t) {size : ℕ} (size-is : size ≡
     pub child-fits : (want : ℕ) → class ≡ want → 24 * size ≡ childOf want t
     unfolding childOf
     child-fits want f = rw (whole-yes w-yes, ← this-class, eq-eqb class want f) (whole-span w-yes)
+
+  -- the same by the range of its kind
+  pub in-cut : (range : ℕ) → w ≡ false → 0 ≡ childIn range t
+  unfolding childIn
+  in-cut range w-no = rw (whole-no w-no) refl
+
+  module _ {kind : ℕ} (w-yes : w ≡ true) (kind-is : kind ≡ nodeOf 0 (take 24 t) .kind) (range : ℕ) where
+    this-kind : nodeOf 0 t .kind ≡ kind
+    this-kind = sym (kind-is ∙ ap (λ (r : Node). r .kind) (node-take 0 24 t (omega arith)))
+
+    pub in-outside : inRange range kind ≡ false → 0 ≡ childIn range t
+    unfolding childIn
+    in-outside d = rw (whole-yes w-yes, this-kind, d) refl
+
+    pub in-fits : inRange range kind ≡ true → 24 * size ≡ childIn range t
+    unfolding childIn
+    in-fits f = rw (whole-yes w-yes, this-kind, f) (whole-span w-yes)
 
 -- the record that the rest t of a table begins with, as code tests it
 module _ (x : Context) (t : List ℕ) where

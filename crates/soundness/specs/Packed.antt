@@ -1,15 +1,14 @@
 -- How the packed rows of code are read. It is proved that they agree with Kinds, so nobody has to check the digits.
 -- These are definitions.
-use mathlib.Core.Bool.{Bool, true, _&&_}
+use mathlib.Core.Bool.{Bool, true, false, _&&_, _||_}
 use mathlib.Core.List.{List, [], _∷_}
 use mathlib.Core.Path.{_≡_}
-use Prim.Native.Nat.{ℕ, _+_, _-_, _/_, _%_, _<_, _≤_, min}
+use Prim.Native.Nat.{ℕ, _+_, _-_, _*_, _/_, _%_, _<_, _≤_, min}
 use lib.ListN.{length, getD, take}
 use lib.Dec.{eqb, ltb, leb}
 use Rattle.fields.specs.Choice.{if'}
-use Rattle.soundness.specs.Kinds.{statement, expression, parameter, argument, one, two, three, Times, anyNumber}
-use Rattle.soundness.specs.Kinds.{evenNumber, atMost, Children, children, exactly, any, evenly, upTo, thenAny}
-use Rattle.soundness.specs.Kinds.{thenUpTo, anyThen, kindOf, classOf}
+use Rattle.soundness.specs.Kinds.{statement, expression, parameter, one, two, three, Times, anyNumber, evenNumber}
+use Rattle.soundness.specs.Kinds.{atMost, Children, children, exactly, anyThen, kindOf, classOf}
 use Rattle.forest.specs.Forest.{recordBytes, sizeOf, nodeOf, spanOf}
 use Rattle.forest.specs.declared.Found.{Found}
 use Rattle.soundness.specs.Files.{lastFile, rootStatements}
@@ -43,16 +42,10 @@ timesOf n = if' (eqb n 15) (λ _. anyNumber) (λ _. if' (eqb n 14) (λ _. evenNu
 unfoldable pub childrenOf : ℕ → Children
 childrenOf r = children (take (frontsIn r) (frontIn r)) (timesOf (timesIn r)) (middleIn r) (take (backsIn r) (backIn r))
 
--- the rules that kinds share, by number
+-- the rules that kinds have at a detail from 1 on, by number
 abbrev pub rules : List Children
 rules =
-    exactly [] ∷ exactly one ∷ exactly two ∷ exactly three
-    ∷ anyThen parameter (statement ∷ []) ∷ anyThen parameter (expression ∷ statement ∷ []) ∷ anyThen parameter one
-    ∷ any statement ∷ any expression ∷ evenly expression ∷ upTo 1 expression
-    ∷ thenUpTo one 3 expression ∷ thenAny one expression ∷ thenAny two expression ∷ thenAny one argument
-    ∷ exactly (expression ∷ expression ∷ statement ∷ []) ∷ exactly (expression ∷ statement ∷ [])
-    ∷ exactly (expression ∷ statement ∷ statement ∷ [])
-    ∷ []
+    exactly [] ∷ exactly one ∷ exactly two ∷ exactly three ∷ anyThen parameter (expression ∷ statement ∷ []) ∷ []
 
 unfoldable pub ruleAt : ℕ → Children
 ruleAt n = getD rules n (exactly [])
@@ -61,21 +54,65 @@ ruleAt n = getD rules n (exactly [])
 unfoldable pub ruleOf : ℕ → ℕ → Children
 ruleOf k d = if' (leb d (kindOf k .details)) (λ _. kindOf k .kids d) (λ _. exactly [])
 
--- the rules of a packed row, and those of a kind, at the details 0 to 3
+-- the rules of a packed row, and those of a kind, at the details 0 to 3. The row has the rule at detail 0 itself, and
+-- the numbers of the others
 unfoldable pub rulesIn : ℕ → List Children
 rulesIn row =
-    ruleAt (row / 0x100_0000 % 0x100) ∷ ruleAt (row / 0x1_0000 % 0x100) ∷ ruleAt (row / 0x100 % 0x100)
-    ∷ ruleAt (row % 0x100) ∷ []
+    childrenOf (row / 0x1000 % 0x100_0000_0000) ∷ ruleAt (row / 0x100 % 16) ∷ ruleAt (row / 16 % 16) ∷ ruleAt (row % 16)
+    ∷ []
 
 unfoldable pub rulesOf : ℕ → List Children
 rulesOf k = ruleOf k 0 ∷ ruleOf k 1 ∷ ruleOf k 2 ∷ ruleOf k 3 ∷ []
 
 -- the packed row of a kind says what the kind's row says
 pub record RowOf (k row : ℕ) : Type 0 where
-  pub class : row / 0x100_0000_0000 % 16 ≡ classOf k
-  pub details : row / 0x10_0000_0000 % 4 ≡ kindOf k .details
-  pub named : eqb (row / 0x1_0000_0000 % 16) 1 ≡ kindOf k .named
+  pub class : row / 0x1000_0000_0000_0000 % 16 ≡ classOf k
+  pub details : row / 0x100_0000_0000_0000 % 4 ≡ kindOf k .details
+  pub named : eqb (row / 0x10_0000_0000_0000 % 16) 1 ≡ kindOf k .named
   pub rules : rulesIn row ≡ rulesOf k
+
+-- the kinds of a class, packed: the least in the low byte, the greatest in the high byte. Class 0 has no kinds
+unfoldable pub rangeOf : ℕ → ℕ
+rangeOf c = getD (0x00ff ∷ 0x0c01 ∷ 0x2b14 ∷ 0x3632 ∷ 0x3f3c ∷ []) c 0x00ff
+
+-- whether a kind is in a packed range
+unfoldable pub inRange : ℕ → ℕ → Bool
+inRange r k = leb (r % 256) k && leb k (r / 256 % 256)
+
+-- the class that a rule without last children requires of child j, and the ranges of four children from child j on, the
+-- first lowest
+unfoldable pub classFor : Children → ℕ → ℕ
+classFor c j = getD (c .front) j (c .middle)
+
+unfoldable pub rangesFrom : Children → ℕ → ℕ
+rangesFrom c j =
+    rangeOf (classFor c j) + 0x1_0000 * rangeOf (classFor c (j + 1)) + 0x1_0000_0000 * rangeOf (classFor c (j + 2))
+    + 0x1_0000_0000_0000 * rangeOf (classFor c (j + 3))
+
+-- whether a rule names the class of each child that it permits: of all first children, and in the middle unless it
+-- permits none there
+abbrev pub noneMore : Times → Bool
+noneMore anyNumber = false
+noneMore evenNumber = false
+noneMore (atMost n) = eqb n 0
+
+abbrev pub allClassed : List ℕ → Bool
+allClassed [] = true
+allClassed (c ∷ cs) = leb 1 c && allClassed cs
+
+unfoldable pub classed : Children → Bool
+classed c = allClassed (c .front) && (leb 1 (c .middle) || noneMore (c .times))
+
+-- the packed ranges of a kind at detail 0
+pub record RangesOf (k w : ℕ) : Type 0 where
+  pub are : w ≡ rangesFrom (ruleOf k 0) 0
+  pub known : classed (ruleOf k 0) ≡ true
+
+-- the packed ranges of a rule that has no last children
+pub record Ranges (rule w : ℕ) : Type 0 where
+  pub no-last : backsIn rule ≡ 0
+  pub are : w ≡ rangesFrom (childrenOf rule) 0
+  pub known : classed (childrenOf rule) ≡ true
 
 -- whether a node may have n children, which code tests last
 unfoldable pub numberSound : Children → ℕ → Bool
@@ -98,6 +135,11 @@ childSound want bs = eqb (sizeOf bs) (spanOf bs / recordBytes) && eqb (classOf (
 -- its size in bytes if so, else zero
 unfoldable pub childOf : ℕ → List ℕ → ℕ
 childOf want bs = if' (childSound want bs) (λ _. spanOf bs) (λ _. 0)
+
+-- the same by the range of its kind
+unfoldable pub childIn : ℕ → List ℕ → ℕ
+childIn range bs =
+    if' (eqb (sizeOf bs) (spanOf bs / recordBytes) && inRange range (nodeOf 0 bs .kind)) (λ _. spanOf bs) (λ _. 0)
 
 -- where the loop's first statement ends: a root Statements ends after its own record; any other root begins one itself
 unfoldable pub rootEnd : List ℕ → ℕ

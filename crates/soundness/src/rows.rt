@@ -2,23 +2,28 @@
 // is a table in the compiled code; an array would be built on the stack at each call. specs/Packed.antt defines how the
 // digits are read, and it is proved arm by arm that they agree with specs/Kinds.antt.
 ghost use mathlib.Core.Path.{_≡_};
+ghost use mathlib.Core.List.{[]};
+ghost use Prim.Native.Nat.{_≤_};
 ghost use lib.ListN.{getD};
-ghost use Rattle.soundness.specs.Kinds.{kindOf, classOf};
+ghost use Rattle.soundness.specs.Kinds.{exactly, kindOf, classOf};
 ghost use Rattle.soundness.specs.Packed.{RowOf, ruleAt, ruleOf, childrenOf, frontsIn, frontIn, timesIn, middleIn};
-ghost use Rattle.soundness.specs.Packed.{backsIn, backIn};
+ghost use Rattle.soundness.specs.Packed.{backsIn, backIn, rulesIn, RangesOf};
 
 // The parts of a row in its number: the power of 16 of the last digit of each.
-const CLASS: u64 = 0x100_0000_0000;
+const CLASS: u64 = 0x1000_0000_0000_0000;
 
-const DETAILS: u64 = 0x10_0000_0000;
+const DETAILS: u64 = 0x100_0000_0000_0000;
 
-const NAMED: u64 = 0x1_0000_0000;
+const NAMED: u64 = 0x10_0000_0000_0000;
 
-const RULE_0: u64 = 0x100_0000;
+const RULE_0: u64 = 0x1000;
 
-const RULE_1: u64 = 0x1_0000;
+const RULE_1: u64 = 0x100;
 
-const RULE_2: u64 = 0x100;
+const RULE_2: u64 = 0x10;
+
+// One more than the largest rule.
+const RULES: u64 = 0x100_0000_0000;
 
 // The parts of a rule in its number.
 const FRONTS: u64 = 0x10_0000_0000;
@@ -39,57 +44,59 @@ const BACK_0: u64 = 0x100;
 
 const BACK_1: u64 = 0x10;
 
-// The row of a kind: its class, its largest detail, whether it has a name, and the number of its rule at the details 0,
-// 1, 2 and 3, two digits each. A number that is no kind gives 0.
+// The row of a kind: its class, its largest detail, whether it has a name, its rule at detail 0, and the numbers of its
+// rules at the details 1, 2 and 3. A number that is no kind gives 0. A rule has the number of first children and the
+// classes of up to three; the number in the middle (f any, e an even number, else that many at most) and their class;
+// the number of last children and the classes of up to three.
 fn row_of(kind: u8) -> u64
     ensures { λ r. ⌜ RowOf kind r ⌝ }
 {
     match kind {
-        1 => 0x1_0_0_07_00_00_00, // Statements
-        2 => 0x1_1_0_04_05_00_00, // Def
-        3 => 0x1_0_0_0f_00_00_00, // For
-        4 => 0x1_0_0_10_00_00_00, // If
-        5 => 0x1_0_0_11_00_00_00, // IfElse
-        6 => 0x1_0_0_00_00_00_00, // Break
-        7 => 0x1_0_0_00_00_00_00, // Continue
-        8 => 0x1_0_0_0a_00_00_00, // Return
-        9 => 0x1_0_0_00_00_00_00, // Load
-        10 => 0x1_0_0_08_00_00_00, // OtherSimple
-        11 => 0x1_1_0_02_03_00_00, // Assign
-        12 => 0x1_1_0_02_03_00_00, // AssignModify
-        20 => 0x2_0_0_08_00_00_00, // Tuple
-        21 => 0x2_0_1_01_00_00_00, // Dot
-        22 => 0x2_0_0_0e_00_00_00, // Call
-        23 => 0x2_0_0_02_00_00_00, // Index
-        24 => 0x2_0_0_03_00_00_00, // Index2
-        25 => 0x2_0_0_0b_00_00_00, // Slice
-        26 => 0x2_0_1_00_00_00_00, // Identifier
-        27 => 0x2_0_0_06_00_00_00, // Lambda
-        28 => 0x2_0_0_00_00_00_00, // String
-        29 => 0x2_0_0_00_00_00_00, // Int
-        30 => 0x2_0_0_00_00_00_00, // Float
-        31 => 0x2_0_0_00_00_00_00, // Ellipsis
-        32 => 0x2_0_0_00_00_00_00, // Bytes
-        33 => 0x2_0_0_01_00_00_00, // Not
-        34 => 0x2_0_0_01_00_00_00, // Minus
-        35 => 0x2_0_0_01_00_00_00, // Plus
-        36 => 0x2_0_0_01_00_00_00, // BitNot
-        37 => 0x2_1_0_02_02_00_00, // Op
-        38 => 0x2_0_0_03_00_00_00, // IfExpr
-        39 => 0x2_0_0_08_00_00_00, // List
-        40 => 0x2_0_0_09_00_00_00, // Dict
-        41 => 0x2_0_0_0c_00_00_00, // ListComprehension
-        42 => 0x2_0_0_0d_00_00_00, // DictComprehension
-        43 => 0x2_0_0_08_00_00_00, // FString
-        50 => 0x3_3_1_00_01_01_02, // Normal
-        51 => 0x3_0_0_00_00_00_00, // NoArgs
-        52 => 0x3_0_0_00_00_00_00, // Slash
-        53 => 0x3_1_1_00_01_00_00, // ArgsParam
-        54 => 0x3_1_1_00_01_00_00, // KwArgsParam
-        60 => 0x4_0_0_01_00_00_00, // Positional
-        61 => 0x4_0_1_01_00_00_00, // Named
-        62 => 0x4_0_0_01_00_00_00, // ArgsArg
-        63 => 0x4_0_0_01_00_00_00, // KwArgsArg
+        1 => 0x1_0_0_0_000_f_1_0_000_0_0_0, // Statements
+        2 => 0x1_1_0_0_000_f_3_1_100_4_0_0, // Def
+        3 => 0x1_0_0_3_221_0_0_0_000_0_0_0, // For
+        4 => 0x1_0_0_2_210_0_0_0_000_0_0_0, // If
+        5 => 0x1_0_0_3_211_0_0_0_000_0_0_0, // IfElse
+        6 => 0x1_0_0_0_000_0_0_0_000_0_0_0, // Break
+        7 => 0x1_0_0_0_000_0_0_0_000_0_0_0, // Continue
+        8 => 0x1_0_0_0_000_1_2_0_000_0_0_0, // Return
+        9 => 0x1_0_0_0_000_0_0_0_000_0_0_0, // Load
+        10 => 0x1_0_0_0_000_f_2_0_000_0_0_0, // OtherSimple
+        11 => 0x1_1_0_2_220_0_0_0_000_3_0_0, // Assign
+        12 => 0x1_1_0_2_220_0_0_0_000_3_0_0, // AssignModify
+        20 => 0x2_0_0_0_000_f_2_0_000_0_0_0, // Tuple
+        21 => 0x2_0_1_1_200_0_0_0_000_0_0_0, // Dot
+        22 => 0x2_0_0_1_200_f_4_0_000_0_0_0, // Call
+        23 => 0x2_0_0_2_220_0_0_0_000_0_0_0, // Index
+        24 => 0x2_0_0_3_222_0_0_0_000_0_0_0, // Index2
+        25 => 0x2_0_0_1_200_3_2_0_000_0_0_0, // Slice
+        26 => 0x2_0_1_0_000_0_0_0_000_0_0_0, // Identifier
+        27 => 0x2_0_0_0_000_f_3_1_200_0_0_0, // Lambda
+        28 => 0x2_0_0_0_000_0_0_0_000_0_0_0, // String
+        29 => 0x2_0_0_0_000_0_0_0_000_0_0_0, // Int
+        30 => 0x2_0_0_0_000_0_0_0_000_0_0_0, // Float
+        31 => 0x2_0_0_0_000_0_0_0_000_0_0_0, // Ellipsis
+        32 => 0x2_0_0_0_000_0_0_0_000_0_0_0, // Bytes
+        33 => 0x2_0_0_1_200_0_0_0_000_0_0_0, // Not
+        34 => 0x2_0_0_1_200_0_0_0_000_0_0_0, // Minus
+        35 => 0x2_0_0_1_200_0_0_0_000_0_0_0, // Plus
+        36 => 0x2_0_0_1_200_0_0_0_000_0_0_0, // BitNot
+        37 => 0x2_1_0_2_220_0_0_0_000_2_0_0, // Op
+        38 => 0x2_0_0_3_222_0_0_0_000_0_0_0, // IfExpr
+        39 => 0x2_0_0_0_000_f_2_0_000_0_0_0, // List
+        40 => 0x2_0_0_0_000_e_2_0_000_0_0_0, // Dict
+        41 => 0x2_0_0_1_200_f_2_0_000_0_0_0, // ListComprehension
+        42 => 0x2_0_0_2_220_f_2_0_000_0_0_0, // DictComprehension
+        43 => 0x2_0_0_0_000_f_2_0_000_0_0_0, // FString
+        50 => 0x3_3_1_0_000_0_0_0_000_1_1_2, // Normal
+        51 => 0x3_0_0_0_000_0_0_0_000_0_0_0, // NoArgs
+        52 => 0x3_0_0_0_000_0_0_0_000_0_0_0, // Slash
+        53 => 0x3_1_1_0_000_0_0_0_000_1_0_0, // ArgsParam
+        54 => 0x3_1_1_0_000_0_0_0_000_1_0_0, // KwArgsParam
+        60 => 0x4_0_0_1_200_0_0_0_000_0_0_0, // Positional
+        61 => 0x4_0_1_1_200_0_0_0_000_0_0_0, // Named
+        62 => 0x4_0_0_1_200_0_0_0_000_0_0_0, // ArgsArg
+        63 => 0x4_0_0_1_200_0_0_0_000_0_0_0, // KwArgsArg
         _ => 0,
     }
 }
@@ -115,53 +122,98 @@ pub(crate) fn named(kind: u8) -> bool
     row_of(kind) / NAMED % 16 == 1
 }
 
-// The number of the rule of a kind at a detail.
-fn rule_number(kind: u8, detail: u8) -> u64
-    ensures { λ r. ⌜ ruleAt r ≡ ruleOf kind detail ⌝ }
+// The number of the rule of a row at a detail from 1 on.
+fn rule_number(row: u64, detail: u8) -> u64
+    requires { ⌜ 1 ≤ detail ⌝ }
+    ensures { λ r. ⌜ ruleAt r ≡ getD (rulesIn row) detail (exactly []) ⌝ }
 {
-    let row = row_of(kind);
     match detail {
-        0 => row / RULE_0 % 0x100,
-        1 => row / RULE_1 % 0x100,
-        2 => row / RULE_2 % 0x100,
-        3 => row % 0x100,
+        1 => row / RULE_1 % 16,
+        2 => row / RULE_2 % 16,
+        3 => row % 16,
         _ => 0,
     }
 }
 
-// A rule by its number: the number of first children and the classes of up to three; the number in the middle (f any, e
-// an even number, else that many at most) and their class; the number of last children and the classes of up to three.
+// A rule by its number.
 fn rule_at(number: u64) -> u64
     ensures { λ r. ⌜ childrenOf r ≡ ruleAt number ⌝ }
 {
     match number {
-        0x00 => 0x0_000_0_0_0_000, // exactly nothing
-        0x01 => 0x1_200_0_0_0_000, // one expression
-        0x02 => 0x2_220_0_0_0_000, // two expressions
-        0x03 => 0x3_222_0_0_0_000, // three expressions
-        0x04 => 0x0_000_f_3_1_100, // parameters, a statement
-        0x05 => 0x0_000_f_3_2_210, // parameters, an expression, a statement
-        0x06 => 0x0_000_f_3_1_200, // parameters, an expression
-        0x07 => 0x0_000_f_1_0_000, // any statements
-        0x08 => 0x0_000_f_2_0_000, // any expressions
-        0x09 => 0x0_000_e_2_0_000, // an even number of expressions
-        0x0a => 0x0_000_1_2_0_000, // at most one expression
-        0x0b => 0x1_200_3_2_0_000, // an expression, at most three more
-        0x0c => 0x1_200_f_2_0_000, // an expression, any more
-        0x0d => 0x2_220_f_2_0_000, // two expressions, any more
-        0x0e => 0x1_200_f_4_0_000, // an expression, any arguments
-        0x0f => 0x3_221_0_0_0_000, // two expressions, a statement
-        0x10 => 0x2_210_0_0_0_000, // an expression, a statement
-        0x11 => 0x3_211_0_0_0_000, // an expression, two statements
+        0 => 0x0_000_0_0_0_000, // nothing
+        1 => 0x1_200_0_0_0_000, // one expression
+        2 => 0x2_220_0_0_0_000, // two expressions
+        3 => 0x3_222_0_0_0_000, // three expressions
+        4 => 0x0_000_f_3_2_210, // parameters, an expression, a statement
         _ => 0,
     }
 }
 
-// The children that a kind permits at a detail.
+// The children that a kind permits at a detail. Most records have detail 0, whose rule is in the row itself.
 pub(crate) fn rule_of(kind: u8, detail: u8) -> u64
     ensures { λ r. ⌜ childrenOf r ≡ ruleOf kind detail ⌝ }
 {
-    rule_at(rule_number(kind, detail))
+    let row = row_of(kind);
+    if detail == 0 {
+        return row / RULE_0 % RULES;
+    }
+    rule_at(rule_number(row, detail))
+}
+
+// The kinds that the children of a kind may have at detail 0, apart from its last children: 16 bits for each of the
+// first three and for all others, the first lowest. In them the low byte is the least kind, the high byte the greatest.
+// A place that no child may have gives 00ff, which no kind is in.
+pub(crate) fn ranges_of(kind: u8) -> u64
+    ensures { λ r. ⌜ RangesOf kind r ⌝ }
+{
+    match kind {
+        1 => 0x0c01_0c01_0c01_0c01, // Statements
+        2 => 0x3632_3632_3632_3632, // Def
+        3 => 0x00ff_0c01_2b14_2b14, // For
+        4 => 0x00ff_00ff_0c01_2b14, // If
+        5 => 0x00ff_0c01_0c01_2b14, // IfElse
+        6 => 0x00ff_00ff_00ff_00ff, // Break
+        7 => 0x00ff_00ff_00ff_00ff, // Continue
+        8 => 0x2b14_2b14_2b14_2b14, // Return
+        9 => 0x00ff_00ff_00ff_00ff, // Load
+        10 => 0x2b14_2b14_2b14_2b14, // OtherSimple
+        11 => 0x00ff_00ff_2b14_2b14, // Assign
+        12 => 0x00ff_00ff_2b14_2b14, // AssignModify
+        20 => 0x2b14_2b14_2b14_2b14, // Tuple
+        21 => 0x00ff_00ff_00ff_2b14, // Dot
+        22 => 0x3f3c_3f3c_3f3c_2b14, // Call
+        23 => 0x00ff_00ff_2b14_2b14, // Index
+        24 => 0x00ff_2b14_2b14_2b14, // Index2
+        25 => 0x2b14_2b14_2b14_2b14, // Slice
+        26 => 0x00ff_00ff_00ff_00ff, // Identifier
+        27 => 0x3632_3632_3632_3632, // Lambda
+        28 => 0x00ff_00ff_00ff_00ff, // String
+        29 => 0x00ff_00ff_00ff_00ff, // Int
+        30 => 0x00ff_00ff_00ff_00ff, // Float
+        31 => 0x00ff_00ff_00ff_00ff, // Ellipsis
+        32 => 0x00ff_00ff_00ff_00ff, // Bytes
+        33 => 0x00ff_00ff_00ff_2b14, // Not
+        34 => 0x00ff_00ff_00ff_2b14, // Minus
+        35 => 0x00ff_00ff_00ff_2b14, // Plus
+        36 => 0x00ff_00ff_00ff_2b14, // BitNot
+        37 => 0x00ff_00ff_2b14_2b14, // Op
+        38 => 0x00ff_2b14_2b14_2b14, // IfExpr
+        39 => 0x2b14_2b14_2b14_2b14, // List
+        40 => 0x2b14_2b14_2b14_2b14, // Dict
+        41 => 0x2b14_2b14_2b14_2b14, // ListComprehension
+        42 => 0x2b14_2b14_2b14_2b14, // DictComprehension
+        43 => 0x2b14_2b14_2b14_2b14, // FString
+        50 => 0x00ff_00ff_00ff_00ff, // Normal
+        51 => 0x00ff_00ff_00ff_00ff, // NoArgs
+        52 => 0x00ff_00ff_00ff_00ff, // Slash
+        53 => 0x00ff_00ff_00ff_00ff, // ArgsParam
+        54 => 0x00ff_00ff_00ff_00ff, // KwArgsParam
+        60 => 0x00ff_00ff_00ff_2b14, // Positional
+        61 => 0x00ff_00ff_00ff_2b14, // Named
+        62 => 0x00ff_00ff_00ff_2b14, // ArgsArg
+        63 => 0x00ff_00ff_00ff_2b14, // KwArgsArg
+        _ => 0x00ff_00ff_00ff_00ff,
+    }
 }
 
 // The number of first children.

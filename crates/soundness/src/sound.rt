@@ -14,7 +14,7 @@ ghost use Rattle.soundness.specs.Files.{range, fileSound};
 ghost use Rattle.soundness.specs.Sound.{context, nameSound, spanSound, sourceSound, fieldsSound, classes};
 ghost use Rattle.soundness.specs.Sound.{kidsSound, soundAt, rootSound, firstUnsound, unsoundIn};
 ghost use Rattle.soundness.specs.Packed.{backsIn, childrenOf, ruleOf, numberSound, LastFrom, classAt, childOf};
-ghost use Rattle.soundness.specs.Packed.{rootEnd, Turned, Searched};
+ghost use Rattle.soundness.specs.Packed.{rootEnd, Turned, Searched, Ranges, childIn};
 
 // The largest number of a source file.
 const LAST_FILE: u16 = 999;
@@ -172,11 +172,55 @@ fn children_sound(t: &[u8], rule: u64, m: usize) -> bool
     number_sound(rule, j)
 }
 
+// The size in bytes of the first node, if it is whole and its kind is in a range of `ranges_of`; else zero.
+fn child_in(t: &[u8], range: u64) -> usize
+    requires { ⌜ recordBytes ≤ length (now t) ⌝ }
+    ensures { λ r. ⌜ r ≡ childIn range (now (t .entry)) ⌝ }
+{
+    let head = &t[0..RECORD];
+    let size = forest::size(head);
+    if !whole(size, t.len()) {
+        return 0;
+    }
+    let kind = forest::kind(head) as u64;
+    if !((range % 256 <= kind) & (kind <= range / 256 % 256)) {
+        return 0;
+    }
+    RECORD * (size as usize)
+}
+
+// The same as `children_sound` for a rule without last children, whose ranges are given. Most nodes have such a rule.
+fn row_sound(t: &[u8], rule: u64, first: u64) -> bool
+    requires { ⌜ Ranges rule first ⌝ }
+    ensures { λ r. ⌜ r ≡ kidsSound (childrenOf rule) (forest 0 (now (t .entry))) ⌝ }
+{
+    let mut left = t;
+    let mut j = 0;
+    let mut ranges = first;
+    let others = first / 0x1_0000_0000_0000 * 0x1_0000_0000_0000;
+    while RECORD <= left.len() {
+        let e = child_in(left, ranges);
+        if e == 0 {
+            return false;
+        }
+        ranges = ranges / 0x1_0000 + others;
+        left = &left[e..];
+        j += 1;
+    }
+    number_sound(rule, j)
+}
+
 // Whether the nodes of a stretch fill it and are the children that a kind permits at a detail.
 fn kids_sound(t: &[u8], kind: u8, detail: u8) -> bool
     ensures { λ r. ⌜ r ≡ kidsSound (ruleOf kind detail) (forest 0 (now (t .entry))) ⌝ }
 {
     let rule = rows::rule_of(kind, detail);
+    if t.len() < RECORD {
+        return number_sound(rule, 0);
+    }
+    if (detail == 0) & (rows::backs(rule) == 0) {
+        return row_sound(t, rule, rows::ranges_of(kind));
+    }
     let m = last_from(t, rows::backs(rule));
     children_sound(t, rule, m)
 }

@@ -2,13 +2,13 @@
 -- nothing.
 use mathlib.Core.Path.{refl}
 use Rattle.soundness.specs.Kinds.{kindOf, kindIn}
-use Rattle.soundness.specs.Packed.{rulesIn, rulesOf, ruleAt, ruleOf}
+use Rattle.soundness.specs.Packed.{rulesIn, rulesOf, ruleAt, ruleOf, childrenOf}
 use Rattle.soundness.proofs.Packing.{row-arm, row-none}
 use Rattle.soundness.proofs.rows.row_of.Statement.{statement}
 use Rattle.soundness.proofs.rows.row_of.Tie as tie
 
 pub row-of-spec : {M : Type 1} → statement M
-unfolding rulesIn rulesOf ruleAt ruleOf kindOf kindIn
+unfolding rulesIn rulesOf ruleAt ruleOf childrenOf kindOf kindIn
 row-of-spec =
     tie.close
     (tie.spec
