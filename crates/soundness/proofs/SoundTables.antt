@@ -126,7 +126,7 @@ length-stretch t i m h = length-take-le (24 * m) (drop (24 * i) t) (simp length-
 span-size : (bs : List ℕ) {s : ℕ} → s ≡ sizeOf bs → 1 ≤ s → 24 * s ≤ length bs → spanOf bs ≡ 24 * s
 span-size bs s-is least room = omega arith
 
--- such a stretch has a first node, whose size is at least 1 and fits into it
+-- a stretch of at least one record, whose first node has a size of at least 1 that fits into it
 record First (t : List ℕ) (i m : ℕ) : Type 0 where
   room : 24 * (i + m) ≤ length t
   some : 1 ≤ m
@@ -184,7 +184,7 @@ module _ {t : List ℕ} {i m : ℕ} (f : First t i m) where
   unfolding soundAt
   here-sound x h = rw (kids-same, node-take i (24 * m) (drop (24 * i) t) (omega (arith, f .some))) h
 
--- a record of it is the first, one under the first, which has n records, or one behind these
+-- a record from i on is record i, another of the n records of its subtree, or one behind these
 by-place : {P : Type 0} (i n j : ℕ) → i ≤ j → (j ≡ i → P) → (i + 1 ≤ j → j < i + n → P) → (i + n ≤ j → P) → P
 by-place i n j h here under behind =
     ⊎-elim behind
