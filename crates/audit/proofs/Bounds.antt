@@ -20,27 +20,21 @@ use Rattle.table.specs.declared.Wanted.the-variants.{Parameters, Call, Assignme
 use Rattle.deflist.specs.Written.{rootIn, writtenIn}
 use Rattle.deflist.specs.Limited.{limited}
 use Rattle.deflist.specs.Told.{told}
-use Rattle.deflist.specs.declared.Judged.{Judged}
-use Rattle.deflist.specs.declared.Judged.the-variants.{Accepted, Refused}
 use Rattle.arguments.specs.Job.{callAnswer}
 use Rattle.targets.specs.Targets.{counted, «check_assignment»}
 use Rattle.types.specs.Types.{«dialect_check_type»}
 use Rattle.errors.specs.declared.Err.{Err}
-use Rattle.validate.specs.Params.{unpackError}
+use Rattle.validate.proofs.Bounds.{error-few}
 use Rattle.audit.specs.declared.Role.{Role}
 use Rattle.audit.specs.declared.Role.the-variants.{AsTarget, AsType, Plain}
 use Rattle.audit.specs.declared.Roles.{Roles}
 use Rattle.audit.specs.Roles.{rolesOf, roleOf, rolesAfter, Placed, kindIn, placedTree, placed}
 use Rattle.audit.specs.Refusals.{answerErrors, kindErrors, roleErrors, refusedThere, refusals}
 
--- an answer gives at most one error, and so does a parameter list
+-- an answer gives at most one error, and so does a parameter list (validate's `error-few`)
 answer-few : (a : Answer) → length (answerErrors a) ≤ 1
 answer-few (accepted vs) = omega arith
 answer-few (refused n vs) = omega arith
-
-list-few : (j : Judged) → length (unpackError j) ≤ 1
-list-few (Accepted c) = omega arith
-list-few (Refused f) = omega arith
 
 choice-few : (b : Bool) (x y : Unit {0} → List Err) → length (x tt) ≤ 1 → length (y tt) ≤ 1 → length (if' b x y) ≤ 1
 choice-few true x y p q = p
@@ -49,7 +43,7 @@ choice-few false x y p q = q
 pub kind-few : (names : List ℕ) (t : Tree) → length (kindErrors names t) ≤ 1
 unfolding kindErrors
 kind-few names t =
-    choice-few (wants Parameters (kindIn t)) _ _ (list-few (told (limited (rootIn t) (writtenIn names t))))
+    choice-few (wants Parameters (kindIn t)) _ _ (error-few (told (limited (rootIn t) (writtenIn names t))))
     (choice-few (wants Call (kindIn t)) _ _ (answer-few (callAnswer names t))
     (choice-few (wants Assignment (kindIn t)) _ _ (answer-few («check_assignment» t)) (omega arith)))
 

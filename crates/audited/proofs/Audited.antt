@@ -7,9 +7,8 @@
 use mathlib.Core.Path.{_≡_, refl, sym, ap, _∙_}
 use mathlib.Core.List.{List, [], _∷_, _++_}
 use Prim.Native.Nat.{ℕ, _/_}
-use native.Mathlib.Omega.{arith}
 use lib.ListN.{length}
-use Rattle.fields.proofs.Basics.{never}
+use Rattle.fields.proofs.Basics.{never, no-entries}
 use Rattle.dialect.specs.declared.Dialect.{Dialect}
 use Rattle.dialect.specs.declared.Edition.{Edition}
 use Rattle.dialect.specs.declared.EditionRead.the-variants.{Known}
@@ -101,11 +100,6 @@ module _ (t names bytes : List ℕ) (n : ℕ) {d : Dialect} {edition : Edition}
       let own : kept Own («validate_module» d names (forest 0 t)) ≡ [] = ap (kept Own) (sym module-is ∙ none)
       ∙ kept-none Own in
       parts ∙ both-none own (refused-none d edition names trees quiet)
-
--- a list of no entries is empty
-no-entries : {A : Type 0} (xs : List A) → length xs ≡ 0 → xs ≡ []
-no-entries [] e = refl
-no-entries (x ∷ xs) e = absurd (omega (arith, e))
 
 -- an audit that is not refused has a dialect and an edition
 let-in : (t names bytes : List ℕ) (n : ℕ) {vs : List ℕ} → auditOf t names bytes n ≡ accepted vs

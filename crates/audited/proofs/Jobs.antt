@@ -7,9 +7,9 @@
 use mathlib.Core.Path.{_≡_, refl, sym, ap, _∙_}
 use mathlib.Core.Bool.{Bool, true, false}
 use mathlib.Core.List.{List, []}
-use Prim.Native.Nat.{ℕ, _*_, _/_, _<_, _≤_}
+use Prim.Native.Nat.{ℕ, _/_, _<_, _≤_}
 use native.Mathlib.Omega.{arith}
-use lib.ListN.{length, drop}
+use lib.ListN.{length}
 use lib.Dec.{eqb}
 use borrow.Author.Tests.{le-leb, lt-ltb, eqb-true, eq-eqb}
 use Rattle.fields.proofs.Basics.{never}
@@ -17,15 +17,14 @@ use Rattle.fields.specs.Choice.{if'}
 use Rattle.dialect.specs.declared.Dialect.{Dialect}
 use Rattle.dialect.specs.declared.Edition.{Edition}
 use Rattle.dialect.specs.Editions.{editionOf}
-use Rattle.forest.specs.Forest.{Node, sizeOf, nodeOf, Tree, treeOf}
-use Rattle.forest.proofs.Stretch.{node-take}
+use Rattle.forest.specs.Forest.{Tree, treeOf}
 use Rattle.soundness.specs.KindNumbers.{kindCall, kindAssign, kindAssignModify}
 use Rattle.soundness.specs.Kinds.{expression, classOf}
 use Rattle.table.specs.Answer.{Answer, accepted, refused}
 use Rattle.table.specs.Check.{byRules, rulesOf, wants, nodeFits, stretchOf, onNode}
 use Rattle.table.specs.declared.Wanted.{Wanted}
 use Rattle.table.specs.declared.Wanted.the-variants.{Parameters, Call, Assignment, Expression}
-use Rattle.table.proofs.Checking.{Clean, stretch-is, stretch-size}
+use Rattle.table.proofs.Checking.{Clean, kind-kept}
 use Rattle.table.proofs.Entering.{given-known, sound-entry}
 use Rattle.table.proofs.Ruling.{rules-known}
 use Rattle.table.proofs.Theorems.{clean-accepted}
@@ -127,15 +126,9 @@ module _ (t names bytes : List ℕ) (n : ℕ) {d : Dialect} {edition : Edition}
   abbrev tree : Tree
   tree = treeOf i (stretchOf t i)
 
-  kind-same : nodeOf i (stretchOf t i) .kind ≡ nodeOf i (drop (24 * i) t) .kind
-  kind-same =
-      let size = stretch-size clean i inside in
-      let there = node-take i (24 * sizeOf (drop (24 * i) t)) (drop (24 * i) t) (omega (arith, size)) in
-      ap (λ (r : Node). r .kind) (ap (nodeOf i) (stretch-is clean i inside) ∙ there)
-
   fits-is : (w : Wanted) → nodeFits t i w ≡ wants w (kindIn tree)
   unfolding nodeFits
-  fits-is w = rw (lt-ltb i (length t / 24) inside) (ap (wants w) (sym kind-same))
+  fits-is w = rw (lt-ltb i (length t / 24) inside) (ap (wants w) (sym (kind-kept clean i inside)))
 
   on-node : (w : Wanted) (rule : Tree → Answer) → wants w (kindIn tree) ≡ true → onNode w rule t names i ≡ rule tree
   unfolding onNode

@@ -297,93 +297,90 @@ star-more w p star KwArgs h = star-wider w p star h
 
 module _ {ns kids : List ℕ} {first : ℕ} {marks₀ : List ℕ} {u₀ : Unpacking} {marks : List ℕ} {u : Unpacking}
     {left : List ℕ} {at n : ℕ} (j : Judging ns kids first marks₀ u₀ marks u left at n) where
+  -- the list, what is read of it, and the parameter that comes next
+  abbrev list : List Param
+  list = paramsIn ns (forest first kids)
+
+  abbrev done : List Param
+  done = take n list
+
+  abbrev next : Param
+  next = paramOf ns (nodeOf at left)
+
   module _ {l : Bool} (l-is : l ≡ isListed left) where
     module _ (l-yes : l ≡ true) where
       listed : isListed left ≡ true
       listed = sym l-is ∙ l-yes
 
       here-then : {e : ℕ} → e ≡ spanOf left
-          → run (take n (paramsIn ns (forest first kids))) u
-          (paramOf ns (nodeOf at left) ∷ paramsIn ns (forest (at + e / 24) (take (length left - e) (drop e left))))
-          ≡ run [] u₀ (paramsIn ns (forest first kids))
-      here-then e-is = ap (run (take n (paramsIn ns (forest first kids))) u)
-          (sym (j .reads .rest ∙ list-on ns at left listed e-is)) ∙ j .same
+          → run done u (next ∷ paramsIn ns (forest (at + e / 24) (take (length left - e) (drop e left))))
+          ≡ run [] u₀ list
+      here-then e-is = ap (run done u) (sym (j .reads .rest ∙ list-on ns at left listed e-is)) ∙ j .same
 
-      module _ {ms : List ℕ} {f : Found}
-          (met : Meets ns (take n (paramsIn ns (forest first kids))) left ms (first + length kids / 24) f)
-          {k : Kind} (k-is : k ≡ kindHere left) where
+      module _ {ms : List ℕ} {f : Found} (met : Meets ns done left ms (first + length kids / 24) f) {k : Kind}
+          (k-is : k ≡ kindHere left) where
         abbrev judged : Check
         judged = firstly f (rule (u .state) (u .«seen_optional») k)
 
-        checked : check (take n (paramsIn ns (forest first kids))) (u .state) (u .«seen_optional»)
-            (paramOf ns (nodeOf at left)) ≡ judged
+        checked : check done (u .state) (u .«seen_optional») next ≡ judged
         checked = sym (rw (met .says at, k-is, ← (kind-in ns at left)) refl)
 
-        -- what a parameter that stops the walk says
-        stopped : (x : Check) → judged ≡ x → {o : Outcome}
-            → run (take n (paramsIn ns (forest first kids))) u (paramOf ns (nodeOf at left)
-            ∷ paramsIn ns (forest (at + spanOf left / 24) (take (length left - spanOf left) (drop (spanOf left) left))))
-            ≡ o → {r : Fault} → Stops r ≡ turnOf x (nodeOf at left) → Says o (first + length kids / 24) (Refused r)
-        stopped Fine x-is run-is e = never (cc)
-        stopped (Broken m) x-is run-is {r} e =
-            let r-is : r ≡ fault m (nodeOf at left) Nothing = cc in
-            record {
-              same = rw (
-                r-is,
-                ← run-is,
-                run-stop _ u (paramOf ns (nodeOf at left)) _ (checked ∙ x-is),
-                node-in ns (nodeOf at left),
-              ) refl;
-              inside = rw r-is (omega (arith, j .room), tt);
-            }
-        stopped (Repeated i) x-is run-is {r} e =
-            let r-is : r ≡ fault duplicatedParameter (nodeOf at left) (At i) = cc in
-            record {
-              same = rw (
-                r-is,
-                ← run-is,
-                run-again _ u (paramOf ns (nodeOf at left)) _ (checked ∙ x-is),
-                node-in ns (nodeOf at left),
-              ) refl;
-              inside = rw r-is (omega (arith, j .room), rw (found-repeated f _ _ k x-is) at (met .inside));
-            }
+        -- what a parameter that stops the walk says: it breaks the rule of its kind, or its name is repeated
+        module _ (ps : List Param) {o : Outcome} (run-is : run done u (next ∷ ps) ≡ o) where
+          stopped-broken : {m : ℕ} → judged ≡ Broken m → {r : Fault} → r ≡ fault m (nodeOf at left) Nothing
+              → Says o (first + length kids / 24) (Refused r)
+          stopped-broken x-is r-is = record {
+            same = rw (r-is, ← run-is, run-stop _ u next _ (checked ∙ x-is), node-in ns (nodeOf at left)) refl;
+            inside = rw r-is (omega (arith, j .room), tt);
+          }
+
+          stopped-repeated : {i : ℕ} → judged ≡ Repeated i → {r : Fault}
+              → r ≡ fault duplicatedParameter (nodeOf at left) (At i) → Says o (first + length kids / 24) (Refused r)
+          stopped-repeated x-is r-is = record {
+            same = rw (r-is, ← run-is, run-again _ u next _ (checked ∙ x-is), node-in ns (nodeOf at left)) refl;
+            inside = rw r-is (omega (arith, j .room), rw (found-repeated f _ _ k x-is) at (met .inside));
+          }
+
+          stopped : (x : Check) → judged ≡ x → {r : Fault} → Stops r ≡ turnOf x (nodeOf at left)
+              → Says o (first + length kids / 24) (Refused r)
+          stopped Fine x-is e = never (cc)
+          stopped (Broken m) x-is e = stopped-broken x-is (cc)
+          stopped (Repeated i) x-is e = stopped-repeated x-is (cc)
 
         pub judge-stop : (only : Flat) → u₀ ≡ start only → {t : Turn} → t ≡ turnOf judged (nodeOf at left) → {r : Fault}
             → t ≡ Stops r
             → Says (run [] (start only) (paramsIn ns (forest first kids))) (first + length kids / 24) (Refused r)
-        judge-stop only u₀-is t-is e = stopped judged refl (rw u₀-is at (here-then refl)) (sym e ∙ t-is)
+        judge-stop only u₀-is t-is e = stopped _ (rw u₀-is at (here-then refl)) judged refl (sym e ∙ t-is)
 
         pub judge-on : length ms ≡ length marks → {t : Turn} → t ≡ turnOf judged (nodeOf at left) → t ≡ Passes
             → {v : Unpacking} → v ≡ advance u (writtenAt n) k
             → {e : ℕ} → e ≡ spanOf left → {i : Written} → i ≡ writtenAt (n + 1)
             → Judging ns kids first marks₀ u₀ ms v (take (length left - e) (drop e left)) (at + e / 24) (i .0)
         unfolding advance
-        judge-on same-long t-is passes v-is {e} e-is i-is =
-            let w = paramsIn ns (forest first kids) in
-            let p = paramOf ns (nodeOf at left) in
+        judge-on same-long t-is passes v-is e-is i-is =
             let x = read-here (j .reads) listed e-is in
             let good = checked ∙ fine-passes judged _ (sym passes ∙ t-is) in
-            let long : length (take n w) ≡ n = length-take-le n w (j .reads .upto) in
-            let kind : k ≡ kindIn p = k-is ∙ sym (kind-in ns at left) in
+            let long : length done ≡ n = length-take-le n list (j .reads .upto) in
+            let kind : k ≡ kindIn next = k-is ∙ sym (kind-in ns at left) in
             rw (v-is, kind, i-is)
             (record {
               reads = read-on (j .reads) listed e-is;
               fits = j .fits;
               room = simp (length-take, length-drop) (omega (arith, j .room, listed-long left listed));
               fewer = simp (length-take, length-drop) (omega (arith, j .fewer, listed-long left listed));
-              bounded = bounded-on (u .state) (u .counts) (kindIn p) (j .bounded);
-              clear = rw long at (clear-on (take n w) u p [] (j .clear) good);
-              star = rw (x .front) (rw long at (star-more (take n w) p (u .«index_of_star») (kindIn p) (j .star)));
+              bounded = bounded-on (u .state) (u .counts) (kindIn next) (j .bounded);
+              clear = rw long at (clear-on done u next [] (j .clear) good);
+              star = rw (x .front) (rw long at (star-more done next (u .«index_of_star») (kindIn next) (j .star)));
               known = rw (x .front) (met .known at);
               long = same-long ∙ j .long;
               same = rw (x .front, x .rest)
-                  (rw long at (sym (run-on (take n w) u p _ (j .clear) good) ∙ here-then e-is));
+                  (rw long at (sym (run-on done u next _ (j .clear) good) ∙ here-then e-is));
             })
 
     module _ (l-no : l ≡ false) where
-      whole : take n (paramsIn ns (forest first kids)) ≡ paramsIn ns (forest first kids)
-      whole = sym (append-nil _) ∙ ap (λ (ps : List Param). take n (paramsIn ns (forest first kids)) ++ ps)
-          (sym (read-end (j .reads) (sym l-is ∙ l-no))) ∙ take-append-drop n (paramsIn ns (forest first kids))
+      whole : done ≡ list
+      whole = sym (append-nil _) ∙ ap (λ (ps : List Param). done ++ ps)
+          (sym (read-end (j .reads) (sym l-is ∙ l-no))) ∙ take-append-drop n list
 
       pub judge-end : (only : Flat) → u₀ ≡ start only → {r : Judged}
           → Finishes kids first (u .«index_of_star») (u .counts) r

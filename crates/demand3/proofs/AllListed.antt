@@ -13,7 +13,7 @@ use lib.Dec.{eqb}
 use borrow.Author.Tests.{eq-eqb}
 use Rattle.fields.proofs.Basics.{never}
 use Rattle.fields.specs.Choice.{if'}
-use Rattle.forest.specs.Forest.{Node, nodeOf, kidsOf, node, Forest, none, _then_, forest}
+use Rattle.forest.specs.Forest.{nodeOf, kidsOf, node, Forest, none, _then_, forest}
 use Rattle.soundness.specs.KindNumbers.{kindDef, kindLambda}
 use Rattle.soundness.specs.Kinds.{statement, expression, parameter, ifDetail, kindIn, kindOf, classOf}
 use Rattle.soundness.specs.Sound.{classes, wanted, contextOf}
@@ -21,12 +21,12 @@ use Rattle.soundness.proofs.SoundTables.{node-classes, sound-first}
 use Rattle.table.specs.Answer.{accepted}
 use Rattle.table.specs.Check.{checkOf, stretchOf}
 use Rattle.table.specs.declared.Wanted.the-variants.{Parameters}
-use Rattle.table.proofs.Checking.{Clean, accepted-clean, stretch-sound}
+use Rattle.table.proofs.Checking.{Clean, accepted-clean, stretch-sound, kind-kept}
 use Rattle.table.proofs.Handed.{stretch-within}
 use Rattle.deflist.specs.Written.{Param, paramOf, paramsIn, written}
 use Rattle.parameters.specs.Params.{listOf}
 use Rattle.demand3.specs.Given.{parametersIn, allParameters}
-use Rattle.demand3.proofs.OverTheJob.{list-fits, record-kept}
+use Rattle.demand3.proofs.OverTheJob.{list-fits}
 
 -- classes among which no parameter is
 abbrev NoParameter : List ℕ → Type 0
@@ -66,9 +66,6 @@ module _ (t names : List ℕ) (i : ℕ) (sound : checkOf t names ≡ accepted []
   abbrev kids : Forest
   kids = forest (i + 1) (kidsOf (stretchOf t i))
 
-  kind-kept : nodeOf i (stretchOf t i) .kind ≡ nodeOf i (drop (24 * i) t) .kind
-  kind-kept = ap (λ (n : Node). n .kind) (record-kept t names i sound within)
-
   -- the classes of its children are those that its row requires of this number of children
   here-classes : classes kids
       ≡ wanted (kindOf (nodeOf i (stretchOf t i) .kind) .kids (nodeOf i (stretchOf t i) .detail))
@@ -95,13 +92,13 @@ module _ (t names : List ℕ) (i : ℕ) (sound : checkOf t names ≡ accepted []
   unfolding wanted kindOf kindIn
   def-classes e = (
     length (classes kids) - (0 + length (back (nodeOf i (stretchOf t i) .detail))),
-    rw (kind-kept ∙ e) at here-classes,
+    rw (kind-kept clean i within ∙ e) at here-classes,
   )
 
   lambda-classes : nodeOf i (drop (24 * i) t) .kind ≡ kindLambda
       → (n : ℕ) × (classes kids ≡ replicate n parameter ++ expression ∷ [])
   unfolding wanted kindOf kindIn
-  lambda-classes e = (length (classes kids) - 1, rw (kind-kept ∙ e) at here-classes)
+  lambda-classes e = (length (classes kids) - 1, rw (kind-kept clean i within ∙ e) at here-classes)
 
   -- THEOREM: no parameter of the def or lambda is missing from the written list, and nothing else is in it
   pub all-listed : listOf t names i ≡ allParameters t names i

@@ -6,21 +6,20 @@
 use mathlib.Core.Path.{_≡_, refl, sym, ap, _∙_}
 use mathlib.Core.Bool.{true}
 use mathlib.Core.Logic.{_⊎_, inl, inr}
-use mathlib.Core.List.{List, [], _++_}
+use mathlib.Core.List.{List, _++_}
 use Prim.Native.Nat.{ℕ, _+_, _-_, _*_, _/_, _<_, _≤_}
 use native.Mathlib.Omega.{arith}
 use lib.ListN.{length, getD, drop, length-append, length-drop}
 use lib.Seq.{getD-append-add, getD-drop}
 use borrow.Author.Tests.{lt-ltb}
-use Rattle.forest.specs.Forest.{sizeOf, nodeOf}
-use Rattle.forest.proofs.Stretch.{node-take}
+use Rattle.forest.specs.Forest.{nodeOf}
 use Rattle.soundness.specs.KindNumbers.{kindDef, kindLambda}
 use Rattle.table.specs.Numbers.{tooManyParameters}
 use Rattle.table.specs.Answer.{accepted, refusedAt}
-use Rattle.table.specs.Check.{checkOf, stretchOf, nodeFits, wants}
+use Rattle.table.specs.Check.{nodeFits, wants}
 use Rattle.table.specs.declared.Wanted.the-variants.{Parameters}
 use Rattle.table.proofs.Answers.{never-accepted}
-use Rattle.table.proofs.Checking.{accepted-clean, stretch-is, stretch-size}
+use Rattle.table.proofs.Checking.{accepted-clean, record-kept}
 use Rattle.deflist.specs.Unpack.{unpack, modes}
 use Rattle.deflist.specs.Limited.{mostParameters}
 use Rattle.parameters.specs.Indices.{valuesOf}
@@ -49,15 +48,6 @@ list-fits t node h k = rw (lt-ltb node (length t / 24) h) (go k)
     go (inl e) = rw e refl
     go (inr e) = rw e refl
 
--- a node's record is at the front of its stretch
-pub record-kept : (t names : List ℕ) (i : ℕ) → checkOf t names ≡ accepted [] → i < length t / 24
-    → nodeOf i (stretchOf t i) ≡ nodeOf i (drop (24 * i) t)
-record-kept t names i sound within =
-    let clean = accepted-clean t names sound in
-    let size = stretch-size clean i within in
-    rw (stretch-is clean i within)
-    (node-take i (24 * sizeOf (drop (24 * i) t)) (drop (24 * i) t) (omega arith))
-
 module _ (t names : List ℕ) (node : ℕ) (ms : List ℕ) (g : Given t names node ms) where
   fits : nodeFits t node Parameters ≡ true
   fits = list-fits t node (g .within) (g .defOrLambda)
@@ -74,7 +64,7 @@ module _ (t names : List ℕ) (node : ℕ) (ms : List ℕ) (g : Given t names no
       → paramsOf t names node (length ms) ≡ refusedAt tooManyParameters (nodeOf node (drop (24 * node) t))
   long-answer long =
       long-refused t names node (length ms) (g .sound) fits (g .room) long
-      ∙ ap (refusedAt tooManyParameters) (record-kept t names node (g .sound) (g .within))
+      ∙ ap (refusedAt tooManyParameters) (record-kept (accepted-clean t names (g .sound)) node (g .within))
 
   module _ (few : length (listOf t names node) ≤ mostParameters) (c : Cut) (cut : CutOf (listOf t names node) c) where
     pub cut-answer : paramsOf t names node (length ms) ≡ accepted (cutValues c)

@@ -1,8 +1,9 @@
 -- Lists that keep the rules of the kinds have the form of a cut, and lists of that form keep them. The induction is on
 -- the list, one law for each state, from the last to the first: after `**kwargs` nothing may follow (`last-rules`),
 -- after a star ordinary parameters and perhaps `**kwargs` (`named-rules`), after `/` or without it anything of the
--- second part on (`either-rules`), and before `/` the first part, or there is no `/` at all (`pos-rules`). The way back
--- is `rules-either` and `rules-pos`, with where the first `/` is (`slash-at`, `none-either`). Assumes nothing.
+-- second part on (`either-rules`), and before `/` the first part, or there is no `/` at all (`pos-rules`, with
+-- `slash-here` and `slash-later`). The way back is `rules-either` and `rules-pos`, with where the first `/` is
+-- (`slash-at`, `none-either`). Assumes nothing.
 use mathlib.Core.Path.{_≡_, refl, ap}
 use mathlib.Core.Bool.{Bool, true, false, _||_}
 use mathlib.Core.Logic.{_⊎_, inl, inr}
@@ -119,23 +120,9 @@ pub record Slashed (o : Bool) (l : List Param) : Type 0 where
   pub is : l ≡ ordinary before ++ slash mark ∷ (ordinary middle ++ tail star last)
   pub defaults : Defaults o (before ++ middle)
 
-pub pos-rules : (o : Bool) (l : List Param) → Rules BeforeSlash o l → Slashed o l ⊎ NoSlash l
-pos-rules o [] r = inr none-empty
-pos-rules o (normal x n d ∷ ps) r = go (pos-rules (o || d) ps (r .1))
-  where
-    go : Slashed (o || d) ps ⊎ NoSlash ps → Slashed o (normal x n d ∷ ps) ⊎ NoSlash (normal x n d ∷ ps)
-    go (inl h) = inl (record {
-      before = one x n d ∷ h .before;
-      mark = h .mark;
-      middle = h .middle;
-      star = h .star;
-      last = h .last;
-      is = and-then (h .is);
-      defaults = (r .0, h .defaults);
-    })
-    go (inr e) = inr (none-more (normal x n d) ps refl e)
-pos-rules o (noArgs x ∷ ps) r = inr (none-more (noArgs x) ps refl (named-no-slash o ps (r .1)))
-pos-rules o (slash x ∷ ps) r = let h = either-rules o ps (r .1) in inl (record {
+-- the form with `/` begins with `/`, or with an ordinary parameter
+slash-here : (o : Bool) (x : Node) (ps : List Param) → AfterSlash o ps → Slashed o (slash x ∷ ps)
+slash-here o x ps h = record {
   before = [];
   mark = x;
   middle = h .middle;
@@ -143,7 +130,29 @@ pos-rules o (slash x ∷ ps) r = let h = either-rules o ps (r .1) in inl (record
   last = h .last;
   is = and-then (h .is);
   defaults = h .defaults;
-})
+}
+
+slash-later : (o : Bool) (x : Node) (n : Name) (d : Bool) (ps : List Param) → defaultRule o d ≡ Fine
+    → Slashed (o || d) ps → Slashed o (normal x n d ∷ ps)
+slash-later o x n d ps fine h = record {
+  before = one x n d ∷ h .before;
+  mark = h .mark;
+  middle = h .middle;
+  star = h .star;
+  last = h .last;
+  is = and-then (h .is);
+  defaults = (fine, h .defaults);
+}
+
+pub pos-rules : (o : Bool) (l : List Param) → Rules BeforeSlash o l → Slashed o l ⊎ NoSlash l
+pos-rules o [] r = inr none-empty
+pos-rules o (normal x n d ∷ ps) r = go (pos-rules (o || d) ps (r .1))
+  where
+    go : Slashed (o || d) ps ⊎ NoSlash ps → Slashed o (normal x n d ∷ ps) ⊎ NoSlash (normal x n d ∷ ps)
+    go (inl h) = inl (slash-later o x n d ps (r .0) h)
+    go (inr e) = inr (none-more (normal x n d) ps refl e)
+pos-rules o (noArgs x ∷ ps) r = inr (none-more (noArgs x) ps refl (named-no-slash o ps (r .1)))
+pos-rules o (slash x ∷ ps) r = inl (slash-here o x ps (either-rules o ps (r .1)))
 pos-rules o (args x n ∷ ps) r = inr (none-more (args x n) ps refl (named-no-slash o ps (r .1)))
 pos-rules o (kwargs x n ∷ ps) r = inr (none-more (kwargs x n) ps refl (rw (last-rules o ps (r .1)) none-empty))
 

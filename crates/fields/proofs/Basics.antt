@@ -1,8 +1,8 @@
 -- Small laws that every crate cites. Equal constructors that differ give anything (`never`, `clash`). A joined test
 -- holds exactly where both parts do (`and-left`, `and-right`, `and-both`), and two tests that follow from each other
--- are equal (`both-ways`). Any two numbers are ordered one way or the other (`le-or-lt`). The part from k on of the
--- first n is the first n - k from k on (`drop-take`); its induction is on k, n and the list together. The others split
--- on the tests. Assumes nothing.
+-- are equal (`both-ways`). Any two numbers are ordered one way or the other (`le-or-lt`). A list of length 0 is empty
+-- (`no-entries`). The part from k on of the first n is the first n - k from k on (`drop-take`); its induction is on k,
+-- n and the list together. The others split on the tests or the list. Assumes nothing.
 use mathlib.Core.Path.{_≡_, refl, sym, ap}
 use mathlib.Core.Bool.{Bool, true, false, _&&_}
 use mathlib.Core.List.{List, [], _∷_}
@@ -10,7 +10,7 @@ use mathlib.Core.Logic.{_⊎_, inl, inr}
 use Prim.Native.Nat.{ℕ, zero, suc, _-_, _<_, _≤_}
 use native.Mathlib.Nat.{suc-sub-suc, sub-zero}
 use native.Mathlib.Omega.{arith}
-use lib.ListN.{take, drop}
+use lib.ListN.{length, take, drop}
 use lib.Seq.{take-nil}
 use lib.Dec.{leb}
 use borrow.Author.Tests.{leb-true, leb-false}
@@ -50,6 +50,11 @@ le-or-lt a b = go (leb a b) refl
     go : (t : Bool) → leb a b ≡ t → (a ≤ b) ⊎ (b < a)
     go true e = inl (leb-true a b e)
     go false e = inr (leb-false a b e)
+
+-- a list of no entries is empty
+pub no-entries : {A : Type 0} (l : List A) → length l ≡ 0 → l ≡ []
+no-entries [] e = refl
+no-entries (x ∷ l) e = absurd (omega (arith, e))
 
 -- a part of a part
 pub drop-take : {A : Type 0} (k n : ℕ) (l : List A) → drop k (take n l) ≡ take (n - k) (drop k l)

@@ -1,8 +1,9 @@
 -- What a search for a name finds, for any list that is searched entry by entry (`Searches`). It finds the first entry
--- that has the name (`found-first`; the induction is on the list: the first entry has it, or the rest decides). In a
--- list in which no entry repeats an earlier name (`Fresh`), the first is also the only one (`only-one`): a later entry
--- of that name would find the first among those before it, which stays found with more behind it (`found-more`). Where
--- the indices of a list rise, an earlier entry has the smaller index (`rising-before`). Assumes nothing.
+-- that has the name (`found-first`). The induction is on the list: the first entry has it (`first-here`), or the first
+-- of the rest that has it is the first of all (`first-behind`). In a list in which no entry repeats an earlier name
+-- (`Fresh`), the first is also the only one (`only-one`): a later entry of that name would find the first among those
+-- before it, which stays found with more behind it (`found-more`). Where the indices of a list rise, an earlier entry
+-- has the smaller index (`rising-before`). Assumes nothing.
 use mathlib.Core.Path.{_≡_, refl, sym, ap, _∙_}
 use mathlib.Core.Bool.{Bool, true, false}
 use mathlib.Core.List.{List, [], _∷_, _++_, append-assoc, append-nil}
@@ -15,37 +16,35 @@ use Rattle.forest.specs.declared.Found.{Found}
 use Rattle.forest.specs.declared.Found.the-variants.{At, Nothing}
 use Rattle.forest.proofs.Marked.{Searches}
 
--- LAW: what a search finds is the first that has the name
+-- the first that passes a test is the first entry, or the first of the rest
+module _ {A : Type 0} {test : A → Bool} {index : A → ℕ} {p : A} {l : List A} {i : ℕ} where
+  first-here : test p ≡ true → index p ≡ i → FirstPassing test index (p ∷ l) i
+  first-here h at = record { before = []; there = p; after = l; cut = refl; none = tt; passes = h; at = at }
+
+  first-behind : test p ≡ false → FirstPassing test index l i → FirstPassing test index (p ∷ l) i
+  first-behind h f = record {
+    before = p ∷ f .before;
+    there = f .there;
+    after = f .after;
+    cut = ap (λ (m : List A). p ∷ m) (f .cut);
+    none = (h, f .none);
+    passes = f .passes;
+    at = f .at;
+  }
+
 module _ {A : Type 0} {find : List ℕ → List A → Found} {has : List ℕ → A → Bool} (s : Searches find has) (x : List ℕ)
   where
+    -- LAW: what a search finds is the first that has the name
     pub found-first : (l : List A) {i : ℕ} → find x l ≡ At i → FirstPassing (has x) (s .node) l i
     found-first [] e = let nothing = sym (s .none x) ∙ e in never (cc)
     found-first (p ∷ l) {i} e = go (has x p) refl (sym (s .first x p l) ∙ e) (λ rest. found-first l rest)
       where
         go : (b : Bool) → has x p ≡ b → if' b (λ _. At (s .node p)) (λ _. find x l) ≡ At i
             → (find x l ≡ At i → FirstPassing (has x) (s .node) l i) → FirstPassing (has x) (s .node) (p ∷ l) i
-        go true h e rest = record {
-          before = [];
-          there = p;
-          after = l;
-          cut = refl;
-          none = tt;
-          passes = h;
-          at = cc;
-        }
-        go false h e rest = let f = rest e in record {
-          before = p ∷ f .before;
-          there = f .there;
-          after = f .after;
-          cut = ap (λ (m : List A). p ∷ m) (f .cut);
-          none = (h, f .none);
-          passes = f .passes;
-          at = f .at;
-        }
+        go true h e rest = first-here h (cc)
+        go false h e rest = first-behind h (rest e)
 
--- LAWS: what was found is found with more behind it, and what has the name is found
-module _ {A : Type 0} {find : List ℕ → List A → Found} {has : List ℕ → A → Bool} (s : Searches find has) (x : List ℕ)
-  where
+    -- LAWS: what was found is found with more behind it, and what has the name is found
     found-more : (l m : List A) {i : ℕ} → find x l ≡ At i → find x (l ++ m) ≡ At i
     found-more [] m e = let nothing = sym (s .none x) ∙ e in never (cc)
     found-more (p ∷ l) m {i} e = s .first x p (l ++ m) ∙ go (has x p) (sym (s .first x p l) ∙ e)

@@ -5,7 +5,7 @@
 -- numbers are those of all parts, so the tests of the code are those of the definition (`tally-short`, `tally-fits`).
 -- Assumes nothing.
 use mathlib.Core.Path.{_≡_, refl, sym, ap, _∙_}
-use mathlib.Core.Bool.{Bool, true, false, not, _&&_, _||_}
+use mathlib.Core.Bool.{Bool, true, false, not, _&&_, _||_, and-assoc, and-true}
 use mathlib.Core.List.{List, [], _∷_, _++_}
 use Prim.Native.Nat.{ℕ, _+_, _*_, _-_, _/_, _<_, _≤_}
 use native.Mathlib.Omega.{arith}
@@ -35,20 +35,12 @@ pub short-append : (ps qs : List Part) → isShort (ps ++ qs) ≡ (isShort ps &&
 unfolding isShort
 short-append [] qs = refl
 short-append (p ∷ ps) qs = ap (λ (x : Bool). ltb (length (textIn p)) limit && x) (short-append ps qs)
-    ∙ regroup (ltb (length (textIn p)) limit) (isShort ps) (isShort qs)
-  where
-    regroup : (a b c : Bool) → (a && (b && c)) ≡ ((a && b) && c)
-    regroup true b c = refl
-    regroup false b c = refl
+    ∙ sym (and-assoc (ltb (length (textIn p)) limit) (isShort ps) (isShort qs))
 
 pub short-closed : (u : List ℕ) → isShort (closed u) ≡ ltb (length u) limit
 unfolding isShort
 short-closed [] = refl
 short-closed (c ∷ t) = and-true (ltb (length (c ∷ t)) limit)
-  where
-    and-true : (a : Bool) → (a && true) ≡ a
-    and-true true = refl
-    and-true false = refl
 
 abbrev pub shortSoFar : List Part → List ℕ → Bool
 shortSoFar done u = isShort done && ltb (length u) limit

@@ -10,7 +10,7 @@ use mathlib.Core.List.{List, [], _∷_, _++_}
 use Prim.Native.Nat.{ℕ, _*_, _≤_}
 use native.Mathlib.Omega.{arith}
 use lib.ListN.{length, drop, getD}
-use Rattle.fields.proofs.Basics.{never}
+use Rattle.fields.proofs.Basics.{never, no-entries}
 use Rattle.dialect.specs.declared.Dialect.{Dialect}
 use Rattle.dialect.specs.declared.Decoded.the-variants.{Valid}
 use Rattle.dialect.specs.Rows.{recordOf}
@@ -29,11 +29,6 @@ use Rattle.opening.specs.Opening.{permitsAll, opened, without}
 use Rattle.opening.proofs.Order.{bytes-in-order, in-order-bytes}
 use Rattle.opening.proofs.Filters.{without-few}
 use Rattle.opening.proofs.Theorems.{first-clause, second-clause}
-
--- a list of no entries is empty
-no-entries : {A : Type 0} (xs : List A) → length xs ≡ 0 → xs ≡ []
-no-entries [] e = refl
-no-entries (x ∷ xs) e = absurd (omega (arith, e))
 
 module _ (t names first second : List ℕ) {d e : Dialect} (one : fromBytes first ≡ Valid d)
     (two : fromBytes second ≡ Valid e) (all : permitsAll d e ≡ true) where

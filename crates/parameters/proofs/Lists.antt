@@ -48,10 +48,10 @@ sets-append [] ys l i = let e : i + 0 ≡ i = omega arith in rw e refl
 sets-append (x ∷ xs) ys l i = let e : i + suc (length xs) ≡ suc i + length xs = omega arith in
     rw e (sets-append xs ys (set l i x) (suc i))
 
-cons-modes : (s : State) (p : Param) (ps : List Param)
-    → modesFrom s (p ∷ ps) ≡ modeOf s (kindIn p) ++ modesFrom (nextState s (kindIn p)) ps
+cons-modes : (s : State) (p : Param) (ps : List Param) {k : Kind} → kindIn p ≡ k
+    → modesFrom s (p ∷ ps) ≡ modeOf s k ++ modesFrom (nextState s k) ps
 unfolding modesFrom
-cons-modes s p ps = refl
+cons-modes s p ps e = rw e refl
 
 one : (s : State) (k : Kind) → length (modeOf s k) ≤ 1
 one s (Normal d) = omega arith
@@ -91,6 +91,23 @@ module _ {kids ms₀ : List ℕ} {s₀ : State} {ms left : List ℕ} {s : State}
     pub write-room : f < length ms
     write-room = omega (arith, x .flats, x .long, x .most .most [] 0, read-here (x .reads [] 0) listed refl .within)
 
+    -- storing the next parameter's mode, and then the modes of the rest, is storing those that were left
+    write-next : {k : Kind} → k ≡ kindHere left → {e : ℕ} → e ≡ spanOf left → (ns : List ℕ) (i : ℕ)
+        → sets (sets ms f (modeOf s k)) (f + length (modeOf s k))
+        (modesFrom (nextState s k) (drop (x .n + 1) (paramsIn ns (forest i kids))))
+        ≡ sets ms₀ 0 (modesFrom s₀ (paramsIn ns (forest i kids)))
+    write-next {k} k-is e-is ns i =
+        let at = x .from ns i in
+        let p = paramOf ns (nodeOf at left) in
+        let kind : kindIn p ≡ k = kind-in ns at left ∙ sym k-is in
+        let here = x .reads ns i .rest ∙ list-on ns at left listed e-is in
+        let rest = read-on (x .reads ns i) listed e-is .rest in
+        rw rest (
+        sym (sets-append (modeOf s k) (modesFrom (nextState s k) _) ms f)
+        ∙ sym (ap (sets ms f) (cons-modes s p _ kind))
+        ∙ ap (λ (y : List Param). sets ms f (modesFrom s y)) (sym here)
+        ∙ x .same ns i)
+
     pub write-on : {k : Kind} {m g : ℕ} {ms′ : List ℕ} {s′ : State} {e : ℕ} → k ≡ kindHere left → m ≡ modeByte s k
         → g ≡ f + length (modeIn m) → ms′ ≡ sets ms f (modeIn m) → s′ ≡ nextState s k → e ≡ spanOf left
         → Writing kids ms₀ s₀ ms′ (take (length left - e) (drop e left)) s′ g
@@ -103,19 +120,7 @@ module _ {kids ms₀ : List ℕ} {s₀ : State} {ms left : List ℕ} {s : State}
           flats = omega (arith, x .flats, g-is, ap length mode, one s k);
           from = λ ns i. x .from ns i + e / 24;
           reads = λ ns i. read-on (x .reads ns i) listed e-is;
-          same = λ ns i.
-              let kind : kindIn (paramOf ns (nodeOf (x .from ns i) left)) ≡ k = kind-in ns (x .from ns i) left
-              ∙ sym k-is in
-              let here = x .reads ns i .rest ∙ list-on ns (x .from ns i) left listed e-is in
-              let rest = read-on (x .reads ns i) listed e-is .rest in
-              rw (ms-is, g-is, s-is, mode, rest)
-              (sym (sets-append (modeOf s k) (modesFrom (nextState s k) _) ms f)
-              ∙ sym (ap (λ (y : Kind). sets ms f
-              (modeOf s y ++ modesFrom (nextState s y)
-              (paramsIn ns (forest (x .from ns i + e / 24) (take (length left - e) (drop e left)))))) kind)
-              ∙ sym (ap (sets ms f) (cons-modes s _ _))
-              ∙ ap (λ (y : List Param). sets ms f (modesFrom s y)) (sym here)
-              ∙ x .same ns i);
+          same = λ ns i. rw (ms-is, g-is, s-is, mode) (write-next k-is e-is ns i);
         }
 
   pub write-end : l ≡ false → Modes kids s₀ ms₀ ms

@@ -12,7 +12,7 @@ use lib.Dec.{eqb}
 use Rattle.fields.specs.Choice.{if'}
 use Rattle.fields.proofs.Basics.{never}
 use Rattle.forest.specs.Forest.{Node, Tree, node, Forest, none, _then_}
-use Rattle.forest.specs.Names.{nameOf, same}
+use Rattle.forest.specs.Names.{nameOf}
 use Rattle.forest.specs.declared.Found.{Found}
 use Rattle.forest.specs.declared.Found.the-variants.{At, Nothing}
 use Rattle.table.specs.Answer.{refusedAt}
@@ -28,8 +28,9 @@ use Rattle.arguments.specs.declared.ArgsStage.{ArgsStage}
 use Rattle.arguments.specs.declared.Check.{Check}
 use Rattle.arguments.specs.declared.Check.the-variants.{Fine, Broken, Repeated}
 use Rattle.arguments.specs.declared.Walk.{Walk}
+use Rattle.arguments.proofs.Walking.{searches}
 use Rattle.parts.specs.Parts.{SameRecord, SameTree, SameTrees, read}
-use Rattle.parts.proofs.Pairs.{made, made-length, made-more, isAt}
+use Rattle.parts.proofs.Pairs.{made, made-length, made-more, isAt, found-same}
 use Rattle.parts.proofs.Read.{Answers}
 
 -- an entry of two lists: its kind and name, and its record in each, which have the same span and the same position of
@@ -123,25 +124,19 @@ kind-made Named r n = refl
 kind-made Args r n = refl
 kind-made KwArgs r n = refl
 
--- an earlier argument with a name is in both lists or in neither
-found-same : (x : Name) (ps : List Pair) → isAt (firstSame x (oneList ps)) ≡ isAt (firstSame x (otherList ps))
-unfolding firstSame hasName made
-found-same x [] = refl
-found-same x (p ∷ ps) = go (p .kind) (found-same x ps)
+-- both arguments of a pair have the same name, so an earlier one is found in both lists or in neither
+has-same : (x : Name) (p : Pair) → hasName x (oneOf p) ≡ hasName x (otherOf p)
+unfolding hasName
+has-same x p = go (p .kind)
   where
-    pick : (b : Bool) (i j : ℕ) → isAt (firstSame x (oneList ps)) ≡ isAt (firstSame x (otherList ps))
-        → isAt (if' b (λ _. At i) (λ _. firstSame x (oneList ps)))
-        ≡ isAt (if' b (λ _. At j) (λ _. firstSame x (otherList ps)))
-    pick true i j rest = refl
-    pick false i j rest = rest
+    go : (k : Kind) → hasName x (argument k (p .one) (p .name)) ≡ hasName x (argument k (p .other) (p .name))
+    go Positional = refl
+    go Named = refl
+    go Args = refl
+    go KwArgs = refl
 
-    go : (k : Kind) → isAt (firstSame x (oneList ps)) ≡ isAt (firstSame x (otherList ps))
-        → isAt (firstSame x (argument k (p .one) (p .name) ∷ oneList ps))
-        ≡ isAt (firstSame x (argument k (p .other) (p .name) ∷ otherList ps))
-    go Positional rest = rest
-    go Named rest = pick (same (p .name) x) (p .one .at) (p .other .at) rest
-    go Args rest = rest
-    go KwArgs rest = rest
+earlier-same : (x : Name) (ps : List Pair) → isAt (firstSame x (oneList ps)) ≡ isAt (firstSame x (otherList ps))
+earlier-same = found-same searches oneOf otherOf has-same
 
 -- the words that are read of an outcome
 abbrev Same : Outcome → Outcome → Type 0
@@ -174,7 +169,7 @@ module _ (p : Pair) (next more : Unit {0} → Outcome) (on-same : Same (next tt)
   unfolding check repeats
   turn-same bs stage Positional n = checked-same (rule stage Nothing Positional)
   turn-same bs stage Named n =
-      named-same (pastNamed stage) (firstSame n (oneList bs)) (firstSame n (otherList bs)) (found-same n bs)
+      named-same (pastNamed stage) (firstSame n (oneList bs)) (firstSame n (otherList bs)) (earlier-same n bs)
   turn-same bs stage Args n = checked-same (rule stage Nothing Args)
   turn-same bs stage KwArgs n = checked-same (rule stage Nothing KwArgs)
 

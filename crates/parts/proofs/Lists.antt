@@ -13,7 +13,7 @@ use Rattle.fields.specs.Choice.{if'}
 use Rattle.fields.proofs.Basics.{never}
 use Rattle.dialect.specs.declared.Dialect.{Dialect}
 use Rattle.forest.specs.Forest.{Node, node, Forest, none, _then_}
-use Rattle.forest.specs.Names.{nameOf, same}
+use Rattle.forest.specs.Names.{nameOf}
 use Rattle.forest.specs.declared.Found.{Found}
 use Rattle.forest.specs.declared.Found.the-variants.{At, Nothing}
 use Rattle.soundness.specs.Kinds.{parameter, classOf}
@@ -33,11 +33,12 @@ use Rattle.deflist.specs.declared.Counts.{Counts}
 use Rattle.deflist.specs.declared.Unpacking.{Unpacking}
 use Rattle.deflist.specs.declared.WrittenPlace.{WrittenPlace}
 use Rattle.deflist.specs.declared.WrittenPlace.the-variants.{AtWritten, NoWritten}
+use Rattle.deflist.proofs.Walking.{searches}
 use Rattle.errors.specs.Errors.{errAt, unless}
 use Rattle.validate.specs.Params.{isMark, notPermitted, permits, everyMark, marks, unpackError}
 use Rattle.validate.specs.declared.Mark.{Mark}
 use Rattle.parts.specs.Parts.{SameRecord, SameTrees, read}
-use Rattle.parts.proofs.Pairs.{made, made-length, made-drop, made-more, isAt}
+use Rattle.parts.proofs.Pairs.{made, made-length, made-drop, made-more, isAt, found-same}
 use Rattle.parts.proofs.Read.{Reads, reads-both, reads-if, reads-at}
 
 -- two records with the same span and source file
@@ -129,26 +130,20 @@ kind-made Slash r n = refl
 kind-made Args r n = refl
 kind-made KwArgs r n = refl
 
--- an earlier parameter with a name is in both lists or in neither
-found-same : (x : Name) (ps : List Pair) → isAt (firstSame x (oneList ps)) ≡ isAt (firstSame x (otherList ps))
-unfolding firstSame hasName made
-found-same x [] = refl
-found-same x (p ∷ ps) = go (p .kind) (found-same x ps)
+-- both parameters of a pair have the same name, so an earlier one is found in both lists or in neither
+has-same : (x : Name) (p : Pair) → hasName x (oneOf p) ≡ hasName x (otherOf p)
+unfolding hasName
+has-same x p = go (p .kind)
   where
-    pick : (b : Bool) (i j : ℕ) → isAt (firstSame x (oneList ps)) ≡ isAt (firstSame x (otherList ps))
-        → isAt (if' b (λ _. At i) (λ _. firstSame x (oneList ps)))
-        ≡ isAt (if' b (λ _. At j) (λ _. firstSame x (otherList ps)))
-    pick true i j rest = refl
-    pick false i j rest = rest
+    go : (k : Kind) → hasName x (param k (p .one) (p .name)) ≡ hasName x (param k (p .other) (p .name))
+    go (Normal d) = refl
+    go NoArgs = refl
+    go Slash = refl
+    go Args = refl
+    go KwArgs = refl
 
-    go : (k : Kind) → isAt (firstSame x (oneList ps)) ≡ isAt (firstSame x (otherList ps))
-        → isAt (firstSame x (param k (p .one) (p .name) ∷ oneList ps))
-        ≡ isAt (firstSame x (param k (p .other) (p .name) ∷ otherList ps))
-    go (Normal d) rest = pick (same (p .name) x) (p .one .at) (p .other .at) rest
-    go NoArgs rest = rest
-    go Slash rest = rest
-    go Args rest = pick (same (p .name) x) (p .one .at) (p .other .at) rest
-    go KwArgs rest = pick (same (p .name) x) (p .one .at) (p .other .at) rest
+earlier-same : (x : Name) (ps : List Pair) → isAt (firstSame x (oneList ps)) ≡ isAt (firstSame x (otherList ps))
+earlier-same = found-same searches oneOf otherOf has-same
 
 -- the words that are read of an outcome
 abbrev Same : Outcome → Outcome → Type 0
@@ -178,7 +173,7 @@ module _ {r s : Node} (h : SamePlace r s) (next then' : Unpacking → Outcome)
       (after (step (otherList bs) u (param k s n)) (nodeIn (param k s n)) then')
   unfolding step repeats
   turn-same bs u (Normal d) n = rw (made-length oneOf bs, made-length otherOf bs)
-      (checked-same (firstSame n (oneList bs)) (firstSame n (otherList bs)) (found-same n bs)
+      (checked-same (firstSame n (oneList bs)) (firstSame n (otherList bs)) (earlier-same n bs)
       (rule (u .state) (u .«seen_optional») (Normal d)) (keep u (writtenAt (length bs)) (Normal d)))
   turn-same bs u NoArgs n = rw (made-length oneOf bs, made-length otherOf bs)
       (checked-same Nothing Nothing refl (rule (u .state) (u .«seen_optional») NoArgs)
@@ -187,10 +182,10 @@ module _ {r s : Node} (h : SamePlace r s) (next then' : Unpacking → Outcome)
       (checked-same Nothing Nothing refl (rule (u .state) (u .«seen_optional») Slash)
       (keep u (writtenAt (length bs)) Slash))
   turn-same bs u Args n = rw (made-length oneOf bs, made-length otherOf bs)
-      (checked-same (firstSame n (oneList bs)) (firstSame n (otherList bs)) (found-same n bs)
+      (checked-same (firstSame n (oneList bs)) (firstSame n (otherList bs)) (earlier-same n bs)
       (rule (u .state) (u .«seen_optional») Args) (keep u (writtenAt (length bs)) Args))
   turn-same bs u KwArgs n = rw (made-length oneOf bs, made-length otherOf bs)
-      (checked-same (firstSame n (oneList bs)) (firstSame n (otherList bs)) (found-same n bs)
+      (checked-same (firstSame n (oneList bs)) (firstSame n (otherList bs)) (earlier-same n bs)
       (rule (u .state) (u .«seen_optional») KwArgs) (keep u (writtenAt (length bs)) KwArgs))
 
 -- after the last parameter

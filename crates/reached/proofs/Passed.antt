@@ -70,34 +70,51 @@ module _ (t ns : List ℕ) (call def : ℕ) (list : List ℕ) where
     pub noEmpty : emptyCheck 0 fs words ≡ accepted empties
     pub exit : listAfter t ns call def list ≡ words ++ drop (length words) list
 
-  -- the three steps of the binding, once the lists keep their own rules
+  -- the three steps of an accepted binding: no star, the walk, no empty parameter
+  record Bound (c : Counts) (ws : List ℕ) : Type 0 where
+    stars : List ℕ
+    noStar : starCheck qs ≡ accepted stars
+    walked : walk c ≡ accepted ws
+    empties : List ℕ
+    noEmpty : emptyCheck 0 fs ws ≡ accepted empties
+
+  bound : (c : Counts) {ws : List ℕ} → binding (countedOf c) fs (noWords (countedOf c) qs) qs ≡ accepted ws → Bound c ws
+  unfolding binding
+  bound c {ws} b =
+      let star = passed-both (starCheck qs) _ b in
+      let along = with-passed (walk c) _ (star .2) in
+      let empty = passed-both (emptyCheck 0 fs (along .0)) _ (along .2) in
+      let same : accepted (along .0) ≡ accepted ws = empty .2 in
+      let these : ws ≡ along .0 = cc in
+      record {
+        stars = star .0;
+        noStar = star .1;
+        walked = along .1 ∙ same;
+        empties = empty .0;
+        noEmpty = ap (emptyCheck 0 fs) these ∙ empty .1;
+      }
+
+  -- what is passed, once the lists keep their own rules
   passed-binding : Entered t ns call def (length list) → (c : Counts)
       → limited (nodeOf def (stretchOf t def)) (listOf t ns def) ≡ outcome.accepted c → {cs ws : List ℕ}
       → outcomeAnswer (calling.unpack qs) ≡ accepted cs
       → binding (countedOf c) fs (noWords (countedOf c) qs) qs ≡ accepted ws
       → listAfter t ns call def list ≡ ws ++ drop (length ws) list → Passed
-  unfolding binding
-  passed-binding n c u {cs} {ws} o b x =
-      let star = passed-both (starCheck qs) _ b in
-      let along = with-passed (walk c) _ (star .2) in
-      let empty = passed-both (emptyCheck 0 fs (along .0)) _ (along .2) in
-      let same : accepted (along .0) ≡ accepted ws = empty .2 in
-      let these : along .0 ≡ ws = cc in
-      record {
-        entry = n;
-        counts = c;
-        short = limited-accepted _ (listOf t ns def) u .0;
-        outcome = limited-accepted _ (listOf t ns def) u .1;
-        callValues = cs;
-        inOrder = o;
-        stars = star .0;
-        noStar = star .1;
-        words = along .0;
-        walked = along .1;
-        empties = empty .0;
-        noEmpty = empty .1;
-        exit = rw these x;
-      }
+  passed-binding n c u {cs} {ws} o b x = let steps = bound c b in record {
+    entry = n;
+    counts = c;
+    short = limited-accepted _ (listOf t ns def) u .0;
+    outcome = limited-accepted _ (listOf t ns def) u .1;
+    callValues = cs;
+    inOrder = o;
+    stars = steps .stars;
+    noStar = steps .noStar;
+    words = ws;
+    walked = steps .walked;
+    empties = steps .empties;
+    noEmpty = steps .noEmpty;
+    exit = x;
+  }
 
   -- the lists, which keep their own rules
   passed-lists : Entered t ns call def (length list) → (o : outcome.Outcome)

@@ -155,7 +155,7 @@ module _ (flat : ℕ) (d : DefParamIndices) (fs : List FlatParam)
       rw next at (own-word (k + 1) (s .words) qs us (s .rest) (omega (arith, s .long)) j a at)
 
   -- after its turn the parameter that an argument fills has its node; before it, it was empty
-  module _ (k : ℕ) (ws : List ℕ) (b : Argument) (qs : List Argument) (us : List ℕ) (s : Step k ws b qs us) (i : ℕ)
+  module _ {k : ℕ} {ws : List ℕ} {b : Argument} {qs : List Argument} {us : List ℕ} (s : Step k ws b qs us) {i : ℕ}
       (r : reaches d fs k b ≡ Fills i) where
     filling : Took (flat + k) b ws (s .words) (Fills i)
     filling = rw r at (s .turned)
@@ -168,6 +168,21 @@ module _ (flat : ℕ) (d : DefParamIndices) (fs : List FlatParam)
         let inside : i < flat = small k b i r in
         took-filled (flat + k) b ws (s .words) i filling (omega arith) (omega arith)
 
+    stays-filled : flat + k + suc (length qs) ≤ length ws → 0 < nodeIn b .at → getD us i 0 ≡ nodeIn b .at
+    stays-filled long node =
+        let now = now-filled long in
+        filled (k + 1) (s .words) qs us (s .rest) i (small k b i r) (omega arith) ∙ now
+
+  -- a parameter that is empty after a turn was empty before it
+  before-empty : {k : ℕ} {ws : List ℕ} {b : Argument} {qs : List Argument} {us : List ℕ} (s : Step k ws b qs us) (i : ℕ)
+      → flat + k + suc (length qs) ≤ length ws → 0 < nodeIn b .at → i < flat → getD (s .words) i 0 ≡ 0
+      → getD ws i 0 ≡ 0
+  before-empty {k} {ws} {b} s i long node inside empty =
+      let other : reaches d fs k b ≡ Fills i → ⊥ = λ n.
+      absurd (omega (arith, empty, now-filled s n long)) in
+      sym (took-other (flat + k) b ws (s .words) (reaches d fs k b) i (s .turned) (λ n. absurd (omega arith)) other)
+      ∙ empty
+
   -- LAW: a parameter that an argument fills was empty, and has the argument's node
   pub was-empty : (k : ℕ) (ws : List ℕ) (qs : List Argument) (us : List ℕ) → along flat d fs k ws qs ≡ accepted us
       → Nodes qs → flat + k + length qs ≤ length ws → (j : ℕ) (a : Argument) (i : ℕ) → IsAt qs j a
@@ -175,22 +190,16 @@ module _ (flat : ℕ) (d : DefParamIndices) (fs : List FlatParam)
   was-empty k ws (b ∷ qs) us e nodes long zero a i at r =
       let s = step k ws b qs us e in
       let here : k + 0 ≡ k = omega arith in
-      let mine : reaches d fs k b ≡ Fills i = rw (here, ← at) at r in
-      let now = now-filled k ws b qs us s i mine long in
-      let node : 0 < nodeIn b .at = nodes 0 b refl in
-      let kept = filled (k + 1) (s .words) qs us (s .rest) i (small k b i mine) (omega arith) in
-      (first-empty k ws b qs us s i mine, kept ∙ now ∙ ap (λ (x : Argument). nodeIn x .at) at)
+      let mine : reaches d fs k b ≡ Fills i = rw (here, ← at) at r in (
+        first-empty s mine,
+        stays-filled s mine long (nodes 0 b refl) ∙ ap (λ (x : Argument). nodeIn x .at) at,
+      )
   was-empty k ws (b ∷ qs) us e nodes long (suc j) a i at r =
       let s = step k ws b qs us e in
       let next : k + suc j ≡ k + 1 + j = omega arith in
       let rest = was-empty (k + 1) (s .words) qs us (s .rest) (λ l c p. nodes (suc l) c p) (omega (arith, s .long)) j a
       i at (rw next at r) in
-      let inside : i < flat = small (k + suc j) a i r in
-      let other : reaches d fs k b ≡ Fills i → ⊥ = λ n.
-      absurd (omega (arith, rest .0, now-filled k ws b qs us s i n long, nodes 0 b refl)) in
-      let same = took-other (flat + k) b ws (s .words) (reaches d fs k b) i (s .turned) (λ n. absurd (omega arith))
-      other in
-      (sym same ∙ rest .0, rest .1)
+      (before-empty s i long (nodes 0 b refl) (small (k + suc j) a i r) (rest .0), rest .1)
 
   -- LAW: no two arguments fill one parameter
   later : (k : ℕ) (ws : List ℕ) (c : Argument) (qs : List Argument) (us : List ℕ)
@@ -201,7 +210,7 @@ module _ (flat : ℕ) (d : DefParamIndices) (fs : List FlatParam)
       let s = step k ws c qs us e in
       let was = was-empty (k + 1) (s .words) qs us (s .rest) (λ m x p. nodes (suc m) x p) (omega (arith, s .long)) l b i
       bt q in
-      absurd (omega (arith, was .0, now-filled k ws c qs us s i r long, nodes 0 c refl))
+      absurd (omega (arith, was .0, now-filled s r long, nodes 0 c refl))
 
   pub once : (k : ℕ) (ws : List ℕ) (qs : List Argument) (us : List ℕ) → along flat d fs k ws qs ≡ accepted us
       → Nodes qs → flat + k + length qs ≤ length ws → (j l : ℕ) (a b : Argument) (i : ℕ) → IsAt qs j a → IsAt qs l b

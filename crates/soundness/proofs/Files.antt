@@ -6,7 +6,7 @@
 -- to the end, so sizes need not be sound. Cite `clean-files`, `clean-exactly`, and for a node of a clean table
 -- `subtree-file`. Assumes nothing.
 use mathlib.Core.Path.{_≡_, refl, sym, ap, _∙_}
-use mathlib.Core.Bool.{Bool, true, false, _&&_, and-true, and-false}
+use mathlib.Core.Bool.{Bool, true, false, _&&_, and-assoc, and-true, and-false}
 use mathlib.Core.List.{List, [], _∷_, _++_}
 use mathlib.Core.Logic.{⊎-elim}
 use Prim.Native.Nat.{ℕ, zero, suc, _+_, _-_, _*_, _/_, _<_, _≤_, max}
@@ -34,10 +34,6 @@ use Rattle.soundness.proofs.SoundTables.{node-fields, record-clean, roo
 use Rattle.soundness.proofs.Tops.{top-within, top-behind, top-first, top-root, files-root, files-other}
 use Rattle.soundness.proofs.Tops.{files-top, files-under, top-upto, top-self, top-reach, top-past}
 
-and-assoc : (a b c : Bool) → (a && (b && c)) ≡ ((a && b) && c)
-and-assoc true b c = refl
-and-assoc false b c = refl
-
 -- one number in a list of nodes
 abbrev allHave : ℕ → List Node → Bool
 allHave n [] = true
@@ -45,7 +41,7 @@ allHave n (r ∷ rs) = eqb (r .file) n && allHave n rs
 
 have-append : (n : ℕ) (rs ss : List Node) → allHave n (rs ++ ss) ≡ (allHave n rs && allHave n ss)
 have-append n [] ss = refl
-have-append n (r ∷ rs) ss = rw (have-append n rs ss) (and-assoc (eqb (r .file) n) (allHave n rs) (allHave n ss))
+have-append n (r ∷ rs) ss = rw (have-append n rs ss) (sym (and-assoc (eqb (r .file) n) (allHave n rs) (allHave n ss)))
 
 -- every node of a forest has the number n exactly where all its nodes, listed, have it
 mutual
@@ -74,7 +70,8 @@ fit-split : (t : List ℕ) (k a b : ℕ) → allFit t k (a + b) ≡ (allFit t k 
 fit-split t k zero b = simp (zero-add, add-zero)
 fit-split t k (suc a) b =
     let on : k + 1 + a ≡ k + suc a = omega arith in
-    rw (suc-add, fit-split t (k + 1) a b, on) (and-assoc (fits t k) (allFit t (k + 1) a) (allFit t (k + suc a) b))
+    rw (suc-add, fit-split t (k + 1) a b, on)
+    (sym (and-assoc (fits t k) (allFit t (k + 1) a) (allFit t (k + suc a) b)))
 
 fit-each : (t : List ℕ) (k m : ℕ) → allFit t k m ≡ true → (j : ℕ) → k ≤ j → j < k + m → fits t j ≡ true
 fit-each t k zero e j h g = absurd (omega arith)

@@ -1,10 +1,10 @@
 -- A table with no unsound record is a forest whose every node is sound, and so is the stretch of each of its nodes
 -- (`sound-table`, `sound-subtree`): a record's children are found by stepping over their sizes, and what is sound is as
--- long as it says, so that the records are the forest's nodes. The induction is on the records of a stretch.
--- The other way round, where the root covers the table and all nodes are sound, no record is unsound (`sound-clean`);
--- so too for a subtree by itself (`clear-sound`), and where its records have one context it does not matter where it
--- is (`sound-anywhere`). Subtrees are nested: one that begins within another ends within it (`nested`).
--- Assumes nothing.
+-- long as it says, so that the records are the forest's nodes. The induction is on the records of a stretch
+-- (`stretch-induction`): from its first node, whose size fits (`First`), to the children and to what follows. The other
+-- way round, where the root covers the table and all nodes are sound, no record is unsound (`sound-clean`); so too for
+-- a subtree by itself (`clear-sound`), and where its records have one context it does not matter where it is
+-- (`sound-anywhere`). Subtrees are nested: one that begins within another ends within it (`nested`). Assumes nothing.
 use mathlib.Core.Path.{_≡_, refl, sym, ap, _∙_}
 use mathlib.Core.Bool.{Bool, true, false, _&&_}
 use mathlib.Core.List.{List}
@@ -126,23 +126,33 @@ length-stretch t i m h = length-take-le (24 * m) (drop (24 * i) t) (simp length-
 span-size : (bs : List ℕ) {s : ℕ} → s ≡ sizeOf bs → 1 ≤ s → 24 * s ≤ length bs → spanOf bs ≡ 24 * s
 span-size bs s-is least room = omega arith
 
+-- a stretch of at least one record, whose first node has a size of at least 1 that fits into it
+record First (t : List ℕ) (i m : ℕ) : Type 0 where
+  room : 24 * (i + m) ≤ length t
+  some : 1 ≤ m
+  size : spanOf (stretch t i m) ≡ 24 * sizeOf (stretch t i m)
+  least : 1 ≤ sizeOf (stretch t i m)
+
 -- its first node: the record, its children and what follows
-module _ (t : List ℕ) (i m : ℕ) (room : 24 * (i + m) ≤ length t) (some : 1 ≤ m)
-    (size : spanOf (stretch t i m) ≡ 24 * sizeOf (stretch t i m)) (least : 1 ≤ sizeOf (stretch t i m)) where
+module _ {t : List ℕ} {i m : ℕ} (f : First t i m) where
   same-size : sizeOf (stretch t i m) ≡ sizeOf (drop (24 * i) t)
-  same-size = size-take (24 * m) (drop (24 * i) t) (omega arith)
+  same-size = size-take (24 * m) (drop (24 * i) t) (omega (arith, f .some))
 
   most : sizeOf (stretch t i m) ≤ m
-  most = omega (arith, length-stretch t i m room)
+  most = omega (arith, f .size, length-stretch t i m (f .room))
+
+  after : i + spanOf (stretch t i m) / 24 ≡ i + sizeOf (stretch t i m)
+  after = omega (arith, f .size)
 
   kids-are : kidsOf (stretch t i m) ≡ stretch t (i + 1) (sizeOf (stretch t i m) - 1)
   unfolding kidsOf
   kids-are =
-      let n : spanOf (stretch t i m) - 24 ≡ 24 * (sizeOf (stretch t i m) - 1) = omega arith in
+      let n : spanOf (stretch t i m) - 24 ≡ 24 * (sizeOf (stretch t i m) - 1) = omega (arith, f .size) in
       let a : 24 * i + 24 ≡ 24 * (i + 1) = omega arith in
       rw (
         drop-take 24 (24 * m) (drop (24 * i) t),
-        take-take (spanOf (stretch t i m) - 24) (24 * m - 24) (drop 24 (drop (24 * i) t)) (omega (arith, most)),
+        take-take (spanOf (stretch t i m) - 24) (24 * m - 24) (drop 24 (drop (24 * i) t))
+            (omega (arith, f .size, most)),
         drop-drop 24 (24 * i) t,
         n,
         a,
@@ -151,10 +161,10 @@ module _ (t : List ℕ) (i m : ℕ) (room : 24 * (i + m) ≤ length t) (some : 1
   kids-same : kidsOf (stretch t i m) ≡ kidsOf (drop (24 * i) t)
   unfolding kidsOf
   kids-same =
-      let n : spanOf (drop (24 * i) t) ≡ spanOf (stretch t i m) = span-size (drop (24 * i) t) same-size least
-      (simp length-drop (omega (arith, most))) ∙ sym size in
+      let n : spanOf (drop (24 * i) t) ≡ spanOf (stretch t i m) = span-size (drop (24 * i) t) same-size (f .least)
+      (simp length-drop (omega (arith, f .room, most))) ∙ sym (f .size) in
       rw (n, drop-take 24 (24 * m) (drop (24 * i) t))
-      (take-take (spanOf (stretch t i m) - 24) (24 * m - 24) (drop 24 (drop (24 * i) t)) (omega (arith, most)))
+      (take-take (spanOf (stretch t i m) - 24) (24 * m - 24) (drop 24 (drop (24 * i) t)) (omega (arith, f .size, most)))
 
   rest-is : restOf (stretch t i m) ≡ stretch t (i + sizeOf (stretch t i m)) (m - sizeOf (stretch t i m))
   unfolding restOf
@@ -162,7 +172,7 @@ module _ (t : List ℕ) (i m : ℕ) (room : 24 * (i + m) ≤ length t) (some : 1
       let n : 24 * m - 24 * sizeOf (stretch t i m) ≡ 24 * (m - sizeOf (stretch t i m)) = omega arith in
       let a : 24 * i + 24 * sizeOf (stretch t i m) ≡ 24 * (i + sizeOf (stretch t i m)) = omega arith in
       rw (
-        size,
+        f .size,
         drop-take (24 * sizeOf (stretch t i m)) (24 * m) (drop (24 * i) t),
         drop-drop (24 * sizeOf (stretch t i m)) (24 * i) t,
         n,
@@ -172,7 +182,22 @@ module _ (t : List ℕ) (i m : ℕ) (room : 24 * (i + m) ≤ length t) (some : 1
   here-sound : (x : Context) → soundAt x i (drop (24 * i) t) ≡ true
       → soundNode x (nodeOf i (stretch t i m)) (forest (i + 1) (kidsOf (stretch t i m))) ≡ true
   unfolding soundAt
-  here-sound x h = rw (kids-same, node-take i (24 * m) (drop (24 * i) t) (omega arith)) h
+  here-sound x h = rw (kids-same, node-take i (24 * m) (drop (24 * i) t) (omega (arith, f .some))) h
+
+-- a record from i on is record i, another of the n records of its subtree, or one behind these
+by-place : {P : Type 0} (i n j : ℕ) → i ≤ j → (j ≡ i → P) → (i + 1 ≤ j → j < i + n → P) → (i + n ≤ j → P) → P
+by-place i n j h here under behind =
+    ⊎-elim behind
+    (λ (near : j < i + n). ⊎-elim
+    (λ (a : i + 1 ≤ j). under a near)
+    (λ (a : j < i + 1). here (omega arith))
+    (le-or-lt (i + 1) j))
+    (le-or-lt (i + n) j)
+
+-- the nodes of a stretch are whole, and the stretch lies in the table
+record Whole (t : List ℕ) (i m : ℕ) : Type 0 where
+  room : 24 * (i + m) ≤ length t
+  trees : wholeTrees (forest i (stretch t i m)) ≡ true
 
 all-none : (x : ℕ → Context) (i : ℕ) (bs : List ℕ) → length bs < 24 → allSound x (forest i bs) ≡ true
 unfolding allSound
@@ -188,58 +213,67 @@ all-tree x i bs big a b c = rw (forest-tree i bs big, a, b, c) refl
 -- where each record of a table is sound: stretches of it whose nodes are whole
 module _ (x : ℕ → Context) (t : List ℕ) (clean : (j : ℕ) → j < length t / 24
     → soundAt (x j) j (drop (24 * j) t) ≡ true) where
+  -- the first node of such a stretch, its children and what follows
+  whole-first : {i m : ℕ} → Whole t i m → 1 ≤ m → First t i m
+  whole-first {i} {m} w some =
+      let long = length-stretch t i m (w .room) in
+      let fits = first-size i (stretch t i m) (omega arith) (w .trees) in
+      record { room = w .room; some = some; size = omega arith; least = omega arith }
+
+  first-sound : {i m : ℕ} → First t i m
+      → soundNode (x i) (nodeOf i (stretch t i m)) (forest (i + 1) (kidsOf (stretch t i m))) ≡ true
+  first-sound {i} f = here-sound f (x i) (clean i (omega (arith, f .room, f .some)))
+
+  whole-kids : {i m : ℕ} → First t i m → Whole t (i + 1) (sizeOf (stretch t i m) - 1)
+  whole-kids {i} {m} f = record {
+    room = omega (arith, f .room, f .least, most f);
+    trees = rw (kids-are f) at (node-whole (x i) (nodeOf i (stretch t i m)) _ (first-sound f));
+  }
+
+  whole-behind : {i m : ℕ} → First t i m → Whole t i m
+      → Whole t (i + sizeOf (stretch t i m)) (m - sizeOf (stretch t i m))
+  whole-behind {i} {m} f w =
+      let big : 24 ≤ length (stretch t i m) = omega (arith, f .some, length-stretch t i m (f .room)) in
+      record {
+        room = omega (arith, f .room, most f);
+        trees = rw (rest-is f, after f) at (rest-whole i (stretch t i m) big (w .trees));
+      }
+
   -- LAW: to show something of each, show it of none and of a first node from its children and what follows
   stretch-induction : (P : ℕ → ℕ → Type 0) → ((i : ℕ) → P i 0)
-      → ((i m : ℕ) → 24 * (i + m) ≤ length t → 1 ≤ m → spanOf (stretch t i m) ≡ 24 * sizeOf (stretch t i m)
-      → 1 ≤ sizeOf (stretch t i m) → P (i + 1) (sizeOf (stretch t i m) - 1)
+      → ((i m : ℕ) → First t i m → P (i + 1) (sizeOf (stretch t i m) - 1)
       → P (i + sizeOf (stretch t i m)) (m - sizeOf (stretch t i m)) → P i m)
-      → (k i m : ℕ) → m ≤ k → 24 * (i + m) ≤ length t → wholeTrees (forest i (stretch t i m)) ≡ true → P i m
-  stretch-induction P nothing more zero i m hk room whole = let z : m ≡ 0 = omega arith in rw z (nothing i)
-  stretch-induction P nothing more (suc k) i zero hk room whole = nothing i
-  stretch-induction P nothing more (suc k) i (suc l) hk room whole =
-      let bs : List ℕ = stretch t i (suc l) in
-      let long = length-stretch t i (suc l) room in
-      let fits = first-size i bs (omega arith) whole in
-      let span : spanOf bs ≡ 24 * sizeOf bs = omega arith in
-      let least : 1 ≤ sizeOf bs = omega arith in
-      let upto = most t i (suc l) room (omega arith) span least in
-      let here = here-sound t i (suc l) room (omega arith) span least (x i) (clean i (omega arith)) in
-      let after : i + spanOf bs / 24 ≡ i + sizeOf bs = omega arith in
-      more i (suc l) room (omega arith) span least
-      (stretch-induction P nothing more k (i + 1) (sizeOf bs - 1) (omega arith) (omega arith)
-      (rw (kids-are t i (suc l) room (omega arith) span least)
-      at (node-whole (x i) (nodeOf i bs) (forest (i + 1) (kidsOf bs)) here)))
-      (stretch-induction P nothing more k (i + sizeOf bs) (suc l - sizeOf bs) (omega arith) (omega arith)
-      (rw (rest-is t i (suc l) room (omega arith) span least, after) at (rest-whole i bs (omega arith) whole)))
+      → (k i m : ℕ) → m ≤ k → Whole t i m → P i m
+  stretch-induction P nothing more zero i m hk w = let z : m ≡ 0 = omega arith in rw z (nothing i)
+  stretch-induction P nothing more (suc k) i zero hk w = nothing i
+  stretch-induction P nothing more (suc k) i (suc l) hk w =
+      let f : First t i (suc l) = whole-first w (omega arith) in
+      let n : ℕ = sizeOf (stretch t i (suc l)) in
+      more i (suc l) f
+      (stretch-induction P nothing more k (i + 1) (n - 1) (omega (arith, most f)) (whole-kids f))
+      (stretch-induction P nothing more k (i + n) (suc l - n) (omega (arith, f .least)) (whole-behind f w))
 
   -- their nodes are sound
-  all-in : (k i m : ℕ) → m ≤ k → 24 * (i + m) ≤ length t → wholeTrees (forest i (stretch t i m)) ≡ true
-      → allSound x (forest i (stretch t i m)) ≡ true
+  all-in : (k i m : ℕ) → m ≤ k → Whole t i m → allSound x (forest i (stretch t i m)) ≡ true
   all-in =
       stretch-induction (λ i m. allSound x (forest i (stretch t i m)) ≡ true)
       (λ i. all-none x i (stretch t i 0) (omega arith))
-      (λ i m room some span least kids rest.
-      let long = length-stretch t i m room in
-      let after : i + spanOf (stretch t i m) / 24 ≡ i + sizeOf (stretch t i m) = omega arith in
-      all-tree x i (stretch t i m) (omega arith) (here-sound t i m room some span least (x i) (clean i (omega arith)))
-      (rw (kids-are t i m room some span least) kids) (rw (rest-is t i m room some span least, after) rest))
+      (λ i m f kids rest.
+      let big : 24 ≤ length (stretch t i m) = omega (arith, f .some, length-stretch t i m (f .room)) in
+      all-tree x i (stretch t i m) big (first-sound f) (rw (kids-are f) kids) (rw (rest-is f, after f) rest))
 
   -- the subtree of a node in one ends in it
-  ends-in : (k i m : ℕ) → m ≤ k → 24 * (i + m) ≤ length t → wholeTrees (forest i (stretch t i m)) ≡ true
+  ends-in : (k i m : ℕ) → m ≤ k → Whole t i m
       → (j : ℕ) → i ≤ j → j < i + m → j + sizeOf (drop (24 * j) t) ≤ i + m
   ends-in =
       stretch-induction (λ i m. (j : ℕ) → i ≤ j → j < i + m → j + sizeOf (drop (24 * j) t) ≤ i + m)
       (λ i j h g. absurd (omega arith))
-      (λ i m room some span least kids rest j h g.
-      let upto = most t i m room some span least in
-      ⊎-elim
-      (λ (l : i + sizeOf (stretch t i m) ≤ j). omega (arith, rest j l (omega arith)))
-      (λ (l : j < i + sizeOf (stretch t i m)). ⊎-elim
-      (λ (a : i + 1 ≤ j). omega (arith, kids j a (omega arith)))
-      (λ (a : j < i + 1). let at : j ≡ i = omega arith in
-      rw at (omega (arith, same-size t i m room some span least)))
-      (le-or-lt (i + 1) j))
-      (le-or-lt (i + sizeOf (stretch t i m)) j))
+      (λ i m f kids rest j h g.
+      let upto = most f in
+      by-place i (sizeOf (stretch t i m)) j h
+      (λ at. rw at (omega (arith, same-size f)))
+      (λ under near. omega (arith, kids j under (omega arith)))
+      (λ far. omega (arith, rest j far (omega arith))))
 
 -- LAWS: a table with no unsound record
 module _ (t names : List ℕ) (e : firstUnsound t names ≡ Nothing) where
@@ -271,29 +305,28 @@ module _ (t names : List ℕ) (e : firstUnsound t names ≡ Nothing) where
         omega (arith, whole-size (i + 1) (spanOf x) x (simp length-drop (omega arith)) refl, length-drop (24 * i) t)
 
     -- the stretch of a node is one whole subtree
-    subtree-whole : wholeTrees (forest i (stretch t i (sizeOf (drop (24 * i) t)))) ≡ true
+    subtree-whole : Whole t i (sizeOf (drop (24 * i) t))
     subtree-whole =
         let s : ℕ = sizeOf (drop (24 * i) t) in
         let z = here-size in
         let long = length-stretch t i s (omega arith) in
         let same : sizeOf (stretch t i s) ≡ s = size-take (24 * s) (drop (24 * i) t) (omega arith) in
-        one-whole i (stretch t i s) (omega arith) (omega arith)
+        record { room = omega arith; trees = one-whole i (stretch t i s) (omega arith) (omega arith) }
 
     -- and is sound
     pub sound-subtree : Sound (contextOf t names) i (take (24 * sizeOf (drop (24 * i) t)) (drop (24 * i) t))
     sound-subtree =
         let s : ℕ = sizeOf (drop (24 * i) t) in
-        let z = here-size in
         record {
-          records = omega (arith, length-stretch t i s (omega arith));
-          nodes = all-in (contextOf t names) t clean s i s (omega arith) (omega arith) subtree-whole;
+          records = omega (arith, length-stretch t i s (subtree-whole .room));
+          nodes = all-in (contextOf t names) t clean s i s (omega arith) subtree-whole;
         }
 
     -- the subtree of a node within it ends within it
     pub nested : (j : ℕ) → i ≤ j → j < i + sizeOf (drop (24 * i) t)
         → j + sizeOf (drop (24 * j) t) ≤ i + sizeOf (drop (24 * i) t)
-    nested = let s : ℕ = sizeOf (drop (24 * i) t) in let z = here-size in
-        ends-in (contextOf t names) t clean s i s (omega arith) (omega arith) subtree-whole
+    nested = let s : ℕ = sizeOf (drop (24 * i) t) in
+        ends-in (contextOf t names) t clean s i s (omega arith) subtree-whole
 
   pub sound-table : 24 ≤ length t → Sound (contextOf t names) 0 t
   sound-table some =
@@ -334,33 +367,53 @@ module _ (x : ℕ → Context) (i : ℕ) (bs : List ℕ) (s : Sound x i bs) (big
         && allSound x (forest (i + 1) (kidsOf bs))) _ parts;
   }
 
+-- every node of a stretch is sound, and the stretch lies in the table
+record SoundPart (x : ℕ → Context) (t : List ℕ) (i m : ℕ) : Type 0 where
+  room : 24 * (i + m) ≤ length t
+  nodes : allSound x (forest i (stretch t i m)) ≡ true
+
+-- the first node of such a stretch: its record, its children and what follows
+module _ {x : ℕ → Context} {t : List ℕ} {i m : ℕ} (s : SoundPart x t i m) (some : 1 ≤ m) where
+  big : 24 ≤ length (stretch t i m)
+  big = omega (arith, length-stretch t i m (s .room))
+
+  as-sound : Sound x i (stretch t i m)
+  as-sound = record { records = omega (arith, length-stretch t i m (s .room)); nodes = s .nodes }
+
+  sound-part-first : First t i m
+  sound-part-first = let z = sound-size x i (stretch t i m) as-sound big in
+      record { room = s .room; some = some; size = z .2; least = z .0 }
+
+  sound-part-here : soundAt (x i) i (drop (24 * i) t) ≡ true
+  unfolding soundAt
+  sound-part-here = rw (kids-same sound-part-first, node-take i (24 * m) (drop (24 * i) t) (omega arith))
+      at (sound-first x i (stretch t i m) as-sound big)
+
+  sound-part-kids : SoundPart x t (i + 1) (sizeOf (stretch t i m) - 1)
+  sound-part-kids = let f = sound-part-first in record {
+    room = omega (arith, f .room, f .least, most f);
+    nodes = rw (kids-are f) at (sound-kids x i (stretch t i m) as-sound big .nodes);
+  }
+
+  sound-part-behind : SoundPart x t (i + sizeOf (stretch t i m)) (m - sizeOf (stretch t i m))
+  sound-part-behind = let f = sound-part-first in record {
+    room = omega (arith, f .room, most f);
+    nodes = rw (rest-is f, after f) at (sound-rest x i (stretch t i m) as-sound big .nodes);
+  }
+
 -- LAW: where every node of a stretch of a table is sound, so is each of its records: it is the first, one under it, or
 -- one behind
-module _ (x : ℕ → Context) (t : List ℕ) where
-  each-in : (k i m : ℕ) → m ≤ k → 24 * (i + m) ≤ length t → allSound x (forest i (stretch t i m)) ≡ true
-      → (j : ℕ) → i ≤ j → j < i + m → soundAt (x j) j (drop (24 * j) t) ≡ true
-  unfolding soundAt
-  each-in zero i m hk room sound j h g = absurd (omega arith)
-  each-in (suc k) i m hk room sound j h g =
-      let long = length-stretch t i m room in
-      let big : 24 ≤ length (stretch t i m) = omega arith in
-      let s : Sound x i (stretch t i m) = record { records = omega arith; nodes = sound } in
-      let n : ℕ = sizeOf (stretch t i m) in
-      let z = sound-size x i (stretch t i m) s big in
-      let after : i + spanOf (stretch t i m) / 24 ≡ i + n = omega arith in
-      let kids = rw (kids-are t i m room (omega arith) (z .2) (z .0))
-      at (sound-kids x i (stretch t i m) s big .nodes) in
-      let rest = rw (rest-is t i m room (omega arith) (z .2) (z .0), after)
-      at (sound-rest x i (stretch t i m) s big .nodes) in
-      ⊎-elim (λ (far : i + n ≤ j). each-in k (i + n) (m - n) (omega arith) (omega arith) rest j far (omega arith))
-      (λ (near : j < i + n). ⊎-elim
-      (λ (under : i + 1 ≤ j). each-in k (i + 1) (n - 1) (omega arith) (omega arith) kids j under (omega arith))
-      (λ (here : j < i + 1).
-      let at : j ≡ i = omega arith in
-      rw at (rw (kids-same t i m room (omega arith) (z .2) (z .0), node-take i (24 * m) (drop (24 * i) t) (omega arith))
-      at (sound-first x i (stretch t i m) s big)))
-      (le-or-lt (i + 1) j))
-      (le-or-lt (i + n) j)
+each-in : (x : ℕ → Context) (t : List ℕ) (k i m : ℕ) → m ≤ k → SoundPart x t i m
+    → (j : ℕ) → i ≤ j → j < i + m → soundAt (x j) j (drop (24 * j) t) ≡ true
+each-in x t zero i m hk s j h g = absurd (omega arith)
+each-in x t (suc k) i m hk s j h g =
+    let some : 1 ≤ m = omega arith in
+    let n : ℕ = sizeOf (stretch t i m) in
+    let least : 1 ≤ n = sound-part-first s some .least in
+    let upto : n ≤ m = most (sound-part-first s some) in
+    by-place i n j h (λ at. rw at (sound-part-here s some))
+    (λ under near. each-in x t k (i + 1) (n - 1) (omega arith) (sound-part-kids s some) j under (omega arith))
+    (λ far. each-in x t k (i + n) (m - n) (omega arith) (sound-part-behind s some) j far (omega arith))
 
 record-in : (t names : List ℕ) → rootSound t ≡ true → (j : ℕ)
     → soundAt (contextOf t names j) j (drop (24 * j) t) ≡ true → recordSound t names j ≡ true
@@ -378,10 +431,12 @@ unfolding firstUnsound
 sound-clean t names root s =
     let n : ℕ = length t / 24 in
     let all : take (24 * n) t ≡ t = take-all (24 * n) t (omega (arith, s .records)) in
-    let nodes : allSound (contextOf t names) (forest 0 (stretch t 0 n)) ≡ true = rw all (s .nodes) in
-    all-found (recordSound t names) n
-    (λ j h. record-in t names root j (each-in (contextOf t names) t n 0 n (omega arith) (omega (arith, s .records))
-    nodes j (omega arith) (omega arith)))
+    let part : SoundPart (contextOf t names) t 0 n = record {
+      room = omega (arith, s .records);
+      nodes = rw all (s .nodes);
+    } in
+    all-found (recordSound t names) n (λ j h. record-in t names root j
+    (each-in (contextOf t names) t n 0 n (omega arith) part j (omega arith) (omega arith)))
 
 -- LAW: a subtree that fills its stretch has no unsound record exactly where all its nodes are sound
 module _ (x : ℕ → Context) (bs : List ℕ) (one : spanOf bs ≡ length bs)
@@ -402,13 +457,17 @@ module _ (x : ℕ → Context) (bs : List ℕ) (one : spanOf bs ≡ length bs)
       let each : (j : ℕ) → j < n → soundAt (x j) j (drop (24 * j) bs) ≡ true = none-found (soundIn x bs) n clean in
       let size = node-size (x 0) (nodeOf 0 bs) (forest 1 (kidsOf bs)) (each 0 (omega arith)) in
       let long : length bs ≡ 24 * sizeOf bs = omega (arith, count-forest 1 (kidsOf bs), length-kids bs) in
-      rw all-bytes at (all-in x bs each n 0 n (omega arith) (omega arith)
-      (rw all-bytes (one-whole 0 bs (omega arith) long)))
+      let whole : Whole bs 0 n = record {
+        room = omega arith;
+        trees = rw all-bytes (one-whole 0 bs (omega arith) long);
+      } in
+      rw all-bytes at (all-in x bs each n 0 n (omega arith) whole)
 
   sound-nothing : allSound x (forest 0 bs) ≡ true → found ≡ Nothing
   unfolding soundIn
-  sound-nothing sound = all-found (soundIn x bs) n (λ j h. each-in x bs n 0 n (omega arith) (omega arith)
-      (rw all-bytes sound) j (omega arith) (omega arith))
+  sound-nothing sound =
+      let part : SoundPart x bs 0 n = record { room = omega arith; nodes = rw all-bytes sound } in
+      all-found (soundIn x bs) n (λ j h. each-in x bs n 0 n (omega arith) part j (omega arith) (omega arith))
 
   pub clear-sound : clear found ≡ allSound x (forest 0 bs)
   clear-sound = both-ways _ _ (λ e. nothing-sound (clear-is found e)) (λ e. rw (sound-nothing e) refl)

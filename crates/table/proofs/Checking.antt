@@ -2,8 +2,8 @@
 -- `check-sound`): the tests before it are known, so the definition computes. The other way round, an accepted table has
 -- passed all four steps (`accepted-clean`; Answers' `passed-both`, step by step), and the record `Clean` names what it
 -- then knows. In a clean table the stretch of a node is sound and as long as its record says (`stretch-sound`,
--- `stretch-size`, from soundness). Assumes nothing.
-use mathlib.Core.Path.{_≡_, refl, sym, _∙_}
+-- `stretch-size`, from soundness), and begins with that record (`record-kept`). Assumes nothing.
+use mathlib.Core.Path.{_≡_, refl, sym, ap, _∙_}
 use mathlib.Core.Bool.{Bool, true, false}
 use mathlib.Core.List.{List, [], _∷_}
 use Prim.Native.Nat.{ℕ, _+_, _*_, _/_, _%_, _<_, _≤_}
@@ -13,9 +13,10 @@ use lib.Dec.{leb}
 use borrow.Author.Tests.{le-leb, lt-leb, leb-true, eqb-true, lt-ltb}
 use Rattle.fields.proofs.Basics.{and-left, and-right}
 use Rattle.table.proofs.Answers.{never-passed, passed-both, test-passed}
-use Rattle.forest.specs.Forest.{sizeOf, forest}
+use Rattle.forest.specs.Forest.{Node, nodeOf, sizeOf, forest}
 use Rattle.forest.specs.declared.Found.{Found}
 use Rattle.forest.specs.declared.Found.the-variants.{At, Nothing}
+use Rattle.forest.proofs.Stretch.{node-take}
 use Rattle.table.specs.Numbers.{tableLength, nameBytes, unsoundRecord, tooDeep}
 use Rattle.soundness.specs.Sound.{contextOf, recordSound, firstUnsound}
 use Rattle.table.specs.Depth.{firstDeep}
@@ -127,3 +128,11 @@ module _ {t names : List ℕ} (c : Clean t names) (i : ℕ) (h : i < length t / 
 
   pub stretch-size : (1 ≤ sizeOf (drop (24 * i) t)) × (24 * (i + sizeOf (drop (24 * i) t)) ≤ length t)
   stretch-size = here-size t names (c .unsound) i h
+
+  -- the node's record is at the front of its stretch
+  pub record-kept : nodeOf i (stretchOf t i) ≡ nodeOf i (drop (24 * i) t)
+  record-kept = let size = stretch-size in
+      rw stretch-is (node-take i (24 * sizeOf (drop (24 * i) t)) (drop (24 * i) t) (omega arith))
+
+  pub kind-kept : nodeOf i (stretchOf t i) .kind ≡ nodeOf i (drop (24 * i) t) .kind
+  kind-kept = ap (λ (r : Node). r .kind) record-kept

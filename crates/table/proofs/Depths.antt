@@ -169,34 +169,39 @@ counts-behind i bs k big behind inside =
           at (behind .counts);
     }
 
--- LAW: the first node that is too deep counts, so it is no parameter and no argument
-deep-counts-in : (i : ℕ) (bs : List ℕ) (d k : ℕ) → d ≤ mostDepth → firstDeep d (forest i bs) ≡ At k → Counts i bs k
+-- what is shown of a stretch: the first node that is too deep counts
+abbrev FirstCounts : ℕ → List ℕ → Type 0
+FirstCounts i bs = (d k : ℕ) → d ≤ mostDepth → firstDeep d (forest i bs) ≡ At k → Counts i bs k
+
+-- it is the first node, one below it, or one behind its subtree
+first-counts : (i : ℕ) (bs : List ℕ) → 24 ≤ length bs → FirstCounts (i + 1) (kidsOf bs)
+    → FirstCounts (i + spanOf bs / 24) (restOf bs) → FirstCounts i bs
 unfolding firstDeep
-deep-counts-in =
-    forest-induction (λ i bs. (d k : ℕ) → d ≤ mostDepth → firstDeep d (forest i bs) ≡ At k → Counts i bs k)
-    (λ i bs s d k low f. never (cc (ap (firstDeep d) (forest-none i bs s))))
-    (λ i bs big ks rs d k low f. go i bs big d k low (ks (d + weight (nodeOf i bs .kind))) (rs d)
-    (ltb mostDepth (d + weight (nodeOf i bs .kind))) refl
-    (firstDeep (d + weight (nodeOf i bs .kind)) (forest (i + 1) (kidsOf bs))) refl
-    (sym (ap (firstDeep d) (forest-tree i bs big)) ∙ f))
+first-counts i bs big ks rs d k low f =
+    go (ltb mostDepth own) refl (firstDeep own (forest (i + 1) (kidsOf bs))) refl
+    (sym (ap (firstDeep d) (forest-tree i bs big)) ∙ f)
   where
-    go : (i : ℕ) (bs : List ℕ) → 24 ≤ length bs → (d k : ℕ) → d ≤ mostDepth
-        → ((k : ℕ) → d + weight (nodeOf i bs .kind) ≤ mostDepth
-        → firstDeep (d + weight (nodeOf i bs .kind)) (forest (i + 1) (kidsOf bs)) ≡ At k → Counts (i + 1) (kidsOf bs) k)
-        → ((k : ℕ) → d ≤ mostDepth → firstDeep d (forest (i + spanOf bs / 24) (restOf bs)) ≡ At k
-        → Counts (i + spanOf bs / 24) (restOf bs) k)
-        → (b : Bool) → ltb mostDepth (d + weight (nodeOf i bs .kind)) ≡ b
-        → (x : Found) → firstDeep (d + weight (nodeOf i bs .kind)) (forest (i + 1) (kidsOf bs)) ≡ x
+    own : ℕ
+    own = d + weight (nodeOf i bs .kind)
+
+    go : (b : Bool) → ltb mostDepth own ≡ b → (x : Found) → firstDeep own (forest (i + 1) (kidsOf bs)) ≡ x
         → orElse (if' b (λ _. At i) (λ _. x)) (λ _. firstDeep d (forest (i + spanOf bs / 24) (restOf bs))) ≡ At k
         → Counts i bs k
-    go i bs big d k low ks rs true b-is x x-is f = let here : i ≡ k = cc in
-        counts-here i bs d k here low (ltb-true mostDepth _ b-is)
-    go i bs big d k low ks rs false b-is (At j) x-is f =
+    go true b-is x x-is f = let here : i ≡ k = cc in counts-here i bs d k here low (ltb-true mostDepth own b-is)
+    go false b-is (At j) x-is f =
         let same : j ≡ k = cc in
         let found = x-is ∙ ap At same in
-        counts-below i bs k (ks k (ltb-false mostDepth _ b-is) found) (deep-inside (i + 1) (kidsOf bs) _ k found)
-    go i bs big d k low ks rs false b-is Nothing x-is f =
-        counts-behind i bs k big (rs k low f) (deep-inside (i + spanOf bs / 24) (restOf bs) d k f)
+        counts-below i bs k (ks own k (ltb-false mostDepth own b-is) found)
+        (deep-inside (i + 1) (kidsOf bs) own k found)
+    go false b-is Nothing x-is f =
+        counts-behind i bs k big (rs d k low f) (deep-inside (i + spanOf bs / 24) (restOf bs) d k f)
+
+-- LAW: the first node that is too deep counts, so it is no parameter and no argument
+deep-counts-in : (i : ℕ) (bs : List ℕ) → FirstCounts i bs
+unfolding firstDeep
+deep-counts-in = forest-induction FirstCounts
+    (λ i bs s d k low f. never (cc (ap (firstDeep d) (forest-none i bs s))))
+    first-counts
 
 pub deep-counts : (t : List ℕ) (k : ℕ) → firstDeep 0 (forest 0 t) ≡ At k
     → weight (nodeOf k (drop (24 * k) t) .kind) ≡ 1

@@ -17,6 +17,7 @@ use Rattle.fields.specs.Choice.{if'}
 use Rattle.fields.proofs.Basics.{and-left, and-right, never}
 use Rattle.forest.specs.Forest.{nodeOf, spanOf, restOf, forest, roots}
 use Rattle.forest.specs.Names.{nameOf, same}
+use Rattle.forest.specs.declared.Found.{Found}
 use Rattle.forest.specs.declared.Found.the-variants.{At, Nothing}
 use Rattle.forest.proofs.Stretch.{node-take, rest-part, length-rest, forest-induction, roots-none, roots-on}
 use Rattle.table.specs.Naming.{bearsName, hasName, firstNamed, countedFrom}
@@ -102,40 +103,38 @@ module _ {e : Entries} {ns x t : List ℕ} {n : ℕ} {left : List ℕ} {at i : �
         same = rw (here, miss) at (sym (search-one z-is) ∙ s .same);
       }
 
--- LAW: where the first record has another index, the same entry is found
-pub first-shifted : (e : Entries) (ns x : List ℕ) (first k : ℕ) (t : List ℕ) (n : ℕ)
-    → firstNamed e ns x (take n (roots (forest (first + k) t)))
-    ≡ countedFrom first (firstNamed e ns x (take n (roots (forest k t))))
-unfolding firstNamed
-first-shifted e ns x first =
-    forest-induction
-    (λ k t. (n : ℕ) → firstNamed e ns x (take n (roots (forest (first + k) t)))
-    ≡ countedFrom first (firstNamed e ns x (take n (roots (forest k t)))))
-    (λ k t s n. rw (roots-none (first + k) t s, roots-none k t s, take-nil n) refl)
-    (λ k t big ks rs n. go k t big rs n)
-  where
-    go : (k : ℕ) (t : List ℕ) → 24 ≤ length t
-        → ((n : ℕ) → firstNamed e ns x (take n (roots (forest (first + (k + spanOf t / 24)) (restOf t))))
-        ≡ countedFrom first (firstNamed e ns x (take n (roots (forest (k + spanOf t / 24) (restOf t))))))
-        → (n : ℕ) → firstNamed e ns x (take n (roots (forest (first + k) t)))
-        ≡ countedFrom first (firstNamed e ns x (take n (roots (forest k t))))
-    go k t big rs zero = refl
-    go k t big rs (suc n) =
-        let on : first + k + spanOf t / 24 ≡ first + (k + spanOf t / 24) = add-assoc first k (spanOf t / 24) in
-        rw (
-          roots-on (first + k) t big refl,
-          roots-on k t big refl,
-          rest-part (spanOf t) t refl,
-          on,
-          name-anywhere e ns x (first + k) k t,
-        ) (step (hasName e ns x (nodeOf k t)))
-      where
-        step : (b : Bool) → if' b (λ _. At (first + k))
-            (λ _. firstNamed e ns x (take n (roots (forest (first + (k + spanOf t / 24)) (restOf t)))))
-            ≡ countedFrom first (if' b (λ _. At k)
-            (λ _. firstNamed e ns x (take n (roots (forest (k + spanOf t / 24) (restOf t))))))
-        step true = refl
-        step false = rs n
+-- the first record of a stretch has the index k, or an index that is larger by first
+module _ (e : Entries) (ns x : List ℕ) (first : ℕ) where
+  abbrev Shifted : ℕ → List ℕ → Type 0
+  Shifted k t = (n : ℕ) → firstNamed e ns x (take n (roots (forest (first + k) t)))
+      ≡ countedFrom first (firstNamed e ns x (take n (roots (forest k t))))
+
+  -- the entry that is next has the name, or the rest decides
+  entry-shifted : (b : Bool) (k : ℕ) (f g : Found) → f ≡ countedFrom first g
+      → if' b (λ _. At (first + k)) (λ _. f) ≡ countedFrom first (if' b (λ _. At k) (λ _. g))
+  entry-shifted true k f g rest = refl
+  entry-shifted false k f g rest = rest
+
+  shifted-on : (k : ℕ) (t : List ℕ) → 24 ≤ length t → Shifted (k + spanOf t / 24) (restOf t) → Shifted k t
+  unfolding firstNamed
+  shifted-on k t big rest zero = refl
+  shifted-on k t big rest (suc n) =
+      let on : first + k + spanOf t / 24 ≡ first + (k + spanOf t / 24) = add-assoc first k (spanOf t / 24) in
+      rw (
+        roots-on (first + k) t big refl,
+        roots-on k t big refl,
+        rest-part (spanOf t) t refl,
+        on,
+        name-anywhere e ns x (first + k) k t,
+      ) (entry-shifted (hasName e ns x (nodeOf k t)) k _ _ (rest n))
+
+  -- LAW: where the first record has another index, the same entry is found
+  pub first-shifted : (k : ℕ) (t : List ℕ) (n : ℕ) → firstNamed e ns x (take n (roots (forest (first + k) t)))
+      ≡ countedFrom first (firstNamed e ns x (take n (roots (forest k t))))
+  unfolding firstNamed
+  first-shifted = forest-induction Shifted
+      (λ k t s n. rw (roots-none (first + k) t s, roots-none k t s, take-nil n) refl)
+      (λ k t big ks rs. shifted-on k t big rs)
 
 -- LAW: what is found is within the stretch
 pub first-within : (e : Entries) (ns x : List ℕ) (k : ℕ) (t : List ℕ) (n i : ℕ)

@@ -66,7 +66,7 @@ pub sort-few : (m : Mark) (ps : List Param) → length (everyMark m ps) ≤ leng
 sort-few Star ps = omega (arith, every-few ps)
 sort-few SlashMark ps = omega (arith, every-few ps)
 
-error-few : (j : Judged) → length (unpackError j) ≤ 1
+pub error-few : (j : Judged) → length (unpackError j) ≤ 1
 error-few (Accepted c) = omega arith
 error-few (Refused f) = omega arith
 
