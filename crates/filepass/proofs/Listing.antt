@@ -1,8 +1,9 @@
--- Laws of `check_file`. The code unpacks the file, which tests 70 to 75, and then runs the module job, which tests 1
--- to 5 itself; `answerOf` tests 70 to 75 and 1 to 5, and then runs the job. Both are the same: if 1 to 5 refuse, the
--- job refuses with the same number (`given-again`) and changes no word (`given-keeps`). So the answer is `answerOf`
--- (`job-is-answer`) and the words are `wordsAfter` (`job-is-words`), if an edition holds. The job does not read the
--- edition; a bad one is refused before the job, with 1 to 4 or 5 (`bad-edition`). Assumes nothing.
+-- Laws of `check_file`. The code judges the file, which tests 70 to 75, copies its content into arrays with room for it
+-- (`many-room`, `filled`), and then runs the module job, which tests 1 to 5 itself; `answerOf` tests 70 to 75 and 1 to
+-- 5, and then runs the job. Both are the same: if 1 to 5 refuse, the job refuses with the same number (`given-again`)
+-- and changes no word (`given-keeps`). So the answer is `answerOf` (`job-is-answer`) and the words are `wordsAfter`
+-- (`job-is-words`), if an edition holds. The job does not read the edition; a bad one is refused before the job, with 1
+-- to 4 or 5 (`bad-edition`). Assumes nothing.
 use mathlib.Core.Path.{_≡_, refl, sym, ap, _∙_}
 use mathlib.Core.Bool.{true, _&&_}
 use mathlib.Core.List.{List, [], _∷_}
@@ -174,28 +175,26 @@ module _ (file : List ℕ) (v : Verdict) (v-is : verdict v ≡ fileCheck file) w
       leb-true (h .names) fewNames (and-right (leb (h .nodes) fewNodes) (leb (h .names) fewNames) e),
     )
 
--- the arrays w and wn of `check_few` and `check_many`, after the copies
-module _ (file : List ℕ) (good : fileCheck file ≡ accepted []) {h : Heading} (h-is : h ≡ headerAt file) where
-  pub nodes-fit : 24 * h .nodes < 2 ^ 64
-  nodes-fit = omega (arith, file-few file good h-is)
+-- the arrays of `check_many` have room for the content of every file
+pub many-room : (file : List ℕ) → fileCheck file ≡ accepted []
+    → (fileCheck file ≡ accepted []) × (24 * headerAt file .nodes ≤ length (replicate {A = ℕ} 50400 0))
+    × (headerAt file .names ≤ length (replicate {A = ℕ} 8064 0))
+many-room file good = (
+  good,
+  omega (arith, file-few file good refl, length-replicate {A = ℕ} 50400 0),
+  omega (arith, file-few file good refl, length-replicate {A = ℕ} 8064 0),
+)
 
-  module _ (m n : ℕ) (nodes : 24 * headerAt file .nodes ≤ m) (name-bytes : headerAt file .names ≤ n) {w wn : List ℕ}
-      (w-is : w ≡ copied (h .first) (24 * h .nodes) file (replicate m 0))
-      (wn-is : wn ≡ copied 1 (h .names) file (replicate n 0)) where
-    arrays-hold : Holds file w wn
-    arrays-hold = copied-holds file good h-is (replicate m 0) (replicate n 0)
-        (rw h-is (omega (arith, length-replicate {A = ℕ} m 0)))
-        (rw h-is (omega (arith, length-replicate {A = ℕ} n 0))) w-is wn-is
+-- `fill`: a and b are the arrays at its entry, w and wn those at its exit
+module _ (file a b : List ℕ)
+    (room : (fileCheck file ≡ accepted []) × (24 * headerAt file .nodes ≤ length a) × (headerAt file .names ≤ length b))
+    {h : Heading} (h-is : h ≡ headerAt file) where
+  pub fill-fits : 24 * h .nodes < 2 ^ 64
+  fill-fits = omega (arith, file-few file (room .0) h-is)
 
-  module _ {w wn : List ℕ} where
-    pub few-hold : headerAt file .nodes ≤ fewNodes → headerAt file .names ≤ fewNames
-        → w ≡ copied (h .first) (24 * h .nodes) file (replicate 6048 0)
-        → wn ≡ copied 1 (h .names) file (replicate 1008 0) → Holds file w wn
-    few-hold nodes name-bytes = arrays-hold 6048 1008 (omega arith) name-bytes
-
-    pub many-hold : w ≡ copied (h .first) (24 * h .nodes) file (replicate 50400 0)
-        → wn ≡ copied 1 (h .names) file (replicate 8064 0) → Holds file w wn
-    many-hold = arrays-hold 50400 8064 (omega (arith, file-few file good refl)) (omega (arith, file-few file good refl))
+  pub filled : {w wn : List ℕ} → w ≡ copied (h .first) (24 * h .nodes) file a → wn ≡ copied 1 (h .names) file b
+      → Holds file w wn
+  filled = copied-holds file (room .0) h-is a b (rw h-is (room .1)) (rw h-is (room .2))
 
 -- the returns of `check_held`: w and wn are the arrays; t, names and bytes are the content of the file, x its edition
 module _ {file w wn : List ℕ} (holds : Holds file w wn) {h : Heading} (h-is : h ≡ headerAt file) where

@@ -15,8 +15,9 @@ use tablefile::Verdict;
 use validate::Listed;
 ghost use mathlib.Core.Path.{_≡_};
 ghost use mathlib.Core.List.{[]};
-ghost use Prim.Native.Nat.{_≤_};
+ghost use Prim.Native.Nat.{_*_, _≤_};
 ghost use lib.ListN.{length, take};
+ghost use Rattle.forest.specs.Forest.{recordBytes};
 ghost use Rattle.table.specs.Numbers.{badDialect};
 ghost use Rattle.table.specs.Answer.{accepted, refused, andThen, refusal};
 ghost use Rattle.table.specs.Check.{checkOf};
@@ -32,8 +33,8 @@ pub const ENOUGH_BYTES: usize = BLOCK_BYTES * MOST_BLOCKS + 1;
 // The number of words for the errors of any file: WIDTH for each, and at most two errors for each of 2,100 nodes.
 pub const ENOUGH_WORDS: usize = WIDTH * (2 * MOST_NODES);
 
-// The nodes and name bytes of a file that is read into small arrays: 12 blocks of nodes, two of names. Most scripts have
-// no more, and zeroing the arrays for the largest file would take longer than reading theirs.
+// The nodes and name bytes of a file that is read into small arrays: 12 blocks of nodes and two of names. Most scripts
+// have no more, and the arrays for the largest file would take 58 KB of zeros for each of them.
 const FEW_NODES: usize = 252;
 
 const FEW_NAMES: usize = 1008;
@@ -85,9 +86,7 @@ fn check_few(file: &[u8], errors: &mut [u32]) -> Passed
 {
     let mut table = [0u8; FEW_BYTES];
     let mut names = [0u8; FEW_NAMES];
-    let h = tablefile::header(file);
-    tablefile::copy_content(file, h.first, RECORD * h.nodes, &mut table);
-    tablefile::copy_content(file, 1, h.names, &mut names);
+    fill(file, &mut table, &mut names);
     check_held(file, &table, &names, errors)
 }
 
@@ -99,10 +98,20 @@ fn check_many(file: &[u8], errors: &mut [u32]) -> Passed
 {
     let mut table = [0u8; MOST_BYTES];
     let mut names = [0u8; MOST_NAMES];
-    let h = tablefile::header(file);
-    tablefile::copy_content(file, h.first, RECORD * h.nodes, &mut table);
-    tablefile::copy_content(file, 1, h.names, &mut names);
+    fill(file, &mut table, &mut names);
     check_held(file, &table, &names, errors)
+}
+
+// Copies table and names of a file that passes 70 to 75 to the fronts of two arrays that have room for them.
+fn fill(file: &[u8], table: &mut [u8], names: &mut [u8])
+    requires { ⌜ (fileCheck (now file) ≡ accepted [])
+        × (recordBytes * headerAt (now file) .nodes ≤ length (now table))
+        × (headerAt (now file) .names ≤ length (now names)) ⌝ }
+    ensures { λ r. ⌜ Holds (now (file .entry)) (now (table .exit)) (now (names .exit)) ⌝ }
+{
+    let h = tablefile::header(file);
+    tablefile::copy_content(file, h.first, RECORD * h.nodes, table);
+    tablefile::copy_content(file, 1, h.names, names);
 }
 
 // The answer for a file whose content is at the front of two arrays: the job runs on it, unless the edition is bad.

@@ -1,9 +1,9 @@
 -- Reading into the caller's memory. The whole check is 70 to 75, then 1 to 5 (`read-steps`), then 7 (`into-steps`).
 -- `unpack` tests 70 to 75 alone: if they refuse, the arrays stay (`unpack-kept`), else they get the content
--- (`unpack-table-done`, `unpack-names-done`); `unpacked-table` and `unpacked-names` are for a job that runs on these
--- arrays. `read_into` unpacks into arrays of its own, which then hold the file (`read-holds`); 1 to 5 and 7 on them
--- are the rest of the check (`into-so`). A buffer changes only if all is passed (`into-kept`, `into-table-done`,
--- `into-names-done`). Assumes nothing.
+-- (`unpack-table-done`, `unpack-names-done`). `unpacked-table` and `unpacked-names` are for a job that runs on these
+-- arrays, `copied-holds` for one that copies the content itself. `read_into` unpacks into arrays of its own, which then
+-- hold the file (`read-holds`); 1 to 5 and 7 on them are the rest of the check (`into-so`). A buffer changes only if
+-- all is passed (`into-kept`, `into-table-done`, `into-names-done`). Assumes nothing.
 use mathlib.Core.Path.{_≡_, refl, sym, ap, _∙_}
 use mathlib.Core.Bool.{Bool, true, false, _&&_}
 use mathlib.Core.List.{List, [], _++_}
