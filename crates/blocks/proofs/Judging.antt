@@ -1,12 +1,13 @@
--- One law for each `return` of `padded`, `examine` and `judge`. `padded` walks the padding byte by byte; its
--- invariant (`Padding`) says that the bytes from place p on decide the answer, so a byte that is not zero ends it
--- with false (`pad-stop`) and byte 508 with true (`pad-end`). `examine` tests 72, 71 and 73 in the order of the
--- definition, so each law rewrites by the tests that came before (`examine-check` to `examine-passed`). `judge` adds
--- the test of the length (`judge-short`, `judge-long`). No induction. Assumes nothing.
+-- One law for each `return` of `padded`, `examine` and `judge`. `padded` adds up the bytes of the padding; its
+-- invariant (`Padding`) says that the padding is zero if the total so far and all bytes from place p on are, so at byte
+-- 508 the total decides (`pad-end`). `examine` tests 72, 71 and 73 in the order of the definition, so each law rewrites
+-- by the tests that came before (`examine-check` to `examine-passed`). `judge` adds the test of the length
+-- (`judge-short`, `judge-long`). No induction. Assumes nothing.
 use mathlib.Core.Path.{_≡_, refl, sym, ap, _∙_}
-use mathlib.Core.Bool.{Bool, true, false, _&&_}
+use mathlib.Core.Bool.{Bool, true, false, _&&_, and-true}
 use mathlib.Core.List.{List, []}
-use Prim.Native.Nat.{ℕ, _+_, _<_, _≤_}
+use Prim.Native.Nat.{ℕ, zero, suc, _+_, _*_, _<_, _≤_, _^_}
+use native.Mathlib.Nat.{zero-add}
 use native.Mathlib.Numerals.{add-one}
 use native.Mathlib.Omega.{arith}
 use lib.ListN.{length, getD, take, drop, length-take, drop-of-length-le}
@@ -14,34 +15,48 @@ use lib.Seq.{drop-cons, getD-take, length-take-le}
 use lib.Dec.{eqb}
 use borrow.Author.Tests.{eq-eqb, ne-eqb, le-leb, lt-leb}
 use Rattle.fields.specs.Field.{field}
+use Rattle.fields.proofs.Spelling.{Bytes}
 use Rattle.table.specs.Numbers.{blockShort, blockNumber, blockCheck, blockUsed}
 use Rattle.table.specs.Answer.{Answer, accepted, refused}
 use Rattle.blocks.specs.Block.{sumOf, zeros, demand, examine, judge}
 
--- the invariant of `padded`: the bytes from place p on decide
-pub record Padding (b : List ℕ) (from p : ℕ) : Type 0 where
+-- the invariant of `padded`: the total so far and the bytes from place p on decide
+pub record Padding (b : List ℕ) (from total p : ℕ) : Type 0 where
   pub long : length b ≡ 512
-  pub left : zeros (drop p (take 508 b)) ≡ zeros (drop from (take 508 b))
+  pub few : total ≤ 255 * p
+  pub left : (eqb total 0 && zeros (drop p (take 508 b))) ≡ zeros (drop from (take 508 b))
 
-pub pad-start : (b : List ℕ) (from : ℕ) → length b ≡ 512 → Padding b from from
-pad-start b from h = record { long = h; left = refl }
+pub pad-start : (b : List ℕ) (from : ℕ) → length b ≡ 512 → Padding b from 0 from
+pad-start b from h = record { long = h; few = omega arith; left = refl }
 
-module _ {b : List ℕ} {from p : ℕ} (s : Padding b from p) where
-  step : p < 508 → zeros (drop p (take 508 b)) ≡ (eqb (getD b p 0) 0 && zeros (drop (p + 1) (take 508 b)))
+-- a total is zero if both of its parts are
+total-zero : (m n : ℕ) (r : Bool) → (eqb (m + n) 0 && r) ≡ (eqb m 0 && (eqb n 0 && r))
+total-zero zero n r = rw (zero-add n) refl
+total-zero (suc m) n r = rw (ne-eqb (suc m + n) 0 (λ e. omega arith), ne-eqb (suc m) 0 (λ e. omega arith)) refl
+
+module _ {b : List ℕ} {from total p : ℕ} (s : Padding b from total p) where
+  module _ (h : p < 508) (small : Bytes b) where
+    step : zeros (drop p (take 508 b)) ≡ (eqb (getD b p 0) 0 && zeros (drop (p + 1) (take 508 b)))
+    unfolding zeros
+    step =
+        let long : length (take 508 b) ≡ 508 = length-take-le 508 b (omega (arith, s .long)) in
+        rw (drop-cons (take 508 b) p 0 (omega arith), getD-take 508 b p 0 h, add-one p) refl
+
+    pub pad-fits : total + getD b p 0 < 2 ^ 32
+    pad-fits = omega (arith, s .few, small p)
+
+    pub pad-on : Padding b from (total + getD b p 0) (p + 1)
+    pad-on = record {
+      long = s .long;
+      few = omega (arith, s .few, small p);
+      left = rw (total-zero total (getD b p 0) (zeros (drop (p + 1) (take 508 b))), ← step) (s .left);
+    }
+
+  pub pad-end : 508 ≤ p → eqb total 0 ≡ zeros (drop from (take 508 b))
   unfolding zeros
-  step h =
-      let long : length (take 508 b) ≡ 508 = length-take-le 508 b (omega (arith, s .long)) in
-      rw (drop-cons (take 508 b) p 0 (omega arith), getD-take 508 b p 0 h, add-one p) refl
-
-  pub pad-stop : p < 508 → (getD b p 0 ≡ 0 → ⊥) → false ≡ zeros (drop from (take 508 b))
-  pad-stop h e = sym (step h ∙ rw (ne-eqb (getD b p 0) 0 e) refl) ∙ s .left
-
-  pub pad-on : p < 508 → getD b p 0 ≡ 0 → Padding b from (p + 1)
-  pad-on h e = record { long = s .long; left = sym (step h ∙ rw (eq-eqb (getD b p 0) 0 e) refl) ∙ s .left }
-
-  pub pad-end : 508 ≤ p → true ≡ zeros (drop from (take 508 b))
-  unfolding zeros
-  pad-end h = rw (drop-of-length-le (take 508 b) {i = p} (simp length-take (omega arith))) at (s .left)
+  pad-end h =
+      let none : drop p (take 508 b) ≡ [] = drop-of-length-le (take 508 b) {i = p} (simp length-take (omega arith)) in
+      sym (and-true (eqb total 0)) ∙ rw none at (s .left)
 
 -- the tests of `examine`, in their order
 module _ (number used : ℕ) (b : List ℕ) {s w n : ℕ} (s-is : s ≡ sumOf b) (w-is : w ≡ field 4 b 508)

@@ -1,9 +1,11 @@
 -- Laws of the sum of a block, which weighs the byte at place p by p + 1. The sum over n places depends on those bytes
 -- alone (`weighed-front`, `weighed-outside`) and fits 32 bits (`sum-small`). Changing one byte moves the sum by its
 -- factor times the difference (`moved`, by induction on the number of places), so a changed byte changes the sum
--- (`weighed-changed`, the law to cite). The loops keep the sum over the places so far (`Summed`, `Summing`); places
--- past the end count as zero, so `sum` may stop there (`sum-clipped`). Assumes nothing.
-use mathlib.Core.Path.{_≡_, refl, sym, ap, _∙_}
+-- (`weighed-changed`, the law to cite). The loops keep the sum over the places so far (`Summed`), or what the places of
+-- a part add to the sum over the places before it (`Adding`). Eight parts, each from the end of the one before, are the
+-- whole sum (`sum-parts`); places past the end count as zero, so a short list is one part (`sum-short`). Assumes
+-- nothing.
+use mathlib.Core.Path.{_≡_, refl, sym}
 use mathlib.Core.Logic.{⊎-elim}
 use mathlib.Core.List.{List, _++_}
 use Prim.Native.Nat.{ℕ, zero, suc, _+_, _*_, _-_, _<_, _≤_, _^_, min}
@@ -15,6 +17,10 @@ use lib.Seq.{getD-set-same, getD-set-other}
 use Rattle.fields.proofs.Basics.{le-or-lt}
 use Rattle.blocks.specs.Block.{weighed, sumOf}
 use Rattle.fields.proofs.Spelling.{Bytes}
+
+weighed-none : (b : List ℕ) → weighed 0 b ≡ 0
+unfolding weighed
+weighed-none b = refl
 
 -- the bound of what one byte adds
 pub weight-small : (n p x : ℕ) → p < n → x < 256 → (p + 1) * x ≤ n * 255
@@ -108,30 +114,67 @@ sum-clipped b = ⊎-elim
     rw e (sym (rw n at (weighed-past (508 - length b) b))))
     (le-or-lt 508 (length b))
 
--- the loop of `sum` stops at place 508, or at the end of the bytes if that comes first
-pub record Summing (b : List ℕ) (n sum p : ℕ) : Type 0 where
-  pub clipped : n ≡ min 508 (length b)
-  pub before : p ≤ n
-  pub summed : Summed b sum p
+-- the loop of `part_sum`: the sum over the places before `from`, and the sum so far, are the sum over p places
+pub record Adding (b : List ℕ) (from to sum p : ℕ) : Type 0 where
+  pub whole : to ≤ 508
+  pub there : to ≤ length b
+  pub upto : p ≤ to
+  pub small : Bytes b
+  pub is : weighed from b + sum ≡ weighed p b
 
-pub summing-start : (b : List ℕ) {n : ℕ} → n ≡ min 508 (length b) → Bytes b → Summing b n 0 0
-summing-start b n-is small = record { clipped = n-is; before = omega arith; summed = sum-start b small }
+pub adding-start : (b : List ℕ) (from to : ℕ) → (from ≤ to) × (to ≤ 508) × (to ≤ length b) → Bytes b
+    → Adding b from to 0 from
+adding-start b from to h small = record {
+  whole = h .1;
+  there = h .2;
+  upto = h .0;
+  small = small;
+  is = add-zero (weighed from b);
+}
 
-module _ {b : List ℕ} {n sum p : ℕ} (s : Summing b n sum p) where
-  pub summing-place : p < n → p < length b
-  summing-place h = omega (arith, s .clipped)
+module _ {b : List ℕ} {from to sum p : ℕ} (s : Adding b from to sum p) where
+  module _ (h : p < to) where
+    pub adding-place : p < length b
+    adding-place = omega (arith, s .there)
 
-  pub summing-few : p < n → p < 508
-  summing-few h = omega (arith, s .clipped)
+    pub adding-few : p < 508
+    adding-few = omega (arith, s .whole)
 
-  module _ (h : p < n) {w : ℕ} (e : w ≡ (p + 1) * getD b p 0) where
-    pub summing-on : Summing b n (sum + w) (p + 1)
-    summing-on = record { clipped = s .clipped; before = omega arith; summed = sum-on (s .summed) (summing-few h) e }
+    module _ {w : ℕ} (e : w ≡ (p + 1) * getD b p 0) where
+      adding-next : weighed from b + (sum + w) ≡ weighed (p + 1) b
+      unfolding weighed
+      adding-next = rw (add-one p, ← s .is, e) (omega arith)
 
-    pub summing-fits : sum + w < 2 ^ 32
-    summing-fits = sum-fits (s .summed) (summing-few h) e
+      pub adding-on : Adding b from to (sum + w) (p + 1)
+      adding-on = record {
+        whole = s .whole;
+        there = s .there;
+        upto = omega arith;
+        small = s .small;
+        is = adding-next;
+      }
 
-  pub summing-end : n ≤ p → sum ≡ sumOf b
-  summing-end h =
-      let e : p ≡ min 508 (length b) = omega (arith, s .clipped, s .before) in
-      s .summed .is ∙ ap (λ (k : ℕ). weighed k b) e ∙ sum-clipped b
+      pub adding-fits : sum + w < 2 ^ 32
+      adding-fits =
+          omega (arith, adding-next, weighed-small (p + 1) b (omega (arith, s .whole)) (s .small), s .whole)
+
+  module _ (h : to ≤ p) where
+    pub adding-end : weighed from b + sum ≡ weighed to b
+    adding-end = let e : p ≡ to = omega (arith, s .upto) in rw e at (s .is)
+
+    pub adding-small : sum ≤ 129540 * to
+    adding-small = omega (arith, adding-end, weighed-small to b (s .whole) (s .small))
+
+-- the returns of `sum`: the bytes of a short list, or the eight parts of a block
+pub sum-short : (b : List ℕ) {r : ℕ} → length b < 508 → weighed 0 b + r ≡ weighed (length b) b → r ≡ sumOf b
+sum-short b h e =
+    let n : min 508 (length b) ≡ length b = omega arith in
+    let all : weighed (length b) b ≡ sumOf b = rw n at (sum-clipped b) in
+    omega (arith, weighed-none b)
+
+pub sum-parts : (b : List ℕ) (s t u v w x y z : ℕ) → weighed 0 b + s ≡ weighed 64 b
+    → weighed 64 b + t ≡ weighed 128 b → weighed 128 b + u ≡ weighed 192 b → weighed 192 b + v ≡ weighed 256 b
+    → weighed 256 b + w ≡ weighed 320 b → weighed 320 b + x ≡ weighed 384 b → weighed 384 b + y ≡ weighed 448 b
+    → weighed 448 b + z ≡ weighed 508 b → s + t + u + v + (w + x + y + z) ≡ sumOf b
+unfolding sumOf
+sum-parts b s t u v w x y z s-is t-is u-is v-is w-is x-is y-is z-is = omega (arith, weighed-none b)

@@ -3,9 +3,10 @@ pub mod bytes;
 
 use table::numbers;
 ghost use mathlib.Core.Path.{_≡_};
-ghost use Prim.Native.Nat.{_+_, _≤_, min};
+ghost use Prim.Native.Nat.{_+_, _*_, _≤_, min};
 ghost use lib.ListN.{length, take, drop};
-ghost use Rattle.blocks.specs.Block.{blockBytes, contentBytes, weightOf, sumOf, zeros, examine, judge, judged};
+ghost use Rattle.blocks.specs.Block.{blockBytes, contentBytes, weightOf, weighed, sumOf, zeros, examine};
+ghost use Rattle.blocks.specs.Block.{judge, judged};
 ghost use Rattle.blocks.specs.Run.{blocksFor, judgeRun, contentIn};
 
 // The size of a block, and that of its content.
@@ -129,41 +130,49 @@ pub fn weight(p: u16, x: u8) -> u32
 }
 
 // The sum of (p + 1) times byte p over p = 0 to 507. It is below 33 million, so it fits 32 bits. Bytes past the end
-// count as zero.
+// count as zero. A whole block is summed in eight parts with constant bounds, which compile to vector code.
 pub fn sum(b: &[u8]) -> u32
     ensures { λ r. ⌜ r ≡ sumOf (now (b .entry)) ⌝ }
 {
-    let n = summed(b.len());
+    if b.len() < 508 {
+        return part_sum(b, 0, b.len());
+    }
+    let low = part_sum(b, 0, 64)
+        + part_sum(b, 64, 128)
+        + part_sum(b, 128, 192)
+        + part_sum(b, 192, 256);
+    let high = part_sum(b, 256, 320)
+        + part_sum(b, 320, 384)
+        + part_sum(b, 384, 448)
+        + part_sum(b, 448, 508);
+    low + high
+}
+
+// What the bytes from place `from` up to place `to` add to the sum.
+fn part_sum(b: &[u8], from: usize, to: usize) -> u32
+    requires { ⌜ (from ≤ to) × (to ≤ 508) × (to ≤ length (now b)) ⌝ }
+    ensures { λ r. ⌜ weighed from (now (b .entry)) + r ≡ weighed to (now (b .entry)) ⌝ }
+    ensures { λ r. ⌜ r ≤ 129540 * to ⌝ }
+{
     let mut sum = 0u32;
-    let mut p = 0;
-    while p < n {
-        sum += weight(p as u16, b[p]);
-        p += 1;
+    let mut at = from;
+    while at < to {
+        sum += weight(at as u16, b[at]);
+        at += 1;
     }
     sum
 }
 
-// The number of bytes to sum: n, but at most 508.
-fn summed(n: usize) -> usize
-    ensures { λ r. ⌜ r ≡ min 508 n ⌝ }
-{
-    if n < 508 {
-        return n;
-    }
-    508
-}
-
-// Whether the content is zero from byte `from` on.
+// Whether the content is zero from byte `from` on: the sum of its bytes is zero.
 fn padded(b: &[u8], from: usize) -> bool
     requires { ⌜ length (now b) ≡ blockBytes ⌝ }
     ensures { λ r. ⌜ r ≡ zeros (drop from (take 508 (now (b .entry)))) ⌝ }
 {
+    let mut total = 0u32;
     let mut p = from;
     while p < 508 {
-        if b[p] != 0 {
-            return false;
-        }
+        total += b[p] as u32;
         p += 1;
     }
-    true
+    total == 0
 }

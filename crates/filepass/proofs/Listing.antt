@@ -1,14 +1,19 @@
--- Laws of `check_file`. The code unpacks the file, which tests 70 to 75, and then runs the module job, which tests 1
--- to 5 itself; `answerOf` tests 70 to 75 and 1 to 5, and then runs the job. Both are the same: if 1 to 5 refuse, the
--- job refuses with the same number (`given-again`) and changes no word (`given-keeps`). So the answer is `answerOf`
--- (`job-is-answer`) and the words are `wordsAfter` (`job-is-words`), if an edition holds. The job does not read the
--- edition; a bad one is refused before the job, with 1 to 4 or 5 (`bad-edition`). Assumes nothing.
+-- Laws of `check_file`. The code judges the file, which tests 70 to 75, copies its content into arrays with room for it
+-- (`many-room`, `filled`), and then runs the module job, which tests 1 to 5 itself; `answerOf` tests 70 to 75 and 1 to
+-- 5, and then runs the job. Both are the same: if 1 to 5 refuse, the job refuses with the same number (`given-again`)
+-- and changes no word (`given-keeps`). So the answer is `answerOf` (`job-is-answer`) and the words are `wordsAfter`
+-- (`job-is-words`), if an edition holds. The job does not read the edition; a bad one is refused before the job, with 1
+-- to 4 or 5 (`bad-edition`). Assumes nothing.
 use mathlib.Core.Path.{_≡_, refl, sym, ap, _∙_}
+use mathlib.Core.Bool.{true, _&&_}
 use mathlib.Core.List.{List, [], _∷_}
 use Prim.Native.Nat.{ℕ, _*_, _-_, _/_, _^_, _<_, _≤_}
 use native.Mathlib.Omega.{arith}
-use lib.ListN.{length, take, replicate}
+use lib.ListN.{length, take, replicate, length-replicate}
 use lib.Seq.{take-all}
+use lib.Dec.{leb}
+use borrow.Author.Tests.{leb-true}
+use Rattle.fields.proofs.Basics.{and-left, and-right}
 use Rattle.dialect.specs.Bytes.{fromBytes}
 use Rattle.dialect.specs.Editions.{statedBytes, editionHeld}
 use Rattle.dialect.specs.declared.Dialect.{Dialect}
@@ -30,16 +35,17 @@ use Rattle.table.proofs.Ruling.{rules-known, rules-passed, rules-given, rules-u
 use Rattle.tablefile.specs.File.{Content}
 use Rattle.tablefile.specs.Reading.{headerAt, contentAt, editionRead, soundCheck}
 use Rattle.tablefile.specs.Loading.{verdict}
-use Rattle.tablefile.specs.Lending.{fileCheck, handed}
+use Rattle.tablefile.specs.Lending.{fileCheck, copied, Holds}
 use Rattle.tablefile.specs.declared.Heading.{Heading}
 use Rattle.tablefile.specs.declared.Verdict.{Verdict}
 use Rattle.tablefile.specs.declared.Verdict.the-variants.{Accepted, Refused}
-use Rattle.tablefile.proofs.Lends.{read-steps, unpacked-few, unpacked-nodes, unpacked-table, unpacked-names}
+use Rattle.tablefile.proofs.Lends.{read-steps, file-few, table-long, copied-holds, its-table, its-names}
 use Rattle.errors.specs.Errors.{stored}
 use Rattle.errors.specs.declared.Listing.the-variants.{Module}
 use Rattle.validate.specs.Job.{listed, errorsIn, errorsOf, moduleOf, errorsAfter}
 use Rattle.validate.specs.declared.Listed.{Listed}
 use Rattle.validate.specs.declared.Listed.the-variants.{Total, Refused as Away}
+use Rattle.filepass.specs.Sizes.{fewNodes, fewNames}
 use Rattle.filepass.specs.Passing.{behind, heldAnswer, answerOf, ifRead, wordsAfter}
 
 -- the returns of `front`: all of the bytes, or a part
@@ -148,16 +154,7 @@ told-total n m e = rw e refl
 pub told-refused : (n : ℕ) (m : Listed) {why : Refusal} → m ≡ Away why → refusal why ≡ behind n (listed m)
 told-refused n m e = rw e refl
 
--- the number of nodes is small: v is the answer of `tablefile::unpack`
-module _ (file : List ℕ) (v : Verdict) (v-is : verdict v ≡ fileCheck file) (good : v ≡ Accepted) {h : Heading}
-    (h-is : h ≡ headerAt file) where
-  pub nodes-fit : 24 * h .nodes < 2 ^ 64
-  nodes-fit = omega (arith, unpacked-few file v v-is good h-is)
-
-  pub nodes-word : h .nodes < 2 ^ 32
-  nodes-word = omega (arith, unpacked-few file v v-is good h-is)
-
--- the returns of `check_file`: v is the answer of `tablefile::unpack`
+-- the returns of `check_file`: v is the answer of `tablefile::judge_file`
 module _ (file : List ℕ) (v : Verdict) (v-is : verdict v ≡ fileCheck file) where
   pub file-refused : (xs : List ℕ) {why : Refusal} → v ≡ Refused why
       → (refusal why ≡ answerOf file) × (xs ≡ wordsAfter file xs)
@@ -166,24 +163,55 @@ module _ (file : List ℕ) (v : Verdict) (v-is : verdict v ≡ fileCheck file) w
       let told : fileCheck file ≡ refusal why = sym v-is ∙ ap verdict e in
       (rw (read-steps file, told) refl, rw (read-steps file, told) refl)
 
-  -- w and wn are the arrays at its exit; t, names and bytes are the content of the file, and x its edition
-  module _ (good : v ≡ Accepted) {h : Heading} (h-is : h ≡ headerAt file) {w wn t names bytes : List ℕ}
-      (w-is : w ≡ handed (fileCheck file) (contentAt file .table) (replicate 50400 0))
-      (wn-is : wn ≡ handed (fileCheck file) (contentAt file .names) (replicate 8064 0))
-      (t-is : t ≡ take (24 * h .nodes) w) (names-is : names ≡ take (h .names) wn)
+  module _ (good : v ≡ Accepted) where
+    pub file-passes : fileCheck file ≡ accepted []
+    file-passes = sym v-is ∙ ap verdict good
+
+    pub file-small : {h : Heading} → h ≡ headerAt file → (leb (h .nodes) fewNodes && leb (h .names) fewNames) ≡ true
+        → (fileCheck file ≡ accepted []) × (headerAt file .nodes ≤ fewNodes) × (headerAt file .names ≤ fewNames)
+    file-small {h} h-is e = rw (← h-is) (
+      file-passes,
+      leb-true (h .nodes) fewNodes (and-left (leb (h .nodes) fewNodes) (leb (h .names) fewNames) e),
+      leb-true (h .names) fewNames (and-right (leb (h .nodes) fewNodes) (leb (h .names) fewNames) e),
+    )
+
+-- the arrays of `check_many` have room for the content of every file
+pub many-room : (file : List ℕ) → fileCheck file ≡ accepted []
+    → (fileCheck file ≡ accepted []) × (24 * headerAt file .nodes ≤ length (replicate {A = ℕ} 50400 0))
+    × (headerAt file .names ≤ length (replicate {A = ℕ} 8064 0))
+many-room file good = (
+  good,
+  omega (arith, file-few file good refl, length-replicate {A = ℕ} 50400 0),
+  omega (arith, file-few file good refl, length-replicate {A = ℕ} 8064 0),
+)
+
+-- `fill`: a and b are the arrays at its entry, w and wn those at its exit
+module _ (file a b : List ℕ)
+    (room : (fileCheck file ≡ accepted []) × (24 * headerAt file .nodes ≤ length a) × (headerAt file .names ≤ length b))
+    {h : Heading} (h-is : h ≡ headerAt file) where
+  pub fill-fits : 24 * h .nodes < 2 ^ 64
+  fill-fits = omega (arith, file-few file (room .0) h-is)
+
+  pub filled : {w wn : List ℕ} → w ≡ copied (h .first) (24 * h .nodes) file a → wn ≡ copied 1 (h .names) file b
+      → Holds file w wn
+  filled = copied-holds file (room .0) h-is a b (rw h-is (room .1)) (rw h-is (room .2))
+
+-- the returns of `check_held`: w and wn are the arrays; t, names and bytes are the content of the file, x its edition
+module _ {file w wn : List ℕ} (holds : Holds file w wn) {h : Heading} (h-is : h ≡ headerAt file) where
+  pub nodes-word : h .nodes < 2 ^ 32
+  nodes-word = omega (arith, file-few file (holds .passed) h-is)
+
+  module _ {t names bytes : List ℕ} (t-is : t ≡ take (24 * h .nodes) w) (names-is : names ≡ take (h .names) wn)
       (bytes-is : bytes ≡ contentAt file .dialect) {stated : Stated} (stated-is : stated ≡ contentAt file .edition)
       {x : EditionRead} (x-is : x ≡ editionHeld bytes (statedBytes stated)) where
-    told : fileCheck file ≡ accepted []
-    told = sym v-is ∙ ap verdict good
-
     t-so : t ≡ contentAt file .table
-    t-so = t-is ∙ unpacked-table file v v-is good h-is w-is
+    t-so = t-is ∙ its-table holds h-is
 
     names-so : names ≡ contentAt file .names
-    names-so = names-is ∙ unpacked-names file v v-is good h-is wn-is
+    names-so = names-is ∙ its-names holds h-is
 
     nodes-so : length t / 24 ≡ h .nodes
-    nodes-so = omega (arith, unpacked-nodes file v v-is good h-is, ap length t-so)
+    nodes-so = omega (arith, table-long file (holds .passed) h-is, ap length t-so)
 
     edition-so : editionRead (contentAt file) ≡ x
     edition-so = rw (x-is, bytes-is, stated-is) refl
@@ -199,21 +227,21 @@ module _ (file : List ℕ) (v : Verdict) (v-is : verdict v ≡ fileCheck file) w
 
       pub bad-answer : refusal why ≡ answerOf file
       unfolding answerOf
-      bad-answer = rw (read-steps file, told, unsound) refl
+      bad-answer = rw (read-steps file, holds .passed, unsound) refl
 
       pub bad-words : (xs : List ℕ) → xs ≡ wordsAfter file xs
       unfolding wordsAfter
-      bad-words xs = rw (read-steps file, told, unsound) refl
+      bad-words xs = rw (read-steps file, holds .passed, unsound) refl
 
     -- m is the answer of the module job, a the same with the number of nodes, and ys the words at its exit
     module _ {e : Edition} (held : x ≡ Known e) where
       pub file-answer : {m a : Answer} → m ≡ moduleOf t names bytes → a ≡ behind (h .nodes) m → a ≡ answerOf file
       file-answer m-is a-is = a-is ∙ rw (m-is, ← nodes-so, t-so, names-so, bytes-is)
-          (rw told at (job-is-answer file (edition-so ∙ held)))
+          (rw (holds .passed) at (job-is-answer file (edition-so ∙ held)))
 
       pub file-words : (xs : List ℕ) {ys : List ℕ} → ys ≡ errorsAfter t names bytes xs → ys ≡ wordsAfter file xs
       file-words xs ys-is =
-          ys-is ∙ rw (t-so, names-so, bytes-is) (rw told at (job-is-words file (edition-so ∙ held) xs))
+          ys-is ∙ rw (t-so, names-so, bytes-is) (rw (holds .passed) at (job-is-words file (edition-so ∙ held) xs))
 
 -- the first bytes of a buffer: p is that part
 pub read-so : (file xs : List ℕ) {p ys : List ℕ} {a : Answer} → p ≡ file → a ≡ answerOf p → ys ≡ wordsAfter p xs

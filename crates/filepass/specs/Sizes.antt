@@ -13,3 +13,10 @@ enoughBytes = blockBytes * mostBlocks + 1
 -- the words of the largest number of errors: two for each of 2,100 nodes
 abbrev pub enoughWords : ℕ
 enoughWords = width Module * (2 * mostNodes)
+
+-- the nodes and the name bytes of a file that is read into small arrays
+abbrev pub fewNodes : ℕ
+fewNodes = 252
+
+abbrev pub fewNames : ℕ
+fewNames = 1008

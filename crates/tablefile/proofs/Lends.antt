@@ -1,9 +1,9 @@
 -- Reading into the caller's memory. The whole check is 70 to 75, then 1 to 5 (`read-steps`), then 7 (`into-steps`).
 -- `unpack` tests 70 to 75 alone: if they refuse, the arrays stay (`unpack-kept`), else they get the content
--- (`unpack-table-done`, `unpack-names-done`); `unpacked-table` and `unpacked-names` are for a job that runs on these
--- arrays. `read_into` unpacks into arrays of its own, which then hold the file (`read-holds`); 1 to 5 and 7 on them
--- are the rest of the check (`into-so`). A buffer changes only if all is passed (`into-kept`, `into-table-done`,
--- `into-names-done`). Assumes nothing.
+-- (`unpack-table-done`, `unpack-names-done`). `unpacked-table` and `unpacked-names` are for a job that runs on these
+-- arrays, `copied-holds` for one that copies the content itself. `read_into` unpacks into arrays of its own, which then
+-- hold the file (`read-holds`); 1 to 5 and 7 on them are the rest of the check (`into-so`). A buffer changes only if
+-- all is passed (`into-kept`, `into-table-done`, `into-names-done`). Assumes nothing.
 use mathlib.Core.Path.{_≡_, refl, sym, ap, _∙_}
 use mathlib.Core.Bool.{Bool, true, false, _&&_}
 use mathlib.Core.List.{List, [], _++_}
@@ -30,10 +30,11 @@ use Rattle.blocks.specs.declared.Judged.the-variants as judgements
 use Rattle.tablefile.specs.Reading.{dialectIn, editionIn, headerAt, contentAt, blocksCheck}
 use Rattle.tablefile.specs.Reading.{frontCheck, soundCheck, readCheck}
 use Rattle.tablefile.specs.Loading.{verdict}
-use Rattle.tablefile.specs.Lending.{fileCheck, intoCheck, handed, Holds}
+use Rattle.tablefile.specs.Lending.{fileCheck, intoCheck, handed, copied, Holds}
 use Rattle.tablefile.specs.declared.Heading.{Heading}
 use Rattle.tablefile.specs.declared.Verdict.{Verdict}
 use Rattle.tablefile.specs.declared.Verdict.the-variants.{Accepted, Refused}
+use Rattle.tablefile.proofs.Copies.{copied-is}
 use Rattle.tablefile.proofs.Fronts.{first-is, taken-is, Fronted, fronted-then, first-there, taken-there}
 use Rattle.tablefile.proofs.Fronts.{table-length, names-length}
 use Rattle.tablefile.proofs.Accepted.{read-fronted}
@@ -208,11 +209,11 @@ module _ (bs : List ℕ) (good : fileCheck bs ≡ accepted []) {h : Heading} (h-
   fronted-so : Fronted bs
   fronted-so = file-fronted bs good
 
-  few : (24 * h .nodes ≤ 50400) × (h .names ≤ 8064)
-  few = rw h-is (omega (arith, fronted-so .counts), omega (arith, fronted-so .counts))
+  pub file-few : (24 * h .nodes ≤ 50400) × (h .names ≤ 8064)
+  file-few = rw h-is (omega (arith, fronted-so .counts), omega (arith, fronted-so .counts))
 
-  t-long : length (contentAt bs .table) ≡ 24 * h .nodes
-  t-long = rw h-is (table-length bs fronted-so)
+  pub table-long : length (contentAt bs .table) ≡ 24 * h .nodes
+  table-long = rw h-is (table-length bs fronted-so)
 
   ns-long : length (contentAt bs .names) ≡ h .names
   ns-long = rw h-is (names-length bs fronted-so)
@@ -220,11 +221,11 @@ module _ (bs : List ℕ) (good : fileCheck bs ≡ accepted []) {h : Heading} (h-
   module _ {w : List ℕ} where
     table-array : w ≡ handed (fileCheck bs) (contentAt bs .table) (replicate 50400 0) → length w ≡ 50400
     table-array w-is = handed-long _ _ (replicate 50400 0) good
-        (omega (arith, t-long, few, length-replicate {A = ℕ} 50400 0)) w-is ∙ length-replicate {A = ℕ} 50400 0
+        (omega (arith, table-long, file-few, length-replicate {A = ℕ} 50400 0)) w-is ∙ length-replicate {A = ℕ} 50400 0
 
     names-array : w ≡ handed (fileCheck bs) (contentAt bs .names) (replicate 8064 0) → length w ≡ 8064
     names-array w-is = handed-long _ _ (replicate 8064 0) good
-        (omega (arith, ns-long, few, length-replicate {A = ℕ} 8064 0)) w-is ∙ length-replicate {A = ℕ} 8064 0
+        (omega (arith, ns-long, file-few, length-replicate {A = ℕ} 8064 0)) w-is ∙ length-replicate {A = ℕ} 8064 0
 
 -- the returns of `unpack`: x is the answer of 70 to 75
 module _ (bs : List ℕ) {h : Heading} (h-is : h ≡ headerAt bs) {x : Answer} (x-is : x ≡ fileCheck bs) {q : Bool}
@@ -240,29 +241,55 @@ module _ (bs : List ℕ) {h : Heading} (h-is : h ≡ headerAt bs) {x : Answer} (
     its-front = file-fronted bs good
 
     pub unpack-fits : 24 * h .nodes < 2 ^ 64
-    unpack-fits = omega (arith, few bs good h-is)
+    unpack-fits = omega (arith, file-few bs good h-is)
 
     pub unpack-table : (t : List ℕ) → length t ≡ 50400
         → (512 * (h .first + blocksFor (24 * h .nodes)) ≤ length bs) × (24 * h .nodes ≤ length t)
     unpack-table t long =
-        (rw h-is (omega (arith, taken-is bs, taken-there bs its-front)), omega (arith, few bs good h-is))
+        (rw h-is (omega (arith, taken-is bs, taken-there bs its-front)), omega (arith, file-few bs good h-is))
 
     pub unpack-names : (ns : List ℕ) → length ns ≡ 8064
         → (512 * (1 + blocksFor (h .names)) ≤ length bs) × (h .names ≤ length ns)
     unpack-names ns long =
-        (rw h-is (omega (arith, first-is bs, first-there bs its-front)), omega (arith, few bs good h-is))
+        (rw h-is (omega (arith, first-is bs, first-there bs its-front)), omega (arith, file-few bs good h-is))
 
     pub unpack-table-done : (t : List ℕ) {t′ : List ℕ}
         → t′ ≡ contentOf (24 * h .nodes) (drop (512 * h .first) bs) ++ drop (24 * h .nodes) t
         → t′ ≡ handed (fileCheck bs) (contentAt bs .table) t
     unfolding contentAt
-    unpack-table-done t t-is = handed-is _ t (t-long bs good h-is) good (t-is ∙ rw h-is refl)
+    unpack-table-done t t-is = handed-is _ t (table-long bs good h-is) good (t-is ∙ rw h-is refl)
 
     pub unpack-names-done : (ns : List ℕ) {ns′ : List ℕ}
         → ns′ ≡ contentOf (h .names) (drop 512 bs) ++ drop (h .names) ns
         → ns′ ≡ handed (fileCheck bs) (contentAt bs .names) ns
     unfolding contentAt
     unpack-names-done ns ns-is = handed-is _ ns (ns-long bs good h-is) good (ns-is ∙ rw h-is refl)
+
+-- LAW: if a file passes 70 to 75, two buffers with room for its table and names hold them after `copy_content`
+module _ (bs : List ℕ) (good : fileCheck bs ≡ accepted []) {h : Heading} (h-is : h ≡ headerAt bs) (t ns : List ℕ)
+    (t-room : 24 * h .nodes ≤ length t) (ns-room : h .names ≤ length ns) {t′ ns′ : List ℕ}
+    (t-is : t′ ≡ copied (h .first) (24 * h .nodes) bs t) (ns-is : ns′ ≡ copied 1 (h .names) bs ns) where
+  table-copied : t′ ≡ handed (fileCheck bs) (contentAt bs .table) t
+  unfolding contentAt
+  table-copied =
+      let there : 512 * (h .first + blocksFor (24 * h .nodes)) ≤ length bs =
+      rw h-is (omega (arith, taken-is bs, taken-there bs (file-fronted bs good))) in
+      handed-is _ t (table-long bs good h-is) good (t-is ∙ copied-is (h .first) (24 * h .nodes) bs t there t-room
+      ∙ rw h-is refl)
+
+  names-copied : ns′ ≡ handed (fileCheck bs) (contentAt bs .names) ns
+  unfolding contentAt
+  names-copied =
+      let there : 512 * (1 + blocksFor (h .names)) ≤ length bs =
+      rw h-is (omega (arith, first-is bs, first-there bs (file-fronted bs good))) in
+      handed-is _ ns (ns-long bs good h-is) good (ns-is ∙ copied-is 1 (h .names) bs ns there ns-room ∙ rw h-is refl)
+
+  pub copied-holds : Holds bs t′ ns′
+  copied-holds = record {
+    passed = good;
+    table = handed-front _ _ _ good refl table-copied;
+    names = handed-front _ _ _ good refl names-copied;
+  }
 
 -- the arrays that `unpack` has filled, for a job that runs on them: v is its answer
 module _ (bs : List ℕ) (v : Verdict) (v-is : verdict v ≡ fileCheck bs) (v-good : v ≡ Accepted) {h : Heading}
@@ -271,10 +298,10 @@ module _ (bs : List ℕ) (v : Verdict) (v-is : verdict v ≡ fileCheck bs) (v-go
   unpacked-good = sym v-is ∙ ap verdict v-good
 
   pub unpacked-few : (24 * h .nodes ≤ 50400) × (h .names ≤ 8064)
-  unpacked-few = few bs unpacked-good h-is
+  unpacked-few = file-few bs unpacked-good h-is
 
   pub unpacked-nodes : length (contentAt bs .table) ≡ 24 * h .nodes
-  unpacked-nodes = t-long bs unpacked-good h-is
+  unpacked-nodes = table-long bs unpacked-good h-is
 
   module _ {w : List ℕ} where
     pub unpacked-table-long : w ≡ handed (fileCheck bs) (contentAt bs .table) (replicate 50400 0) → 50400 ≡ length w
@@ -285,7 +312,7 @@ module _ (bs : List ℕ) (v : Verdict) (v-is : verdict v ≡ fileCheck bs) (v-go
 
     pub unpacked-table : w ≡ handed (fileCheck bs) (contentAt bs .table) (replicate 50400 0)
         → take (24 * h .nodes) w ≡ contentAt bs .table
-    unpacked-table = handed-front _ _ _ unpacked-good (t-long bs unpacked-good h-is)
+    unpacked-table = handed-front _ _ _ unpacked-good (table-long bs unpacked-good h-is)
 
     pub unpacked-names : w ≡ handed (fileCheck bs) (contentAt bs .names) (replicate 8064 0)
         → take (h .names) w ≡ contentAt bs .names
@@ -322,17 +349,17 @@ module _ (bs : List ℕ) {x : Answer} (x-is : x ≡ fileCheck bs) {p : Bool} (p-
 -- the returns of `hand_over`: from the arrays into the caller's buffers
 module _ {bs wt wn : List ℕ} (holds : Holds bs wt wn) {h : Heading} (h-is : h ≡ headerAt bs) where
   pub into-fits : 24 * h .nodes < 2 ^ 64
-  into-fits = omega (arith, few bs (holds .passed) h-is)
+  into-fits = omega (arith, file-few bs (holds .passed) h-is)
 
-  its-table : take (24 * h .nodes) wt ≡ contentAt bs .table
-  its-table = rw (← t-long bs (holds .passed) h-is) (holds .table)
+  pub its-table : take (24 * h .nodes) wt ≡ contentAt bs .table
+  its-table = rw (← table-long bs (holds .passed) h-is) (holds .table)
 
-  its-names : take (h .names) wn ≡ contentAt bs .names
+  pub its-names : take (h .names) wn ≡ contentAt bs .names
   its-names = rw (← ns-long bs (holds .passed) h-is) (holds .names)
 
   pub into-table-within : 24 * h .nodes ≤ length wt
   into-table-within =
-      omega (arith, length-take (24 * h .nodes) wt, ap length its-table, t-long bs (holds .passed) h-is)
+      omega (arith, length-take (24 * h .nodes) wt, ap length its-table, table-long bs (holds .passed) h-is)
 
   pub into-names-within : h .names ≤ length wn
   into-names-within = omega (arith, length-take (h .names) wn, ap length its-names, ns-long bs (holds .passed) h-is)
@@ -377,7 +404,7 @@ module _ {bs wt wn : List ℕ} (holds : Holds bs wt wn) {h : Heading} (h-is : h 
             → t′ ≡ take (24 * h .nodes) wt ++ drop (24 * h .nodes) t
             → t′ ≡ handed (intoCheck bs a b) (contentAt bs .table) t
         into-table-done t t-is =
-            handed-is _ t (t-long bs (holds .passed) h-is) (good-so .1) (t-is ∙ rw its-table refl)
+            handed-is _ t (table-long bs (holds .passed) h-is) (good-so .1) (t-is ∙ rw its-table refl)
 
         pub into-names-done : (ns : List ℕ) {ns′ : List ℕ} → ns′ ≡ take (h .names) wn ++ drop (h .names) ns
             → ns′ ≡ handed (intoCheck bs a b) (contentAt bs .names) ns

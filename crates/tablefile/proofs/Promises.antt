@@ -35,6 +35,10 @@ pub read-one : (file : List ℕ) {r s : Loaded} → verdict (r .verdict) ≡ rea
     → s ≡ loadedOf (s .verdict) (contentAt file) (headerAt file .taken) → r ≡ s
 read-one file {r} {s} = one _ _ _ r s
 
+-- of `judge_file`
+pub judge-file-one : (file : List ℕ) {r s : Verdict} → verdict r ≡ fileCheck file → verdict s ≡ fileCheck file → r ≡ s
+judge-file-one file = coincide-by verdict verdict-injective
+
 -- of `unpack`, the file and the arrays as lent
 pub unpack-one : (file table names : List ℕ) {r s : Verdict} {table-r table-s : List ℕ} {names-r names-s : List ℕ}
     → verdict r ≡ fileCheck file → table-r ≡ handed (fileCheck file) (contentAt file .table) table

@@ -115,6 +115,21 @@ pub fn read(file: &[u8]) -> Loaded
     l
 }
 
+// Judges a file and reads no content: 70 to 74 for its blocks, then 75 for bytes left over.
+pub fn judge_file(file: &[u8]) -> Verdict
+    ensures { λ r. ⌜ verdict r ≡ fileCheck (now (file .entry)) ⌝ }
+{
+    let h = header(file);
+    let first = judge_front(file, h);
+    if let Judged::Refused(n) = first {
+        return Verdict::Refused(Refusal::Bare(n));
+    }
+    if h.taken < file.len() {
+        return Verdict::Refused(Refusal::Bare(numbers::BYTES_LEFT_OVER));
+    }
+    Verdict::Accepted
+}
+
 // Reads a file into two arrays that are large enough for every file. Refuses with 70 to 75, and a refusal changes no
 // byte. Else table and names are written to the fronts of the arrays; they are not checked for 1 to 5.
 pub fn unpack(file: &[u8], table: &mut [u8; MOST_BYTES], names: &mut [u8; MOST_NAMES]) -> Verdict
@@ -125,7 +140,7 @@ pub fn unpack(file: &[u8], table: &mut [u8; MOST_BYTES], names: &mut [u8; MOST_N
         handed (fileCheck (now (file .entry))) (contentAt (now (file .entry)) .names) (now (names .entry)) ⌝ }
 {
     let h = header(file);
-    let judged = judge_file(file, h);
+    let judged = judge_file(file);
     if is_refused(judged) {
         return judged;
     }
@@ -209,21 +224,6 @@ pub fn edition_number(stated: Stated) -> u32
         Stated::Number(number) => number,
         Stated::Nothing => 1,
     }
-}
-
-// Judges a file: 70 to 74 for its blocks, then 75 for bytes left over.
-fn judge_file(file: &[u8], h: Heading) -> Verdict
-    requires { ⌜ h ≡ headerAt (now file) ⌝ }
-    ensures { λ r. ⌜ verdict r ≡ fileCheck (now (file .entry)) ⌝ }
-{
-    let first = judge_front(file, h);
-    if let Judged::Refused(n) = first {
-        return Verdict::Refused(Refusal::Bare(n));
-    }
-    if h.taken < file.len() {
-        return Verdict::Refused(Refusal::Bare(numbers::BYTES_LEFT_OVER));
-    }
-    Verdict::Accepted
 }
 
 // Checks 1 to 5 and then 7 on a file that was unpacked into two arrays; then writes table and names into the buffers.

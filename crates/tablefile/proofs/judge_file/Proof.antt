@@ -9,6 +9,7 @@ judge-file-spec =
     tie.close
     (tie.spec
     (λ c κs. search needs)
+    (λ c κs. search needs)
     (λ c. search needs)
     (λ c. search file-blocks)  -- returns
     (λ c. search needs)
