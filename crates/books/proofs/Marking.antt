@@ -13,7 +13,7 @@ use native.Mathlib.Omega.{arith}
 use lib.ListN.{length, take, drop, length-drop, length-set}
 use lib.Seq.{length-take-le, take-add}
 use lib.Dec.{eqb}
-use borrow.Author.Tests.{eqb-true, not-true}
+use borrow.Author.Tests.{eq-eqb, eqb-true, not-true}
 use Rattle.fields.specs.Choice.{if'}
 use Rattle.fields.specs.Field.{field, bytesOf}
 use Rattle.fields.proofs.Basics.{clash, and-left, and-right, le-or-lt}
@@ -72,6 +72,11 @@ for-parts {zone} {setting} {e} h =
       zoned = eqb-true (zoneOf e) zone (and-left (eqb (zoneOf e) zone) _ two);
       set = eqb-true (settingOf e) setting (and-right (eqb (zoneOf e) zone) _ two);
     }
+
+pub parts-for : {zone setting : ℕ} {e : List ℕ} → For zone setting e → isFor zone setting e ≡ true
+unfolding isFor
+parts-for {zone} {setting} {e} f =
+    rw (f .taken, eq-eqb (zoneOf e) zone (f .zoned), eq-eqb (settingOf e) setting (f .set)) refl
 
 -- the bytes of a place
 pub entry-there : (book : List ℕ) (p : ℕ) → p < placesOf book → length (entryAt book p) ≡ 24
