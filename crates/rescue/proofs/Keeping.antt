@@ -40,7 +40,7 @@ use Rattle.blocks.proofs.Parts.{bytes-content}
 use Rattle.tablefile.specs.File.{Content, fileOf}
 use Rattle.tablefile.specs.Reading.{headerAt, usedOf, contentAt, countsFit, editionRead, blocksCheck, frontCheck}
 use Rattle.tablefile.specs.Reading.{soundCheck, readCheck}
-use Rattle.tablefile.proofs.Fronts.{Fronted, fronted-then, counts-small, first-is, taken-is, table-length}
+use Rattle.tablefile.proofs.Fronts.{Fronted, fronted-then, Small, counts-small, first-is, taken-is, table-length}
 use Rattle.tablefile.proofs.Files.{front-is-file}
 use Rattle.tablefile.proofs.Accepted.{SoundContent, back-accepted, back-holds}
 use Rattle.rescue.specs.Good.{isDialect, isEdition, headGood, blocksPass, goodTable}
@@ -53,7 +53,7 @@ use Rattle.rescue.proofs.Largest.{keeps}
 -- what a good header implies
 pub record Head (bs : List ℕ) : Type 0 where
   pub fit : countsFit (headerAt bs .nodes) (headerAt bs .names) ≡ true
-  pub counts : (1 ≤ headerAt bs .nodes) × (headerAt bs .nodes ≤ 2100) × (headerAt bs .names ≤ 8064)
+  pub counts : Small (headerAt bs .nodes) (headerAt bs .names)
   pub dialect : (d : Dialect) × (fromBytes (contentAt bs .dialect) ≡ Valid d)
   pub edition : (e : Edition) × (editionRead (contentAt bs) ≡ Known e)
   pub block : passes (judge 0 (usedOf (headerAt bs)) bs) ≡ true
