@@ -28,7 +28,7 @@ use Rattle.tablefile.specs.Lending.{copied}
 use Rattle.tablefile.proofs.Copies.{copied-is}
 use Rattle.tablefile.specs.Reading.{headerAt, contentAt}
 use Rattle.tablefile.specs.declared.Heading.{Heading}
-use Rattle.tablefile.proofs.Fronts.{Small, first-is, taken-is, table-length}
+use Rattle.tablefile.proofs.Fronts.{Small, name-blocks, first-is, taken-is, table-length}
 use Rattle.writer.specs.Writing.{holding, bytesFor, laidOver}
 use Rattle.writer.proofs.Building.{length-file}
 use Rattle.writer.proofs.Jobs.{Few, sound-few, Fitting, laid-over}
@@ -180,8 +180,9 @@ module _ {bs : List ℕ} {h : Heading} {names : List ℕ} (r : Ready bs h names)
   into-nodes = counts .few
 
   first-few : h .first ≤ 17
-  unfolding blocksFor
-  first-few = let first : h .first ≡ 1 + blocksFor (h .names) = rw (r .heading) (first-is bs) in omega (arith, counts)
+  first-few =
+      let first : h .first ≡ 1 + blocksFor (h .names) = rw (r .heading) (first-is bs) in
+      omega (arith, name-blocks counts)
 
   pub into-at : 512 * h .first < 2 ^ 64
   into-at = omega (arith, first-few)

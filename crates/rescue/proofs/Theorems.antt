@@ -26,7 +26,7 @@ use Rattle.table.proofs.Checking.{accepted-clean}
 use Rattle.blocks.specs.Block.{demand, judge}
 use Rattle.blocks.proofs.Blocks.{passes as passed-block}
 use Rattle.tablefile.specs.File.{Content, fileOf}
-use Rattle.tablefile.specs.Reading.{headerAt, usedOf, contentAt, countsFit, frontCheck, soundCheck, readCheck}
+use Rattle.tablefile.specs.Reading.{headerAt, usedOf, contentAt, frontCheck, soundCheck, readCheck}
 use Rattle.tablefile.specs.Loading.{loadedOf}
 use Rattle.tablefile.specs.declared.Verdict.the-variants as verdicts
 use Rattle.tablefile.proofs.Fronts.{Fronted, small-fits, first-is, taken-is, dialect-few, table-length}

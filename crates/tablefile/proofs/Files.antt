@@ -34,7 +34,7 @@ use Rattle.tablefile.specs.File.{Content, headerOf, fileOf}
 use Rattle.tablefile.specs.Reading.{dialectIn, editionIn, headerAt, usedOf, statedIn, contentAt, countsFit}
 use Rattle.tablefile.specs.Reading.{blocksCheck, frontCheck}
 use Rattle.tablefile.proofs.Fronts.{first-is, taken-is, used-small, tail-is, Fronted, table-length}
-use Rattle.tablefile.proofs.Fronts.{names-length, small-fits}
+use Rattle.tablefile.proofs.Fronts.{names-length, Small, small-fits, name-blocks, node-blocks}
 
 -- ---- a file at the front whose blocks pass is the file of its content
 module _ (bs : List ℕ) (small : Bytes bs) (f : Fronted bs) where
@@ -350,26 +350,20 @@ module _ (c : Content) (fit : Fits c) (rest : List ℕ) where
   table-so : 24 * headerAt bs .nodes ≡ length (c .table)
   table-so = omega (arith, nodes-so, fit .whole)
 
-  first-small : blocksFor (length (c .names)) ≤ 16
-  unfolding blocksFor
-  first-small = omega (arith, fit .names)
+  counts-so : Small nodes (length (c .names))
+  counts-so = record { some = omega (arith, fit .some); few = omega (arith, fit .few); short = fit .names }
 
-  last-small : blocksFor (length (c .table)) ≤ 100
-  unfolding blocksFor
-  last-small = omega (arith, fit .few)
-
-  counts-so : countsFit (headerAt bs .nodes) (headerAt bs .names) ≡ true
-  counts-so = rw (nodes-so, names-so)
-      (small-fits record { some = omega (arith, fit .some); few = omega (arith, fit .few); short = fit .names })
+  last-few : blocksFor (length (c .table)) ≤ 100
+  last-few = rw (fit .whole) at (node-blocks counts-so)
 
   names-pass : judgeRun 1 (headerAt bs .names) (drop 512 bs) ≡ accepted []
   names-pass = rw (names-so, names-behind)
-      (run-passes 1 (c .names) node-part (fit .names-bytes) (omega (arith, first-small)))
+      (run-passes 1 (c .names) node-part (fit .names-bytes) (omega (arith, name-blocks counts-so)))
 
   nodes-pass : judgeRun (headerAt bs .first) (24 * headerAt bs .nodes) (drop (512 * headerAt bs .first) bs)
       ≡ accepted []
   nodes-pass = rw (nodes-behind, first-so, table-so)
-      (run-passes first (c .table) rest (fit .table-bytes) (omega (arith, first-small, last-small)))
+      (run-passes first (c .table) rest (fit .table-bytes) (omega (arith, name-blocks counts-so, last-few)))
 
   -- THEOREM, in three parts: it passes, it holds the content, and its header states its length
   pub file-passes : frontCheck (fileOf c ++ rest) ≡ accepted []
@@ -377,7 +371,9 @@ module _ (c : Content) (fit : Fits c) (rest : List ℕ) where
   file-passes =
       let used : usedOf (headerAt bs) ≡ length (headerOf c) =
       omega (arith, dialect-so, edition-so, header-length, tail-length) in
-      rw (used, header-passes, counts-so, names-pass) nodes-pass
+      let fits : countsFit (headerAt bs .nodes) (headerAt bs .names) ≡ true =
+      rw (nodes-so, names-so) (small-fits counts-so) in
+      rw (used, header-passes, fits, names-pass) nodes-pass
 
   pub file-holds : contentAt (fileOf c ++ rest) ≡ c
   unfolding contentAt

@@ -37,6 +37,7 @@ use Rattle.blocks.specs.declared.Judged.the-variants.{Passed}
 use Rattle.blocks.specs.declared.Judged.the-variants as judgements
 use Rattle.blocks.proofs.Blocks.{Passing, passing, passing-then}
 use Rattle.blocks.proofs.Runs.{run-long, run-then, content-long}
+use Rattle.tablefile.specs.File.{mostBlocks}
 use Rattle.tablefile.specs.Reading.{dialectIn, editionIn, headerAt, usedOf, statedIn, contentAt, countsFit}
 use Rattle.tablefile.specs.Reading.{blocksCheck, frontCheck, soundCheck}
 use Rattle.tablefile.specs.declared.Heading.{Heading}
@@ -168,6 +169,20 @@ unfolding countsFit
 small-fits {nodes} {names} s =
     rw (le-leb 1 nodes (s .some), le-leb nodes 2100 (s .few), le-leb names 8064 (s .short)) refl
 
+-- LAW: so few blocks are theirs: at most 16, at most 100, and at most 117 with block 0
+module _ {nodes names : ℕ} (s : Small nodes names) where
+  pub name-blocks : blocksFor names ≤ 16
+  unfolding blocksFor
+  name-blocks = omega (arith, s .short)
+
+  pub node-blocks : blocksFor (24 * nodes) ≤ 100
+  unfolding blocksFor
+  node-blocks = omega (arith, s .few)
+
+pub taken-few : (bs : List ℕ) → Small (headerAt bs .nodes) (headerAt bs .names)
+    → headerAt bs .taken ≤ 512 * mostBlocks
+taken-few bs s = omega (arith, name-blocks s, node-blocks s, taken-is bs, first-is bs)
+
 pub used-small : (bs : List ℕ) {h : Heading} → h ≡ headerAt bs → usedOf h ≤ 14
 used-small bs h-is = rw h-is (omega (arith, dialect-few bs, edition-few bs))
 
@@ -222,8 +237,9 @@ module _ (bs : List ℕ) {h : Heading} (h-is : h ≡ headerAt bs) {f : Bool}
   nodes-fit = omega (arith, small)
 
   first-few : h .first ≤ 17
-  unfolding blocksFor
-  first-few = let first : h .first ≡ 1 + blocksFor (h .names) = rw h-is (first-is bs) in omega (arith, small, first)
+  first-few =
+      let first : h .first ≡ 1 + blocksFor (h .names) = rw h-is (first-is bs) in
+      omega (arith, name-blocks small, first)
 
   pub first-word : h .first < 2 ^ 16
   first-word = omega (arith, first-few)
