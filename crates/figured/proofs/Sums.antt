@@ -2,7 +2,7 @@
 -- and another place, take the same steps as long as 76 ends neither: a step reads only the counter of files, and only
 -- for 76. So both add the same figures (`run-both`), and both end at the same distance from their beginning. With the
 -- report of the second input from zeros this is the sum (`report-sums`): adding figures that were limited to 64 bits
--- from zeros is adding the figures (`added-held`). The induction is on the number of bytes left. Assumes nothing.
+-- from zeros is adding the figures (`added-held`). The inductions are over the steps (Induction). Assumes nothing.
 use mathlib.Core.Path.{_≡_, refl, sym, ap, ap₂, _∙_}
 use mathlib.Core.Bool.{Bool, true, false}
 use mathlib.Core.List.{List, [], _∷_, _++_}
